@@ -1,0 +1,16 @@
+use Rattle.std.proofs.Common.{◌≡◌, ℕ, ◌-◌, ◌≤◌, ◌<◌, get_or, length, vec_capacity}
+use Rattle.nm_types.specs.Layout.{node_count}
+use Rattle.nm_engine.specs.Shown.{layout_of}
+use Rattle.nm_calls.proofs.system.System.move_runs.Given as goal
+
+abbrev pub invariant-loop-at : goal.invariant-loop-at
+invariant-loop-at g l = record {
+  within : l.at ≤ length l.pages;
+  answered : length l.statuses.items ≡ l.at;
+  few_runs : l.runs ≤ l.at;
+  room : length l.pages ≤ vec_capacity l.statuses;
+  nodes : (k : ℕ) → k < length l.nodes → get_or l.nodes k 0 < node_count (layout_of l.self.machine);
+}
+
+abbrev pub decreases-loop-at : goal.decreases-loop-at
+decreases-loop-at g l = length l.pages - l.at

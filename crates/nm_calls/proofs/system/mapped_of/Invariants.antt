@@ -1,0 +1,6 @@
+use Rattle.std.proofs.Common.{◌≡◌, take}
+use Rattle.nm_calls.specs.Entries.{entries_mapped, entries_shown}
+use Rattle.nm_calls.proofs.system.mapped_of.Given as goal
+
+abbrev pub invariant-loop-vpn : goal.invariant-loop-vpn
+invariant-loop-vpn g l = entries_mapped l.mapped.items ≡ entries_shown (take l.vpn-index l.entries)

@@ -1,0 +1,26 @@
+-- What can be asked of the machine, and what it answers.
+use Rattle.std.specs.Prelude.{ℕ, ℤ, Bool, List, Option}
+use Rattle.nm_types.specs.declared.errno.Errno.{Errno}
+
+-- a call and its arguments; a set of nodes is the list of its nodes upwards
+pub data Call : Type 0 where
+  Spawn : (pid uid home : ℕ) (allowed : List ℕ) (privileged : Bool) → Call
+  MapPages : (pid addr pages : ℕ) → Call
+  ReadBytes : (pid addr len : ℕ) → Call
+  WriteBytes : (pid addr : ℕ) (bytes : List ℕ) → Call
+  MovePages : (caller pid : ℕ) (pages nodes : List ℕ) (flags : ℕ) → Call
+  FreeList : (node : ℕ) → Call
+  Pagemap : (pid : ℕ) → Call
+
+-- the answers, by their kind
+pub data Answer : Type 0 where
+  Refusal : Errno → Answer
+  Done : Answer
+  NewSegment : (segment : ℕ) → Answer
+  TheBytes : List ℕ → Answer
+  -- how many entries failed, and the status of each entry
+  Statuses : (failed : ℕ) → List ℤ → Answer
+  -- frames, the front first
+  Frames : List ℕ → Answer
+  -- page numbers and the frame at each, or none for the page of zeros
+  Entries : List (ℕ × Option ℕ) → Answer

@@ -1,0 +1,4 @@
+pub mod Calls
+pub mod Errors
+pub mod Entries
+pub mod Moving

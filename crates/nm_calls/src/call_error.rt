@@ -1,0 +1,61 @@
+//! Why a call did not answer.
+
+ghost use Rattle.std.specs.Prelude.{◌≡◌};
+ghost use Rattle.nm_calls.specs.Errors.{out_of_memory, of_machine};
+
+use nm_engine::MachineError;
+use nm_types::Errno;
+use std::alloc::{AllocError, AllocFailed};
+use thiserror::Error;
+
+/// Why a call did not answer.
+#[derive(Clone, Copy, Debug, PartialEq, Eq, Error)]
+pub enum CallError {
+    /// The machine refuses the call, which changed nothing.
+    #[error("{0}")]
+    Refused(Errno),
+    /// The host refused memory. The machine is as the first runs of the call left it.
+    #[error("host memory refused after {runs} runs")]
+    HostMemory {
+        /// How many runs of the call were made.
+        runs: usize,
+        /// Whether the call had set the policy of areas.
+        policy_set: bool,
+    },
+}
+
+impl From<AllocError> for CallError {
+    ghost from_gives = { λ _ e. e ≡ out_of_memory 0 };
+
+    fn from(_e: AllocError) -> CallError {
+        CallError::HostMemory {
+            runs: 0,
+            policy_set: false,
+        }
+    }
+}
+
+impl<T: Drop> From<AllocFailed<T>> for CallError {
+    ghost from_gives = { λ _ e. e ≡ out_of_memory 0 };
+
+    fn from(_e: AllocFailed<T>) -> CallError {
+        CallError::HostMemory {
+            runs: 0,
+            policy_set: false,
+        }
+    }
+}
+
+impl From<MachineError> for CallError {
+    ghost from_gives = { λ error e. e ≡ of_machine error };
+
+    fn from(error: MachineError) -> CallError {
+        match error {
+            MachineError::Refused(errno) => CallError::Refused(errno),
+            MachineError::HostMemory => CallError::HostMemory {
+                runs: 0,
+                policy_set: false,
+            },
+        }
+    }
+}

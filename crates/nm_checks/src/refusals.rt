@@ -1,0 +1,219 @@
+use nm_engine::{Entry, Machine, MachineError, Run, Totals, Wanted};
+use nm_refusing::Refusing;
+use nm_types::{FrameId, Geometry, NodeId, NodeMask, Pid, Vpn};
+use std::alloc::{AllocError, Global};
+use std::process::Abort;
+use std::test::Fail;
+
+type Heap<'a> = &'a Refusing<Global>;
+
+/// What can be seen of a machine of two nodes and process 1.
+#[derive(Drop)]
+struct Picture<'a> {
+    alive: bool,
+    first: Vec<FrameId, Heap<'a>>,
+    second: Vec<FrameId, Heap<'a>>,
+    entries: Vec<(Vpn, Entry), Heap<'a>>,
+    totals: Totals,
+}
+
+impl Picture<'_> {
+    fn is_same(&self, other: &Self) -> bool {
+        self.alive == other.alive
+            && self.first.as_slice() == other.first.as_slice()
+            && self.second.as_slice() == other.second.as_slice()
+            && self.entries.as_slice() == other.entries.as_slice()
+            && self.totals == other.totals
+    }
+}
+
+/// The calls that move three pages of a process to another node, and look at them.
+#[derive(Clone, Copy, Debug)]
+enum Call {
+    Spawn,
+    Map,
+    Write(u64, u8),
+    Move,
+    Free(u32),
+    Entries,
+    Read(u64),
+    Audit,
+}
+
+const CALLS: [Call; 12] = [
+    Call::Spawn,
+    Call::Map,
+    Call::Write(0x10000, 0x61),
+    Call::Write(0x11000, 0x62),
+    Call::Write(0x12000, 0x63),
+    Call::Move,
+    Call::Free(0),
+    Call::Free(1),
+    Call::Entries,
+    Call::Read(0x11000),
+    Call::Read(0x12000),
+    Call::Audit,
+];
+
+/// Two nodes of four frames, at distance 20.
+fn two_nodes(heap: Heap<'_>) -> Result<Machine<Heap<'_>>, AllocError> {
+    let near = vec![in heap; 10u8, 20u8]?;
+    let far = vec![in heap; 20u8, 10u8]?;
+    match Geometry::new(vec![in heap; 4u32, 4u32]?, vec![in heap; near, far]?) {
+        Ok(geometry) => Machine::new(heap, geometry),
+        Err(_) => Err(AllocError),
+    }
+}
+
+/// Pages 16 to 18 of process 1 to node 1.
+fn to_the_other_node(heap: Heap<'_>) -> Result<Run<Heap<'_>>, AllocError> {
+    let mut wanted = Vec::new(heap);
+    for page in 16..19u64 {
+        wanted.push(Wanted::At {
+            pid: Pid::new(1),
+            vpn: Vpn::new(page),
+            all: false,
+        })?;
+    }
+    Ok(Run {
+        target: NodeId::new(1),
+        wanted,
+    })
+}
+
+fn perform<'a>(
+    machine: &mut Machine<Heap<'a>>,
+    run: &Run<Heap<'a>>,
+    call: Call,
+) -> Result<(), MachineError> {
+    let one = Pid::new(1);
+    match call {
+        Call::Spawn => {
+            let mut allowed = NodeMask::new();
+            allowed.insert(NodeId::new(0));
+            allowed.insert(NodeId::new(1));
+            machine.spawn(one, 100, NodeId::new(0), allowed, false)
+        }
+        Call::Map => machine.map(one, 0x10000, 3).map(|_| ()),
+        Call::Write(addr, byte) => machine.write(one, addr, [byte].as_slice()),
+        Call::Move => {
+            if run.target.index() < machine.node_count() {
+                machine.run_flight(run)?;
+            }
+            Ok(())
+        }
+        Call::Free(node) => machine.free_list(NodeId::new(node)).map(|_| ()),
+        Call::Entries => machine.entries(one).map(|_| ()),
+        Call::Read(addr) => machine.read(one, addr, 2).map(|_| ()),
+        Call::Audit => {
+            machine.audit()?;
+            Ok(())
+        }
+    }
+}
+
+fn take_picture<'a>(
+    heap: Heap<'a>,
+    machine: &Machine<Heap<'a>>,
+) -> Result<Picture<'a>, MachineError> {
+    let one = Pid::new(1);
+    let alive = machine.process(one).is_some();
+    let entries = if alive {
+        machine.entries(one)?
+    } else {
+        Vec::new(heap)
+    };
+    Ok(Picture {
+        alive,
+        first: machine.free_list(NodeId::new(0))?,
+        second: machine.free_list(NodeId::new(1))?,
+        entries,
+        totals: machine.totals(),
+    })
+}
+
+/// Makes a call, after each of its allocations was refused in turn: it answers so, and the machine is as it was. Gives
+/// how many refusals there were.
+fn refuse_each<'a>(
+    rt: &impl Abort,
+    heap: Heap<'a>,
+    machine: &mut Machine<Heap<'a>>,
+    run: &Run<Heap<'a>>,
+    call: Call,
+) -> Result<u64, MachineError> {
+    let before = take_picture(heap, machine)?;
+    for number in 1..1000u64 {
+        heap.refuse(number);
+        let answer = perform(machine, run, call);
+        let met = heap.asked_since(number) >= number;
+        heap.refuse(0);
+        if !met {
+            assert!(rt; answer.is_ok(), "{call:?} with memory");
+            return Ok(number - 1);
+        }
+        assert_eq!(rt;
+            answer.err(),
+            Some(MachineError::HostMemory),
+            "{call:?}, allocation {number}"
+        );
+        assert!(rt;
+            take_picture(heap, machine)?.is_same(&before),
+            "{call:?}, allocation {number}"
+        );
+        assert!(rt; machine.audit()?);
+    }
+    Err(MachineError::HostMemory)
+}
+
+/// Each allocation of each call is refused in turn, and in the end the pages have moved.
+#[test]
+fn refused_calls_leave_the_machine(rt: HostRuntime) -> Result<(), Fail> {
+    let heap = Refusing::new(rt.alloc());
+    let mut machine = two_nodes(&heap)?;
+    let run = to_the_other_node(&heap)?;
+    let mut refused = 0u64;
+    for call in CALLS {
+        refused = refused.saturating_add(refuse_each(&rt, &heap, &mut machine, &run, call)?);
+    }
+    assert!(rt; refused > 12, "{refused} refusals");
+    let after = take_picture(&heap, &machine)?;
+    let frames = |numbers: &[u32]| -> Result<Vec<FrameId, Heap<'_>>, AllocError> {
+        numbers
+            .iter()
+            .map(|number| FrameId::new(*number))
+            .collect(&heap)
+    };
+    assert_eq!(rt; after.first.as_slice(), frames(&[3, 0, 1, 2])?.as_slice());
+    assert_eq!(rt; after.second.as_slice(), frames(&[7])?.as_slice());
+    assert_eq!(rt;
+        after.totals,
+        Totals {
+            moved: 3,
+            failed: 0
+        }
+    );
+    assert_eq!(rt;
+        machine.read(Pid::new(1), 0x11000, 2)?.as_slice(),
+        [0x62, 0].as_slice()
+    );
+    Ok(())
+}
+
+/// Each allocation of a new machine is refused in turn.
+#[test]
+fn refused_machines(rt: HostRuntime) -> Result<(), Fail> {
+    let heap = Refusing::new(rt.alloc());
+    let mut made = false;
+    for number in 1..1000u64 {
+        heap.refuse(number);
+        let answer = two_nodes(&heap);
+        if heap.asked_since(number) < number {
+            assert!(rt; answer.is_ok());
+            made = true;
+            break;
+        }
+        assert!(rt; answer.is_err(), "allocation {number}");
+    }
+    assert!(rt; made);
+    Ok(())
+}

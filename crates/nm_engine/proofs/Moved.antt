@@ -1,0 +1,91 @@
+-- Moving and freeing keep a machine sound.
+use Rattle.std.proofs.Common.{◌≡◌, ℕ, List, [], ◌∷◌, ◌++◌, refl, sym, ap, subst, ◌∙◌, append_assoc}
+use Rattle.std.specs.Prelude.{Some, IsSome}
+use Rattle.std.specs.List.Sorted.{IsStrictlySortedBy}
+use Rattle.std.specs.Map.{keys_of}
+use Rattle.nm_types.specs.declared.page.Page.{Page}
+use Rattle.nm_types.specs.Map.{Map, page_cmp, get, set}
+use Rattle.nm_types.specs.State.{State, free_list}
+use Rattle.nm_runs.specs.declared.Class.{Class}
+use Rattle.nm_runs.specs.declared.Class.TheVariants.{Status, Move}
+use Rattle.nm_runs.specs.declared.Wanted.{Wanted}
+use Rattle.nm_runs.specs.Status.{status_or_move}
+use Rattle.nm_engine.specs.Run.{moved_page, decided, one, each, with_free, with_all_free, left, counted}
+use Rattle.nm_engine.specs.Sound.{FramesAreOnce, IsSoundAmid}
+use Rattle.nm_engine.proofs.Maps.{page_cmp_total, exact_page, keys-set}
+use Rattle.nm_engine.proofs.Keys.{some_from_keys}
+use Rattle.nm_engine.proofs.Frames.{moved_frames, frame_freed, left-append, append-nil}
+use Rattle.nm_engine.proofs.Once.{places_are_apart}
+use Rattle.nm_engine.proofs.Placed.{ClassIsPlaced, status_placed}
+
+-- the same pages have a place, and the frames are once
+pub other_places : (s : State) (l k : List ℕ) (m : Map Page ℕ) (free : List (List ℕ)) → IsSoundAmid s l → keys_of m ≡ keys_of s.place
+    → FramesAreOnce (record s { place = m; free = free }) k → IsSoundAmid (record s { place = m; free = free }) k
+other_places s l k m free h same frames =
+    let was : (p : Page) → IsSome (get page_cmp m p) → IsSome (get page_cmp s.place p) = λ p. some_from_keys page_cmp m s.place p same in
+    record {
+      order = record {
+        processes = h.order.processes;
+        sees = h.order.sees;
+        areas = h.order.areas;
+        place = subst (IsStrictlySortedBy page_cmp) (sym same) h.order.place;
+      };
+      apart = places_are_apart (record s { place = m; free = free }) k frames;
+      frames = frames;
+      shown = λ pid v p e. let was = h.shown pid v p e in (was.0, some_from_keys page_cmp s.place m p (sym same) was.1);
+      zeros = h.zeros;
+      covered = λ p e. h.covered p (was p e);
+      bytes = record { same_pages = h.bytes.same_pages ∙ sym same; whole = h.bytes.whole };
+      pins = h.pins ∙ sym same;
+      seen = λ p e. h.seen p (was p e);
+      once = h.once;
+      areas = h.areas;
+      numbers = h.numbers;
+      disjoint = h.disjoint;
+    }
+
+page_moved : (s : State) (l : List ℕ) (target : ℕ) (p : Page) (from : ℕ) (front : List ℕ) → IsSoundAmid s l → get page_cmp s.place p ≡ Some from → free_list s target ≡ front
+    → IsSoundAmid (moved_page s target p from front).state (l ++ left (moved_page s target p from front).taken)
+page_moved s l target p from [] h placed e = subst (IsSoundAmid s) (sym (append-nil l)) h
+page_moved s l target p from (frame ∷ rest) h placed e =
+    other_places s l (l ++ from ∷ []) (set page_cmp s.place p frame) _ h
+    (keys-set page_cmp_total exact_page p s.place frame from h.order.place placed)
+    (moved_frames s l target p from (frame ∷ rest) h.frames h.order.place placed e)
+
+decided_sound : (s : State) (l : List ℕ) (target : ℕ) (c : Class) → IsSoundAmid s l → ClassIsPlaced s c → IsSoundAmid (decided s target c).state (l ++ left (decided s target c).taken)
+decided_sound s l target (Status status) h placed = subst (IsSoundAmid s) (sym (append-nil l)) h
+decided_sound s l target (Move p from) h placed = page_moved s l target p from (free_list s target) h placed refl
+
+pub each_sound : (s : State) (l : List ℕ) (target : ℕ) (ws : List Wanted) → IsSoundAmid s l → IsSoundAmid (each s target ws).state (l ++ left (each s target ws).taken)
+each_sound s l target [] h = subst (IsSoundAmid s) (sym (append-nil l)) h
+each_sound s l target (w ∷ ws) h =
+    let now = one s target w in
+    let rest = each now.state target ws in
+    subst (IsSoundAmid rest.state) (append_assoc l (left now.taken) (left rest.taken) ∙ ap (λ xs. l ++ xs) (sym (left-append now.taken rest.taken)))
+    (each_sound now.state (l ++ left now.taken) target ws (decided_sound s l target (status_or_move s target w) h (status_placed s target w)))
+
+pub frame_freed_sound : (s : State) (frame : ℕ) (l : List ℕ) → IsSoundAmid s (frame ∷ l) → IsSoundAmid (with_free s frame) l
+frame_freed_sound s frame l h = other_places s (frame ∷ l) l s.place (with_free s frame).free h refl (frame_freed s frame l h.frames)
+
+pub freed_sound : (frames : List ℕ) (s : State) → IsSoundAmid s frames → IsSoundAmid (with_all_free s frames) []
+freed_sound [] s h = h
+freed_sound (frame ∷ frames) s h = freed_sound frames (with_free s frame) (frame_freed_sound s frame frames h)
+
+-- the totals are free
+pub counted_sound : (s : State) (l : List ℕ) (moved failed : ℕ) → IsSoundAmid s l → IsSoundAmid (counted s moved failed) l
+counted_sound s l moved failed h =
+    record {
+      order = record { processes = h.order.processes; sees = h.order.sees; areas = h.order.areas; place = h.order.place };
+      apart = h.apart;
+      frames = record { lists = h.frames.lists; once = h.frames.once; own = h.frames.own };
+      shown = h.shown;
+      zeros = h.zeros;
+      covered = h.covered;
+      bytes = record { same_pages = h.bytes.same_pages; whole = h.bytes.whole };
+      pins = h.pins;
+      seen = h.seen;
+      once = h.once;
+      areas = h.areas;
+      numbers = h.numbers;
+      disjoint = h.disjoint;
+    }

@@ -1,0 +1,42 @@
+-- A page that is to move has a place, which is the frame that it leaves.
+use Rattle.std.proofs.Common.{◌≡◌, ℕ, Bool, true, false, not, ◌&&◌, refl}
+use Rattle.std.specs.Prelude.{Option, Some, None, pos, ◌==◌, if◌then◌else◌}
+use Rattle.nm_types.specs.declared.errno.Errno.TheVariants.{Eacces, Ebusy}
+use Rattle.nm_types.specs.declared.page.Page.{Page}
+use Rattle.nm_types.specs.Map.{get, page_cmp}
+use Rattle.nm_types.specs.Layout.{node_of}
+use Rattle.nm_types.specs.State.{Sight, ZeroPage, Sees, State, page_at}
+use Rattle.nm_runs.specs.declared.Class.{Class}
+use Rattle.nm_runs.specs.declared.Class.TheVariants.{Status, Move}
+use Rattle.nm_runs.specs.declared.Wanted.{Wanted}
+use Rattle.nm_runs.specs.declared.Wanted.TheVariants.{At as Spot, Whole}
+use Rattle.nm_runs.specs.Seen.{sight_at, is_pinned}
+use Rattle.nm_runs.specs.Status.{code, others_see, page_status, sight_status, status_under, status_or_move}
+
+abbrev pub ClassIsPlaced : State → Class → Type 0
+ClassIsPlaced s (Status status) = Unit {0}
+ClassIsPlaced s (Move page from) = get page_cmp s.place page ≡ Some from
+
+page_placed : (s : State) (target : ℕ) (kept : Bool) (p : Page) (o : Option ℕ) → get page_cmp s.place p ≡ o → ClassIsPlaced s (page_status s target kept p o)
+page_placed s target kept p None h = tt
+page_placed s target kept p (Some frame) h =
+    elim (node_of s.layout frame == target) as (λ b. ClassIsPlaced s (if b then Status (pos target) else (if kept then Status (code Eacces) else (if is_pinned s p then Status (code Ebusy) else Move p frame)))) [
+      | true ↦ tt
+      | false ↦ elim kept as (λ b. ClassIsPlaced s (if b then Status (code Eacces) else (if is_pinned s p then Status (code Ebusy) else Move p frame))) [
+        | true ↦ tt
+        | false ↦ elim (is_pinned s p) as (λ b. ClassIsPlaced s (if b then Status (code Ebusy) else Move p frame)) [ true ↦ tt | false ↦ h ]
+      ]
+    ]
+
+sight_placed : (s : State) (target pid : ℕ) (all : Bool) (o : Option Sight) → ClassIsPlaced s (sight_status s target pid all o)
+sight_placed s target pid all None = tt
+sight_placed s target pid all (Some ZeroPage) = tt
+sight_placed s target pid all (Some (Sees p)) = page_placed s target (others_see s pid p && not all) p (get page_cmp s.place p) refl
+
+under_placed : (s : State) (target pid : ℕ) (all : Bool) (p : Option Page) (o : Option Sight) → ClassIsPlaced s (status_under s target pid all p o)
+under_placed s target pid all None o = tt
+under_placed s target pid all (Some shown) o = sight_placed s target pid all o
+
+pub status_placed : (s : State) (target : ℕ) (w : Wanted) → ClassIsPlaced s (status_or_move s target w)
+status_placed s target (Spot pid v all) = under_placed s target pid all (page_at s.areas pid v) (sight_at s pid v)
+status_placed s target (Whole p) = page_placed s target false p (get page_cmp s.place p) refl

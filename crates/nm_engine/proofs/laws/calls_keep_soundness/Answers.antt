@@ -1,0 +1,25 @@
+use Rattle.nm_engine.proofs.New.{new_sound}
+use Rattle.nm_engine.proofs.Called.{spawn_sound, map_sound, attach_sound, pin_sound}
+use Rattle.nm_engine.proofs.Dropped.{unmap_sound, exit_sound}
+use Rattle.nm_engine.proofs.laws.calls_keep_soundness.Goals as goal
+
+pub returns-clause-new : goal.returns-clause-new
+returns-clause-new c = new_sound
+
+pub returns-clause-spawn : goal.returns-clause-spawn
+returns-clause-spawn c = spawn_sound
+
+pub returns-clause-map : goal.returns-clause-map
+returns-clause-map c = map_sound
+
+pub returns-clause-attach : goal.returns-clause-attach
+returns-clause-attach c = attach_sound
+
+pub returns-clause-pin : goal.returns-clause-pin
+returns-clause-pin c = pin_sound
+
+pub returns-clause-unmap : goal.returns-clause-unmap
+returns-clause-unmap c = unmap_sound
+
+pub returns-clause-exit : goal.returns-clause-exit
+returns-clause-exit c = λ s pid h. exit_sound s h pid

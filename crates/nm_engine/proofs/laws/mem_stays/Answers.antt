@@ -1,0 +1,12 @@
+use Rattle.nm_engine.proofs.Memory.{each_keeps, frees_keep}
+use Rattle.nm_engine.proofs.Touched.{reading_keeps}
+use Rattle.nm_engine.proofs.laws.mem_stays.Goals as goal
+
+pub returns-clause-decided : goal.returns-clause-decided
+returns-clause-decided c = each_keeps
+
+pub returns-clause-freed : goal.returns-clause-freed
+returns-clause-freed c = λ s frames. frees_keep frames s
+
+pub returns-clause-read : goal.returns-clause-read
+returns-clause-read c = λ s left pid address len q at h. reading_keeps s left pid address len h q at

@@ -1,0 +1,124 @@
+-- What holds of every state, run and request.
+use Rattle.std.specs.Prelude.{◌≡◌, ℕ, Bool, true, List, [], map, drop, slice_set, None}
+use Rattle.std.specs.List.{AllByRecursion, fold}
+use Rattle.std.specs.List.Sorted.{IsStrictlySortedBy}
+use Rattle.std.specs.Map.{keys_of}
+use Rattle.std.specs.Ordering.{nat_cmp}
+use Rattle.nm_types.specs.Map.{set, page_cmp}
+use Rattle.nm_types.specs.Layout.{Layout}
+use Rattle.nm_types.specs.State.{State, free_list}
+use Rattle.nm_runs.specs.declared.Wanted.{Wanted}
+use Rattle.nm_runs.specs.declared.Wanted.TheVariants.{At as Spot, Whole}
+use Rattle.nm_runs.specs.Cut.{Request}
+use Rattle.nm_runs.specs.Status.{status_or_move, class_of}
+use Rattle.nm_plan.specs.declared.Taken.{Taken}
+use Rattle.nm_plan.specs.Decide.{Decisions, decide}
+use Rattle.nm_engine.specs.Memory.{mem}
+use Rattle.nm_engine.specs.Touch.{Access, read, access}
+use Rattle.nm_engine.specs.Run.{Progress, each, with_all_free, run}
+use Rattle.nm_engine.specs.Batch.{batch}
+use Rattle.nm_engine.specs.Effect.{new_machine, spawn, map_new, attach, pin, unpin, unmap, exit}
+use Rattle.nm_engine.specs.Refused.{spawn_refusal, map_refusal, attach_refusal}
+use Rattle.nm_engine.specs.Sound.{OwnsItsFree, IsSoundAmid, IsSound}
+
+-- a look that counts the processes tells what is to be done with a request
+abbrev pub LooksSuffice : Type 0
+LooksSuffice =
+    (s : State) (target : ℕ) (w : Wanted) →
+    IsStrictlySortedBy nat_cmp (keys_of s.processes) → class_of s target w ≡ status_or_move s target w
+
+-- deciding requests changes no byte that a process has at an address
+abbrev pub DecidingKeepsMemory : Type 0
+DecidingKeepsMemory =
+    (s : State) (target : ℕ) (ws : List Wanted) (pid address : ℕ) →
+    mem (each s target ws).state pid address ≡ mem s pid address
+
+-- and giving frames back changes none
+abbrev pub FreeingKeepsMemory : Type 0
+FreeingKeepsMemory =
+    (s : State) (frames : List ℕ) (pid address : ℕ) → mem (with_all_free s frames) pid address ≡ mem s pid address
+
+-- a read changes none, though it may take a frame
+abbrev pub ReadingKeepsMemory : Type 0
+ReadingKeepsMemory =
+    (s : State) (left : List ℕ) (pid address len q at : ℕ) →
+    IsSoundAmid s left → mem (read s pid address len).state q at ≡ mem s q at
+
+-- whether a request moves a page that other processes see
+abbrev pub moves_all : Wanted → Bool
+moves_all (Spot pid v all) = all
+moves_all (Whole page) = true
+
+-- the page takes the front frame of the target
+abbrev pub with_move : ℕ → State → Taken → State
+with_move target s t =
+    record s { place = set page_cmp s.place t.page t.to; free = slice_set s.free target (drop 1 (free_list s target)) }
+
+-- so does one page after another
+abbrev pub with_moves : State → ℕ → List Taken → State
+with_moves s target taken = fold (with_move target) s taken
+
+-- what deciding one after another makes of a state is what the decisions say
+pub record Agrees (s : State) (target : ℕ) (p : Progress) (d : Decisions) : Type 0 where
+  pub statuses : p.statuses ≡ d.statuses
+  pub taken : p.taken ≡ d.taken
+  pub state : p.state ≡ with_moves s target d.taken
+
+-- to class all requests of a run at its start and then decide is to decide one after another
+abbrev pub PlanIsOneByOne : Type 0
+PlanIsOneByOne =
+    (s : State) (target : ℕ) (all : Bool) (ws : List Wanted) →
+    IsStrictlySortedBy nat_cmp (keys_of s.processes) → OwnsItsFree s target →
+    AllByRecursion (λ w. moves_all w ≡ all) ws →
+    Agrees s target (each s target ws) (decide (map (status_or_move s target) ws) [] (free_list s target) target)
+
+-- reads and writes keep a machine sound, also while a run that has left these frames has not ended ..
+abbrev pub AccessIsSound : Type 0
+AccessIsSound = (s : State) (left : List ℕ) (a : Access) → IsSoundAmid s left → IsSoundAmid (access s a).state left
+
+-- .. and so does a run, with accesses in flight ..
+abbrev pub RunIsSound : Type 0
+RunIsSound =
+    (s : State) (target : ℕ) (ws : List Wanted) (accesses : List Access) →
+    IsSound s → IsSound (run s target ws accesses).state
+
+-- .. and a batch
+abbrev pub BatchIsSound : Type 0
+BatchIsSound =
+    (s : State) (requests : List Request) (accesses : List (ℕ × Access)) →
+    IsSound s → IsSound (batch s requests accesses).state
+
+-- the new machine is sound ..
+abbrev pub NewIsSound : Type 0
+NewIsSound = (g : Layout) → IsSound (new_machine g)
+
+-- .. and calls that are not refused keep it so
+abbrev pub SpawnIsSound : Type 0
+SpawnIsSound =
+    (s : State) (pid uid home : ℕ) (allowed : List ℕ) (privileged : Bool) →
+    IsSound s → spawn_refusal s pid home allowed ≡ None → IsSound (spawn s pid uid home allowed privileged)
+
+-- .. an area over a new segment
+abbrev pub MapIsSound : Type 0
+MapIsSound =
+    (s : State) (pid address pages : ℕ) (shared : Bool) →
+    IsSound s → map_refusal s pid address pages ≡ None → IsSound (map_new s pid address pages shared)
+
+-- .. an area over a segment that is there
+abbrev pub AttachIsSound : Type 0
+AttachIsSound =
+    (s : State) (pid address segment offset pages : ℕ) →
+    IsSound s → attach_refusal s pid address segment offset pages ≡ None →
+    IsSound (attach s pid address segment offset pages)
+
+-- .. and pins
+abbrev pub PinIsSound : Type 0
+PinIsSound = (s : State) (pid address : ℕ) → IsSound s → IsSound (pin s pid address) × IsSound (unpin s pid address)
+
+-- .. and so do those that let areas and processes go
+abbrev pub UnmapIsSound : Type 0
+UnmapIsSound = (s : State) (pid address pages : ℕ) → IsSound s → IsSound (unmap s pid address pages)
+
+-- .. with all that they have
+abbrev pub ExitIsSound : Type 0
+ExitIsSound = (s : State) (pid : ℕ) → IsSound s → IsSound (exit s pid)

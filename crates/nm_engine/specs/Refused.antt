@@ -1,0 +1,98 @@
+-- Which calls are refused, and with which error.
+use Rattle.std.specs.Prelude.{ℕ, ◌+◌, ◌/◌, ◌%◌, ◌^◌, ◌==◌, nat_lt, nat_le, Bool, false, not, ◌&&◌, ◌||◌, List, [], ◌∷◌, length, Option, Some, None, if◌then◌else◌}
+use Rattle.std.specs.Option.{is_some, unwrap_or, option_map}
+use Rattle.std.specs.Ordering.{nat_cmp}
+use Rattle.std.specs.List.{list_any}
+use Rattle.nm_types.specs.declared.area.Segment.{Segment}
+use Rattle.nm_types.specs.declared.errno.Errno.{Errno}
+use Rattle.nm_types.specs.declared.errno.Errno.TheVariants.{Enoent, Esrch, Enomem, Efault, Ebusy, Einval}
+use Rattle.nm_types.specs.declared.seen.Seen.{Seen}
+use Rattle.nm_types.specs.declared.seen.Seen.TheVariants.{NoArea, Absent, Zero, At}
+use Rattle.nm_types.specs.Map.{get}
+use Rattle.nm_types.specs.Layout.{node_count}
+use Rattle.nm_types.specs.State.{State, Placed}
+use Rattle.nm_runs.specs.Seen.{pins_of, look}
+use Rattle.nm_engine.specs.Effect.{pages_between}
+
+-- the first of these errors whose condition holds
+abbrev pub first_error : List (Bool × Errno) → Option Errno
+first_error [] = None
+first_error (e ∷ es) = if e.0 then Some e.1 else first_error es
+
+-- whether no process has this pid
+abbrev pub is_unknown : State → ℕ → Bool
+is_unknown s pid = not (is_some (get nat_cmp s.processes pid))
+
+-- pid 0 or one that is alive, a home that is no node, or allowed nodes that are none or not all of the machine; 1,024
+-- processes alive
+abbrev pub spawn_refusal : State → ℕ → ℕ → List ℕ → Option Errno
+spawn_refusal s pid home allowed =
+    let nodes = node_count s.layout in
+    let bad_nodes = nat_le nodes home || (length allowed == 0) || list_any (nat_le nodes) allowed in
+    let full = nat_le 1024 (length s.processes) in
+    first_error (((pid == 0) || not (is_unknown s pid) || bad_nodes, Einval) ∷ (full, Enomem) ∷ [])
+
+-- whole pages, at least one, below 2^47
+abbrev pub is_range : ℕ → ℕ → Bool
+is_range address pages = (address % 4096 == 0) && nat_lt 0 pages && nat_le (address / 4096 + pages) (2 ^ 35)
+
+-- whether an area of the process is over one of these page numbers
+abbrev pub overlaps : ℕ → ℕ → ℕ → Placed → Bool
+overlaps pid first end a = (a.0.0 == pid) && nat_lt a.0.1 end && nat_lt first (a.0.1 + a.1.pages)
+
+-- whether an area may be made there
+abbrev pub is_room : State → ℕ → ℕ → ℕ → Bool
+is_room s pid address pages =
+    is_range address pages && not (list_any (overlaps pid (address / 4096) (address / 4096 + pages)) s.areas)
+
+-- no such process; no room for the area; no segment number left
+abbrev pub map_refusal : State → ℕ → ℕ → ℕ → Option Errno
+map_refusal s pid address pages =
+    let full = nat_le 65536 s.next_segment in
+    first_error ((is_unknown s pid, Esrch) ∷ (not (is_room s pid address pages), Einval) ∷ (full, Enomem) ∷ [])
+
+-- whether so many pages from an offset on are in a shared segment
+abbrev pub is_stretch : Option Segment → ℕ → ℕ → Bool
+is_stretch o offset pages =
+    unwrap_or (option_map (λ segment. segment.shared && nat_le (offset + pages) segment.pages) o) false
+
+-- no such process; no room for the area, or no such stretch of a shared segment
+abbrev pub attach_refusal : State → ℕ → ℕ → ℕ → ℕ → ℕ → Option Errno
+attach_refusal s pid address segment offset pages =
+    let fits = is_room s pid address pages && is_stretch (get nat_cmp s.segments segment) offset pages in
+    first_error ((is_unknown s pid, Esrch) ∷ (not fits, Einval) ∷ [])
+
+-- whether an area of the process shows a pinned page at one of these page numbers
+abbrev pub shows_pinned : State → ℕ → ℕ → ℕ → Bool
+shows_pinned s pid first end =
+    let shown = λ (a : Placed). (a.0.0 == pid) && list_any (λ p. nat_lt 0 (pins_of s p)) (pages_between first end a) in
+    list_any shown s.areas
+
+-- no such process; no whole pages; a pinned page in the range
+abbrev pub unmap_refusal : State → ℕ → ℕ → ℕ → Option Errno
+unmap_refusal s pid address pages =
+    let busy = shows_pinned s pid (address / 4096) (address / 4096 + pages) in
+    first_error ((is_unknown s pid, Esrch) ∷ (not (is_range address pages), Einval) ∷ (busy, Ebusy) ∷ [])
+
+-- no such process; a pinned page in one of its areas
+abbrev pub exit_refusal : State → ℕ → Option Errno
+exit_refusal s pid = first_error ((is_unknown s pid, Esrch) ∷ (shows_pinned s pid 0 (2 ^ 35), Ebusy) ∷ [])
+
+-- the number of pins with which a call is refused, and how
+abbrev pub pins_refusal : State → (ℕ → Bool) → Errno → Seen → Option Errno
+pins_refusal s is_bad e NoArea = Some Efault
+pins_refusal s is_bad e Absent = Some Enoent
+pins_refusal s is_bad e Zero = Some Efault
+pins_refusal s is_bad e (At p frame processes pinned) = if is_bad (pins_of s p) then Some e else None
+
+-- a page has at most 65,535 pins
+abbrev pub pin_refusal : State → ℕ → ℕ → Option Errno
+pin_refusal s pid address =
+    if is_unknown s pid then Some Esrch
+    else pins_refusal s (nat_le 65535) Ebusy (look s pid (address / 4096))
+
+-- a page without pins cannot be unpinned
+abbrev pub unpin_refusal : State → ℕ → ℕ → Option Errno
+unpin_refusal s pid address =
+    if is_unknown s pid then Some Esrch
+    else pins_refusal s (λ n. n == 0) Einval (look s pid (address / 4096))

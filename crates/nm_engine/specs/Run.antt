@@ -1,0 +1,99 @@
+-- A run of requests for one target node, one after another.
+use Rattle.std.specs.Prelude.{ℕ, ◌+◌, ◌-◌, ◌^◌, min, ℤ, pos, ◌||◌, List, [], ◌∷◌, ◌++◌, map, length, count_by, slice_set}
+use Rattle.std.specs.List.{fold}
+use Rattle.std.specs.Ordering.{int_eq}
+use Rattle.nm_types.specs.declared.errno.Errno.TheVariants.{Enomem, Ebusy}
+use Rattle.nm_types.specs.declared.page.Page.{Page}
+use Rattle.nm_types.specs.Map.{set, page_cmp}
+use Rattle.nm_types.specs.Layout.{node_of}
+use Rattle.nm_types.specs.State.{State, free_list}
+use Rattle.nm_runs.specs.declared.Class.{Class}
+use Rattle.nm_runs.specs.declared.Class.TheVariants.{Status, Move}
+use Rattle.nm_runs.specs.declared.Wanted.{Wanted}
+use Rattle.nm_runs.specs.Status.{code, status_or_move}
+use Rattle.nm_plan.specs.declared.Taken.{Taken}
+use Rattle.nm_engine.specs.Touch.{Access, Answer}
+use Rattle.nm_engine.specs.Flight.{all_in_flight}
+
+-- what a request makes of a state: its status, and the move if there is one
+pub record Outcome : Type 0 where
+  pub state : State
+  pub status : ℤ
+  pub taken : List Taken
+
+-- the page takes the front of the target's free list. The frame that it leaves is not free yet
+abbrev pub moved_page : State → ℕ → Page → ℕ → List ℕ → Outcome
+moved_page s target page from [] = record { state = s; status = code Enomem; taken = [] }
+moved_page s target page from (frame ∷ rest) =
+    record {
+      state = record s { place = set page_cmp s.place page frame; free = slice_set s.free target rest };
+      status = pos target;
+      taken = record { page = page; from = from; to = frame } ∷ [];
+    }
+
+-- what is to be done is done
+abbrev pub decided : State → ℕ → Class → Outcome
+decided s target (Status status) = record { state = s; status = status; taken = [] }
+decided s target (Move page from) = moved_page s target page from (free_list s target)
+
+-- one request
+abbrev pub one : State → ℕ → Wanted → Outcome
+one s target w = decided s target (status_or_move s target w)
+
+-- what requests make of a state: their statuses, and the moves
+pub record Progress : Type 0 where
+  pub state : State
+  pub statuses : List ℤ
+  pub taken : List Taken
+
+-- one request after another
+abbrev pub each : State → ℕ → List Wanted → Progress
+each s target [] = record { state = s; statuses = []; taken = [] }
+each s target (w ∷ ws) =
+    let now = one s target w in
+    let rest = each now.state target ws in
+    record { state = rest.state; statuses = now.status ∷ rest.statuses; taken = now.taken ++ rest.taken }
+
+-- a frame goes to the end of its own node's free list
+abbrev pub with_free : State → ℕ → State
+with_free s frame =
+    let node = node_of s.layout frame in
+    record s { free = slice_set s.free node (free_list s node ++ frame ∷ []) }
+
+-- one frame after another becomes free
+abbrev pub with_all_free : State → List ℕ → State
+with_all_free s frames = fold with_free s frames
+
+-- the frames that the moves leave, in their order
+abbrev pub left : List Taken → List ℕ
+left taken = map (λ t. t.from) taken
+
+-- how many requests failed for a pin or for want of a free frame
+abbrev pub failures : List ℤ → ℕ
+failures statuses = count_by (λ status. int_eq status (code Ebusy) || int_eq status (code Enomem)) statuses
+
+-- a total stays where it is full
+abbrev pub added : ℕ → ℕ → ℕ
+added total n = min (total + n) (2 ^ 64 - 1)
+
+-- the totals with so many more
+abbrev pub counted : State → ℕ → ℕ → State
+counted s moved failed = record s { moved = added s.moved moved; failed = added s.failed failed }
+
+-- what a run or a batch makes of a state
+pub record Ran : Type 0 where
+  pub state : State
+  pub statuses : List ℤ
+  -- for each run the answers to its accesses
+  pub answers : List (List Answer)
+
+-- a run: the requests, the accesses in flight, then the frames that were left become free, then the totals
+abbrev pub run : State → ℕ → List Wanted → List Access → Ran
+run s target ws accesses =
+    let moves = each s target ws in
+    let during = all_in_flight moves.state (map (λ t. t.page) moves.taken) accesses in
+    record {
+      state = counted (with_all_free during.state (left moves.taken)) (length moves.taken) (failures moves.statuses);
+      statuses = moves.statuses;
+      answers = during.answers ∷ [];
+    }

@@ -1,0 +1,23 @@
+//! What a process has at a page number.
+
+use nm_types::{FrameId, Page};
+
+/// What a page table shows at a page number that is not absent.
+#[derive(Clone, Copy, Debug, PartialEq, Eq)]
+pub enum Entry {
+    /// The page of zeros, which a read of private memory shows until the first write.
+    Zero,
+    /// A page in this frame.
+    Frame(FrameId),
+    /// A page that is on its way to this frame. No call but one in flight meets it.
+    Held(FrameId),
+}
+
+/// What a process sees at a page number that it has touched.
+#[derive(Clone, Copy, Debug, PartialEq, Eq)]
+pub(crate) enum Sight {
+    /// The page of zeros.
+    ZeroPage,
+    /// A page.
+    Sees(Page),
+}

@@ -1,0 +1,101 @@
+//! Laws over the definitions alone, and worked examples.
+
+ghost use Rattle.nm_engine.specs.Laws.{DecidingKeepsMemory, FreeingKeepsMemory, ReadingKeepsMemory, LooksSuffice, PlanIsOneByOne, AccessIsSound, RunIsSound, BatchIsSound, NewIsSound, SpawnIsSound, MapIsSound, AttachIsSound, PinIsSound, UnmapIsSound, ExitIsSound};
+ghost use Rattle.nm_engine.specs.Starts.{StartsAreSound};
+ghost use Rattle.nm_engine.specs.Moving.{ThreePagesMove, MovedPageReads, EmptyBatchDoesNothing, OnePageTwiceMovesOnce, ShortageStopsTwoOfFour, LaterRunTakesFrameOfEarlier, EarlierRunFindsNone, PageGoesAndComesHome};
+ghost use Rattle.nm_engine.specs.Sharing.{TwoAddressesAreOneProcess, SharedPageStays, SharedPageIsOnTarget, SharedPageMovesForBoth};
+ghost use Rattle.nm_engine.specs.Letting.{OnlyTheMovingPageIsHeld, EachHasItsStatus, PinnedPageKeepsItsArea, UnmappedPagesAreFree, LastAreaFreesThePage};
+ghost use Rattle.nm_engine.specs.Deciding.{NodesAreOrderedByDistance, PolicyOrdersTheNodes, PlanResolvesRepeats, PlanWithoutFrames, PlanWithoutRequests, PairsLeaveRoomFirst, EachPageMigratesOnce};
+
+/// No move changes a byte that a process reads, and no read does.
+pub fn mem_stays()
+    ensures decided { DecidingKeepsMemory }
+    ensures freed { FreeingKeepsMemory }
+    ensures read { ReadingKeepsMemory }
+{}
+
+/// A look at a page number of a process, which counts the processes that see the page, tells what is to be done with a
+/// request.
+pub fn looks_suffice()
+    ensures { LooksSuffice }
+{}
+
+/// To class the requests of a run at its start and then decide is to decide one after another.
+pub fn plan_is_one_by_one()
+    ensures { PlanIsOneByOne }
+{}
+
+/// Reads and writes, runs with their accesses in flight, and batches keep a machine sound.
+pub fn soundness_stays()
+    ensures accesses { AccessIsSound }
+    ensures runs { RunIsSound }
+    ensures batches { BatchIsSound }
+{}
+
+/// The new machine is sound, and calls that are not refused keep a machine sound.
+pub fn calls_keep_soundness()
+    ensures new { NewIsSound }
+    ensures spawn { SpawnIsSound }
+    ensures map { MapIsSound }
+    ensures attach { AttachIsSound }
+    ensures pin { PinIsSound }
+    ensures unmap { UnmapIsSound }
+    ensures exit { ExitIsSound }
+{}
+
+/// The states from which the worked examples start are sound.
+pub fn examples_start_sound()
+    ensures { StartsAreSound }
+{}
+
+/// Worked examples of batches on two nodes of four frames.
+pub fn batches_move_pages()
+    ensures three_pages_move { ThreePagesMove }
+    ensures moved_page_reads { MovedPageReads }
+    ensures empty_batch_does_nothing { EmptyBatchDoesNothing }
+    ensures one_page_twice_moves_once { OnePageTwiceMovesOnce }
+    ensures shortage_stops_two_of_four { ShortageStopsTwoOfFour }
+    ensures later_run_takes_frame_of_earlier { LaterRunTakesFrameOfEarlier }
+    ensures earlier_run_finds_none { EarlierRunFindsNone }
+    ensures page_goes_and_comes_home { PageGoesAndComesHome }
+{}
+
+/// Worked examples of pages that have several addresses, or that several processes see.
+pub fn sharing_counts_processes()
+    ensures two_addresses_are_one_process { TwoAddressesAreOneProcess }
+    ensures shared_page_stays { SharedPageStays }
+    ensures shared_page_is_on_target { SharedPageIsOnTarget }
+    ensures shared_page_moves_for_both { SharedPageMovesForBoth }
+{}
+
+/// A worked example of reads and writes while a page moves.
+pub fn moving_pages_are_held()
+    ensures { OnlyTheMovingPageIsHeld }
+{}
+
+/// Worked examples of pins, and of areas and processes that go.
+pub fn pages_live_while_covered()
+    ensures each_has_its_status { EachHasItsStatus }
+    ensures pinned_page_keeps_its_area { PinnedPageKeepsItsArea }
+    ensures unmapped_pages_are_free { UnmappedPagesAreFree }
+    ensures last_area_frees_the_page { LastAreaFreesThePage }
+{}
+
+/// Worked examples of the orders in which nodes are tried.
+pub fn nodes_are_tried_by_distance()
+    ensures nodes_are_ordered_by_distance { NodesAreOrderedByDistance }
+    ensures policy_orders_the_nodes { PolicyOrdersTheNodes }
+{}
+
+/// Worked examples of plans.
+pub fn plans_take_frames_in_order()
+    ensures plan_resolves_repeats { PlanResolvesRepeats }
+    ensures plan_without_frames { PlanWithoutFrames }
+    ensures plan_without_requests { PlanWithoutRequests }
+{}
+
+/// Worked examples of the pairs of nodes between which `migrate_pages(2)` moves.
+pub fn pages_migrate_by_pairs()
+    ensures pairs_leave_room_first { PairsLeaveRoomFirst }
+    ensures each_page_migrates_once { EachPageMigratesOnce }
+{}

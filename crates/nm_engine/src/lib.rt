@@ -1,0 +1,21 @@
+//! The machine: processes, areas and pages over nodes of frames, and the moving of pages from one node to another.
+#![tactic(auto)]
+
+mod audit;
+mod calls;
+mod entry;
+pub mod laws;
+mod machine;
+mod machine_error;
+mod moving;
+mod process;
+mod stock;
+#[cfg(test)]
+mod tests;
+mod touch;
+
+pub use entry::Entry;
+pub use machine::{Machine, Totals};
+pub use machine_error::MachineError;
+pub use nm_runs::{Run, Wanted};
+pub use process::ProcessInfo;

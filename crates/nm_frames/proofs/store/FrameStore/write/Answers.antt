@@ -1,0 +1,11 @@
+use Rattle.std.proofs.Common.{ap, ◌∙◌, ℕ, List, Some, None}
+use Rattle.std.proofs.lemmas.List.{set-set}
+use Rattle.nm_frames.specs.Store.{bytes_of, overwrite}
+use Rattle.nm_frames.proofs.store.FrameStore.write.Goals as goal
+
+pub returns : goal.returns
+returns g c =
+    let same = ap (λ (b : ℕ × List ℕ). b.0) (c.buf.view_is ∙ c.take_out-buf.ensures.buf) in
+    let bytes = ap (λ (b : ℕ × List ℕ). b.1) (c.buf.view_is ∙ c.take_out-buf.ensures.buf) in
+    rw (c.put_back.ensures, c.write.ensures, c.take_out-buf.ensures.out, same, bytes)
+    (set-set c.args.self.now c.args.frame None (Some (overwrite (bytes_of c.args.self.now c.args.frame) c.args.at c.args.bytes.now)))

@@ -1,0 +1,49 @@
+//! A frame's bytes on their own.
+
+ghost use Rattle.std.specs.Prelude.{◌≡◌, length};
+
+use crate::bytes::Bytes;
+use nm_types::FrameId;
+use std::alloc::Allocator;
+use std::marker::Model;
+
+/// A frame's 4,096 bytes, owned, with the frame's number. Contracts see the pair of the number and the list of the bytes.
+#[derive(Debug, Drop)]
+pub struct FrameBuf<A: Allocator + Copy> {
+    pub(crate) frame: FrameId,
+    pub(crate) bytes: Bytes<A>,
+}
+
+impl<A: Allocator + Copy> Model for FrameBuf<A> {
+    ghost use Rattle.std.specs.Prelude.{◌≡◌, ℕ, List, length};
+
+    ghost Value = { ℕ × List ℕ };
+
+    ghost view = { λ b. (b.frame, b.bytes) };
+
+    ghost invariant = { λ b. length b.bytes ≡ 4096 };
+}
+
+impl<A: Allocator + Copy> FrameBuf<A> {
+    /// The frame whose bytes these are.
+    pub fn frame(&self) -> FrameId
+        ensures { result ≡ self.now.0 }
+    {
+        self.frame
+    }
+
+    /// The 4,096 bytes.
+    pub fn bytes(&self) -> &[u8]
+        ensures value { result.now ≡ self.now.1 }
+        ensures whole { length self.now.1 ≡ 4096 }
+    {
+        self.bytes.as_slice()
+    }
+
+    /// Makes the bytes those of another frame.
+    pub(crate) fn copy_from(&mut self, other: &Self)
+        ensures { self.new ≡ (self.old.0, other.now.1) }
+    {
+        self.bytes.copy_from(&other.bytes);
+    }
+}

@@ -1,0 +1,13 @@
+//! The bytes of a machine's frames, and the copying of one frame's bytes to another.
+#![tactic(auto)]
+
+mod buf;
+mod bytes;
+mod job;
+mod store;
+#[cfg(test)]
+mod tests;
+
+pub use buf::FrameBuf;
+pub use job::CopyJob;
+pub use store::FrameStore;

@@ -1,0 +1,79 @@
+//! The free frames of one node.
+
+ghost use Rattle.std.specs.Prelude.{◌≡◌, ◌+◌, ◌<◌, ◌≤◌, ◌^◌, [], ◌∷◌, ◌++◌, length, drop, slice_get, IfOk};
+ghost use Rattle.nm_types.specs.Nodes.{up_from};
+
+use nm_types::FrameId;
+use std::alloc::{AllocError, Allocator};
+use std::collections::VecDeque;
+use std::marker::Model;
+
+/// Free frames of one node, the front first, with room for all frames that the node owns. Contracts see the pair of
+/// that number and the list.
+#[derive(Debug, Drop)]
+pub struct FreeList<A: Allocator + Copy> {
+    size: u32,
+    frames: VecDeque<FrameId, A>,
+}
+
+impl<A: Allocator + Copy> Model for FreeList<A> {
+    ghost use Rattle.std.specs.Prelude.{ℕ, ◌≤◌, List};
+    ghost use Rattle.std.specs.VecDeque.{deque_capacity};
+
+    ghost Value = { ℕ × List ℕ };
+
+    ghost view = { λ l. (l.size, l.frames.items) };
+
+    ghost invariant = { λ l. l.size ≤ deque_capacity l.frames };
+}
+
+impl<A: Allocator + Copy> FreeList<A> {
+    /// All frames of a node that owns so many from `first` on, upwards.
+    pub fn upwards(alloc: A, first: u32, size: u32) -> Result<Self, AllocError>
+        requires { first + size < 2 ^ 32 }
+        ensures { IfOk result (λ l. l ≡ (size, up_from first size)) }
+    {
+        let mut frames = VecDeque::with_capacity(alloc, size as usize)?;
+        for number in first..first + size {
+            frames.push_back(FrameId::new(number))?;
+        }
+        Ok(FreeList { size, frames })
+    }
+
+    /// How many frames the node owns.
+    pub fn size(&self) -> u32
+        ensures { result ≡ self.now.0 }
+    {
+        self.size
+    }
+
+    /// How many free frames there are.
+    pub fn len(&self) -> usize
+        ensures { result ≡ length self.now.1 }
+    {
+        self.frames.len()
+    }
+
+    /// The free frame at a place, counted from the front and from 0.
+    pub fn nth(&self, k: usize) -> Option<FrameId>
+        ensures { result ≡ slice_get self.now.1 k }
+    {
+        self.frames.get(k).copied()
+    }
+
+    /// Takes the front.
+    pub fn take_front(&mut self) -> Option<FrameId>
+        ensures front { result ≡ slice_get self.old.1 0 }
+        ensures rest { self.new ≡ (self.old.0, drop 1 self.old.1) }
+    {
+        self.frames.pop_front()
+    }
+
+    /// Puts a frame behind the others, where there is room.
+    pub fn append(&mut self, frame: FrameId)
+        requires { length self.old.1 < self.old.0 }
+        ensures { self.new ≡ (self.old.0, self.old.1 ++ frame ∷ []) }
+    {
+        self.frames.push_back_reserved(frame);
+    }
+}

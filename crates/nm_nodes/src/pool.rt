@@ -1,0 +1,99 @@
+//! The free frames of all nodes.
+
+ghost use Rattle.std.specs.Prelude.{◌≡◌, ◌<◌, false, length, sum, slice_get, IfOk};
+ghost use Rattle.nm_types.specs.Layout.{Layout, owner};
+ghost use Rattle.nm_types.specs.Nodes.{is_in};
+ghost use Rattle.nm_nodes.specs.Pool.{Pool, IsPool, list_of, new_pool, without_front, appended};
+ghost use Rattle.nm_nodes.specs.Lists.{sizes_of};
+
+use crate::list::FreeList;
+use nm_types::{FrameId, Geometry, NodeId};
+use std::alloc::{AllocError, Allocator};
+use std::marker::Model;
+
+/// For each node its free frames, the front first. Contracts see how many frames each node owns, and the lists.
+#[derive(Debug, Drop)]
+pub struct NodePool<A: Allocator + Copy> {
+    lists: Vec<FreeList<A>, A>,
+}
+
+impl<A: Allocator + Copy> Model for NodePool<A> {
+    ghost use Rattle.nm_nodes.specs.Pool.{Pool, IsPool};
+    ghost use Rattle.nm_nodes.specs.Lists.{pool_of};
+
+    ghost Value = { Pool };
+
+    ghost view = { λ p. pool_of p.lists.items };
+
+    ghost invariant = { λ p. IsPool (pool_of p.lists.items) };
+}
+
+impl<A: Allocator + Copy> NodePool<A> {
+    /// The pool of a new machine: every frame is free, and each node's list has the node's frames upwards. It takes
+    /// room for every frame, and no other call takes memory.
+    pub fn new(alloc: A, geometry: &Geometry<A>) -> Result<Self, AllocError>
+        ensures { IfOk result (λ pool. pool ≡ new_pool geometry.now.sizes) }
+    {
+        let mut lists = Vec::with_capacity(alloc, geometry.node_count())?;
+        let mut first = 0;
+        for node in 0..geometry.node_count() {
+            let size = geometry.size(NodeId::new(node as u32));
+            let list = FreeList::upwards(alloc, first, size)?;
+            lists.push(list)?;
+            first += size;
+        }
+        Ok(NodePool { lists })
+    }
+
+    /// How many free frames a node of the machine has.
+    pub fn free_count(&self, node: NodeId) -> usize
+        requires { node < length self.now.lists }
+        ensures count { result ≡ length (list_of self.now node) }
+        ensures pool { IsPool self.now }
+    {
+        self.lists[node.index()].len()
+    }
+
+    /// The free frame of a node of the machine at a place, counted from the front and from 0. None past the end.
+    pub fn nth(&self, node: NodeId, k: usize) -> Option<FrameId>
+        requires { node < length self.now.lists }
+        ensures { result ≡ slice_get (list_of self.now node) k }
+    {
+        self.lists[node.index()].nth(k)
+    }
+
+    /// Takes the front of the list of a node of the machine. None where the list is empty.
+    pub fn take_front(&mut self, node: NodeId) -> Option<FrameId>
+        requires { node < length self.old.lists }
+        ensures front { result ≡ slice_get (list_of self.old node) 0 }
+        ensures rest { self.new ≡ without_front self.old node }
+    {
+        self.lists[node.index()].take_front()
+    }
+
+    /// Puts a frame of the machine that is not free at the end of its own node's list.
+    pub fn append(&mut self, frame: FrameId)
+        requires in_machine { frame < sum self.old.sizes }
+        requires taken { is_in (list_of self.old (owner self.old.sizes frame)) frame ≡ false }
+        ensures { self.new ≡ appended self.old frame }
+    {
+        let node = owner_of(self.lists.as_slice(), frame);
+        self.lists[node].append(frame);
+    }
+}
+
+/// The node that owns a frame, by the lists of the nodes.
+fn owner_of<A: Allocator + Copy>(lists: &[FreeList<A>], frame: FrameId) -> usize
+    requires { frame < sum (sizes_of lists.now) }
+    ensures node { result ≡ owner (sizes_of lists.now) frame }
+    ensures below { result < length lists.now }
+{
+    let mut rest = frame.number();
+    for (node, list) in lists.iter().enumerate() {
+        if rest < list.size() {
+            return node;
+        }
+        rest -= list.size();
+    }
+    unreachable!()
+}

@@ -1,0 +1,19 @@
+//! Laws of the orders. Each function does nothing, and its contract is the law.
+
+ghost use Rattle.nm_policy.specs.Zones.{EachSetHasOneOrder};
+ghost use Rattle.nm_policy.specs.Rows.{ZonelistRows, FirstTouchRows};
+
+/// Each set of nodes has one order by distance, ties by number, and it is the one that `zonelist` gives.
+pub fn each_set_has_one_order()
+    ensures { EachSetHasOneOrder }
+{}
+
+/// Worked orders by distance.
+pub fn zonelist_rows()
+    ensures { ZonelistRows }
+{}
+
+/// Worked orders of a first touch.
+pub fn first_touch_rows()
+    ensures { FirstTouchRows }
+{}

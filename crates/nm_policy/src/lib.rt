@@ -1,0 +1,11 @@
+//! Which nodes are tried, and in which order: by distance, and by the policy of an area.
+#![tactic(auto)]
+
+mod first_touch;
+pub mod laws;
+#[cfg(test)]
+mod tests;
+mod zones;
+
+pub use first_touch::{first_touch_order, follows};
+pub use zones::zonelist;

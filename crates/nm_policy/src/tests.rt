@@ -1,0 +1,106 @@
+use crate::{first_touch_order, follows, laws, zonelist};
+use nm_types::{Geometry, NodeId, NodeMask, Policy};
+use std::alloc::Global;
+use std::process::Abort;
+use std::test::Fail;
+
+/// A set of nodes below 64.
+fn set_of(rt: &impl Abort, numbers: &[u32]) -> NodeMask {
+    let mut set = NodeMask::new();
+    for number in numbers {
+        assert!(rt; *number < 64);
+        set.insert(NodeId::new(*number));
+    }
+    set
+}
+
+/// Three nodes of one frame, of which the last is nearest to both others.
+fn three(alloc: Global) -> Result<Geometry<Global>, Fail> {
+    let distances = vec![in alloc;
+        vec![in alloc; 10u8, 30, 20]?,
+        vec![in alloc; 30u8, 10, 20]?,
+        vec![in alloc; 20u8, 20, 10]?,
+    ]?;
+    Ok(Geometry::new(vec![in alloc; 1u32, 1, 1]?, distances)?)
+}
+
+#[test]
+fn zonelists(rt: HostRuntime) -> Result<(), Fail> {
+    let alloc = rt.alloc();
+    let geometry = three(alloc)?;
+    let all = set_of(&rt, &[0, 1, 2]);
+    let two = set_of(&rt, &[0, 1]);
+    for (online, from, want) in [
+        (all, 0, [0u32, 2, 1].as_slice()),
+        (all, 1, [1, 2, 0].as_slice()),
+        (all, 2, [2, 0, 1].as_slice()),
+        (two, 0, [0, 1].as_slice()),
+        (two, 2, [0, 1].as_slice()),
+    ] {
+        let order = zonelist(alloc, &geometry, online, NodeId::new(from))?;
+        let numbers: Vec<u32> = order.iter().map(|node| node.number()).collect(alloc)?;
+        assert_eq!(rt; numbers.as_slice(), want, "from {from}");
+    }
+    Ok(())
+}
+
+#[test]
+fn first_touches(rt: HostRuntime) -> Result<(), Fail> {
+    let alloc = rt.alloc();
+    let geometry = three(alloc)?;
+    let all = set_of(&rt, &[0, 1, 2]);
+    let one = set_of(&rt, &[1]);
+    let home = NodeId::new(0);
+    for (policy, allowed, index, want) in [
+        (
+            Policy::Bind(set_of(&rt, &[1, 2])),
+            all,
+            0,
+            [2u32, 1].as_slice(),
+        ),
+        (
+            Policy::Preferred(NodeId::new(1)),
+            all,
+            0,
+            [1, 2, 0].as_slice(),
+        ),
+        (
+            Policy::Interleave(set_of(&rt, &[0, 1])),
+            all,
+            3,
+            [1, 2, 0].as_slice(),
+        ),
+        (Policy::Default, all, 0, [0, 2, 1].as_slice()),
+        (Policy::Local, one, 0, [1].as_slice()),
+    ] {
+        let order = first_touch_order(alloc, &geometry, all, home, allowed, policy, index)?;
+        let numbers: Vec<u32> = order.iter().map(|node| node.number()).collect(alloc)?;
+        assert_eq!(rt; numbers.as_slice(), want, "under {policy:?}");
+    }
+    Ok(())
+}
+
+#[test]
+fn pages_follow(rt: HostRuntime) {
+    let first = NodeId::new(0);
+    let second = NodeId::new(1);
+    for (policy, node, want) in [
+        (Policy::Default, second, true),
+        (Policy::Local, second, true),
+        (Policy::Preferred(second), second, true),
+        (Policy::Preferred(second), first, false),
+        (Policy::Bind(set_of(&rt, &[1])), second, true),
+        (Policy::Bind(set_of(&rt, &[1])), first, false),
+        (Policy::Interleave(set_of(&rt, &[0, 2])), first, true),
+        (Policy::Interleave(set_of(&rt, &[0, 2])), second, false),
+    ] {
+        assert_eq!(rt; follows(policy, node), want);
+    }
+}
+
+#[test]
+fn laws_are_called() {
+    laws::each_set_has_one_order();
+    laws::zonelist_rows();
+    laws::first_touch_rows();
+}

@@ -1,0 +1,83 @@
+//! An allocator for tests of what happens where memory runs out: it hands each call on to another allocator, and
+//! refuses one allocation, the one whose number it was told.
+#![tactic(auto)]
+
+use std::alloc::{AllocError, Allocator};
+use std::sync::atomic::{AtomicU64, Ordering};
+
+/// An allocator that refuses one allocation and hands each other call on. What shares it takes a `&Refusing`, which is
+/// an allocator too and may be copied.
+pub struct Refusing<B: Allocator> {
+    inner: B,
+    // the number, from now on, of the allocation that is refused; it counts down past 0, which refuses none
+    left: AtomicU64,
+}
+
+impl<B: Allocator> Refusing<B> {
+    /// An allocator over another one, which refuses nothing yet.
+    pub fn new(inner: B) -> Refusing<B> {
+        Refusing {
+            inner,
+            left: AtomicU64::new(0),
+        }
+    }
+
+    /// Refuses the allocation of this number from now on, once. The next allocation is number 1, and at 0 none is
+    /// refused.
+    pub fn refuse(&self, number: u64) {
+        self.left.store(number, Ordering::SeqCst);
+    }
+
+    /// How many allocations were asked for since `refuse(number)`, the refused one too. It was met where these are at
+    /// least `number`.
+    pub fn asked_since(&self, number: u64) -> u64 {
+        number.wrapping_sub(self.left.load(Ordering::SeqCst))
+    }
+}
+
+impl<B: Allocator> Drop for Refusing<B> {
+    fn drop(self) {
+        let Self { inner: _, left: _ } = self;
+    }
+}
+
+/// Counts one allocation, and says whether it is the one to be refused.
+fn refuses(left: &AtomicU64) -> bool {
+    left.fetch_sub(1, Ordering::SeqCst) == 1
+}
+
+unsafe impl<B: Allocator> Allocator for Refusing<B> {
+    ghost dealloc_token = { λ heap ty ptr. B.dealloc_token heap.inner ty ptr };
+
+    fn allocate(&self, size: usize, align: usize) -> Result<*mut u8, AllocError> {
+        if refuses(&self.left) {
+            return Err(AllocError);
+        }
+        self.inner.allocate(size, align)
+    }
+
+    unsafe fn deallocate(&self, ptr: *mut u8, size: usize, align: usize) {
+        self.inner.deallocate(ptr, size, align);
+    }
+}
+
+#[cfg(test)]
+mod tests {
+    use super::Refusing;
+    use std::test::Fail;
+
+    /// The second allocation is refused, and those before and behind it are made.
+    #[test]
+    fn refuses_one(rt: HostRuntime) -> Result<(), Fail> {
+        let heap = Refusing::new(rt.alloc());
+        assert!(rt; Box::new(&heap, 7u8).is_ok());
+        heap.refuse(2);
+        assert!(rt; Box::new(&heap, 7u8).is_ok());
+        assert_eq!(rt; heap.asked_since(2), 1u64);
+        assert!(rt; Box::new(&heap, 7u8).is_err());
+        assert_eq!(rt; heap.asked_since(2), 2u64);
+        assert!(rt; Box::new(&heap, 7u8).is_ok());
+        assert_eq!(rt; heap.asked_since(2), 3u64);
+        Ok(())
+    }
+}

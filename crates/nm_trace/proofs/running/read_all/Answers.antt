@@ -1,0 +1,6 @@
+use Rattle.std.proofs.Common.{◌≡◌, arith, rules, refl, take, List, []}
+use Rattle.nm_trace.proofs.Known.{consumes_more, consumes_nothing, consumed_all}
+use Rattle.nm_trace.proofs.running.read_all.Goals as goal
+
+pub loop-buffer-init : goal.loop-buffer-init
+loop-buffer-init g c = consumes_nothing (g.R.Read.remaining c.args.reader.now) c.new-bytes.result.items (search rules)

@@ -1,0 +1,9 @@
+use Rattle.std.proofs.Common.{vec_len, ◌-◌, length}
+use Rattle.std.specs.Io.KnownBytes.{Consumes}
+use Rattle.nm_trace.proofs.running.read_all.Given as goal
+
+abbrev pub invariant-loop-buffer : goal.invariant-loop-buffer
+invariant-loop-buffer g l = Consumes (g.R.Read.remaining l.fn.reader) (g.R.Read.remaining l.reader) l.bytes.items
+
+abbrev pub decreases-loop-buffer : goal.decreases-loop-buffer
+decreases-loop-buffer g l = 16777217 - vec_len l.bytes

@@ -1,0 +1,70 @@
+-- Which bytes are which trace, and else the first fault.
+use Rattle.std.specs.Prelude.{◌≡◌, ℕ, suc, List, ◌==◌, if◌then◌else◌, Option, None, is_some, Result, Ok, Err, codes}
+use Rattle.std.specs.Option.{ok_or}
+use Rattle.std.specs.Str.{is_utf8}
+use Rattle.serde_json.specs.Data.{Data, Items, no_items, item}
+use Rattle.serde_json.specs.Read.{read}
+use Rattle.nm_types.specs.Layout.{Layout}
+use Rattle.nm_calls.specs.Calls.{Call}
+use Rattle.nm_trace.specs.declared.trace_error.TraceError.{TraceError}
+use Rattle.nm_trace.specs.declared.trace_error.TraceError.TheVariants.{NotJson, BadMachine, BadStep, ReadFault, WriteFault, HostMemory}
+use Rattle.nm_trace.specs.declared.step.StepError.{StepError}
+use Rattle.nm_trace.specs.declared.step.StepError.TheVariants.{Bad, Memory}
+use Rattle.nm_trace.specs.Form as form
+
+-- a trace: its machine, and what its steps ask
+pub record Plan : Type 0 where
+  pub layout : Layout
+  pub calls : List Call
+
+infixl 10 ◌>>=◌
+abbrev pub ◌>>=◌ : {A B : Type 0} → Result A TraceError → (A → Result B TraceError) → Result B TraceError
+(Ok x) >>= f = f x
+(Err e) >>= f = Err e
+
+-- the value that bytes are as JSON
+abbrev pub value_of : List ℕ → Option Data
+value_of bytes = if is_utf8 bytes then read bytes else None
+
+-- the steps' values, where the version is 1
+unfoldable pub listed : Data → Option Items
+listed d = form.◌>>=◌ (form.number_at (codes "version") d) (λ v. if v == 1 then form.items_at (codes "steps") d else None)
+
+-- the place of the first item that is no step
+abbrev pub first_bad : Items → ℕ
+first_bad no_items = 0
+first_bad (item d ds) = if is_some (form.step_of d) then suc (first_bad ds) else 0
+
+abbrev pub calls_of : Items → Result (List Call) TraceError
+calls_of ds = ok_or (form.each form.step_of ds) (BadStep (first_bad ds))
+
+unfoldable pub plan_of : Data → Result Plan TraceError
+plan_of d = do
+  layout ← ok_or (form.machine_of d) BadMachine
+  ds ← ok_or (listed d) BadMachine
+  calls ← calls_of ds
+  Ok (record { layout = layout; calls = calls })
+
+unfoldable pub trace_of : List ℕ → Result Plan TraceError
+trace_of bytes = do
+  d ← ok_or (value_of bytes) NotJson
+  plan_of d
+
+-- An error is the fault, unless memory ran out before the first step.
+abbrev pub Fails : {Y : Type 0} → TraceError → Result Y TraceError → Type 0
+Fails NotJson found = found ≡ Err NotJson
+Fails BadMachine found = found ≡ Err BadMachine
+Fails (BadStep k) found = found ≡ Err (BadStep k)
+Fails ReadFault found = ⊥
+Fails WriteFault found = ⊥
+Fails (HostMemory k) found = k ≡ 0
+
+-- A result, seen by view, is what the definition gives.
+abbrev pub Gives : {X Y : Type 0} → (X → Y) → Result X TraceError → Result Y TraceError → Type 0
+Gives view (Ok x) found = found ≡ Ok (view x)
+Gives view (Err e) found = Fails e found
+
+-- a fault of the machine
+abbrev pub bad_machine : StepError → TraceError
+bad_machine Bad = BadMachine
+bad_machine Memory = HostMemory 0

@@ -1,0 +1,181 @@
+-- The form of a trace: which data are which machine, and which steps.
+use Rattle.std.specs.Prelude.{ℕ, ◌^◌, ◌==◌, ◌&&◌, ◌||◌, List, [], ◌∷◌, Bool, false, length, nat_lt, nat_le, if◌then◌else◌, Option, Some, None, option_and_then, codes}
+use Rattle.std.specs.Str.{bytes_eq}
+use Rattle.std.specs.Result.{result_ok}
+use Rattle.std.specs.Ordering.{nat_cmp}
+use Rattle.std.specs.BTreeSet.{insert_key}
+use Rattle.hex.specs.Hex.{decode_of}
+use Rattle.serde_json.specs.Data.{Data, Items, no_items, item}
+use Rattle.serde_json.specs.Find.{get, as_number, as_u64, as_bool, as_str, as_array}
+use Rattle.nm_types.specs.Layout.{Layout}
+use Rattle.nm_types.specs.Refusal.{refusal}
+use Rattle.nm_types.specs.declared.geometry.GeometryError.{GeometryError}
+use Rattle.nm_calls.specs.Calls.{Call, Spawn, MapPages, ReadBytes, WriteBytes, MovePages, FreeList, Pagemap}
+
+infixl 10 ◌>>=◌
+abbrev pub ◌>>=◌ : {A B : Type 0} → Option A → (A → Option B) → Option B
+o >>= f = option_and_then f o
+
+-- ---- values
+
+-- a number that is below a limit
+abbrev pub below : ℕ → ℕ → Option ℕ
+below limit n = if nat_lt n limit then Some n else None
+
+-- a number of 64 bits
+abbrev pub number_of : Data → Option ℕ
+number_of d = option_and_then as_u64 (as_number d)
+
+-- a number below a limit
+abbrev pub number_below : ℕ → Data → Option ℕ
+number_below limit d = option_and_then (below limit) (number_of d)
+
+-- what f reads in each item, where it reads all of them
+abbrev pub each : {A : Type 0} → (Data → Option A) → Items → Option (List A)
+each f no_items = Some []
+each f (item d ds) = do
+  x ← f d
+  xs ← each f ds
+  Some (x ∷ xs)
+
+-- the set with more numbers; a set is the list of its numbers upwards
+abbrev pub set_from : List ℕ → List ℕ → List ℕ
+set_from set [] = set
+set_from set (n ∷ ns) = set_from (insert_key nat_cmp set n) ns
+
+-- a set of numbers below 64, whatever their order and repeats
+abbrev pub set_of : Items → Option (List ℕ)
+set_of ds = do
+  ns ← each (number_below 64) ds
+  Some (set_from [] ns)
+
+-- the bytes that a text of hexadecimal digits of either case spells
+abbrev pub bytes_of : List ℕ → Option (List ℕ)
+bytes_of text = result_ok (decode_of text)
+
+-- ---- values of keys
+
+-- the number of a key
+abbrev pub number_at : List ℕ → Data → Option ℕ
+number_at key d = option_and_then number_of (get key d)
+
+-- the number of a key, below 2^32
+abbrev pub small_at : List ℕ → Data → Option ℕ
+small_at key d = option_and_then (below (2 ^ 32)) (number_at key d)
+
+abbrev pub text_at : List ℕ → Data → Option (List ℕ)
+text_at key d = option_and_then as_str (get key d)
+
+-- true or false, and false where the key is missing
+abbrev pub flag_or_false : Option Data → Option Bool
+flag_or_false None = Some false
+flag_or_false (Some d) = as_bool d
+
+abbrev pub flag_at : List ℕ → Data → Option Bool
+flag_at key d = flag_or_false (get key d)
+
+abbrev pub items_at : List ℕ → Data → Option Items
+items_at key d = option_and_then as_array (get key d)
+
+abbrev pub numbers_at : List ℕ → Data → Option (List ℕ)
+numbers_at key d = option_and_then (each number_of) (items_at key d)
+
+-- the numbers of a key, each below 2^32
+abbrev pub smalls_at : List ℕ → Data → Option (List ℕ)
+smalls_at key d = option_and_then (each (number_below (2 ^ 32))) (items_at key d)
+
+abbrev pub set_at : List ℕ → Data → Option (List ℕ)
+set_at key d = option_and_then set_of (items_at key d)
+
+abbrev pub hex_at : List ℕ → Data → Option (List ℕ)
+hex_at key d = option_and_then bytes_of (text_at key d)
+
+-- ---- the machine
+
+-- a row of distances, each below 256
+abbrev pub row_of : Data → Option (List ℕ)
+row_of d = option_and_then (each (number_below (2 ^ 8))) (as_array d)
+
+-- the layout, where there is no fault
+abbrev pub unless_refused : Option GeometryError → Layout → Option Layout
+unless_refused None g = Some g
+unless_refused (Some e) g = None
+
+unfoldable pub machine_of : Data → Option Layout
+machine_of d = do
+  m ← get (codes "machine") d
+  sizes ← smalls_at (codes "nodes") m
+  rows ← items_at (codes "distance") m
+  distances ← each row_of rows
+  unless_refused (refusal (record { sizes = sizes; distances = distances })) (record { sizes = sizes; distances = distances })
+
+-- ---- the kinds of step
+
+unfoldable pub spawn_of : Data → Option Call
+spawn_of d = do
+  pid ← small_at (codes "pid") d
+  uid ← small_at (codes "uid") d
+  home ← small_at (codes "home") d
+  allowed ← set_at (codes "allowed") d
+  privileged ← flag_at (codes "privileged") d
+  Some (Spawn pid uid home allowed privileged)
+
+unfoldable pub map_of : Data → Option Call
+map_of d = do
+  pid ← small_at (codes "pid") d
+  addr ← number_at (codes "addr") d
+  pages ← number_at (codes "pages") d
+  Some (MapPages pid addr pages)
+
+unfoldable pub read_of : Data → Option Call
+read_of d = do
+  pid ← small_at (codes "pid") d
+  addr ← number_at (codes "addr") d
+  len ← number_at (codes "len") d
+  Some (ReadBytes pid addr len)
+
+unfoldable pub write_of : Data → Option Call
+write_of d = do
+  pid ← small_at (codes "pid") d
+  addr ← number_at (codes "addr") d
+  bytes ← hex_at (codes "data") d
+  Some (WriteBytes pid addr bytes)
+
+-- as many nodes as pages and at most 16,384; for now the caller's own pages with the flag MOVE
+unfoldable pub move_pages_of : Data → Option Call
+move_pages_of d = do
+  caller ← small_at (codes "caller") d
+  pid ← small_at (codes "pid") d
+  pages ← numbers_at (codes "pages") d
+  nodes ← smalls_at (codes "nodes") d
+  flags ← small_at (codes "flags") d
+  if nat_le (length pages) 16384 && (length pages == length nodes)
+      then (if (pid == 0 || pid == caller) && (flags == 2) then Some (MovePages caller pid pages nodes flags) else None)
+      else None
+
+unfoldable pub free_of : Data → Option Call
+free_of d = do
+  node ← small_at (codes "node") d
+  Some (FreeList node)
+
+unfoldable pub pagemap_of : Data → Option Call
+pagemap_of d = do
+  pid ← small_at (codes "pid") d
+  Some (Pagemap pid)
+
+-- the step of this name
+unfoldable pub named : List ℕ → Data → Option Call
+named op d =
+    if bytes_eq op (codes "spawn") then spawn_of d
+    else (if bytes_eq op (codes "map") then map_of d
+    else (if bytes_eq op (codes "read") then read_of d
+    else (if bytes_eq op (codes "write") then write_of d
+    else (if bytes_eq op (codes "move_pages") then move_pages_of d
+    else (if bytes_eq op (codes "free") then free_of d
+    else (if bytes_eq op (codes "pagemap") then pagemap_of d
+    else None))))))
+
+unfoldable pub step_of : Data → Option Call
+step_of d = do
+  op ← text_at (codes "op") d
+  named op d

@@ -1,0 +1,83 @@
+-- The report on calls and what they answered.
+use Rattle.std.specs.Prelude.{◌≡◌, ℕ, ℤ, ◌+◌, ◌-◌, List, [], ◌∷◌, ◌++◌, length, map, replicate, Bool, false, Option, Some, None, codes, decimal}
+use Rattle.std.specs.Fmt.{signed_decimal, digits}
+use Rattle.std.specs.List.{flat_map}
+use Rattle.hex.specs.Hex.{encode_lower}
+use Rattle.nm_types.specs.Names.{name_of}
+use Rattle.nm_calls.specs.Calls.{Call, Spawn, MapPages, ReadBytes, WriteBytes, MovePages, FreeList, Pagemap, Answer, Refusal, Done, NewSegment, TheBytes, Statuses, Frames, Entries}
+use Rattle.nm_calls.specs.Moving.{failures}
+
+-- the word of a call
+abbrev pub word_of : Call → List ℕ
+word_of (Spawn pid uid home allowed privileged) = codes "spawn"
+word_of (MapPages pid addr pages) = codes "map"
+word_of (ReadBytes pid addr len) = codes "read"
+word_of (WriteBytes pid addr bytes) = codes "write"
+word_of (MovePages caller pid pages nodes flags) = codes "move_pages"
+word_of (FreeList node) = codes "free"
+word_of (Pagemap pid) = codes "pagemap"
+
+-- numbers, each after a space
+abbrev pub listed : List ℕ → List ℕ
+listed ns = flat_map (λ n. 32 ∷ decimal n) ns
+
+abbrev pub signed_listed : List ℤ → List ℕ
+signed_listed zs = flat_map (λ z. 32 ∷ signed_decimal z) zs
+
+-- digits, after as many zeros as bring them to a width
+abbrev pub zero_filled : ℕ → List ℕ → List ℕ
+zero_filled width ds = replicate (width - length ds) 48 ++ ds
+
+-- the address at which a page begins, as at least eight hexadecimal digits: those of its number, and three zeros
+abbrev pub address_text : ℕ → List ℕ
+address_text vpn = zero_filled 5 (digits 16 false vpn) ++ codes "000"
+
+abbrev pub frame_text : Option ℕ → List ℕ
+frame_text None = codes "zero"
+frame_text (Some frame) = decimal frame
+
+-- an entry, after a space
+abbrev pub entry_text : ℕ × Option ℕ → List ℕ
+entry_text e = codes " " ++ address_text e.0 ++ codes "=" ++ frame_text e.1
+
+-- an answer in words
+unfoldable pub answer_text : Answer → List ℕ
+answer_text (Refusal errno) = codes "error " ++ name_of errno
+answer_text Done = codes "ok"
+answer_text (NewSegment segment) = codes "segment=" ++ decimal segment
+answer_text (TheBytes bytes) = encode_lower bytes
+answer_text (Statuses failed statuses) = decimal failed ++ codes ":" ++ signed_listed statuses
+answer_text (Frames frames) = decimal (length frames) ++ codes ":" ++ listed frames
+answer_text (Entries entries) = decimal (length entries) ++ codes ":" ++ flat_map entry_text entries
+
+-- the line of step k
+unfoldable pub line_of : ℕ → Call → Answer → List ℕ
+line_of k call answer = decimal k ++ codes " " ++ word_of call ++ codes " " ++ answer_text answer ++ codes "\n"
+
+-- an answer of the call's kind: any call may be refused, a read answers so many bytes, and a call that moves pages a
+-- status for each and how many of them failed
+abbrev pub Suits : Call → Answer → Type 0
+Suits call (Refusal errno) = Unit {0}
+Suits (Spawn pid uid home allowed privileged) Done = Unit {0}
+Suits (MapPages pid addr pages) (NewSegment segment) = Unit {0}
+Suits (ReadBytes pid addr len) (TheBytes bytes) = length bytes ≡ len
+Suits (WriteBytes pid addr bytes) Done = Unit {0}
+Suits (MovePages caller pid pages nodes flags) (Statuses failed statuses) = (length statuses ≡ length pages) × (failed ≡ failures statuses)
+Suits (FreeList node) (Frames frames) = Unit {0}
+Suits (Pagemap pid) (Entries entries) = Unit {0}
+Suits call answer = ⊥
+
+-- a call that was made, with what it answered
+pub record Made : Type 0 where
+  pub call : Call
+  pub answer : Answer
+  pub suits : Suits call answer
+
+-- the lines from step k on
+abbrev pub report_from : ℕ → List Made → List ℕ
+report_from k [] = []
+report_from k (m ∷ ms) = line_of k m.call m.answer ++ report_from (k + 1) ms
+
+-- the text is the report on these calls, each with some answer of its kind
+abbrev pub IsReport : List Call → List ℕ → Type 0
+IsReport calls text = (made : List Made) × (map (λ m. m.call) made ≡ calls) × (text ≡ report_from 0 made)

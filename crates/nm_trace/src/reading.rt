@@ -1,0 +1,138 @@
+//! Bytes to a trace.
+
+ghost use Rattle.std.specs.Prelude.{map, ◌≡◌, [], ◌∷◌, ◌++◌, OnOk, IfErr};
+ghost use Rattle.std.specs.Option.{ok_or};
+ghost use Rattle.serde_json.specs.View.{view, items_view};
+ghost use Rattle.nm_trace.specs.Faults as faults;
+ghost use Rattle.nm_trace.specs.Faults.{Gives};
+ghost use Rattle.nm_trace.specs.declared.trace_error.TraceError.TheVariants.{NotJson};
+ghost use Rattle.nm_trace.specs.Gives as of_step;
+
+use crate::fields::{list, number};
+use crate::machine::machine_of;
+use crate::step::{Step, StepError};
+use crate::steps::step_of;
+use crate::trace_error::TraceError;
+use nm_types::Geometry;
+use serde_json::Value;
+use std::alloc::{Allocator, Global};
+use std::marker::Model;
+
+/// A machine, and the steps that are made on it. Contracts see its layout and what its steps ask.
+#[derive(Debug, Drop)]
+pub struct Trace<A: Allocator + Copy + Send + Sync> {
+    pub(crate) geometry: Geometry<A>,
+    pub(crate) steps: Vec<Step<A>, A>,
+}
+
+impl<A: Allocator + Copy + Send + Sync> Model for Trace<A> {
+    ghost use Rattle.std.specs.Prelude.{map};
+    ghost use Rattle.nm_trace.specs.Faults.{Plan};
+
+    ghost Value = { Plan };
+
+    ghost use Rattle.nm_trace.specs.Gives.{call_of};
+
+    ghost view = { λ t. record { layout = t.geometry; calls = map call_of t.steps.items } };
+}
+
+/// The values of the steps, where the version is 1.
+#[tactic(auto, unfolding(crate::specs::Faults::listed))]
+fn listed(value: &Value) -> Result<&Vec<Value>, StepError>
+    ensures { of_step.Gives (λ v. items_view v.now.items) result (faults.listed (view value.now)) }
+{
+    if number(value, "version")? != 1 {
+        return Err(StepError::Bad);
+    }
+    list(value, "steps")
+}
+
+/// Puts a step at the end of a list.
+fn put<A: Allocator + Copy + Send + Sync>(
+    steps: &mut Vec<Step<A>, A>,
+    step: Step<A>,
+) -> Result<(), TraceError>
+    ensures put { OnOk result (steps.new.items ≡ steps.old.items ++ step ∷ []) }
+    ensures fault { IfErr result (λ e. e ≡ TraceError.HostMemory 0) }
+{
+    match steps.push(step) {
+        Ok(()) => Ok(()),
+        Err(_) => Err(TraceError::HostMemory(0)),
+    }
+}
+
+/// The steps of a list, or the first fault.
+fn steps_of<A: Allocator + Copy + Send + Sync>(
+    alloc: A,
+    values: &[Value],
+) -> Result<Vec<Step<A>, A>, TraceError>
+    ensures { Gives (λ v. map of_step.call_of v.items) result (faults.calls_of (items_view values.now)) }
+{
+    let mut steps = Vec::new(alloc);
+    for (k, value) in values.iter().enumerate() {
+        let step = match step_of(alloc, value) {
+            Ok(step) => step,
+            Err(StepError::Bad) => return Err(TraceError::BadStep(k)),
+            Err(StepError::Memory) => return Err(TraceError::HostMemory(0)),
+        };
+        put(&mut steps, step)?;
+    }
+    Ok(steps)
+}
+
+/// A fault of the machine.
+fn bad_machine(error: StepError) -> TraceError
+    ensures { result ≡ faults.bad_machine error }
+{
+    match error {
+        StepError::Bad => TraceError::BadMachine,
+        StepError::Memory => TraceError::HostMemory(0),
+    }
+}
+
+/// The trace that a value is, or the first fault.
+#[tactic(auto, unfolding(crate::specs::Faults::plan_of))]
+fn trace_of<A: Allocator + Copy + Send + Sync>(
+    alloc: A,
+    value: &Value,
+) -> Result<Trace<A>, TraceError>
+    ensures { Gives (λ t. t) result (faults.plan_of (view value.now)) }
+{
+    let geometry = machine_of(alloc, value).map_err(bad_machine)?;
+    let values = listed(value).map_err(bad_machine)?;
+    let steps = steps_of(alloc, values.as_slice())?;
+    Ok(Trace { geometry, steps })
+}
+
+/// The value that bytes are as JSON.
+fn value_of(heap: Global, bytes: &[u8]) -> Result<Value, TraceError>
+    ensures { Gives view result (ok_or (faults.value_of bytes.now) NotJson) }
+{
+    match Value::from_slice(heap, bytes) {
+        Ok(value) => Ok(value),
+        Err(error) => {
+            if error.is_memory() {
+                Err(TraceError::HostMemory(0))
+            } else {
+                Err(TraceError::NotJson)
+            }
+        }
+    }
+}
+
+/// The trace that bytes are, or the first fault: `NotJson`, then `BadMachine`, then `BadStep` of the first bad step.
+/// Every step is checked before one is made. The trace stands in the memory of `alloc`, and the JSON value, until this
+/// call returns, in that of `heap`.
+///
+/// `HostMemory(0)` comes where one of the two was refused memory.
+#[tactic(auto, unfolding(crate::specs::Faults::trace_of))]
+pub fn read_trace<A: Allocator + Copy + Send + Sync>(
+    alloc: A,
+    heap: Global,
+    bytes: &[u8],
+) -> Result<Trace<A>, TraceError>
+    ensures { Gives (λ t. t) result (faults.trace_of bytes.now) }
+{
+    let value = value_of(heap, bytes)?;
+    trace_of(alloc, &value)
+}

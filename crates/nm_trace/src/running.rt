@@ -1,0 +1,66 @@
+//! From a reader's bytes to a writer's report.
+
+ghost use Rattle.std.specs.Prelude.{◌≡◌, ◌⊎◌, ◌≤◌, length, IfOk, IfErr, IfSome, OnOk};
+ghost use Rattle.nm_trace.specs.Faults.{trace_of};
+ghost use Rattle.nm_trace.specs.Played.{Runs, IsSilent};
+
+use crate::playing::{Summary, play_steps};
+use crate::reading::{Trace, read_trace};
+use crate::trace_error::TraceError;
+use nm_calls::System;
+use std::alloc::{Allocator, Global};
+use std::io::{Read, Write};
+
+/// The most bytes that a trace has.
+pub const TRACE_LIMIT: usize = 16_777_216;
+
+/// All bytes of a reader, where they are no more than a trace may have.
+fn read_all<A: Allocator + Copy, R: Read>(
+    alloc: A,
+    reader: &mut R,
+) -> Result<Vec<u8, A>, TraceError>
+    ensures bytes { IfOk result (λ v. IfSome (R.remaining reader.old) (λ xs. v.items ≡ xs)) }
+    ensures within { IfOk result (λ v. length v.items ≤ 16777216) }
+    ensures fault { IfErr result (λ e. (e ≡ TraceError.ReadFault) ⊎ (e ≡ TraceError.HostMemory 0)) }
+{
+    let mut bytes = Vec::new(alloc);
+    let mut buffer = [0u8; 16384];
+    while bytes.len() <= TRACE_LIMIT {
+        match reader.read(&mut buffer) {
+            Ok(count) => {
+                if count == 0 {
+                    return Ok(bytes);
+                }
+                if bytes.extend_from_slice(&buffer[..count]).is_err() {
+                    return Err(TraceError::HostMemory(0));
+                }
+            }
+            Err(_) => return Err(TraceError::ReadFault),
+        }
+    }
+    Err(TraceError::ReadFault)
+}
+
+/// Reads a trace to its end, checks it whole, plays it on a new system and writes the report. The system, the bytes and
+/// the lines stand in the memory of `alloc`, and the JSON value in that of `heap`.
+///
+/// Faults in order: `ReadFault` where the reader failed or gave more than 16,777,216 bytes; those of `read_trace`; those
+/// of `play`. Nothing is written before the whole trace is checked.
+pub fn run_trace<A: Allocator + Copy + Send + Sync, R: Read, W: Write>(
+    alloc: A,
+    heap: Global,
+    reader: &mut R,
+    writer: &mut W,
+) -> Result<Summary, TraceError>
+    ensures runs { IfSome (R.remaining reader.old) (λ bytes. Runs (trace_of bytes) (W.contents writer.old) (W.contents writer.new) result) }
+    ensures within { OnOk result (IfSome (R.remaining reader.old) (λ bytes. length bytes ≤ 16777216)) }
+    ensures silent { IfErr result (λ e. IsSilent e (W.contents writer.old) (W.contents writer.new)) }
+{
+    let bytes = read_all(alloc, reader)?;
+    let trace = read_trace(alloc, heap, bytes.as_slice())?;
+    let Trace { geometry, steps } = trace;
+    let Ok(mut system) = System::new(alloc, geometry) else {
+        return Err(TraceError::HostMemory(0));
+    };
+    play_steps(alloc, &mut system, steps.as_slice(), writer)
+}

@@ -1,0 +1,133 @@
+//! Steps as JSON has them.
+
+ghost use Rattle.serde_json.specs.View.{view};
+ghost use Rattle.nm_trace.specs.Form as form;
+ghost use Rattle.nm_trace.specs.Gives.{Gives, call_of};
+
+use crate::fields::{flag, hex, number, numbers, set, small, smalls, text};
+use crate::step::{Batch, MoveRequest, Step, StepError};
+use nm_types::limits::MAX_BATCH;
+use nm_types::{MoveFlags, NodeId, Pid};
+use serde_json::Value;
+use std::alloc::Allocator;
+
+#[tactic(auto, unfolding(crate::specs::Form::spawn_of))]
+fn spawn<A: Allocator + Copy + Send + Sync>(value: &Value) -> Result<Step<A>, StepError>
+    ensures { Gives call_of result (form.spawn_of (view value.now)) }
+{
+    Ok(Step::Spawn {
+        pid: Pid::new(small(value, "pid")?),
+        uid: small(value, "uid")?,
+        home: NodeId::new(small(value, "home")?),
+        allowed: set(value, "allowed")?,
+        privileged: flag(value, "privileged")?,
+    })
+}
+
+#[tactic(auto, unfolding(crate::specs::Form::map_of))]
+fn map<A: Allocator + Copy + Send + Sync>(value: &Value) -> Result<Step<A>, StepError>
+    ensures { Gives call_of result (form.map_of (view value.now)) }
+{
+    Ok(Step::Map {
+        pid: Pid::new(small(value, "pid")?),
+        addr: number(value, "addr")?,
+        pages: number(value, "pages")?,
+    })
+}
+
+#[tactic(auto, unfolding(crate::specs::Form::read_of))]
+fn read<A: Allocator + Copy + Send + Sync>(value: &Value) -> Result<Step<A>, StepError>
+    ensures { Gives call_of result (form.read_of (view value.now)) }
+{
+    Ok(Step::Read {
+        pid: Pid::new(small(value, "pid")?),
+        addr: number(value, "addr")?,
+        len: number(value, "len")?,
+    })
+}
+
+#[tactic(auto, unfolding(crate::specs::Form::write_of))]
+fn write<A: Allocator + Copy + Send + Sync>(alloc: A, value: &Value) -> Result<Step<A>, StepError>
+    ensures { Gives call_of result (form.write_of (view value.now)) }
+{
+    Ok(Step::Write {
+        pid: Pid::new(small(value, "pid")?),
+        addr: number(value, "addr")?,
+        bytes: hex(alloc, value, "data")?,
+    })
+}
+
+#[tactic(auto, unfolding(crate::specs::Form::move_pages_of))]
+fn move_pages<A: Allocator + Copy + Send + Sync>(
+    alloc: A,
+    value: &Value,
+) -> Result<Step<A>, StepError>
+    ensures { Gives call_of result (form.move_pages_of (view value.now)) }
+{
+    let caller = small(value, "caller")?;
+    let pid = small(value, "pid")?;
+    let pages = numbers(alloc, value, "pages")?;
+    let nodes = smalls(alloc, value, "nodes")?;
+    let flags = small(value, "flags")?;
+    if pages.len() > MAX_BATCH || pages.len() != nodes.len() {
+        return Err(StepError::Bad);
+    }
+    if (pid != 0 && pid != caller) || flags != MoveFlags::MOVE {
+        return Err(StepError::Bad);
+    }
+    Ok(Step::MovePages(MoveRequest {
+        caller: Pid::new(caller),
+        pid: Pid::new(pid),
+        batch: Batch { pages, nodes },
+        flags,
+    }))
+}
+
+#[tactic(auto, unfolding(crate::specs::Form::free_of))]
+fn free<A: Allocator + Copy + Send + Sync>(value: &Value) -> Result<Step<A>, StepError>
+    ensures { Gives call_of result (form.free_of (view value.now)) }
+{
+    Ok(Step::Free {
+        node: NodeId::new(small(value, "node")?),
+    })
+}
+
+#[tactic(auto, unfolding(crate::specs::Form::pagemap_of))]
+fn pagemap<A: Allocator + Copy + Send + Sync>(value: &Value) -> Result<Step<A>, StepError>
+    ensures { Gives call_of result (form.pagemap_of (view value.now)) }
+{
+    Ok(Step::Pagemap {
+        pid: Pid::new(small(value, "pid")?),
+    })
+}
+
+#[tactic(auto, unfolding(crate::specs::Form::named))]
+fn named<A: Allocator + Copy + Send + Sync>(
+    alloc: A,
+    op: &str,
+    value: &Value,
+) -> Result<Step<A>, StepError>
+    ensures { Gives call_of result (form.named op.now (view value.now)) }
+{
+    match op {
+        "spawn" => spawn(value),
+        "map" => map(value),
+        "read" => read(value),
+        "write" => write(alloc, value),
+        "move_pages" => move_pages(alloc, value),
+        "free" => free(value),
+        "pagemap" => pagemap(value),
+        _ => Err(StepError::Bad),
+    }
+}
+
+/// The step that a value is.
+#[tactic(auto, unfolding(crate::specs::Form::step_of))]
+pub(crate) fn step_of<A: Allocator + Copy + Send + Sync>(
+    alloc: A,
+    value: &Value,
+) -> Result<Step<A>, StepError>
+    ensures { Gives call_of result (form.step_of (view value.now)) }
+{
+    named(alloc, text(value, "op")?, value)
+}

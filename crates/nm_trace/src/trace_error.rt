@@ -1,0 +1,26 @@
+//! The faults of a trace.
+
+use thiserror::Error;
+
+/// Why there is no report, or no whole one. Faults of the bytes come in this order, before any step is made.
+#[derive(Clone, Copy, Debug, PartialEq, Eq, Error)]
+pub enum TraceError {
+    /// The bytes are no JSON text in UTF-8.
+    #[error("not JSON")]
+    NotJson,
+    /// The top is no object with version 1, a machine that can be, and a list of steps.
+    #[error("bad machine")]
+    BadMachine,
+    /// The step of this number has another form. Steps are numbered from 0, and this is the first such one.
+    #[error("bad step {0}")]
+    BadStep(usize),
+    /// The reader failed, or gave more than 16,777,216 bytes.
+    #[error("read fault")]
+    ReadFault,
+    /// The writer failed, or took no byte.
+    #[error("write fault")]
+    WriteFault,
+    /// The host refused memory after so many steps.
+    #[error("host memory refused after {0} steps")]
+    HostMemory(usize),
+}

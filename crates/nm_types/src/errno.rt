@@ -1,0 +1,75 @@
+//! Refusals, by the names and numbers of `errno(3)`.
+
+ghost use Rattle.std.specs.Prelude.{◌≡◌, pos};
+ghost use Rattle.nm_types.specs.Names.{number_of, name_of};
+
+use std::fmt;
+
+/// Why a call is refused.
+#[derive(Clone, Copy, Debug, PartialEq, Eq)]
+pub enum Errno {
+    /// EPERM: the caller lacks the right.
+    Eperm,
+    /// ENOENT: nothing has been touched there.
+    Enoent,
+    /// ESRCH: no such process.
+    Esrch,
+    /// EIO: a page does not follow the policy.
+    Eio,
+    /// ENOMEM: no free frame, or a limit of the machine.
+    Enomem,
+    /// EACCES: the node is not allowed.
+    Eacces,
+    /// EFAULT: no area there.
+    Efault,
+    /// EBUSY: a page is pinned, or pinned as often as it can be.
+    Ebusy,
+    /// ENODEV: no such node, or it is offline.
+    Enodev,
+    /// EINVAL: an argument is out of its range.
+    Einval,
+}
+
+impl Errno {
+    /// Its number on Linux. A status of a page is this number with a minus sign.
+    pub fn number(self) -> i32
+        ensures { result ≡ pos (number_of self) }
+    {
+        match self {
+            Errno::Eperm => 1,
+            Errno::Enoent => 2,
+            Errno::Esrch => 3,
+            Errno::Eio => 5,
+            Errno::Enomem => 12,
+            Errno::Eacces => 13,
+            Errno::Efault => 14,
+            Errno::Ebusy => 16,
+            Errno::Enodev => 19,
+            Errno::Einval => 22,
+        }
+    }
+
+    /// Its name in the manual pages.
+    pub fn name(self) -> &'static str
+        ensures { result.now ≡ name_of self }
+    {
+        match self {
+            Errno::Eperm => "EPERM",
+            Errno::Enoent => "ENOENT",
+            Errno::Esrch => "ESRCH",
+            Errno::Eio => "EIO",
+            Errno::Enomem => "ENOMEM",
+            Errno::Eacces => "EACCES",
+            Errno::Efault => "EFAULT",
+            Errno::Ebusy => "EBUSY",
+            Errno::Enodev => "ENODEV",
+            Errno::Einval => "EINVAL",
+        }
+    }
+}
+
+impl fmt::Display for Errno {
+    fn fmt<W: fmt::Write>(&self, f: &mut fmt::Formatter<W>) -> fmt::Result {
+        f.write_str(self.name())
+    }
+}

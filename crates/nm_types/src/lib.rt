@@ -1,0 +1,25 @@
+//! The types that the whole model speaks in: nodes, frames, pages, processes' numbers, refusals, and the geometry of a machine.
+#![tactic(auto)]
+
+mod access;
+mod area;
+mod errno;
+mod flags;
+mod geometry;
+pub mod limits;
+mod mask;
+mod numbers;
+mod page;
+mod seen;
+#[cfg(test)]
+mod tests;
+
+pub use access::Access;
+pub use area::{Area, Policy, Segment};
+pub use errno::Errno;
+pub use flags::MoveFlags;
+pub use geometry::{Geometry, GeometryError};
+pub use mask::NodeMask;
+pub use numbers::{FrameId, NodeId, Pid, Vpn};
+pub use page::Page;
+pub use seen::Seen;

@@ -1,0 +1,100 @@
+//! Sets of nodes.
+
+ghost use Rattle.std.specs.Prelude.{◌≡◌, ◌<◌, ◌↔◌, [], IsTrue, drop, length, slice_get};
+ghost use Rattle.std.specs.Ordering.{nat_cmp};
+ghost use Rattle.std.specs.BTreeSet.{insert_key};
+ghost use Rattle.nm_types.specs.Nodes.{is_in, IsNodeSet};
+
+use crate::numbers::NodeId;
+use std::marker::Model;
+
+/// A set of nodes below 64. Contracts see the list of its nodes, upwards.
+#[derive(Clone, Copy, Debug, PartialEq, Eq)]
+pub struct NodeMask {
+    bits: u64,
+}
+
+impl Model for NodeMask {
+    ghost use Rattle.std.specs.Prelude.{ℕ, List, ◌<◌, ◌^◌};
+
+    ghost Value = { List ℕ };
+
+    ghost use Rattle.nm_types.specs.Nodes.{members, mask_of};
+    ghost use Rattle.nm_types.specs.Masks.{mask_of-members};
+
+    ghost view = { λ m. members m.bits };
+
+    ghost invariant = { λ m. m.bits < 2 ^ 64 };
+
+    ghost inverse = { λ ns. record { bits = mask_of ns } };
+
+    ghost inverse_ok = { λ a h. mask_of-members a h };
+}
+
+impl NodeMask {
+    /// The set without nodes.
+    pub const fn new() -> Self
+        ensures { result ≡ [] }
+    {
+        NodeMask { bits: 0 }
+    }
+
+    /// Whether it has no node.
+    pub fn is_empty(self) -> bool
+        ensures { IsTrue result ↔ (self ≡ []) }
+    {
+        self.bits == 0
+    }
+
+    /// Whether the node is in it.
+    pub fn contains(self, node: NodeId) -> bool
+        ensures { result ≡ is_in self node }
+    {
+        node.number() < 64 && (self.bits >> node.number()) & 1 == 1
+    }
+
+    /// Puts a node below 64 in it.
+    pub fn insert(&mut self, node: NodeId)
+        requires { node < 64 }
+        ensures { self.new ≡ insert_key nat_cmp self.old node }
+    {
+        self.bits |= 1 << node.number();
+    }
+
+    /// Takes the lowest node out. None where the set has no node.
+    pub fn take_first(&mut self) -> Option<NodeId>
+        ensures first { result ≡ slice_get self.old 0 }
+        ensures rest { self.new ≡ drop 1 self.old }
+    {
+        if self.bits == 0 {
+            return None;
+        }
+        let lowest = self.bits.trailing_zeros();
+        self.bits &= !(1 << lowest);
+        Some(NodeId::new(lowest))
+    }
+
+    /// How many nodes it has: at most 64.
+    pub fn len(self) -> usize
+        ensures count { result ≡ length self }
+        ensures nodes { IsNodeSet self }
+    {
+        let mut rest = NodeMask { bits: self.bits };
+        let mut count = 0;
+        while rest.take_first().is_some() {
+            count += 1;
+        }
+        count
+    }
+
+    /// The node at a place, counted upwards and from 0. None past the last.
+    pub fn nth(self, place: usize) -> Option<NodeId>
+        ensures { result ≡ slice_get self place }
+    {
+        let mut rest = self;
+        for _ in 0..place {
+            rest.take_first()?;
+        }
+        rest.take_first()
+    }
+}

@@ -1,0 +1,51 @@
+ghost use Rattle.std.specs.Prelude.{◌≡◌, ℕ, ◌*◌, ◌/◌, ◌<◌, ◌^◌};
+
+use std::marker::Model;
+
+/// A virtual page number: an address divided by the 4,096 bytes of a page. Inside areas it is below 2^35.
+#[derive(Clone, Copy, Debug, PartialEq, Eq, PartialOrd, Ord, Hash)]
+pub struct Vpn {
+    number: u64,
+}
+
+impl Model for Vpn {
+    ghost Value = { ℕ };
+
+    ghost view = { λ n. n.number };
+
+    ghost inverse = { λ n. record { number = n } };
+}
+
+impl Vpn {
+    /// The Vpn of this number.
+    pub const fn new(number: u64) -> Self
+        ensures { result ≡ number }
+    {
+        Vpn { number }
+    }
+
+    /// Its number.
+    pub const fn number(self) -> u64
+        ensures { result ≡ self }
+    {
+        let Vpn { number } = self;
+        number
+    }
+
+    /// The number of the page in which an address lies.
+    pub const fn of_address(address: u64) -> Self
+        ensures { result ≡ address / 4096 }
+    {
+        Vpn {
+            number: address / 4096,
+        }
+    }
+
+    /// The address at which the page begins.
+    pub const fn address(self) -> u64
+        requires { self < 2 ^ 52 }
+        ensures { result ≡ self * 4096 }
+    {
+        self.number * 4096
+    }
+}

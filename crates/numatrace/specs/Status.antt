@@ -1,0 +1,23 @@
+-- Exit statuses.
+use Rattle.std.specs.Prelude.{◌≡◌, ◌⊎◌, ℕ, List, Option, Result, Ok}
+use Rattle.nm_trace.specs.declared.trace_error.TraceError.{TraceError}
+use Rattle.nm_trace.specs.declared.trace_error.TraceError.TheVariants.{NotJson, BadMachine, BadStep, ReadFault, WriteFault, HostMemory}
+use Rattle.nm_trace.specs.Faults.{Plan}
+use Rattle.nm_trace.specs.Played.{Reports}
+
+-- the exit status of a fault
+abbrev pub status_of : TraceError → ℕ
+status_of NotJson = 2
+status_of BadMachine = 2
+status_of (BadStep k) = 2
+status_of (HostMemory k) = 3
+status_of ReadFault = 4
+status_of WriteFault = 4
+
+-- 0 after a whole report, 2 for bad input, 3 for a refusal of the host, 4 for a fault of a stream
+abbrev pub IsStatus : ℕ → Type 0
+IsStatus status = (status ≡ 0) ⊎ ((status ≡ 2) ⊎ ((status ≡ 3) ⊎ (status ≡ 4)))
+
+-- there is a trace, and the report on all its steps is written
+abbrev pub ReportsWhole : Result Plan TraceError → Option (List ℕ) → Option (List ℕ) → Type 0
+ReportsWhole trace old new = (plan : Plan) × (trace ≡ Ok plan) × Reports plan.calls old new

@@ -1,0 +1,77 @@
+//! The program over any words, reader and writers.
+
+ghost use Rattle.std.specs.Prelude.{◌≡◌, [], IfSome};
+ghost use Rattle.std.specs.Io.KnownBytes.{Appends};
+ghost use Rattle.nm_trace.specs.Faults.{trace_of};
+ghost use Rattle.numatrace.specs.Status.{status_of, IsStatus, ReportsWhole};
+
+use clap::error::ErrorKind;
+use clap::{Command, Error};
+use nm_trace::{TraceError, run_trace};
+use std::alloc::{Allocator, Global};
+use std::io::{Read, Write};
+
+/// The status after a whole report.
+const DONE: u8 = 0;
+
+/// The status of a bad trace, and of words that are refused.
+const BAD_INPUT: u8 = 2;
+
+/// The status where the host refused memory.
+pub(crate) const HOST_REFUSAL: u8 = 3;
+
+/// The status where a reader or a writer failed.
+const STREAM_FAULT: u8 = 4;
+
+/// Reads the words. There is no option yet: every word after the program's name is refused.
+fn read_words(heap: Global, words: &[String]) -> Result<(), Error> {
+    let command = Command::new(heap, "numatrace");
+    command.try_get_matches_from(words)?;
+    Ok(())
+}
+
+/// The exit status of a fault.
+fn status_of(fault: TraceError) -> u8
+    ensures { result ≡ status_of fault }
+{
+    match fault {
+        TraceError::NotJson | TraceError::BadMachine | TraceError::BadStep(_) => BAD_INPUT,
+        TraceError::HostMemory(_) => HOST_REFUSAL,
+        TraceError::ReadFault | TraceError::WriteFault => STREAM_FAULT,
+    }
+}
+
+/// Runs the program: reads the words, then the trace from the reader, and writes the report to `out`. Answers the exit
+/// status: 0 after a whole report; 2 for a bad trace, for words that are refused and for `--help`; 3 where the host refused
+/// memory; 4 for a read or write fault. A fault is told on `err`, in one line or in clap's own text, and a fault of `err`
+/// does not change the status. The words are read in the memory of `heap`, as is the JSON value; all else stands in that
+/// of `alloc`.
+pub fn run_words<A: Allocator + Copy + Send + Sync, R: Read, W: Write, E: Write>(
+    alloc: A,
+    heap: Global,
+    words: &[String],
+    reader: &mut R,
+    out: &mut W,
+    err: &mut E,
+) -> u8
+    ensures status { IsStatus result }
+    ensures whole { result ≡ 0 → IfSome (R.remaining reader.old) (λ bytes.
+        ReportsWhole (trace_of bytes) (W.contents out.old) (W.contents out.new)) }
+    ensures bad { result ≡ 2 → Appends (W.contents out.old) (W.contents out.new) [] }
+{
+    if let Err(error) = read_words(heap, words) {
+        if matches!(error.kind(), ErrorKind::OutOfMemory) {
+            let _ = writeln!(err, "numatrace: host memory refused after 0 steps");
+            return HOST_REFUSAL;
+        }
+        let _ = write!(err, "{error}");
+        return BAD_INPUT;
+    }
+    match run_trace(alloc, heap, reader, out) {
+        Ok(_) => DONE,
+        Err(fault) => {
+            let _ = writeln!(err, "numatrace: {fault}");
+            status_of(fault)
+        }
+    }
+}
