@@ -132,6 +132,32 @@ fn take_picture<'a>(
     })
 }
 
+/// Makes a call while its allocation of this number is refused. Tells whether it came to that allocation.
+fn attempt<'a>(
+    heap: Heap<'a>,
+    machine: &mut Machine<Heap<'a>>,
+    run: &Run<Heap<'a>>,
+    call: Call,
+    number: u64,
+) -> (bool, Result<(), MachineError>) {
+    heap.refuse(number);
+    let answer = perform(machine, run, call);
+    let met = heap.asked_since(number) >= number;
+    heap.refuse(0);
+    (met, answer)
+}
+
+/// Whether the machine is sound, and all that can be seen of it is as before.
+fn is_as_before<'a>(
+    heap: Heap<'a>,
+    machine: &Machine<Heap<'a>>,
+    before: &Picture<'a>,
+) -> Result<bool, MachineError> {
+    let now = take_picture(heap, machine)?;
+    let sound = machine.audit()?;
+    Ok(sound && now.is_same(before))
+}
+
 /// Makes a call, after each of its allocations was refused in turn: it answers so, and the machine is as it was. Gives
 /// how many refusals there were.
 fn refuse_each<'a>(
@@ -143,26 +169,52 @@ fn refuse_each<'a>(
 ) -> Result<u64, MachineError> {
     let before = take_picture(heap, machine)?;
     for number in 1..1000u64 {
-        heap.refuse(number);
-        let answer = perform(machine, run, call);
-        let met = heap.asked_since(number) >= number;
-        heap.refuse(0);
+        let (met, answer) = attempt(heap, machine, run, call, number);
         if !met {
             assert!(rt; answer.is_ok(), "{call:?} with memory");
             return Ok(number - 1);
         }
-        assert_eq!(rt;
-            answer.err(),
-            Some(MachineError::HostMemory),
-            "{call:?}, allocation {number}"
-        );
-        assert!(rt;
-            take_picture(heap, machine)?.is_same(&before),
-            "{call:?}, allocation {number}"
-        );
-        assert!(rt; machine.audit()?);
+        let refused = answer.err() == Some(MachineError::HostMemory);
+        let kept = is_as_before(heap, machine, &before)?;
+        assert!(rt; refused && kept, "{call:?}, allocation {number}");
     }
     Err(MachineError::HostMemory)
+}
+
+/// Makes each call, after each of its allocations was refused in turn. Gives how many refusals there were.
+fn refuse_all<'a>(
+    rt: &impl Abort,
+    heap: Heap<'a>,
+    machine: &mut Machine<Heap<'a>>,
+    run: &Run<Heap<'a>>,
+) -> Result<u64, MachineError> {
+    let mut refused = 0u64;
+    for call in CALLS {
+        let more = refuse_each(rt, heap, machine, run, call)?;
+        refused = refused.saturating_add(more);
+    }
+    Ok(refused)
+}
+
+/// Whether the node's free frames are these, front first.
+fn has_free<'a>(
+    machine: &Machine<Heap<'a>>,
+    node: u32,
+    numbers: &[u32],
+) -> Result<bool, MachineError> {
+    let frames = machine.free_list(NodeId::new(node))?;
+    Ok(
+        frames
+            .iter()
+            .map(|frame| frame.number())
+            .eq(numbers.iter().copied()),
+    )
+}
+
+/// Whether process 1 reads this byte, and a zero behind it, in its second page.
+fn reads(machine: &mut Machine<Heap<'_>>, byte: u8) -> Result<bool, MachineError> {
+    let bytes = machine.read(Pid::new(1), 0x11000, 2)?;
+    Ok(bytes.as_slice() == [byte, 0].as_slice())
 }
 
 /// Each allocation of each call is refused in turn, and in the end the pages have moved.
@@ -171,49 +223,41 @@ fn refused_calls_leave_the_machine(rt: HostRuntime) -> Result<(), Fail> {
     let heap = Refusing::new(rt.alloc());
     let mut machine = two_nodes(&heap)?;
     let run = to_the_other_node(&heap)?;
-    let mut refused = 0u64;
-    for call in CALLS {
-        refused = refused.saturating_add(refuse_each(&rt, &heap, &mut machine, &run, call)?);
-    }
+    let refused = refuse_all(&rt, &heap, &mut machine, &run)?;
     assert!(rt; refused > 12, "{refused} refusals");
-    let after = take_picture(&heap, &machine)?;
-    let frames = |numbers: &[u32]| -> Result<Vec<FrameId, Heap<'_>>, AllocError> {
-        numbers
-            .iter()
-            .map(|number| FrameId::new(*number))
-            .collect(&heap)
-    };
-    assert_eq!(rt; after.first.as_slice(), frames(&[3, 0, 1, 2])?.as_slice());
-    assert_eq!(rt; after.second.as_slice(), frames(&[7])?.as_slice());
-    assert_eq!(rt;
-        after.totals,
-        Totals {
-            moved: 3,
-            failed: 0
-        }
+    assert!(rt; has_free(&machine, 0, [3, 0, 1, 2].as_slice())?);
+    assert!(rt; has_free(&machine, 1, [7].as_slice())?);
+    assert!(rt;
+        machine.totals()
+            == Totals {
+                moved: 3,
+                failed: 0
+            }
     );
-    assert_eq!(rt;
-        machine.read(Pid::new(1), 0x11000, 2)?.as_slice(),
-        [0x62, 0].as_slice()
-    );
+    assert!(rt; reads(&mut machine, 0x62)?);
     Ok(())
+}
+
+/// Whether each allocation of a new machine, refused in turn, makes it fail. The last try, which none is refused, gives
+/// one.
+fn refuse_machines(heap: Heap<'_>) -> bool {
+    for number in 1..1000u64 {
+        heap.refuse(number);
+        let made = two_nodes(heap).is_ok();
+        if heap.asked_since(number) < number {
+            return made;
+        }
+        if made {
+            return false;
+        }
+    }
+    false
 }
 
 /// Each allocation of a new machine is refused in turn.
 #[test]
 fn refused_machines(rt: HostRuntime) -> Result<(), Fail> {
     let heap = Refusing::new(rt.alloc());
-    let mut made = false;
-    for number in 1..1000u64 {
-        heap.refuse(number);
-        let answer = two_nodes(&heap);
-        if heap.asked_since(number) < number {
-            assert!(rt; answer.is_ok());
-            made = true;
-            break;
-        }
-        assert!(rt; answer.is_err(), "allocation {number}");
-    }
-    assert!(rt; made);
+    assert!(rt; refuse_machines(&heap));
     Ok(())
 }
