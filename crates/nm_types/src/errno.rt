@@ -1,6 +1,7 @@
 //! Refusals, by the names and numbers of `errno(3)`.
 
 ghost use Rattle.std.specs.Prelude.{◌≡◌, pos};
+ghost use Rattle.std.specs.Fmt.{WritesOnOk};
 ghost use Rattle.nm_types.specs.Names.{number_of, name_of};
 
 use std::fmt;
@@ -68,8 +69,11 @@ impl Errno {
     }
 }
 
+/// Its name.
 impl fmt::Display for Errno {
-    fn fmt<W: fmt::Write>(&self, f: &mut fmt::Formatter<W>) -> fmt::Result {
+    fn fmt<W: fmt::Write>(&self, f: &mut fmt::Formatter<W>) -> fmt::Result
+        ensures { WritesOnOk W.write_str_gives f.old result (name_of self.now) f.new }
+    {
         f.write_str(self.name())
     }
 }
