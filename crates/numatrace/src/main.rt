@@ -10,6 +10,7 @@ pub use nm_trace::{play, read_trace, run_trace};
 use std::alloc::AllocError;
 use std::io::Write;
 use std::process::ExitCode;
+pub use words::run_words;
 
 fn main(rt: HostRuntime) -> ExitCode {
     let alloc = rt.alloc();
@@ -18,7 +19,7 @@ fn main(rt: HostRuntime) -> ExitCode {
         Err(_) => Err(AllocError),
     };
     let status = match words {
-        Ok(words) => words::run_words(
+        Ok(words) => run_words(
             alloc,
             alloc,
             words.as_slice(),
