@@ -1,6 +1,6 @@
 //! The machine, and the calls that processes make on it.
 
-ghost use Rattle.std.specs.Prelude.{◌≡◌, ℕ, ◌≤◌, ◌<◌, ◌==◌, ◌||◌, [], EachIndex, slice_index, IsTrue, IfOk, IfErr, length, vec_capacity};
+ghost use Rattle.std.specs.Prelude.{◌≡◌, ℕ, ◌≤◌, ◌<◌, ◌==◌, ◌||◌, [], EachIndex, slice_index, IsTrue, IfOk, OnOk, IfErr, length, vec_capacity};
 ghost use Rattle.nm_types.specs.Layout.{node_count};
 ghost use Rattle.nm_engine.specs.Shown.{layout_of};
 ghost use Rattle.nm_calls.specs.Errors.{IsBeforeRuns, out_of_memory};
@@ -117,6 +117,7 @@ impl<A: Allocator + Copy + Send + Sync> System<A> {
         requires moves { flags ≡ 2 }
         requires paired { length pages.now ≡ length nodes.now }
         requires few { length pages.now ≤ 16384 }
+        ensures nodes { OnOk result (EachIndex nodes.now (λ k. slice_index nodes.now k < node_count (layout_of self.old.machine))) }
         ensures each { IfOk result (λ moved. length moved.statuses.items ≡ length pages.now) }
         ensures failed { IfOk result (λ moved. moved.failed ≡ failures moved.statuses.items) }
         ensures fails { IfErr result (MoveFails self.old self.new) }
