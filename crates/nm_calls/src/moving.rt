@@ -3,7 +3,6 @@
 ghost use Rattle.std.specs.Prelude.{◌≡◌, ◌<◌, ◌≤◌, EachIndex, IfOk, IfErr, OnOk, length, take, pos, slice_index, true, false};
 ghost use Rattle.nm_types.specs.Layout.{node_count};
 ghost use Rattle.nm_types.specs.Nodes.{is_in};
-ghost use Rattle.nm_engine.specs.Shown.{layout_of};
 ghost use Rattle.nm_calls.specs.Moving.{failures, same_front, wanted_at, IsNodeRefusal};
 
 use nm_engine::Machine;
@@ -27,12 +26,12 @@ fn check_node<A: Allocator + Copy + Send + Sync>(
     allowed: NodeMask,
     node: NodeId,
 ) -> Result<(), Errno>
-    ensures node { OnOk result (node < node_count (layout_of machine.now)) }
+    ensures node { OnOk result (node < node_count (machine.now.layout)) }
     ensures allowed { OnOk result (is_in allowed node ≡ true) }
     ensures refused { IfErr result IsNodeRefusal }
     ensures access { IfErr result (λ errno. errno ≡ Errno.Eacces
-        → (node < node_count (layout_of machine.now)) × (is_in allowed node ≡ false)) }
-    ensures device { IfErr result (λ errno. node_count (layout_of machine.now) ≤ node → errno ≡ Errno.Enodev) }
+        → (node < node_count (machine.now.layout)) × (is_in allowed node ≡ false)) }
+    ensures device { IfErr result (λ errno. node_count (machine.now.layout) ≤ node → errno ≡ Errno.Enodev) }
 {
     if node.index() >= machine.node_count() || !machine.is_online(node) {
         return Err(Errno::Enodev);
@@ -50,7 +49,7 @@ pub(crate) fn check_nodes<A: Allocator + Copy + Send + Sync>(
     allowed: NodeMask,
     nodes: &[u32],
 ) -> Result<(), Errno>
-    ensures nodes { OnOk result (EachIndex nodes.now (λ k. slice_index nodes.now k < node_count (layout_of machine.now))) }
+    ensures nodes { OnOk result (EachIndex nodes.now (λ k. slice_index nodes.now k < node_count (machine.now.layout))) }
     ensures allowed { OnOk result (EachIndex nodes.now (λ k. is_in allowed (slice_index nodes.now k) ≡ true)) }
     ensures refused { IfErr result IsNodeRefusal }
 {

@@ -2,7 +2,6 @@
 
 ghost use Rattle.std.specs.Prelude.{◌≡◌, ℕ, ◌≤◌, ◌<◌, ◌==◌, ◌||◌, [], EachIndex, slice_index, IsTrue, IfOk, OnOk, IfErr, length, vec_capacity};
 ghost use Rattle.nm_types.specs.Layout.{node_count};
-ghost use Rattle.nm_engine.specs.Shown.{layout_of};
 ghost use Rattle.nm_calls.specs.Errors.{IsBeforeRuns, out_of_memory};
 ghost use Rattle.nm_calls.specs.Entries.{entries_mapped, entries_shown};
 ghost use Rattle.nm_calls.specs.Moving.{failures, MoveFails};
@@ -51,7 +50,7 @@ pub struct System<A: Allocator + Copy + Send + Sync> {
 impl<A: Allocator + Copy + Send + Sync> System<A> {
     /// A new machine: no process, every node online, every frame free and its list in ascending order.
     pub fn new(alloc: A, geometry: Geometry<A>) -> Result<Self, AllocError>
-        ensures { IfOk result (λ system. layout_of system.machine ≡ geometry) }
+        ensures { IfOk result (λ system. system.machine.layout ≡ geometry) }
     {
         Ok(System {
             machine: Machine::new(alloc, geometry)?,
@@ -117,7 +116,7 @@ impl<A: Allocator + Copy + Send + Sync> System<A> {
         requires moves { flags ≡ 2 }
         requires paired { length pages.now ≡ length nodes.now }
         requires few { length pages.now ≤ 16384 }
-        ensures nodes { OnOk result (EachIndex nodes.now (λ k. slice_index nodes.now k < node_count (layout_of self.old.machine))) }
+        ensures nodes { OnOk result (EachIndex nodes.now (λ k. slice_index nodes.now k < node_count (self.old.machine.layout))) }
         ensures each { IfOk result (λ moved. length moved.statuses.items ≡ length pages.now) }
         ensures failed { IfOk result (λ moved. moved.failed ≡ failures moved.statuses.items) }
         ensures fails { IfErr result (MoveFails self.old self.new) }
@@ -144,7 +143,7 @@ impl<A: Allocator + Copy + Send + Sync> System<A> {
         nodes: &[u32],
         mut statuses: Vec<i32, A>,
     ) -> Result<Moved<A>, CallError>
-        requires nodes { EachIndex nodes.now (λ k. slice_index nodes.now k < node_count (layout_of self.old.machine)) }
+        requires nodes { EachIndex nodes.now (λ k. slice_index nodes.now k < node_count (self.old.machine.layout)) }
         requires paired { length pages.now ≡ length nodes.now }
         requires few { length pages.now ≤ 16384 }
         requires empty { statuses.items ≡ [] }

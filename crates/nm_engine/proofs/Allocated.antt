@@ -15,7 +15,8 @@ use Rattle.nm_types.specs.declared.page.Page.{Page}
 use Rattle.nm_types.specs.declared.area.Area.{Area}
 use Rattle.nm_types.specs.Layout.{node_of}
 use Rattle.nm_types.specs.Map.{Map, get, set, page_cmp}
-use Rattle.nm_types.specs.State.{ZeroPage, Sees, State, Placed, free_list, page_at, page_of, covers, area_over}
+use Rattle.nm_types.specs.declared.sight.Sight.TheVariants.{ZeroPage, Sees}
+use Rattle.nm_types.specs.State.{State, Placed, free_list, page_at, page_of, covers, area_over}
 use Rattle.nm_runs.specs.Seen.{sight_at}
 use Rattle.nm_engine.specs.Touch.{Spot, shown_at, with_sight, with_page, is_shared}
 use Rattle.nm_engine.specs.Effect.{covers_page, is_covered}

@@ -17,7 +17,9 @@ use Rattle.nm_types.specs.declared.errno.Errno.{Errno}
 use Rattle.nm_types.specs.declared.errno.Errno.TheVariants.{Esrch, Einval, Enomem}
 use Rattle.nm_types.specs.Layout.{node_count}
 use Rattle.nm_types.specs.Map.{Map, get, set, replace, page_cmp, spot_cmp}
-use Rattle.nm_types.specs.State.{Sight, ZeroPage, Sees, Process, State, covers, area_over, page_of, page_shown, page_at}
+use Rattle.nm_types.specs.declared.sight.Sight.{Sight}
+use Rattle.nm_types.specs.declared.sight.Sight.TheVariants.{ZeroPage, Sees}
+use Rattle.nm_types.specs.State.{Process, State, covers, area_over, page_of, page_shown, page_at}
 use Rattle.nm_runs.specs.Seen.{sight_in, sight_at, pins_of}
 use Rattle.nm_engine.specs.Touch.{is_shared}
 use Rattle.nm_engine.specs.Effect.{spawn, attach, map_new, with_pins, pin, unpin, covers_page, is_covered}

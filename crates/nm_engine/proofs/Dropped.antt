@@ -17,7 +17,9 @@ use Rattle.nm_types.specs.declared.page.Page.{Page}
 use Rattle.nm_types.specs.declared.area.Area.{Area}
 use Rattle.nm_types.specs.declared.area.Segment.{Segment}
 use Rattle.nm_types.specs.Map.{Map, get, with_values, without, page_cmp, spot_cmp}
-use Rattle.nm_types.specs.State.{Sight, ZeroPage, Sees, Process, State, Placed, covers, area_over, page_of, page_shown, page_at}
+use Rattle.nm_types.specs.declared.sight.Sight.{Sight}
+use Rattle.nm_types.specs.declared.sight.Sight.TheVariants.{ZeroPage, Sees}
+use Rattle.nm_types.specs.State.{Process, State, Placed, covers, area_over, page_of, page_shown, page_at}
 use Rattle.nm_runs.specs.Seen.{sight_in, sight_at}
 use Rattle.nm_engine.specs.Touch.{is_shared}
 use Rattle.nm_engine.specs.Effect.{pages_from, pages_between, parts_outside, covers_page, is_covered, released_from, released, blind_between, dropped, unmap, exit}

@@ -20,3 +20,11 @@ pub mod Dropped
 pub mod New
 pub mod Starts
 pub mod Stocks
+pub mod Overs
+pub mod Tabled
+pub mod Shows
+pub mod Kept
+pub mod Audits
+pub mod Touches
+pub mod Ranges
+pub mod Paces

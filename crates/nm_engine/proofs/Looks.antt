@@ -11,7 +11,9 @@ use Rattle.std.proofs.lemmas.Bool.{or_left, or_right, eqb-true, ne_eqb}
 use Rattle.std.proofs.lemmas.Map.Keys.{sorted_head}
 use Rattle.nm_types.specs.declared.page.Page.{Page}
 use Rattle.nm_types.specs.Map.{Map, get, page_cmp}
-use Rattle.nm_types.specs.State.{Sight, ZeroPage, Sees, Process, State, page_at}
+use Rattle.nm_types.specs.declared.sight.Sight.{Sight}
+use Rattle.nm_types.specs.declared.sight.Sight.TheVariants.{ZeroPage, Sees}
+use Rattle.nm_types.specs.State.{Process, State, page_at}
 use Rattle.nm_runs.specs.declared.Wanted.{Wanted}
 use Rattle.nm_runs.specs.declared.Wanted.TheVariants.{At as Spot, Whole}
 use Rattle.nm_runs.specs.Seen.{sight_in, sight_at, is_sight_of, sees_page, users, look_at_page, look_at_sight, look_under}

@@ -52,7 +52,7 @@ page_moved s l target p from (frame ∷ rest) h placed e =
     (keys-set page_cmp_total exact_page p s.place frame from h.order.place placed)
     (moved_frames s l target p from (frame ∷ rest) h.frames h.order.place placed e)
 
-decided_sound : (s : State) (l : List ℕ) (target : ℕ) (c : Class) → IsSoundAmid s l → ClassIsPlaced s c → IsSoundAmid (decided s target c).state (l ++ left (decided s target c).taken)
+pub decided_sound : (s : State) (l : List ℕ) (target : ℕ) (c : Class) → IsSoundAmid s l → ClassIsPlaced s c → IsSoundAmid (decided s target c).state (l ++ left (decided s target c).taken)
 decided_sound s l target (Status status) h placed = subst (IsSoundAmid s) (sym (append-nil l)) h
 decided_sound s l target (Move p from) h placed = page_moved s l target p from (free_list s target) h placed refl
 

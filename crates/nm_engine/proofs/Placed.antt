@@ -5,7 +5,9 @@ use Rattle.nm_types.specs.declared.errno.Errno.TheVariants.{Eacces, Ebusy}
 use Rattle.nm_types.specs.declared.page.Page.{Page}
 use Rattle.nm_types.specs.Map.{get, page_cmp}
 use Rattle.nm_types.specs.Layout.{node_of}
-use Rattle.nm_types.specs.State.{Sight, ZeroPage, Sees, State, page_at}
+use Rattle.nm_types.specs.declared.sight.Sight.{Sight}
+use Rattle.nm_types.specs.declared.sight.Sight.TheVariants.{ZeroPage, Sees}
+use Rattle.nm_types.specs.State.{State, page_at}
 use Rattle.nm_runs.specs.declared.Class.{Class}
 use Rattle.nm_runs.specs.declared.Class.TheVariants.{Status, Move}
 use Rattle.nm_runs.specs.declared.Wanted.{Wanted}

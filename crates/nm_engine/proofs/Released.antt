@@ -17,7 +17,8 @@ use Rattle.std.proofs.lemmas.Map.Keys.{IsDistinct-from_sorted}
 use Rattle.nm_types.specs.declared.page.Page.{Page}
 use Rattle.nm_types.specs.Map.{Map, get, without, page_cmp}
 use Rattle.nm_types.specs.Layout.{node_of, frame_count}
-use Rattle.nm_types.specs.State.{Sees, State, free_list, page_at, page_shown, area_over}
+use Rattle.nm_types.specs.declared.sight.Sight.TheVariants.{Sees}
+use Rattle.nm_types.specs.State.{State, free_list, page_at, page_shown, area_over}
 use Rattle.nm_runs.specs.Seen.{sight_at}
 use Rattle.nm_engine.specs.Touch.{is_shared}
 use Rattle.nm_engine.specs.Run.{with_free}

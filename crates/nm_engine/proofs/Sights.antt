@@ -8,7 +8,9 @@ use Rattle.std.specs.Cmp.{nat_cmp_total, eq_by_cmp_equiv, tied_itself}
 use Rattle.std.proofs.lemmas.Map.Lookups.{exact_unsigned}
 use Rattle.nm_types.specs.declared.page.Page.{Page}
 use Rattle.nm_types.specs.Map.{get, page_cmp, replace, set}
-use Rattle.nm_types.specs.State.{Placed, Process, Sees, Sight, State, ZeroPage, area_over, page_at, page_shown}
+use Rattle.nm_types.specs.declared.sight.Sight.{Sight}
+use Rattle.nm_types.specs.declared.sight.Sight.TheVariants.{Sees, ZeroPage}
+use Rattle.nm_types.specs.State.{Placed, Process, State, area_over, page_at, page_shown}
 use Rattle.nm_runs.specs.Seen.{sight_in, sight_at}
 use Rattle.nm_engine.specs.Touch.{Spot, shown_at, with_sight, is_shared}
 use Rattle.nm_engine.specs.Sound.{IsInOrder, IsSoundAmid, IsWhole}

@@ -33,7 +33,7 @@ index_front [] f e = cc
 index_front (x ∷ xs) f e = cc
 
 -- a frame that stands somewhere is one of the machine's
-counted_below : (a b c f n : ℕ) → a + b + c ≡ cond (nat_lt f n) 1 0 → 1 ≤ a + b + c → f < n
+pub counted_below : (a b c f n : ℕ) → a + b + c ≡ cond (nat_lt f n) 1 0 → 1 ≤ a + b + c → f < n
 counted_below a b c f n e some =
     elim (nat_lt f n) as (λ t. nat_lt f n ≡ t → a + b + c ≡ cond t 1 0 → f < n) [
       | true ↦ λ t k. ltb-true f n t
@@ -127,7 +127,7 @@ page_restocked x page from node f bytes place frames free vacated room h placed 
       home = λ k lt. subst (λ fs. IsHome fs k) (sym s) (homes x.frames f (frame_count x.layout) bytes h.buffers h.home k lt);
     }
 
-same_lists : (first : ℕ) (sizes : List ℕ) → all_frames first sizes ≡ pool.all_frames first sizes
+pub same_lists : (first : ℕ) (sizes : List ℕ) → all_frames first sizes ≡ pool.all_frames first sizes
 same_lists first [] = refl
 same_lists first (size ∷ sizes) = ap (λ ls. up_from first size ∷ ls) (same_lists (first + size) sizes)
 

@@ -10,7 +10,9 @@ use Rattle.nm_types.specs.declared.page.Page.{Page}
 use Rattle.nm_types.specs.declared.errno.Errno.{Errno}
 use Rattle.nm_types.specs.declared.errno.Errno.TheVariants.{Einval}
 use Rattle.nm_types.specs.Map.{get, replace, page_cmp, set}
-use Rattle.nm_types.specs.State.{Sight, ZeroPage, Sees, Process, State, Placed, free_list, area_over, page_at}
+use Rattle.nm_types.specs.declared.sight.Sight.{Sight}
+use Rattle.nm_types.specs.declared.sight.Sight.TheVariants.{ZeroPage, Sees}
+use Rattle.nm_types.specs.State.{Process, State, Placed, free_list, area_over, page_at}
 use Rattle.nm_runs.specs.Seen.{sight_in, sight_at}
 use Rattle.nm_policy.specs.Order.{first_touch_order}
 use Rattle.nm_engine.specs.Touch.{Spot, shown_at, spot_over, spot_of, first_free, allocated, filled, joined, is_shared, touched_entry, touched, touch, with_sight, Access, Read, Write, read_after, overwrite, with_bytes, write_after, access, with_page, read}
@@ -62,7 +64,7 @@ StaysSound s l (Err e) = Unit {0}
 StaysSound s l (Ok t) = IsSoundAmid t l × ((q a : ℕ) → mem t q a ≡ mem s q a)
 
 -- the node that is found has a free frame
-has_front : (s : State) (nodes : List ℕ) (node : ℕ) → first_free s nodes ≡ Some node → (length (free_list s node) == 0) ≡ false
+pub has_front : (s : State) (nodes : List ℕ) (node : ℕ) → first_free s nodes ≡ Some node → (length (free_list s node) == 0) ≡ false
 has_front s [] node h = cc
 has_front s (n ∷ nodes) node h =
     elim (length (free_list s n) == 0) as (λ b. (length (free_list s n) == 0) ≡ b → cond b (first_free s nodes) (Some n) ≡ Some node → (length (free_list s node) == 0) ≡ false) [
@@ -82,7 +84,7 @@ module _ (s : State) (l : List ℕ) (at : Spot) (h : IsSoundAmid s l) (i : IsSpo
       allocated_sound (first_free s order) unplaced (λ node. has_front s order node)
 
   -- a private page that is not seen here has no place
-  private_unplaced : is_shared s (shown_at at) ≡ false → get page_cmp s.place (shown_at at) ≡ None
+  pub private_unplaced : is_shared s (shown_at at) ≡ false → get page_cmp s.place (shown_at at) ≡ None
   private_unplaced private =
       elim (get page_cmp s.place (shown_at at)) as (λ o. get page_cmp s.place (shown_at at) ≡ o → o ≡ None) [
         | None ↦ λ e. refl
@@ -188,7 +190,7 @@ rewritten_sound s l p new h whole =
       disjoint = h.disjoint;
     }
 
-bytes_sound : (s : State) (l : List ℕ) (pid v i : ℕ) (new : List ℕ) (o : Option Sight) → IsSoundAmid s l → sight_at s pid v ≡ o → i + length new ≤ 4096 → IsSoundAmid (with_bytes s o i new) l
+pub bytes_sound : (s : State) (l : List ℕ) (pid v i : ℕ) (new : List ℕ) (o : Option Sight) → IsSoundAmid s l → sight_at s pid v ≡ o → i + length new ≤ 4096 → IsSoundAmid (with_bytes s o i new) l
 bytes_sound s l pid v i new None h e fits = h
 bytes_sound s l pid v i new (Some ZeroPage) h e fits = h
 bytes_sound s l pid v i new (Some (Sees p)) h e fits =

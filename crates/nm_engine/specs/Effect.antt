@@ -8,7 +8,9 @@ use Rattle.nm_types.specs.declared.area.Area.{Area}
 use Rattle.nm_types.specs.Nodes.{up_from}
 use Rattle.nm_types.specs.Map.{Map, get, set, replace, without, with_values, page_cmp, spot_cmp}
 use Rattle.nm_types.specs.Layout.{Layout, node_count}
-use Rattle.nm_types.specs.State.{Sight, ZeroPage, Sees, Process, State, Placed}
+use Rattle.nm_types.specs.declared.sight.Sight.{Sight}
+use Rattle.nm_types.specs.declared.sight.Sight.TheVariants.{ZeroPage, Sees}
+use Rattle.nm_types.specs.State.{Process, State, Placed}
 use Rattle.nm_runs.specs.Seen.{sight_at, pins_of}
 use Rattle.nm_engine.specs.Run.{with_free}
 

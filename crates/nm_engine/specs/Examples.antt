@@ -2,7 +2,9 @@
 use Rattle.std.specs.Prelude.{ℕ, ◌/◌, ℤ, Bool, true, false, List, [], ◌∷◌, map, Option, Some, None}
 use Rattle.nm_types.specs.Map.{get, page_cmp}
 use Rattle.nm_types.specs.Layout.{Layout}
-use Rattle.nm_types.specs.State.{Sight, ZeroPage, Sees, State}
+use Rattle.nm_types.specs.declared.sight.Sight.{Sight}
+use Rattle.nm_types.specs.declared.sight.Sight.TheVariants.{ZeroPage, Sees}
+use Rattle.nm_types.specs.State.{State}
 use Rattle.nm_runs.specs.declared.Wanted.TheVariants.{At as Spot}
 use Rattle.nm_runs.specs.Seen.{sight_at}
 use Rattle.nm_runs.specs.Cut.{Request}

@@ -22,5 +22,12 @@ pub use Rattle.nm_runs.specs.Seen
 pub use Rattle.nm_runs.specs.Status
 pub use Rattle.nm_runs.specs.Cut
 pub use Rattle.nm_plan.specs.Decide
-pub mod Shown
 pub mod Stocked
+pub mod Mapped
+pub mod Parts
+pub mod Tables
+pub mod Seeing
+pub mod Amid
+pub mod Does
+pub mod Entries
+pub mod Audited

@@ -6,7 +6,9 @@ use Rattle.std.specs.Ordering.{nat_cmp}
 use Rattle.nm_types.specs.Map.{Map, get, page_cmp}
 use Rattle.nm_types.specs.Layout.{node_of}
 use Rattle.nm_types.specs.Nodes.{is_in}
-use Rattle.nm_types.specs.State.{Sight, ZeroPage, Sees, State}
+use Rattle.nm_types.specs.declared.sight.Sight.{Sight}
+use Rattle.nm_types.specs.declared.sight.Sight.TheVariants.{ZeroPage, Sees}
+use Rattle.nm_types.specs.State.{State}
 use Rattle.nm_runs.specs.declared.Wanted.TheVariants.{At as Spot}
 use Rattle.nm_runs.specs.Seen.{is_sight_of}
 use Rattle.nm_runs.specs.Cut.{Request}

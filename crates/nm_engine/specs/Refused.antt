@@ -96,3 +96,11 @@ abbrev pub unpin_refusal : State → ℕ → ℕ → Option Errno
 unpin_refusal s pid address =
     if is_unknown s pid then Some Esrch
     else pins_refusal s (λ n. n == 0) Einval (look s pid (address / 4096))
+
+-- no such node
+abbrev pub list_refusal : State → ℕ → Option Errno
+list_refusal s node = first_error ((nat_le (node_count s.layout) node, Einval) ∷ [])
+
+-- no such process
+abbrev pub entries_refusal : State → ℕ → Option Errno
+entries_refusal s pid = first_error ((is_unknown s pid, Esrch) ∷ [])

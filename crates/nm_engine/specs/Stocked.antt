@@ -1,5 +1,5 @@
 -- The frames of a machine: which pages they hold, which are free, and what bytes are in them.
-use Rattle.std.specs.Prelude.{◌≡◌, ℕ, ◌<◌, false, sum, List, [], ◌∷◌, ◌++◌, length, drop, replicate, slice_index, slice_index_or, slice_set, Some}
+use Rattle.std.specs.Prelude.{◌≡◌, ℕ, zero, suc, ◌+◌, ◌<◌, false, sum, List, [], ◌∷◌, ◌++◌, length, drop, replicate, slice_index, slice_index_or, slice_set, Some}
 use Rattle.std.specs.List.{fold}
 use Rattle.std.specs.List.Sorted.{IsStrictlySortedBy}
 use Rattle.std.specs.Map.{keys_of}
@@ -84,3 +84,8 @@ CanFree p (frame ∷ frames) = (frame < sum p.sizes) × (is_in (list_of p (owner
 -- the vacated frames are free
 abbrev pub free_all : Stocked → Stocked
 free_all x = record x { free = (with_freed (record { sizes = x.layout.sizes; lists = x.free }) x.vacated).lists; vacated = [] }
+
+-- so many of these bytes from a place on
+abbrev pub stretch_of : List ℕ → ℕ → ℕ → List ℕ
+stretch_of bytes at zero = []
+stretch_of bytes at (suc len) = slice_index bytes at ∷ stretch_of bytes (at + 1) len

@@ -6,7 +6,9 @@ use Rattle.nm_types.specs.declared.page.Page.{Page}
 use Rattle.nm_types.specs.declared.errno.Errno.{Errno}
 use Rattle.nm_types.specs.declared.errno.Errno.TheVariants.{Esrch, Einval, Efault, Enomem}
 use Rattle.nm_types.specs.Map.{page_cmp, get, set, replace}
-use Rattle.nm_types.specs.State.{Sight, ZeroPage, Sees, Process, State, Placed, area_over, page_of, free_list}
+use Rattle.nm_types.specs.declared.sight.Sight.{Sight}
+use Rattle.nm_types.specs.declared.sight.Sight.TheVariants.{ZeroPage, Sees}
+use Rattle.nm_types.specs.State.{Process, State, Placed, area_over, page_of, free_list}
 use Rattle.nm_policy.specs.Order.{first_touch_order}
 use Rattle.nm_runs.specs.Seen.{sight_at}
 use Rattle.nm_engine.specs.Memory.{mem_range}

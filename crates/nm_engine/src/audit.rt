@@ -1,12 +1,130 @@
 //! A look at all frames.
 
-use crate::machine::Machine;
+ghost use Rattle.std.specs.Prelude.{◌≡◌, ◌<◌, ◌≤◌, ◌==◌, ℕ, ◌++◌, length, map, nat_lt, IfOk, OnOk, slice_index_or};
+ghost use Rattle.std.specs.List.{list_all};
+ghost use Rattle.nm_types.specs.Layout.{frame_count};
+ghost use Rattle.nm_nodes.specs.Pool.{list_of};
+ghost use Rattle.nm_engine.specs.Sound.{times};
+ghost use Rattle.nm_engine.specs.Audited.{is_own, is_audited, numbered};
+
+use nm_nodes::NodePool;
+use nm_types::{FrameId, Geometry, NodeId};
 use std::alloc::{AllocError, Allocator};
 
-impl<A: Allocator + Copy + Send + Sync> Machine<A> {
-    /// Whether each frame of the machine stands exactly once in its own node's list of free frames, or is the place of
-    /// exactly one page, and not both.
-    pub fn audit(&self) -> Result<bool, AllocError> {
-        self.stock.audit(self.alloc)
+/// Whether each frame is the machine's, and the node's beside it.
+fn are_own<A: Allocator + Copy>(geometry: &Geometry<A>, free: &[(NodeId, FrameId)]) -> bool
+    ensures { result ≡ list_all (is_own geometry.now) free.now }
+{
+    let count = geometry.frame_count();
+    for (node, frame) in free {
+        if frame.index() >= count || geometry.node_of(*frame) != *node {
+            return false;
+        }
     }
+    true
+}
+
+/// Whether each frame is below a count.
+fn are_below(count: usize, frames: &[FrameId]) -> bool
+    ensures { result ≡ list_all (λ frame. nat_lt frame count) frames.now }
+{
+    frames.iter().all(|frame| frame.index() < count)
+}
+
+/// How often each number below a count stands among frames.
+fn tally<A: Allocator + Copy>(
+    alloc: A,
+    count: usize,
+    frames: &[FrameId],
+) -> Result<Vec<u64, A>, AllocError>
+    ensures length { IfOk result (λ v. length v.items ≡ count) }
+    ensures times { IfOk result (λ v. (k : ℕ) → k < count → slice_index_or v.items k 0 ≡ times k frames.now) }
+{
+    let mut counts = vec![in alloc; 0u64; count]?;
+    for frame in frames {
+        if frame.index() < count {
+            counts[frame.index()] += 1;
+        }
+    }
+    Ok(counts)
+}
+
+/// Whether each number is 1.
+fn are_ones(counts: &[u64]) -> bool
+    ensures { result ≡ list_all (λ n. n == 1) counts.now }
+{
+    counts.iter().all(|count| *count == 1)
+}
+
+/// Free frames, and behind them those that are places.
+fn all_of<A: Allocator + Copy>(
+    alloc: A,
+    free: &[(NodeId, FrameId)],
+    placed: &[FrameId],
+) -> Result<Vec<FrameId, A>, AllocError>
+    ensures { IfOk result (λ v. v.items ≡ map (λ f. f.1) free.now ++ placed.now) }
+{
+    let mut frames = Vec::new(alloc);
+    for (_, frame) in free {
+        frames.push(*frame)?;
+    }
+    frames.extend_from_slice(placed)?;
+    Ok(frames)
+}
+
+/// Whether each frame of the machine stands exactly once among free frames, each beside its own node, and frames that
+/// are places, and no other frame does.
+pub(crate) fn is_each_once<A: Allocator + Copy>(
+    alloc: A,
+    geometry: &Geometry<A>,
+    free: &[(NodeId, FrameId)],
+    placed: &[FrameId],
+) -> Result<bool, AllocError>
+    ensures { IfOk result (λ b. b ≡ is_audited geometry.now free.now placed.now) }
+{
+    if !are_own(geometry, free) {
+        return Ok(false);
+    }
+    let count = geometry.frame_count();
+    if !are_below(count, placed) {
+        return Ok(false);
+    }
+    let frames = all_of(alloc, free, placed)?;
+    let counts = tally(alloc, count, frames.as_slice())?;
+    Ok(are_ones(counts.as_slice()))
+}
+
+/// Puts the free frames of a node behind others, each beside the node.
+fn push_list<A: Allocator + Copy>(
+    nodes: &NodePool<A>,
+    node: NodeId,
+    free: &mut Vec<(NodeId, FrameId), A>,
+) -> Result<(), AllocError>
+    requires { node < length nodes.now.lists }
+    ensures { OnOk result (free.new.items ≡ free.old.items ++ map (λ frame. (node, frame)) (list_of nodes.now node)) }
+{
+    for k in 0..nodes.free_count(node) {
+        let Some(frame) = nodes.nth(node, k) else {
+            unreachable!()
+        };
+        free.push((node, frame))?;
+    }
+    Ok(())
+}
+
+/// The free frames of so many nodes, each beside its node.
+pub(crate) fn free_frames<A: Allocator + Copy>(
+    alloc: A,
+    nodes: &NodePool<A>,
+    count: usize,
+) -> Result<Vec<(NodeId, FrameId), A>, AllocError>
+    requires count { count ≡ length nodes.now.lists }
+    requires few { count ≤ 64 }
+    ensures { IfOk result (λ free. free.items ≡ numbered 0 nodes.now.lists) }
+{
+    let mut free = Vec::new(alloc);
+    for node in 0..count {
+        push_list(nodes, NodeId::new(node as u32), &mut free)?;
+    }
+    Ok(free)
 }

@@ -1,6 +1,6 @@
 //! What a process has at a page number.
 
-use nm_types::{FrameId, Page};
+use nm_types::FrameId;
 
 /// What a page table shows at a page number that is not absent.
 #[derive(Clone, Copy, Debug, PartialEq, Eq)]
@@ -11,13 +11,4 @@ pub enum Entry {
     Frame(FrameId),
     /// A page that is on its way to this frame. No call but one in flight meets it.
     Held(FrameId),
-}
-
-/// What a process sees at a page number that it has touched.
-#[derive(Clone, Copy, Debug, PartialEq, Eq)]
-pub(crate) enum Sight {
-    /// The page of zeros.
-    ZeroPage,
-    /// A page.
-    Sees(Page),
 }

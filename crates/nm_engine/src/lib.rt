@@ -1,6 +1,7 @@
 //! The machine: processes, areas and pages over nodes of frames, and the moving of pages from one node to another.
 #![tactic(auto)]
 
+mod area_map;
 mod audit;
 mod calls;
 mod entry;
@@ -8,11 +9,14 @@ pub mod laws;
 mod machine;
 mod machine_error;
 mod moving;
+mod parts;
 mod process;
 mod stock;
+mod tasks;
 #[cfg(test)]
 mod tests;
 mod touch;
+mod touching;
 
 pub use entry::Entry;
 pub use machine::{Machine, Totals};

@@ -1,17 +1,29 @@
 //! The machine.
 
-ghost use Rattle.std.specs.Prelude.{◌≡◌, ◌≤◌, IfOk, OnOk};
+ghost use Rattle.std.specs.Prelude.{◌≡◌, ◌<◌, ◌≤◌, [], false, IfOk, OnOk, OnErr, option_map, None};
+ghost use Rattle.std.specs.Ordering.{nat_cmp};
+ghost use Rattle.nm_types.specs.Map.{get};
 ghost use Rattle.nm_types.specs.Layout.{node_count};
 ghost use Rattle.nm_types.specs.Nodes.{is_in};
-ghost use Rattle.nm_engine.specs.Shown.{layout_of};
+ghost use Rattle.nm_types.specs.State.{free_list};
+ghost use Rattle.nm_engine.specs.Tables.{info_of};
+ghost use Rattle.nm_engine.specs.Touch.{Bytes, Done, read, write};
+ghost use Rattle.nm_engine.specs.Run.{run};
+ghost use Rattle.nm_engine.specs.Effect.{new_machine, spawn, map_new};
+ghost use Rattle.nm_engine.specs.Refused.{spawn_refusal, map_refusal, list_refusal, entries_refusal};
+ghost use Rattle.nm_engine.specs.Entries.{entries_of};
+ghost use Rattle.nm_engine.specs.Audited.{audited};
+ghost use Rattle.nm_engine.specs.Sound.{IsSound};
+ghost use Rattle.nm_engine.specs.Does.{Makes, Tells, Accesses};
 
-use crate::process::{Process, ProcessInfo};
-use crate::stock::Stock;
-use indexmap::IndexMap;
-use nm_types::{Area, FrameId, Geometry, NodeId, NodeMask, Page, Pid, Segment, Vpn};
+use crate::entry::Entry;
+use crate::machine_error::MachineError;
+use crate::parts::Parts;
+use crate::process::ProcessInfo;
+use nm_runs::Run;
+use nm_types::{FrameId, Geometry, NodeId, NodeMask, Pid, Vpn};
 use std::alloc::{AllocError, Allocator};
-use std::collections::BTreeMap;
-use std::hash::{BuildHasherDefault, FoldHasher};
+use std::marker::Model;
 
 /// How many pages moved, and how many requests failed for a pin or for want of a free frame. Each stays at 2^64 - 1
 /// once it is there.
@@ -23,92 +35,155 @@ pub struct Totals {
     pub failed: u64,
 }
 
-/// The processes by pid, in the order of the pids.
-pub(crate) type Processes<A> = IndexMap<Pid, Process<A>, BuildHasherDefault<FoldHasher>, A>;
-
-/// The areas by process and first page number.
-pub(crate) type AreaMap<A> = BTreeMap<(Pid, Vpn), Area, A>;
-
-/// Processes, areas and pages over nodes of frames.
+/// Processes, areas and pages over nodes of frames. Contracts see it as a `State` of the definitions, which is sound.
 #[derive(Drop)]
 pub struct Machine<A: Allocator + Copy + Send + Sync> {
-    pub(crate) processes: Processes<A>,
-    pub(crate) areas: AreaMap<A>,
-    pub(crate) segments: BTreeMap<u32, Segment, A>,
-    pub(crate) next_segment: u32,
-    pub(crate) stock: Stock<A>,
-    pub(crate) online: NodeMask,
-    pub(crate) totals: Totals,
-    pub(crate) alloc: A,
+    parts: Parts<A>,
+    alloc: A,
+}
+
+impl<A: Allocator + Copy + Send + Sync> Model for Machine<A> {
+    ghost use Rattle.std.specs.Prelude.{◌≡◌, []};
+    ghost use Rattle.nm_types.specs.State.{State};
+
+    ghost Value = { State };
+
+    ghost view = { λ m. m.parts.state };
+
+    ghost invariant = { λ m. m.parts.left ≡ [] };
 }
 
 impl<A: Allocator + Copy + Send + Sync> Machine<A> {
     /// A machine of these nodes, all online, with every frame free and no process. Each node's free frames are listed
     /// upwards.
     pub fn new(alloc: A, geometry: Geometry<A>) -> Result<Self, AllocError>
-        ensures { IfOk result (λ machine. layout_of machine ≡ geometry) }
+        ensures { IfOk result (λ machine. machine ≡ new_machine geometry) }
     {
-        let online = all_nodes(geometry.node_count());
         Ok(Machine {
-            processes: IndexMap::new(alloc),
-            areas: BTreeMap::new(alloc),
-            segments: BTreeMap::new(alloc),
-            next_segment: 0,
-            stock: Stock::new(alloc, geometry)?,
-            online,
-            totals: Totals {
-                moved: 0,
-                failed: 0,
-            },
+            parts: Parts::new(alloc, geometry)?,
             alloc,
         })
     }
 
     /// How many nodes the machine has: 1 to 64.
     pub fn node_count(&self) -> usize
-        ensures count { result ≡ node_count (layout_of self.now) }
+        ensures count { result ≡ node_count self.now.layout }
         ensures few { result ≤ 64 }
+        ensures sound { IsSound self.now }
     {
-        self.stock.node_count()
+        self.parts.node_count()
     }
 
     /// Whether there is such a node, and it is online.
-    pub fn is_online(&self, node: NodeId) -> bool {
-        self.online.contains(node)
+    pub fn is_online(&self, node: NodeId) -> bool
+        ensures { result ≡ is_in self.now.online node }
+    {
+        self.parts.is_online(node)
     }
 
     /// What `spawn` fixed of a process, or None where there is none of this pid.
-    pub fn process(&self, pid: Pid) -> Option<ProcessInfo> {
-        self.processes.get(&pid).map(|process| process.info)
+    pub fn process(&self, pid: Pid) -> Option<ProcessInfo>
+        ensures { result ≡ option_map info_of (get nat_cmp self.now.processes pid) }
+    {
+        self.parts.process(pid)
     }
 
     /// How many pages moved and how many requests failed so far.
-    pub fn totals(&self) -> Totals {
-        self.totals
+    pub fn totals(&self) -> Totals
+        ensures moved { result.moved ≡ self.now.moved }
+        ensures failed { result.failed ≡ self.now.failed }
+    {
+        self.parts.totals()
     }
 
-    /// The area of a process over a page number, with its first page number.
-    pub(crate) fn area_over(&self, pid: Pid, vpn: Vpn) -> Option<(Vpn, Area)> {
-        let ((owner, first), area) = self
-            .areas
-            .range((Pid::new(0), Vpn::new(0))..(pid, Vpn::new(vpn.number().saturating_add(1))))
-            .next_back()?;
-        let within = vpn.number().checked_sub(first.number())?;
-        if *owner == pid && within < area.pages {
-            Some((*first, *area))
-        } else {
-            None
-        }
+    /// Adds a process. EINVAL for a pid that is 0 or alive, a home that is no node of the machine, or a set of allowed
+    /// nodes that is empty or has a node beyond the machine; then ENOMEM where 1,024 processes are alive. The home need
+    /// be neither allowed nor online.
+    pub fn spawn(
+        &mut self,
+        pid: Pid,
+        uid: u32,
+        home: NodeId,
+        allowed: NodeMask,
+        privileged: bool,
+    ) -> Result<(), MachineError>
+        ensures { Makes result self.old self.new (spawn_refusal self.old pid home allowed) (spawn self.old pid uid home allowed privileged) }
+    {
+        let info = ProcessInfo {
+            uid,
+            privileged,
+            home,
+            allowed,
+        };
+        self.parts.spawn(pid, info)
     }
-}
 
-/// The nodes below a count of at most 64.
-fn all_nodes(count: usize) -> NodeMask {
-    let mut nodes = NodeMask::new();
-    for node in 0..64u32 {
-        if (node as usize) < count {
-            nodes.insert(NodeId::new(node));
-        }
+    /// Makes a private segment of so many pages and an area of the process over all of it, with the default policy.
+    /// Gives the segment's number. ESRCH without such a process; EINVAL for an address that is no multiple of 4,096, no
+    /// page, an end beyond 2^47, or an area of the process in the way; then ENOMEM where 65,536 segments were made.
+    pub fn map(&mut self, pid: Pid, addr: u64, pages: u64) -> Result<u32, MachineError>
+        ensures done { Makes result self.old self.new (map_refusal self.old pid addr pages) (map_new self.old pid addr pages false) }
+        ensures number { IfOk result (λ number. number ≡ self.old.next_segment) }
+    {
+        self.parts.map(pid, addr, pages)
     }
-    nodes
+
+    /// Reads 1 to 4,096 bytes inside one page. Memory that nobody wrote reads as zeros. ESRCH without such a process;
+    /// EINVAL for no byte, or bytes past the page's end; EFAULT without an area there; ENOMEM where shared memory wants a
+    /// frame and no node that may give one has any.
+    pub fn read(&mut self, pid: Pid, addr: u64, len: u64) -> Result<Vec<u8, A>, MachineError>
+        ensures { Accesses result (λ bytes. Bytes bytes.items) self.old self.new (read self.old pid addr len) }
+    {
+        self.parts.read(pid, addr, len)
+    }
+
+    /// Writes 1 to 4,096 bytes inside one page. ESRCH, EINVAL and EFAULT as for `read`; ENOMEM where the page has no frame
+    /// yet and no node that may give one has any. A refused write changes nothing.
+    pub fn write(&mut self, pid: Pid, addr: u64, bytes: &[u8]) -> Result<(), MachineError>
+        ensures { Accesses result (λ done. Done) self.old self.new (write self.old pid addr bytes.now) }
+    {
+        self.parts.write(pid, addr, bytes)
+    }
+
+    /// Decides the requests of a run one after another, and gives a status for each: the target's number where the page
+    /// is there now, or an error's number with a minus sign. -14 (EFAULT) without an area, or for the page of zeros; -2
+    /// (ENOENT) where nothing was touched; -12 (ENOMEM) where the target has no free frame. A page takes the front of the
+    /// target's free frames. The frames that pages leave become free at the run's end, in the order of the moves. The
+    /// totals count the moves, and the requests with -12. An error means that the machine is as it was.
+    pub fn run_flight(&mut self, requests: &Run<A>) -> Result<Vec<i32, A>, AllocError>
+        requires { requests.now.target < node_count self.old.layout }
+        ensures statuses { IfOk result (λ statuses. statuses.items ≡ (run self.old requests.now.target requests.now.wanted.items []).statuses) }
+        ensures state { OnOk result (self.new ≡ (run self.old requests.now.target requests.now.wanted.items []).state) }
+        ensures err { OnErr result (self.new ≡ self.old) }
+    {
+        let count = requests.wanted.len();
+        let mut statuses = Vec::with_capacity(self.alloc, count)?;
+        self.parts.reserve(count)?;
+        self.parts
+            .decide_each(requests.target, requests.wanted.as_slice(), &mut statuses);
+        self.parts.end_run(statuses.as_slice());
+        Ok(statuses)
+    }
+
+    /// The free frames of a node, the front first. EINVAL where there is no such node.
+    pub fn free_list(&self, node: NodeId) -> Result<Vec<FrameId, A>, MachineError>
+        ensures { Tells result (list_refusal self.now node) (λ frames. frames.items ≡ free_list self.now node) }
+    {
+        self.parts.free_list(node)
+    }
+
+    /// What the process has at the page numbers that it has touched, upwards. ESRCH without such a process.
+    pub fn entries(&self, pid: Pid) -> Result<Vec<(Vpn, Entry), A>, MachineError>
+        ensures { Tells result (entries_refusal self.now pid) (λ entries. entries.items ≡ entries_of self.now pid) }
+    {
+        self.parts.entries(pid)
+    }
+
+    /// Whether each frame of the machine stands exactly once in its own node's list of free frames, or is the place of
+    /// exactly one page, and not both.
+    pub fn audit(&self) -> Result<bool, AllocError>
+        ensures { IfOk result (λ b. b ≡ audited self.now) }
+    {
+        self.parts.audit()
+    }
 }

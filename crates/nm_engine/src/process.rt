@@ -1,9 +1,9 @@
 //! Processes and what they see.
 
-use crate::entry::Sight;
-use nm_types::{NodeId, NodeMask, Vpn};
+use nm_types::{NodeId, NodeMask, Sight, Vpn};
 use std::alloc::Allocator;
 use std::collections::BTreeMap;
+use std::marker::Model;
 
 /// What `spawn` fixed of a process.
 #[derive(Clone, Copy, Debug, PartialEq, Eq)]
@@ -20,7 +20,21 @@ pub struct ProcessInfo {
 
 /// A process with what it has touched.
 #[derive(Drop)]
-pub(crate) struct Process<A: Allocator + Copy> {
+pub(crate) struct Task<A: Allocator + Copy> {
     pub(crate) info: ProcessInfo,
     pub(crate) sees: BTreeMap<Vpn, Sight, A>,
+}
+
+impl<A: Allocator + Copy> Model for Task<A> {
+    ghost use Rattle.nm_types.specs.State.{Process};
+
+    ghost Value = { Process };
+
+    ghost view = { λ t. record {
+      uid = t.info.uid;
+      privileged = t.info.privileged;
+      home = t.info.home;
+      allowed = t.info.allowed;
+      sees = t.sees.entries;
+    } };
 }

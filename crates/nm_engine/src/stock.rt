@@ -1,14 +1,18 @@
 //! The machine's frames: whose they are, which are free, and what they hold.
 
-ghost use Rattle.std.specs.Prelude.{◌≡◌, ◌≢◌, ◌+◌, ◌<◌, ◌≤◌, [], length, vec_len, None, Some, IsSome, IfSome, IfOk, OnOk, OnErr, slice_index, slice_set};
+ghost use Rattle.std.specs.Prelude.{◌≡◌, ◌≢◌, ◌+◌, ◌<◌, ◌≤◌, [], ◌++◌, length, vec_capacity, vec_len, None, Some, IsSome, IfSome, IfOk, OnOk, OnErr, slice_index, slice_set};
 ghost use Rattle.std.specs.Bool.{OnTrue, OnFalse};
 ghost use Rattle.nm_types.specs.Layout.{node_count, frame_count, node_of};
 ghost use Rattle.nm_types.specs.Map.{get, replace, page_cmp};
 ghost use Rattle.std.specs.List.Sorted.{IsStrictlySortedBy};
-ghost use Rattle.std.specs.Map.{keys_of};
+ghost use Rattle.std.specs.Map.{keys_of, values_of};
+ghost use Rattle.nm_nodes.specs.Pool.{list_of};
 ghost use Rattle.nm_frames.specs.Store.{IsHome, bytes_of, overwrite};
-ghost use Rattle.nm_engine.specs.Stocked.{free_of, stock_page, restock_page, free_all, CanFree, with_freed};
+ghost use Rattle.nm_engine.specs.Audited.{is_audited, numbered};
+ghost use Rattle.nm_engine.specs.Effect.{all_frames};
+ghost use Rattle.nm_engine.specs.Stocked.{free_of, IsStocked, stock_page, restock_page, free_all, CanFree, with_freed, stretch_of};
 
+use crate::audit;
 use nm_frames::{CopyJob, FrameStore};
 use nm_nodes::NodePool;
 use nm_types::{FrameId, Geometry, NodeId, Page};
@@ -57,6 +61,8 @@ impl<A: Allocator + Copy> Stock<A> {
     pub(crate) fn new(alloc: A, geometry: Geometry<A>) -> Result<Self, AllocError>
         ensures layout { IfOk result (λ s. s.layout ≡ geometry) }
         ensures place { IfOk result (λ s. s.place ≡ []) }
+        ensures free { IfOk result (λ s. s.free ≡ all_frames 0 geometry.sizes) }
+        ensures vacated { IfOk result (λ s. s.vacated ≡ []) }
     {
         let frames = FrameStore::new(alloc, geometry.frame_count())?;
         let nodes = NodePool::new(alloc, &geometry)?;
@@ -100,42 +106,41 @@ impl<A: Allocator + Copy> Stock<A> {
         self.places.get(&page).copied()
     }
 
-    /// How many free frames a node has.
+    /// How many free frames a node has, which are none where there is no such node.
     pub(crate) fn free_count(&self, node: NodeId) -> usize
-        requires { node < node_count self.now.layout }
         ensures { result ≡ length (free_of self.now node) }
     {
-        self.nodes.free_count(node)
+        if node.index() < self.node_count() {
+            self.nodes.free_count(node)
+        } else {
+            0
+        }
     }
 
     /// The free frames of a node, the front first.
     pub(crate) fn free_list(&self, alloc: A, node: NodeId) -> Result<Vec<FrameId, A>, AllocError>
         requires { node < node_count self.now.layout }
+        ensures { IfOk result (λ frames. frames.items ≡ free_of self.now node) }
     {
-        let mut frames = Vec::new(alloc);
-        for k in 0..self.nodes.free_count(node) {
-            if let Some(frame) = self.nodes.nth(node, k) {
-                frames.push(frame)?;
-            }
-        }
-        Ok(frames)
+        list_of(alloc, &self.nodes, node)
     }
 
-    /// Copies the bytes of a frame from `at` on into a buffer.
-    pub(crate) fn read(&self, frame: FrameId, at: usize, buffer: &mut [u8])
+    /// Puts so many bytes of a frame from `at` on behind those of a list that has room for them.
+    pub(crate) fn read(&self, frame: FrameId, at: usize, len: usize, bytes: &mut Vec<u8, A>)
         requires frame { frame < frame_count self.now.layout }
-        requires inside { at + length buffer.old ≤ 4096 }
+        requires inside { at + len ≤ 4096 }
+        requires room { vec_len bytes.old + len ≤ vec_capacity bytes.old }
+        ensures { bytes.new.items ≡ bytes.old.items ++ stretch_of (bytes_of self.now.frames frame) at len }
     {
-        for (k, byte) in buffer.iter_mut().enumerate() {
-            *byte = self.frames.byte(frame, at + k);
-        }
+        copy_bytes(&self.frames, frame, at, len, bytes);
     }
 
     /// Puts bytes in place of those of a frame from `at` on.
     pub(crate) fn write(&mut self, frame: FrameId, at: usize, bytes: &[u8])
         requires frame { frame < frame_count self.old.layout }
         requires inside { at + length bytes.now ≤ 4096 }
-        ensures { self.new ≡ record (self.old) { frames = slice_set self.old.frames frame (Some (overwrite (bytes_of self.old.frames frame) at bytes.now)) } }
+        ensures stocked { IsStocked self.old }
+        ensures written { self.new ≡ record (self.old) { frames = slice_set self.old.frames frame (Some (overwrite (bytes_of self.old.frames frame) at bytes.now)) } }
     {
         self.frames.write(frame, at, bytes);
     }
@@ -147,6 +152,7 @@ impl<A: Allocator + Copy> Stock<A> {
         requires some_free { 0 < length (free_of self.old node) }
         ensures frame { IfOk result (λ frame. frame ≡ slice_index (free_of self.old node) 0) }
         ensures known { IfOk result (λ frame. frame < frame_count self.old.layout) }
+        ensures stocked { IsStocked self.old }
         ensures ok { OnOk result (self.new ≡ stock_page self.old page node) }
         ensures err { OnErr result (self.new ≡ self.old) }
     {
@@ -162,8 +168,7 @@ impl<A: Allocator + Copy> Stock<A> {
     /// Makes room for so many frames that a run's pages may leave.
     pub(crate) fn reserve(&mut self, count: usize) -> Result<(), AllocError>
         ensures room { OnOk result (length self.new.vacated + count ≤ self.new.room) }
-        ensures layout { self.new.layout ≡ self.old.layout }
-        ensures vacated { self.new.vacated ≡ self.old.vacated }
+        ensures same { self.new ≡ record (self.old) { room = self.new.room } }
     {
         self.vacated.reserve(count)
     }
@@ -181,6 +186,8 @@ impl<A: Allocator + Copy> Stock<A> {
         requires placed { get page_cmp self.old.place page ≡ Some from }
         requires target { target < node_count self.old.layout }
         requires room { length self.old.vacated < self.old.room }
+        ensures stocked { IsStocked self.old }
+        ensures some { OnTrue result (0 < length (free_of self.old target)) }
         ensures moved { OnTrue result (self.new ≡ restock_page self.old page from target) }
         ensures full { OnFalse result (free_of self.old target ≡ []) }
         ensures same { OnFalse result (self.new ≡ self.old) }
@@ -197,49 +204,31 @@ impl<A: Allocator + Copy> Stock<A> {
     /// The frames that the pages of this run have left become free, in their order, each at the end of its own node's
     /// list.
     pub(crate) fn free_vacated(&mut self)
-        ensures { self.new ≡ free_all self.old }
+        ensures stocked { IsStocked self.old }
+        ensures freed { self.new ≡ free_all self.old }
     {
         free_frames(&mut self.nodes, self.vacated.as_slice());
         self.vacated.clear();
     }
 
-    /// Whether the node owns the frame.
-    fn is_of(&self, frame: FrameId, node: NodeId) -> bool {
-        frame.index() < self.geometry.frame_count() && self.geometry.node_of(frame) == node
-    }
-
     /// Whether each frame stands once, in its own node's list or as the place of a page.
-    pub(crate) fn audit(&self, alloc: A) -> Result<bool, AllocError> {
-        let mut seen = vec![in alloc; false; self.geometry.frame_count()]?;
-        for node in 0..self.node_count() {
-            let node = NodeId::new(node as u32);
-            for k in 0..self.nodes.free_count(node) {
-                let Some(frame) = self.nodes.nth(node, k) else {
-                    return Ok(false);
-                };
-                if !mark(seen.as_mut_slice(), frame) || !self.is_of(frame, node) {
-                    return Ok(false);
-                }
-            }
-        }
-        for frame in self.places.values() {
-            if !mark(seen.as_mut_slice(), *frame) {
-                return Ok(false);
-            }
-        }
-        Ok(seen.iter().all(|seen| *seen))
+    pub(crate) fn audit(&self, alloc: A) -> Result<bool, AllocError>
+        ensures { IfOk result (λ b. b ≡ is_audited self.now.layout (numbered 0 self.now.free) (values_of self.now.place)) }
+    {
+        let free = audit::free_frames(alloc, &self.nodes, self.node_count())?;
+        let placed = places_of(alloc, &self.places)?;
+        audit::is_each_once(alloc, &self.geometry, free.as_slice(), placed.as_slice())
     }
 }
 
-/// Marks a frame as seen. Whether it is one of the frames, and was not seen before.
-fn mark(seen: &mut [bool], frame: FrameId) -> bool {
-    match seen.get_mut(frame.index()) {
-        Some(seen) if !*seen => {
-            *seen = true;
-            true
-        }
-        _ => false,
-    }
+/// The frames of the pages that have one, in the order of the pages.
+fn places_of<A: Allocator + Copy>(
+    alloc: A,
+    places: &BTreeMap<Page, FrameId, A>,
+) -> Result<Vec<FrameId, A>, AllocError>
+    ensures { IfOk result (λ frames. frames.items ≡ values_of places.now.entries) }
+{
+    places.values().copied().collect(alloc)
 }
 
 /// Puts another frame in the place of a page that has one. It takes no memory.
@@ -280,5 +269,43 @@ fn free_frames<A: Allocator + Copy>(nodes: &mut NodePool<A>, frames: &[FrameId])
 {
     for frame in frames {
         nodes.append(*frame);
+    }
+}
+
+/// The free frames of a node, the front first.
+fn list_of<A: Allocator + Copy>(
+    alloc: A,
+    nodes: &NodePool<A>,
+    node: NodeId,
+) -> Result<Vec<FrameId, A>, AllocError>
+    requires { node < length nodes.now.lists }
+    ensures { IfOk result (λ frames. frames.items ≡ list_of nodes.now node) }
+{
+    let count = nodes.free_count(node);
+    let mut frames = Vec::with_capacity(alloc, count)?;
+    for k in 0..count {
+        let Some(frame) = nodes.nth(node, k) else {
+            unreachable!()
+        };
+        frames.push_reserved(frame);
+    }
+    Ok(frames)
+}
+
+/// Puts so many bytes of a frame from `at` on behind those of a list that has room for them.
+fn copy_bytes<A: Allocator + Copy>(
+    frames: &FrameStore<A>,
+    frame: FrameId,
+    at: usize,
+    len: usize,
+    bytes: &mut Vec<u8, A>,
+)
+    requires frame { IsHome frames.now frame }
+    requires inside { at + len ≤ 4096 }
+    requires room { vec_len bytes.old + len ≤ vec_capacity bytes.old }
+    ensures { bytes.new.items ≡ bytes.old.items ++ stretch_of (bytes_of frames.now frame) at len }
+{
+    for k in at..at + len {
+        bytes.push_reserved(frames.byte(frame, k));
     }
 }

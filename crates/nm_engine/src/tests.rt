@@ -124,3 +124,98 @@ fn processes_are_known(rt: HostRuntime) -> Result<(), Fail> {
     assert_eq!(rt; refused.err(), Some(MachineError::Refused(Errno::Esrch)));
     Ok(())
 }
+
+/// A page at an address and its number.
+const A: u64 = 0x10000;
+
+/// Process 1 has written seven pages from 0x10000 on: the first four are on node 0, which is full then.
+fn seven_pages(alloc: Global) -> Result<Machine<Global>, Fail> {
+    let mut machine = two_nodes(alloc)?;
+    machine.map(Pid::new(1), A, 7)?;
+    for page in 0..7u64 {
+        machine.write(Pid::new(1), A + page * 4096, &[0x61])?;
+    }
+    Ok(machine)
+}
+
+/// Moves one page of process 1, and answers its status.
+fn move_one(
+    machine: &mut Machine<Global>,
+    alloc: Global,
+    target: u32,
+    page: u64,
+) -> Result<i32, Fail> {
+    let request = run(alloc, target, &[page])?;
+    if request.target.index() >= machine.node_count() {
+        return Err(Fail::from("no such node"));
+    }
+    let statuses = machine.run_flight(&request)?;
+    Ok(*statuses.as_slice().first().ok_or("one status")?)
+}
+
+/// Whether the node has these free frames.
+fn has_free(
+    machine: &Machine<Global>,
+    alloc: Global,
+    node: u32,
+    numbers: &[u32],
+) -> Result<bool, Fail> {
+    let free = machine.free_list(NodeId::new(node))?;
+    Ok(free.as_slice() == frames(alloc, numbers)?.as_slice())
+}
+
+#[test]
+fn full_home_falls_back(rt: HostRuntime) -> Result<(), Fail> {
+    let machine = seven_pages(rt.alloc())?;
+    assert!(rt; has_free(&machine, rt.alloc(), 0, &[])?);
+    assert!(rt; has_free(&machine, rt.alloc(), 1, &[7])?);
+    Ok(())
+}
+
+#[test]
+fn later_run_takes_the_frame_of_an_earlier(rt: HostRuntime) -> Result<(), Fail> {
+    let mut machine = seven_pages(rt.alloc())?;
+    assert_eq!(rt; move_one(&mut machine, rt.alloc(), 1, 16)?, 1);
+    assert_eq!(rt; move_one(&mut machine, rt.alloc(), 0, 20)?, 0);
+    assert!(rt; has_free(&machine, rt.alloc(), 0, &[])?);
+    assert!(rt; has_free(&machine, rt.alloc(), 1, &[4])?);
+    Ok(())
+}
+
+#[test]
+fn earlier_run_finds_no_frame(rt: HostRuntime) -> Result<(), Fail> {
+    let mut machine = seven_pages(rt.alloc())?;
+    assert_eq!(rt; move_one(&mut machine, rt.alloc(), 0, 20)?, -12);
+    assert_eq!(rt; move_one(&mut machine, rt.alloc(), 1, 16)?, 1);
+    assert!(rt; has_free(&machine, rt.alloc(), 0, &[0])?);
+    assert!(rt; has_free(&machine, rt.alloc(), 1, &[])?);
+    Ok(())
+}
+
+/// Process 1 has read a byte of a page that nobody wrote.
+fn read_once(alloc: Global) -> Result<Machine<Global>, Fail> {
+    let mut machine = two_nodes(alloc)?;
+    machine.map(Pid::new(1), A, 1)?;
+    machine.read(Pid::new(1), A, 1)?;
+    Ok(machine)
+}
+
+#[test]
+fn read_shows_zeros_and_takes_nothing(rt: HostRuntime) -> Result<(), Fail> {
+    let mut machine = read_once(rt.alloc())?;
+    assert_eq!(rt; machine.read(Pid::new(1), A, 1)?.as_slice(), [0].as_slice());
+    let zero = [(Vpn::new(16), Entry::Zero)];
+    assert_eq!(rt; machine.entries(Pid::new(1))?.as_slice(), zero.as_slice());
+    assert!(rt; has_free(&machine, rt.alloc(), 0, &[0, 1, 2, 3])?);
+    Ok(())
+}
+
+#[test]
+fn write_takes_a_frame_after_a_read(rt: HostRuntime) -> Result<(), Fail> {
+    let mut machine = read_once(rt.alloc())?;
+    machine.write(Pid::new(1), A, &[0x61])?;
+    let entry = [(Vpn::new(16), Entry::Frame(FrameId::new(0)))];
+    assert_eq!(rt; machine.entries(Pid::new(1))?.as_slice(), entry.as_slice());
+    assert!(rt; has_free(&machine, rt.alloc(), 0, &[1, 2, 3])?);
+    Ok(())
+}

@@ -1,196 +1,208 @@
 //! Reads and writes.
 
-ghost use Rattle.std.specs.Prelude.{◌≡◌, ◌+◌, ◌<◌, ◌≤◌, ◌^◌, length, OnOk, IfOk, IfSome};
-ghost use Rattle.nm_types.specs.Layout.{node_count, frame_count};
+ghost use Rattle.std.specs.Prelude.{◌≡◌, ◌+◌, ◌/◌, ◌%◌, ◌≤◌, ◌++◌, true, replicate, vec_len, vec_capacity, Ok, Err, Some, None, IfOk, IfErr, IfNone, IsSome};
+ghost use Rattle.std.specs.Ordering.{nat_cmp};
+ghost use Rattle.nm_types.specs.declared.page.Page.{Page};
+ghost use Rattle.nm_types.specs.declared.sight.Sight.TheVariants.{Sees, ZeroPage};
 ghost use Rattle.nm_types.specs.Map.{get, page_cmp};
-ghost use Rattle.nm_engine.specs.Shown.{layout_of};
-ghost use Rattle.nm_engine.specs.Stocked.{free_of};
+ghost use Rattle.nm_types.specs.State.{Process, State, Placed};
+ghost use Rattle.nm_runs.specs.Seen.{sight_at};
+ghost use Rattle.nm_policy.specs.Order.{first_touch_order};
+ghost use Rattle.nm_engine.specs.Touch.{Bytes, Done, shown_at, spot, first_free, filled, joined, touched_entry, read, write};
+ghost use Rattle.nm_engine.specs.Amid.{spot_at, IsTouched, with_state};
+ghost use Rattle.nm_engine.specs.Does.{Touches, Accesses};
+ghost use Rattle.nm_engine.specs.Seeing.{frame_seen};
 
-use crate::entry::Sight;
-use crate::machine::Machine;
 use crate::machine_error::MachineError;
+use crate::parts::Parts;
 use crate::process::ProcessInfo;
+use crate::stock::Stock;
+use crate::touching::Touching;
 use nm_policy::first_touch_order;
-use nm_types::limits::PAGE_BYTES;
-use nm_types::{Errno, FrameId, NodeId, Page, Pid, Policy, Vpn};
+use nm_types::{Errno, FrameId, NodeId, Page, Pid, Policy, Sight, Vpn};
 use std::alloc::{AllocError, Allocator};
 
-/// Where bytes of a process stand: a process, one of its pages, and a stretch of the page's bytes.
-#[derive(Clone, Copy)]
-struct Spot {
-    pid: Pid,
-    info: ProcessInfo,
-    vpn: Vpn,
-    /// The page that the area shows there.
-    page: Page,
-    policy: Policy,
-    shared: bool,
-    /// The first byte's place in the page.
-    at: usize,
-    len: usize,
-    ghost inside: { at + len ≤ 4096 },
-}
-
-impl<A: Allocator + Copy + Send + Sync> Machine<A> {
-    /// Reads 1 to 4,096 bytes inside one page. Memory that nobody wrote reads as zeros. ESRCH without such a process;
-    /// EINVAL for no byte, or bytes past the page's end; EFAULT without an area there; ENOMEM where shared memory wants a
-    /// frame and no node that may give one has any.
-    pub fn read(&mut self, pid: Pid, addr: u64, len: u64) -> Result<Vec<u8, A>, MachineError>
-        ensures length { IfOk result (λ bytes. length bytes.items ≡ len) }
-        ensures layout { layout_of self.new ≡ layout_of self.old }
+impl<A: Allocator + Copy> Parts<A> {
+    /// Reads bytes inside one page of a process.
+    pub(crate) fn read(&mut self, pid: Pid, addr: u64, len: u64) -> Result<Vec<u8, A>, MachineError>
+        ensures answer { Accesses result (λ bytes. Bytes bytes.items) self.old.state self.new.state (read self.old.state pid addr len) }
+        ensures same { self.new ≡ with_state self.old self.new.state }
     {
-        let spot = self.spot(pid, addr, len)?;
-        let at = spot.at;
-        let mut bytes = vec![in self.alloc; 0u8; spot.len]?;
-        if let Some(frame) = self.show(spot)? {
-            self.stock.read(frame, at, bytes.as_mut_slice());
+        let touching = match self.touching(pid, addr, len) {
+            Ok(touching) => touching,
+            Err(errno) => return Err(MachineError::Refused(errno)),
+        };
+        let len = len as usize;
+        let mut bytes = Vec::with_capacity(self.alloc, len)?;
+        match self.touch(touching, false)? {
+            Some(frame) => self
+                .stock
+                .read(frame, (addr % 4096) as usize, len, &mut bytes),
+            None => push_zeros(&mut bytes, len),
         }
         Ok(bytes)
     }
 
-    /// Writes 1 to 4,096 bytes inside one page. ESRCH, EINVAL and EFAULT as for `read`; ENOMEM where the page has no frame
-    /// yet and no node that may give one has any. A refused write changes nothing.
-    pub fn write(&mut self, pid: Pid, addr: u64, bytes: &[u8]) -> Result<(), MachineError>
-        ensures { layout_of self.new ≡ layout_of self.old }
+    /// Writes bytes inside one page of a process.
+    pub(crate) fn write(&mut self, pid: Pid, addr: u64, bytes: &[u8]) -> Result<(), MachineError>
+        ensures answer { Accesses result (λ done. Done) self.old.state self.new.state (write self.old.state pid addr bytes.now) }
+        ensures same { self.new ≡ with_state self.old self.new.state }
     {
-        let spot = self.spot(pid, addr, bytes.len() as u64)?;
-        let at = spot.at;
-        let frame = self.fill(spot)?;
-        self.stock.write(frame, at, bytes);
+        let touching = match self.touching(pid, addr, bytes.len() as u64) {
+            Ok(touching) => touching,
+            Err(errno) => return Err(MachineError::Refused(errno)),
+        };
+        let Some(frame) = self.touch(touching, true)? else {
+            unreachable!()
+        };
+        self.stock.write(frame, (addr % 4096) as usize, bytes);
         Ok(())
     }
 
     /// Where so many bytes of a process stand, or the first refusal.
-    fn spot(&self, pid: Pid, addr: u64, len: u64) -> Result<Spot, MachineError>
-        ensures { IfOk result (λ spot. spot.len ≡ len) }
+    fn touching(&self, pid: Pid, addr: u64, len: u64) -> Result<Touching, Errno>
+        ensures ok { IfOk result (λ t. (p : Process) × (a : Placed) × (spot self.now.state pid addr len ≡ Ok (spot_at t p a)) × IsTouched self.now.state t p a) }
+        ensures pid { IfOk result (λ t. t.pid ≡ pid) }
+        ensures page { IfOk result (λ t. t.vpn ≡ addr / 4096) }
+        ensures inside { IfOk result (λ t. addr % 4096 + len ≤ 4096) }
+        ensures err { IfErr result (λ errno. spot self.now.state pid addr len ≡ Err errno) }
     {
-        let Some(info) = self.process(pid) else {
-            return Err(MachineError::Refused(Errno::Esrch));
+        let Some(info) = self.tasks.info(pid) else {
+            return Err(Errno::Esrch);
         };
-        let at = (addr % 4096) as usize;
-        if len == 0 || len > 4096 || at + len as usize > PAGE_BYTES {
-            return Err(MachineError::Refused(Errno::Einval));
+        if len == 0 || len > 4096 - addr % 4096 {
+            return Err(Errno::Einval);
         }
         let vpn = Vpn::of_address(addr);
-        let Some((first, area)) = self.area_over(pid, vpn) else {
-            return Err(MachineError::Refused(Errno::Efault));
+        let Some((first, area)) = self.areas.over(pid, vpn) else {
+            return Err(Errno::Efault);
         };
         let Page { segment, index } = area.page;
         let page = Page {
             segment,
-            index: index.wrapping_add(vpn.number().wrapping_sub(first.number())),
+            index: index + (vpn.number() - first.number()),
         };
-        let shared = self.segments.get(&segment).is_some_and(|s| s.shared);
-        Ok(Spot {
+        Ok(Touching {
             pid,
             info,
             vpn,
             page,
             policy: area.policy,
-            shared,
-            at,
-            len: len as usize,
         })
     }
 
-    /// What a read meets: the page's frame, or None for zeros. Private memory that is read first shows the page of zeros.
-    fn show(&mut self, spot: Spot) -> Result<Option<FrameId>, MachineError>
-        ensures known { IfOk result (λ shown. IfSome shown (λ frame. frame < frame_count (layout_of self.new))) }
-        ensures layout { layout_of self.new ≡ layout_of self.old }
+    /// What a read or a write does before it comes to the bytes. Gives the frame of the page that the process then sees,
+    /// or None where it sees the page of zeros.
+    fn touch(&mut self, t: Touching, writes: bool) -> Result<Option<FrameId>, MachineError>
+        requires { (p : Process) × (a : Placed) × IsTouched self.old.state t p a }
+        ensures touches { (p : Process) (a : Placed) → IsTouched self.old.state t p a → Touches result self.old.state self.new.state (touched_entry self.old.state (spot_at t p a) writes (get nat_cmp p.sees t.vpn)) }
+        ensures frame { IfOk result (λ frame. frame ≡ frame_seen self.new.state t.pid t.vpn) }
+        ensures some { IfOk result (λ frame. writes ≡ true → IsSome frame) }
+        ensures zeros { IfOk result (λ frame. IfNone frame (sight_at self.new.state t.pid t.vpn ≡ Some ZeroPage)) }
+        ensures same { self.new ≡ with_state self.old self.new.state }
     {
-        match self.sight(spot.pid, spot.vpn) {
-            Some(Sight::ZeroPage) => Ok(None),
+        match self.tasks.sight(t.pid, t.vpn) {
             Some(Sight::Sees(page)) => Ok(self.stock.place(page)),
-            None => {
-                if spot.shared {
-                    return Ok(Some(self.fill(spot)?));
+            Some(Sight::ZeroPage) => {
+                if writes {
+                    Ok(Some(self.fill(t)?))
+                } else {
+                    Ok(None)
                 }
-                self.see(spot.pid, spot.vpn, Sight::ZeroPage)?;
-                Ok(None)
+            }
+            None => {
+                if self.areas.is_shared(t.page.segment) {
+                    Ok(Some(self.join(t)?))
+                } else if writes {
+                    Ok(Some(self.fill(t)?))
+                } else {
+                    self.tasks.see(t.pid, t.vpn, Sight::ZeroPage)?;
+                    Ok(None)
+                }
             }
         }
     }
 
-    /// The frame of the page, which the process sees from now on. A page without a frame takes one of zeros.
-    fn fill(&mut self, spot: Spot) -> Result<FrameId, MachineError>
-        ensures known { IfOk result (λ frame. frame < frame_count (layout_of self.new)) }
-        ensures layout { layout_of self.new ≡ layout_of self.old }
+    /// The process sees the page that is there, or gets one.
+    fn join(&mut self, t: Touching) -> Result<FrameId, MachineError>
+        requires touched { (p : Process) × (a : Placed) × IsTouched self.old.state t p a }
+        requires unseen { sight_at self.old.state t.pid t.vpn ≡ None }
+        ensures touches { (p : Process) (a : Placed) → IsTouched self.old.state t p a → Touches result self.old.state self.new.state (joined self.old.state (spot_at t p a) (get page_cmp self.old.state.place t.page)) }
+        ensures frame { IfOk result (λ frame. frame_seen self.new.state t.pid t.vpn ≡ Some frame) }
+        ensures same { self.new ≡ with_state self.old self.new.state }
     {
-        let pid = spot.pid;
-        let vpn = spot.vpn;
-        let page = spot.page;
-        let before = self.sight(pid, vpn);
-        if let Some(frame) = self.stock.place(page) {
-            if before != Some(Sight::Sees(page)) {
-                self.see(pid, vpn, Sight::Sees(page))?;
-            }
-            return Ok(frame);
-        }
-        let Some(node) = self.first_node(spot)? else {
+        let page = t.page;
+        let Some(frame) = self.stock.place(page) else {
+            return self.fill(t);
+        };
+        self.tasks.see(t.pid, t.vpn, Sight::Sees(page))?;
+        Ok(frame)
+    }
+
+    /// The page takes the front frame of the first node in order that has one, and the process sees it.
+    fn fill(&mut self, t: Touching) -> Result<FrameId, MachineError>
+        requires touched { (p : Process) × (a : Placed) × IsTouched self.old.state t p a }
+        requires unplaced { get page_cmp self.old.state.place t.page ≡ None }
+        requires unseen { (page : Page) → sight_at self.old.state t.pid t.vpn ≡ Some (Sees page) → ⊥ }
+        ensures touches { (p : Process) (a : Placed) → IsTouched self.old.state t p a → Touches result self.old.state self.new.state (filled self.old.state (spot_at t p a)) }
+        ensures frame { IfOk result (λ frame. frame_seen self.new.state t.pid t.vpn ≡ Some frame) }
+        ensures same { self.new ≡ with_state self.old self.new.state }
+    {
+        let page = t.page;
+        let before = self.tasks.sight(t.pid, t.vpn);
+        let Some(node) = self.first_node(t.info, t.policy, page.index)? else {
             return Err(MachineError::Refused(Errno::Enomem));
         };
-        self.see(pid, vpn, Sight::Sees(page))?;
+        let sight = Sight::Sees(page);
+        self.tasks.see(t.pid, t.vpn, sight)?;
         let Ok(frame) = self.stock.allocate(page, node) else {
-            self.see_again(pid, vpn, before);
+            self.tasks.see_again(t.pid, t.vpn, before);
             return Err(MachineError::HostMemory);
         };
         Ok(frame)
     }
 
     /// The first node in the order for a new page that has a free frame.
-    fn first_node(&self, spot: Spot) -> Result<Option<NodeId>, AllocError>
-        ensures node { IfOk result (λ found. IfSome found (λ node. node < node_count (layout_of self.now))) }
-        ensures free { IfOk result (λ found. IfSome found (λ node. 0 < length (free_of self.now.stock node))) }
+    fn first_node(
+        &self,
+        info: ProcessInfo,
+        policy: Policy,
+        index: u64,
+    ) -> Result<Option<NodeId>, AllocError>
+        ensures { IfOk result (λ found. found ≡ first_free self.now.state (first_touch_order self.now.state.layout self.now.state.online info.home info.allowed policy index)) }
     {
-        let ProcessInfo { home, allowed, .. } = spot.info;
+        let ProcessInfo { home, allowed, .. } = info;
         let order = first_touch_order(
             self.alloc,
             self.stock.geometry(),
             self.online,
             home,
             allowed,
-            spot.policy,
-            spot.page.index,
+            policy,
+            index,
         )?;
-        for node in &order {
-            if node.index() < self.node_count() && self.stock.free_count(*node) > 0 {
-                return Ok(Some(*node));
-            }
-        }
-        Ok(None)
+        Ok(first_free(&self.stock, order.as_slice()))
     }
+}
 
-    /// What the process sees at a page number.
-    pub(crate) fn sight(&self, pid: Pid, vpn: Vpn) -> Option<Sight> {
-        self.processes.get(&pid)?.sees.get(&vpn).copied()
-    }
-
-    /// The process sees this from now on.
-    fn see(&mut self, pid: Pid, vpn: Vpn, sight: Sight) -> Result<(), AllocError>
-        ensures { self.new.stock ≡ self.old.stock }
-    {
-        if let Some(process) = self.processes.get_mut(&pid) {
-            process.sees.insert(vpn, sight)?;
+/// The first of these nodes that has a free frame.
+fn first_free<A: Allocator + Copy>(stock: &Stock<A>, order: &[NodeId]) -> Option<NodeId>
+    ensures { (s : State) → s.free ≡ stock.now.free → result ≡ first_free s order.now }
+{
+    for node in order {
+        if stock.free_count(*node) > 0 {
+            return Some(*node);
         }
-        Ok(())
     }
+    None
+}
 
-    /// The process sees what it saw before. It takes no memory.
-    fn see_again(&mut self, pid: Pid, vpn: Vpn, before: Option<Sight>)
-        ensures { self.new.stock ≡ self.old.stock }
-    {
-        let Some(process) = self.processes.get_mut(&pid) else {
-            return;
-        };
-        match before {
-            None => {
-                process.sees.remove(&vpn);
-            }
-            Some(sight) => {
-                if let Some(there) = process.sees.get_mut(&vpn) {
-                    *there = sight;
-                }
-            }
-        }
+/// Puts so many zeros behind the bytes of a list that has room for them.
+fn push_zeros<A: Allocator + Copy>(bytes: &mut Vec<u8, A>, len: usize)
+    requires { vec_len bytes.old + len ≤ vec_capacity bytes.old }
+    ensures { bytes.new.items ≡ bytes.old.items ++ replicate len 0 }
+{
+    for _ in 0..len {
+        bytes.push_reserved(0);
     }
 }

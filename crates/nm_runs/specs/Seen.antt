@@ -8,7 +8,9 @@ use Rattle.nm_types.specs.declared.page.Page.{Page}
 use Rattle.nm_types.specs.declared.seen.Seen.{Seen}
 use Rattle.nm_types.specs.declared.seen.Seen.TheVariants.{NoArea, Absent, Zero, At}
 use Rattle.nm_types.specs.Map.{page_cmp, same_page, get}
-use Rattle.nm_types.specs.State.{Sight, ZeroPage, Sees, Process, State, page_at}
+use Rattle.nm_types.specs.declared.sight.Sight.{Sight}
+use Rattle.nm_types.specs.declared.sight.Sight.TheVariants.{ZeroPage, Sees}
+use Rattle.nm_types.specs.State.{Process, State, page_at}
 
 -- what it sees at a page number, if it is there
 abbrev pub sight_in : Option Process → ℕ → Option Sight

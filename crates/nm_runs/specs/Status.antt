@@ -9,7 +9,9 @@ use Rattle.nm_types.specs.declared.errno.Errno.TheVariants.{Enoent, Eacces, Efau
 use Rattle.nm_types.specs.Names.{number_of}
 use Rattle.nm_types.specs.Map.{page_cmp, get}
 use Rattle.nm_types.specs.Layout.{Layout, node_of}
-use Rattle.nm_types.specs.State.{Sight, ZeroPage, Sees, State, page_at}
+use Rattle.nm_types.specs.declared.sight.Sight.{Sight}
+use Rattle.nm_types.specs.declared.sight.Sight.TheVariants.{ZeroPage, Sees}
+use Rattle.nm_types.specs.State.{State, page_at}
 use Rattle.nm_runs.specs.declared.Class.{Class}
 use Rattle.nm_runs.specs.declared.Class.TheVariants.{Status, Move}
 use Rattle.nm_runs.specs.declared.Wanted.{Wanted}

@@ -5,11 +5,7 @@ use Rattle.nm_types.specs.declared.area.Area.{Area}
 use Rattle.nm_types.specs.declared.area.Segment.{Segment}
 use Rattle.nm_types.specs.Map.{Map}
 use Rattle.nm_types.specs.Layout.{Layout}
-
--- what a process sees at a page number that it has touched
-pub data Sight : Type 0 where
-  ZeroPage : Sight
-  Sees : (page : Page) → Sight
+use Rattle.nm_types.specs.declared.sight.Sight.{Sight}
 
 pub record Process : Type 0 where
   pub uid : ℕ

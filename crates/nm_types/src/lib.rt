@@ -11,6 +11,7 @@ mod mask;
 mod numbers;
 mod page;
 mod seen;
+mod sight;
 #[cfg(test)]
 mod tests;
 
@@ -23,3 +24,4 @@ pub use mask::NodeMask;
 pub use numbers::{FrameId, NodeId, Pid, Vpn};
 pub use page::Page;
 pub use seen::Seen;
+pub use sight::Sight;

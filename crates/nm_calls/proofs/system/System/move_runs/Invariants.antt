@@ -1,6 +1,5 @@
 use Rattle.std.proofs.Common.{◌≡◌, ℕ, ◌-◌, ◌≤◌, ◌<◌, get_or, length, vec_capacity}
 use Rattle.nm_types.specs.Layout.{node_count}
-use Rattle.nm_engine.specs.Shown.{layout_of}
 use Rattle.nm_calls.proofs.system.System.move_runs.Given as goal
 
 abbrev pub invariant-loop-at : goal.invariant-loop-at
@@ -9,7 +8,7 @@ invariant-loop-at g l = record {
   answered : length l.statuses.items ≡ l.at;
   few_runs : l.runs ≤ l.at;
   room : length l.pages ≤ vec_capacity l.statuses;
-  nodes : (k : ℕ) → k < length l.nodes → get_or l.nodes k 0 < node_count (layout_of l.self.machine);
+  nodes : (k : ℕ) → k < length l.nodes → get_or l.nodes k 0 < node_count (l.self.machine.layout);
 }
 
 abbrev pub decreases-loop-at : goal.decreases-loop-at

@@ -1,0 +1,17 @@
+use Rattle.std.proofs.Common.{◌≡◌, arith, ℕ, List, [], ap, subst, ◌∙◌}
+use Rattle.std.specs.Prelude.{Some, None}
+use Rattle.nm_types.specs.State.{State, free_list}
+use Rattle.nm_engine.specs.Refused.{list_refusal}
+use Rattle.nm_engine.specs.Amid.{Amid}
+use Rattle.nm_engine.proofs.Kept.{seen, list_fine}
+use Rattle.nm_engine.proofs.parts.Parts.free_list.Goals as goal
+
+pub returns : goal.returns
+returns g c =
+    let fine : list_refusal c.args.self.now.state c.args.node ≡ None =
+    let i = c.self.inside in
+    subst (λ (a : Amid). list_refusal a.state c.args.node ≡ None) c.self.view_is
+    (list_fine (seen i.tasks i.areas i.stock i.online i.totals.moved i.totals.failed) c.args.node (omega (arith, c.if-index-node_count.false, c.index.ensures, c.node_count.ensures.count)))
+    in
+    let frames : List ℕ = c.in_ok-free_list.field-0.items in
+    (fine, c.in_ok-free_list.ensures ∙ ap (λ (a : Amid). free_list a.state c.args.node) c.self.view_is)

@@ -1,0 +1,19 @@
+use Rattle.std.proofs.Common.{ap, ◌∙◌}
+use Rattle.std.specs.Map.{keys_of}
+use Rattle.std.specs.Ordering.{nat_cmp}
+use Rattle.nm_types.specs.Map.{set}
+use Rattle.nm_types.specs.State.{Process}
+use Rattle.nm_engine.specs.Tables.{untouched}
+use Rattle.nm_engine.proofs.Tabled.{strict_from_sorted, sorted_from_strict, added}
+use Rattle.nm_engine.proofs.tasks.Tasks.add.Goals as goal
+
+pub invariant_of-self-2 : goal.invariant_of-self-2
+invariant_of-self-2 g c =
+    strict_from_sorted (keys_of c.insert_sorted.new.self.entries) (c.in_ok-insert_sorted.ensures.sorted (sorted_from_strict (keys_of c.self.inside.tasks.entries) c.self.invariant)) c.in_ok-insert_sorted.ensures.unique
+
+pub returns-clause-ok : goal.returns-clause-ok
+returns-clause-ok g c =
+    let task : Process = record (untouched c.args.info) { sees = c.new.result.entries } in
+    added c.self.inside.tasks.entries c.insert_sorted.new.self.entries c.args.pid task c.self.invariant (invariant_of-self-2 g c) c.in_ok-insert_sorted.ensures.updates.0
+    ∙ ap (λ m. set nat_cmp m c.args.pid task) c.self.view_is
+    ∙ ap (λ es. set nat_cmp c.args.self.now c.args.pid (record (untouched c.args.info) { sees = es })) c.new.ensures.empty

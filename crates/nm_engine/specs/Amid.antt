@@ -1,0 +1,43 @@
+-- What the parts of a machine are together, also while a run has not ended.
+use Rattle.std.specs.Prelude.{◌≡◌, ℕ, ◌+◌, ◌^◌, ◌<◌, List, Some}
+use Rattle.std.specs.Ordering.{nat_cmp}
+use Rattle.std.specs.List.{AllByRecursion}
+use Rattle.nm_types.specs.Map.{get}
+use Rattle.nm_types.specs.State.{Process, State, Placed, area_over, page_of}
+use Rattle.nm_engine.specs.declared.touching.Touching.{Touching}
+use Rattle.nm_engine.specs.Tables.{info_of}
+use Rattle.nm_engine.specs.Touch.{Spot}
+use Rattle.nm_engine.specs.Sound.{IsSoundAmid}
+use Rattle.nm_engine.specs.Parts.{AllPrivate}
+
+-- a state, and the frames that the pages of a run have left, of which there may be so many
+pub record Amid : Type 0 where
+  pub state : State
+  pub left : List ℕ
+  pub room : ℕ
+
+-- the last page of an area has an index below 2^64
+abbrev pub HasIndices : Placed → Type 0
+HasIndices a = a.1.page.index + a.1.pages < 2 ^ 64
+
+-- sound, and no segment is shared, as long as no call makes a shared one
+pub record IsKept (s : State) (left : List ℕ) : Type 0 where
+  pub sound : IsSoundAmid s left
+  pub private : AllPrivate s.segments
+  pub indices : AllByRecursion HasIndices s.areas
+
+-- a touch of this process under this area
+abbrev pub spot_at : Touching → Process → Placed → Spot
+spot_at t process area = record { pid = t.pid; process = process; area = area; vpn = t.vpn }
+
+-- the process is there, and the area, which shows the page
+pub record IsTouched (s : State) (t : Touching) (process : Process) (area : Placed) : Type 0 where
+  pub known : get nat_cmp s.processes t.pid ≡ Some process
+  pub info : info_of process ≡ t.info
+  pub over : area_over s.areas t.pid t.vpn ≡ Some area
+  pub policy : area.1.policy ≡ t.policy
+  pub page : page_of area t.vpn ≡ t.page
+
+-- the state alone may change
+abbrev pub with_state : Amid → State → Amid
+with_state x s = record x { state = s }

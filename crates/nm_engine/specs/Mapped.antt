@@ -1,0 +1,12 @@
+-- Areas, and the segments that they show.
+use Rattle.std.specs.Prelude.{ℕ}
+use Rattle.nm_types.specs.declared.area.Area.{Area}
+use Rattle.nm_types.specs.declared.area.Segment.{Segment}
+use Rattle.nm_types.specs.Map.{Map}
+
+-- the areas and the segments, and the number of the next segment
+pub record Mapped : Type 0 where
+  -- by pid and first page number
+  pub areas : Map (ℕ × ℕ) Area
+  pub segments : Map ℕ Segment
+  pub next : ℕ

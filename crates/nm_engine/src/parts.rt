@@ -1,0 +1,73 @@
+//! The parts of a machine.
+
+ghost use Rattle.std.specs.Prelude.{◌≡◌, ◌≤◌, ◌<◌, [], IfOk};
+ghost use Rattle.nm_types.specs.Layout.{node_count};
+ghost use Rattle.nm_types.specs.Nodes.{up_from};
+ghost use Rattle.nm_engine.specs.Effect.{new_machine};
+
+use crate::area_map::AreaMap;
+use crate::machine::Totals;
+use crate::stock::Stock;
+use crate::tasks::Tasks;
+use nm_types::{Geometry, NodeId, NodeMask};
+use std::alloc::{AllocError, Allocator};
+use std::marker::Model;
+
+/// All that calls change, also while pages of a run are on their way.
+#[derive(Drop)]
+pub(crate) struct Parts<A: Allocator + Copy> {
+    pub(crate) tasks: Tasks<A>,
+    pub(crate) areas: AreaMap<A>,
+    pub(crate) stock: Stock<A>,
+    pub(crate) online: NodeMask,
+    pub(crate) totals: Totals,
+    pub(crate) alloc: A,
+}
+
+impl<A: Allocator + Copy> Model for Parts<A> {
+    ghost use Rattle.nm_engine.specs.Parts.{shown};
+    ghost use Rattle.nm_engine.specs.Amid.{Amid, IsKept};
+
+    ghost Value = { Amid };
+
+    ghost view = { λ p. record {
+      state = shown p.tasks p.areas p.stock p.online p.totals.moved p.totals.failed;
+      left = p.stock.vacated;
+      room = p.stock.room;
+    } };
+
+    ghost invariant = { λ p. IsKept (shown p.tasks p.areas p.stock p.online p.totals.moved p.totals.failed) p.stock.vacated };
+}
+
+impl<A: Allocator + Copy> Parts<A> {
+    /// The parts of a machine of these nodes, all online, with every frame free and no process.
+    pub(crate) fn new(alloc: A, geometry: Geometry<A>) -> Result<Self, AllocError>
+        ensures state { IfOk result (λ parts. parts.state ≡ new_machine geometry) }
+        ensures left { IfOk result (λ parts. parts.left ≡ []) }
+    {
+        let online = all_nodes(geometry.node_count());
+        Ok(Parts {
+            tasks: Tasks::new(alloc),
+            areas: AreaMap::new(alloc),
+            stock: Stock::new(alloc, geometry)?,
+            online,
+            totals: Totals {
+                moved: 0,
+                failed: 0,
+            },
+            alloc,
+        })
+    }
+}
+
+/// The nodes below a count of at most 64.
+fn all_nodes(count: usize) -> NodeMask
+    requires { count ≤ 64 }
+    ensures { result ≡ up_from 0 count }
+{
+    let mut nodes = NodeMask::new();
+    for node in 0..count {
+        nodes.insert(NodeId::new(node as u32));
+    }
+    nodes
+}
