@@ -44,7 +44,7 @@ true_false e = cc
 
 -- ---- what areas cover
 
-covered_among : (areas : List Placed) (p : Page) → list_any (covers_page p) areas ≡ true → (a : Placed) × Among a areas × (covers_page p a ≡ true)
+pub covered_among : (areas : List Placed) (p : Page) → list_any (covers_page p) areas ≡ true → (a : Placed) × Among a areas × (covers_page p a ≡ true)
 covered_among [] p h = cc
 covered_among (x ∷ areas) p h =
     elim (covers_page p x) as (λ b. covers_page p x ≡ b → (b || list_any (covers_page p) areas) ≡ true → (a : Placed) × Among a (x ∷ areas) × (covers_page p a ≡ true)) [
@@ -58,10 +58,10 @@ among_any test (x ∷ areas) a (inl e) h = or_left _ _ (ap test (sym e) ∙ h)
 among_any test (x ∷ areas) a (inr m) h = or_right _ _ (among_any test areas a m h)
 
 -- the page number at which an area shows a page that it covers
-abbrev shown_number : Placed → Page → ℕ
+abbrev pub shown_number : Placed → Page → ℕ
 shown_number a p = a.0.1 + (p.index - a.1.page.index)
 
-covers_shown : (a : Placed) (p : Page) → covers_page p a ≡ true → (covers a a.0.0 (shown_number a p) ≡ true) × (page_of a (shown_number a p) ≡ p)
+pub covers_shown : (a : Placed) (p : Page) → covers_page p a ≡ true → (covers a a.0.0 (shown_number a p) ≡ true) × (page_of a (shown_number a p) ≡ p)
 covers_shown a p h =
     let both = and_parts (a.1.page.segment == p.segment) _ h in
     let range = and_parts (nat_le a.1.page.index p.index) (nat_lt p.index (a.1.page.index + a.1.pages)) both.1 in

@@ -28,3 +28,7 @@ pub mod Audits
 pub mod Touches
 pub mod Ranges
 pub mod Paces
+pub mod Painted
+pub mod Cut
+pub mod Repoliced
+pub mod Policed

@@ -37,17 +37,17 @@ spot_ranked a b r h =
 spot_before : (a b : ℕ × ℕ) → a.0 < b.0 → spot_cmp a b ≡ Less
 spot_before a b h = ap (λ r. ordering_then r (nat_cmp a.1 b.1)) (sym (nat_cmp_is a.0 b.0 Less h))
 
-spot_behind : (a b : ℕ × ℕ) → b.0 < a.0 → spot_cmp a b ≡ Greater
+pub spot_behind : (a b : ℕ × ℕ) → b.0 < a.0 → spot_cmp a b ≡ Greater
 spot_behind a b h = ap (λ r. ordering_then r (nat_cmp a.1 b.1)) (sym (nat_cmp_is a.0 b.0 Greater h))
 
-spot_same : (a b : ℕ × ℕ) → a.0 ≡ b.0 → spot_cmp a b ≡ nat_cmp a.1 b.1
+pub spot_same : (a b : ℕ × ℕ) → a.0 ≡ b.0 → spot_cmp a b ≡ nat_cmp a.1 b.1
 spot_same a b h = ap (λ r. ordering_then r (nat_cmp a.1 b.1)) (sym (nat_cmp_is a.0 b.0 Equal h))
 
 -- a spot and one that does not come before it
-abbrev UpTo : ℕ × ℕ → ℕ × ℕ → Type 0
+abbrev pub UpTo : ℕ × ℕ → ℕ × ℕ → Type 0
 UpTo a b = (a.0 < b.0) ⊎ ((a.0 ≡ b.0) × (a.1 ≤ b.1))
 
-up_to : (a b : ℕ × ℕ) → is_gt (spot_cmp a b) ≡ false → UpTo a b
+pub up_to : (a b : ℕ × ℕ) → is_gt (spot_cmp a b) ≡ false → UpTo a b
 up_to a b h =
     elim (spot_ranked a b (spot_cmp a b) refl) as (λ _. UpTo a b) [
       | inl k ↦ inl k
@@ -64,7 +64,7 @@ up_to a b h =
       ]
     ]
 
-from_up_to : (a b : ℕ × ℕ) → a.0 ≡ b.0 → a.1 ≤ b.1 → is_gt (spot_cmp a b) ≡ false
+pub from_up_to : (a b : ℕ × ℕ) → a.0 ≡ b.0 → a.1 ≤ b.1 → is_gt (spot_cmp a b) ≡ false
 from_up_to a b e l =
     ap is_gt (spot_same a b e)
     ∙ elim (nat_cmp a.1 b.1) as (λ r. r ≡ nat_cmp a.1 b.1 → is_gt r ≡ false) [

@@ -93,14 +93,14 @@ module _ (pid first end : ℕ) (range : first ≤ end) where
       parts_of_two a from.0 b c (All-among (Apart a) areas from.0 h.0 from.1) (part_of pid first end a some.0 b m)
       (part_of pid first end from.0 (All-among (λ x. 0 < x.1.pages) areas from.0 some.1 from.1) c from.2))
 
-less_from : (a b : ℕ × ℕ) → (a.0 < b.0) ⊎ ((a.0 ≡ b.0) × (a.1 < b.1)) → spot_cmp a b ≡ Less
+pub less_from : (a b : ℕ × ℕ) → (a.0 < b.0) ⊎ ((a.0 ≡ b.0) × (a.1 < b.1)) → spot_cmp a b ≡ Less
 less_from a b (inl h) = ap (λ r. ordering_then r (nat_cmp a.1 b.1)) (sym (nat_cmp_is a.0 b.0 Less h))
 less_from a b (inr h) = ap (λ r. ordering_then r (nat_cmp a.1 b.1)) (sym (nat_cmp_is a.0 b.0 Equal h.0)) ∙ sym (nat_cmp_is a.1 b.1 Less h.1)
 
 greater_less : Greater ≡ Less → ⊥
 greater_less e = cc
 
-less_to : (a b : ℕ × ℕ) → spot_cmp a b ≡ Less → (a.0 < b.0) ⊎ ((a.0 ≡ b.0) × (a.1 < b.1))
+pub less_to : (a b : ℕ × ℕ) → spot_cmp a b ≡ Less → (a.0 < b.0) ⊎ ((a.0 ≡ b.0) × (a.1 < b.1))
 less_to a b h =
     elim (nat_cmp a.0 b.0) as (λ r. r ≡ nat_cmp a.0 b.0 → ordering_then r (nat_cmp a.1 b.1) ≡ Less → (a.0 < b.0) ⊎ ((a.0 ≡ b.0) × (a.1 < b.1))) [
       | Less ↦ λ r k. inl (ranked a.0 b.0 Less r)
@@ -112,7 +112,7 @@ keys_from_among : (P : ℕ × ℕ → Type 0) (areas : List Placed) → ((a : Pl
 keys_from_among P [] h = tt
 keys_from_among P (x ∷ areas) h = (h x (inl refl), keys_from_among P areas (λ a m. h a (inr m)))
 
-among_keys : (P : ℕ × ℕ → Type 0) (areas : List Placed) (a : Placed) → AllByRecursion P (keys_of areas) → Among a areas → P a.0
+pub among_keys : (P : ℕ × ℕ → Type 0) (areas : List Placed) (a : Placed) → AllByRecursion P (keys_of areas) → Among a areas → P a.0
 among_keys P [] a h m = absurd m
 among_keys P (x ∷ areas) a h (inl e) = subst (λ (y : Placed). P y.0) (sym e) h.0
 among_keys P (x ∷ areas) a h (inr m) = among_keys P areas a h.1 m

@@ -6,7 +6,8 @@ use Rattle.std.specs.Map.{keys_of}
 use Rattle.std.specs.Ordering.{nat_cmp}
 use Rattle.nm_types.specs.Map.{set, page_cmp}
 use Rattle.nm_types.specs.Layout.{Layout}
-use Rattle.nm_types.specs.State.{State, free_list}
+use Rattle.nm_types.specs.declared.area.Policy.{Policy}
+use Rattle.nm_types.specs.State.{State, page_at, free_list}
 use Rattle.nm_runs.specs.declared.Wanted.{Wanted}
 use Rattle.nm_runs.specs.declared.Wanted.TheVariants.{At as Spot, Whole}
 use Rattle.nm_runs.specs.Cut.{Request}
@@ -19,6 +20,7 @@ use Rattle.nm_engine.specs.Run.{Progress, each, with_all_free, run}
 use Rattle.nm_engine.specs.Batch.{batch}
 use Rattle.nm_engine.specs.Effect.{new_machine, spawn, map_new, attach, pin, unpin, unmap, exit}
 use Rattle.nm_engine.specs.Refused.{spawn_refusal, map_refusal, attach_refusal}
+use Rattle.nm_engine.specs.Policing.{set_policy}
 use Rattle.nm_engine.specs.Sound.{OwnsItsFree, IsSoundAmid, IsSound}
 
 -- a look that counts the processes tells what is to be done with a request
@@ -43,6 +45,13 @@ abbrev pub ReadingKeepsMemory : Type 0
 ReadingKeepsMemory =
     (s : State) (left : List ℕ) (pid address len q at : ℕ) →
     IsSoundAmid s left → mem (read s pid address len).state q at ≡ mem s q at
+
+-- and another policy changes no page that an area shows, and no byte
+abbrev pub PolicyKeepsMemory : Type 0
+PolicyKeepsMemory =
+    (s : State) (pid address len : ℕ) (policy : Policy) (q v at : ℕ) → IsSound s →
+    let t = set_policy s pid address len policy in
+    (page_at t.areas q v ≡ page_at s.areas q v) × (mem t q at ≡ mem s q at)
 
 -- whether a request moves a page that other processes see
 abbrev pub moves_all : Wanted → Bool
@@ -114,6 +123,11 @@ AttachIsSound =
 -- .. and pins
 abbrev pub PinIsSound : Type 0
 PinIsSound = (s : State) (pid address : ℕ) → IsSound s → IsSound (pin s pid address) × IsSound (unpin s pid address)
+
+-- .. and another policy of a range
+abbrev pub PolicyIsSound : Type 0
+PolicyIsSound =
+    (s : State) (pid address len : ℕ) (policy : Policy) → IsSound s → IsSound (set_policy s pid address len policy)
 
 -- .. and so do those that let areas and processes go
 abbrev pub UnmapIsSound : Type 0

@@ -31,3 +31,5 @@ pub mod Amid
 pub mod Does
 pub mod Entries
 pub mod Audited
+pub mod Policing
+pub mod Setting

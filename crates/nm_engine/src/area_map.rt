@@ -17,7 +17,7 @@ use std::marker::Model;
 /// The areas by process and first page number, the segments by number, and the number of the next segment.
 #[derive(Drop)]
 pub(crate) struct AreaMap<A: Allocator + Copy> {
-    areas: BTreeMap<(Pid, Vpn), Area, A>,
+    pub(crate) areas: BTreeMap<(Pid, Vpn), Area, A>,
     segments: BTreeMap<u32, Segment, A>,
     next_segment: u32,
 }

@@ -1,17 +1,19 @@
 //! Laws over the definitions alone, and worked examples.
 
-ghost use Rattle.nm_engine.specs.Laws.{DecidingKeepsMemory, FreeingKeepsMemory, ReadingKeepsMemory, LooksSuffice, PlanIsOneByOne, AccessIsSound, RunIsSound, BatchIsSound, NewIsSound, SpawnIsSound, MapIsSound, AttachIsSound, PinIsSound, UnmapIsSound, ExitIsSound};
+ghost use Rattle.nm_engine.specs.Laws.{DecidingKeepsMemory, FreeingKeepsMemory, ReadingKeepsMemory, PolicyKeepsMemory, LooksSuffice, PlanIsOneByOne, AccessIsSound, RunIsSound, BatchIsSound, NewIsSound, SpawnIsSound, MapIsSound, AttachIsSound, PinIsSound, PolicyIsSound, UnmapIsSound, ExitIsSound};
 ghost use Rattle.nm_engine.specs.Starts.{StartsAreSound};
 ghost use Rattle.nm_engine.specs.Moving.{ThreePagesMove, MovedPageReads, EmptyBatchDoesNothing, OnePageTwiceMovesOnce, ShortageStopsTwoOfFour, LaterRunTakesFrameOfEarlier, EarlierRunFindsNone, PageGoesAndComesHome};
 ghost use Rattle.nm_engine.specs.Sharing.{TwoAddressesAreOneProcess, SharedPageStays, SharedPageIsOnTarget, SharedPageMovesForBoth};
 ghost use Rattle.nm_engine.specs.Letting.{OnlyTheMovingPageIsHeld, EachHasItsStatus, PinnedPageKeepsItsArea, UnmappedPagesAreFree, LastAreaFreesThePage};
+ghost use Rattle.nm_engine.specs.Setting.{MiddlePageIsSplitOff, NewPagesFollowThePolicy, LengthsRoundUp, AreasAreNotMerged, OthersKeepTheirAreas, RangesAreRefused};
 ghost use Rattle.nm_engine.specs.Deciding.{NodesAreOrderedByDistance, PolicyOrdersTheNodes, PlanResolvesRepeats, PlanWithoutFrames, PlanWithoutRequests, PairsLeaveRoomFirst, EachPageMigratesOnce};
 
-/// No move changes a byte that a process reads, and no read does.
+/// No move changes a byte that a process reads, and no read and no policy does.
 pub fn mem_stays()
     ensures decided { DecidingKeepsMemory }
     ensures freed { FreeingKeepsMemory }
     ensures read { ReadingKeepsMemory }
+    ensures policies { PolicyKeepsMemory }
 {}
 
 /// A look at a page number of a process, which counts the processes that see the page, tells what is to be done with a
@@ -39,6 +41,7 @@ pub fn calls_keep_soundness()
     ensures map { MapIsSound }
     ensures attach { AttachIsSound }
     ensures pin { PinIsSound }
+    ensures policies { PolicyIsSound }
     ensures unmap { UnmapIsSound }
     ensures exit { ExitIsSound }
 {}
@@ -79,6 +82,16 @@ pub fn pages_live_while_covered()
     ensures pinned_page_keeps_its_area { PinnedPageKeepsItsArea }
     ensures unmapped_pages_are_free { UnmappedPagesAreFree }
     ensures last_area_frees_the_page { LastAreaFreesThePage }
+{}
+
+/// Worked examples of policies that are set for a range of addresses.
+pub fn policies_split_areas()
+    ensures middle_page_is_split_off { MiddlePageIsSplitOff }
+    ensures new_pages_follow_the_policy { NewPagesFollowThePolicy }
+    ensures lengths_round_up { LengthsRoundUp }
+    ensures areas_are_not_merged { AreasAreNotMerged }
+    ensures others_keep_their_areas { OthersKeepTheirAreas }
+    ensures ranges_are_refused { RangesAreRefused }
 {}
 
 /// Worked examples of the orders in which nodes are tried.

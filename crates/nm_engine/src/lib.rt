@@ -10,6 +10,7 @@ mod machine;
 mod machine_error;
 mod moving;
 mod parts;
+mod policing;
 mod process;
 mod stock;
 mod tasks;

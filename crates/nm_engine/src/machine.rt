@@ -11,6 +11,7 @@ ghost use Rattle.nm_engine.specs.Touch.{Bytes, Done, read, write};
 ghost use Rattle.nm_engine.specs.Run.{run};
 ghost use Rattle.nm_engine.specs.Effect.{new_machine, spawn, map_new};
 ghost use Rattle.nm_engine.specs.Refused.{spawn_refusal, map_refusal, list_refusal, entries_refusal};
+ghost use Rattle.nm_engine.specs.Policing.{policy_refusal, set_policy};
 ghost use Rattle.nm_engine.specs.Entries.{entries_of};
 ghost use Rattle.nm_engine.specs.Audited.{audited};
 ghost use Rattle.nm_engine.specs.Sound.{IsSound};
@@ -21,7 +22,7 @@ use crate::machine_error::MachineError;
 use crate::parts::Parts;
 use crate::process::ProcessInfo;
 use nm_runs::Run;
-use nm_types::{FrameId, Geometry, NodeId, NodeMask, Pid, Vpn};
+use nm_types::{FrameId, Geometry, NodeId, NodeMask, Pid, Policy, Vpn};
 use std::alloc::{AllocError, Allocator};
 use std::marker::Model;
 
@@ -126,6 +127,22 @@ impl<A: Allocator + Copy + Send + Sync> Machine<A> {
         ensures number { IfOk result (λ number. number ≡ self.old.next_segment) }
     {
         self.parts.map(pid, addr, pages)
+    }
+
+    /// Sets where the new pages of `len` bytes from an address on are placed, rounded up to whole pages, as `mbind(2)`
+    /// does. The areas of the process are split at both ends of the range, and never merged; no page moves. ESRCH without
+    /// such a process; EINVAL for an address that is no multiple of 4,096, or a range that ends past 2^64 - 1; then a `len`
+    /// of 0 changes nothing; EFAULT where a page of the range has no area. An error means that the machine is as it was.
+    pub fn set_policy(
+        &mut self,
+        pid: Pid,
+        addr: u64,
+        len: u64,
+        policy: Policy,
+    ) -> Result<(), MachineError>
+        ensures { Makes result self.old self.new (policy_refusal self.old pid addr len) (set_policy self.old pid addr len policy) }
+    {
+        self.parts.set_policy(pid, addr, len, policy)
     }
 
     /// Reads 1 to 4,096 bytes inside one page. Memory that nobody wrote reads as zeros. ESRCH without such a process;

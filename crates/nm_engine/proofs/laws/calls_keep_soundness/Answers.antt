@@ -1,6 +1,8 @@
+use Rattle.std.proofs.Common.{[]}
 use Rattle.nm_engine.proofs.New.{new_sound}
 use Rattle.nm_engine.proofs.Called.{spawn_sound, map_sound, attach_sound, pin_sound}
 use Rattle.nm_engine.proofs.Dropped.{unmap_sound, exit_sound}
+use Rattle.nm_engine.proofs.Policed.{policy_sound}
 use Rattle.nm_engine.proofs.laws.calls_keep_soundness.Goals as goal
 
 pub returns-clause-new : goal.returns-clause-new
@@ -23,3 +25,6 @@ returns-clause-unmap c = unmap_sound
 
 pub returns-clause-exit : goal.returns-clause-exit
 returns-clause-exit c = λ s pid h. exit_sound s h pid
+
+pub returns-clause-policies : goal.returns-clause-policies
+returns-clause-policies c = λ s pid address len policy h. policy_sound s [] pid address len policy h

@@ -1,5 +1,7 @@
+use Rattle.std.proofs.Common.{[]}
 use Rattle.nm_engine.proofs.Memory.{each_keeps, frees_keep}
 use Rattle.nm_engine.proofs.Touched.{reading_keeps}
+use Rattle.nm_engine.proofs.Policed.{policy_shows, policy_keeps}
 use Rattle.nm_engine.proofs.laws.mem_stays.Goals as goal
 
 pub returns-clause-decided : goal.returns-clause-decided
@@ -10,3 +12,7 @@ returns-clause-freed c = λ s frames. frees_keep frames s
 
 pub returns-clause-read : goal.returns-clause-read
 returns-clause-read c = λ s left pid address len q at h. reading_keeps s left pid address len h q at
+
+pub returns-clause-policies : goal.returns-clause-policies
+returns-clause-policies c = λ s pid address len policy q v at h.
+    (policy_shows s [] pid address len policy q v h, policy_keeps s [] pid address len policy q at h)
