@@ -2,3 +2,4 @@ pub mod Calls
 pub mod Errors
 pub mod Entries
 pub mod Moving
+pub mod Does

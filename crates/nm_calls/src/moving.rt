@@ -4,6 +4,7 @@ ghost use Rattle.std.specs.Prelude.{◌≡◌, ◌<◌, ◌≤◌, EachIndex, If
 ghost use Rattle.nm_types.specs.Layout.{node_count};
 ghost use Rattle.nm_types.specs.Nodes.{is_in};
 ghost use Rattle.nm_calls.specs.Moving.{failures, same_front, wanted_at, IsNodeRefusal};
+ghost use Rattle.nm_calls.specs.Does.{Checks, node_refusal, first_refusal, IsFirst};
 
 use nm_engine::Machine;
 use nm_runs::{Run, Wanted};
@@ -32,6 +33,7 @@ fn check_node<A: Allocator + Copy + Send + Sync>(
     ensures access { IfErr result (λ errno. errno ≡ Errno.Eacces
         → (node < node_count (machine.now.layout)) × (is_in allowed node ≡ false)) }
     ensures device { IfErr result (λ errno. node_count (machine.now.layout) ≤ node → errno ≡ Errno.Enodev) }
+    ensures exact { Checks result (node_refusal machine.now allowed node) }
 {
     if node.index() >= machine.node_count() || !machine.is_online(node) {
         return Err(Errno::Enodev);
@@ -52,6 +54,7 @@ pub(crate) fn check_nodes<A: Allocator + Copy + Send + Sync>(
     ensures nodes { OnOk result (EachIndex nodes.now (λ k. slice_index nodes.now k < node_count (machine.now.layout))) }
     ensures allowed { OnOk result (EachIndex nodes.now (λ k. is_in allowed (slice_index nodes.now k) ≡ true)) }
     ensures refused { IfErr result IsNodeRefusal }
+    ensures exact { Checks result (first_refusal machine.now allowed nodes.now) }
 {
     for node in nodes {
         check_node(machine, allowed, NodeId::new(*node))?;
@@ -101,6 +104,7 @@ pub(crate) fn first_run<A: Allocator + Copy + Send + Sync>(
     ensures wanted { IfOk result (λ run. run.wanted.items ≡ wanted_at pid all (take (same_front nodes.now) pages.now)) }
     ensures some { IfOk result (λ run. 0 < length run.wanted.items) }
     ensures within { IfOk result (λ run. length run.wanted.items ≤ length pages.now) }
+    ensures first { IfOk result (λ run. IsFirst pid all pages.now nodes.now run.target run.wanted.items) }
 {
     let count = same_front(nodes);
     Ok(Run {

@@ -1,10 +1,16 @@
 //! The machine, and the calls that processes make on it.
 
-ghost use Rattle.std.specs.Prelude.{◌≡◌, ℕ, ◌≤◌, ◌<◌, ◌==◌, ◌||◌, [], EachIndex, slice_index, IsTrue, IfOk, OnOk, IfErr, length, vec_capacity};
+ghost use Rattle.std.specs.Prelude.{◌≡◌, ℕ, ◌≤◌, ◌<◌, ◌==◌, ◌||◌, false, [], EachIndex, slice_index, IsTrue, IfOk, OnOk, IfErr, None, length, vec_capacity};
 ghost use Rattle.nm_types.specs.Layout.{node_count};
+ghost use Rattle.nm_types.specs.State.{free_list};
+ghost use Rattle.nm_engine.specs.Touch.{Bytes, Done, read, write};
+ghost use Rattle.nm_engine.specs.Effect.{new_machine, spawn, map_new};
+ghost use Rattle.nm_engine.specs.Refused.{spawn_refusal, map_refusal, list_refusal, entries_refusal};
+ghost use Rattle.nm_engine.specs.Entries.{entries_of};
 ghost use Rattle.nm_calls.specs.Errors.{IsBeforeRuns, out_of_memory};
 ghost use Rattle.nm_calls.specs.Entries.{entries_mapped, entries_shown};
 ghost use Rattle.nm_calls.specs.Moving.{failures, MoveFails};
+ghost use Rattle.nm_calls.specs.Does.{Makes, Tells, Accesses, Moves, move_refusal, owner_of, requests_of};
 
 use crate::call_error::CallError;
 use crate::moving::{Moved, check_nodes, failures, first_run};
@@ -50,7 +56,8 @@ pub struct System<A: Allocator + Copy + Send + Sync> {
 impl<A: Allocator + Copy + Send + Sync> System<A> {
     /// A new machine: no process, every node online, every frame free and its list in ascending order.
     pub fn new(alloc: A, geometry: Geometry<A>) -> Result<Self, AllocError>
-        ensures { IfOk result (λ system. system.machine.layout ≡ geometry) }
+        ensures layout { IfOk result (λ system. system.machine.layout ≡ geometry) }
+        ensures machine { IfOk result (λ system. system.machine ≡ new_machine geometry) }
     {
         Ok(System {
             machine: Machine::new(alloc, geometry)?,
@@ -68,7 +75,8 @@ impl<A: Allocator + Copy + Send + Sync> System<A> {
         allowed: NodeMask,
         privileged: bool,
     ) -> Result<(), CallError>
-        ensures { IfErr result IsBeforeRuns }
+        ensures fails { IfErr result IsBeforeRuns }
+        ensures makes { Makes result self.old.machine self.new.machine (spawn_refusal self.old.machine pid home allowed) (spawn self.old.machine pid uid home allowed privileged) }
     {
         Ok(self.machine.spawn(pid, uid, home, allowed, privileged)?)
     }
@@ -76,7 +84,9 @@ impl<A: Allocator + Copy + Send + Sync> System<A> {
     /// Makes an area of so many pages and answers its segment's number. Refusals in order: ESRCH; EINVAL (an address in
     /// mid-page, no page, past 2^47, an area there); ENOMEM (no segment number left).
     pub fn map(&mut self, pid: Pid, addr: u64, pages: u64) -> Result<u32, CallError>
-        ensures { IfErr result IsBeforeRuns }
+        ensures fails { IfErr result IsBeforeRuns }
+        ensures makes { Makes result self.old.machine self.new.machine (map_refusal self.old.machine pid addr pages) (map_new self.old.machine pid addr pages false) }
+        ensures number { IfOk result (λ number. number ≡ self.old.machine.next_segment) }
     {
         Ok(self.machine.map(pid, addr, pages)?)
     }
@@ -86,13 +96,15 @@ impl<A: Allocator + Copy + Send + Sync> System<A> {
     pub fn read(&mut self, pid: Pid, addr: u64, len: u64) -> Result<Vec<u8, A>, CallError>
         ensures length { IfOk result (λ bytes. length bytes.items ≡ len) }
         ensures fails { IfErr result IsBeforeRuns }
+        ensures accesses { Accesses result (λ bytes. Bytes bytes.items) self.old.machine self.new.machine (read self.old.machine pid addr len) }
     {
         Ok(self.machine.read(pid, addr, len)?)
     }
 
     /// Writes 1 to 4,096 bytes inside one page. Refusals as for `read`.
     pub fn write(&mut self, pid: Pid, addr: u64, bytes: &[u8]) -> Result<(), CallError>
-        ensures { IfErr result IsBeforeRuns }
+        ensures fails { IfErr result IsBeforeRuns }
+        ensures accesses { Accesses result (λ done. Done) self.old.machine self.new.machine (write self.old.machine pid addr bytes.now) }
     {
         Ok(self.machine.write(pid, addr, bytes)?)
     }
@@ -120,6 +132,7 @@ impl<A: Allocator + Copy + Send + Sync> System<A> {
         ensures each { IfOk result (λ moved. length moved.statuses.items ≡ length pages.now) }
         ensures failed { IfOk result (λ moved. moved.failed ≡ failures moved.statuses.items) }
         ensures fails { IfErr result (MoveFails self.old self.new) }
+        ensures moves { Moves result self.old.machine self.new.machine (move_refusal self.old.machine caller nodes.now) (requests_of (owner_of caller pid) false pages.now nodes.now) }
     {
         let Some(process) = self.machine.process(caller) else {
             return Err(CallError::Refused(Errno::Esrch));
@@ -151,6 +164,7 @@ impl<A: Allocator + Copy + Send + Sync> System<A> {
         ensures each { IfOk result (λ moved. length moved.statuses.items ≡ length pages.now) }
         ensures failed { IfOk result (λ moved. moved.failed ≡ failures moved.statuses.items) }
         ensures memory { IfErr result (λ e. (runs : ℕ) × (e ≡ out_of_memory runs)) }
+        ensures moves { Moves result self.old.machine self.new.machine None (requests_of pid all pages.now nodes.now) }
     {
         let mut runs = 0;
         let mut at = 0;
@@ -179,14 +193,16 @@ impl<A: Allocator + Copy + Send + Sync> System<A> {
 
     /// The free frames of a node, the front first. Refusal: EINVAL (no such node).
     pub fn free_list(&self, node: NodeId) -> Result<Vec<FrameId, A>, CallError>
-        ensures { IfErr result IsBeforeRuns }
+        ensures fails { IfErr result IsBeforeRuns }
+        ensures tells { Tells result (list_refusal self.now.machine node) (λ frames. frames.items ≡ free_list self.now.machine node) }
     {
         Ok(self.machine.free_list(node)?)
     }
 
     /// The entries of a process by address: the frame of each, or the page of zeros. Refusal: ESRCH.
     pub fn pagemap(&self, pid: Pid) -> Result<Vec<Mapped, A>, CallError>
-        ensures { IfErr result IsBeforeRuns }
+        ensures fails { IfErr result IsBeforeRuns }
+        ensures tells { Tells result (entries_refusal self.now.machine pid) (λ mapped. entries_mapped mapped.items ≡ entries_shown (entries_of self.now.machine pid)) }
     {
         let entries = self.machine.entries(pid)?;
         Ok(mapped_of(self.alloc, entries.as_slice())?)

@@ -1,5 +1,7 @@
+ghost use Rattle.std.specs.Prelude.{◌≤◌};
+
 use crate::{Entry, Machine, MachineError, Run, Totals, Wanted};
-use nm_types::{Errno, FrameId, Geometry, NodeId, NodeMask, Pid, Vpn};
+use nm_types::{Errno, FrameId, Geometry, NodeId, NodeMask, Pid, Policy, Vpn};
 use std::alloc::{AllocError, Global};
 use std::test::Fail;
 
@@ -122,5 +124,54 @@ fn processes_are_known(rt: HostRuntime) -> Result<(), Fail> {
     assert!(rt; !machine.is_online(NodeId::new(2)));
     let refused = machine.map(Pid::new(2), 0x10000, 1);
     assert_eq!(rt; refused.err(), Some(MachineError::Refused(Errno::Esrch)));
+    Ok(())
+}
+
+/// Process 1 has an area of so many pages from 0x10000 on, with a policy.
+fn area_with(alloc: Global, pages: u64, policy: Policy) -> Result<Machine<Global>, Fail>
+    requires { pages ≤ 16 }
+{
+    let mut machine = two_nodes(alloc)?;
+    machine.map(Pid::new(1), 0x10000, pages)?;
+    machine.set_policy(Pid::new(1), 0x10000, pages * 4096, policy)?;
+    Ok(machine)
+}
+
+/// Writes a byte into each of so many pages.
+fn write_each(machine: &mut Machine<Global>, pages: u64) -> Result<(), MachineError>
+    requires { pages ≤ 16 }
+{
+    for page in 0..pages {
+        machine.write(Pid::new(1), 0x10000 + page * 4096, &[0x61])?;
+    }
+    Ok(())
+}
+
+/// Whether process 1 has its pages from 0x10000 on in these frames.
+fn are_in(machine: &Machine<Global>, frames: &[u32]) -> Result<bool, MachineError> {
+    let entries = machine.entries(Pid::new(1))?;
+    let mut same = entries.len() == frames.len();
+    for (k, (_, entry)) in entries.iter().enumerate() {
+        let frame = frames.get(k).copied().unwrap_or(0);
+        same = same && *entry == Entry::Frame(FrameId::new(frame));
+    }
+    Ok(same)
+}
+
+#[test]
+fn interleaved_pages_take_turns(rt: HostRuntime) -> Result<(), Fail> {
+    let mut machine = area_with(rt.alloc(), 4, Policy::Interleave(mask(&[0, 1])))?;
+    write_each(&mut machine, 4)?;
+    assert!(rt; are_in(&machine, &[0, 4, 1, 5])?);
+    Ok(())
+}
+
+#[test]
+fn bound_pages_have_no_fallback(rt: HostRuntime) -> Result<(), Fail> {
+    let mut machine = area_with(rt.alloc(), 5, Policy::Bind(mask(&[1])))?;
+    write_each(&mut machine, 4)?;
+    assert!(rt; are_in(&machine, &[4, 5, 6, 7])?);
+    let fifth = machine.write(Pid::new(1), 0x14000, &[0x61]);
+    assert_eq!(rt; fifth.err(), Some(MachineError::Refused(Errno::Enomem)));
     Ok(())
 }
