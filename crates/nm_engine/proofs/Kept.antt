@@ -5,10 +5,9 @@ use Rattle.std.specs.Option.{is_some, unwrap_or, option_map}
 use Rattle.std.specs.List.{AllByRecursion, list_any, slice_get}
 use Rattle.std.proofs.lemmas.Bool.{false_from_ne_true, eqb-true, lt-leb}
 use Rattle.std.specs.Ordering.{nat_cmp, match_ordering}
-use Rattle.std.specs.declared.cmp.Ordering.TheVariants.{Less, Equal, Greater}
+use Rattle.std.specs.declared.cmp.Ordering.TheVariants.{Greater}
 use Rattle.std.specs.Cmp.{nat_cmp_is}
 use Rattle.std.specs.BTreeSet.{insert_key}
-use Rattle.nm_types.specs.declared.area.Area.{Area}
 use Rattle.nm_types.specs.declared.area.Segment.{Segment}
 use Rattle.nm_types.specs.declared.page.Page.{Page}
 use Rattle.nm_types.specs.declared.errno.Errno.TheVariants.{Esrch, Einval, Enomem}
@@ -16,19 +15,19 @@ use Rattle.nm_types.specs.declared.sight.Sight.{Sight}
 use Rattle.nm_types.specs.Map.{Map, get, set, spot_cmp, with_values}
 use Rattle.nm_types.specs.Layout.{Layout, node_count}
 use Rattle.nm_types.specs.Nodes.{up_from}
-use Rattle.nm_types.specs.State.{Process, State, Placed}
+use Rattle.nm_types.specs.State.{Process, State}
 use Rattle.nm_engine.specs.Effect.{spawn, map_new, new_machine, all_frames}
 use Rattle.nm_engine.specs.declared.entry.Entry.{Entry}
 use Rattle.nm_engine.specs.Entries.{entry_of}
 use Rattle.nm_engine.specs.Refused.{first_error, is_unknown, spawn_refusal, map_refusal, list_refusal}
 use Rattle.nm_engine.specs.declared.process.ProcessInfo.{ProcessInfo}
-use Rattle.nm_engine.specs.Sound.{IsSoundAmid, IsSound, IsWhole}
+use Rattle.nm_engine.specs.Sound.{IsSoundAmid, IsSound}
 use Rattle.nm_engine.specs.Mapped.{Mapped}
 use Rattle.nm_engine.specs.Stocked.{Stocked}
 use Rattle.nm_engine.specs.Parts.{AllPrivate, shown}
 use Rattle.nm_engine.specs.Amid.{HasIndices, IsKept}
 use Rattle.nm_engine.specs.Tables.{private_area, info_of}
-use Rattle.nm_engine.proofs.Areas.{all_then, each_set}
+use Rattle.nm_engine.proofs.Areas.{each_set}
 use Rattle.nm_engine.proofs.Keys.{All-set}
 use Rattle.nm_engine.proofs.Called.{spawn_sound, map_sound}
 use Rattle.nm_engine.proofs.New.{new_sound}

@@ -1,4 +1,4 @@
-use Rattle.std.proofs.Common.{◌≡◌, ◌+◌, ◌++◌, ◌-◌, replicate, vec_len, vec_capacity, length}
+use Rattle.std.proofs.Common.{◌≡◌, ◌++◌, replicate, vec_capacity}
 use Rattle.nm_engine.proofs.touch.push_zeros.Given as goal
 
 abbrev pub invariant-loop : goal.invariant-loop

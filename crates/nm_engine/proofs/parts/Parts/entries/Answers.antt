@@ -1,10 +1,7 @@
-use Rattle.std.proofs.Common.{◌≡◌, ℕ, [], ap, subst, ◌∙◌}
-use Rattle.std.specs.Prelude.{Some, None, not, if◌then◌else◌}
-use Rattle.std.specs.Option.{is_some}
+use Rattle.std.proofs.Common.{◌≡◌, ℕ, subst}
+use Rattle.std.specs.Prelude.{None}
 use Rattle.std.specs.Ordering.{nat_cmp}
-use Rattle.nm_types.specs.declared.errno.Errno.TheVariants.{Esrch}
 use Rattle.nm_types.specs.Map.{Map, get}
-use Rattle.nm_types.specs.State.{State}
 use Rattle.nm_engine.specs.declared.entry.Entry.{Entry}
 use Rattle.nm_engine.specs.Entries.{entries_of}
 use Rattle.nm_engine.specs.Refused.{entries_refusal}

@@ -1,9 +1,9 @@
-use Rattle.std.proofs.Common.{◌≡◌, ℕ, ◌<◌, ◌∙◌, refl, sym, ap, subst, length, Some, None, IsSome, Ok}
+use Rattle.std.proofs.Common.{◌≡◌, ℕ, ◌<◌, ◌∙◌, refl, sym, ap, subst, Some, None, IsSome, Ok}
 use Rattle.std.specs.Prelude.{Option}
 use Rattle.nm_types.specs.declared.page.Page.{Page}
 use Rattle.std.specs.Ordering.{nat_cmp}
 use Rattle.nm_types.specs.Map.{Map, get, page_cmp}
-use Rattle.nm_types.specs.State.{Process, State}
+use Rattle.nm_types.specs.State.{Process}
 use Rattle.nm_types.specs.declared.sight.Sight.TheVariants.{Sees}
 use Rattle.nm_runs.specs.Seen.{sight_at}
 use Rattle.nm_policy.specs.Order.{first_touch_order}
@@ -13,7 +13,7 @@ use Rattle.nm_engine.specs.Parts.{shown}
 use Rattle.nm_engine.proofs.Tabled.{seeing_found}
 use Rattle.nm_engine.specs.Amid.{Amid, IsKept, IsTouched, spot_at}
 use Rattle.nm_engine.specs.Seeing.{frame_of}
-use Rattle.nm_engine.proofs.Touches.{inside, found_free, short_list, seen_kept, sees_now, filled_shows, filled_kept, filled_is, seen_again, get_set_same}
+use Rattle.nm_engine.proofs.Touches.{inside, found_free, short_list, sees_now, filled_shows, filled_kept, filled_is, seen_again, get_set_same}
 use Rattle.nm_engine.proofs.parts.Parts.fill.Goals as goal
 
 pub allocate-requires-clause-some_free : goal.allocate-requires-clause-some_free

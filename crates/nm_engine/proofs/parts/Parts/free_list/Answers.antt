@@ -1,6 +1,6 @@
-use Rattle.std.proofs.Common.{◌≡◌, arith, ℕ, List, [], ap, subst, ◌∙◌}
-use Rattle.std.specs.Prelude.{Some, None}
-use Rattle.nm_types.specs.State.{State, free_list}
+use Rattle.std.proofs.Common.{◌≡◌, arith, ℕ, List, ap, subst, ◌∙◌}
+use Rattle.std.specs.Prelude.{None}
+use Rattle.nm_types.specs.State.{free_list}
 use Rattle.nm_engine.specs.Refused.{list_refusal}
 use Rattle.nm_engine.specs.Amid.{Amid}
 use Rattle.nm_engine.proofs.Kept.{seen, list_fine}

@@ -1,18 +1,15 @@
-use Rattle.std.proofs.Common.{◌≡◌, ℕ, ◌<◌, ◌∙◌, refl, sym, ap, subst, length, Some, None, IsSome, Ok}
+use Rattle.std.proofs.Common.{◌≡◌, ℕ, ◌∙◌, refl, sym, ap, subst, Some, None, IsSome, Ok}
 use Rattle.std.specs.Prelude.{Option}
-use Rattle.std.specs.Ordering.{nat_cmp}
 use Rattle.nm_types.specs.declared.page.Page.{Page}
-use Rattle.nm_types.specs.declared.sight.Sight.{Sight}
-use Rattle.nm_types.specs.declared.sight.Sight.TheVariants.{Sees, ZeroPage}
+use Rattle.nm_types.specs.declared.sight.Sight.TheVariants.{Sees}
 use Rattle.nm_types.specs.Map.{Map, get, page_cmp}
-use Rattle.nm_types.specs.State.{Process, State}
+use Rattle.nm_types.specs.State.{Process}
 use Rattle.nm_runs.specs.Seen.{sight_at}
 use Rattle.nm_engine.specs.Touch.{joined, with_sight}
 use Rattle.nm_engine.specs.Parts.{shown}
-use Rattle.nm_engine.specs.Amid.{Amid, IsKept, IsTouched, spot_at}
+use Rattle.nm_engine.specs.Amid.{Amid, IsTouched, spot_at}
 use Rattle.nm_engine.specs.Seeing.{frame_of}
-use Rattle.nm_engine.proofs.Touches.{inside, none_sees, zero_sees, spot_there, sight_is, seen_kept, sees_now, private_here}
-use Rattle.nm_engine.proofs.Sights.{page_at_spot}
+use Rattle.nm_engine.proofs.Touches.{inside, none_sees, seen_kept, sees_now}
 use Rattle.nm_engine.proofs.parts.Parts.join.Goals as goal
 
 pub invariant_of-self-2 : goal.invariant_of-self-2

@@ -1,6 +1,5 @@
-use Rattle.std.proofs.Common.{rules, ◌≡◌, [], refl, ap, ◌∙◌, arith, ◌+◌, ◌/◌, ◌≤◌, ◌^◌}
+use Rattle.std.proofs.Common.{rules, ◌≡◌, [], ap, ◌∙◌}
 use Rattle.std.specs.Prelude.{None}
-use Rattle.nm_types.specs.State.{State}
 use Rattle.nm_engine.specs.Refused.{map_refusal}
 use Rattle.nm_engine.specs.Amid.{Amid}
 use Rattle.nm_engine.proofs.Kept.{seen, kept_mapped}

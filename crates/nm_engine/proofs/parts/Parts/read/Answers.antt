@@ -1,7 +1,6 @@
-use Rattle.std.proofs.Common.{◌≡◌, ℕ, [], ◌+◌, ◌/◌, ◌%◌, ◌<◌, ◌≤◌, ◌++◌, ◌∙◌, false, refl, sym, ap, subst, length, Some, None, Ok}
+use Rattle.std.proofs.Common.{◌≡◌, ℕ, ◌/◌, ◌%◌, ◌++◌, ◌∙◌, false, sym, ap, subst, Some, Ok}
 use Rattle.std.specs.Prelude.{Option, IfNone, List, replicate}
 use Rattle.nm_types.specs.declared.sight.Sight.TheVariants.{ZeroPage}
-use Rattle.nm_types.specs.State.{State}
 use Rattle.nm_frames.specs.Store.{bytes_of}
 use Rattle.nm_runs.specs.Seen.{sight_at}
 use Rattle.nm_engine.specs.Memory.{mem_range}
@@ -9,7 +8,7 @@ use Rattle.nm_engine.specs.Stocked.{stretch_of}
 use Rattle.nm_engine.specs.Touch.{Answered, Bytes, read, read_after}
 use Rattle.nm_engine.specs.Amid.{Amid}
 use Rattle.nm_engine.specs.Parts.{shown}
-use Rattle.nm_engine.specs.Seeing.{frame_of, frame_seen}
+use Rattle.nm_engine.specs.Seeing.{frame_seen}
 use Rattle.nm_engine.proofs.Touches.{inside, page_of_frame, place_in_range, touch_is}
 use Rattle.nm_engine.proofs.Ranges.{reads_frame, reads_zeros}
 use Rattle.nm_engine.proofs.parts.Parts.read.Goals.{in-Some, in-None}

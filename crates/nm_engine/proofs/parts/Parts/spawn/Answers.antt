@@ -1,7 +1,6 @@
 use Rattle.std.proofs.Common.{◌≡◌, sym, arith, [], refl, ap, ◌∙◌}
 use Rattle.std.specs.Prelude.{None, nat_le}
 use Rattle.std.specs.List.{list_any}
-use Rattle.nm_types.specs.State.{State}
 use Rattle.nm_engine.specs.Refused.{spawn_refusal}
 use Rattle.nm_engine.specs.Tables.{untouched}
 use Rattle.nm_engine.specs.Amid.{Amid}

@@ -1,18 +1,12 @@
-use Rattle.std.proofs.Common.{◌≡◌, ℕ, ◌<◌, ◌∙◌, refl, sym, ap, subst, length, Some, None, IsSome, Ok}
+use Rattle.std.proofs.Common.{◌≡◌, ℕ, ◌∙◌, sym, ap, subst, Some, None, IsSome}
 use Rattle.std.specs.Prelude.{Option}
-use Rattle.std.specs.Ordering.{nat_cmp}
-use Rattle.nm_types.specs.declared.page.Page.{Page}
-use Rattle.nm_types.specs.declared.sight.Sight.{Sight}
 use Rattle.nm_types.specs.declared.sight.Sight.TheVariants.{Sees, ZeroPage}
-use Rattle.nm_types.specs.Map.{Map, get, page_cmp}
-use Rattle.nm_types.specs.State.{Process, State}
+use Rattle.nm_types.specs.Map.{get, page_cmp}
 use Rattle.nm_runs.specs.Seen.{sight_at}
-use Rattle.nm_engine.specs.Touch.{joined, is_shared, shown_at, touched_entry}
 use Rattle.nm_engine.specs.Parts.{shown}
-use Rattle.nm_engine.specs.Amid.{Amid, IsKept, IsTouched, spot_at}
+use Rattle.nm_engine.specs.Amid.{Amid, IsTouched}
 use Rattle.nm_engine.specs.Seeing.{frame_of}
-use Rattle.nm_engine.proofs.Touches.{inside, not_none, none_sees, zero_sees, spot_there, sight_is, seen_kept, sees_now, private_here, private_unplaced_here, zero_unplaced}
-use Rattle.nm_engine.proofs.Sights.{page_at_spot}
+use Rattle.nm_engine.proofs.Touches.{inside, not_none, none_sees, seen_kept, sees_now, private_here, private_unplaced_here, zero_unplaced}
 use Rattle.nm_engine.proofs.parts.Parts.touch.Goals as goal
 
 pub fill-requires-clause-unplaced : goal.fill-requires-clause-unplaced

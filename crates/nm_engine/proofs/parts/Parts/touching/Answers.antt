@@ -1,10 +1,6 @@
-use Rattle.std.proofs.Common.{◌≡◌, ℕ, ◌+◌, ◌-◌, ◌/◌, ◌%◌, ◌<◌, ◌≤◌, ◌∙◌, true, false, refl, sym, ap, subst, Some, None, Ok, arith}
-use Rattle.std.specs.Prelude.{nat_lt}
-use Rattle.std.proofs.lemmas.Bool.{ltb-false, le-ltb}
-use Rattle.std.specs.Ordering.{nat_cmp}
-use Rattle.nm_types.specs.Map.{get}
-use Rattle.nm_types.specs.State.{Process, State, Placed, area_over}
-use Rattle.nm_engine.specs.Amid.{Amid, IsTouched, spot_at}
+use Rattle.std.proofs.Common.{◌≡◌, ◌+◌, ◌-◌, ◌∙◌, sym, ap, subst, Ok, arith}
+use Rattle.nm_types.specs.State.{Process, Placed}
+use Rattle.nm_engine.specs.Amid.{IsTouched, spot_at}
 use Rattle.nm_engine.specs.Parts.{shown}
 use Rattle.nm_engine.specs.declared.touching.Touching.{Touching}
 use Rattle.nm_engine.specs.Touch.{spot}

@@ -1,10 +1,9 @@
-use Rattle.std.proofs.Common.{◌≡◌, ℕ, ◌+◌, ◌/◌, ◌%◌, ◌<◌, ◌≤◌, ◌∙◌, true, refl, sym, ap, subst, length, Some, None, Ok}
-use Rattle.nm_types.specs.State.{State}
+use Rattle.std.proofs.Common.{◌≡◌, ℕ, ◌/◌, ◌%◌, ◌∙◌, true, sym, ap, subst, length, Some, Ok}
 use Rattle.nm_engine.specs.Stocked.{Stocked}
-use Rattle.nm_engine.specs.Touch.{Answered, Done, spot, touch, write, write_after, with_bytes}
+use Rattle.nm_engine.specs.Touch.{Answered, write, write_after, with_bytes}
 use Rattle.nm_engine.specs.Amid.{Amid, IsKept}
 use Rattle.nm_engine.specs.Parts.{shown}
-use Rattle.nm_engine.specs.Seeing.{frame_of, frame_seen}
+use Rattle.nm_engine.specs.Seeing.{frame_seen}
 use Rattle.nm_runs.specs.Seen.{sight_at}
 use Rattle.nm_engine.proofs.Touches.{inside, page_of_frame, place_in_range, touch_is, written_is, written_kept}
 use Rattle.nm_engine.proofs.parts.Parts.write.Goals as goal
