@@ -58,6 +58,7 @@ abbrev pub first_refusal : State → List ℕ → List ℕ → Option Errno
 first_refusal s allowed [] = None
 first_refusal s allowed (node ∷ nodes) = earlier (node_refusal s allowed node) (first_refusal s allowed nodes)
 
+-- the refusal for a caller that may not be there
 abbrev pub refusal_for : State → List ℕ → Option Process → Option Errno
 refusal_for s nodes None = Some Esrch
 refusal_for s nodes (Some process) = first_refusal s process.allowed nodes

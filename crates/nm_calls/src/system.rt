@@ -6,6 +6,7 @@ ghost use Rattle.nm_types.specs.State.{free_list};
 ghost use Rattle.nm_engine.specs.Touch.{Bytes, Done, read, write};
 ghost use Rattle.nm_engine.specs.Effect.{new_machine, spawn, map_new};
 ghost use Rattle.nm_engine.specs.Refused.{spawn_refusal, map_refusal, list_refusal, entries_refusal};
+ghost use Rattle.nm_engine.specs.Audited.{audited};
 ghost use Rattle.nm_engine.specs.Entries.{entries_of};
 ghost use Rattle.nm_calls.specs.Errors.{IsBeforeRuns, out_of_memory};
 ghost use Rattle.nm_calls.specs.Entries.{entries_mapped, entries_shown};
@@ -209,7 +210,9 @@ impl<A: Allocator + Copy + Send + Sync> System<A> {
     }
 
     /// Whether each frame is exactly once in its own node's free list, or the place of one page.
-    pub fn audit(&self) -> Result<bool, AllocError> {
+    pub fn audit(&self) -> Result<bool, AllocError>
+        ensures { IfOk result (λ b. b ≡ audited self.now.machine) }
+    {
         self.machine.audit()
     }
 }
