@@ -12,8 +12,7 @@ use Rattle.nm_runs.specs.declared.Wanted.TheVariants.{At}
 use Rattle.nm_runs.specs.Cut.{Request, Stretch, in_front, cut}
 use Rattle.nm_engine.specs.Run.{run}
 use Rattle.nm_engine.specs.Batch.{runs_from}
-use Rattle.nm_calls.specs.Moving.{same_front, wanted_at}
-use Rattle.nm_calls.specs.Does.{requests_of, IsFirst}
+use Rattle.nm_calls.specs.Moving.{requests_of, same_front, wanted_at, IsFirst}
 
 -- how many at the front are this number
 abbrev front : ℕ → List ℕ → ℕ

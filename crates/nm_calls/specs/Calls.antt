@@ -16,6 +16,8 @@ pub data Call : Type 0 where
 pub data Answer : Type 0 where
   Refusal : Errno → Answer
   Done : Answer
+  -- for an access to a page that moves
+  Held : Answer
   NewSegment : (segment : ℕ) → Answer
   TheBytes : List ℕ → Answer
   -- how many entries failed, and the status of each entry

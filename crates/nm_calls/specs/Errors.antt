@@ -1,5 +1,5 @@
 -- Why a call did not answer.
-use Rattle.std.specs.Prelude.{◌≡◌, ℕ, false}
+use Rattle.std.specs.Prelude.{ℕ, false}
 use Rattle.nm_engine.specs.declared.MachineError.{MachineError}
 use Rattle.nm_engine.specs.declared.MachineError.TheVariants as machine
 use Rattle.nm_calls.specs.declared.call_error.CallError.{CallError}
@@ -13,8 +13,3 @@ out_of_memory runs = HostMemory runs false
 abbrev pub of_machine : MachineError → CallError
 of_machine (machine.Refused errno) = Refused errno
 of_machine machine.HostMemory = out_of_memory 0
-
--- a refusal, or want of memory where no run was made and no policy set
-abbrev pub IsBeforeRuns : CallError → Type 0
-IsBeforeRuns (Refused errno) = Unit {0}
-IsBeforeRuns (HostMemory runs policy_set) = (runs ≡ 0) × (policy_set ≡ false)

@@ -1,11 +1,11 @@
 //! A batch of pages to be moved: what is refused, and the runs that it is cut into.
 
-ghost use Rattle.std.specs.Prelude.{◌≡◌, ◌<◌, ◌≤◌, EachIndex, IfOk, IfErr, OnOk, length, take, pos, slice_index, true, false};
+ghost use Rattle.std.specs.Prelude.{◌≡◌, ◌<◌, ◌≤◌, [], EachIndex, IfOk, OnOk, length, take, slice_index, vec_capacity};
 ghost use Rattle.nm_types.specs.Layout.{node_count};
-ghost use Rattle.nm_types.specs.Nodes.{is_in};
-ghost use Rattle.nm_calls.specs.Moving.{failures, same_front, wanted_at, IsNodeRefusal};
-ghost use Rattle.nm_calls.specs.Does.{Checks, node_refusal, first_refusal, IsFirst};
+ghost use Rattle.nm_calls.specs.Moving.{failures, same_front, wanted_at, node_refusal, first_refusal, requests_of, IsFirst};
+ghost use Rattle.nm_calls.specs.Does.{Checks, Moves};
 
+use crate::call_error::CallError;
 use nm_engine::Machine;
 use nm_runs::{Run, Wanted};
 use nm_types::{Errno, NodeId, NodeMask, Pid, Vpn};
@@ -28,11 +28,6 @@ fn check_node<A: Allocator + Copy + Send + Sync>(
     node: NodeId,
 ) -> Result<(), Errno>
     ensures node { OnOk result (node < node_count (machine.now.layout)) }
-    ensures allowed { OnOk result (is_in allowed node ≡ true) }
-    ensures refused { IfErr result IsNodeRefusal }
-    ensures access { IfErr result (λ errno. errno ≡ Errno.Eacces
-        → (node < node_count (machine.now.layout)) × (is_in allowed node ≡ false)) }
-    ensures device { IfErr result (λ errno. node_count (machine.now.layout) ≤ node → errno ≡ Errno.Enodev) }
     ensures exact { Checks result (node_refusal machine.now allowed node) }
 {
     if node.index() >= machine.node_count() || !machine.is_online(node) {
@@ -52,8 +47,6 @@ pub(crate) fn check_nodes<A: Allocator + Copy + Send + Sync>(
     nodes: &[u32],
 ) -> Result<(), Errno>
     ensures nodes { OnOk result (EachIndex nodes.now (λ k. slice_index nodes.now k < node_count (machine.now.layout))) }
-    ensures allowed { OnOk result (EachIndex nodes.now (λ k. is_in allowed (slice_index nodes.now k) ≡ true)) }
-    ensures refused { IfErr result IsNodeRefusal }
     ensures exact { Checks result (first_refusal machine.now allowed nodes.now) }
 {
     for node in nodes {
@@ -114,11 +107,54 @@ pub(crate) fn first_run<A: Allocator + Copy + Send + Sync>(
 }
 
 /// How many entries failed.
-pub(crate) fn failures(statuses: &[i32]) -> usize
+fn failures(statuses: &[i32]) -> usize
     ensures { result ≡ failures statuses.now }
 {
     statuses
         .iter()
         .filter(|status| **status == -16 || **status == -12)
         .count()
+}
+
+/// Makes the runs of a batch one after another, and puts the statuses into a list that has room for them. An error means
+/// that the host refused memory after so many runs.
+pub(crate) fn move_runs<A: Allocator + Copy + Send + Sync>(
+    alloc: A,
+    machine: &mut Machine<A>,
+    pid: Pid,
+    all: bool,
+    pages: &[u64],
+    nodes: &[u32],
+    mut statuses: Vec<i32, A>,
+) -> Result<Moved<A>, CallError>
+    requires nodes { EachIndex nodes.now (λ k. slice_index nodes.now k < node_count machine.old.layout) }
+    requires paired { length pages.now ≡ length nodes.now }
+    requires few { length pages.now ≤ 16384 }
+    requires empty { statuses.items ≡ [] }
+    requires room { length pages.now ≤ vec_capacity statuses }
+    ensures { Moves result machine.old machine.new (requests_of pid all pages.now nodes.now) }
+{
+    let mut runs = 0;
+    let mut at = 0;
+    while at < pages.len() {
+        let memory = CallError::HostMemory {
+            runs,
+            policy_set: false,
+        };
+        let (_, pages_left) = pages.split_at(at);
+        let (_, nodes_left) = nodes.split_at(at);
+        let Ok(run) = first_run(alloc, pid, all, pages_left, nodes_left) else {
+            return Err(memory);
+        };
+        let Ok(answered) = machine.run_flight(&run) else {
+            return Err(memory);
+        };
+        statuses.extend_from_slice(answered.as_slice()).unwrap();
+        at += run.wanted.len();
+        runs += 1;
+    }
+    Ok(Moved {
+        failed: failures(statuses.as_slice()),
+        statuses,
+    })
 }

@@ -1,38 +1,91 @@
 -- A run that plays the trace of its bytes.
-use Rattle.std.proofs.Common.{◌≡◌, ℕ, suc, ◌<◌, List, [], ◌∷◌, length, length-take, take, map, Option, Some, None, IfSome, IfErr, Result, Ok, Err, sym, ap, ◌∙◌, subst, inl, inr, arith}
+use Rattle.std.proofs.Common.{◌≡◌, ℕ, ◌≤◌, List, [], ◌++◌, length, take, Option, Some, None, IfSome, IfErr, Result, Ok, Err, refl, sym, ap, ◌∙◌, subst, append_assoc, inl, inr, arith}
+use Rattle.std.proofs.lemmas.List.{append-nil}
 use Rattle.std.specs.Io.KnownBytes.{Appends}
+use Rattle.nm_types.specs.State.{State}
 use Rattle.nm_calls.specs.Calls.{Call}
+use Rattle.nm_calls.specs.Outcome.{new_machine}
 use Rattle.nm_trace.specs.declared.playing.Summary.{Summary}
 use Rattle.nm_trace.specs.declared.trace_error.TraceError.{TraceError}
 use Rattle.nm_trace.specs.declared.trace_error.TraceError.TheVariants.{NotJson, BadMachine, BadStep, ReadFault, WriteFault, HostMemory}
-use Rattle.nm_trace.specs.Faults.{Plan, trace_of}
-use Rattle.nm_trace.specs.Report.{Made, report_from}
-use Rattle.nm_trace.specs.Played.{Plays, Runs, IsSilent}
+use Rattle.nm_trace.specs.Faults.{Plan, trace_of, trace_within, trace_limit}
+use Rattle.nm_trace.specs.Report.{report_from}
+use Rattle.nm_trace.specs.Played.{AppendsFront, Plays, PlaysNew, Runs, IsSilent, WritesFront, report_of}
+use Rattle.nm_trace.proofs.InParts.{report_upto}
 
-runs_if : (trace : Result Plan TraceError) (plan : Plan) (old new : Option (List ℕ)) (result : Result Summary TraceError) → trace ≡ Ok plan → Plays plan.calls old new result → Runs trace old new result
-runs_if trace plan old new (Ok summary) t p = (plan, t, p.0, p.1)
-runs_if trace plan old new (Err NotJson) t p = absurd p
-runs_if trace plan old new (Err BadMachine) t p = absurd p
-runs_if trace plan old new (Err (BadStep k)) t p = absurd p
-runs_if trace plan old new (Err ReadFault) t p = absurd p
+-- ---- a run
+
+pub runs_if : (trace : Result Plan TraceError) (plan : Plan) (old new : Option (List ℕ)) (result : Result Summary TraceError) → trace ≡ Ok plan → PlaysNew plan old new result → Runs trace old new result
+runs_if trace plan old new (Ok summary) t p = (plan, t, p)
+runs_if trace plan old new (Err NotJson) t p = absurd p.1
+runs_if trace plan old new (Err BadMachine) t p = absurd p.1
+runs_if trace plan old new (Err (BadStep k)) t p = absurd p.1
+runs_if trace plan old new (Err ReadFault) t p = absurd p.1
 runs_if trace plan old new (Err WriteFault) t p = (plan, t, p)
-runs_if trace plan old new (Err (HostMemory k)) t p = inr (plan, t, p.0, p.1)
+runs_if trace plan old new (Err (HostMemory k)) t p = inr (plan, t, p)
 
--- what was played of the bytes that were left
-pub runs : (remaining : Option (List ℕ)) (items bytes : List ℕ) (plan : Plan) (calls : List Call) (old new : Option (List ℕ)) (result : Result Summary TraceError) → IfSome remaining (λ xs. items ≡ xs) → bytes ≡ items → trace_of bytes ≡ Ok plan → calls ≡ plan.calls → Plays calls old new result → IfSome remaining (λ xs. Runs (trace_of xs) old new result)
-runs None items bytes plan calls old new result left is t same p = tt
-runs (Some xs) items bytes plan calls old new result left is t same p = runs_if (trace_of xs) plan old new result (ap trace_of (sym (is ∙ left)) ∙ t) (subst (λ (cs : List Call). Plays cs old new result) same p)
-
-nothing : (calls : List Call) (k : ℕ) (made : List Made) (text : List ℕ) (old new : Option (List ℕ)) → k ≡ 0 → map (λ m. m.call) made ≡ take k calls → text ≡ report_from 0 made → Appends old new text → Appends old new []
-nothing calls k [] text old new z e r a = subst (λ (t : List ℕ). Appends old new t) r a
-nothing calls k (m ∷ ms) text old new z e r a = absurd (omega (arith, ap length e, length-take k calls, z))
+-- what was played of the bytes
+pub runs : (bytes : List ℕ) (plan : Plan) (s t : State) (calls : List Call) (old new : Option (List ℕ)) (result : Result Summary TraceError) → trace_of bytes ≡ Ok plan → s ≡ new_machine plan.layout → calls ≡ plan.calls → Plays s calls t old new result → Runs (trace_of bytes) old new result
+runs bytes plan s t calls old new result is start same p =
+    runs_if (trace_of bytes) plan old new result is (t, subst (λ (cs : List Call). Plays (new_machine plan.layout) cs t old new result) same (subst (λ (u : State). Plays u calls t old new result) start p))
 
 -- nothing is written where no step was completed
-pub silent : (calls : List Call) (old new : Option (List ℕ)) (result : Result Summary TraceError) → Plays calls old new result → IfErr result (λ e. IsSilent e old new)
-silent calls old new (Ok summary) p = tt
-silent calls old new (Err NotJson) p = absurd p
-silent calls old new (Err BadMachine) p = absurd p
-silent calls old new (Err (BadStep k)) p = absurd p
-silent calls old new (Err ReadFault) p = absurd p
-silent calls old new (Err WriteFault) p = tt
-silent calls old new (Err (HostMemory k)) p = λ z. nothing calls k p.1.1.0 p.1.0 old new z p.1.1.1 p.1.1.2 p.1.2
+pub silent : (s t : State) (calls : List Call) (old new : Option (List ℕ)) (result : Result Summary TraceError) → Plays s calls t old new result → IfErr result (λ e. IsSilent e old new)
+silent s t calls old new (Ok summary) p = tt
+silent s t calls old new (Err NotJson) p = absurd p
+silent s t calls old new (Err BadMachine) p = absurd p
+silent s t calls old new (Err (BadStep k)) p = absurd p
+silent s t calls old new (Err ReadFault) p = absurd p
+silent s t calls old new (Err WriteFault) p = tt
+silent s t calls old new (Err (HostMemory k)) p = λ z. subst (λ (j : ℕ). Appends old new (report_from 0 s (take j calls))) z p.3
+
+-- ---- a front of the report
+
+-- nothing is a front of everything
+pub nothing : (trace : Result Plan TraceError) (old new : Option (List ℕ)) → Appends old new [] → WritesFront trace old new
+nothing (Ok plan) old new a = ([], report_of plan, refl, a)
+nothing (Err e) old new a = a
+
+ends_early : (trace : Result Plan TraceError) (plan : Plan) (old new : Option (List ℕ)) → trace ≡ Ok plan → AppendsFront old new (report_of plan) → WritesFront trace old new
+ends_early trace plan old new t a = rw t a
+
+pub front_played : (s t : State) (calls : List Call) (old new : Option (List ℕ)) (result : Result Summary TraceError) → Plays s calls t old new result → AppendsFront old new (report_from 0 s calls)
+front_played s t calls old new (Ok summary) p = (report_from 0 s calls, [], append-nil (report_from 0 s calls), p.2)
+front_played s t calls old new (Err NotJson) p = absurd p
+front_played s t calls old new (Err BadMachine) p = absurd p
+front_played s t calls old new (Err (BadStep k)) p = absurd p
+front_played s t calls old new (Err ReadFault) p = absurd p
+front_played s t calls old new (Err WriteFault) p =
+    let text = report_from 0 s (take p.0 calls) in
+    let broken = p.4 in
+    let whole = report_upto s calls p.0 p.1 p.2 in (
+      text ++ broken.0,
+      broken.1 ++ whole.0,
+      append_assoc text broken.0 (broken.1 ++ whole.0) ∙ (ap (λ (ls : List ℕ). text ++ ls) (sym (append_assoc broken.0 broken.1 whole.0)) ∙ (ap (λ (ls : List ℕ). text ++ (ls ++ whole.0)) broken.2 ∙ whole.1)),
+      broken.4,
+    )
+front_played s t calls old new (Err (HostMemory k)) p =
+    let whole = report_upto s calls k p.0 p.1 in
+    (report_from 0 s (take k calls), _, whole.1, p.3)
+
+-- what a run wrote is a front of the report
+pub front : (trace : Result Plan TraceError) (old new : Option (List ℕ)) (result : Result Summary TraceError) → Runs trace old new result → IfErr result (λ e. IsSilent e old new) → WritesFront trace old new
+front trace old new (Ok summary) r q = ends_early trace r.0 old new r.1 (front_played (new_machine r.0.layout) r.2.0 r.0.calls old new (Ok summary) r.2.1)
+front trace old new (Err NotJson) r q = nothing trace old new q
+front trace old new (Err BadMachine) r q = nothing trace old new q
+front trace old new (Err (BadStep k)) r q = nothing trace old new q
+front trace old new (Err ReadFault) r q = nothing trace old new q
+front trace old new (Err WriteFault) r q = ends_early trace r.0 old new r.1 (front_played (new_machine r.0.layout) r.2.0 r.0.calls old new (Err WriteFault) r.2.1)
+front trace old new (Err (HostMemory k)) (inl z) q = nothing trace old new (q z)
+front trace old new (Err (HostMemory k)) (inr r) q = ends_early trace r.0 old new r.1 (front_played (new_machine r.0.layout) r.2.0 r.0.calls old new (Err (HostMemory k)) r.2.1)
+
+-- ---- the bytes that were read
+
+within : (bytes : List ℕ) → length bytes ≤ trace_limit → trace_within bytes ≡ trace_of bytes
+within bytes h = grind (arith, h)
+
+-- what holds of the bytes that were read holds of those that were there
+pub of_all_read : (Holds : Result Plan TraceError → Type 0) (remaining : Option (List ℕ)) (items bytes : List ℕ) → IfSome remaining (λ xs. items ≡ xs) → length items ≤ trace_limit → bytes ≡ items → Holds (trace_of bytes) → IfSome remaining (λ xs. Holds (trace_within xs))
+of_all_read Holds None items bytes left few is h = tt
+of_all_read Holds (Some xs) items bytes left few is h =
+    subst Holds (ap trace_of is ∙ (sym (within items few) ∙ ap trace_within left)) h

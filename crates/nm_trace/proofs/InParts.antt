@@ -1,45 +1,71 @@
 -- Reports that grow by a line.
-use Rattle.std.proofs.Common.{◌≡◌, ℕ, suc, ◌+◌, ◌<◌, List, [], ◌∷◌, ◌++◌, length, take, get_or, map, Option, refl, sym, ap, ◌∙◌, append_assoc, length-take, arith}
-use Rattle.std.proofs.lemmas.List.{take_more, append-nil, map-append, length-map}
+use Rattle.std.proofs.Common.{◌≡◌, ℕ, suc, ◌+◌, ◌<◌, List, [], ◌∷◌, ◌++◌, length, take, drop, get_or, map, Option, Some, refl, sym, ap, ◌∙◌, subst, append_assoc, length-take, drop-cons, arith}
+use Rattle.std.proofs.lemmas.List.{take_more, take-append-drop, append-nil, length-map}
+use Rattle.std.proofs.lemmas.Option.{slice_get_within, get_or_from_slice_get}
 use Rattle.std.proofs.Math.ListN.{get_or-map}
+use Rattle.std.specs.Prelude.{slice_get}
 use Rattle.std.specs.Io.KnownBytes.{Appends}
-use Rattle.nm_calls.specs.Calls.{Call, Answer}
-use Rattle.nm_trace.specs.Report.{Made, Suits, line_of, report_from, IsReport}
-use Rattle.nm_trace.specs.Played.{AppendsFront, Reports, ReportsFront}
+use Rattle.nm_types.specs.State.{State}
+use Rattle.nm_calls.specs.Calls.{Call}
+use Rattle.nm_calls.specs.Outcome.{Outcome, outcome}
+use Rattle.nm_trace.specs.Report.{line_of, report_from, state_after}
+use Rattle.nm_trace.specs.Played.{BreaksOff}
 use Rattle.nm_trace.proofs.Known.{appends_more}
 
-pub report_from-append : (k : ℕ) (xs ys : List Made) → report_from k (xs ++ ys) ≡ report_from k xs ++ report_from (k + length xs) ys
-report_from-append k [] ys = let e : k ≡ k + 0 = omega arith in ap (λ (j : ℕ). report_from j ys) e
-report_from-append k (x ∷ xs) ys =
+pub report_append : (k : ℕ) (s : State) (xs ys : List Call) → report_from k s (xs ++ ys) ≡ report_from k s xs ++ report_from (k + length xs) (state_after s xs) ys
+report_append k s [] ys = let e : k ≡ k + 0 = omega arith in ap (λ (j : ℕ). report_from j s ys) e
+report_append k s (x ∷ xs) ys =
+    let o : Outcome = outcome s x in
     let e : (k + 1) + length xs ≡ k + suc (length xs) = omega arith in
-    rw (report_from-append (k + 1) xs ys, e) (sym (append_assoc (line_of k x.call x.answer) (report_from (k + 1) xs) (report_from (k + suc (length xs)) ys)))
+    rw (report_append (k + 1) o.state xs ys, e) (sym (append_assoc (line_of k x o.answer) (report_from (k + 1) o.state xs) (report_from (k + suc (length xs)) (state_after o.state xs) ys)))
 
-module _ (calls : List Call) (k : ℕ) (call : Call) (lt : k < length calls) (is : call ≡ get_or calls k call) (answer : Answer) (suits : Suits call answer) where
+pub after_append : (s : State) (xs ys : List Call) → state_after s (xs ++ ys) ≡ state_after (state_after s xs) ys
+after_append s [] ys = refl
+after_append s (x ∷ xs) ys = after_append (outcome s x).state xs ys
+
+module _ (s : State) (calls : List Call) (k : ℕ) (call : Call) (lt : k < length calls) (is : call ≡ get_or calls k call) where
   next : take (k + 1) calls ≡ take k calls ++ call ∷ []
   next = take_more calls k call lt ∙ ap (λ (x : Call). take k calls ++ x ∷ []) (sym is)
 
-  one : Made
-  one = record { call = call; answer = answer; suits = suits }
+  before : State
+  before = state_after s (take k calls)
 
-  pub is_report_more : (text line : List ℕ) → line ≡ line_of k call answer → IsReport (take k calls) text → IsReport (take (k + 1) calls) (text ++ line)
-  unfolding one
-  is_report_more text line e so_far =
-      let len : 0 + length so_far.0 ≡ k = omega (arith, length-map {A = Made} {B = Call} so_far.0 (λ m. m.call), ap length so_far.1, length-take k calls) in (
-        so_far.0 ++ one ∷ [],
-        map-append {A = Made} {B = Call} (λ m. m.call) so_far.0 (one ∷ []) ∙ ap (λ (cs : List Call). cs ++ call ∷ []) so_far.1 ∙ sym next,
-        ap (λ (ls : List ℕ). ls ++ line) so_far.2 ∙ ap (λ (ls : List ℕ). report_from 0 so_far.0 ++ ls) (e ∙ sym (append-nil (line_of k call answer)) ∙ ap (λ (j : ℕ). line_of j call answer ++ []) (sym len)) ∙ sym (report_from-append 0 so_far.0 (one ∷ [])),
-      )
+  pub state_more : state_after s (take (k + 1) calls) ≡ (outcome (state_after s (take k calls)) call).state
+  state_more = ap (state_after s) next ∙ after_append s (take k calls) (call ∷ [])
 
-  pub reports_more : (a b c : Option (List ℕ)) (line : List ℕ) → line ≡ line_of k call answer → Reports (take k calls) a b → Appends b c line → Reports (take (k + 1) calls) a c
-  reports_more a b c line e p q = (p.0 ++ line, is_report_more p.0 line e p.1, appends_more a b c p.0 line p.2 q)
+  pub report_more : report_from 0 s (take (k + 1) calls) ≡ report_from 0 s (take k calls) ++ line_of k call (outcome (state_after s (take k calls)) call).answer
+  report_more =
+      let line : ℕ → List ℕ = λ (j : ℕ). line_of j call (outcome (state_after s (take k calls)) call).answer in
+      let len : 0 + length (take k calls) ≡ k = omega (arith, length-take k calls, lt) in
+      ap (report_from 0 s) next
+      ∙ (report_append 0 s (take k calls) (call ∷ [])
+      ∙ (ap (λ (ls : List ℕ). report_from 0 s (take k calls) ++ ls) (append-nil (line (0 + length (take k calls))))
+      ∙ ap (λ (j : ℕ). report_from 0 s (take k calls) ++ line j) len))
 
-  pub front_more : (a b c : Option (List ℕ)) (line : List ℕ) → line ≡ line_of k call answer → Reports (take k calls) a b → AppendsFront b c line → ReportsFront (take (k + 1) calls) a c
-  front_more a b c line e p q = (
-    p.0 ++ line,
-    is_report_more p.0 line e p.1,
-    (p.0 ++ q.0, q.1, append_assoc p.0 q.0 q.1 ∙ ap (λ (ls : List ℕ). p.0 ++ ls) q.2, appends_more a b c p.0 q.0 p.2 q.3),
-  )
+  -- the report so far and the next line
+  pub written_more : (a b c : Option (List ℕ)) (line : List ℕ) → line ≡ line_of k call (outcome (state_after s (take k calls)) call).answer → Appends a b (report_from 0 s (take k calls)) → Appends b c line → Appends a c (report_from 0 s (take (k + 1) calls))
+  written_more a b c line e p q =
+      let text = report_from 0 s (take k calls) in
+      let is : text ++ line ≡ report_from 0 s (take (k + 1) calls) = ap (λ (ls : List ℕ). text ++ ls) e ∙ sym report_more in
+      subst (λ (ls : List ℕ). Appends a c ls) is (appends_more a b c text line p q)
+
+-- the report up to a call, its line, and what follows
+pub report_upto : (s : State) (calls : List Call) (k : ℕ) (call : Call) → slice_get calls k ≡ Some call → (rest : List ℕ) × (report_from 0 s (take k calls) ++ (line_of k call (outcome (state_after s (take k calls)) call).answer ++ rest) ≡ report_from 0 s calls)
+report_upto s calls k call h =
+    let lt : k < length calls = slice_get_within calls k call h in
+    let cons : drop k calls ≡ call ∷ drop (suc k) calls = drop-cons calls k call lt ∙ ap (λ (w : Call). w ∷ drop (suc k) calls) (get_or_from_slice_get calls k call call h) in
+    let parts : take k calls ++ call ∷ drop (suc k) calls ≡ calls = ap (λ (l : List Call). take k calls ++ l) (sym cons) ∙ take-append-drop k calls in
+    let before : State = state_after s (take k calls) in
+    let text : List ℕ = report_from 0 s (take k calls) in
+    let rest : ℕ → List ℕ = λ (j : ℕ). line_of j call (outcome before call).answer ++ report_from (j + 1) (outcome before call).state (drop (suc k) calls) in
+    let len : k ≡ 0 + length (take k calls) = omega (arith, length-take k calls, lt) in
+    (report_from (k + 1) (outcome before call).state (drop (suc k) calls), ap (λ (j : ℕ). text ++ rest j) len ∙ (sym (report_append 0 s (take k calls) (call ∷ drop (suc k) calls)) ∙ ap (report_from 0 s) parts))
+
+-- the report so far, and a line that breaks off
+pub broken_off : (a b c : Option (List ℕ)) (text line whole : List ℕ) → line ≡ whole → Appends a b text → BreaksOff b c [] line → BreaksOff a c text whole
+broken_off a b c text line whole e p q = (q.0, q.1, q.2 ∙ e, q.3, appends_more a b c text q.0 p q.4)
 
 -- the call of a step, at its place
 pub call_at : {S : Type 0} (call_of : S → Call) (steps : List S) (k : ℕ) (step : S) → k < length steps → step ≡ get_or steps k step → (k < length (map call_of steps)) × (call_of step ≡ get_or (map call_of steps) k (call_of step))
 call_at call_of steps k step lt is = (rw length-map lt, ap call_of is ∙ sym (get_or-map call_of steps k step))
+

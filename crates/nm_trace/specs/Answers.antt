@@ -1,10 +1,11 @@
 -- What answers are, without where they lie in memory.
-use Rattle.std.specs.Prelude.{ℕ, map}
+use Rattle.std.specs.Prelude.{map}
 use Rattle.nm_calls.specs.Calls as calls
 use Rattle.nm_trace.specs.declared.answer.Answer.{Answer}
-use Rattle.nm_trace.specs.declared.answer.Answer.TheVariants.{Done, Segment, Bytes, Statuses, Frames, Entries}
+use Rattle.nm_trace.specs.declared.answer.Answer.TheVariants.{Refusal, Done, Segment, Bytes, Statuses, Frames, Entries}
 
 abbrev pub answer_view : {A : Type 0} → Answer A → calls.Answer
+answer_view (Refusal errno) = calls.Refusal errno
 answer_view Done = calls.Done
 answer_view (Segment segment) = calls.NewSegment segment
 answer_view (Bytes bytes) = calls.TheBytes bytes.items

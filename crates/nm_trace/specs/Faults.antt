@@ -1,5 +1,5 @@
 -- Which bytes are which trace, and else the first fault.
-use Rattle.std.specs.Prelude.{◌≡◌, ℕ, suc, List, ◌==◌, if◌then◌else◌, Option, None, is_some, Result, Ok, Err, codes}
+use Rattle.std.specs.Prelude.{◌≡◌, ℕ, suc, nat_le, List, length, ◌==◌, if◌then◌else◌, Option, None, is_some, Result, Ok, Err, codes}
 use Rattle.std.specs.Option.{ok_or}
 use Rattle.std.specs.Str.{is_utf8}
 use Rattle.serde_json.specs.Data.{Data, Items, no_items, item}
@@ -49,6 +49,14 @@ unfoldable pub trace_of : List ℕ → Result Plan TraceError
 trace_of bytes = do
   d ← ok_or (value_of bytes) NotJson
   plan_of d
+
+-- the most bytes that a trace has
+abbrev pub trace_limit : ℕ
+trace_limit = 16777216
+
+-- the trace that bytes are; more bytes than a trace has are not read
+abbrev pub trace_within : List ℕ → Result Plan TraceError
+trace_within bytes = if nat_le (length bytes) trace_limit then trace_of bytes else Err ReadFault
 
 -- An error is the fault, unless memory ran out before the first step.
 abbrev pub Fails : {Y : Type 0} → TraceError → Result Y TraceError → Type 0

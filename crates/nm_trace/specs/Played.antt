@@ -1,45 +1,76 @@
--- What a play leaves written, and what a run from bytes does.
-use Rattle.std.specs.Prelude.{◌≡◌, ◌⊎◌, ℕ, ◌+◌, ◌<◌, List, [], ◌++◌, length, take, Option, Result, Ok, Err}
+-- What a play makes and leaves written, and what a run from bytes does.
+use Rattle.std.specs.Prelude.{◌≡◌, ◌⊎◌, ℕ, ◌≤◌, ◌<◌, List, [], ◌++◌, length, take, slice_get, Option, Some, Result, Ok, Err}
 use Rattle.std.specs.Io.KnownBytes.{Appends}
-use Rattle.nm_calls.specs.Calls.{Call}
+use Rattle.nm_types.specs.State.{State}
+use Rattle.nm_calls.specs.Calls.{Call, Answer}
+use Rattle.nm_calls.specs.Outcome.{new_machine, outcome, runs_of, after_runs}
 use Rattle.nm_trace.specs.declared.playing.Summary.{Summary}
 use Rattle.nm_trace.specs.declared.trace_error.TraceError.{TraceError}
 use Rattle.nm_trace.specs.declared.trace_error.TraceError.TheVariants.{NotJson, BadMachine, BadStep, ReadFault, WriteFault, HostMemory}
 use Rattle.nm_trace.specs.Faults.{Plan}
-use Rattle.nm_trace.specs.Report.{IsReport}
+use Rattle.nm_trace.specs.Report.{line_of, report_from, state_after}
 
 -- known bytes grow by a front of the text
 abbrev pub AppendsFront : Option (List ℕ) → Option (List ℕ) → List ℕ → Type 0
 AppendsFront old new text = (front : List ℕ) × (rest : List ℕ) × (front ++ rest ≡ text) × Appends old new front
 
--- known bytes grow by a report on these calls
-abbrev pub Reports : List Call → Option (List ℕ) → Option (List ℕ) → Type 0
-Reports calls old new = (text : List ℕ) × IsReport calls text × Appends old new text
+-- known bytes grow by a text and a front of a line that is not all of it
+abbrev pub BreaksOff : Option (List ℕ) → Option (List ℕ) → List ℕ → List ℕ → Type 0
+BreaksOff old new text line =
+    (front : List ℕ) × (rest : List ℕ) × (front ++ rest ≡ line) × (0 < length rest) × Appends old new (text ++ front)
 
--- known bytes grow by a front of a report on these calls
-abbrev pub ReportsFront : List Call → Option (List ℕ) → Option (List ℕ) → Type 0
-ReportsFront calls old new = (text : List ℕ) × IsReport calls text × AppendsFront old new text
+-- a call that finds no memory on the host has made its first runs and no more
+abbrev pub StopsIn : State → Call → State → Type 0
+StopsIn s call t = (runs : ℕ) × (runs ≤ length (runs_of s call)) × (t ≡ after_runs s call runs)
 
--- A play reports on every call. Want of memory after k steps leaves the report on the first k calls, and a fault of the
--- writer at a line a front of the report up to that line.
-abbrev pub Plays : List Call → Option (List ℕ) → Option (List ℕ) → Result Summary TraceError → Type 0
-Plays calls old new (Ok summary) = (summary.steps ≡ length calls) × Reports calls old new
-Plays calls old new (Err NotJson) = ⊥
-Plays calls old new (Err BadMachine) = ⊥
-Plays calls old new (Err (BadStep k)) = ⊥
-Plays calls old new (Err ReadFault) = ⊥
-Plays calls old new (Err WriteFault) = (k : ℕ) × (k < length calls) × ReportsFront (take (k + 1) calls) old new
-Plays calls old new (Err (HostMemory k)) = (k < length calls) × Reports (take k calls) old new
+-- what a call answers, or it finds no memory on the host
+abbrev pub Answers : {T E : Type 0} → (T → Answer) → Result T E → State → State → Call → Type 0
+Answers view (Ok answer) old new call = ((outcome old call).answer ≡ view answer) × (new ≡ (outcome old call).state)
+Answers view (Err e) old new call = StopsIn old call new
 
--- what a run from a trace's bytes does: it plays the trace, or its fault is the first of the bytes
+-- a call is made and its line is there; or it stopped, or was made and its line found no memory
+abbrev pub Lines : {T E : Type 0} → (T → List ℕ) → ℕ → Result T E → State → State → Call → Type 0
+Lines view k (Ok line) old new call =
+    (view line ≡ line_of k call (outcome old call).answer) × (new ≡ (outcome old call).state)
+Lines view k (Err e) old new call = StopsIn old call new ⊎ (new ≡ (outcome old call).state)
+
+-- A play makes every call and writes the report on them. Where the writer fails in the line of step k, that step is the
+-- last that was made, and the report breaks off inside its line. Where the host has no memory for step k, the report on
+-- the steps before it stands, and step k may have been made in part, or whole without its line.
+abbrev pub Plays : State → List Call → State → Option (List ℕ) → Option (List ℕ) → Result Summary TraceError → Type 0
+Plays s calls t old new (Ok summary) =
+    (summary.steps ≡ length calls) × (t ≡ state_after s calls) × Appends old new (report_from 0 s calls)
+Plays s calls t old new (Err NotJson) = ⊥
+Plays s calls t old new (Err BadMachine) = ⊥
+Plays s calls t old new (Err (BadStep k)) = ⊥
+Plays s calls t old new (Err ReadFault) = ⊥
+Plays s calls t old new (Err WriteFault) =
+    (k : ℕ) × (call : Call) × (slice_get calls k ≡ Some call)
+    × (t ≡ (outcome (state_after s (take k calls)) call).state)
+    × BreaksOff old new (report_from 0 s (take k calls)) (line_of k call (outcome (state_after s (take k calls)) call).answer)
+Plays s calls t old new (Err (HostMemory k)) =
+    (call : Call) × (slice_get calls k ≡ Some call)
+    × (StopsIn (state_after s (take k calls)) call t ⊎ (t ≡ (outcome (state_after s (take k calls)) call).state))
+    × Appends old new (report_from 0 s (take k calls))
+
+-- the report on a trace: on its steps, from a new machine on
+abbrev pub report_of : Plan → List ℕ
+report_of plan = report_from 0 (new_machine plan.layout) plan.calls
+
+-- a play of a trace on a new machine, whatever state it leaves
+abbrev pub PlaysNew : Plan → Option (List ℕ) → Option (List ℕ) → Result Summary TraceError → Type 0
+PlaysNew plan old new result = (t : State) × Plays (new_machine plan.layout) plan.calls t old new result
+
+-- what a run from a trace's bytes does: its fault is the first of the bytes, or it plays the trace
 abbrev pub Runs : Result Plan TraceError → Option (List ℕ) → Option (List ℕ) → Result Summary TraceError → Type 0
-Runs trace old new (Ok summary) = (plan : Plan) × (trace ≡ Ok plan) × (summary.steps ≡ length plan.calls) × Reports plan.calls old new
+Runs trace old new (Ok summary) = (plan : Plan) × (trace ≡ Ok plan) × PlaysNew plan old new (Ok summary)
 Runs trace old new (Err NotJson) = trace ≡ Err NotJson
 Runs trace old new (Err BadMachine) = trace ≡ Err BadMachine
 Runs trace old new (Err (BadStep k)) = trace ≡ Err (BadStep k)
 Runs trace old new (Err ReadFault) = Unit {0}
-Runs trace old new (Err WriteFault) = (plan : Plan) × (trace ≡ Ok plan) × ((k : ℕ) × (k < length plan.calls) × ReportsFront (take (k + 1) plan.calls) old new)
-Runs trace old new (Err (HostMemory k)) = (k ≡ 0) ⊎ ((plan : Plan) × (trace ≡ Ok plan) × (k < length plan.calls) × Reports (take k plan.calls) old new)
+Runs trace old new (Err WriteFault) = (plan : Plan) × (trace ≡ Ok plan) × PlaysNew plan old new (Err WriteFault)
+Runs trace old new (Err (HostMemory k)) =
+    (k ≡ 0) ⊎ ((plan : Plan) × (trace ≡ Ok plan) × PlaysNew plan old new (Err (HostMemory k)))
 
 -- a fault before the first step, where nothing is written
 abbrev pub IsSilent : TraceError → Option (List ℕ) → Option (List ℕ) → Type 0
@@ -49,3 +80,8 @@ IsSilent (BadStep k) old new = Appends old new []
 IsSilent ReadFault old new = Appends old new []
 IsSilent WriteFault old new = Unit {0}
 IsSilent (HostMemory k) old new = k ≡ 0 → Appends old new []
+
+-- what was written is a front of the report, and nothing where there is none
+abbrev pub WritesFront : Result Plan TraceError → Option (List ℕ) → Option (List ℕ) → Type 0
+WritesFront (Ok plan) old new = AppendsFront old new (report_of plan)
+WritesFront (Err e) old new = Appends old new []

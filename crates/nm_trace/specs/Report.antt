@@ -1,11 +1,12 @@
--- The report on calls and what they answered.
-use Rattle.std.specs.Prelude.{◌≡◌, ℕ, ℤ, ◌+◌, ◌-◌, List, [], ◌∷◌, ◌++◌, length, map, replicate, Bool, false, Option, Some, None, codes, decimal}
+-- The report on calls, and the state after them.
+use Rattle.std.specs.Prelude.{ℕ, ℤ, ◌+◌, ◌-◌, List, [], ◌∷◌, ◌++◌, length, replicate, false, Option, Some, None, codes, decimal}
 use Rattle.std.specs.Fmt.{signed_decimal, digits}
 use Rattle.std.specs.List.{flat_map}
 use Rattle.hex.specs.Hex.{encode_lower}
 use Rattle.nm_types.specs.Names.{name_of}
-use Rattle.nm_calls.specs.Calls.{Call, Spawn, MapPages, ReadBytes, WriteBytes, MovePages, FreeList, Pagemap, Answer, Refusal, Done, NewSegment, TheBytes, Statuses, Frames, Entries}
-use Rattle.nm_calls.specs.Moving.{failures}
+use Rattle.nm_types.specs.State.{State}
+use Rattle.nm_calls.specs.Calls.{Call, Spawn, MapPages, ReadBytes, WriteBytes, MovePages, FreeList, Pagemap, Answer, Refusal, Done, Held, NewSegment, TheBytes, Statuses, Frames, Entries}
+use Rattle.nm_calls.specs.Outcome.{Outcome, outcome}
 
 -- the word of a call
 abbrev pub word_of : Call → List ℕ
@@ -44,6 +45,7 @@ entry_text e = codes " " ++ address_text e.0 ++ codes "=" ++ frame_text e.1
 unfoldable pub answer_text : Answer → List ℕ
 answer_text (Refusal errno) = codes "error " ++ name_of errno
 answer_text Done = codes "ok"
+answer_text Held = codes "held"
 answer_text (NewSegment segment) = codes "segment=" ++ decimal segment
 answer_text (TheBytes bytes) = encode_lower bytes
 answer_text (Statuses failed statuses) = decimal failed ++ codes ":" ++ signed_listed statuses
@@ -54,30 +56,14 @@ answer_text (Entries entries) = decimal (length entries) ++ codes ":" ++ flat_ma
 unfoldable pub line_of : ℕ → Call → Answer → List ℕ
 line_of k call answer = decimal k ++ codes " " ++ word_of call ++ codes " " ++ answer_text answer ++ codes "\n"
 
--- an answer of the call's kind: any call may be refused, a read answers so many bytes, and a call that moves pages a
--- status for each and how many of them failed
-abbrev pub Suits : Call → Answer → Type 0
-Suits call (Refusal errno) = Unit {0}
-Suits (Spawn pid uid home allowed privileged) Done = Unit {0}
-Suits (MapPages pid addr pages) (NewSegment segment) = Unit {0}
-Suits (ReadBytes pid addr len) (TheBytes bytes) = length bytes ≡ len
-Suits (WriteBytes pid addr bytes) Done = Unit {0}
-Suits (MovePages caller pid pages nodes flags) (Statuses failed statuses) = (length statuses ≡ length pages) × (failed ≡ failures statuses)
-Suits (FreeList node) (Frames frames) = Unit {0}
-Suits (Pagemap pid) (Entries entries) = Unit {0}
-Suits call answer = ⊥
+-- the report on calls that are made one after another from a state on: a line for each, with numbers from k on
+abbrev pub report_from : ℕ → State → List Call → List ℕ
+report_from k s [] = []
+report_from k s (call ∷ calls) =
+    let o : Outcome = outcome s call in
+    line_of k call o.answer ++ report_from (k + 1) o.state calls
 
--- a call that was made, with what it answered
-pub record Made : Type 0 where
-  pub call : Call
-  pub answer : Answer
-  pub suits : Suits call answer
-
--- the lines from step k on
-abbrev pub report_from : ℕ → List Made → List ℕ
-report_from k [] = []
-report_from k (m ∷ ms) = line_of k m.call m.answer ++ report_from (k + 1) ms
-
--- the text is the report on these calls, each with some answer of its kind
-abbrev pub IsReport : List Call → List ℕ → Type 0
-IsReport calls text = (made : List Made) × (map (λ m. m.call) made ≡ calls) × (text ≡ report_from 0 made)
+-- the state after these calls
+abbrev pub state_after : State → List Call → State
+state_after s [] = s
+state_after s (call ∷ calls) = state_after (outcome s call).state calls

@@ -1,19 +1,21 @@
 //! What a step answers.
 
-ghost use Rattle.std.specs.Prelude.{◌≡◌, IfOk, length};
-ghost use Rattle.nm_calls.specs.Moving.{failures};
+ghost use Rattle.nm_calls.specs.Calls as calls;
+ghost use Rattle.nm_calls.specs.Does.{Does};
 ghost use Rattle.nm_trace.specs.Answers.{answer_view};
 ghost use Rattle.nm_trace.specs.Gives.{call_of};
-ghost use Rattle.nm_trace.specs.Report.{Suits};
+ghost use Rattle.nm_trace.specs.Played.{Answers};
 
 use crate::step::{Batch, MoveRequest, Step};
 use nm_calls::{CallError, Mapped, Moved, System};
-use nm_types::FrameId;
-use std::alloc::Allocator;
+use nm_types::{Errno, FrameId};
+use std::alloc::{AllocError, Allocator};
 
-/// What a call answers that was not refused.
+/// What a call answers.
 #[derive(Debug, Drop)]
 pub(crate) enum Answer<A: Allocator + Copy + Send + Sync> {
+    /// The error with which it is refused.
+    Refusal(Errno),
     /// Nothing to be told.
     Done,
     /// The number of a new segment.
@@ -33,7 +35,8 @@ fn move_pages<A: Allocator + Copy + Send + Sync>(
     system: &mut System<A>,
     request: &MoveRequest<A>,
 ) -> Result<Moved<A>, CallError>
-    ensures { IfOk result (λ moved. (length moved.statuses.items ≡ length request.now.batch.pages.items) × (moved.failed ≡ failures moved.statuses.items)) }
+    ensures { Does (λ moved. calls.Statuses moved.failed moved.statuses.items) result system.old system.new
+        (calls.MovePages request.now.caller request.now.pid request.now.batch.pages.items request.now.batch.nodes.items request.now.flags) }
 {
     let MoveRequest {
         caller,
@@ -46,11 +49,11 @@ fn move_pages<A: Allocator + Copy + Send + Sync>(
 }
 
 /// Makes the call of a step.
-pub(crate) fn perform<A: Allocator + Copy + Send + Sync>(
+fn perform<A: Allocator + Copy + Send + Sync>(
     system: &mut System<A>,
     step: &Step<A>,
 ) -> Result<Answer<A>, CallError>
-    ensures { IfOk result (λ answer. Suits (call_of step.now) (answer_view answer)) }
+    ensures { Does answer_view result system.old system.new (call_of step.now) }
 {
     match step {
         Step::Spawn {
@@ -72,5 +75,20 @@ pub(crate) fn perform<A: Allocator + Copy + Send + Sync>(
         Step::MovePages(request) => Ok(Answer::Statuses(move_pages(system, request)?)),
         Step::Free { node } => Ok(Answer::Frames(system.free_list(*node)?)),
         Step::Pagemap { pid } => Ok(Answer::Entries(system.pagemap(*pid)?)),
+    }
+}
+
+/// Makes the call of a step, and gives what it answers: also where it is refused. An error means that the host refused it
+/// memory.
+pub(crate) fn answer_to<A: Allocator + Copy + Send + Sync>(
+    system: &mut System<A>,
+    step: &Step<A>,
+) -> Result<Answer<A>, AllocError>
+    ensures { Answers answer_view result system.old system.new (call_of step.now) }
+{
+    match perform(system, step) {
+        Ok(answer) => Ok(answer),
+        Err(CallError::Refused(errno)) => Ok(Answer::Refusal(errno)),
+        Err(CallError::HostMemory { .. }) => Err(AllocError),
     }
 }

@@ -2,15 +2,15 @@
 
 ghost use Rattle.std.specs.Prelude.{◌≡◌, ◌++◌, ◌∷◌, OnOk, IfOk, string_bytes, map, decimal, codes};
 ghost use Rattle.std.specs.List.{flat_map};
-ghost use Rattle.nm_calls.specs.Calls as calls;
 ghost use Rattle.nm_trace.specs.Answers.{answer_view};
 ghost use Rattle.nm_trace.specs.Gives.{call_of};
-ghost use Rattle.nm_trace.specs.Report.{word_of, listed, signed_listed, address_text, entry_text, answer_text, line_of, Suits};
+ghost use Rattle.nm_trace.specs.Report.{word_of, listed, signed_listed, address_text, entry_text, answer_text, line_of};
+ghost use Rattle.nm_trace.specs.Played.{Lines};
 
-use crate::answer::{Answer, perform};
+use crate::answer::{Answer, answer_to};
 use crate::step::Step;
-use nm_calls::{CallError, Mapped, System};
-use nm_types::{Errno, FrameId, Vpn};
+use nm_calls::{Mapped, System};
+use nm_types::{FrameId, Vpn};
 use std::alloc::{AllocError, Allocator};
 
 /// The word that names a step's kind.
@@ -107,6 +107,10 @@ fn push_answer<A: Allocator + Copy + Send + Sync>(
     ensures { OnOk result (string_bytes line.new ≡ string_bytes line.old ++ answer_text (answer_view answer.now)) }
 {
     match answer {
+        Answer::Refusal(errno) => {
+            line.push_str("error ")?;
+            line.push_str(errno.name())
+        }
         Answer::Done => line.push_str("ok"),
         Answer::Segment(segment) => {
             let mut buffer = itoa::Buffer::new();
@@ -129,36 +133,35 @@ fn push_answer<A: Allocator + Copy + Send + Sync>(
     }
 }
 
-/// Puts why a step was refused.
-#[tactic(auto, unfolding(crate::specs::Report::answer_text))]
-fn push_refusal<A: Allocator>(line: &mut String<A>, errno: Errno) -> Result<(), AllocError>
-    ensures { OnOk result (string_bytes line.new ≡ string_bytes line.old ++ answer_text (calls.Refusal errno)) }
-{
-    line.push_str("error ")?;
-    line.push_str(errno.name())
-}
-
-/// Makes a step, and gives its line. An error means that the step's call, or its line, was refused memory.
+/// The line of a step that answered.
 #[tactic(auto, unfolding(crate::specs::Report::line_of))]
-pub(crate) fn step_line<A: Allocator + Copy + Send + Sync>(
+fn line_of<A: Allocator + Copy + Send + Sync>(
     alloc: A,
-    system: &mut System<A>,
     k: usize,
     step: &Step<A>,
+    answer: &Answer<A>,
 ) -> Result<String<A>, AllocError>
-    ensures { IfOk result (λ line. (answer : calls.Answer) × Suits (call_of step.now) answer
-        × (string_bytes line ≡ line_of k (call_of step.now) answer)) }
+    ensures { IfOk result (λ line. string_bytes line ≡ line_of k (call_of step.now) (answer_view answer.now)) }
 {
     let mut buffer = itoa::Buffer::new();
     let mut line = String::from_str(alloc, buffer.format(k))?;
     line.push_str(" ")?;
     line.push_str(word(step))?;
     line.push_str(" ")?;
-    match perform(system, step) {
-        Ok(answer) => push_answer(alloc, &mut line, &answer)?,
-        Err(CallError::Refused(errno)) => push_refusal(&mut line, errno)?,
-        Err(CallError::HostMemory { .. }) => return Err(AllocError),
-    }
+    push_answer(alloc, &mut line, answer)?;
     line.push_str("\n")?;
     Ok(line)
+}
+
+/// Makes a step, and gives its line. An error means that the step's call, or its line, was refused memory.
+pub(crate) fn step_line<A: Allocator + Copy + Send + Sync>(
+    alloc: A,
+    system: &mut System<A>,
+    k: usize,
+    step: &Step<A>,
+) -> Result<String<A>, AllocError>
+    ensures { Lines string_bytes k result system.old system.new (call_of step.now) }
+{
+    let answer = answer_to(system, step)?;
+    line_of(alloc, k, step, &answer)
 }

@@ -1,9 +1,9 @@
 //! Plays a trace and writes its report.
 
-ghost use Rattle.std.specs.Prelude.{◌≡◌, ◌⊎◌, OnOk, IfErr, map};
+ghost use Rattle.std.specs.Prelude.{◌≡◌, [], OnOk, OnErr, IfErr, map};
 ghost use Rattle.std.specs.Io.KnownBytes.{Appends};
 ghost use Rattle.nm_trace.specs.Gives.{call_of};
-ghost use Rattle.nm_trace.specs.Played.{AppendsFront, Plays};
+ghost use Rattle.nm_trace.specs.Played.{BreaksOff, Plays};
 
 use crate::lines::step_line;
 use crate::reading::Trace;
@@ -23,7 +23,7 @@ pub struct Summary {
 /// Writes a line whole, or a front of it and a fault: the writer failed, or took no byte.
 fn write_line<W: Write>(writer: &mut W, line: &[u8]) -> Result<(), TraceError>
     ensures whole { OnOk result (Appends (W.contents writer.old) (W.contents writer.new) line.now) }
-    ensures front { AppendsFront (W.contents writer.old) (W.contents writer.new) line.now }
+    ensures broken { OnErr result (BreaksOff (W.contents writer.old) (W.contents writer.new) [] line.now) }
     ensures fault { IfErr result (λ e. e ≡ TraceError.WriteFault) }
 {
     let mut at = 0;
@@ -45,7 +45,7 @@ pub(crate) fn play_steps<A: Allocator + Copy + Send + Sync, W: Write>(
     steps: &[Step<A>],
     writer: &mut W,
 ) -> Result<Summary, TraceError>
-    ensures { Plays (map call_of steps.now) (W.contents writer.old) (W.contents writer.new) result }
+    ensures { Plays system.old (map call_of steps.now) system.new (W.contents writer.old) (W.contents writer.new) result }
 {
     for (k, step) in steps.iter().enumerate() {
         let Ok(line) = step_line(alloc, system, k, step) else {
@@ -61,15 +61,16 @@ pub(crate) fn play_steps<A: Allocator + Copy + Send + Sync, W: Write>(
 /// Makes the steps of a trace on a system, and writes the report on them: a line for each step, when it ends. Answers
 /// how many steps there were.
 ///
-/// `WriteFault` where the writer failed or took no byte: a front of the report was written. `HostMemory(k)` where the
-/// host refused memory in step k: the lines of the steps before it were written.
+/// `WriteFault` where the writer failed or took no byte: the report breaks off inside the line of the last step that was
+/// made. `HostMemory(k)` where the host refused memory in step k: the lines of the steps before it were written, and step
+/// k was made as far as its call says, or whole and without its line.
 pub fn play<A: Allocator + Copy + Send + Sync, W: Write>(
     alloc: A,
     system: &mut System<A>,
     trace: &Trace<A>,
     writer: &mut W,
 ) -> Result<Summary, TraceError>
-    ensures { Plays trace.now.calls (W.contents writer.old) (W.contents writer.new) result }
+    ensures { Plays system.old trace.now.calls system.new (W.contents writer.old) (W.contents writer.new) result }
 {
     play_steps(alloc, system, trace.steps.as_slice(), writer)
 }

@@ -1,8 +1,8 @@
 //! From a reader's bytes to a writer's report.
 
-ghost use Rattle.std.specs.Prelude.{◌≡◌, ◌⊎◌, ◌≤◌, length, IfOk, IfErr, IfSome, OnOk};
-ghost use Rattle.nm_trace.specs.Faults.{trace_of};
-ghost use Rattle.nm_trace.specs.Played.{Runs, IsSilent};
+ghost use Rattle.std.specs.Prelude.{◌≡◌, ◌⊎◌, ◌≤◌, length, IfOk, IfErr, IfSome};
+ghost use Rattle.nm_trace.specs.Faults.{trace_of, trace_within, trace_limit};
+ghost use Rattle.nm_trace.specs.Played.{Runs, IsSilent, WritesFront};
 
 use crate::playing::{Summary, play_steps};
 use crate::reading::{Trace, read_trace};
@@ -20,7 +20,7 @@ fn read_all<A: Allocator + Copy, R: Read>(
     reader: &mut R,
 ) -> Result<Vec<u8, A>, TraceError>
     ensures bytes { IfOk result (λ v. IfSome (R.remaining reader.old) (λ xs. v.items ≡ xs)) }
-    ensures within { IfOk result (λ v. length v.items ≤ 16777216) }
+    ensures within { IfOk result (λ v. length v.items ≤ trace_limit) }
     ensures fault { IfErr result (λ e. (e ≡ TraceError.ReadFault) ⊎ (e ≡ TraceError.HostMemory 0)) }
 {
     let mut bytes = Vec::new(alloc);
@@ -41,6 +41,24 @@ fn read_all<A: Allocator + Copy, R: Read>(
     Err(TraceError::ReadFault)
 }
 
+/// Checks the bytes of a trace whole, and then plays it on a new system.
+fn run_bytes<A: Allocator + Copy + Send + Sync, W: Write>(
+    alloc: A,
+    heap: Global,
+    bytes: &[u8],
+    writer: &mut W,
+) -> Result<Summary, TraceError>
+    ensures runs { Runs (trace_of bytes.now) (W.contents writer.old) (W.contents writer.new) result }
+    ensures silent { IfErr result (λ e. IsSilent e (W.contents writer.old) (W.contents writer.new)) }
+{
+    let trace = read_trace(alloc, heap, bytes)?;
+    let Trace { geometry, steps } = trace;
+    let Ok(mut system) = System::new(alloc, geometry) else {
+        return Err(TraceError::HostMemory(0));
+    };
+    play_steps(alloc, &mut system, steps.as_slice(), writer)
+}
+
 /// Reads a trace to its end, checks it whole, plays it on a new system and writes the report. The system, the bytes and
 /// the lines stand in the memory of `alloc`, and the JSON value in that of `heap`.
 ///
@@ -52,15 +70,10 @@ pub fn run_trace<A: Allocator + Copy + Send + Sync, R: Read, W: Write>(
     reader: &mut R,
     writer: &mut W,
 ) -> Result<Summary, TraceError>
-    ensures runs { IfSome (R.remaining reader.old) (λ bytes. Runs (trace_of bytes) (W.contents writer.old) (W.contents writer.new) result) }
-    ensures within { OnOk result (IfSome (R.remaining reader.old) (λ bytes. length bytes ≤ 16777216)) }
+    ensures runs { IfSome (R.remaining reader.old) (λ bytes. Runs (trace_within bytes) (W.contents writer.old) (W.contents writer.new) result) }
+    ensures front { IfSome (R.remaining reader.old) (λ bytes. WritesFront (trace_within bytes) (W.contents writer.old) (W.contents writer.new)) }
     ensures silent { IfErr result (λ e. IsSilent e (W.contents writer.old) (W.contents writer.new)) }
 {
     let bytes = read_all(alloc, reader)?;
-    let trace = read_trace(alloc, heap, bytes.as_slice())?;
-    let Trace { geometry, steps } = trace;
-    let Ok(mut system) = System::new(alloc, geometry) else {
-        return Err(TraceError::HostMemory(0));
-    };
-    play_steps(alloc, &mut system, steps.as_slice(), writer)
+    run_bytes(alloc, heap, bytes.as_slice(), writer)
 }

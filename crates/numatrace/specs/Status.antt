@@ -3,7 +3,8 @@ use Rattle.std.specs.Prelude.{◌≡◌, ◌⊎◌, ℕ, List, Option, Result, O
 use Rattle.nm_trace.specs.declared.trace_error.TraceError.{TraceError}
 use Rattle.nm_trace.specs.declared.trace_error.TraceError.TheVariants.{NotJson, BadMachine, BadStep, ReadFault, WriteFault, HostMemory}
 use Rattle.nm_trace.specs.Faults.{Plan}
-use Rattle.nm_trace.specs.Played.{Reports}
+use Rattle.std.specs.Io.KnownBytes.{Appends}
+use Rattle.nm_trace.specs.Played.{report_of}
 
 -- the exit status of a fault
 abbrev pub status_of : TraceError → ℕ
@@ -18,6 +19,6 @@ status_of WriteFault = 4
 abbrev pub IsStatus : ℕ → Type 0
 IsStatus status = (status ≡ 0) ⊎ ((status ≡ 2) ⊎ ((status ≡ 3) ⊎ (status ≡ 4)))
 
--- there is a trace, and the report on all its steps is written
+-- there is a trace, and the report on it is written
 abbrev pub ReportsWhole : Result Plan TraceError → Option (List ℕ) → Option (List ℕ) → Type 0
-ReportsWhole trace old new = (plan : Plan) × (trace ≡ Ok plan) × Reports plan.calls old new
+ReportsWhole trace old new = (plan : Plan) × (trace ≡ Ok plan) × Appends old new (report_of plan)

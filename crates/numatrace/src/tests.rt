@@ -96,18 +96,21 @@ fn changed(alloc: Global, text: &str, old: &str, new: &str) -> Result<String, Fa
     Ok(made)
 }
 
-/// A reader that gives what it has, and then fails.
+/// A reader that gives at most 64 bytes a call, and after so many calls fails.
 #[derive(Drop)]
 struct Failing<'a> {
     rest: &'a [u8],
+    calls: usize,
 }
 
 impl Read for Failing<'_> {
     fn read(&mut self, buf: &mut [u8]) -> io::Result<usize> {
-        if self.rest.is_empty() {
+        if self.calls == 0 {
             return Err(io::Error::from(ErrorKind::Other));
         }
-        self.rest.read(buf)
+        self.calls -= 1;
+        let room = buf.len().min(64);
+        self.rest.read(&mut buf[..room])
     }
 }
 
@@ -169,50 +172,6 @@ fn reports_on_moved_pages(rt: HostRuntime) -> Result<(), Fail> {
 }
 
 #[test]
-fn answers_batches(rt: HostRuntime) -> Result<(), Fail> {
-    let alloc = rt.alloc();
-    let none =
-        "{\"op\":\"move_pages\",\"caller\":1,\"pid\":1,\"pages\":[],\"nodes\":[],\"flags\":2}";
-    let there_and_back =
-        "{\"op\":\"move_pages\",\"caller\":1,\"pid\":0,\"pages\":[65536,65536],\"nodes\":[1,0],\"flags\":2}";
-    let pagemap = "{\"op\":\"pagemap\",\"pid\":1}";
-    let first = "{\"op\":\"free\",\"node\":0}";
-    let second = "{\"op\":\"free\",\"node\":1}";
-    let trace = started(alloc, &[none, there_and_back, pagemap, first, second])?;
-    let ran = run(alloc, trace.as_bytes())?;
-    let mut report = String::from_str(alloc, STARTED)?;
-    report.push_str("5 move_pages 0:\n6 move_pages 0: 1 0\n")?;
-    report.push_str(
-        "7 pagemap 3: 00010000=3 00011000=1 00012000=2\n8 free 1: 0\n9 free 4: 5 6 7 4\n",
-    )?;
-    assert_eq!(rt; ran.out.as_slice(), report.as_bytes());
-    assert_eq!(rt; ran.status, 0);
-    Ok(())
-}
-
-#[test]
-fn names_refusals(rt: HostRuntime) -> Result<(), Fail> {
-    let alloc = rt.alloc();
-    let unknown =
-        "{\"op\":\"move_pages\",\"caller\":2,\"pid\":2,\"pages\":[65536],\"nodes\":[9],\"flags\":2}";
-    let later_node =
-        "{\"op\":\"move_pages\",\"caller\":1,\"pid\":1,\"pages\":[65536,69632],\"nodes\":[1,9],\"flags\":2}";
-    let node = "{\"op\":\"free\",\"node\":2}";
-    let process = "{\"op\":\"pagemap\",\"pid\":7}";
-    let place = "{\"op\":\"read\",\"pid\":1,\"addr\":0,\"len\":1}";
-    let pagemap = "{\"op\":\"pagemap\",\"pid\":1}";
-    let trace = started(alloc, &[unknown, later_node, node, process, place, pagemap])?;
-    let ran = run(alloc, trace.as_bytes())?;
-    let mut report = String::from_str(alloc, STARTED)?;
-    report.push_str("5 move_pages error ESRCH\n6 move_pages error ENODEV\n7 free error EINVAL\n")?;
-    report.push_str("8 pagemap error ESRCH\n9 read error EFAULT\n")?;
-    report.push_str("10 pagemap 3: 00010000=0 00011000=1 00012000=2\n")?;
-    assert_eq!(rt; ran.out.as_slice(), report.as_bytes());
-    assert_eq!(rt; ran.status, 0);
-    Ok(())
-}
-
-#[test]
 fn refuses_one_process_too_many(rt: HostRuntime) -> Result<(), Fail> {
     let alloc = rt.alloc();
     let mut trace = String::from_str(
@@ -238,86 +197,189 @@ fn refuses_one_process_too_many(rt: HostRuntime) -> Result<(), Fail> {
     Ok(())
 }
 
-#[test]
-fn tells_the_first_fault_of_a_trace(rt: HostRuntime) -> Result<(), Fail> {
-    let alloc = rt.alloc();
-    let cut = &TRACE.as_bytes()[..TRACE.len() / 2];
-    let distance = changed(alloc, TRACE, "[[10,20],[20,10]]", "[[10,10],[20,10]]")?;
-    let sizes = changed(alloc, TRACE, "\"nodes\":[4,4]", "\"nodes\":[4,0]")?;
-    let process = changed(
-        alloc,
-        TRACE,
+/// The trace with one place changed, and what is told of it.
+const FAULTS: [(&str, &str, &str); 23] = [
+    ("[[10,20],[20,10]]", "[[10,10],[20,10]]", "bad machine"),
+    ("\"nodes\":[4,4]", "\"nodes\":[4,0]", "bad machine"),
+    ("\"version\":1", "\"version\":2", "bad machine"),
+    ("\"version\":1", "\"version\":1.0", "bad machine"),
+    ("\"version\":1", "\"version\":1e0", "bad machine"),
+    ("\"version\":1", "\"version\":\"1\"", "bad machine"),
+    ("\"version\":1", "\"version\":true", "bad machine"),
+    ("\"version\":1", "\"version\":01", "not JSON"),
+    ("\"version\":1", "\"version\":+1", "not JSON"),
+    ("\"version\":1", "\"version\":1.", "not JSON"),
+    ("\"version\":1", "\"version\":1,\"note\":1e999", "not JSON"),
+    ("\"version\":1", "\"version\":1,\"note\":NaN", "not JSON"),
+    (
+        "\"version\":1",
+        "\"version\":1,\"note\":\"\\ud800\"",
+        "not JSON",
+    ),
+    ("\"version\":1", "\"version\":1,\"note\":\"\t\"", "not JSON"),
+    ("\"len\":2}]}", "\"len\":2}]} .", "not JSON"),
+    (
         "\"op\":\"write\",\"pid\":1,",
         "\"op\":\"write\",",
-    )?;
-    let targets = changed(alloc, TRACE, "\"nodes\":[1,1,1]", "\"nodes\":[1,1]")?;
-    let digits = changed(alloc, TRACE, "\"data\":\"62\"", "\"data\":\"6\"")?;
-    let both = changed(alloc, digits.as_str(), "\"op\":\"free\"", "\"op\":\"exit\"")?;
-    let flags = changed(alloc, TRACE, "\"flags\":2", "\"flags\":4")?;
-    let faults: [(&[u8], &str); 10] = [
-        (b"", "numatrace: not JSON\n"),
-        (cut, "numatrace: not JSON\n"),
-        (b"[]", "numatrace: bad machine\n"),
-        (distance.as_bytes(), "numatrace: bad machine\n"),
-        (sizes.as_bytes(), "numatrace: bad machine\n"),
-        (process.as_bytes(), "numatrace: bad step 2\n"),
-        (targets.as_bytes(), "numatrace: bad step 5\n"),
-        (digits.as_bytes(), "numatrace: bad step 3\n"),
-        (both.as_bytes(), "numatrace: bad step 3\n"),
-        (flags.as_bytes(), "numatrace: bad step 5\n"),
-    ];
-    for (trace, text) in faults {
-        let ran = run(alloc, trace)?;
-        assert_eq!(rt; ran.err.as_slice(), text.as_bytes());
-        assert_eq!(rt; ran.out.len(), 0, "at {text}");
-        assert_eq!(rt; ran.status, 2, "at {text}");
+        "bad step 2",
+    ),
+    ("\"nodes\":[1,1,1]", "\"nodes\":[1,1]", "bad step 5"),
+    ("\"data\":\"62\"", "\"data\":\"6\"", "bad step 3"),
+    ("\"flags\":2", "\"flags\":4", "bad step 5"),
+    ("\"allowed\":[0,1]", "\"allowed\":[0,64]", "bad step 0"),
+    (
+        "\"allowed\":[0,1]",
+        "\"allowed\":[0,1],\"privileged\":null",
+        "bad step 0",
+    ),
+    ("\"uid\":100", "\"uid\":4294967296", "bad step 0"),
+    ("\"len\":2", "\"len\":18446744073709551616", "bad step 9"),
+];
+
+#[test]
+fn tells_the_fault_of_a_trace(rt: HostRuntime) -> Result<(), Fail> {
+    let alloc = rt.alloc();
+    for (old, new, text) in FAULTS {
+        let trace = changed(alloc, TRACE, old, new)?;
+        let ran = run(alloc, trace.as_bytes())?;
+        assert!(rt; is_fault(&ran, text), "at {new}");
+    }
+    Ok(())
+}
+
+/// Whether a run wrote nothing, and told this.
+fn is_fault(ran: &Ran, text: &str) -> bool {
+    let line = ran.err.as_slice().strip_prefix(b"numatrace: ");
+    ran.status == 2
+        && ran.out.is_empty()
+        && line.is_some_and(|line| line.strip_suffix(b"\n") == Some(text.as_bytes()))
+}
+
+/// The trace with one place changed, which changes nothing.
+const SAME: [(&str, &str); 5] = [
+    ("\"version\":1", "\"version\":2,\"version\":1"),
+    (
+        "\"version\":1",
+        "\"version\":1,\"run_limit\":\"none\",\"note\":[{}]",
+    ),
+    (
+        "\"allowed\":[0,1]",
+        "\"allowed\":[1,0,1],\"privileged\":false",
+    ),
+    ("\"pages\":3", "\"pages\":3,\"shared\":7"),
+    ("\"steps\"", " \"st\\u0065ps\" "),
+];
+
+#[test]
+fn reads_other_spellings(rt: HostRuntime) -> Result<(), Fail> {
+    let alloc = rt.alloc();
+    for (old, new) in SAME {
+        let trace = changed(alloc, TRACE, old, new)?;
+        let ran = run(alloc, trace.as_bytes())?;
+        assert!(rt;
+            ran.status == 0 && ran.out.as_slice() == REPORT.as_bytes(),
+            "at {new}"
+        );
     }
     Ok(())
 }
 
 #[test]
-fn fails_with_its_reader(rt: HostRuntime) -> Result<(), Fail> {
+fn tells_the_first_fault(rt: HostRuntime) -> Result<(), Fail> {
     let alloc = rt.alloc();
+    let digits = changed(alloc, TRACE, "\"data\":\"62\"", "\"data\":\"6\"")?;
+    let both = changed(alloc, digits.as_str(), "\"op\":\"free\"", "\"op\":\"exit\"")?;
+    let faults: [(&[u8], &str); 6] = [
+        (b"", "not JSON"),
+        (&TRACE.as_bytes()[..TRACE.len() / 2], "not JSON"),
+        (b"\xef\xbb\xbf[]", "not JSON"),
+        (b"[\"\xff\"]", "not JSON"),
+        (b"[]", "bad machine"),
+        (both.as_bytes(), "bad step 3"),
+    ];
+    for (trace, text) in faults {
+        let ran = run(alloc, trace)?;
+        assert!(rt; is_fault(&ran, text), "at {text}");
+    }
+    Ok(())
+}
+
+/// A step that names one page so many times and moves it to node 1.
+fn one_page_named(alloc: Global, entries: usize) -> Result<String, AllocError> {
+    let mut step = String::from_str(
+        alloc,
+        "{\"op\":\"move_pages\",\"caller\":1,\"pid\":0,\"pages\":[65536",
+    )?;
+    for _ in 1..entries {
+        step.push_str(",65536")?;
+    }
+    step.push_str("],\"nodes\":[1")?;
+    for _ in 1..entries {
+        step.push_str(",1")?;
+    }
+    step.push_str("],\"flags\":2}")?;
+    Ok(step)
+}
+
+#[test]
+fn takes_16384_pages(rt: HostRuntime) -> Result<(), Fail> {
+    let alloc = rt.alloc();
+    let step = one_page_named(alloc, 16_384)?;
+    let trace = started(alloc, &[step.as_str(), "{\"op\":\"free\",\"node\":1}"])?;
+    let ran = run(alloc, trace.as_bytes())?;
+    assert_eq!(rt; ran.status, 0);
+    assert_eq!(rt; ran.out.len(), STARTED.len() + 16 + 2 * 16_384 + 16);
+    assert!(rt; ran.out.as_slice().ends_with(b" 1 1 1\n6 free 3: 5 6 7\n"));
+    Ok(())
+}
+
+#[test]
+fn refuses_16385_pages(rt: HostRuntime) -> Result<(), Fail> {
+    let alloc = rt.alloc();
+    let step = one_page_named(alloc, 16_385)?;
+    let trace = started(alloc, &[step.as_str()])?;
+    let ran = run(alloc, trace.as_bytes())?;
+    assert!(rt; is_fault(&ran, "bad step 5"));
+    Ok(())
+}
+
+/// What the program says of a reader, and its status. Nothing else is written.
+fn read_from<R: Read>(alloc: Global, reader: &mut R) -> Result<Ran, AllocError> {
     let words = no_words(alloc)?;
     let mut out = Vec::new(alloc);
     let mut err = Vec::new(alloc);
-    let mut failing = Failing {
-        rest: TRACE.as_bytes(),
-    };
-    let status = run_words(
-        alloc,
-        alloc,
-        words.as_slice(),
-        &mut failing,
-        &mut out,
-        &mut err,
-    );
-    assert_eq!(rt; status, 4);
-    let mut long = Repeated { left: 16_777_217 };
-    let status = run_words(
-        alloc,
-        alloc,
-        words.as_slice(),
-        &mut long,
-        &mut out,
-        &mut err,
-    );
-    assert_eq!(rt; status, 4);
-    assert_eq!(rt;
-        err.as_slice(),
-        b"numatrace: read fault\nnumatrace: read fault\n".as_slice()
-    );
+    let status = run_words(alloc, alloc, words.as_slice(), reader, &mut out, &mut err);
+    Ok(Ran { status, out, err })
+}
+
+/// Whether a run wrote nothing, and told that the reader failed.
+fn is_read_fault(ran: &Ran) -> bool {
+    ran.status == 4
+        && ran.out.is_empty()
+        && ran.err.as_slice() == b"numatrace: read fault\n".as_slice()
+}
+
+#[test]
+fn fails_with_its_reader(rt: HostRuntime) -> Result<(), Fail> {
+    for calls in 0..=TRACE.len().div_ceil(64) {
+        let mut failing = Failing {
+            rest: TRACE.as_bytes(),
+            calls,
+        };
+        let ran = read_from(rt.alloc(), &mut failing)?;
+        assert!(rt; is_read_fault(&ran), "at {calls} calls");
+    }
+    Ok(())
+}
+
+#[test]
+fn reads_16777216_bytes(rt: HostRuntime) -> Result<(), Fail> {
     let mut whole = Repeated { left: 16_777_216 };
-    let status = run_words(
-        alloc,
-        alloc,
-        words.as_slice(),
-        &mut whole,
-        &mut out,
-        &mut err,
-    );
-    assert_eq!(rt; status, 2);
-    assert_eq!(rt; out.len(), 0);
+    let ran = read_from(rt.alloc(), &mut whole)?;
+    assert!(rt; is_fault(&ran, "not JSON"));
+    let mut long = Repeated { left: 16_777_217 };
+    let ran = read_from(rt.alloc(), &mut long)?;
+    assert!(rt; is_read_fault(&ran));
     Ok(())
 }
 

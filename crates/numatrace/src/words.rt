@@ -2,7 +2,8 @@
 
 ghost use Rattle.std.specs.Prelude.{◌≡◌, [], IfSome};
 ghost use Rattle.std.specs.Io.KnownBytes.{Appends};
-ghost use Rattle.nm_trace.specs.Faults.{trace_of};
+ghost use Rattle.nm_trace.specs.Faults.{trace_within};
+ghost use Rattle.nm_trace.specs.Played.{WritesFront};
 ghost use Rattle.numatrace.specs.Status.{status_of, IsStatus, ReportsWhole};
 
 use clap::error::ErrorKind;
@@ -56,7 +57,9 @@ pub fn run_words<A: Allocator + Copy + Send + Sync, R: Read, W: Write, E: Write>
 ) -> u8
     ensures status { IsStatus result }
     ensures whole { result ≡ 0 → IfSome (R.remaining reader.old) (λ bytes.
-        ReportsWhole (trace_of bytes) (W.contents out.old) (W.contents out.new)) }
+        ReportsWhole (trace_within bytes) (W.contents out.old) (W.contents out.new)) }
+    ensures front { IfSome (R.remaining reader.old) (λ bytes.
+        WritesFront (trace_within bytes) (W.contents out.old) (W.contents out.new)) }
     ensures bad { result ≡ 2 → Appends (W.contents out.old) (W.contents out.new) [] }
 {
     if let Err(error) = read_words(heap, words) {

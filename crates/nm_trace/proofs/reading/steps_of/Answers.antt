@@ -1,4 +1,4 @@
-use Rattle.std.proofs.Common.{◌∷◌, map, sym, ap, ◌∙◌}
+use Rattle.std.proofs.Common.{map}
 use Rattle.std.proofs.lemmas.List.{map-append}
 use Rattle.nm_trace.specs.Form.{step_of}
 use Rattle.nm_trace.specs.Gives.{call_of}

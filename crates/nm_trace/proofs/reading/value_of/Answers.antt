@@ -1,5 +1,4 @@
 use Rattle.std.proofs.Common.{IsTrue, false, rules, refl}
-use Rattle.nm_trace.specs.Faults.{value_of}
 use Rattle.nm_trace.proofs.Text.{value_is, value_none}
 use Rattle.nm_trace.proofs.reading.value_of.Goals as goal
 

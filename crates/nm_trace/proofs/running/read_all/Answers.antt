@@ -1,5 +1,5 @@
-use Rattle.std.proofs.Common.{◌≡◌, arith, rules, refl, take, List, []}
-use Rattle.nm_trace.proofs.Known.{consumes_more, consumes_nothing, consumed_all}
+use Rattle.std.proofs.Common.{rules}
+use Rattle.nm_trace.proofs.Known.{consumes_nothing}
 use Rattle.nm_trace.proofs.running.read_all.Goals as goal
 
 pub loop-buffer-init : goal.loop-buffer-init
