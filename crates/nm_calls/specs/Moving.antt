@@ -1,6 +1,6 @@
 -- Batches of pages to be moved: what is refused, and the requests and their runs.
-use Rattle.std.specs.Prelude.{◌≡◌, ℕ, nat_le, ◌/◌, ◌==◌, ℤ, negsuc, Bool, not, ◌||◌, List, [], ◌∷◌, map, length, drop, count_by, slice_index, Option, Some, None, if◌then◌else◌}
-use Rattle.std.specs.Ordering.{nat_cmp, int_eq}
+use Rattle.std.specs.Prelude.{◌≡◌, ℕ, nat_le, ◌/◌, ◌==◌, Bool, not, ◌||◌, List, [], ◌∷◌, map, length, drop, slice_index, Option, Some, None, if◌then◌else◌}
+use Rattle.std.specs.Ordering.{nat_cmp}
 use Rattle.std.specs.List.{take_while}
 use Rattle.nm_types.specs.declared.errno.Errno.{Errno}
 use Rattle.nm_types.specs.declared.errno.Errno.TheVariants.{Esrch, Eacces, Enodev}
@@ -12,6 +12,7 @@ use Rattle.nm_runs.specs.declared.Wanted.{Wanted}
 use Rattle.nm_runs.specs.declared.Wanted.TheVariants.{At}
 use Rattle.nm_runs.specs.Cut.{Request, cut}
 use Rattle.nm_engine.specs.Refused.{first_error}
+pub use Rattle.nm_engine.specs.Run.{failures}
 
 -- no such node, or it is not online; then a node that is not allowed
 abbrev pub node_refusal : State → List ℕ → ℕ → Option Errno
@@ -47,10 +48,6 @@ abbrev pub requests_of : ℕ → Bool → List ℕ → List ℕ → List Request
 requests_of pid all (address ∷ addresses) (node ∷ nodes) =
     record { target = node; wanted = At pid (address / 4096) all } ∷ requests_of pid all addresses nodes
 requests_of pid all addresses nodes = []
-
--- how many entries failed: their page is pinned, or the target has no free frame
-abbrev pub failures : List ℤ → ℕ
-failures statuses = count_by (λ status. int_eq status (negsuc 15) || int_eq status (negsuc 11)) statuses
 
 -- how many nodes at the front are the first one
 abbrev pub same_front : List ℕ → ℕ

@@ -63,15 +63,17 @@ after s (MovePages caller pid pages nodes flags) =
 after s (FreeList node) = s
 after s (Pagemap pid) = s
 
--- what a call answers, and the state after it; one that is refused changes nothing
+-- an answer, and the state after it
 pub record Outcome : Type 0 where
   pub answer : Answer
   pub state : State
 
+-- the refusal and the state as it was, unless there is no refusal
 abbrev pub unless : Option Errno → State → Outcome → Outcome
 unless (Some e) s o = record { answer = Refusal e; state = s }
 unless None s o = o
 
+-- what a call answers, and the state after it; one that is refused changes nothing
 abbrev pub outcome : State → Call → Outcome
 outcome s call = unless (refused s call) s (record { answer = answered s call; state = after s call })
 

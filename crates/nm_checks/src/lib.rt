@@ -1,5 +1,15 @@
-//! Tests that cross crates, and tests in which each allocation is refused in turn.
+//! Tests that cross crates, tests of what no trace can say, and tests in which each allocation is refused in turn.
 #![tactic(auto)]
 
 #[cfg(test)]
+mod machine;
+#[cfg(test)]
+mod policies;
+#[cfg(test)]
 mod refusals;
+#[cfg(test)]
+mod rmap;
+#[cfg(test)]
+mod tables;
+#[cfg(test)]
+mod traces;

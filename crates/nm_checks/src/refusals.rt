@@ -1,11 +1,10 @@
+use crate::machine::{Heap, both_nodes, two_nodes};
 use nm_engine::{Entry, Machine, MachineError, Run, Totals, Wanted};
 use nm_refusing::Refusing;
-use nm_types::{FrameId, Geometry, NodeId, NodeMask, Pid, Policy, Vpn};
-use std::alloc::{AllocError, Global};
+use nm_types::{FrameId, NodeId, Pid, Policy, Vpn};
+use std::alloc::AllocError;
 use std::process::Abort;
 use std::test::Fail;
-
-type Heap<'a> = &'a Refusing<Global>;
 
 /// What can be seen of a machine of two nodes and process 1.
 #[derive(Drop)]
@@ -58,29 +57,25 @@ const CALLS: [Call; 13] = [
     Call::Audit,
 ];
 
-/// Two nodes of four frames, at distance 20.
-fn two_nodes(heap: Heap<'_>) -> Result<Machine<Heap<'_>>, AllocError> {
-    let near = vec![in heap; 10u8, 20u8]?;
-    let far = vec![in heap; 20u8, 10u8]?;
-    match Geometry::new(vec![in heap; 4u32, 4u32]?, vec![in heap; near, far]?) {
-        Ok(geometry) => Machine::new(heap, geometry),
-        Err(_) => Err(AllocError),
+/// The page of process 1 at a page number.
+fn page_at(number: u64) -> Wanted {
+    Wanted::At {
+        pid: Pid::new(1),
+        vpn: Vpn::new(number),
+        all: false,
     }
+}
+
+/// Pages 16 to 18 of process 1.
+fn three_pages(heap: Heap<'_>) -> Result<Vec<Wanted, Heap<'_>>, AllocError> {
+    (16..19u64).map(page_at).collect(heap)
 }
 
 /// Pages 16 to 18 of process 1 to node 1.
 fn to_the_other_node(heap: Heap<'_>) -> Result<Run<Heap<'_>>, AllocError> {
-    let mut wanted = Vec::new(heap);
-    for page in 16..19u64 {
-        wanted.push(Wanted::At {
-            pid: Pid::new(1),
-            vpn: Vpn::new(page),
-            all: false,
-        })?;
-    }
     Ok(Run {
         target: NodeId::new(1),
-        wanted,
+        wanted: three_pages(heap)?,
     })
 }
 
@@ -99,12 +94,7 @@ fn perform<'a>(
 ) -> Result<(), MachineError> {
     let one = Pid::new(1);
     match call {
-        Call::Spawn => {
-            let mut allowed = NodeMask::new();
-            allowed.insert(NodeId::new(0));
-            allowed.insert(NodeId::new(1));
-            machine.spawn(one, 100, NodeId::new(0), allowed, false)
-        }
+        Call::Spawn => { machine.spawn(one, 100, NodeId::new(0), both_nodes(), false) }
         Call::Map => machine.map(one, 0x10000, 3).map(|_| ()),
         Call::Policy(addr) => machine.set_policy(one, addr, 4096, Policy::Local),
         Call::Write(addr, byte) => machine.write(one, addr, [byte].as_slice()),

@@ -17,7 +17,7 @@ use Rattle.nm_types.specs.Layout.{Layout, node_count}
 use Rattle.nm_types.specs.Nodes.{up_from}
 use Rattle.nm_types.specs.State.{Process, State}
 use Rattle.nm_engine.specs.Effect.{spawn, map_new, new_machine, all_frames}
-use Rattle.nm_engine.specs.declared.entry.Entry.{Entry}
+use Rattle.nm_tables.specs.declared.entry.Entry.{Entry}
 use Rattle.nm_engine.specs.Entries.{entry_of}
 use Rattle.nm_engine.specs.Refused.{first_error, is_unknown, spawn_refusal, map_refusal, list_refusal}
 use Rattle.nm_engine.specs.declared.process.ProcessInfo.{ProcessInfo}

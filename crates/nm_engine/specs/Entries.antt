@@ -7,8 +7,8 @@ use Rattle.nm_types.specs.declared.sight.Sight.{Sight}
 use Rattle.nm_types.specs.declared.sight.Sight.TheVariants.{ZeroPage, Sees}
 use Rattle.nm_types.specs.Map.{Map, get, page_cmp, with_values}
 use Rattle.nm_types.specs.State.{State}
-use Rattle.nm_engine.specs.declared.entry.Entry.{Entry}
-use Rattle.nm_engine.specs.declared.entry.Entry.TheVariants.{Zero, Frame}
+use Rattle.nm_tables.specs.declared.entry.Entry.{Entry}
+use Rattle.nm_tables.specs.declared.entry.Entry.TheVariants.{Zero, Frame}
 
 -- the entry of what is seen: the page of zeros, or the frame of the page
 abbrev pub entry_of : Map Page ℕ → Sight → Entry

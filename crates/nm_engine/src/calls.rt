@@ -16,12 +16,12 @@ ghost use Rattle.nm_engine.specs.Sound.{IsSound};
 ghost use Rattle.nm_engine.specs.Amid.{with_state};
 ghost use Rattle.nm_engine.specs.Does.{Makes, Tells};
 
-use crate::entry::Entry;
 use crate::machine::Totals;
 use crate::machine_error::MachineError;
 use crate::parts::Parts;
 use crate::process::ProcessInfo;
 use crate::stock::Stock;
+use nm_tables::Entry;
 use nm_types::limits::{MAX_PROCESSES, MAX_SEGMENTS, PAGE_NUMBERS};
 use nm_types::{Errno, FrameId, NodeId, NodeMask, Pid, Sight, Vpn};
 use std::alloc::{AllocError, Allocator};

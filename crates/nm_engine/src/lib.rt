@@ -4,7 +4,6 @@
 mod area_map;
 mod audit;
 mod calls;
-mod entry;
 pub mod laws;
 mod machine;
 mod machine_error;
@@ -14,13 +13,11 @@ mod policing;
 mod process;
 mod stock;
 mod tasks;
-#[cfg(test)]
-mod tests;
 mod touch;
 mod touching;
 
-pub use entry::Entry;
 pub use machine::{Machine, Totals};
 pub use machine_error::MachineError;
 pub use nm_runs::{Run, Wanted};
+pub use nm_tables::Entry;
 pub use process::ProcessInfo;

@@ -17,11 +17,11 @@ ghost use Rattle.nm_engine.specs.Audited.{audited};
 ghost use Rattle.nm_engine.specs.Sound.{IsSound};
 ghost use Rattle.nm_engine.specs.Does.{Makes, Tells, Accesses};
 
-use crate::entry::Entry;
 use crate::machine_error::MachineError;
 use crate::parts::Parts;
 use crate::process::ProcessInfo;
 use nm_runs::Run;
+use nm_tables::Entry;
 use nm_types::{FrameId, Geometry, NodeId, NodeMask, Pid, Policy, Vpn};
 use std::alloc::{AllocError, Allocator};
 use std::marker::Model;

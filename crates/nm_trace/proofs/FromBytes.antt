@@ -1,5 +1,5 @@
 -- A run that plays the trace of its bytes.
-use Rattle.std.proofs.Common.{◌≡◌, ℕ, ◌≤◌, List, [], ◌++◌, length, take, Option, Some, None, IfSome, IfErr, Result, Ok, Err, refl, sym, ap, ◌∙◌, subst, append_assoc, inl, inr, arith}
+use Rattle.std.proofs.Common.{◌≡◌, ℕ, ◌≤◌, List, [], ◌++◌, length, take, Option, Some, None, IfSome, IfErr, Result, Ok, Err, ◌⊎◌, refl, sym, ap, ◌∙◌, subst, append_assoc, inl, inr, arith}
 use Rattle.std.proofs.lemmas.List.{append-nil}
 use Rattle.std.specs.Io.KnownBytes.{Appends}
 use Rattle.nm_types.specs.State.{State}
@@ -8,7 +8,7 @@ use Rattle.nm_calls.specs.Outcome.{new_machine}
 use Rattle.nm_trace.specs.declared.playing.Summary.{Summary}
 use Rattle.nm_trace.specs.declared.trace_error.TraceError.{TraceError}
 use Rattle.nm_trace.specs.declared.trace_error.TraceError.TheVariants.{NotJson, BadMachine, BadStep, ReadFault, WriteFault, HostMemory}
-use Rattle.nm_trace.specs.Faults.{Plan, trace_of, trace_within, trace_limit}
+use Rattle.nm_trace.specs.Faults.{Plan, OfSomeBytes, trace_of, trace_within, trace_limit}
 use Rattle.nm_trace.specs.Report.{report_from}
 use Rattle.nm_trace.specs.Played.{AppendsFront, Plays, PlaysNew, Runs, IsSilent, WritesFront, report_of}
 use Rattle.nm_trace.proofs.InParts.{report_upto}
@@ -85,7 +85,15 @@ within : (bytes : List ℕ) → length bytes ≤ trace_limit → trace_within by
 within bytes h = grind (arith, h)
 
 -- what holds of the bytes that were read holds of those that were there
-pub of_all_read : (Holds : Result Plan TraceError → Type 0) (remaining : Option (List ℕ)) (items bytes : List ℕ) → IfSome remaining (λ xs. items ≡ xs) → length items ≤ trace_limit → bytes ≡ items → Holds (trace_of bytes) → IfSome remaining (λ xs. Holds (trace_within xs))
-of_all_read Holds None items bytes left few is h = tt
-of_all_read Holds (Some xs) items bytes left few is h =
-    subst Holds (ap trace_of is ∙ (sym (within items few) ∙ ap trace_within left)) h
+pub of_all_read : (Holds : Result Plan TraceError → Type 0) (remaining : Option (List ℕ)) (items bytes : List ℕ) → IfSome remaining (λ xs. items ≡ xs) → length items ≤ trace_limit → bytes ≡ items → Holds (trace_of bytes) → OfSomeBytes remaining Holds
+of_all_read Holds remaining items bytes left few is h = (items, left, subst Holds (ap trace_of is ∙ sym (within items few)) h)
+
+-- what holds of every trace
+pub of_any : (Holds : Result Plan TraceError → Type 0) (remaining : Option (List ℕ)) → ((trace : Result Plan TraceError) → Holds trace) → OfSomeBytes remaining Holds
+of_any Holds None h = ([], tt, h (trace_within []))
+of_any Holds (Some xs) h = (xs, refl, h (trace_within xs))
+
+-- where nothing was read, nothing is played
+pub not_read : (old new : Option (List ℕ)) (result : Result Summary TraceError) (e : TraceError) → result ≡ Err e → ((e ≡ ReadFault) ⊎ (e ≡ HostMemory 0)) → Appends old new [] → (trace : Result Plan TraceError) → Runs trace old new result × WritesFront trace old new
+not_read old new result e is (inl h) a trace = (rw (is, h) tt, nothing trace old new a)
+not_read old new result e is (inr h) a trace = (rw (is, h) (inl refl), nothing trace old new a)

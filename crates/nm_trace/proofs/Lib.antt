@@ -4,3 +4,4 @@ pub mod Texts
 pub mod Known
 pub mod InParts
 pub mod FromBytes
+pub mod Least

@@ -1,5 +1,5 @@
 -- Which bytes are which trace, and else the first fault.
-use Rattle.std.specs.Prelude.{◌≡◌, ℕ, suc, nat_le, List, length, ◌==◌, if◌then◌else◌, Option, None, is_some, Result, Ok, Err, codes}
+use Rattle.std.specs.Prelude.{◌≡◌, ℕ, suc, nat_le, List, length, ◌==◌, if◌then◌else◌, Option, None, IfSome, is_some, Result, Ok, Err, codes}
 use Rattle.std.specs.Option.{ok_or}
 use Rattle.std.specs.Str.{is_utf8}
 use Rattle.serde_json.specs.Data.{Data, Items, no_items, item}
@@ -57,6 +57,10 @@ trace_limit = 16777216
 -- the trace that bytes are; more bytes than a trace has are not read
 abbrev pub trace_within : List ℕ → Result Plan TraceError
 trace_within bytes = if nat_le (length bytes) trace_limit then trace_of bytes else Err ReadFault
+
+-- something holds of the trace of some bytes: of those that are left to be read, where they are known
+abbrev pub OfSomeBytes : Option (List ℕ) → (Result Plan TraceError → Type 0) → Type 0
+OfSomeBytes remaining Holds = (bytes : List ℕ) × IfSome remaining (λ xs. bytes ≡ xs) × Holds (trace_within bytes)
 
 -- An error is the fault, unless memory ran out before the first step.
 abbrev pub Fails : {Y : Type 0} → TraceError → Result Y TraceError → Type 0

@@ -4,3 +4,4 @@ pub mod Faults
 pub mod Report
 pub mod Answers
 pub mod Played
+pub mod Laws

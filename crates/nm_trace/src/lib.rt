@@ -3,6 +3,7 @@
 
 mod answer;
 mod fields;
+pub mod laws;
 mod lines;
 mod machine;
 mod playing;

@@ -1,7 +1,7 @@
 //! From a reader's bytes to a writer's report.
 
 ghost use Rattle.std.specs.Prelude.{◌≡◌, ◌⊎◌, ◌≤◌, length, IfOk, IfErr, IfSome};
-ghost use Rattle.nm_trace.specs.Faults.{trace_of, trace_within, trace_limit};
+ghost use Rattle.nm_trace.specs.Faults.{OfSomeBytes, trace_of, trace_limit};
 ghost use Rattle.nm_trace.specs.Played.{Runs, IsSilent, WritesFront};
 
 use crate::playing::{Summary, play_steps};
@@ -70,8 +70,8 @@ pub fn run_trace<A: Allocator + Copy + Send + Sync, R: Read, W: Write>(
     reader: &mut R,
     writer: &mut W,
 ) -> Result<Summary, TraceError>
-    ensures runs { IfSome (R.remaining reader.old) (λ bytes. Runs (trace_within bytes) (W.contents writer.old) (W.contents writer.new) result) }
-    ensures front { IfSome (R.remaining reader.old) (λ bytes. WritesFront (trace_within bytes) (W.contents writer.old) (W.contents writer.new)) }
+    ensures runs { OfSomeBytes (R.remaining reader.old) (λ trace. Runs trace (W.contents writer.old) (W.contents writer.new) result
+        × WritesFront trace (W.contents writer.old) (W.contents writer.new)) }
     ensures silent { IfErr result (λ e. IsSilent e (W.contents writer.old) (W.contents writer.new)) }
 {
     let bytes = read_all(alloc, reader)?;

@@ -4,7 +4,7 @@ use Rattle.nm_trace.specs.declared.trace_error.TraceError.{TraceError}
 use Rattle.nm_trace.specs.declared.trace_error.TraceError.TheVariants.{NotJson, BadMachine, BadStep, ReadFault, WriteFault, HostMemory}
 use Rattle.nm_trace.specs.Faults.{Plan}
 use Rattle.std.specs.Io.KnownBytes.{Appends}
-use Rattle.nm_trace.specs.Played.{report_of}
+use Rattle.nm_trace.specs.Played.{report_of, WritesFront}
 
 -- the exit status of a fault
 abbrev pub status_of : TraceError → ℕ
@@ -22,3 +22,7 @@ IsStatus status = (status ≡ 0) ⊎ ((status ≡ 2) ⊎ ((status ≡ 3) ⊎ (st
 -- there is a trace, and the report on it is written
 abbrev pub ReportsWhole : Result Plan TraceError → Option (List ℕ) → Option (List ℕ) → Type 0
 ReportsWhole trace old new = (plan : Plan) × (trace ≡ Ok plan) × Appends old new (report_of plan)
+
+-- what was written is a front of the report, and after status 0 all of it
+abbrev pub Leaves : ℕ → Result Plan TraceError → Option (List ℕ) → Option (List ℕ) → Type 0
+Leaves status trace old new = (status ≡ 0 → ReportsWhole trace old new) × WritesFront trace old new

@@ -1,4 +1,5 @@
 use crate::words::run_words;
+use nm_refusing::Refusing;
 use std::alloc::{AllocError, Global};
 use std::io;
 use std::io::{ErrorKind, Read, Write};
@@ -457,5 +458,57 @@ fn keeps_its_status_where_err_fails(rt: HostRuntime) -> Result<(), Fail> {
         &mut err,
     );
     assert_eq!(rt; status, 2);
+    Ok(())
+}
+
+/// Runs the program without words on the trace, while the allocation of this number is refused. Gives whether it came to
+/// that allocation.
+fn run_refused(
+    global: Global,
+    heap: &Refusing<Global>,
+    number: u64,
+) -> Result<(bool, Ran), AllocError> {
+    let words = no_words(global)?;
+    let mut out = Vec::new(global);
+    let mut err = Vec::new(global);
+    let mut trace = TRACE.as_bytes();
+    heap.refuse(number);
+    let status = run_words(
+        heap,
+        global,
+        words.as_slice(),
+        &mut trace,
+        &mut out,
+        &mut err,
+    );
+    let met = heap.asked_since(number) >= number;
+    heap.refuse(0);
+    Ok((met, Ran { status, out, err }))
+}
+
+/// Whether a run that met a refusal told of it, after the lines of so many steps; a step that only looks may have made do
+/// with less memory, and then the report is whole.
+fn is_refusal(global: Global, ran: &Ran) -> Result<bool, AllocError> {
+    let lines = ran.out.iter().filter(|byte| **byte == b'\n').count();
+    let mut text = String::new(global);
+    write!(text, "numatrace: host memory refused after {lines} steps\n")?;
+    let whole = ran.status == 0 && ran.out.as_slice() == REPORT.as_bytes();
+    let told = ran.status == 3 && ran.err.as_slice() == text.as_bytes();
+    Ok(whole || told && REPORT.as_bytes().starts_with(ran.out.as_slice()))
+}
+
+#[test]
+fn tells_of_refused_memory(rt: HostRuntime) -> Result<(), Fail> {
+    let heap = Refusing::new(rt.alloc());
+    let mut refused = 0u64;
+    for number in 1..10_000u64 {
+        let (met, ran) = run_refused(rt.alloc(), &heap, number)?;
+        if !met {
+            refused = number - 1;
+            break;
+        }
+        assert!(rt; is_refusal(rt.alloc(), &ran)?, "allocation {number}");
+    }
+    assert!(rt; refused > 30, "{refused} refusals");
     Ok(())
 }

@@ -1,10 +1,9 @@
 //! The program over any words, reader and writers.
 
-ghost use Rattle.std.specs.Prelude.{◌≡◌, [], IfSome};
+ghost use Rattle.std.specs.Prelude.{◌≡◌, []};
 ghost use Rattle.std.specs.Io.KnownBytes.{Appends};
-ghost use Rattle.nm_trace.specs.Faults.{trace_within};
-ghost use Rattle.nm_trace.specs.Played.{WritesFront};
-ghost use Rattle.numatrace.specs.Status.{status_of, IsStatus, ReportsWhole};
+ghost use Rattle.nm_trace.specs.Faults.{OfSomeBytes};
+ghost use Rattle.numatrace.specs.Status.{status_of, IsStatus, Leaves};
 
 use clap::error::ErrorKind;
 use clap::{Command, Error};
@@ -56,10 +55,8 @@ pub fn run_words<A: Allocator + Copy + Send + Sync, R: Read, W: Write, E: Write>
     err: &mut E,
 ) -> u8
     ensures status { IsStatus result }
-    ensures whole { result ≡ 0 → IfSome (R.remaining reader.old) (λ bytes.
-        ReportsWhole (trace_within bytes) (W.contents out.old) (W.contents out.new)) }
-    ensures front { IfSome (R.remaining reader.old) (λ bytes.
-        WritesFront (trace_within bytes) (W.contents out.old) (W.contents out.new)) }
+    ensures reports { OfSomeBytes (R.remaining reader.old) (λ trace.
+        Leaves result trace (W.contents out.old) (W.contents out.new)) }
     ensures bad { result ≡ 2 → Appends (W.contents out.old) (W.contents out.new) [] }
 {
     if let Err(error) = read_words(heap, words) {

@@ -2,7 +2,7 @@ use Rattle.std.proofs.Common.{◌≡◌, ℕ, subst}
 use Rattle.std.specs.Prelude.{None}
 use Rattle.std.specs.Ordering.{nat_cmp}
 use Rattle.nm_types.specs.Map.{Map, get}
-use Rattle.nm_engine.specs.declared.entry.Entry.{Entry}
+use Rattle.nm_tables.specs.declared.entry.Entry.{Entry}
 use Rattle.nm_engine.specs.Entries.{entries_of}
 use Rattle.nm_engine.specs.Refused.{entries_refusal}
 use Rattle.nm_engine.specs.Amid.{Amid}

@@ -1,0 +1,83 @@
+use nm_refusing::Refusing;
+use nm_tables::{Entry, PageTable};
+use nm_types::{FrameId, Vpn};
+use std::alloc::{AllocError, Global};
+use std::test::Fail;
+
+type Heap<'a> = &'a Refusing<Global>;
+
+/// Whether the entries of a table are these.
+fn has(table: &PageTable<Heap<'_>>, entries: &[(Vpn, Entry)]) -> Result<bool, AllocError> {
+    let now = table.entries()?;
+    Ok(now.as_slice() == entries)
+}
+
+/// Puts an entry into a table, after each allocation of that was refused in turn: it answers so, and the table is as it
+/// was. Gives how many refusals there were.
+fn refuse_set<'a>(
+    heap: Heap<'a>,
+    table: &mut PageTable<Heap<'a>>,
+    vpn: Vpn,
+) -> Result<u64, AllocError> {
+    let before = table.entries()?;
+    for number in 1..100u64 {
+        heap.refuse(number);
+        let made = table.set(vpn, Entry::Frame(FrameId::new(7))).is_ok();
+        let met = heap.asked_since(number) >= number;
+        heap.refuse(0);
+        if !met && made {
+            return Ok(number - 1);
+        }
+        if made || !has(table, before.as_slice())? {
+            return Err(AllocError);
+        }
+    }
+    Err(AllocError)
+}
+
+/// Puts 40 entries into a table, every third page and downwards. Gives how many refusals there were.
+fn refuse_sets<'a>(heap: Heap<'a>, table: &mut PageTable<Heap<'a>>) -> Result<u64, AllocError> {
+    let mut refused = 0u64;
+    for page in 0..40u64 {
+        let more = refuse_set(heap, table, Vpn::new(120 - 3 * page))?;
+        refused = refused.saturating_add(more);
+    }
+    Ok(refused)
+}
+
+/// Whether a table gives these entries or none, when each allocation of that is refused in turn, and in the end gives
+/// them.
+fn refuse_entries(heap: Heap<'_>, table: &PageTable<Heap<'_>>, entries: &[(Vpn, Entry)]) -> bool {
+    for number in 1..100u64 {
+        heap.refuse(number);
+        let answer = has(table, entries);
+        let met = heap.asked_since(number) >= number;
+        heap.refuse(0);
+        match answer {
+            Ok(same) => {
+                if !met || !same {
+                    return same;
+                }
+            }
+            Err(_) => {
+                if !met {
+                    return false;
+                }
+            }
+        }
+    }
+    false
+}
+
+/// Each allocation of `set` and of `entries` is refused in turn.
+#[test]
+fn refused_tables(rt: HostRuntime) -> Result<(), Fail> {
+    let heap = Refusing::new(rt.alloc());
+    let mut table = PageTable::new(&heap);
+    let refused = refuse_sets(&heap, &mut table)?;
+    assert!(rt; refused > 3, "{refused} refusals");
+    let all = table.entries()?;
+    assert_eq!(rt; all.len(), 40usize);
+    assert!(rt; refuse_entries(&heap, &table, all.as_slice()));
+    Ok(())
+}

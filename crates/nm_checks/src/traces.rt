@@ -1,0 +1,123 @@
+//! Traces whose memory is refused.
+
+use nm_calls::System;
+use nm_refusing::Refusing;
+use nm_trace::{Summary, TraceError, play, read_trace, run_trace};
+use nm_types::Geometry;
+use std::alloc::{AllocError, Global};
+use std::test::Fail;
+
+type Heap<'a> = &'a Refusing<Global>;
+
+/// Three pages of one process, written on node 0, moved to node 1 and read there.
+const TRACE: &str =
+    "{\"version\":1,\"machine\":{\"nodes\":[4,4],\"distance\":[[10,20],[20,10]]},\"steps\":[
+{\"op\":\"spawn\",\"pid\":1,\"uid\":100,\"home\":0,\"allowed\":[0,1]},
+{\"op\":\"map\",\"pid\":1,\"addr\":65536,\"pages\":3},
+{\"op\":\"write\",\"pid\":1,\"addr\":65536,\"data\":\"61\"},
+{\"op\":\"write\",\"pid\":1,\"addr\":69632,\"data\":\"62\"},
+{\"op\":\"write\",\"pid\":1,\"addr\":73728,\"data\":\"63\"},
+{\"op\":\"move_pages\",\"caller\":1,\"pid\":0,\"pages\":[65536,69632,73728],\"nodes\":[1,0,1],\"flags\":2},
+{\"op\":\"free\",\"node\":0},
+{\"op\":\"pagemap\",\"pid\":1},
+{\"op\":\"read\",\"pid\":1,\"addr\":69632,\"len\":2}]}";
+
+const REPORT: &str = "0 spawn ok
+1 map segment=0
+2 write ok
+3 write ok
+4 write ok
+5 move_pages 0: 1 0 1
+6 free 3: 3 0 2
+7 pagemap 3: 00010000=4 00011000=1 00012000=5
+8 read 6200
+";
+
+/// Whether this is the report's first so many lines.
+fn is_front(written: &[u8], lines: usize) -> bool {
+    let ends = written.iter().filter(|byte| **byte == b'\n').count();
+    REPORT.as_bytes().starts_with(written)
+        && ends == lines
+        && (written.is_empty() || written.ends_with(b"\n"))
+}
+
+/// Whether a play that met a refusal wrote the lines of the steps that it tells of; a step that only looks may have made
+/// do with less memory, and then the report is whole.
+fn is_fine(played: Result<Summary, TraceError>, written: &[u8]) -> bool {
+    match played {
+        Ok(_) => written == REPORT.as_bytes(),
+        Err(TraceError::HostMemory(steps)) => is_front(written, steps),
+        Err(_) => false,
+    }
+}
+
+/// Runs the trace while the allocation of this number is refused. Gives whether it came to that allocation, and whether
+/// what it answered and wrote is fine.
+fn run_refused(heap: Heap<'_>, global: Global, number: u64) -> (bool, bool) {
+    let mut written = Vec::new(global);
+    heap.refuse(number);
+    let played = run_trace(heap, global, &mut TRACE.as_bytes(), &mut written);
+    let met = heap.asked_since(number) >= number;
+    heap.refuse(0);
+    (met, is_fine(played, written.as_slice()))
+}
+
+/// Each allocation of a run that passes through the lent allocator is refused in turn.
+#[test]
+fn refused_runs_write_a_front(rt: HostRuntime) -> Result<(), Fail> {
+    let heap = Refusing::new(rt.alloc());
+    let mut refused = 0u64;
+    for number in 1..10_000u64 {
+        let (met, fine) = run_refused(&heap, rt.alloc(), number);
+        assert!(rt; fine, "allocation {number}");
+        if !met {
+            refused = number - 1;
+            break;
+        }
+    }
+    assert!(rt; refused > 30, "{refused} refusals");
+    Ok(())
+}
+
+/// A system of two nodes of four frames, at distance 20.
+fn two_nodes(heap: Heap<'_>) -> Result<System<Heap<'_>>, AllocError> {
+    let near = vec![in heap; 10u8, 20u8]?;
+    let far = vec![in heap; 20u8, 10u8]?;
+    match Geometry::new(vec![in heap; 4u32, 4u32]?, vec![in heap; near, far]?) {
+        Ok(geometry) => System::new(heap, geometry),
+        Err(_) => Err(AllocError),
+    }
+}
+
+/// Plays the trace on a new system while the allocation of this number is refused. Gives whether it came to that
+/// allocation, and whether what it answered and wrote is fine and the system sound.
+fn play_refused(heap: Heap<'_>, global: Global, number: u64) -> Result<(bool, bool), AllocError> {
+    let mut system = two_nodes(heap)?;
+    let Ok(trace) = read_trace(heap, global, TRACE.as_bytes()) else {
+        return Err(AllocError);
+    };
+    let mut written = Vec::new(global);
+    heap.refuse(number);
+    let played = play(heap, &mut system, &trace, &mut written);
+    let met = heap.asked_since(number) >= number;
+    heap.refuse(0);
+    let sound = system.audit()?;
+    Ok((met, sound && is_fine(played, written.as_slice())))
+}
+
+/// Each allocation of a play is refused in turn.
+#[test]
+fn refused_plays_write_a_front(rt: HostRuntime) -> Result<(), Fail> {
+    let heap = Refusing::new(rt.alloc());
+    let mut refused = 0u64;
+    for number in 1..10_000u64 {
+        let (met, fine) = play_refused(&heap, rt.alloc(), number)?;
+        assert!(rt; fine, "allocation {number}");
+        if !met {
+            refused = number - 1;
+            break;
+        }
+    }
+    assert!(rt; refused > 20, "{refused} refusals");
+    Ok(())
+}

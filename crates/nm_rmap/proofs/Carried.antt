@@ -1,0 +1,36 @@
+-- What an exchange of two places leaves, where one of them had nothing.
+use Rattle.std.proofs.Common.{◌≡◌, ℕ, zero, suc, ◌<◌, List, [], ◌∷◌, length, get_or, refl, sym, ap, ◌∙◌, arith}
+use Rattle.std.proofs.Math.ListN.{set}
+use Rattle.std.specs.List.{swap}
+use Rattle.std.proofs.lemmas.List.Edits.{swap_is}
+use Rattle.nm_rmap.specs.Mappers.{Mappers, Spot, IsUnused, carried}
+
+-- writes to two places may be made in either order
+set_apart : {X : Type 0} (xs : List X) (i j : ℕ) (x y : X) → (i ≡ j → ⊥) → set (set xs i x) j y ≡ set (set xs j y) i x
+set_apart [] i j x y apart = refl
+set_apart (z ∷ zs) zero zero x y apart = absurd (apart refl)
+set_apart (z ∷ zs) zero (suc j) x y apart = refl
+set_apart (z ∷ zs) (suc i) zero x y apart = refl
+set_apart {X} (z ∷ zs) (suc i) (suc j) x y apart = ap (λ (ws : List X). z ∷ ws) (set_apart zs i j x y (λ e. apart (ap suc e)))
+
+carried_by_swap : {X : Type 0} (xs : List X) (from to : ℕ) (none : X) → from < length xs → to < length xs → (from ≡ to → ⊥) → get_or xs to none ≡ none
+    → swap xs from to ≡ set (set xs to (get_or xs from none)) from none
+carried_by_swap {X} xs from to none from_in to_in apart empty =
+    sym (swap_is xs from to none from_in to_in) ∙ ap (λ (x : X). set (set xs from x) to (get_or xs from none)) empty ∙ set_apart xs from to none (get_or xs from none) apart
+
+-- the same exchange, where the places have other names
+pub swapped_at : {X : Type 0} (xs ys : List X) (i j from to : ℕ) → ys ≡ swap xs i j → i ≡ from → j ≡ to → ys ≡ swap xs from to
+swapped_at xs ys i j from to is first second = is ∙ ap (λ (k : ℕ). swap xs k j) first ∙ ap (swap xs from) second
+
+-- both lists of a map
+pub carried_rows : (spots : List (List Spot)) (pins : List ℕ) (m : Mappers) (from to : ℕ) (new_spots : List (List Spot)) (new_pins : List ℕ)
+    → record { spots = spots; pins = pins } ≡ m → length pins ≡ length spots → from < length m.spots → to < length m.spots → (from ≡ to → ⊥) → IsUnused m to
+    → new_spots ≡ swap spots from to → new_pins ≡ swap pins from to → record { spots = new_spots; pins = new_pins } ≡ carried m from to
+carried_rows spots pins m from to new_spots new_pins is as_many from_in to_in apart unused spots_are pins_are =
+    let same_spots : spots ≡ m.spots = ap (λ (n : Mappers). n.spots) is in
+    let same_pins : pins ≡ m.pins = ap (λ (n : Mappers). n.pins) is in
+    let count : length m.pins ≡ length m.spots = sym (ap (λ (ns : List ℕ). length ns) same_pins) ∙ as_many ∙ ap (λ (ss : List (List Spot)). length ss) same_spots in
+    let moved_spots = spots_are ∙ ap (λ (ss : List (List Spot)). swap ss from to) same_spots ∙ carried_by_swap m.spots from to [] from_in to_in apart unused.mappers in
+    let moved_pins = pins_are ∙ ap (λ (ns : List ℕ). swap ns from to) same_pins ∙ carried_by_swap m.pins from to 0 (omega arith) (omega arith) apart unused.pins in
+    let made : List (List Spot) → List ℕ → Mappers = λ ss ns. record { spots = ss; pins = ns } in
+    ap (λ (ss : List (List Spot)). made ss new_pins) moved_spots ∙ ap (made (carried m from to).spots) moved_pins

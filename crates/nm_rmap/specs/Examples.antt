@@ -1,0 +1,26 @@
+-- A worked example: three mappers of a frame go to another.
+use Rattle.std.specs.Prelude.{◌≡◌, List, [], ◌∷◌}
+use Rattle.nm_rmap.specs.Mappers.{Mappers, Spot, new_map, mappers_of, added, carried, process_count}
+
+-- of eight frames the first has two page numbers of process 1 and one of process 2
+abbrev pub three_mappers : Mappers
+three_mappers = added (added (added (new_map 8) 0 (2, 64)) 0 (1, 32)) 0 (1, 16)
+
+-- by pid and then by page number
+abbrev pub in_order : List Spot
+in_order = (1, 16) ∷ (1, 32) ∷ (2, 64) ∷ []
+
+abbrev pub MappersAreInOrder : Type 0
+MappersAreInOrder = mappers_of three_mappers 0 ≡ in_order
+
+-- two page numbers of a process count once
+abbrev pub TwoProcesses : Type 0
+TwoProcesses = process_count in_order ≡ 2
+
+-- frame 4 has the mappers of frame 0
+abbrev pub MappersAreCarried : Type 0
+MappersAreCarried = mappers_of (carried three_mappers 0 4) 4 ≡ in_order
+
+-- frame 0 has none
+abbrev pub NoneIsLeft : Type 0
+NoneIsLeft = mappers_of (carried three_mappers 0 4) 0 ≡ []

@@ -1,0 +1,2 @@
+pub mod Mappers
+pub mod Examples

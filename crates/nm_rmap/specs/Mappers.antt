@@ -1,0 +1,73 @@
+-- Who names each frame, and the pins of each frame.
+use Rattle.std.specs.Prelude.{◌≡◌, ℕ, nat_eq, Bool, List, [], map, replicate, slice_index_or, slice_set}
+use Rattle.std.specs.BTreeMap.{is_at}
+use Rattle.std.specs.BTreeSet.{insert_key}
+use Rattle.std.specs.Set.{remove_key, distinct_count, is_member}
+use Rattle.nm_types.specs.Map.{spot_cmp}
+
+-- a process and a page number of it
+abbrev pub Spot : Type 0
+Spot = ℕ × ℕ
+
+-- the spots with one more, at its place in the order; one that is there stays
+abbrev pub with_spot : List Spot → Spot → List Spot
+with_spot spots spot = insert_key spot_cmp spots spot
+
+-- the spots without one
+abbrev pub without_spot : List Spot → Spot → List Spot
+without_spot spots spot = remove_key (is_at (spot_cmp spot)) spots
+
+-- the processes of the spots
+abbrev pub pids : List Spot → List ℕ
+pids spots = map (λ spot. spot.0) spots
+
+-- whether a process has one of the spots
+abbrev pub has_process : List Spot → ℕ → Bool
+has_process spots pid = is_member nat_eq (pids spots) pid
+
+-- how many processes have a page number among the spots
+abbrev pub process_count : List Spot → ℕ
+process_count spots = distinct_count nat_eq (pids spots)
+
+pub record Mappers : Type 0 where
+  -- for each frame the page numbers that name it, by pid and then by page number
+  pub spots : List (List Spot)
+  -- how often each frame is pinned
+  pub pins : List ℕ
+
+-- so many frames that nobody names or pins
+abbrev pub new_map : ℕ → Mappers
+new_map frames = record { spots = replicate frames []; pins = replicate frames 0 }
+
+-- the page numbers that name a frame
+abbrev pub mappers_of : Mappers → ℕ → List Spot
+mappers_of m frame = slice_index_or m.spots frame []
+
+-- how often a frame is pinned
+abbrev pub pins_of : Mappers → ℕ → ℕ
+pins_of m frame = slice_index_or m.pins frame 0
+
+-- the map with other mappers of a frame
+abbrev pub with_mappers : Mappers → ℕ → List Spot → Mappers
+with_mappers m frame spots = record { spots = slice_set m.spots frame spots; pins = m.pins }
+
+-- the map with one more mapper of a frame
+abbrev pub added : Mappers → ℕ → Spot → Mappers
+added m frame spot = with_mappers m frame (with_spot (mappers_of m frame) spot)
+
+-- the map without one mapper of a frame
+abbrev pub dropped : Mappers → ℕ → Spot → Mappers
+dropped m frame spot = with_mappers m frame (without_spot (mappers_of m frame) spot)
+
+-- the map with another number of pins of a frame
+abbrev pub with_pins : Mappers → ℕ → ℕ → Mappers
+with_pins m frame pins = record { spots = m.spots; pins = slice_set m.pins frame pins }
+
+-- what names and pins one frame names and pins another in its place
+abbrev pub carried : Mappers → ℕ → ℕ → Mappers
+carried m from to = with_pins (with_mappers (with_pins (with_mappers m to (mappers_of m from)) to (pins_of m from)) from []) from 0
+
+-- nobody names or pins the frame
+pub record IsUnused (m : Mappers) (frame : ℕ) : Type 0 where
+  pub mappers : mappers_of m frame ≡ []
+  pub pins : pins_of m frame ≡ 0

@@ -1,0 +1,137 @@
+//! The mappers and the pins of all frames.
+
+ghost use Rattle.std.specs.Prelude.{◌≡◌, ◌<◌, ◌≤◌, ◌+◌, ◌-◌, length, IfOk, OnOk, OnErr, IfErr};
+ghost use Rattle.std.specs.List.Sorted.{IsStrictlySortedBy};
+ghost use Rattle.nm_types.specs.declared.errno.Errno.TheVariants.{Ebusy, Einval};
+ghost use Rattle.nm_types.specs.Map.{spot_cmp};
+ghost use Rattle.nm_rmap.specs.Mappers.{IsUnused, new_map, mappers_of, pins_of, with_pins, added, dropped, carried, process_count};
+
+use crate::spots::Spots;
+use nm_types::limits::MAX_PINS;
+use nm_types::{Errno, FrameId, Pid, Vpn};
+use std::alloc::{AllocError, Allocator};
+use std::marker::Model;
+
+/// For each frame the page numbers of processes that name it, its mappers, and how often it is pinned. Contracts see
+/// the list by frame of the lists of mappers, each by pid and then by page number, and the list by frame of the pins.
+#[derive(Drop)]
+pub struct ReverseMap<A: Allocator + Copy> {
+    alloc: A,
+    spots: Vec<Spots<A>, A>,
+    pins: Vec<u32, A>,
+}
+
+impl<A: Allocator + Copy> Model for ReverseMap<A> {
+    ghost use Rattle.std.specs.Prelude.{◌≡◌, length};
+    ghost use Rattle.nm_rmap.specs.Mappers.{Mappers};
+
+    ghost Value = { Mappers };
+
+    ghost view = { λ m. record { spots = m.spots.items; pins = m.pins.items } };
+
+    ghost invariant = { λ m. length m.pins.items ≡ length m.spots.items };
+}
+
+impl<A: Allocator + Copy> ReverseMap<A> {
+    /// So many frames, which nobody names and nobody pins. An error is want of memory.
+    pub fn new(alloc: A, frames: usize) -> Result<Self, AllocError>
+        ensures { IfOk result (λ map. map ≡ new_map frames) }
+    {
+        let mut spots = Vec::with_capacity(alloc, frames)?;
+        let mut pins = Vec::with_capacity(alloc, frames)?;
+        for _ in 0..frames {
+            spots.push(Spots::new(alloc))?;
+            pins.push(0)?;
+        }
+        Ok(ReverseMap { alloc, spots, pins })
+    }
+
+    /// Makes a page number of a process a mapper of a frame. One that is a mapper of it stays so. An error is want of
+    /// memory, and means that nothing has changed.
+    pub fn add(&mut self, frame: FrameId, pid: Pid, vpn: Vpn) -> Result<(), AllocError>
+        requires { frame < length self.old.spots }
+        ensures ok { OnOk result (self.new ≡ added self.old frame (pid, vpn)) }
+        ensures err { OnErr result (self.new ≡ self.old) }
+    {
+        self.spots[frame.index()].insert(pid, vpn)
+    }
+
+    /// Makes a page number of a process no mapper of a frame, if it is one. It takes no memory.
+    pub fn drop_one(&mut self, frame: FrameId, pid: Pid, vpn: Vpn)
+        requires { frame < length self.old.spots }
+        ensures { self.new ≡ dropped self.old frame (pid, vpn) }
+    {
+        self.spots[frame.index()].remove(pid, vpn);
+    }
+
+    /// The mappers of a frame, by pid and then by page number. An error is want of memory.
+    pub fn mappers(&self, frame: FrameId) -> Result<Vec<(Pid, Vpn), A>, AllocError>
+        requires { frame < length self.now.spots }
+        ensures all { IfOk result (λ spots. spots.items ≡ mappers_of self.now frame) }
+        ensures ordered { IsStrictlySortedBy spot_cmp (mappers_of self.now frame) }
+    {
+        self.spots[frame.index()].list(self.alloc)
+    }
+
+    /// How many processes have a page number that names a frame. Two page numbers of a process count once. It takes no
+    /// memory.
+    pub fn processes(&self, frame: FrameId) -> usize
+        requires { frame < length self.now.spots }
+        ensures { result ≡ process_count (mappers_of self.now frame) }
+    {
+        self.spots[frame.index()].process_count()
+    }
+
+    /// Gives the mappers and the pins of one frame to another, which has neither. It takes no memory.
+    pub fn carry(&mut self, from: FrameId, to: FrameId)
+        requires from_in_range { from < length self.old.spots }
+        requires to_in_range { to < length self.old.spots }
+        requires apart { from ≡ to → ⊥ }
+        requires unused { IsUnused self.old to }
+        ensures { self.new ≡ carried self.old from to }
+    {
+        self.spots.swap(from.index(), to.index());
+        self.pins.swap(from.index(), to.index());
+    }
+
+    /// Pins a frame once more. EBUSY where it has 65,535 pins, and then nothing has changed. It takes no memory.
+    pub fn pin(&mut self, frame: FrameId) -> Result<(), Errno>
+        requires { frame < length self.old.spots }
+        ensures room { OnOk result (pins_of self.old frame < 65535) }
+        ensures ok { OnOk result (self.new ≡ with_pins self.old frame (pins_of self.old frame + 1)) }
+        ensures full { IfErr result (λ error. (error ≡ Ebusy) × (65535 ≤ pins_of self.old frame)) }
+        ensures err { OnErr result (self.new ≡ self.old) }
+    {
+        let pins = &mut self.pins[frame.index()];
+        if *pins >= MAX_PINS {
+            return Err(Errno::Ebusy);
+        }
+        *pins += 1;
+        Ok(())
+    }
+
+    /// Takes one pin off a frame. EINVAL where it has none, and then nothing has changed. It takes no memory.
+    pub fn unpin(&mut self, frame: FrameId) -> Result<(), Errno>
+        requires { frame < length self.old.spots }
+        ensures pinned { OnOk result (0 < pins_of self.old frame) }
+        ensures ok { OnOk result (self.new ≡ with_pins self.old frame (pins_of self.old frame - 1)) }
+        ensures none { IfErr result (λ error. (error ≡ Einval) × (pins_of self.old frame ≡ 0)) }
+        ensures err { OnErr result (self.new ≡ self.old) }
+    {
+        let pins = &mut self.pins[frame.index()];
+        if *pins == 0 {
+            return Err(Errno::Einval);
+        }
+        *pins -= 1;
+        Ok(())
+    }
+
+    /// How often a frame is pinned, at most 65,535 times. It takes no memory.
+    pub fn pins(&self, frame: FrameId) -> u32
+        requires { frame < length self.now.spots }
+        ensures pins { result ≡ pins_of self.now frame }
+        ensures as_many { length self.now.pins ≡ length self.now.spots }
+    {
+        self.pins[frame.index()]
+    }
+}

@@ -1,0 +1,85 @@
+ghost use Rattle.std.specs.Prelude.{◌≡◌, ◌<◌, length, IfOk, OnOk};
+ghost use Rattle.nm_rmap.specs.Mappers.{added};
+ghost use Rattle.nm_rmap.specs.Examples.{three_mappers};
+
+use crate::ReverseMap;
+use nm_types::{Errno, FrameId, Pid, Vpn};
+use std::alloc::{AllocError, Allocator};
+use std::test::Fail;
+
+/// Makes a page number of a process a mapper of frame 0.
+fn add_to_first<A: Allocator + Copy>(
+    map: &mut ReverseMap<A>,
+    pid: u32,
+    vpn: u64,
+) -> Result<(), AllocError>
+    requires { 0 < length map.old.spots }
+    ensures { OnOk result (map.new ≡ added map.old 0 (pid, vpn)) }
+{
+    map.add(FrameId::new(0), Pid::new(pid), Vpn::new(vpn))
+}
+
+/// Eight frames. Frame 0 has two page numbers of process 1 and one of process 2, put in out of order.
+fn three_mappers<A: Allocator + Copy>(alloc: A) -> Result<ReverseMap<A>, AllocError>
+    ensures { IfOk result (λ map. map ≡ three_mappers) }
+{
+    let mut map = ReverseMap::new(alloc, 8)?;
+    add_to_first(&mut map, 2, 64)?;
+    add_to_first(&mut map, 1, 32)?;
+    add_to_first(&mut map, 1, 16)?;
+    Ok(map)
+}
+
+/// Whether the mappers of a frame are those three, in order.
+fn has_three<A: Allocator + Copy>(map: &ReverseMap<A>, frame: FrameId) -> Result<bool, AllocError>
+    requires { frame < length map.now.spots }
+{
+    let three = [
+        (Pid::new(1), Vpn::new(16)),
+        (Pid::new(1), Vpn::new(32)),
+        (Pid::new(2), Vpn::new(64)),
+    ];
+    Ok(map.mappers(frame)?.as_slice() == three.as_slice())
+}
+
+/// Two page numbers of a process count once, and all mappers and pins go along.
+#[test]
+fn mappers_are_counted_and_carried(rt: HostRuntime) -> Result<(), Fail> {
+    let here = FrameId::new(0);
+    let there = FrameId::new(4);
+    let mut map = three_mappers(rt.alloc())?;
+    assert_eq!(rt; map.processes(here), 2usize);
+    assert!(rt; has_three(&map, here)?);
+    map.carry(here, there);
+    assert_eq!(rt; map.processes(here), 0usize);
+    assert!(rt; has_three(&map, there)?);
+    map.drop_one(there, Pid::new(2), Vpn::new(64));
+    assert_eq!(rt; map.processes(there), 1usize);
+    Ok(())
+}
+
+/// Pins a frame so many times. Tells whether none was refused.
+fn pin_often<A: Allocator + Copy>(map: &mut ReverseMap<A>, frame: FrameId, times: u32) -> bool
+    requires { frame < length map.old.spots }
+    ensures { map.new.spots ≡ map.old.spots }
+{
+    for _ in 0..times {
+        if map.pin(frame).is_err() {
+            return false;
+        }
+    }
+    true
+}
+
+/// A frame is pinned 65,535 times at most, and unpinned as often.
+#[test]
+fn pins_have_ends(rt: HostRuntime) -> Result<(), Fail> {
+    let frame = FrameId::new(7);
+    let mut map = ReverseMap::new(rt.alloc(), 8)?;
+    assert_eq!(rt; map.unpin(frame), Err(Errno::Einval));
+    assert!(rt; pin_often(&mut map, frame, 65535));
+    assert_eq!(rt; map.pin(frame), Err(Errno::Ebusy));
+    assert_eq!(rt; map.unpin(frame), Ok(()));
+    assert_eq!(rt; map.pins(frame), 65534u32);
+    Ok(())
+}

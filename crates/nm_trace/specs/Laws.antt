@@ -1,0 +1,43 @@
+-- What holds of faults and reports, and a worked report.
+use Rattle.std.specs.Prelude.{◌≡◌, ℕ, zero, suc, ◌<◌, [], ◌∷◌, Option, Some, None, IsSome, codes, false}
+use Rattle.serde_json.specs.Data.{Data, Items, no_items, item}
+use Rattle.nm_calls.specs.Calls.{Spawn, MapPages, ReadBytes, WriteBytes, MovePages, FreeList, Pagemap}
+use Rattle.nm_trace.specs.Form.{each, step_of}
+use Rattle.nm_trace.specs.Faults.{Plan, first_bad}
+use Rattle.nm_trace.specs.Played.{report_of}
+
+-- the item at a place
+abbrev pub item_at : Items → ℕ → Option Data
+item_at no_items k = None
+item_at (item d ds) zero = Some d
+item_at (item d ds) (suc k) = item_at ds k
+
+-- where not every item is a step, the one that is told is none, and each before it is one
+abbrev pub FirstBadIsLeast : Type 0
+FirstBadIsLeast =
+    (ds : Items) → each step_of ds ≡ None →
+    ((d : Data) × (item_at ds (first_bad ds) ≡ Some d) × (step_of d ≡ None))
+    × ((k : ℕ) → k < first_bad ds → (d : Data) × (item_at ds k ≡ Some d) × IsSome (step_of d))
+
+-- three pages of one process, written on node 0, moved to node 1 and read there
+abbrev pub three_pages : Plan
+three_pages = record {
+  layout = record { sizes = 4 ∷ 4 ∷ []; distances = (10 ∷ 20 ∷ []) ∷ (20 ∷ 10 ∷ []) ∷ [] };
+  calls =
+      Spawn 1 100 0 (0 ∷ 1 ∷ []) false
+      ∷ MapPages 1 65536 3
+      ∷ WriteBytes 1 65536 (97 ∷ [])
+      ∷ WriteBytes 1 69632 (98 ∷ [])
+      ∷ WriteBytes 1 73728 (99 ∷ [])
+      ∷ MovePages 1 0 (65536 ∷ 69632 ∷ 73728 ∷ []) (1 ∷ 1 ∷ 1 ∷ []) 2
+      ∷ FreeList 0
+      ∷ FreeList 1
+      ∷ Pagemap 1
+      ∷ ReadBytes 1 69632 2
+      ∷ [];
+}
+
+-- the report on them
+abbrev pub ThreePagesReport : Type 0
+ThreePagesReport =
+    report_of three_pages ≡ codes "0 spawn ok\n1 map segment=0\n2 write ok\n3 write ok\n4 write ok\n5 move_pages 0: 1 1 1\n6 free 4: 3 0 1 2\n7 free 1: 7\n8 pagemap 3: 00010000=4 00011000=5 00012000=6\n9 read 6200\n"
