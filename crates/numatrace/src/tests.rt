@@ -199,7 +199,7 @@ fn refuses_one_process_too_many(rt: HostRuntime) -> Result<(), Fail> {
 }
 
 /// The trace with one place changed, and what is told of it.
-const FAULTS: [(&str, &str, &str); 23] = [
+const FAULTS: [(&str, &str, &str); 26] = [
     ("[[10,20],[20,10]]", "[[10,10],[20,10]]", "bad machine"),
     ("\"nodes\":[4,4]", "\"nodes\":[4,0]", "bad machine"),
     ("\"version\":1", "\"version\":2", "bad machine"),
@@ -234,6 +234,9 @@ const FAULTS: [(&str, &str, &str); 23] = [
         "bad step 0",
     ),
     ("\"uid\":100", "\"uid\":4294967296", "bad step 0"),
+    ("\"uid\":100", "\"uid\":-0", "bad step 0"),
+    ("\"uid\":100", "\"uid\":1e2", "bad step 0"),
+    ("\"uid\":100", "\"uid\":null", "bad step 0"),
     ("\"len\":2", "\"len\":18446744073709551616", "bad step 9"),
 ];
 
@@ -302,6 +305,28 @@ fn tells_the_first_fault(rt: HostRuntime) -> Result<(), Fail> {
         let ran = run(alloc, trace)?;
         assert!(rt; is_fault(&ran, text), "at {text}");
     }
+    Ok(())
+}
+
+/// So many lists, each in the one before.
+fn nested(alloc: Global, levels: usize) -> Result<String, AllocError> {
+    let mut text = String::new(alloc);
+    for _ in 0..levels {
+        text.push_str("[")?;
+    }
+    for _ in 0..levels {
+        text.push_str("]")?;
+    }
+    Ok(text)
+}
+
+#[test]
+fn reads_127_levels(rt: HostRuntime) -> Result<(), Fail> {
+    let alloc = rt.alloc();
+    let deep = nested(alloc, 127)?;
+    assert!(rt; is_fault(&run(alloc, deep.as_bytes())?, "bad machine"));
+    let deeper = nested(alloc, 128)?;
+    assert!(rt; is_fault(&run(alloc, deeper.as_bytes())?, "not JSON"));
     Ok(())
 }
 

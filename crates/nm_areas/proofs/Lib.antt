@@ -1,0 +1,17 @@
+pub mod Maps
+pub mod Keys
+pub mod Apart
+pub mod Parted
+pub mod Split
+pub mod Overs
+pub mod Painted
+pub mod Cut
+pub mod Repoliced
+pub mod Inserted
+pub mod Policed
+pub mod Own
+pub mod Framed
+pub mod Lost
+pub mod Gone
+pub mod Letting
+pub mod Shown

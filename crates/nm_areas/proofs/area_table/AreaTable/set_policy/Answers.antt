@@ -1,0 +1,23 @@
+use Rattle.std.proofs.Common.{◌≡◌, ◌+◌, ◌∙◌, ap, arith, ℕ}
+use Rattle.std.specs.List.{flat_map}
+use Rattle.nm_types.specs.Map.{with_values}
+use Rattle.nm_areas.specs.Table.{Table}
+use Rattle.nm_areas.specs.Policing.{repoliced, painted}
+use Rattle.nm_areas.specs.Table.{with_areas}
+use Rattle.nm_areas.proofs.Cut.{areas_alone}
+use Rattle.nm_areas.proofs.Repoliced.{all_repoliced}
+use Rattle.nm_areas.proofs.area_table.AreaTable.set_policy.Goals as goal
+
+pub returns-clause-ok : goal.returns-clause-ok
+returns-clause-ok g c =
+    let pid = c.args.pid in
+    let first = c.args.first in
+    let areas = c.args.self.now.areas in
+    let after = flat_map (repoliced pid first (first + c.args.count) c.args.policy) areas in
+    let split = c.in_ok-cut.ensures.ok in
+    let end : c.new-end.result ≡ first + c.args.count = c.new-end.ensures ∙ ap (λ (n : ℕ). n + c.args.count) c.number.ensures in
+    areas_alone c.self.inside.areas.entries c.paint.new.areas.entries after c.self.inside.segments.entries c.self.inside.next_segment c.cut.new.self c.self.view_is
+    (c.paint.ensures ∙ ap (with_values (painted pid first c.new-end.result c.args.policy)) (ap (λ (m : Table). m.areas) (c.self.view_is ∙ split))
+    ∙ all_repoliced pid first c.new-end.result c.args.policy (omega (arith, end, c.requires.some)) areas c.requires.whole
+    ∙ ap (λ (n : ℕ). flat_map (repoliced pid first n c.args.policy) areas) end)
+    ∙ ap (λ (m : Table). with_areas m after) split

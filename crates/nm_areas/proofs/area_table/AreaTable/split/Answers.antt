@@ -1,0 +1,40 @@
+use Rattle.std.proofs.Common.{ap, sym, arith, ◌-◌}
+use Rattle.nm_areas.specs.Mapped.{HasIndices}
+use Rattle.nm_areas.specs.Table.{Table}
+use Rattle.nm_areas.specs.Table.{with_areas}
+use Rattle.nm_areas.proofs.Parted.{All-among}
+use Rattle.nm_areas.proofs.Cut.{split_nothing, over_facts, split_made, areas_alone}
+use Rattle.nm_areas.proofs.area_table.AreaTable.split.Goals as goal
+
+pub returns-in_default-clause-ok : goal.returns-in_default-clause-ok
+returns-in_default-clause-ok g c =
+    ap (with_areas c.args.self.now) (sym (split_nothing c.args.pid c.args.at c.args.self.now.areas _ c.requires.whole c.requires.apart c.in_default.ensures tt))
+
+pub overflow_sub-front : goal.overflow_sub-front
+overflow_sub-front g c =
+    let facts = over_facts c.args.pid c.args.at c.args.self.now.areas _ _ c.in-Some.ensures in
+    omega (arith, facts.1, c.number.ensures, c.number-2.ensures)
+
+pub returns-then-front-eq0-clause-ok : goal.returns-then-front-eq0-clause-ok
+returns-then-front-eq0-clause-ok g c =
+    ap (with_areas c.args.self.now)
+    (sym (split_nothing c.args.pid c.args.at c.args.self.now.areas _ c.requires.whole c.requires.apart c.in-Some.ensures (omega (arith, c.if-front-eq0.true, c.number.ensures, c.number-2.ensures))))
+
+pub overflow_sub-rest : goal.overflow_sub-rest
+overflow_sub-rest g c =
+    let facts = over_facts c.args.pid c.args.at c.args.self.now.areas _ _ c.in-Some.ensures in
+    omega (arith, facts.1, facts.2, c.number.ensures, c.number-2.ensures)
+
+pub overflow_add-rest : goal.overflow_add-rest
+overflow_add-rest g c =
+    let facts = over_facts c.args.pid c.args.at c.args.self.now.areas _ _ c.in-Some.ensures in
+    let few = All-among HasIndices c.args.self.now.areas _ c.requires.indices facts.0 in
+    omega (arith, few, facts.1, facts.2, c.number.ensures, c.number-2.ensures)
+
+pub returns-clause-ok : goal.returns-clause-ok
+returns-clause-ok g c =
+    let facts = over_facts c.args.pid c.args.at c.args.self.now.areas _ _ c.in-Some.ensures in
+    areas_alone c.self.inside.areas.entries c.put.new.areas.entries _ c.self.inside.segments.entries c.self.inside.next_segment c.args.self.now c.self.view_is
+    (split_made c.args.pid c.args.at _ (c.number.result - c.number-2.result) _ c.self.inside.areas.entries c.insert.new.self.entries c.put.new.areas.entries c.args.self.now.areas
+    (ap (λ (x : Table). x.areas) c.self.view_is) c.in-Some.ensures (omega (arith, facts.1, c.number.ensures, c.number-2.ensures)) (omega (arith, facts.1, c.if-front-eq0.false, c.number.ensures, c.number-2.ensures))
+    c.requires.whole c.requires.apart c.in_ok-insert.ensures.was_ordered c.in_ok-insert.ensures.entries c.put.ensures.entries)

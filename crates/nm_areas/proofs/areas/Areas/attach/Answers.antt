@@ -1,0 +1,23 @@
+use Rattle.std.proofs.Common.{sym, ◌∙◌, ap, ◌/◌}
+use Rattle.nm_areas.specs.Table.{Table}
+use Rattle.nm_areas.specs.Mapped.{Mapped}
+use Rattle.nm_areas.proofs.Shown.{over_more}
+use Rattle.nm_areas.specs.Refused.{is_stretch}
+use Rattle.nm_areas.specs.Effect.{new_area, over_with}
+use Rattle.nm_areas.proofs.Inserted.{attached_mapped, stretch_ends}
+use Rattle.nm_areas.proofs.areas.Areas.attach.Goals as goal
+
+pub invariant_of-self-2 : goal.invariant_of-self-2
+invariant_of-self-2 g c =
+    let range = c.in-Some.ensures.some in
+    attached_mapped c.self.inside.table c.self.inside.places.entries c.self.invariant c.args.pid c.in-Some.first (new_area c.args.segment c.args.offset c.args.pages) range.2 range.3
+    (stretch_ends c.self.inside.table.segments c.args.segment c.args.offset c.args.pages c.self.invariant.lengths (sym c.if-not-is_stretch.false ∙ c.is_stretch.ensures ∙ ap (λ o. is_stretch o c.args.offset c.args.pages) c.segment.ensures))
+    (sym c.if-not-is_free.false ∙ c.is_free.ensures) c.attach.new.self c.in_ok-attach.ensures.ok
+
+pub returns-clause-over : goal.returns-clause-over
+returns-clause-over g c q v =
+    let range = c.in-Some.ensures.some in
+    let new = new_area c.args.segment c.args.offset c.args.pages in
+    over_more c.self.inside.table c.attach.new.self c.self.inside.places.entries c.args.pid c.in-Some.first (c.args.addr / 4096) new c.self.invariant range.2 range.0
+    (sym c.if-not-is_free.false ∙ c.is_free.ensures) (ap (λ (t : Table). t.areas) c.in_ok-attach.ensures.ok) q v
+    ∙ ap (λ (m : Mapped). over_with m.areas ((c.args.pid, c.args.addr / 4096), new) q v) c.self.view_is

@@ -1,0 +1,60 @@
+use Rattle.std.proofs.Common.{◌≡◌, ℕ, ◌+◌, ◌/◌, not, ap, ◌∙◌, arith}
+use Rattle.std.specs.Prelude.{Some, None, if◌then◌else◌}
+use Rattle.nm_types.specs.declared.errno.Errno.TheVariants.{Einval}
+use Rattle.nm_areas.specs.Mapped.{Mapped, mapped}
+use Rattle.nm_types.specs.State.{page_at}
+use Rattle.nm_areas.specs.Table.{Table}
+use Rattle.nm_areas.specs.Removed.{removed, frames_lost, page_outside}
+use Rattle.nm_areas.proofs.Shown.{left_shows}
+use Rattle.nm_areas.proofs.Letting.{cut_indices, cut_shown, now_left, after_is, after_mapped, lost_is}
+use Rattle.nm_areas.proofs.areas.Areas.remove.Goals as goal
+
+pub lose_all-requires-clause-indices : goal.lose_all-requires-clause-indices
+lose_all-requires-clause-indices g c =
+    cut_indices c.self.inside.table c.self.inside.places.entries c.self.invariant c.args.pid c.in-Some.first c.new-end.result c.cut.new.self c.in_ok-cut.ensures.ok
+
+pub drop_own-requires-clause-shown : goal.drop_own-requires-clause-shown
+drop_own-requires-clause-shown g c =
+    cut_shown c.self.inside.table c.self.inside.places.entries c.self.invariant c.args.pid c.in-Some.first c.new-end.result c.cut.new.self c.in_ok-cut.ensures.ok
+
+pub invariant_of-self-2 : goal.invariant_of-self-2
+invariant_of-self-2 g c =
+    let range = c.in-Some.ensures.some in
+    after_mapped c.self.inside.table c.self.inside.places.entries c.self.invariant c.args.pid c.in-Some.first c.new-end.result (omega (arith, range.2, c.new-end.ensures, c.number.ensures)) c.cut.new.self c.drop_own.new.self
+    c.lose_all.new.places.entries c.in_ok-cut.ensures.ok c.drop_own.ensures c.lose_all.ensures.places
+
+pub returns-clause-done : goal.returns-clause-done
+returns-clause-done g c =
+    let range = c.in-Some.ensures.some in
+    let end : c.new-end.result ≡ c.args.addr / 4096 + c.args.pages = c.new-end.ensures ∙ ap (λ (n : ℕ). n + c.args.pages) (c.number.ensures ∙ range.0) in
+    let before = mapped c.self.inside.table c.self.inside.places.entries in (
+      ap (λ b. if not b then Some Einval else None) range.1,
+      after_is c.self.inside.table c.self.inside.places.entries c.self.invariant c.args.pid c.in-Some.first c.new-end.result (omega (arith, range.2, c.new-end.ensures, c.number.ensures)) c.cut.new.self c.drop_own.new.self
+          c.lose_all.new.places.entries c.in_ok-cut.ensures.ok c.drop_own.ensures c.lose_all.ensures.places
+          ∙ ap (λ (n : ℕ). removed before c.args.pid n c.new-end.result) range.0
+          ∙ ap (λ (n : ℕ). removed before c.args.pid (c.args.addr / 4096) n) end
+          ∙ ap (λ (m : Mapped). removed m c.args.pid (c.args.addr / 4096) (c.args.addr / 4096 + c.args.pages)) c.self.view_is,
+    )
+
+pub returns-clause-freed : goal.returns-clause-freed
+returns-clause-freed g c =
+    let range = c.in-Some.ensures.some in
+    let end : c.new-end.result ≡ c.args.addr / 4096 + c.args.pages = c.new-end.ensures ∙ ap (λ (n : ℕ). n + c.args.pages) (c.number.ensures ∙ range.0) in
+    let before = mapped c.self.inside.table c.self.inside.places.entries in
+    lost_is c.self.inside.table c.self.inside.places.entries c.self.invariant c.args.pid c.in-Some.first c.new-end.result (omega (arith, range.2, c.new-end.ensures, c.number.ensures)) c.cut.new.self c.drop_own.new.self
+    c.lose_all.new.places.entries c.in_ok-cut.ensures.ok c.drop_own.ensures c.lose_all.ensures.places c.in_ok-freed.freed.items c.lose_all.new.freed.items c.in_ok-freed.ensures.items c.lose_all.ensures.freed
+    ∙ ap (λ (n : ℕ). frames_lost before c.args.pid n c.new-end.result) range.0
+    ∙ ap (λ (n : ℕ). frames_lost before c.args.pid (c.args.addr / 4096) n) end
+    ∙ ap (λ (m : Mapped). frames_lost m c.args.pid (c.args.addr / 4096) (c.args.addr / 4096 + c.args.pages)) c.self.view_is
+
+pub returns-clause-pages : goal.returns-clause-pages
+returns-clause-pages g c q v =
+    let range = c.in-Some.ensures.some in
+    let end : c.new-end.result ≡ c.args.addr / 4096 + c.args.pages = c.new-end.ensures ∙ ap (λ (n : ℕ). n + c.args.pages) (c.number.ensures ∙ range.0) in
+    let areas = c.self.inside.table.areas in
+    ap (λ (t : Table). page_at t.areas q v) (now_left c.self.inside.table c.self.inside.places.entries c.self.invariant c.args.pid c.in-Some.first c.new-end.result (omega (arith, range.2, c.new-end.ensures, c.number.ensures)) c.cut.new.self c.drop_own.new.self
+    c.lose_all.new.places.entries c.in_ok-cut.ensures.ok c.drop_own.ensures c.lose_all.ensures.places)
+    ∙ left_shows c.args.pid c.in-Some.first c.new-end.result (omega (arith, c.new-end.ensures, c.number.ensures)) areas c.self.invariant.whole c.self.invariant.apart q v
+    ∙ ap (λ (n : ℕ). page_outside areas c.args.pid n c.new-end.result q v) range.0
+    ∙ ap (λ (n : ℕ). page_outside areas c.args.pid (c.args.addr / 4096) n q v) end
+    ∙ ap (λ (m : Mapped). page_outside m.areas c.args.pid (c.args.addr / 4096) (c.args.addr / 4096 + c.args.pages) q v) c.self.view_is

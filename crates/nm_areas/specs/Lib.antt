@@ -1,0 +1,9 @@
+pub mod Table
+pub mod Mapped
+pub mod Parts
+pub mod Policing
+pub mod Refused
+pub mod Effect
+pub mod Does
+pub mod Lines
+pub mod Removed

@@ -1,0 +1,29 @@
+-- The areas of a process, as they are listed.
+use Rattle.std.specs.Prelude.{ℕ, ◌==◌, Bool, false, List, map}
+use Rattle.std.specs.Option.{unwrap_or, option_map}
+use Rattle.std.specs.Ordering.{nat_cmp}
+use Rattle.std.specs.List.{filter}
+use Rattle.nm_types.specs.declared.area.Area.{Area}
+use Rattle.nm_types.specs.declared.area.Segment.{Segment}
+use Rattle.nm_types.specs.Map.{Map, get}
+use Rattle.nm_types.specs.State.{Placed}
+use Rattle.nm_areas.specs.declared.lines.Line.{Line}
+
+-- whether a segment is shared; one that is not there is not
+abbrev pub is_shared : Map ℕ Segment → ℕ → Bool
+is_shared segments number = unwrap_or (option_map (λ segment. segment.shared) (get nat_cmp segments number)) false
+
+-- an area and whether its segment is shared
+abbrev pub line_of : Map ℕ Segment → Placed → Line
+line_of segments a =
+    record {
+      first = a.0.1;
+      pages = a.1.pages;
+      policy = a.1.policy;
+      page = a.1.page;
+      shared = is_shared segments a.1.page.segment;
+    }
+
+-- the areas of a process, by address
+abbrev pub lines_of : Map ℕ Segment → Map (ℕ × ℕ) Area → ℕ → List Line
+lines_of segments areas pid = map (line_of segments) (filter (λ a. a.0.0 == pid) areas)

@@ -1,0 +1,151 @@
+//! The areas of the processes, and the segments that they show.
+
+ghost use Rattle.std.specs.Prelude.{◌≡◌, ◌≤◌, ◌<◌, ◌+◌, ◌^◌, [], suc, not, None, OnOk, OnErr, IfOk, option_map};
+ghost use Rattle.std.specs.Ordering.{nat_cmp};
+ghost use Rattle.std.specs.List.{AllByRecursion, list_any};
+ghost use Rattle.nm_types.specs.Map.{get, set, spot_cmp};
+ghost use Rattle.nm_types.specs.State.{Placed, area_over};
+ghost use Rattle.nm_areas.specs.Effect.{new_area};
+ghost use Rattle.nm_areas.specs.Mapped.{AreasAreApart, EndsLow, IsSomePages};
+ghost use Rattle.nm_areas.specs.Refused.{overlaps};
+ghost use Rattle.nm_areas.specs.Table.{with_areas};
+
+use nm_types::{Area, Page, Pid, Policy, Segment, Vpn};
+use std::alloc::{AllocError, Allocator};
+use std::collections::BTreeMap;
+use std::marker::Model;
+
+/// The areas by process and first page number, the segments by number, and the number of the next segment.
+#[derive(Drop)]
+pub(crate) struct AreaTable<A: Allocator + Copy> {
+    pub(crate) areas: BTreeMap<(Pid, Vpn), Area, A>,
+    pub(crate) segments: BTreeMap<u32, Segment, A>,
+    next_segment: u32,
+}
+
+impl<A: Allocator + Copy> Model for AreaTable<A> {
+    ghost use Rattle.nm_areas.specs.Table.{Table};
+
+    ghost Value = { Table };
+
+    ghost view = { λ t. record { areas = t.areas.entries; segments = t.segments.entries; next = t.next_segment } };
+}
+
+impl<A: Allocator + Copy> AreaTable<A> {
+    /// No area and no segment.
+    pub(crate) fn new(alloc: A) -> Self
+        ensures { result ≡ record { areas = []; segments = []; next = 0 } }
+    {
+        AreaTable {
+            areas: BTreeMap::new(alloc),
+            segments: BTreeMap::new(alloc),
+            next_segment: 0,
+        }
+    }
+
+    /// The number of the next segment.
+    pub(crate) fn next_segment(&self) -> u32
+        ensures { result ≡ self.now.next }
+    {
+        self.next_segment
+    }
+
+    /// The segment of a number, or None where there is none.
+    pub(crate) fn segment(&self, number: u32) -> Option<Segment>
+        ensures { result ≡ get nat_cmp self.now.segments number }
+    {
+        self.segments.get(&number).copied()
+    }
+
+    /// The area of a process over a page number, with its first page number.
+    pub(crate) fn over(&self, pid: Pid, vpn: Vpn) -> Option<(Vpn, Area)>
+        requires apart { AreasAreApart self.now.areas }
+        requires whole { AllByRecursion IsSomePages self.now.areas }
+        ensures { option_map {U = Placed} (λ found. ((pid, found.0), found.1)) result ≡ area_over self.now.areas pid vpn }
+    {
+        let ((owner, first), area) = self.areas.range(..=(pid, vpn)).next_back()?;
+        let within = vpn.number().checked_sub(first.number())?;
+        if *owner == pid && within < area.pages {
+            Some((*first, *area))
+        } else {
+            None
+        }
+    }
+
+    /// Whether no area of the process is over one of so many pages from a page number on.
+    pub(crate) fn is_free(&self, pid: Pid, first: Vpn, pages: u64) -> bool
+        requires apart { AreasAreApart self.now.areas }
+        requires whole { AllByRecursion IsSomePages self.now.areas }
+        requires low { AllByRecursion EndsLow self.now.areas }
+        requires end { first + pages ≤ 2 ^ 35 }
+        ensures { result ≡ not (list_any (overlaps pid first (first + pages)) self.now.areas) }
+    {
+        let end = Vpn::new(first.number() + pages);
+        match self.areas.range(..(pid, end)).next_back() {
+            Some(((owner, start), area)) => {
+                *owner != pid || start.number() + area.pages <= first.number()
+            }
+            None => true,
+        }
+    }
+
+    /// Makes a segment of so many pages and an area of the process over all of it, with the default policy. Gives the
+    /// segment's number.
+    pub(crate) fn insert(
+        &mut self,
+        pid: Pid,
+        first: Vpn,
+        pages: u64,
+        shared: bool,
+    ) -> Result<u32, AllocError>
+        requires number { self.old.next < 65536 }
+        requires new { get nat_cmp self.old.segments self.old.next ≡ None }
+        ensures number { IfOk result (λ number. number ≡ self.old.next) }
+        ensures ok { OnOk result (self.new ≡ record {
+          areas = set spot_cmp self.old.areas (pid, first) (new_area self.old.next 0 pages);
+          segments = set nat_cmp self.old.segments self.old.next (record { pages = pages; shared = shared });
+          next = suc self.old.next;
+        }) }
+        ensures err { OnErr result (self.new ≡ self.old) }
+    {
+        let number = self.next_segment;
+        self.segments.insert(number, Segment { pages, shared })?;
+        if let Err(error) = self.areas.insert((pid, first), new_area(number, 0, pages)) {
+            self.segments.remove(&number);
+            return Err(AllocError::from(error));
+        }
+        self.next_segment = number + 1;
+        Ok(number)
+    }
+
+    /// Makes an area of the process, with the default policy, over so many pages of a segment from an offset on.
+    pub(crate) fn attach(
+        &mut self,
+        pid: Pid,
+        first: Vpn,
+        segment: u32,
+        offset: u64,
+        pages: u64,
+    ) -> Result<(), AllocError>
+        ensures ok { OnOk result (self.new ≡ with_areas self.old (set spot_cmp self.old.areas (pid, first) (new_area segment offset pages))) }
+        ensures err { OnErr result (self.new ≡ self.old) }
+    {
+        self.areas
+            .insert((pid, first), new_area(segment, offset, pages))?;
+        Ok(())
+    }
+}
+
+/// An area with the default policy over so many pages of a segment from an offset on.
+fn new_area(segment: u32, offset: u64, pages: u64) -> Area
+    ensures { result ≡ new_area segment offset pages }
+{
+    Area {
+        pages,
+        policy: Policy::Default,
+        page: Page {
+            segment,
+            index: offset,
+        },
+    }
+}

@@ -1,0 +1,147 @@
+//! The areas of all processes.
+
+ghost use Rattle.std.specs.Prelude.{ℕ, OnOk, ◌≡◌, ◌≤◌, ◌<◌, ◌+◌, ◌/◌, ◌^◌, false, true, IfSome, IfNone, IfOk, option_map};
+ghost use Rattle.nm_types.specs.State.{Placed, area_over};
+ghost use Rattle.nm_areas.specs.Does.{Makes};
+ghost use Rattle.nm_areas.specs.Effect.{no_areas, new_area, inserted, attached, over_with};
+ghost use Rattle.nm_areas.specs.Lines.{is_shared};
+ghost use Rattle.nm_areas.specs.Mapped.{IsMapped};
+ghost use Rattle.nm_areas.specs.Refused.{is_range, insert_refusal, is_stretch, attach_refusal};
+
+use crate::area_error::AreaError;
+use crate::area_table::AreaTable;
+use crate::lines::is_shared;
+use nm_types::limits::{MAX_SEGMENTS, PAGE_NUMBERS};
+use nm_types::{Area, Errno, FrameId, Page, Pid, Segment, Vpn};
+use std::alloc::Allocator;
+use std::collections::BTreeMap;
+use std::marker::Model;
+
+/// The areas of all processes, the segments that they show, and the frame of each page that has one. Contracts see
+/// maps: the areas by process and first page number, the segments by number, and the frames by page. No two areas of a
+/// process are over one page number.
+#[derive(Drop)]
+pub struct Areas<A: Allocator + Copy> {
+    pub(crate) table: AreaTable<A>,
+    pub(crate) places: BTreeMap<Page, FrameId, A>,
+    pub(crate) alloc: A,
+}
+
+impl<A: Allocator + Copy> Model for Areas<A> {
+    ghost use Rattle.nm_areas.specs.Mapped.{Mapped, IsMapped, mapped};
+
+    ghost Value = { Mapped };
+
+    ghost view = { λ a. mapped a.table a.places.entries };
+
+    ghost invariant = { λ a. IsMapped (mapped a.table a.places.entries) };
+}
+
+impl<A: Allocator + Copy> Areas<A> {
+    /// No area, no segment, and no page with a frame.
+    pub fn new(alloc: A) -> Self
+        ensures { result ≡ no_areas }
+    {
+        Areas {
+            table: AreaTable::new(alloc),
+            places: BTreeMap::new(alloc),
+            alloc,
+        }
+    }
+
+    /// The area of a process over a page number, with the area's first page number. None where no area is over it.
+    pub fn find(&self, pid: Pid, vpn: Vpn) -> Option<(Vpn, Area)>
+        ensures found { option_map {U = Placed} (λ found. ((pid, found.0), found.1)) result ≡ area_over self.now.areas pid vpn }
+        ensures kept { IsMapped self.now }
+    {
+        self.table.over(pid, vpn)
+    }
+
+    /// Whether a segment is shared. One that is not there is not.
+    pub fn is_shared(&self, segment: u32) -> bool
+        ensures { result ≡ is_shared self.now.segments segment }
+    {
+        is_shared(&self.table.segments, segment)
+    }
+
+    /// Makes the next segment, of so many pages, and an area of the process over all of it from an address on, with the
+    /// default policy. Gives the segment's number, which is not given again.
+    ///
+    /// EINVAL: the address is not a page's, there is no page, the area would end past 2^47, or an area of the process is
+    /// over one of its page numbers. Then ENOMEM: 65,536 segments were made. A refused call uses no number.
+    pub fn insert(
+        &mut self,
+        pid: Pid,
+        addr: u64,
+        pages: u64,
+        shared: bool,
+    ) -> Result<u32, AreaError>
+        ensures done { Makes result self.old self.new (insert_refusal self.old pid addr pages) (inserted self.old pid addr pages shared) }
+        ensures number { IfOk result (λ number. number ≡ self.old.next) }
+        ensures over { OnOk result ((q v : ℕ) → area_over self.new.areas q v ≡ over_with self.old.areas ((pid, addr / 4096), new_area self.old.next 0 pages) q v) }
+    {
+        let Some(first) = stretch(addr, pages) else {
+            return Err(AreaError::Refused(Errno::Einval));
+        };
+        if !self.table.is_free(pid, first, pages) {
+            return Err(AreaError::Refused(Errno::Einval));
+        }
+        if self.table.next_segment() >= MAX_SEGMENTS {
+            return Err(AreaError::Refused(Errno::Enomem));
+        }
+        Ok(self.table.insert(pid, first, pages, shared)?)
+    }
+
+    /// Makes an area of the process from an address on, with the default policy, over so many pages of a shared segment
+    /// from an offset on, counted in pages.
+    ///
+    /// EINVAL: as at `insert`; or there is no such segment, it is private, or it ends before the area would.
+    pub fn attach(
+        &mut self,
+        pid: Pid,
+        addr: u64,
+        segment: u32,
+        offset: u64,
+        pages: u64,
+    ) -> Result<(), AreaError>
+        ensures done { Makes result self.old self.new (attach_refusal self.old pid addr segment offset pages) (attached self.old pid addr segment offset pages) }
+        ensures over { OnOk result ((q v : ℕ) → area_over self.new.areas q v ≡ over_with self.old.areas ((pid, addr / 4096), new_area segment offset pages) q v) }
+    {
+        let Some(first) = stretch(addr, pages) else {
+            return Err(AreaError::Refused(Errno::Einval));
+        };
+        if !self.table.is_free(pid, first, pages) {
+            return Err(AreaError::Refused(Errno::Einval));
+        }
+        if !is_stretch(self.table.segment(segment), offset, pages) {
+            return Err(AreaError::Refused(Errno::Einval));
+        }
+        self.table.attach(pid, first, segment, offset, pages)?;
+        Ok(())
+    }
+}
+
+/// Whether so many pages from an offset on are in a shared segment.
+fn is_stretch(segment: Option<Segment>, offset: u64, pages: u64) -> bool
+    ensures { result ≡ is_stretch segment offset pages }
+{
+    match segment {
+        Some(whole) => { whole.shared && offset <= whole.pages && pages <= whole.pages - offset }
+        None => false,
+    }
+}
+
+/// The first page number of `pages` pages from an address on, where it is a page's address and they are at least one
+/// page and end below 2^47.
+pub(crate) fn stretch(addr: u64, pages: u64) -> Option<Vpn>
+    ensures some { IfSome result (λ first. (first ≡ addr / 4096) × (is_range addr pages ≡ true) × (0 < pages) × (first + pages ≤ 2 ^ 35)) }
+    ensures none { IfNone result (is_range addr pages ≡ false) }
+{
+    let first = Vpn::of_address(addr);
+    let end = first.number().checked_add(pages)?;
+    if addr % 4096 == 0 && pages > 0 && end <= PAGE_NUMBERS {
+        Some(first)
+    } else {
+        None
+    }
+}

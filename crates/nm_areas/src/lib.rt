@@ -1,0 +1,16 @@
+//! The areas of all processes, the segments that they show, and the frames in which pages stand.
+#![tactic(auto)]
+
+mod area_error;
+mod area_table;
+mod areas;
+mod lines;
+mod places;
+mod policing;
+mod removing;
+#[cfg(test)]
+mod tests;
+
+pub use area_error::AreaError;
+pub use areas::Areas;
+pub use lines::Line;

@@ -1,0 +1,84 @@
+//! The areas of a process, listed.
+
+ghost use Rattle.std.specs.Prelude.{◌≡◌, IfOk};
+ghost use Rattle.std.specs.List.{AllByRecursion};
+ghost use Rattle.nm_areas.specs.Lines.{is_shared, line_of, lines_of};
+ghost use Rattle.nm_areas.specs.Mapped.{EndsLow, IsSomePages};
+
+use crate::areas::Areas;
+use crate::policing::next_area;
+use nm_types::limits::PAGE_NUMBERS;
+use nm_types::{Area, Page, Pid, Policy, Segment, Vpn};
+use std::alloc::{AllocError, Allocator};
+use std::collections::BTreeMap;
+
+/// An area of a process.
+#[derive(Clone, Copy, Debug, PartialEq, Eq)]
+pub struct Line {
+    /// Its first page number.
+    pub first: Vpn,
+    /// Its length in pages, at least 1.
+    pub pages: u64,
+    /// Where its new pages are placed.
+    pub policy: Policy,
+    /// The page that it shows first.
+    pub page: Page,
+    /// Whether its segment is shared.
+    pub shared: bool,
+}
+
+impl<A: Allocator + Copy> Areas<A> {
+    /// The areas of a process, by address. None where the process has none or there is no such process.
+    pub fn lines(&self, pid: Pid) -> Result<Vec<Line, A>, AllocError>
+        ensures { IfOk result (λ lines. lines.items ≡ lines_of self.now.segments self.now.areas pid) }
+    {
+        list_lines(self.alloc, &self.table.segments, &self.table.areas, pid)
+    }
+}
+
+/// The areas of a process, by address.
+fn list_lines<A: Allocator + Copy>(
+    alloc: A,
+    segments: &BTreeMap<u32, Segment, A>,
+    areas: &BTreeMap<(Pid, Vpn), Area, A>,
+    pid: Pid,
+) -> Result<Vec<Line, A>, AllocError>
+    requires whole { AllByRecursion IsSomePages areas.now.entries }
+    requires low { AllByRecursion EndsLow areas.now.entries }
+    ensures { IfOk result (λ lines. lines.items ≡ lines_of segments.now.entries areas.now.entries pid) }
+{
+    let mut lines = Vec::new(alloc);
+    let mut at = 0;
+    while let Some((first, area)) = next_area(areas, pid, Vpn::new(at), Vpn::new(PAGE_NUMBERS)) {
+        lines.push(line_of(segments, first, area))?;
+        at = first.number() + 1;
+    }
+    Ok(lines)
+}
+
+/// An area from a page number on, and whether its segment is shared.
+fn line_of<A: Allocator + Copy>(
+    segments: &BTreeMap<u32, Segment, A>,
+    first: Vpn,
+    area: Area,
+) -> Line
+    ensures { result ≡ line_of segments.now.entries ((0, first), area) }
+{
+    Line {
+        first,
+        pages: area.pages,
+        policy: area.policy,
+        page: area.page,
+        shared: is_shared(segments, area.page.segment),
+    }
+}
+
+/// Whether a segment is shared. One that is not there is not.
+pub(crate) fn is_shared<A: Allocator + Copy>(
+    segments: &BTreeMap<u32, Segment, A>,
+    number: u32,
+) -> bool
+    ensures { result ≡ is_shared segments.now.entries number }
+{
+    segments.get(&number).is_some_and(|segment| segment.shared)
+}

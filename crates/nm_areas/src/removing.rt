@@ -1,0 +1,244 @@
+//! Areas that go.
+
+ghost use Rattle.std.specs.Prelude.{ℕ, ◌≡◌, ◌≤◌, ◌<◌, ◌+◌, ◌/◌, ◌^◌, ◌++◌, length, vec_len, vec_capacity, None, Some, IfSome, IfNone, IfOk, OnOk};
+ghost use Rattle.std.specs.List.{AllByRecursion, list_any, fold};
+ghost use Rattle.std.specs.List.Sorted.{IsStrictlySortedBy};
+ghost use Rattle.std.specs.Map.{keys_of};
+ghost use Rattle.std.specs.Ordering.{nat_cmp};
+ghost use Rattle.nm_types.specs.Map.{get, page_cmp};
+ghost use Rattle.nm_types.specs.State.{page_at};
+ghost use Rattle.nm_areas.specs.Does.{Makes};
+ghost use Rattle.nm_areas.specs.Mapped.{AllShown, HasIndices, shows_segment};
+ghost use Rattle.nm_areas.specs.Parts.{shows_page};
+ghost use Rattle.nm_areas.specs.Refused.{remove_refusal};
+ghost use Rattle.nm_areas.specs.Removed.{segments_left, without_own, place_left, lost, all_lost, removed, frames_lost, others, begins_in, page_outside, covers_beside, page_in, pages_of_area, pages_of_own};
+
+use crate::area_error::AreaError;
+use crate::area_table::AreaTable;
+use crate::areas::{Areas, stretch};
+use crate::policing::next_area;
+use nm_types::{Area, Errno, FrameId, Page, Pid, Segment, Vpn};
+use std::alloc::Allocator;
+use std::collections::BTreeMap;
+
+impl<A: Allocator + Copy> Areas<A> {
+    /// A process lets go so many pages from an address on, where it may have holes. Its areas are split at both ends,
+    /// and those between go. So do segments that no area shows any more. Pages that no area of any process covers any
+    /// more lose their frames: the answer lists them with the frames that they had, by ascending address, a page at its
+    /// lowest.
+    ///
+    /// EINVAL: the address is not a page's, there is no page, or they end past 2^47.
+    pub fn remove(
+        &mut self,
+        pid: Pid,
+        addr: u64,
+        pages: u64,
+    ) -> Result<Vec<(Page, FrameId), A>, AreaError>
+        ensures done { Makes result self.old self.new (remove_refusal addr pages) (removed self.old pid (addr / 4096) (addr / 4096 + pages)) }
+        ensures pages { OnOk result ((q v : ℕ) → page_at self.new.areas q v ≡ page_outside self.old.areas pid (addr / 4096) (addr / 4096 + pages) q v) }
+        ensures freed { IfOk result (λ freed. freed.items ≡ frames_lost self.old pid (addr / 4096) (addr / 4096 + pages)) }
+    {
+        let Some(first) = stretch(addr, pages) else {
+            return Err(AreaError::Refused(Errno::Einval));
+        };
+        let end = Vpn::new(first.number() + pages);
+        let mut freed = Vec::with_capacity(self.alloc, self.places.len())?;
+        self.table.cut(pid, first, end)?;
+        self.table
+            .lose_all(pid, first, end, &mut self.places, &mut freed);
+        self.table.drop_own(pid, first, end);
+        Ok(freed)
+    }
+}
+
+impl<A: Allocator + Copy> AreaTable<A> {
+    /// Pages that the areas of a process show that begin from one page number up to another, and that no other area
+    /// covers, lose their frames. They are put behind those of a list that has room for all pages that have a frame.
+    fn lose_all(
+        &self,
+        pid: Pid,
+        first: Vpn,
+        end: Vpn,
+        places: &mut BTreeMap<Page, FrameId, A>,
+        freed: &mut Vec<(Page, FrameId), A>,
+    )
+        requires range { first ≤ end }
+        requires indices { AllByRecursion HasIndices self.now.areas }
+        requires room { vec_len freed.old + length places.old.entries ≤ vec_capacity freed.old }
+        ensures places { places.new.entries ≡ fold (place_left (others pid first end self.now.areas)) places.old.entries (pages_of_own pid first end self.now.areas) }
+        ensures freed { freed.new.items ≡ freed.old.items ++ all_lost (others pid first end self.now.areas) places.old.entries (pages_of_own pid first end self.now.areas) }
+    {
+        lose_all(&self.areas, pid, first, end, places, freed);
+    }
+
+    /// Takes away the areas of a process that begin from one page number up to another, and the segments that no other
+    /// area shows.
+    fn drop_own(&mut self, pid: Pid, first: Vpn, end: Vpn)
+        requires shown { AllShown self.old.areas self.old.segments }
+        requires named { IsStrictlySortedBy nat_cmp (keys_of self.old.segments) }
+        ensures { self.new ≡ without_own self.old pid first end }
+    {
+        drop_own(&mut self.areas, &mut self.segments, pid, first, end);
+    }
+}
+
+/// Takes away the areas of a process that begin from one page number up to another, and the segments that no other area
+/// shows.
+fn drop_own<A: Allocator + Copy>(
+    areas: &mut BTreeMap<(Pid, Vpn), Area, A>,
+    segments: &mut BTreeMap<u32, Segment, A>,
+    pid: Pid,
+    first: Vpn,
+    end: Vpn,
+)
+    requires shown { AllShown areas.old.entries segments.old.entries }
+    requires named { IsStrictlySortedBy nat_cmp (keys_of segments.old.entries) }
+    ensures areas { areas.new.entries ≡ others pid first end areas.old.entries }
+    ensures segments { segments.new.entries ≡ segments_left segments.old.entries (others pid first end areas.old.entries) }
+{
+    while let Some((start, area)) = next_area(areas, pid, first, end) {
+        areas.remove(&(pid, start));
+        if !is_shown(areas, area.page.segment) {
+            segments.remove(&area.page.segment);
+        }
+    }
+}
+
+/// Whether some area shows pages of a segment.
+fn is_shown<A: Allocator + Copy>(areas: &BTreeMap<(Pid, Vpn), Area, A>, segment: u32) -> bool
+    ensures { result ≡ list_any (shows_segment segment) areas.now.entries }
+{
+    areas.iter().any(|(_, area)| area.page.segment == segment)
+}
+
+/// Pages that the areas of a process show that begin from one page number up to another, and that no other area covers,
+/// lose their frames. They are put behind those of a list that has room for all pages that have a frame.
+fn lose_all<A: Allocator + Copy>(
+    areas: &BTreeMap<(Pid, Vpn), Area, A>,
+    pid: Pid,
+    first: Vpn,
+    end: Vpn,
+    places: &mut BTreeMap<Page, FrameId, A>,
+    freed: &mut Vec<(Page, FrameId), A>,
+)
+    requires range { first ≤ end }
+    requires indices { AllByRecursion HasIndices areas.now.entries }
+    requires room { vec_len freed.old + length places.old.entries ≤ vec_capacity freed.old }
+    ensures places { places.new.entries ≡ fold (place_left (others pid first end areas.now.entries)) places.old.entries (pages_of_own pid first end areas.now.entries) }
+    ensures freed { freed.new.items ≡ freed.old.items ++ all_lost (others pid first end areas.now.entries) places.old.entries (pages_of_own pid first end areas.now.entries) }
+{
+    let mut at = first.number();
+    while let Some((start, area)) = next_area(areas, pid, Vpn::new(at), end) {
+        lose(areas, pid, first, end, area, places, freed);
+        at = start.number() + 1;
+    }
+}
+
+/// Pages that an area shows, and that no area covers but those of a process that begin from one page number up to
+/// another, lose their frames. They are put behind those of a list that has room for all pages that have a frame.
+fn lose<A: Allocator + Copy>(
+    areas: &BTreeMap<(Pid, Vpn), Area, A>,
+    pid: Pid,
+    first: Vpn,
+    end: Vpn,
+    area: Area,
+    places: &mut BTreeMap<Page, FrameId, A>,
+    freed: &mut Vec<(Page, FrameId), A>,
+)
+    requires indices { area.page.index + area.pages < 2 ^ 64 }
+    requires room { vec_len freed.old + length places.old.entries ≤ vec_capacity freed.old }
+    ensures places { places.new.entries ≡ fold (place_left (others pid first end areas.now.entries)) places.old.entries (pages_of_area area) }
+    ensures freed { freed.new.items ≡ freed.old.items ++ all_lost (others pid first end areas.now.entries) places.old.entries (pages_of_area area) }
+    ensures room { vec_len freed.new + length places.new.entries ≤ vec_capacity freed.new }
+{
+    let segment = area.page.segment;
+    let past = area.page.index + area.pages;
+    let mut at = area.page.index;
+    while let Some((index, frame)) = next_place(places, segment, at, past) {
+        let page = Page { segment, index };
+        lose_page(areas, pid, first, end, page, frame, places, freed);
+        at = index + 1;
+    }
+}
+
+/// A page loses its frame, if no area covers it but those of a process that begin from one page number up to another.
+/// Then it is put behind those of a list that has room for all pages that have a frame.
+fn lose_page<A: Allocator + Copy>(
+    areas: &BTreeMap<(Pid, Vpn), Area, A>,
+    pid: Pid,
+    first: Vpn,
+    end: Vpn,
+    page: Page,
+    frame: FrameId,
+    places: &mut BTreeMap<Page, FrameId, A>,
+    freed: &mut Vec<(Page, FrameId), A>,
+)
+    requires has { get page_cmp places.old.entries page ≡ Some frame }
+    requires room { vec_len freed.old + length places.old.entries ≤ vec_capacity freed.old }
+    ensures places { places.new.entries ≡ place_left (others pid first end areas.now.entries) places.old.entries page }
+    ensures freed { freed.new.items ≡ freed.old.items ++ lost (others pid first end areas.now.entries) places.old.entries page }
+    ensures room { vec_len freed.new + length places.new.entries ≤ vec_capacity freed.new }
+{
+    if !is_covered(areas, pid, first, end, page) {
+        places.remove(&page);
+        freed.push_reserved((page, frame));
+    }
+}
+
+/// Whether an area covers a page, but for those of a process that begin from one page number up to another.
+fn is_covered<A: Allocator + Copy>(
+    areas: &BTreeMap<(Pid, Vpn), Area, A>,
+    pid: Pid,
+    first: Vpn,
+    end: Vpn,
+    page: Page,
+) -> bool
+    ensures { result ≡ list_any (covers_beside pid first end page) areas.now.entries }
+{
+    areas.iter().any(|(spot, area)| covers_beside(pid, first, end, page, *spot, *area))
+}
+
+/// Whether an area covers a page, and is none of a process that begins from one page number up to another.
+fn covers_beside(pid: Pid, first: Vpn, end: Vpn, page: Page, spot: (Pid, Vpn), area: Area) -> bool
+    ensures { result ≡ covers_beside pid first end page (spot, area) }
+{
+    !begins_in(pid, first, end, spot) && shows_page(area, page)
+}
+
+/// Whether an area shows a page at some page number.
+fn shows_page(area: Area, page: Page) -> bool
+    ensures { result ≡ shows_page page area }
+{
+    area.page.segment == page.segment
+        && area.page.index <= page.index
+        && page.index - area.page.index < area.pages
+}
+
+/// Whether an area that begins at a place is one of a process that begin from one page number up to another.
+fn begins_in(pid: Pid, first: Vpn, end: Vpn, spot: (Pid, Vpn)) -> bool
+    ensures { result ≡ begins_in pid first end spot }
+{
+    let (owner, start) = spot;
+    owner == pid && first.number() <= start.number() && start.number() < end.number()
+}
+
+/// The first page of a segment that has a frame, by its index from one up to another, with the frame.
+fn next_place<A: Allocator + Copy>(
+    places: &BTreeMap<Page, FrameId, A>,
+    segment: u32,
+    at: u64,
+    past: u64,
+) -> Option<(u64, FrameId)>
+    ensures some { IfSome result (λ p. (at ≤ p.0) × (p.0 < past) × (get page_cmp places.now.entries (page_in segment p.0) ≡ Some p.1)) }
+    ensures first { IfSome result (λ p. (i : ℕ) → at ≤ i → i < p.0 → get page_cmp places.now.entries (page_in segment i) ≡ None) }
+    ensures none { IfNone result ((i : ℕ) → at ≤ i → i < past → get page_cmp places.now.entries (page_in segment i) ≡ None) }
+    ensures ordered { IsStrictlySortedBy page_cmp (keys_of places.now.entries) }
+{
+    let from = Page { segment, index: at };
+    let (page, frame) = places.range(from..).next()?;
+    if page.segment == segment && page.index < past {
+        Some((page.index, *frame))
+    } else {
+        None
+    }
+}
