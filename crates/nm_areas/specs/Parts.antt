@@ -39,6 +39,7 @@ shows_page p area =
     let first = area.page in
     (first.segment == p.segment) && (nat_le first.index p.index && nat_lt p.index (first.index + area.pages))
 
+-- the same of an area at its place
 abbrev pub covers_page : Page → Placed → Bool
 covers_page p a = shows_page p a.1
 

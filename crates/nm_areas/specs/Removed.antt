@@ -60,14 +60,15 @@ frames_lost m pid first end =
 abbrev pub begins_in : ℕ → ℕ → ℕ → ℕ × ℕ → Bool
 begins_in pid at end spot = (spot.0 == pid) && (nat_le at spot.1 && nat_lt spot.1 end)
 
+-- whether an area is such a one
 abbrev pub is_own : ℕ → ℕ → ℕ → Placed → Bool
 is_own pid at end a = begins_in pid at end a.0
 
--- what a process has outside a range
+-- the page that is shown at a page number, and none in a range of a process
 abbrev pub page_outside : Map (ℕ × ℕ) Area → ℕ → ℕ → ℕ → ℕ → ℕ → Option Page
 page_outside areas pid first end q v = if begins_in pid first end (q, v) then None else page_at areas q v
 
--- the areas that do not
+-- the areas but those of a process that begin in a range
 abbrev pub others : ℕ → ℕ → ℕ → Map (ℕ × ℕ) Area → Map (ℕ × ℕ) Area
 others pid first end areas = filter (λ a. not (is_own pid first end a)) areas
 

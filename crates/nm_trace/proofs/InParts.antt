@@ -68,4 +68,3 @@ broken_off a b c text line whole e p q = (q.0, q.1, q.2 ∙ e, q.3, appends_more
 -- the call of a step, at its place
 pub call_at : {S : Type 0} (call_of : S → Call) (steps : List S) (k : ℕ) (step : S) → k < length steps → step ≡ get_or steps k step → (k < length (map call_of steps)) × (call_of step ≡ get_or (map call_of steps) k (call_of step))
 call_at call_of steps k step lt is = (rw length-map lt, ap call_of is ∙ sym (get_or-map call_of steps k step))
-

@@ -1,0 +1,154 @@
+use nm_areas::{AreaError, Areas, Line};
+use nm_refusing::Refusing;
+use nm_types::{FrameId, Page, Pid, Policy};
+use std::alloc::Global;
+use std::process::Abort;
+use std::test::Fail;
+
+type Heap<'a> = &'a Refusing<Global>;
+
+/// The calls that take memory.
+#[derive(Clone, Copy, Debug)]
+enum Call {
+    Insert,
+    Attach,
+    Frame,
+    Policy,
+    Lines,
+    Remove,
+}
+
+const CALLS: [Call; 6] = [
+    Call::Insert,
+    Call::Attach,
+    Call::Frame,
+    Call::Policy,
+    Call::Lines,
+    Call::Remove,
+];
+
+/// How often each call is made.
+const ROUNDS: u32 = 16;
+
+/// The first page of a segment.
+fn first_page(segment: u32) -> Page {
+    Page { segment, index: 0 }
+}
+
+/// Makes a call of one round. Process 1 gets three pages of a shared segment, process 2 the last two of them, the first
+/// gets a frame, the second a policy in process 1, and in the end process 1 lets go the first two.
+fn perform<'a>(areas: &mut Areas<Heap<'a>>, call: Call, round: u32) -> Result<(), AreaError> {
+    let one = Pid::new(1);
+    let addr = u64::from(round) * 0x10000;
+    match call {
+        Call::Insert => areas.insert(one, addr, 3, true).map(|_| ()),
+        Call::Attach => areas.attach(Pid::new(2), addr, round, 1, 2),
+        Call::Frame => {
+            areas.set_frame(first_page(round), FrameId::new(round))?;
+            Ok(())
+        }
+        Call::Policy => areas.split_policy(one, addr + 0x1000, 4096, Policy::Local),
+        Call::Lines => {
+            areas.lines(one)?;
+            Ok(())
+        }
+        Call::Remove => areas.remove(one, addr, 2).map(|_| ()),
+    }
+}
+
+/// The areas of processes 1 and 2, and the frame of a round's first page.
+#[derive(Drop)]
+struct Picture<'a> {
+    first: Vec<Line, Heap<'a>>,
+    second: Vec<Line, Heap<'a>>,
+    frame: Option<FrameId>,
+}
+
+impl Picture<'_> {
+    fn is_same(&self, other: &Self) -> bool {
+        self.first.as_slice() == other.first.as_slice()
+            && self.second.as_slice() == other.second.as_slice()
+            && self.frame == other.frame
+    }
+}
+
+fn take_picture<'a>(areas: &Areas<Heap<'a>>, round: u32) -> Result<Picture<'a>, AreaError> {
+    Ok(Picture {
+        first: areas.lines(Pid::new(1))?,
+        second: areas.lines(Pid::new(2))?,
+        frame: areas.page_frame(first_page(round)),
+    })
+}
+
+/// Makes a call while its allocation of this number is refused. Tells whether it came to that allocation.
+fn attempt<'a>(
+    heap: Heap<'a>,
+    areas: &mut Areas<Heap<'a>>,
+    call: Call,
+    round: u32,
+    number: u64,
+) -> (bool, Result<(), AreaError>) {
+    heap.refuse(number);
+    let answer = perform(areas, call, round);
+    let met = heap.asked_since(number) >= number;
+    heap.refuse(0);
+    (met, answer)
+}
+
+/// Makes a call, after each of its allocations was refused in turn: it answers so, and the areas are as they were. A call
+/// that lists may make do with less room, and answer. Gives how many refusals there were.
+fn refuse_each<'a>(
+    rt: &impl Abort,
+    heap: Heap<'a>,
+    areas: &mut Areas<Heap<'a>>,
+    call: Call,
+    round: u32,
+) -> Result<u64, AreaError> {
+    let before = take_picture(areas, round)?;
+    for number in 1..1000u64 {
+        let (met, answer) = attempt(heap, areas, call, round, number);
+        if !met {
+            assert!(rt; answer.is_ok(), "{call:?} with memory");
+            return Ok(number - 1);
+        }
+        let answered = matches!(call, Call::Lines) && answer.is_ok();
+        let fine = answered || answer.err() == Some(AreaError::HostMemory);
+        let now = take_picture(areas, round)?;
+        assert!(rt;
+            fine && now.is_same(&before),
+            "{call:?}, allocation {number}"
+        );
+    }
+    Err(AreaError::HostMemory)
+}
+
+/// Makes a call in each round, after each of its allocations was refused in turn. Gives how many refusals there were.
+fn refuse_rounds<'a>(
+    rt: &impl Abort,
+    heap: Heap<'a>,
+    areas: &mut Areas<Heap<'a>>,
+    call: Call,
+) -> Result<u64, AreaError> {
+    let mut refused = 0u64;
+    for round in 0..ROUNDS {
+        let more = refuse_each(rt, heap, areas, call, round)?;
+        refused = refused.saturating_add(more);
+    }
+    Ok(refused)
+}
+
+/// Each allocation of each call is refused in turn, and each call meets some. In the end process 1 has one page of each
+/// segment, and the first pages, which no process has any more, have no frames.
+#[test]
+fn refused_calls_leave_the_areas(rt: HostRuntime) -> Result<(), Fail> {
+    let heap = Refusing::new(rt.alloc());
+    let mut areas = Areas::new(&heap);
+    for call in CALLS {
+        let refused = refuse_rounds(&rt, &heap, &mut areas, call)?;
+        assert!(rt; refused > 0, "{call:?} takes no memory");
+    }
+    let last = take_picture(&areas, 7)?;
+    assert_eq!(rt; last.first.len(), ROUNDS as usize);
+    assert!(rt; last.frame.is_none());
+    Ok(())
+}
