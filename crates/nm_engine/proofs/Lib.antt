@@ -10,6 +10,7 @@ pub mod Moved
 pub mod Sights
 pub mod Allocated
 pub mod Touched
+pub mod Written
 pub mod Ran
 pub mod Areas
 pub mod Called

@@ -59,7 +59,7 @@ placed_keeps s at node unplaced q a =
     ]
 
 -- if it is not refused, the state is sound, and every process has the bytes that it had
-StaysSound : State → List ℕ → Result State Errno → Type 0
+unfoldable pub StaysSound : State → List ℕ → Result State Errno → Type 0
 StaysSound s l (Err e) = Unit {0}
 StaysSound s l (Ok t) = IsSoundAmid t l × ((q a : ℕ) → mem t q a ≡ mem s q a)
 
@@ -152,7 +152,7 @@ process_sound s l pid address len writes (Some process) h e =
       | false ↦ over_sound s l pid (address / 4096) process writes (area_over s.areas pid (address / 4096)) h e refl
     ]
 
-touch_sound : (s : State) (l : List ℕ) (pid address len : ℕ) (writes : Bool) → IsSoundAmid s l → StaysSound s l (touch s pid address len writes)
+pub touch_sound : (s : State) (l : List ℕ) (pid address len : ℕ) (writes : Bool) → IsSoundAmid s l → StaysSound s l (touch s pid address len writes)
 touch_sound s l pid address len writes h = process_sound s l pid address len writes (get nat_cmp s.processes pid) h refl
 
 read_sound : (s : State) (l : List ℕ) (pid address len : ℕ) (r : Result State Errno) → IsSoundAmid s l → StaysSound s l r → IsSoundAmid (read_after s pid address len r).state l
@@ -164,7 +164,7 @@ read_sound s l pid address len (Ok t) h k = k.0
 length-overwrite : (old : List ℕ) (i : ℕ) (new : List ℕ) → length old ≡ 4096 → i + length new ≤ 4096 → length (overwrite old i new) ≡ 4096
 length-overwrite old i new whole fits = simp (length-append, length-take, length-drop) (omega arith)
 
-seen_bytes : (s : State) (l : List ℕ) (p : Page) (o : Option (List ℕ)) → IsSoundAmid s l → get page_cmp s.bytes p ≡ o → IsSome o → length (unwrap_or o []) ≡ 4096
+pub seen_bytes : (s : State) (l : List ℕ) (p : Page) (o : Option (List ℕ)) → IsSoundAmid s l → get page_cmp s.bytes p ≡ o → IsSome o → length (unwrap_or o []) ≡ 4096
 seen_bytes s l p None h e some = cc
 seen_bytes s l p (Some b) h e some = All-get page_cmp (λ b. length b ≡ 4096) s.bytes p b h.bytes.whole e
 
@@ -207,7 +207,7 @@ write_after_sound s l pid address new (Ok t) h k fits = bytes_sound t l pid (add
 err_ok : {e : Errno} {t : State} → Err e ≡ Ok t → ⊥
 err_ok e = cc
 
-process_fits : (s : State) (pid address len : ℕ) (writes : Bool) (o : Option Process) (t : State) → touched s writes (spot_of s o pid address len) ≡ Ok t → address % 4096 + len ≤ 4096
+pub process_fits : (s : State) (pid address len : ℕ) (writes : Bool) (o : Option Process) (t : State) → touched s writes (spot_of s o pid address len) ≡ Ok t → address % 4096 + len ≤ 4096
 process_fits s pid address len writes None t e = absurd (err_ok e)
 process_fits s pid address len writes (Some process) t e =
     elim (nat_lt 4096 (address % 4096 + len)) as (λ b. nat_lt 4096 (address % 4096 + len) ≡ b → touched s writes (if (len == 0) || b then Err Einval else spot_over pid process (address / 4096) (area_over s.areas pid (address / 4096))) ≡ Ok t → address % 4096 + len ≤ 4096) [

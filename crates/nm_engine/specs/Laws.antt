@@ -1,10 +1,11 @@
 -- What holds of every state, run and request.
-use Rattle.std.specs.Prelude.{◌≡◌, ℕ, Bool, true, List, [], map, drop, slice_set, None}
+use Rattle.std.specs.Prelude.{◌≡◌, ℕ, ◌+◌, ◌-◌, ◌/◌, ◌%◌, nat_le, nat_lt, Bool, true, false, ◌&&◌, List, [], map, length, drop, slice_index, slice_set, Option, Some, None, if◌then◌else◌}
 use Rattle.std.specs.List.{AllByRecursion, fold}
 use Rattle.std.specs.List.Sorted.{IsStrictlySortedBy}
 use Rattle.std.specs.Map.{keys_of}
 use Rattle.std.specs.Ordering.{nat_cmp}
-use Rattle.nm_types.specs.Map.{set, page_cmp}
+use Rattle.nm_types.specs.declared.page.Page.{Page}
+use Rattle.nm_types.specs.Map.{set, page_cmp, same_page}
 use Rattle.nm_types.specs.Layout.{Layout}
 use Rattle.nm_types.specs.declared.area.Policy.{Policy}
 use Rattle.nm_types.specs.State.{State, page_at, free_list}
@@ -15,7 +16,7 @@ use Rattle.nm_runs.specs.Status.{status_or_move, class_of}
 use Rattle.nm_plan.specs.declared.Taken.{Taken}
 use Rattle.nm_plan.specs.Decide.{Decisions, decide}
 use Rattle.nm_engine.specs.Memory.{mem}
-use Rattle.nm_engine.specs.Touch.{Access, read, access}
+use Rattle.nm_engine.specs.Touch.{Access, Done, read, write, access}
 use Rattle.nm_engine.specs.Run.{Progress, each, with_all_free, run}
 use Rattle.nm_engine.specs.Batch.{batch}
 use Rattle.nm_engine.specs.Effect.{new_machine, spawn, map_new, attach, pin, unpin, unmap, exit}
@@ -45,6 +46,25 @@ abbrev pub ReadingKeepsMemory : Type 0
 ReadingKeepsMemory =
     (s : State) (left : List ℕ) (pid address len q at : ℕ) →
     IsSoundAmid s left → mem (read s pid address len).state q at ≡ mem s q at
+
+-- whether two addresses show one page
+abbrev pub is_one_page : Option Page → Option Page → Bool
+is_one_page None o = false
+is_one_page (Some p) None = false
+is_one_page (Some p) (Some q) = same_page p q
+
+-- whether a byte is one of so many from a place on
+abbrev pub is_within : ℕ → ℕ → ℕ → Bool
+is_within first count at = nat_le first at && nat_lt at (first + count)
+
+-- a write gives its own bytes to everyone who has the page in an area, and changes no other byte
+abbrev pub WritingIsExact : Type 0
+WritingIsExact =
+    (s : State) (left : List ℕ) (pid address : ℕ) (new : List ℕ) (q at : ℕ) →
+    IsSoundAmid s left → (write s pid address new).answer ≡ Done →
+    let here = is_one_page (page_at s.areas pid (address / 4096)) (page_at s.areas q (at / 4096)) in
+    let hit = here && is_within (address % 4096) (length new) (at % 4096) in
+    mem (write s pid address new).state q at ≡ (if hit then Some (slice_index new (at % 4096 - address % 4096)) else mem s q at)
 
 -- and another policy changes no page that an area shows, and no byte
 abbrev pub PolicyKeepsMemory : Type 0

@@ -1,6 +1,6 @@
 //! Laws over the definitions alone, and worked examples.
 
-ghost use Rattle.nm_engine.specs.Laws.{DecidingKeepsMemory, FreeingKeepsMemory, ReadingKeepsMemory, PolicyKeepsMemory, LooksSuffice, PlanIsOneByOne, AccessIsSound, RunIsSound, BatchIsSound, NewIsSound, SpawnIsSound, MapIsSound, AttachIsSound, PinIsSound, PolicyIsSound, UnmapIsSound, ExitIsSound};
+ghost use Rattle.nm_engine.specs.Laws.{DecidingKeepsMemory, FreeingKeepsMemory, ReadingKeepsMemory, WritingIsExact, PolicyKeepsMemory, LooksSuffice, PlanIsOneByOne, AccessIsSound, RunIsSound, BatchIsSound, NewIsSound, SpawnIsSound, MapIsSound, AttachIsSound, PinIsSound, PolicyIsSound, UnmapIsSound, ExitIsSound};
 ghost use Rattle.nm_engine.specs.Starts.{StartsAreSound};
 ghost use Rattle.nm_engine.specs.Moving.{ThreePagesMove, MovedPageReads, EmptyBatchDoesNothing, OnePageTwiceMovesOnce, ShortageStopsTwoOfFour, LaterRunTakesFrameOfEarlier, EarlierRunFindsNone, PageGoesAndComesHome};
 ghost use Rattle.nm_engine.specs.Sharing.{TwoAddressesAreOneProcess, SharedPageStays, SharedPageIsOnTarget, SharedPageMovesForBoth};
@@ -14,6 +14,11 @@ pub fn mem_stays()
     ensures freed { FreeingKeepsMemory }
     ensures read { ReadingKeepsMemory }
     ensures policies { PolicyKeepsMemory }
+{}
+
+/// A write gives its own bytes to everyone who has the page, and changes no other byte that any process has.
+pub fn writes_are_exact()
+    ensures { WritingIsExact }
 {}
 
 /// A look at a page number of a process, which counts the processes that see the page, tells what is to be done with a
