@@ -1,0 +1,57 @@
+#!/usr/bin/env python3
+"""Times the built program on each kind of trace at 1, 2, 4 and 8 times its smallest size, and writes the table of
+docs/PERFORMANCE.md: seconds (the best of three runs), peak memory, and how the time grows. `./build` makes the program."""
+import math
+import os
+import subprocess
+import sys
+import tempfile
+import time
+
+import traces
+
+ROOT = os.path.dirname(os.path.dirname(os.path.abspath(__file__)))
+PROGRAM = os.path.join(ROOT, "crates/numatrace/out/numatrace")
+
+
+def run_once(path):
+    """Seconds and peak memory in KiB of one run."""
+    with open(path, "rb") as trace, open(os.devnull, "wb") as out:
+        start = time.monotonic()
+        child = subprocess.Popen([PROGRAM], stdin=trace, stdout=out)
+        _, status, used = os.wait4(child.pid, 0)
+        seconds = time.monotonic() - start
+    if status != 0:
+        sys.exit("bench/run.py: the program ended with status %d" % os.waitstatus_to_exitcode(status))
+    return seconds, used.ru_maxrss
+
+
+def exponent(times):
+    """The slope of log time over log size, by least squares."""
+    points = [(math.log(factor), math.log(seconds)) for factor, seconds in times]
+    mean_x = sum(x for x, _ in points) / len(points)
+    mean_y = sum(y for _, y in points) / len(points)
+    return sum((x - mean_x) * (y - mean_y) for x, y in points) / sum((x - mean_x) ** 2 for x, _ in points)
+
+
+def main():
+    print("| Trace | Size | MiB | Seconds | Peak memory | Growth |")
+    print("|---|---|---|---|---|---|")
+    with tempfile.TemporaryDirectory() as folder:
+        path = os.path.join(folder, "trace.json")
+        for kind, smallest in traces.KINDS.items():
+            times = []
+            for factor in (1, 2, 4, 8):
+                with open(path, "w", encoding="utf-8") as file:
+                    file.write(kind(smallest * factor))
+                runs = [run_once(path) for _ in range(3)]
+                seconds = min(run[0] for run in runs)
+                times.append((factor, seconds))
+                growth = "%.2f" % exponent(times) if factor == 8 else ""
+                size = os.path.getsize(path) / 2**20
+                memory = max(run[1] for run in runs) / 1024
+                print("| `%s` | %d | %.1f | %.2f | %.0f MiB | %s |" % (kind.__name__, smallest * factor, size, seconds, memory, growth))
+
+
+if __name__ == "__main__":
+    main()
