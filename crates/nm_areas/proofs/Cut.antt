@@ -271,18 +271,17 @@ over_facts pid at areas start area h =
     let parts = covers_parts ((pid, start), area) pid at found.1 in
     (found.0, parts.1, parts.2)
 
--- the areas after an insert and a shorter area in front
-pub split_made : (pid at start n : ℕ) (area : Area) (old mid new areas : Map (ℕ × ℕ) Area) → old ≡ areas → Some ((pid, start), area) ≡ area_over areas pid at → n ≡ at - start → start < at
-    → AllByRecursion IsSomePages areas → AreasAreApart areas → IsStrictlySortedBy spot_cmp (keys_of old)
-    → mid ≡ set spot_cmp old (pid, at) (record { pages = area.pages - n; policy = area.policy; page = record { segment = area.page.segment; index = area.page.index + n } })
-    → new ≡ replace spot_cmp mid (pid, start) (record { pages = n; policy = area.policy; page = area.page }) → new ≡ split_at pid at areas
-split_made pid at start n area old mid new areas is over size low some apart sorted inserted put =
+-- the areas after one more and a shorter area in front
+pub split_made : (pid at start n : ℕ) (area : Area) (now more new : Table) → Some ((pid, start), area) ≡ area_over now.areas pid at → n ≡ at - start → start < at
+    → AllByRecursion IsSomePages now.areas → AreasAreApart now.areas → IsStrictlySortedBy spot_cmp (keys_of now.areas)
+    → more ≡ with_areas now (set spot_cmp now.areas (pid, at) (record { pages = area.pages - n; policy = area.policy; page = record { segment = area.page.segment; index = area.page.index + n } }))
+    → new ≡ with_areas more (replace spot_cmp more.areas (pid, start) (record { pages = n; policy = area.policy; page = area.page })) → new ≡ with_areas now (split_at pid at now.areas)
+split_made pid at start n area now more new over size low some apart sorted added put =
     let a : Placed = ((pid, start), area) in
-    let facts = over_facts pid at areas start area over in
-    put ∙ ap (λ m. replace spot_cmp m (pid, start) (record { pages = n; policy = area.policy; page = area.page })) inserted
-    ∙ ap (λ m. replace spot_cmp (set spot_cmp m (pid, at) (record { pages = area.pages - n; policy = area.policy; page = record { segment = area.page.segment; index = area.page.index + n } })) (pid, start) (record { pages = n; policy = area.policy; page = area.page })) is
-    ∙ ap (λ (k : ℕ). replace spot_cmp (set spot_cmp areas (pid, at) (record { pages = area.pages - k; policy = area.policy; page = record { segment = area.page.segment; index = area.page.index + k } })) (pid, start) (record { pages = k; policy = area.policy; page = area.page })) size
-    ∙ split_is pid at a refl low facts.2 areas some apart (subst (λ m. IsStrictlySortedBy spot_cmp (keys_of m)) is sorted) facts.0
+    let facts = over_facts pid at now.areas start area over in
+    put ∙ ap (λ (m : Table). with_areas m (replace spot_cmp m.areas (pid, start) (record { pages = n; policy = area.policy; page = area.page }))) added
+    ∙ ap (λ (k : ℕ). with_areas now (replace spot_cmp (set spot_cmp now.areas (pid, at) (record { pages = area.pages - k; policy = area.policy; page = record { segment = area.page.segment; index = area.page.index + k } })) (pid, start) (record { pages = k; policy = area.policy; page = area.page }))) size
+    ∙ ap (with_areas now) (split_is pid at a refl low facts.2 now.areas some apart sorted facts.0)
 
 -- the areas alone have changed
 pub areas_alone : (old new next_areas : Map (ℕ × ℕ) Area) (segments : Map ℕ Segment) (next : ℕ) (m : Table) → record { areas = old; segments = segments; next = next } ≡ m → new ≡ next_areas

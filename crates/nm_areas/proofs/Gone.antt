@@ -1,5 +1,5 @@
 -- Areas that go, and the segments that no other area shows.
-use Rattle.std.proofs.Common.{◌≡◌, ℕ, ◌≤◌, ◌<◌, List, [], ◌∷◌, Bool, true, false, not, ◌||◌, cond, refl, sym, ap, subst, ◌∙◌, eq-eqb, inl, inr}
+use Rattle.std.proofs.Common.{◌≡◌, ℕ, suc, ◌≤◌, ◌<◌, arith, List, [], ◌∷◌, length, Bool, true, false, not, ◌||◌, cond, refl, sym, ap, subst, ◌∙◌, eq-eqb, inl, inr}
 use Rattle.std.specs.Prelude.{Some, None, ◌==◌}
 use Rattle.std.specs.List.{AllByRecursion, list_any, filter}
 use Rattle.std.specs.List.Sorted.{IsStrictlySortedBy}
@@ -16,7 +16,8 @@ use Rattle.nm_types.specs.declared.area.Segment.{Segment}
 use Rattle.nm_types.specs.Map.{Map, get, without, spot_cmp}
 use Rattle.nm_types.specs.State.{Placed}
 use Rattle.nm_areas.specs.Mapped.{shows_segment, AllShown}
-use Rattle.nm_areas.specs.Removed.{segments_left, begins_in, is_own, others}
+use Rattle.nm_areas.specs.Removed.{segments_left, begins_in, is_own, others, without_own}
+use Rattle.nm_areas.specs.Table.{Table, with_areas}
 use Rattle.nm_areas.proofs.Maps.{equal}
 use Rattle.nm_areas.proofs.Parted.{Among}
 use Rattle.nm_areas.proofs.Overs.{get_not_none}
@@ -57,6 +58,15 @@ module _ (pid first end : ℕ) where
       ap not (false_from_ne_true (is_own pid first end a) (λ h.
       let parts = own_parts pid first end a h in
       get_not_none areas a m (ap (λ (p : ℕ). get spot_cmp areas (p, a.0.1)) parts.0 ∙ none a.0.1 parts.1 parts.2))))
+
+-- one less
+pub fewer : (areas : Map (ℕ × ℕ) Area) (k : ℕ × ℕ) (x : Area) → get spot_cmp areas k ≡ Some x → length (without spot_cmp areas k) < length areas
+fewer [] k x h = absurd (some_none (sym h))
+fewer (e ∷ areas) k x h =
+    elim (is_eq (spot_cmp k e.0)) as (λ b. cond b (Some e.1) (get spot_cmp areas k) ≡ Some x → length (cond b areas (e ∷ without spot_cmp areas k)) < suc (length areas)) [
+      | true ↦ λ g. omega arith
+      | false ↦ λ g. let less = fewer areas k x g in omega (arith, less)
+    ] h
 
 -- ---- segments
 
@@ -153,3 +163,13 @@ module _ (pid first end : ℕ) (areas now : Map (ℕ × ℕ) Area) (s : ℕ) (x 
   step_gone r is shown segments new all sorted so_far removed =
       removed ∙ ap (λ m. without nat_cmp m x.page.segment) so_far
       ∙ segment_gone areas (pid, s) x there (ap (list_any (shows_segment x.page.segment)) (sym gone) ∙ sym is ∙ shown) all sorted ∙ ap (segments_left all) (sym gone)
+
+-- all have gone
+pub both_left : (pid first end : ℕ) (t now : Table) → now.areas ≡ others pid first end t.areas → now.next ≡ t.next → now.segments ≡ segments_left t.segments now.areas → now ≡ without_own t pid first end
+both_left pid first end t now areas next segments =
+    let left = segments ∙ ap (segments_left t.segments) areas in
+    λ i. record { areas = areas i; segments = left i; next = next i }
+
+-- a segment goes after an area
+pub dropped_from : (t taken dropped : Table) (areas : Map (ℕ × ℕ) Area) (n : ℕ) → taken ≡ with_areas t areas → dropped ≡ record taken { segments = without nat_cmp taken.segments n } → dropped.segments ≡ without nat_cmp t.segments n
+dropped_from t taken dropped areas n took is = ap (λ (u : Table). u.segments) is ∙ ap (λ (u : Table). without nat_cmp u.segments n) took

@@ -5,13 +5,17 @@ pub mod Parted
 pub mod Split
 pub mod Overs
 pub mod Painted
+pub mod Indexed
 pub mod Cut
 pub mod Repoliced
 pub mod Inserted
 pub mod Policed
+pub mod Beginning
+pub mod Scanned
 pub mod Own
 pub mod Framed
 pub mod Lost
 pub mod Gone
 pub mod Letting
+pub mod Roomy
 pub mod Shown

@@ -120,14 +120,14 @@ module _ {K V : Type 0} {R : K → K → Ordering} (o : IsTotalOrder R) (exact :
   none_after : (e : K × V) (m : Map K V) → IsStrictlySortedBy R (keys_of (e ∷ m)) → (q : K) → is_eq (R q e.0) ≡ true → get R m q ≡ None
   none_after e m s q h = lookup-none (is_at (R q)) m (none_past_head (eq_by_cmp_equiv o) q e m (IsDistinct-from_sorted R (keys_of (e ∷ m)) s) h)
 
-  found_later : (e : K × V) (m : Map K V) → IsStrictlySortedBy R (keys_of (e ∷ m)) → (q : K) (v : V) → get R m q ≡ Some v → get R (e ∷ m) q ≡ Some v
+  pub found_later : (e : K × V) (m : Map K V) → IsStrictlySortedBy R (keys_of (e ∷ m)) → (q : K) (v : V) → get R m q ≡ Some v → get R (e ∷ m) q ≡ Some v
   found_later e m s q v found =
       elim (is_eq (R q e.0)) as (λ b. is_eq (R q e.0) ≡ b → cond b (Some e.1) (get R m q) ≡ Some v) [
         | true ↦ λ b. absurd (none_some (sym (none_after e m s q b) ∙ found))
         | false ↦ λ b. found
       ] refl
 
-  found_first : (e : K × V) (m : Map K V) → get R (e ∷ m) e.0 ≡ Some e.1
+  pub found_first : (e : K × V) (m : Map K V) → get R (e ∷ m) e.0 ≡ Some e.1
   found_first e m = ap (λ r. cond (is_eq r) (Some e.1) (get R m e.0)) (tied_itself o e.0)
 
   -- what holds of each value that is found holds of all

@@ -1,4 +1,5 @@
 pub mod Table
+pub mod Index
 pub mod Mapped
 pub mod Parts
 pub mod Policing

@@ -1,34 +1,42 @@
 //! The areas of the processes, and the segments that they show.
 
-ghost use Rattle.std.specs.Prelude.{◌≡◌, ◌≤◌, ◌<◌, ◌+◌, ◌^◌, [], suc, not, None, OnOk, OnErr, IfOk, option_map};
+ghost use Rattle.std.specs.Prelude.{◌≡◌, ◌≤◌, ◌<◌, ◌+◌, ◌^◌, [], suc, not, None, IfSome, OnOk, OnErr, IfOk, option_map};
 ghost use Rattle.std.specs.Ordering.{nat_cmp};
 ghost use Rattle.std.specs.List.{AllByRecursion, list_any};
-ghost use Rattle.nm_types.specs.Map.{get, set, spot_cmp};
+ghost use Rattle.std.specs.List.Sorted.{IsStrictlySortedBy};
+ghost use Rattle.std.specs.Map.{keys_of};
+ghost use Rattle.nm_types.specs.Map.{get, set, replace, without, spot_cmp};
 ghost use Rattle.nm_types.specs.State.{Placed, area_over};
 ghost use Rattle.nm_areas.specs.Effect.{new_area};
 ghost use Rattle.nm_areas.specs.Mapped.{AreasAreApart, EndsLow, IsSomePages};
 ghost use Rattle.nm_areas.specs.Refused.{overlaps};
 ghost use Rattle.nm_areas.specs.Table.{with_areas};
 
+use crate::policing::put;
 use nm_types::{Area, Page, Pid, Policy, Segment, Vpn};
 use std::alloc::{AllocError, Allocator};
-use std::collections::BTreeMap;
+use std::collections::{BTreeMap, BTreeSet};
 use std::marker::Model;
 
-/// The areas by process and first page number, the segments by number, and the number of the next segment.
+/// The areas by process and first page number, the segment of each with that place, the segments by number, and the
+/// number of the next segment. Contracts see all but the places by segment, which are those of the areas.
 #[derive(Drop)]
 pub(crate) struct AreaTable<A: Allocator + Copy> {
     pub(crate) areas: BTreeMap<(Pid, Vpn), Area, A>,
+    pub(crate) by_segment: BTreeSet<(u32, Pid, Vpn), A>,
     pub(crate) segments: BTreeMap<u32, Segment, A>,
     next_segment: u32,
 }
 
 impl<A: Allocator + Copy> Model for AreaTable<A> {
+    ghost use Rattle.nm_areas.specs.Index.{IsIndex};
     ghost use Rattle.nm_areas.specs.Table.{Table};
 
     ghost Value = { Table };
 
     ghost view = { λ t. record { areas = t.areas.entries; segments = t.segments.entries; next = t.next_segment } };
+
+    ghost invariant = { λ t. IsIndex t.by_segment.keys t.areas.entries };
 }
 
 impl<A: Allocator + Copy> AreaTable<A> {
@@ -38,6 +46,7 @@ impl<A: Allocator + Copy> AreaTable<A> {
     {
         AreaTable {
             areas: BTreeMap::new(alloc),
+            by_segment: BTreeSet::new(alloc),
             segments: BTreeMap::new(alloc),
             next_segment: 0,
         }
@@ -100,6 +109,7 @@ impl<A: Allocator + Copy> AreaTable<A> {
     ) -> Result<u32, AllocError>
         requires number { self.old.next < 65536 }
         requires new { get nat_cmp self.old.segments self.old.next ≡ None }
+        requires free { get spot_cmp self.old.areas (pid, first) ≡ None }
         ensures number { IfOk result (λ number. number ≡ self.old.next) }
         ensures ok { OnOk result (self.new ≡ record {
           areas = set spot_cmp self.old.areas (pid, first) (new_area self.old.next 0 pages);
@@ -110,9 +120,9 @@ impl<A: Allocator + Copy> AreaTable<A> {
     {
         let number = self.next_segment;
         self.segments.insert(number, Segment { pages, shared })?;
-        if let Err(error) = self.areas.insert((pid, first), new_area(number, 0, pages)) {
+        if let Err(error) = self.add(pid, first, new_area(number, 0, pages)) {
             self.segments.remove(&number);
-            return Err(AllocError::from(error));
+            return Err(error);
         }
         self.next_segment = number + 1;
         Ok(number)
@@ -127,12 +137,45 @@ impl<A: Allocator + Copy> AreaTable<A> {
         offset: u64,
         pages: u64,
     ) -> Result<(), AllocError>
+        requires free { get spot_cmp self.old.areas (pid, first) ≡ None }
         ensures ok { OnOk result (self.new ≡ with_areas self.old (set spot_cmp self.old.areas (pid, first) (new_area segment offset pages))) }
         ensures err { OnErr result (self.new ≡ self.old) }
     {
-        self.areas
-            .insert((pid, first), new_area(segment, offset, pages))?;
+        self.add(pid, first, new_area(segment, offset, pages))
+    }
+
+    /// Makes an area where none begins. An error means that nothing has changed.
+    pub(crate) fn add(&mut self, pid: Pid, first: Vpn, area: Area) -> Result<(), AllocError>
+        requires free { get spot_cmp self.old.areas (pid, first) ≡ None }
+        ensures ok { OnOk result (self.new ≡ with_areas self.old (set spot_cmp self.old.areas (pid, first) area)) }
+        ensures err { OnErr result (self.new ≡ self.old) }
+        ensures ordered { OnOk result (IsStrictlySortedBy spot_cmp (keys_of self.old.areas)) }
+    {
+        let key = (area.page.segment, pid, first);
+        self.by_segment.insert(key)?;
+        if let Err(error) = self.areas.insert((pid, first), area) {
+            self.by_segment.remove(&key);
+            return Err(AllocError::from(error));
+        }
         Ok(())
+    }
+
+    /// Puts another area over pages of the same segment at a place, if one is there. It takes no memory.
+    pub(crate) fn put(&mut self, pid: Pid, start: Vpn, area: Area)
+        requires same { IfSome (get spot_cmp self.old.areas (pid, start)) (λ a. a.page.segment ≡ area.page.segment) }
+        ensures { self.new ≡ with_areas self.old (replace spot_cmp self.old.areas (pid, start) area) }
+    {
+        put(&mut self.areas, (pid, start), area);
+    }
+
+    /// Takes away the area of a place, if one is there.
+    pub(crate) fn take(&mut self, pid: Pid, start: Vpn)
+        ensures gone { self.new ≡ with_areas self.old (without spot_cmp self.old.areas (pid, start)) }
+        ensures ordered { IsStrictlySortedBy spot_cmp (keys_of self.new.areas) }
+    {
+        if let Some(area) = self.areas.remove(&(pid, start)) {
+            self.by_segment.remove(&(area.page.segment, pid, start));
+        }
     }
 }
 

@@ -110,23 +110,24 @@ impl<A: Allocator + Copy> AreaTable<A> {
                 index: index + front,
             },
         };
-        self.areas.insert((pid, at), rest)?;
+        self.add(pid, at, rest)?;
         let shorter = Area {
             pages: front,
             policy: area.policy,
             page: area.page,
         };
-        put(&mut self.areas, (pid, start), shorter);
+        self.put(pid, start, shorter);
         Ok(Some((start, area)))
     }
 
     /// Takes away the area that begins at a page number, and gives another its old length back. It takes no memory.
     fn unsplit(&mut self, pid: Pid, at: Vpn, whole: (Vpn, Area))
+        requires same { IfSome (get spot_cmp (without spot_cmp self.old.areas (pid, at)) (pid, whole.0)) (λ a. a.page.segment ≡ whole.1.page.segment) }
         ensures { self.new ≡ with_areas self.old (replace spot_cmp (without spot_cmp self.old.areas (pid, at)) (pid, whole.0) whole.1) }
     {
         let (start, area) = whole;
-        self.areas.remove(&(pid, at));
-        put(&mut self.areas, (pid, start), area);
+        self.take(pid, at);
+        self.put(pid, start, area);
     }
 }
 
@@ -174,7 +175,11 @@ impl<A: Allocator + Copy> Areas<A> {
 }
 
 /// Puts another area at a place, if one is there. It takes no memory.
-fn put<A: Allocator + Copy>(areas: &mut BTreeMap<(Pid, Vpn), Area, A>, spot: (Pid, Vpn), area: Area)
+pub(crate) fn put<A: Allocator + Copy>(
+    areas: &mut BTreeMap<(Pid, Vpn), Area, A>,
+    spot: (Pid, Vpn),
+    area: Area,
+)
     ensures entries { areas.new.entries ≡ replace spot_cmp areas.old.entries spot area }
     ensures ordered { IsStrictlySortedBy spot_cmp (keys_of areas.old.entries) }
     ensures still_ordered { IsStrictlySortedBy spot_cmp (keys_of areas.new.entries) }

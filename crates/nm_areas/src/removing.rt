@@ -1,13 +1,14 @@
 //! Areas that go.
 
-ghost use Rattle.std.specs.Prelude.{ℕ, ◌≡◌, ◌≤◌, ◌<◌, ◌+◌, ◌/◌, ◌^◌, ◌++◌, length, vec_len, vec_capacity, None, Some, IfSome, IfNone, IfOk, OnOk};
+ghost use Rattle.std.specs.Prelude.{ℕ, ◌≡◌, ◌≤◌, ◌<◌, ◌+◌, ◌/◌, ◌^◌, ◌++◌, min, length, vec_len, vec_capacity, None, Some, IfSome, IfNone, IfOk, OnOk};
 ghost use Rattle.std.specs.List.{AllByRecursion, list_any, fold};
 ghost use Rattle.std.specs.List.Sorted.{IsStrictlySortedBy};
 ghost use Rattle.std.specs.Map.{keys_of};
 ghost use Rattle.std.specs.Ordering.{nat_cmp};
-ghost use Rattle.nm_types.specs.Map.{get, page_cmp};
+ghost use Rattle.nm_types.specs.Map.{get, without, page_cmp, spot_cmp};
 ghost use Rattle.nm_types.specs.State.{page_at};
 ghost use Rattle.nm_areas.specs.Does.{Makes};
+ghost use Rattle.nm_areas.specs.Index.{IsIndex, passes};
 ghost use Rattle.nm_areas.specs.Mapped.{AllShown, HasIndices, shows_segment};
 ghost use Rattle.nm_areas.specs.Parts.{shows_page};
 ghost use Rattle.nm_areas.specs.Refused.{remove_refusal};
@@ -19,7 +20,7 @@ use crate::areas::{Areas, stretch};
 use crate::policing::next_area;
 use nm_types::{Area, Errno, FrameId, Page, Pid, Segment, Vpn};
 use std::alloc::Allocator;
-use std::collections::BTreeMap;
+use std::collections::{BTreeMap, BTreeSet};
 
 impl<A: Allocator + Copy> Areas<A> {
     /// A process lets go so many pages from an address on, where it may have holes. Its areas are split at both ends,
@@ -42,7 +43,8 @@ impl<A: Allocator + Copy> Areas<A> {
             return Err(AreaError::Refused(Errno::Einval));
         };
         let end = Vpn::new(first.number() + pages);
-        let mut freed = Vec::with_capacity(self.alloc, self.places.len())?;
+        let most = self.places.len().min(pages as usize);
+        let mut freed = Vec::with_capacity(self.alloc, most)?;
         self.table.cut(pid, first, end)?;
         self.table
             .lose_all(pid, first, end, &mut self.places, &mut freed);
@@ -53,7 +55,7 @@ impl<A: Allocator + Copy> Areas<A> {
 
 impl<A: Allocator + Copy> AreaTable<A> {
     /// Pages that the areas of a process show that begin from one page number up to another, and that no other area
-    /// covers, lose their frames. They are put behind those of a list that has room for all pages that have a frame.
+    /// covers, lose their frames. They are put behind those of a list that has room for them.
     fn lose_all(
         &self,
         pid: Pid,
@@ -64,11 +66,72 @@ impl<A: Allocator + Copy> AreaTable<A> {
     )
         requires range { first ≤ end }
         requires indices { AllByRecursion HasIndices self.now.areas }
-        requires room { vec_len freed.old + length places.old.entries ≤ vec_capacity freed.old }
+        requires room { vec_len freed.old + min (length places.old.entries) (length (pages_of_own pid first end self.now.areas)) ≤ vec_capacity freed.old }
         ensures places { places.new.entries ≡ fold (place_left (others pid first end self.now.areas)) places.old.entries (pages_of_own pid first end self.now.areas) }
         ensures freed { freed.new.items ≡ freed.old.items ++ all_lost (others pid first end self.now.areas) places.old.entries (pages_of_own pid first end self.now.areas) }
     {
-        lose_all(&self.areas, pid, first, end, places, freed);
+        let mut at = first.number();
+        while let Some((start, area)) = self.next_own(pid, Vpn::new(at), end) {
+            self.lose(pid, first, end, area, places, freed);
+            at = start.number() + 1;
+        }
+    }
+
+    /// Pages that an area shows, and that no area covers but those of a process that begin from one page number up to
+    /// another, lose their frames. They are put behind those of a list that has room for them.
+    fn lose(
+        &self,
+        pid: Pid,
+        first: Vpn,
+        end: Vpn,
+        area: Area,
+        places: &mut BTreeMap<Page, FrameId, A>,
+        freed: &mut Vec<(Page, FrameId), A>,
+    )
+        requires ordered { IsStrictlySortedBy spot_cmp (keys_of self.now.areas) }
+        requires indices { area.page.index + area.pages < 2 ^ 64 }
+        requires room { vec_len freed.old + min (length places.old.entries) area.pages ≤ vec_capacity freed.old }
+        ensures places { places.new.entries ≡ fold (place_left (others pid first end self.now.areas)) places.old.entries (pages_of_area area) }
+        ensures freed { freed.new.items ≡ freed.old.items ++ all_lost (others pid first end self.now.areas) places.old.entries (pages_of_area area) }
+        ensures counted { vec_len freed.new + length places.new.entries ≡ vec_len freed.old + length places.old.entries }
+        ensures few { vec_len freed.new ≤ vec_len freed.old + area.pages }
+        ensures room { vec_capacity freed.new ≡ vec_capacity freed.old }
+    {
+        let segment = area.page.segment;
+        let past = area.page.index + area.pages;
+        let mut at = area.page.index;
+        while let Some((index, frame)) = next_place(places, segment, at, past) {
+            let page = Page { segment, index };
+            self.lose_page(pid, first, end, page, frame, places, freed);
+            at = index + 1;
+        }
+    }
+
+    /// A page loses its frame, if no area covers it but those of a process that begin from one page number up to
+    /// another. Then it is put behind those of a list that has room for it.
+    fn lose_page(
+        &self,
+        pid: Pid,
+        first: Vpn,
+        end: Vpn,
+        page: Page,
+        frame: FrameId,
+        places: &mut BTreeMap<Page, FrameId, A>,
+        freed: &mut Vec<(Page, FrameId), A>,
+    )
+        requires ordered { IsStrictlySortedBy spot_cmp (keys_of self.now.areas) }
+        requires has { get page_cmp places.old.entries page ≡ Some frame }
+        requires room { vec_len freed.old + min (length places.old.entries) 1 ≤ vec_capacity freed.old }
+        ensures places { places.new.entries ≡ place_left (others pid first end self.now.areas) places.old.entries page }
+        ensures freed { freed.new.items ≡ freed.old.items ++ lost (others pid first end self.now.areas) places.old.entries page }
+        ensures counted { vec_len freed.new + length places.new.entries ≡ vec_len freed.old + length places.old.entries }
+        ensures few { vec_len freed.new ≤ vec_len freed.old + 1 }
+        ensures room { vec_capacity freed.new ≡ vec_capacity freed.old }
+    {
+        if !is_covered(&self.areas, &self.by_segment, pid, first, end, page) {
+            places.remove(&page);
+            freed.push_reserved((page, frame));
+        }
     }
 
     /// Takes away the areas of a process that begin from one page number up to another, and the segments that no other
@@ -78,124 +141,85 @@ impl<A: Allocator + Copy> AreaTable<A> {
         requires named { IsStrictlySortedBy nat_cmp (keys_of self.old.segments) }
         ensures { self.new ≡ without_own self.old pid first end }
     {
-        drop_own(&mut self.areas, &mut self.segments, pid, first, end);
-    }
-}
-
-/// Takes away the areas of a process that begin from one page number up to another, and the segments that no other area
-/// shows.
-fn drop_own<A: Allocator + Copy>(
-    areas: &mut BTreeMap<(Pid, Vpn), Area, A>,
-    segments: &mut BTreeMap<u32, Segment, A>,
-    pid: Pid,
-    first: Vpn,
-    end: Vpn,
-)
-    requires shown { AllShown areas.old.entries segments.old.entries }
-    requires named { IsStrictlySortedBy nat_cmp (keys_of segments.old.entries) }
-    ensures areas { areas.new.entries ≡ others pid first end areas.old.entries }
-    ensures segments { segments.new.entries ≡ segments_left segments.old.entries (others pid first end areas.old.entries) }
-{
-    while let Some((start, area)) = next_area(areas, pid, first, end) {
-        areas.remove(&(pid, start));
-        if !is_shown(areas, area.page.segment) {
-            segments.remove(&area.page.segment);
+        while let Some((start, area)) = self.next_own(pid, first, end) {
+            self.take(pid, start);
+            if !self.is_shown(area.page.segment) {
+                self.drop_segment(area.page.segment);
+            }
         }
     }
-}
 
-/// Whether some area shows pages of a segment.
-fn is_shown<A: Allocator + Copy>(areas: &BTreeMap<(Pid, Vpn), Area, A>, segment: u32) -> bool
-    ensures { result ≡ list_any (shows_segment segment) areas.now.entries }
-{
-    areas.iter().any(|(_, area)| area.page.segment == segment)
-}
-
-/// Pages that the areas of a process show that begin from one page number up to another, and that no other area covers,
-/// lose their frames. They are put behind those of a list that has room for all pages that have a frame.
-fn lose_all<A: Allocator + Copy>(
-    areas: &BTreeMap<(Pid, Vpn), Area, A>,
-    pid: Pid,
-    first: Vpn,
-    end: Vpn,
-    places: &mut BTreeMap<Page, FrameId, A>,
-    freed: &mut Vec<(Page, FrameId), A>,
-)
-    requires range { first ≤ end }
-    requires indices { AllByRecursion HasIndices areas.now.entries }
-    requires room { vec_len freed.old + length places.old.entries ≤ vec_capacity freed.old }
-    ensures places { places.new.entries ≡ fold (place_left (others pid first end areas.now.entries)) places.old.entries (pages_of_own pid first end areas.now.entries) }
-    ensures freed { freed.new.items ≡ freed.old.items ++ all_lost (others pid first end areas.now.entries) places.old.entries (pages_of_own pid first end areas.now.entries) }
-{
-    let mut at = first.number();
-    while let Some((start, area)) = next_area(areas, pid, Vpn::new(at), end) {
-        lose(areas, pid, first, end, area, places, freed);
-        at = start.number() + 1;
+    /// Whether some area shows pages of a segment.
+    fn is_shown(&self, segment: u32) -> bool
+        requires ordered { IsStrictlySortedBy spot_cmp (keys_of self.now.areas) }
+        ensures { result ≡ list_any (shows_segment segment) self.now.areas }
+    {
+        let from = (segment, Pid::new(0), Vpn::new(0));
+        match self.by_segment.range(from..).next() {
+            Some((number, _, _)) => *number == segment,
+            None => false,
+        }
     }
-}
 
-/// Pages that an area shows, and that no area covers but those of a process that begin from one page number up to
-/// another, lose their frames. They are put behind those of a list that has room for all pages that have a frame.
-fn lose<A: Allocator + Copy>(
-    areas: &BTreeMap<(Pid, Vpn), Area, A>,
-    pid: Pid,
-    first: Vpn,
-    end: Vpn,
-    area: Area,
-    places: &mut BTreeMap<Page, FrameId, A>,
-    freed: &mut Vec<(Page, FrameId), A>,
-)
-    requires indices { area.page.index + area.pages < 2 ^ 64 }
-    requires room { vec_len freed.old + length places.old.entries ≤ vec_capacity freed.old }
-    ensures places { places.new.entries ≡ fold (place_left (others pid first end areas.now.entries)) places.old.entries (pages_of_area area) }
-    ensures freed { freed.new.items ≡ freed.old.items ++ all_lost (others pid first end areas.now.entries) places.old.entries (pages_of_area area) }
-    ensures room { vec_len freed.new + length places.new.entries ≤ vec_capacity freed.new }
-{
-    let segment = area.page.segment;
-    let past = area.page.index + area.pages;
-    let mut at = area.page.index;
-    while let Some((index, frame)) = next_place(places, segment, at, past) {
-        let page = Page { segment, index };
-        lose_page(areas, pid, first, end, page, frame, places, freed);
-        at = index + 1;
+    /// Takes away a segment, if it is there.
+    fn drop_segment(&mut self, number: u32)
+        ensures { self.new ≡ record self.old { segments = without nat_cmp self.old.segments number } }
+    {
+        self.segments.remove(&number);
     }
-}
 
-/// A page loses its frame, if no area covers it but those of a process that begin from one page number up to another.
-/// Then it is put behind those of a list that has room for all pages that have a frame.
-fn lose_page<A: Allocator + Copy>(
-    areas: &BTreeMap<(Pid, Vpn), Area, A>,
-    pid: Pid,
-    first: Vpn,
-    end: Vpn,
-    page: Page,
-    frame: FrameId,
-    places: &mut BTreeMap<Page, FrameId, A>,
-    freed: &mut Vec<(Page, FrameId), A>,
-)
-    requires has { get page_cmp places.old.entries page ≡ Some frame }
-    requires room { vec_len freed.old + length places.old.entries ≤ vec_capacity freed.old }
-    ensures places { places.new.entries ≡ place_left (others pid first end areas.now.entries) places.old.entries page }
-    ensures freed { freed.new.items ≡ freed.old.items ++ lost (others pid first end areas.now.entries) places.old.entries page }
-    ensures room { vec_len freed.new + length places.new.entries ≤ vec_capacity freed.new }
-{
-    if !is_covered(areas, pid, first, end, page) {
-        places.remove(&page);
-        freed.push_reserved((page, frame));
+    /// The first area of the process that begins from one page number up to another.
+    fn next_own(&self, pid: Pid, at: Vpn, end: Vpn) -> Option<(Vpn, Area)>
+        ensures some { IfSome result (λ a. (at ≤ a.0) × (a.0 < end) × (get spot_cmp self.now.areas (pid, a.0) ≡ Some a.1)) }
+        ensures first { IfSome result (λ a. (v : ℕ) → at ≤ v → v < a.0 → get spot_cmp self.now.areas (pid, v) ≡ None) }
+        ensures none { IfNone result ((v : ℕ) → at ≤ v → v < end → get spot_cmp self.now.areas (pid, v) ≡ None) }
+        ensures ordered { IsStrictlySortedBy spot_cmp (keys_of self.now.areas) }
+    {
+        next_area(&self.areas, pid, at, end)
     }
 }
 
 /// Whether an area covers a page, but for those of a process that begin from one page number up to another.
 fn is_covered<A: Allocator + Copy>(
     areas: &BTreeMap<(Pid, Vpn), Area, A>,
+    by_segment: &BTreeSet<(u32, Pid, Vpn), A>,
     pid: Pid,
     first: Vpn,
     end: Vpn,
     page: Page,
 ) -> bool
+    requires ordered { IsStrictlySortedBy spot_cmp (keys_of areas.now.entries) }
+    requires index { IsIndex by_segment.now.keys areas.now.entries }
     ensures { result ≡ list_any (covers_beside pid first end page) areas.now.entries }
 {
-    areas.iter().any(|(spot, area)| covers_beside(pid, first, end, page, *spot, *area))
+    let from = (page.segment, Pid::new(0), Vpn::new(0));
+    let mut keys = by_segment.range(from..);
+    while let Some((segment, owner, start)) = keys.next() {
+        if *segment != page.segment {
+            return false;
+        }
+        if covers_at(areas, pid, first, end, page, (*owner, *start)) {
+            return true;
+        }
+    }
+    false
+}
+
+/// Whether the area of a place covers a page, and is none of a process that begins from one page number up to another.
+fn covers_at<A: Allocator + Copy>(
+    areas: &BTreeMap<(Pid, Vpn), Area, A>,
+    pid: Pid,
+    first: Vpn,
+    end: Vpn,
+    page: Page,
+    spot: (Pid, Vpn),
+) -> bool
+    ensures { result ≡ passes (covers_beside pid first end page) areas.now.entries spot }
+{
+    match areas.get(&spot) {
+        Some(area) => covers_beside(pid, first, end, page, spot, *area),
+        None => false,
+    }
 }
 
 /// Whether an area covers a page, and is none of a process that begins from one page number up to another.

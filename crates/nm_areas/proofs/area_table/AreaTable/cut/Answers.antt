@@ -9,6 +9,7 @@ use Rattle.nm_areas.specs.Mapped.{HasIndices}
 use Rattle.nm_areas.specs.Table.{Table}
 use Rattle.nm_areas.specs.Policing.{split_at}
 use Rattle.nm_areas.specs.Table.{with_areas}
+use Rattle.nm_areas.proofs.Beginning.{same_back}
 use Rattle.nm_areas.proofs.Cut.{undone}
 use Rattle.nm_areas.proofs.Repoliced.{split_some, split_indices, split_apart}
 use Rattle.nm_areas.proofs.area_table.AreaTable.cut.Goals as goal
@@ -24,6 +25,15 @@ split-requires-2-clause-whole g c =
 pub split-requires-2-clause-indices : goal.split-requires-2-clause-indices
 split-requires-2-clause-indices g c =
     subst (λ (m : Table). AllByRecursion HasIndices m.areas) (sym c.in_ok-cut.ensures.ok) (split_indices c.args.pid c.args.first c.args.self.now.areas c.requires.whole c.requires.indices)
+
+pub unsplit-requires : goal.unsplit-requires
+unsplit-requires g c =
+    let pid = c.args.pid in
+    let first = c.args.first in
+    let areas = c.args.self.now.areas in
+    let cut = subst (λ (o : Option (ℕ × Area)). IfSome o (λ k. (k.0 < first) × (area_over areas pid first ≡ Some ((pid, k.0), k.1)))) c.in-Some.is c.in_ok-cut.ensures.some in
+    let split = ap (λ (t : Table). t.areas) (c.in-Err.ensures.err ∙ c.in_ok-cut.ensures.ok) in
+    record { same = same_back pid first _ _ areas c.requires.apart c.requires.whole cut.1 c.split-2.new.self.areas split }
 
 pub returns-in-Some-clause-err : goal.returns-in-Some-clause-err
 returns-in-Some-clause-err g c =

@@ -1,12 +1,11 @@
-use Rattle.std.proofs.Common.{◌≡◌, None, ℕ, ap, ◌∙◌}
+use Rattle.std.proofs.Common.{◌≡◌, None, ℕ, refl, ap, ◌∙◌}
 use Rattle.std.specs.Ordering.{nat_cmp}
 use Rattle.std.specs.Cmp.{nat_cmp_total}
 use Rattle.std.specs.Map.{keys_of}
 use Rattle.std.specs.List.Sorted.{IsStrictlySortedBy}
 use Rattle.std.proofs.lemmas.Map.Lookups.{exact_unsigned}
-use Rattle.nm_types.specs.declared.area.Area.{Area}
 use Rattle.nm_types.specs.declared.area.Segment.{Segment}
-use Rattle.nm_types.specs.Map.{Map, get, set, without}
+use Rattle.nm_types.specs.Map.{Map, get, set, without, spot_cmp}
 use Rattle.nm_areas.specs.Table.{Table}
 use Rattle.nm_areas.proofs.Maps.{without-set}
 use Rattle.nm_areas.proofs.area_table.AreaTable.insert.Goals as goal
@@ -17,16 +16,22 @@ undone : (segments with_new left : Map ℕ Segment) (number : ℕ) (segment : Se
 undone segments with_new left number segment set_new removed sorted new =
     removed ∙ ap (λ m. without nat_cmp m number) set_new ∙ without-set nat_cmp_total exact_unsigned segments number segment sorted new
 
-same_parts : (areas more : Map (ℕ × ℕ) Area) (segments left : Map ℕ Segment) (next : ℕ) (m : Table) → more ≡ areas → left ≡ segments → record { areas = areas; segments = segments; next = next } ≡ m
-    → record { areas = more; segments = left; next = next } ≡ m
-same_parts areas more segments left next m a s is =
-    ap (λ (x : Map (ℕ × ℕ) Area). record { areas = x; segments = left; next = next }) a ∙ ap (λ (x : Map ℕ Segment). record { areas = areas; segments = x; next = next }) s ∙ is
+-- the segments alone are as they were before
+without_new : (now before : Table) (left : Map ℕ Segment) (segments : Map ℕ Segment) (number : ℕ) → now ≡ before → left ≡ without nat_cmp now.segments number → without nat_cmp before.segments number ≡ segments
+    → record { areas = now.areas; segments = left; next = now.next } ≡ record before { segments = segments }
+without_new now before left segments number is removed back =
+    ap (λ (x : Map ℕ Segment). record { areas = now.areas; segments = x; next = now.next }) removed
+    ∙ ap (λ (t : Table). record t { segments = without nat_cmp t.segments number }) is ∙ ap (λ (x : Map ℕ Segment). record before { segments = x }) back
+
+pub add-requires : goal.add-requires
+add-requires g c = record { free = ap (λ (x : Table). get spot_cmp x.areas (c.args.pid, c.args.first)) c.self.view_is ∙ c.requires.free }
 
 pub returns-in-Err-clause-err : goal.returns-in-Err-clause-err
 returns-in-Err-clause-err g c =
     let new : get nat_cmp c.self.inside.segments.entries c.self.inside.next_segment ≡ None = ap (λ (x : Table). get nat_cmp x.segments x.next) c.self.view_is ∙ c.requires.new in
-    same_parts c.self.inside.areas.entries c.insert-2.new.self.entries c.self.inside.segments.entries c.remove.new.self.entries c.self.inside.next_segment c.args.self.now
-    c.in-Err.ensures.err
-    (undone c.self.inside.segments.entries c.insert.new.self.entries c.remove.new.self.entries c.self.inside.next_segment (record { pages = c.args.pages; shared = c.args.shared })
-    c.in_ok-insert.ensures.entries c.remove.ensures.entries c.in_ok-insert.ensures.was_ordered new)
-    c.self.view_is
+    let before : Table = record { areas = c.self.inside.areas.entries; segments = c.insert.new.self.entries; next = c.self.inside.next_segment } in
+    let now : Table = record { areas = c.self-2.inside.areas.entries; segments = c.self-2.inside.segments.entries; next = c.self-2.inside.next_segment } in
+    without_new now before c.remove.new.self.entries c.self.inside.segments.entries c.self.inside.next_segment (c.self-2.view_is ∙ c.in-Err.ensures.err) c.remove.ensures.entries
+    (undone c.self.inside.segments.entries c.insert.new.self.entries _ c.self.inside.next_segment (record { pages = c.args.pages; shared = c.args.shared })
+    c.in_ok-insert.ensures.entries refl c.in_ok-insert.ensures.was_ordered new)
+    ∙ c.self.view_is

@@ -5,8 +5,13 @@ use Rattle.nm_areas.specs.Table.{Table}
 use Rattle.nm_areas.specs.Policing.{repoliced, painted}
 use Rattle.nm_areas.specs.Table.{with_areas}
 use Rattle.nm_areas.proofs.Cut.{areas_alone}
+use Rattle.nm_areas.proofs.Indexed.{paint_index}
 use Rattle.nm_areas.proofs.Repoliced.{all_repoliced}
 use Rattle.nm_areas.proofs.area_table.AreaTable.set_policy.Goals as goal
+
+pub invariant_of-self : goal.invariant_of-self
+invariant_of-self g c =
+    paint_index c.args.pid c.args.first c.new-end.result c.args.policy c.self.inside.by_segment.keys c.self.inside.areas.entries c.paint.new.areas.entries c.self.invariant c.paint.ensures
 
 pub returns-clause-ok : goal.returns-clause-ok
 returns-clause-ok g c =

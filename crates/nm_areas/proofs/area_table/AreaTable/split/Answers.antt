@@ -1,9 +1,10 @@
-use Rattle.std.proofs.Common.{ap, sym, arith, ◌-◌}
+use Rattle.std.proofs.Common.{refl, ap, sym, arith, ◌-◌}
 use Rattle.nm_areas.specs.Mapped.{HasIndices}
 use Rattle.nm_areas.specs.Table.{Table}
 use Rattle.nm_areas.specs.Table.{with_areas}
 use Rattle.nm_areas.proofs.Parted.{All-among}
-use Rattle.nm_areas.proofs.Cut.{split_nothing, over_facts, split_made, areas_alone}
+use Rattle.nm_areas.proofs.Beginning.{none_inside, same_front}
+use Rattle.nm_areas.proofs.Cut.{split_nothing, over_facts, split_made}
 use Rattle.nm_areas.proofs.area_table.AreaTable.split.Goals as goal
 
 pub returns-in_default-clause-ok : goal.returns-in_default-clause-ok
@@ -31,10 +32,19 @@ overflow_add-rest g c =
     let few = All-among HasIndices c.args.self.now.areas _ c.requires.indices facts.0 in
     omega (arith, few, facts.1, facts.2, c.number.ensures, c.number-2.ensures)
 
+pub add-requires : goal.add-requires
+add-requires g c =
+    let facts = over_facts c.args.pid c.args.at c.args.self.now.areas _ _ c.in-Some.ensures in
+    record { free = none_inside c.args.pid c.args.at _ _ c.args.self.now.areas c.requires.apart c.requires.whole (sym c.in-Some.ensures) (omega (arith, facts.1, c.if-front-eq0.false, c.number.ensures, c.number-2.ensures)) }
+
+pub put-requires : goal.put-requires
+put-requires g c =
+    let now = ap (λ (t : Table). t.areas) c.in_ok-add.ensures.ok in
+    record { same = same_front c.args.pid c.args.at _ _ c.args.self.now.areas c.requires.apart c.requires.whole (sym c.in-Some.ensures) _ c.add.new.self.areas refl now }
+
 pub returns-clause-ok : goal.returns-clause-ok
 returns-clause-ok g c =
     let facts = over_facts c.args.pid c.args.at c.args.self.now.areas _ _ c.in-Some.ensures in
-    areas_alone c.self.inside.areas.entries c.put.new.areas.entries _ c.self.inside.segments.entries c.self.inside.next_segment c.args.self.now c.self.view_is
-    (split_made c.args.pid c.args.at _ (c.number.result - c.number-2.result) _ c.self.inside.areas.entries c.insert.new.self.entries c.put.new.areas.entries c.args.self.now.areas
-    (ap (λ (x : Table). x.areas) c.self.view_is) c.in-Some.ensures (omega (arith, facts.1, c.number.ensures, c.number-2.ensures)) (omega (arith, facts.1, c.if-front-eq0.false, c.number.ensures, c.number-2.ensures))
-    c.requires.whole c.requires.apart c.in_ok-insert.ensures.was_ordered c.in_ok-insert.ensures.entries c.put.ensures.entries)
+    split_made c.args.pid c.args.at _ (c.number.result - c.number-2.result) _ c.args.self.now c.add.new.self c.put.new.self
+    c.in-Some.ensures (omega (arith, facts.1, c.number.ensures, c.number-2.ensures)) (omega (arith, facts.1, c.if-front-eq0.false, c.number.ensures, c.number-2.ensures))
+    c.requires.whole c.requires.apart c.in_ok-add.ensures.ordered c.in_ok-add.ensures.ok c.put.ensures

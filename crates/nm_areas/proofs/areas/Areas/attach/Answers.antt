@@ -1,11 +1,16 @@
 use Rattle.std.proofs.Common.{sym, ◌∙◌, ap, ◌/◌}
 use Rattle.nm_areas.specs.Table.{Table}
 use Rattle.nm_areas.specs.Mapped.{Mapped}
+use Rattle.nm_areas.proofs.Beginning.{none_begins}
 use Rattle.nm_areas.proofs.Shown.{over_more}
 use Rattle.nm_areas.specs.Refused.{is_stretch}
 use Rattle.nm_areas.specs.Effect.{new_area, over_with}
 use Rattle.nm_areas.proofs.Inserted.{attached_mapped, stretch_ends}
 use Rattle.nm_areas.proofs.areas.Areas.attach.Goals as goal
+
+pub attach-requires : goal.attach-requires
+attach-requires g c =
+    record { free = none_begins c.self.inside.table.areas c.args.pid c.in-Some.first c.args.pages c.in-Some.ensures.some.2 c.self.invariant.whole (sym c.if-not-is_free.false ∙ c.is_free.ensures) }
 
 pub invariant_of-self-2 : goal.invariant_of-self-2
 invariant_of-self-2 g c =

@@ -2,12 +2,17 @@ use Rattle.std.proofs.Common.{ap, sym, ◌∙◌, ◌/◌}
 use Rattle.nm_areas.specs.Table.{Table}
 use Rattle.nm_areas.specs.Mapped.{Mapped}
 use Rattle.nm_areas.specs.Effect.{new_area, over_with}
+use Rattle.nm_areas.proofs.Beginning.{none_begins}
 use Rattle.nm_areas.proofs.Shown.{over_more}
 use Rattle.nm_areas.proofs.Inserted.{none_next, inserted_mapped}
 use Rattle.nm_areas.proofs.areas.Areas.insert.Goals as goal
 
 pub insert-requires-clause-new : goal.insert-requires-clause-new
 insert-requires-clause-new g c = none_next c.self.inside.table.segments c.self.inside.table.next c.self.invariant.numbers
+
+pub insert-requires-clause-free : goal.insert-requires-clause-free
+insert-requires-clause-free g c =
+    none_begins c.self.inside.table.areas c.args.pid c.in-Some.first c.args.pages c.in-Some.ensures.some.2 c.self.invariant.whole (sym c.if-not-is_free.false ∙ c.is_free.ensures)
 
 pub invariant_of-self-2 : goal.invariant_of-self-2
 invariant_of-self-2 g c =

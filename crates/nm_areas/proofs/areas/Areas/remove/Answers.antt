@@ -6,12 +6,19 @@ use Rattle.nm_types.specs.State.{page_at}
 use Rattle.nm_areas.specs.Table.{Table}
 use Rattle.nm_areas.specs.Removed.{removed, frames_lost, page_outside}
 use Rattle.nm_areas.proofs.Shown.{left_shows}
+use Rattle.nm_areas.proofs.Roomy.{few_own}
 use Rattle.nm_areas.proofs.Letting.{cut_indices, cut_shown, now_left, after_is, after_mapped, lost_is}
 use Rattle.nm_areas.proofs.areas.Areas.remove.Goals as goal
 
 pub lose_all-requires-clause-indices : goal.lose_all-requires-clause-indices
 lose_all-requires-clause-indices g c =
     cut_indices c.self.inside.table c.self.inside.places.entries c.self.invariant c.args.pid c.in-Some.first c.new-end.result c.cut.new.self c.in_ok-cut.ensures.ok
+
+pub lose_all-requires-clause-room : goal.lose_all-requires-clause-room
+lose_all-requires-clause-room g c =
+    let range = c.in-Some.ensures.some in
+    let few = few_own c.self.inside.table c.cut.new.self c.self.inside.places.entries c.args.pid c.in-Some.first c.new-end.result c.self.invariant (omega (arith, range.2, c.new-end.ensures, c.number.ensures)) c.in_ok-cut.ensures.ok in
+    omega (arith, few, c.new-end.ensures, c.number.ensures, c.in_ok-freed.ensures.len, c.in_ok-freed.ensures.capacity, c.min-most.ensures, c.len.ensures.len)
 
 pub drop_own-requires-clause-shown : goal.drop_own-requires-clause-shown
 drop_own-requires-clause-shown g c =

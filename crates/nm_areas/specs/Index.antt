@@ -1,0 +1,39 @@
+-- The areas by segment.
+use Rattle.std.specs.Prelude.{◌≡◌, ℕ, ◌==◌, Bool, false, List, Option, Some, None}
+use Rattle.std.specs.BTreeMap.{is_at}
+use Rattle.std.specs.List.{list_any}
+use Rattle.std.specs.Ordering.{nat_cmp, ordering_then}
+use Rattle.std.specs.declared.cmp.Ordering.{Ordering}
+use Rattle.nm_types.specs.declared.area.Area.{Area}
+use Rattle.nm_types.specs.Map.{Map, get, spot_cmp}
+use Rattle.nm_types.specs.State.{Placed}
+
+-- a segment, and the place of an area
+abbrev pub Key : Type 0
+Key = ℕ × ℕ × ℕ
+
+-- by segment, and then by place
+abbrev pub key_cmp : Key → Key → Ordering
+key_cmp a b = ordering_then (ordering_then (nat_cmp a.0 b.0) (nat_cmp a.1 b.1)) (nat_cmp a.2 b.2)
+
+-- whether there is an area, and it shows pages of a segment
+abbrev pub is_of : ℕ → Option Area → Bool
+is_of number None = false
+is_of number (Some area) = area.page.segment == number
+
+-- whether an area at that place shows pages of that segment
+abbrev pub is_key : Map (ℕ × ℕ) Area → Key → Bool
+is_key areas k = is_of k.0 (get spot_cmp areas (k.1, k.2))
+
+-- the keys are those of the areas, each with its segment
+abbrev pub IsIndex : List Key → Map (ℕ × ℕ) Area → Type 0
+IsIndex keys areas = (k : Key) → list_any (is_at (key_cmp k)) keys ≡ is_key areas k
+
+-- whether there is an area, and it passes a test at its place
+abbrev pub is_passed : (Placed → Bool) → ℕ × ℕ → Option Area → Bool
+is_passed test spot None = false
+is_passed test spot (Some area) = test (spot, area)
+
+-- whether an area at that place passes a test
+abbrev pub passes : (Placed → Bool) → Map (ℕ × ℕ) Area → ℕ × ℕ → Bool
+passes test areas spot = is_passed test spot (get spot_cmp areas spot)
