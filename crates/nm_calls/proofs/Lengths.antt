@@ -1,27 +1,12 @@
--- How many bytes a read gives, and how many statuses a run, which keeps the nodes.
-use Rattle.std.proofs.Common.{rules, arith, false, ◌≡◌, ℕ, zero, suc, ◌+◌, List, [], ◌∷◌, length, Result, Ok, Err, refl, ap, ◌∙◌}
-use Rattle.nm_types.specs.declared.errno.Errno.{Errno}
+-- How many statuses a run gives, which keeps the nodes.
+use Rattle.std.proofs.Common.{◌≡◌, ℕ, suc, List, [], ◌∷◌, length, refl, ap, ◌∙◌}
 use Rattle.nm_types.specs.declared.page.Page.{Page}
 use Rattle.nm_types.specs.State.{State, free_list}
 use Rattle.nm_runs.specs.declared.Class.{Class}
 use Rattle.nm_runs.specs.declared.Class.TheVariants.{Status, Move}
 use Rattle.nm_runs.specs.declared.Wanted.{Wanted}
 use Rattle.nm_runs.specs.Status.{status_or_move}
-use Rattle.nm_engine.specs.Memory.{mem_range}
-use Rattle.nm_engine.specs.Touch.{Bytes, touch, read, read_after}
 use Rattle.nm_engine.specs.Run.{one, each, run, decided, moved_page, with_free, with_all_free, left}
-
-range_length : (s : State) (pid address len : ℕ) → length (mem_range s pid address len) ≡ len
-range_length s pid address zero = refl
-range_length s pid address (suc len) = ap suc (range_length s pid (address + 1) len)
-
-after_length : (s : State) (pid address len : ℕ) (r : Result State Errno) (bytes : List ℕ) → (read_after s pid address len r).answer ≡ Bytes bytes → length bytes ≡ len
-after_length s pid address len (Err e) bytes h = search rules
-after_length s pid address len (Ok t) bytes h = grind (arith, range_length)
-
--- a read that is not refused gives as many bytes as it was asked for
-pub read_length : (s : State) (pid address len : ℕ) (bytes : List ℕ) → (read s pid address len).answer ≡ Bytes bytes → length bytes ≡ len
-read_length s pid address len bytes h = after_length s pid address len (touch s pid address len false) bytes h
 
 each_length : (s : State) (target : ℕ) (ws : List Wanted) → length (each s target ws).statuses ≡ length ws
 each_length s target [] = refl

@@ -40,7 +40,7 @@ refused s (MovePages caller pid pages nodes flags) = move_refusal s caller nodes
 refused s (FreeList node) = list_refusal s node
 refused s (Pagemap pid) = entries_refusal s pid
 
--- what it answers, where it is not refused
+-- what a call answers, where it is not refused
 unfoldable pub answered : State → Call → Answer
 answered s (Spawn pid uid home allowed privileged) = Done
 answered s (MapPages pid addr pages) = NewSegment s.next_segment
@@ -52,7 +52,7 @@ answered s (MovePages caller pid pages nodes flags) =
 answered s (FreeList node) = Frames (free_list s node)
 answered s (Pagemap pid) = Entries (entries_shown (entries_of s pid))
 
--- the state after it, where it is not refused
+-- the state after a call, where it is not refused
 unfoldable pub after : State → Call → State
 after s (Spawn pid uid home allowed privileged) = spawn s pid uid home allowed privileged
 after s (MapPages pid addr pages) = map_new s pid addr pages false

@@ -84,7 +84,7 @@ fn wanted_at<A: Allocator + Copy + Send + Sync>(
 }
 
 /// The run at the front of a batch: its longest stretch of one target.
-pub(crate) fn first_run<A: Allocator + Copy + Send + Sync>(
+fn first_run<A: Allocator + Copy + Send + Sync>(
     alloc: A,
     pid: Pid,
     all: bool,
