@@ -1,10 +1,10 @@
 -- The first stretch of a batch and what is left behind it, and how far the runs of a batch have come.
-use Rattle.std.proofs.Common.{arith, ◌≡◌, ℕ, suc, ℤ, ◌+◌, ◌<◌, ◌≤◌, Bool, true, false, List, [], ◌∷◌, ◌++◌, length, take, drop, cond, refl, sym, ap, ◌∙◌, append_assoc}
+use Rattle.std.proofs.Common.{arith, ◌≡◌, ℕ, suc, ℤ, ◌+◌, ◌<◌, ◌≤◌, Bool, true, false, List, [], ◌∷◌, ◌++◌, length, length-drop, take, drop, cond, refl, sym, ap, ◌∙◌, append_assoc}
 use Rattle.std.proofs.lemmas.Bool.{eqb-true, eqb-false, eq-eqb, ne_eqb}
 use Rattle.std.proofs.lemmas.Grind.{common_steps}
 use Rattle.std.proofs.lemmas.List.{drop-drop}
 use Rattle.std.proofs.lemmas.List.Sums.{take_while-cons}
-use Rattle.std.specs.Prelude.{◌==◌, ◌/◌, slice_index}
+use Rattle.std.specs.Prelude.{◌-◌, ◌==◌, ◌/◌, slice_index}
 use Rattle.std.specs.List.{take_while}
 use Rattle.nm_types.specs.State.{State}
 use Rattle.nm_runs.specs.declared.Wanted.{Wanted}
@@ -130,6 +130,17 @@ moved_on start pid all pages nodes ps ns at to k s t before after target wanted 
     let then = left_then pid all pages nodes ps ns at target wanted hp hn first in
     rw e-to (rw e-state (rw e-after (one_more_run start (left 0) (left at) k s before (record { target = target; wanted = wanted }) (left (at + length wanted)) then h)))
 
--- no more runs than there are
-pub within_all : (start : State) (all left : List Stretch) (k : ℕ) (s : State) (statuses : List ℤ) → HaveRun start all left k s statuses → k ≤ length all
-within_all start all left k s statuses h = omega (arith, h.counted)
+-- where requests are left there is a stretch
+some_left : (pid : ℕ) (all : Bool) (ps ns : List ℕ) → 0 < length ps → length ps ≡ length ns → 0 < length (cut (requests_of pid all ps ns))
+some_left pid all [] ns some e = absurd (omega (arith, some))
+some_left pid all (p ∷ ps) [] some e = grind arith
+some_left pid all (p ∷ ps) (n ∷ ns) some e =
+    let is : length (cut (requests_of pid all (p ∷ ps) (n ∷ ns))) ≡ suc (length (cut (requests_of pid all (drop (front n ns) ps) (drop (front n ns) ns)))) = ap length (cut_from pid all p n ps ns (omega (arith, e))) in
+    omega (arith, is)
+
+-- before the last run
+pub before_last : (start : State) (pid : ℕ) (all : Bool) (pages nodes : List ℕ) (at k : ℕ) (s : State) (statuses : List ℤ) → at < length pages → length pages ≡ length nodes → HaveRun start (left_of pid all pages nodes 0) (left_of pid all pages nodes at) k s statuses → k ≤ length (left_of pid all pages nodes 0) - 1
+before_last start pid all pages nodes at k s statuses lt e h =
+    let same : length (drop at pages) ≡ length (drop at nodes) = omega (arith, length-drop at pages, length-drop at nodes, e) in
+    let some = some_left pid all (drop at pages) (drop at nodes) (omega (arith, length-drop at pages, lt)) same in
+    omega (arith, h.counted, some)

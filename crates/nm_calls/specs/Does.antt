@@ -1,5 +1,5 @@
 -- How what a call answers and does is told by its definition.
-use Rattle.std.specs.Prelude.{◌≡◌, ◌≤◌, false, List, [], length, take, Option, Some, None, Result, Ok, Err}
+use Rattle.std.specs.Prelude.{◌≡◌, ◌≤◌, ◌-◌, false, List, [], length, take, Option, Some, None, Result, Ok, Err}
 use Rattle.nm_types.specs.declared.errno.Errno.{Errno}
 use Rattle.nm_types.specs.State.{State}
 use Rattle.nm_runs.specs.Cut.{Request, cut}
@@ -11,19 +11,19 @@ use Rattle.nm_calls.specs.Calls.{Call, Answer}
 use Rattle.nm_calls.specs.Outcome.{refused, answered, after, runs_of, after_runs}
 
 -- A call answers as defined and leaves the state that is defined; or it is refused for this error and changes nothing; or
--- the host has no memory for it, and it leaves the state after its first runs.
+-- the host has no memory for it, and it leaves the state after its first runs, of which the last is none.
 abbrev pub Does : {T : Type 0} → (T → Answer) → Result T CallError → State → State → Call → Type 0
 Does view (Ok value) old new call = (refused old call ≡ None) × (answered old call ≡ view value) × (new ≡ after old call)
 Does view (Err (Refused e)) old new call = (refused old call ≡ Some e) × (new ≡ old)
 Does view (Err (HostMemory runs policy_set)) old new call =
-    (policy_set ≡ false) × (runs ≤ length (runs_of old call)) × (new ≡ after_runs old call runs)
+    (policy_set ≡ false) × (runs ≤ length (runs_of old call) - 1) × (new ≡ after_runs old call runs)
 
 -- a check: nothing is refused, or it is refused for this error
 abbrev pub Checks : {T : Type 0} → Result T Errno → Option Errno → Type 0
 Checks (Ok value) refusal = refusal ≡ None
 Checks (Err e) refusal = refusal ≡ Some e
 
--- the runs of a batch: they are made, or the host has no memory after the first of them
+-- the runs of a batch: they are made, or the host has no memory for one of them, after those before it
 abbrev pub Moves : {A : Type 0} → Result (Moved A) CallError → State → State → List Request → Type 0
 Moves (Ok moved) old new requests =
     let made = batch old requests [] in
@@ -31,4 +31,4 @@ Moves (Ok moved) old new requests =
 Moves (Err (Refused e)) old new requests = ⊥
 Moves (Err (HostMemory runs policy_set)) old new requests =
     let stretches = cut requests in
-    (policy_set ≡ false) × (runs ≤ length stretches) × (new ≡ (runs_from 0 old (take runs stretches) []).state)
+    (policy_set ≡ false) × (runs ≤ length stretches - 1) × (new ≡ (runs_from 0 old (take runs stretches) []).state)

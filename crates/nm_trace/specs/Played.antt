@@ -1,5 +1,5 @@
 -- What a play makes and leaves written, and what a run from bytes does.
-use Rattle.std.specs.Prelude.{◌≡◌, ◌⊎◌, ℕ, ◌≤◌, ◌<◌, List, [], ◌++◌, length, take, slice_get, Option, Some, Result, Ok, Err}
+use Rattle.std.specs.Prelude.{◌≡◌, ◌⊎◌, ℕ, ◌-◌, ◌≤◌, ◌<◌, List, [], ◌++◌, length, take, slice_get, Option, Some, Result, Ok, Err}
 use Rattle.std.specs.Io.KnownBytes.{Appends}
 use Rattle.nm_types.specs.State.{State}
 use Rattle.nm_calls.specs.Calls.{Call, Answer}
@@ -19,9 +19,9 @@ abbrev pub BreaksOff : Option (List ℕ) → Option (List ℕ) → List ℕ → 
 BreaksOff old new text line =
     (front : List ℕ) × (rest : List ℕ) × (front ++ rest ≡ line) × (0 < length rest) × Appends old new (text ++ front)
 
--- a call that finds no memory on the host has made its first runs and no more
+-- a call that finds no memory on the host has made its first runs, of which the last is none
 abbrev pub StopsIn : State → Call → State → Type 0
-StopsIn s call t = (runs : ℕ) × (runs ≤ length (runs_of s call)) × (t ≡ after_runs s call runs)
+StopsIn s call t = (runs : ℕ) × (runs ≤ length (runs_of s call) - 1) × (t ≡ after_runs s call runs)
 
 -- what a call answers, or it finds no memory on the host
 abbrev pub Answers : {T E : Type 0} → (T → Answer) → Result T E → State → State → Call → Type 0

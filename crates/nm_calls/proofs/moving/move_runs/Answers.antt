@@ -1,7 +1,7 @@
 use Rattle.std.proofs.Common.{[], arith, ap, length, refl, ◌∙◌, ◌≡◌, ◌+◌, ◌++◌}
 use Rattle.nm_types.specs.Layout.{node_count}
 use Rattle.nm_engine.specs.Run.{run}
-use Rattle.nm_calls.proofs.Stretches.{left_of, moved_on, some_run, within_all}
+use Rattle.nm_calls.proofs.Stretches.{left_of, moved_on, some_run, before_last}
 use Rattle.nm_calls.proofs.Lengths.{run_length, run_layout}
 use Rattle.nm_calls.proofs.moving.move_runs.Goals as goal
 
@@ -29,9 +29,9 @@ loop-at-preserved g c =
 pub returns-in_default : goal.returns-in_default
 returns-in_default g c =
     let left = left_of c.args.pid c.args.all c.args.pages.now c.args.nodes.now in
-    (refl, within_all c.args.machine.now (left 0) (left c.loop-at.at) c.loop-at.runs c.loop-at.machine c.loop-at.statuses.items c.loop-at.invariant.made, some_run c.args.machine.now (left 0) (left c.loop-at.at) c.loop-at.runs c.loop-at.machine c.loop-at.statuses.items c.loop-at.invariant.made)
+    (refl, before_last c.args.machine.now c.args.pid c.args.all c.args.pages.now c.args.nodes.now c.loop-at.at c.loop-at.runs c.loop-at.machine c.loop-at.statuses.items c.loop-at-test.true c.requires.paired c.loop-at.invariant.made, some_run c.args.machine.now (left 0) (left c.loop-at.at) c.loop-at.runs c.loop-at.machine c.loop-at.statuses.items c.loop-at.invariant.made)
 
 pub returns-in_default-run_flight : goal.returns-in_default-run_flight
 returns-in_default-run_flight g c =
     let left = left_of c.args.pid c.args.all c.args.pages.now c.args.nodes.now in
-    (refl, within_all c.args.machine.now (left 0) (left c.loop-at.at) c.loop-at.runs c.loop-at.machine c.loop-at.statuses.items c.loop-at.invariant.made, c.in_default-run_flight.ensures.err ∙ some_run c.args.machine.now (left 0) (left c.loop-at.at) c.loop-at.runs c.loop-at.machine c.loop-at.statuses.items c.loop-at.invariant.made)
+    (refl, before_last c.args.machine.now c.args.pid c.args.all c.args.pages.now c.args.nodes.now c.loop-at.at c.loop-at.runs c.loop-at.machine c.loop-at.statuses.items c.loop-at-test.true c.requires.paired c.loop-at.invariant.made, c.in_default-run_flight.ensures.err ∙ some_run c.args.machine.now (left 0) (left c.loop-at.at) c.loop-at.runs c.loop-at.machine c.loop-at.statuses.items c.loop-at.invariant.made)
