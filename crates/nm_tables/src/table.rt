@@ -1,6 +1,6 @@
 //! A page table.
 
-ghost use Rattle.std.specs.Prelude.{◌≡◌, [], IsSome, IfOk, OnOk, OnErr};
+ghost use Rattle.std.specs.Prelude.{◌≡◌, ◌≤◌, ◌<◌, ℕ, [], None, Some, IsSome, IfSome, IfNone, IfOk, OnOk, OnErr};
 ghost use Rattle.std.specs.List.Sorted.{IsStrictlySortedBy};
 ghost use Rattle.std.specs.Map.{keys_of};
 ghost use Rattle.std.specs.Ordering.{nat_cmp};
@@ -52,6 +52,18 @@ impl<A: Allocator + Copy> PageTable<A> {
         ensures ordered { IsStrictlySortedBy nat_cmp (keys_of self.now) }
     {
         self.tree.get(&vpn).copied()
+    }
+
+    /// The first entry at a page number or past it, with its page number. None where all of these are absent. It takes no
+    /// memory.
+    pub fn first_from(&self, at: Vpn) -> Option<(Vpn, Entry)>
+        ensures some { IfSome result (λ e. (at ≤ e.0) × (get nat_cmp self.now e.0 ≡ Some e.1)) }
+        ensures first { IfSome result (λ e. (v : ℕ) → at ≤ v → v < e.0 → get nat_cmp self.now v ≡ None) }
+        ensures none { IfNone result ((v : ℕ) → at ≤ v → get nat_cmp self.now v ≡ None) }
+        ensures ordered { IsStrictlySortedBy nat_cmp (keys_of self.now) }
+    {
+        let (vpn, entry) = self.tree.range(at..).next()?;
+        Some((*vpn, *entry))
     }
 
     /// Puts an entry at a page number, in place of one that is there. Any number is taken, also one past the areas. An

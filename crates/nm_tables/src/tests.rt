@@ -23,6 +23,12 @@ fn entries_come_and_go(rt: HostRuntime) -> Result<(), Fail> {
     let mut table = two_pages(rt.alloc())?;
     assert_eq!(rt; table.get(Vpn::new(16)), Some(held));
     assert_eq!(rt; table.get(Vpn::new(17)), None);
+    assert_eq!(rt; table.first_from(Vpn::new(16)), Some((Vpn::new(16), held)));
+    assert_eq!(rt;
+        table.first_from(Vpn::new(17)),
+        Some((Vpn::new(LAST), frame))
+    );
+    assert_eq!(rt; table.first_from(Vpn::new(LAST + 1)), None);
     let both = [(Vpn::new(16), held), (Vpn::new(LAST), frame)];
     assert!(rt; table.entries()?.as_slice() == both.as_slice());
     table.clear(Vpn::new(16));
