@@ -10,6 +10,7 @@ use crate::spots::Spots;
 use nm_types::limits::MAX_PINS;
 use nm_types::{Errno, FrameId, Pid, Vpn};
 use std::alloc::{AllocError, Allocator};
+use std::collections::BTreeSet;
 use std::marker::Model;
 
 /// For each frame the page numbers of processes that name it, its mappers, and how often it is pinned. Contracts see
@@ -71,6 +72,15 @@ impl<A: Allocator + Copy> ReverseMap<A> {
         ensures ordered { IsStrictlySortedBy spot_cmp (mappers_of self.now frame) }
     {
         self.spots[frame.index()].list(self.alloc)
+    }
+
+    /// The mappers of a frame, by pid and then by page number, as they stand. It takes no memory.
+    pub fn spots(&self, frame: FrameId) -> &BTreeSet<(Pid, Vpn), A>
+        requires { frame < length self.now.spots }
+        ensures all { result.now.keys ≡ mappers_of self.now frame }
+        ensures ordered { IsStrictlySortedBy spot_cmp (mappers_of self.now frame) }
+    {
+        self.spots[frame.index()].tree()
     }
 
     /// How many processes have a page number that names a frame. Two page numbers of a process count once. It takes no

@@ -20,13 +20,15 @@ pub(crate) struct Spots<A: Allocator + Copy> {
 
 impl<A: Allocator + Copy> Model for Spots<A> {
     ghost use Rattle.std.specs.Prelude.{◌≡◌, ℕ, List};
+    ghost use Rattle.std.specs.List.Sorted.{IsStrictlySortedBy};
+    ghost use Rattle.nm_types.specs.Map.{spot_cmp};
     ghost use Rattle.nm_rmap.specs.Mappers.{process_count};
 
     ghost Value = { List (ℕ × ℕ) };
 
     ghost view = { λ s. s.tree.keys };
 
-    ghost invariant = { λ s. s.processes ≡ process_count s.tree.keys };
+    ghost invariant = { λ s. (s.processes ≡ process_count s.tree.keys) × IsStrictlySortedBy spot_cmp s.tree.keys };
 }
 
 impl<A: Allocator + Copy> Spots<A> {
@@ -72,6 +74,14 @@ impl<A: Allocator + Copy> Spots<A> {
         ensures ordered { IsStrictlySortedBy spot_cmp self.now }
     {
         self.tree.iter().copied().collect(alloc)
+    }
+
+    /// The set of them, in order. It takes no memory.
+    pub(crate) fn tree(&self) -> &BTreeSet<(Pid, Vpn), A>
+        ensures all { result.now.keys ≡ self.now }
+        ensures ordered { IsStrictlySortedBy spot_cmp self.now }
+    {
+        &self.tree
     }
 
     /// How many processes have a page number among them.

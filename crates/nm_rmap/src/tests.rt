@@ -42,6 +42,17 @@ fn has_three<A: Allocator + Copy>(map: &ReverseMap<A>, frame: FrameId) -> Result
     Ok(map.mappers(frame)?.as_slice() == three.as_slice())
 }
 
+/// The page numbers of the mappers of a frame as they come, two digits each.
+fn digits_of_spots<A: Allocator + Copy>(map: &ReverseMap<A>, frame: FrameId) -> u64
+    requires { frame < length map.now.spots }
+{
+    let mut sum = 0u64;
+    for (_, vpn) in map.spots(frame).iter() {
+        sum = sum.wrapping_mul(100).wrapping_add(vpn.number());
+    }
+    sum
+}
+
 /// Two page numbers of a process count once, and all mappers and pins go along.
 #[test]
 fn mappers_are_counted_and_carried(rt: HostRuntime) -> Result<(), Fail> {
@@ -50,6 +61,7 @@ fn mappers_are_counted_and_carried(rt: HostRuntime) -> Result<(), Fail> {
     let mut map = three_mappers(rt.alloc())?;
     assert_eq!(rt; map.processes(here), 2usize);
     assert!(rt; has_three(&map, here)?);
+    assert_eq!(rt; digits_of_spots(&map, here), 163264u64);
     map.carry(here, there);
     assert_eq!(rt; map.processes(here), 0usize);
     assert!(rt; has_three(&map, there)?);
