@@ -12,6 +12,7 @@ pub mod Inserted
 pub mod Policed
 pub mod Beginning
 pub mod Scanned
+pub mod Searched
 pub mod Own
 pub mod Framed
 pub mod Lost

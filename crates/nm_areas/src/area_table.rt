@@ -1,6 +1,6 @@
 //! The areas of the processes, and the segments that they show.
 
-ghost use Rattle.std.specs.Prelude.{◌≡◌, ◌≤◌, ◌<◌, ◌+◌, ◌^◌, [], suc, not, None, IfSome, OnOk, OnErr, IfOk, option_map};
+ghost use Rattle.std.specs.Prelude.{ℕ, ◌≡◌, ◌≤◌, ◌<◌, ◌+◌, ◌^◌, [], suc, not, None, Some, IfSome, IfNone, OnOk, OnErr, IfOk, option_map};
 ghost use Rattle.std.specs.Ordering.{nat_cmp};
 ghost use Rattle.std.specs.List.{AllByRecursion, list_any};
 ghost use Rattle.std.specs.List.Sorted.{IsStrictlySortedBy};
@@ -12,7 +12,7 @@ ghost use Rattle.nm_areas.specs.Mapped.{AreasAreApart, EndsLow, IsSomePages};
 ghost use Rattle.nm_areas.specs.Refused.{overlaps};
 ghost use Rattle.nm_areas.specs.Table.{with_areas};
 
-use crate::policing::put;
+use crate::policing::{next_area, put};
 use nm_types::{Area, Page, Pid, Policy, Segment, Vpn};
 use std::alloc::{AllocError, Allocator};
 use std::collections::{BTreeMap, BTreeSet};
@@ -79,6 +79,24 @@ impl<A: Allocator + Copy> AreaTable<A> {
         } else {
             None
         }
+    }
+
+    /// The first area of a process that is over a page number from one up to another.
+    pub(crate) fn next_over(&self, pid: Pid, at: Vpn, end: Vpn) -> Option<(Vpn, Area)>
+        requires apart { AreasAreApart self.now.areas }
+        requires whole { AllByRecursion IsSomePages self.now.areas }
+        ensures some { IfSome result (λ a. (a.0 < end) × (at < a.0 + a.1.pages) × (0 < a.1.pages)) }
+        ensures over { IfSome result (λ a. (v : ℕ) → a.0 ≤ v → v < a.0 + a.1.pages → area_over self.now.areas pid v ≡ Some ((pid, a.0), a.1)) }
+        ensures first { IfSome result (λ a. (v : ℕ) → at ≤ v → v < a.0 → area_over self.now.areas pid v ≡ None) }
+        ensures none { IfNone result ((v : ℕ) → at ≤ v → v < end → area_over self.now.areas pid v ≡ None) }
+    {
+        if at.number() >= end.number() {
+            return None;
+        }
+        if let Some(found) = self.over(pid, at) {
+            return Some(found);
+        }
+        next_area(&self.areas, pid, at, end)
     }
 
     /// Whether no area of the process is over one of so many pages from a page number on.

@@ -247,7 +247,7 @@ fn begins_in(pid: Pid, first: Vpn, end: Vpn, spot: (Pid, Vpn)) -> bool
 }
 
 /// The first page of a segment that has a frame, by its index from one up to another, with the frame.
-fn next_place<A: Allocator + Copy>(
+pub(crate) fn next_place<A: Allocator + Copy>(
     places: &BTreeMap<Page, FrameId, A>,
     segment: u32,
     at: u64,

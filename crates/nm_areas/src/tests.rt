@@ -179,6 +179,24 @@ fn shared_pages(alloc: Global) -> Result<Areas<Global>, AreaError> {
     Ok(areas)
 }
 
+/// The first page number of a process from one up to 40 with a page that has a frame, and the frame's number.
+fn first_frame(areas: &Areas<Global>, pid: u32, at: u64) -> Option<(u64, u32)> {
+    let (vpn, frame) = areas.frame_from(Pid::new(pid), Vpn::new(at), Vpn::new(40))?;
+    Some((vpn.number(), frame.number()))
+}
+
+#[test]
+fn frames_one_after_another(rt: HostRuntime) -> Result<(), Fail> {
+    let mut areas = shared_pages(rt.alloc())?;
+    areas.insert(Pid::new(3), 0x10000, 3, false)?;
+    assert_eq!(rt; first_frame(&areas, 1, 0), Some((16u64, 7u32)));
+    assert_eq!(rt; first_frame(&areas, 1, 18), Some((18u64, 5u32)));
+    assert_eq!(rt; first_frame(&areas, 1, 19), Some((32u64, 6u32)));
+    assert_eq!(rt; first_frame(&areas, 2, 17), None);
+    assert_eq!(rt; first_frame(&areas, 3, 0), None);
+    Ok(())
+}
+
 /// Whether a process that lets go all that it has gives these frames.
 fn gives(areas: &mut Areas<Global>, pid: u32, frames: &[u32]) -> Result<bool, AreaError> {
     let freed = areas.remove(Pid::new(pid), 0, 34_359_738_368)?;
