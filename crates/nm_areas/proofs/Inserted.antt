@@ -1,5 +1,5 @@
 -- What an area more keeps of all areas.
-use Rattle.std.proofs.Common.{◌≡◌, ℕ, suc, ◌+◌, ◌≤◌, ◌<◌, ◌^◌, [], ◌∷◌, Bool, true, false, not, cond, refl, sym, subst, arith, ◌||◌, eq-eqb}
+use Rattle.std.proofs.Common.{◌≡◌, ℕ, suc, ◌+◌, ◌≤◌, ◌<◌, ◌^◌, [], ◌∷◌, Bool, true, false, not, cond, refl, sym, subst, ◌∙◌, arith, ◌||◌, eq-eqb}
 use Rattle.std.specs.Prelude.{None, Some}
 use Rattle.std.specs.List.{AllByRecursion, list_any}
 use Rattle.std.specs.Ordering.{nat_cmp, is_eq, match_ordering}
@@ -13,12 +13,15 @@ use Rattle.nm_types.specs.declared.area.Segment.{Segment}
 use Rattle.nm_types.specs.Map.{Map, get, set, spot_cmp}
 use Rattle.nm_types.specs.State.{Placed}
 use Rattle.nm_areas.specs.Table.{Table, with_areas}
-use Rattle.nm_areas.specs.Mapped.{mapped, IsSomePages, EndsLow, HasIndices, shows_segment, AllShown, IsMapped}
+use Rattle.nm_areas.specs.Mapped.{mapped, IsSomePages, EndsLow, HasIndices, shows_segment, AllShown, PrivateIsOnce, IsMapped}
 use Rattle.nm_areas.specs.Refused.{overlaps, is_stretch}
 use Rattle.nm_areas.specs.Effect.{new_area}
+use Rattle.nm_areas.specs.Lines.{is_shared}
 use Rattle.nm_areas.proofs.Maps.{equal, spot_cmp_total}
 use Rattle.nm_areas.proofs.Keys.{All-set, All-get, sorted-set}
-use Rattle.nm_areas.proofs.Apart.{NoneOverlaps, one_more, other_key, apart-set, all_from_none, each_set, same_key}
+use Rattle.nm_areas.proofs.Apart.{NoneOverlaps, one_more, other_key, apart-set, all_from_none, each_set, same_key, all_then}
+use Rattle.nm_areas.proofs.Policed.{IsFine}
+use Rattle.nm_areas.proofs.Private.{stretch_shared, shared_before, once_more}
 
 -- no entry has a number that is past all of them
 pub none_next : {V : Type 0} (m : Map ℕ V) (n : ℕ) → AllByRecursion (λ e. e.0 < n) m → get nat_cmp m n ≡ None
@@ -42,6 +45,9 @@ numbers_next (e ∷ m) n new h =
       | Equal ↦ (omega (arith, h.0), all_up m n h.1)
       | Greater ↦ (omega (arith, h.0), numbers_next m n new h.1)
     ]
+
+true_false : true ≡ false → ⊥
+true_false e = cc
 
 not_true : (b : Bool) → true ≡ not b → b ≡ false
 not_true true h = cc
@@ -68,19 +74,42 @@ module _ (t : Table) (place : Map Page ℕ) (h : IsMapped (mapped t place)) (pid
   shown_more (e ∷ segments) s =
       (any_more (shows_segment e.0) t.areas h.whole (all_from_none t.areas (overlaps pid first (first + new.pages)) (not_true _ free)) s.0, shown_more segments s.1)
 
-  pub attached_mapped : (now : Table) → now ≡ with_areas t (set spot_cmp t.areas (pid, first) new) → IsMapped (mapped now place)
-  attached_mapped now is =
-      let none = all_from_none t.areas (overlaps pid first (first + new.pages)) (not_true _ free) in
-      subst (λ (u : Table). IsMapped (mapped u place)) (sym is) (record {
+  none_overlaps : NoneOverlaps pid first new t.areas
+  none_overlaps = all_from_none t.areas (overlaps pid first (first + new.pages)) (not_true _ free)
+
+  pub fine_more : IsFine (set spot_cmp t.areas (pid, first) new)
+  fine_more =
+      record {
         ordered = sorted-set spot_cmp spot_cmp_total t.areas (pid, first) new h.ordered;
-        apart = apart-set pid first new t.areas some h.whole none h.apart;
+        apart = apart-set pid first new t.areas some h.whole none_overlaps h.apart;
         whole = each_set pid first new IsSomePages t.areas (λ a k. some) some h.whole;
         low = each_set pid first new EndsLow t.areas (λ a k. subst EndsLow (sym (same_key pid first new a k)) low) low h.low;
         indices = each_set pid first new HasIndices t.areas (λ a k. index) index h.indices;
+      }
+
+  pub below_more : (next : ℕ) → t.next ≤ next → new.page.segment < next → AllByRecursion (λ a. a.1.page.segment < next) (set spot_cmp t.areas (pid, first) new)
+  below_more next up under =
+      each_set pid first new (λ a. a.1.page.segment < next) t.areas (λ a k. under) under
+      (all_then t.areas (λ a. a.1.page.segment < t.next) (λ a. a.1.page.segment < next) (λ a k. omega (arith, k, up)) h.below)
+
+  pub once_with : (segments : Map ℕ Segment) → ((n : ℕ) → n < t.next → is_shared segments n ≡ is_shared t.segments n) → (is_shared segments new.page.segment ≡ false → new.page.segment < t.next → ⊥)
+      → PrivateIsOnce (set spot_cmp t.areas (pid, first) new) segments
+  once_with segments same alone = once_more pid first new t.areas some h.whole none_overlaps t.segments segments t.next h.below same alone h.once
+
+  pub attached_mapped : (now : Table) → is_shared t.segments new.page.segment ≡ true → new.page.segment < t.next → now ≡ with_areas t (set spot_cmp t.areas (pid, first) new) → IsMapped (mapped now place)
+  attached_mapped now shared under is =
+      subst (λ (u : Table). IsMapped (mapped u place)) (sym is) (record {
+        ordered = fine_more.ordered;
+        apart = fine_more.apart;
+        whole = fine_more.whole;
+        low = fine_more.low;
+        indices = fine_more.indices;
         named = h.named;
+        below = below_more t.next (omega arith) under;
         numbers = h.numbers;
         lengths = h.lengths;
         shown = shown_more t.segments h.shown;
+        once = once_with t.segments (λ n k. refl) (λ private k. true_false (sym shared ∙ private));
         places = h.places;
       })
 
@@ -113,7 +142,8 @@ pub inserted_mapped : (t now : Table) (place : Map Page ℕ) (pid first pages : 
     → IsMapped (mapped now place)
 inserted_mapped t now place pid first pages shared h some low free is =
     let segment : Segment = record { pages = pages; shared = shared } in
-    let more = attached_mapped t place h pid first (new_area t.next 0 pages) some low (omega (arith, low)) free _ refl in
+    let new = new_area t.next 0 pages in
+    let more = fine_more t place h pid first new some low (omega (arith, low)) free in
     subst (λ (u : Table). IsMapped (mapped u place)) (sym is) (record {
       ordered = more.ordered;
       apart = more.apart;
@@ -121,9 +151,11 @@ inserted_mapped t now place pid first pages shared h some low free is =
       low = more.low;
       indices = more.indices;
       named = sorted-set nat_cmp nat_cmp_total t.segments t.next segment h.named;
+      below = below_more t place h pid first new some low (omega (arith, low)) free (suc t.next) (omega arith) (omega arith);
       numbers = numbers_next t.segments t.next segment h.numbers;
       lengths = All-set nat_cmp (λ (q : Segment). q.pages ≤ 2 ^ 35) t.segments t.next segment h.lengths (omega (arith, low));
-      shown = all_with _ t.segments t.next segment (new_there (shows_segment t.next) pid first (new_area t.next 0 pages) (eq-eqb t.next t.next refl) t.areas) more.shown;
+      shown = all_with _ t.segments t.next segment (new_there (shows_segment t.next) pid first new (eq-eqb t.next t.next refl) t.areas) (shown_more t place h pid first new some low (omega (arith, low)) free t.segments h.shown);
+      once = once_with t place h pid first new some low (omega (arith, low)) free (set nat_cmp t.segments t.next segment) (λ n k. shared_before t.segments t.next n segment k) (λ private k. absurd (omega (arith, k)));
       places = h.places;
     })
 

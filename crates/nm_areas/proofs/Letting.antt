@@ -24,6 +24,7 @@ use Rattle.nm_areas.proofs.Parted.{All-among, all_from_among, among_flat, IsPart
 use Rattle.nm_areas.proofs.Split.{flat_apart, flat_sorted}
 use Rattle.nm_areas.proofs.Repoliced.{split_some, all_repoliced}
 use Rattle.nm_areas.proofs.Policed.{fine_split, fine_here, shown_split, all_shown}
+use Rattle.nm_areas.proofs.Private.{once_left}
 
 module _ (pid first end : ℕ) where
   abbrev is_other : Placed → Bool
@@ -202,9 +203,11 @@ module _ (m : Mapped) (h : IsMapped m) (pid first end : ℕ) (range : first ≤ 
         low = each_part EndsLow h.low (λ a b low p. omega (arith, low, p.high));
         indices = each_part HasIndices h.indices (λ a b under p. omega (arith, under, p.index, p.high, p.low));
         named = sorted_filter test m.segments h.named;
+        below = each_part (λ a. a.1.page.segment < m.next) h.below (λ a b under p. omega (arith, under, p.segment));
         numbers = all_filter (λ e. e.0 < m.next) test m.segments h.numbers;
         lengths = all_filter _ test m.segments h.lengths;
         shown = left_shown left m.segments;
+        once = once_left pid first end range m.areas h.whole h.apart m.segments h.once;
         places = places_sorted left (pages_gone m.areas pid first end) m.place h.places;
       }
 

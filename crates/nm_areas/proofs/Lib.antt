@@ -14,6 +14,7 @@ pub mod Beginning
 pub mod Scanned
 pub mod Searched
 pub mod Own
+pub mod Private
 pub mod Framed
 pub mod Lost
 pub mod Gone

@@ -12,12 +12,13 @@ use Rattle.nm_types.specs.declared.area.Segment.{Segment}
 use Rattle.nm_types.specs.Map.{Map, with_values, spot_cmp}
 use Rattle.nm_types.specs.State.{Placed, covers}
 use Rattle.nm_areas.specs.Table.{Table, with_areas}
-use Rattle.nm_areas.specs.Mapped.{mapped, AreasAreApart, IsSomePages, EndsLow, HasIndices, shows_segment, AllShown, IsMapped}
+use Rattle.nm_areas.specs.Mapped.{mapped, AreasAreApart, IsSomePages, EndsLow, HasIndices, shows_segment, AllShown, PrivateIsOnce, IsMapped}
 use Rattle.nm_areas.specs.Parts.{parts_outside}
 use Rattle.nm_areas.specs.Policing.{repoliced, split_at, painted}
 use Rattle.nm_areas.proofs.Apart.{covers_from}
 use Rattle.nm_areas.proofs.Parted.{Among, All-among, flat_among, part_of, part_there}
 use Rattle.nm_areas.proofs.Painted.{keys_painted}
+use Rattle.nm_areas.proofs.Shown.{repoliced_shows}
 use Rattle.nm_areas.proofs.Repoliced.{all_parts, split_some, split_indices, split_apart, split_sorted, all_repoliced}
 
 -- what holds of the areas
@@ -63,6 +64,11 @@ shown_split pid at areas some n h =
     let part = part_of pid at at a has b.0 b.1 in
     among_any (shows_segment n) (split_at pid at areas) b.0 (flat_among (parts_outside pid at at) areas a b.0 found.1 b.1) (ap (λ (m : ℕ). m == n) part.segment ∙ found.2)
 
+-- parts show pages of the same segments
+below_split : (pid at next : ℕ) (areas : Map (ℕ × ℕ) Area) → AllByRecursion IsSomePages areas → AllByRecursion (λ a. a.1.page.segment < next) areas → AllByRecursion (λ a. a.1.page.segment < next) (split_at pid at areas)
+below_split pid at next areas some below =
+    all_parts pid at areas some (λ a. a.1.page.segment < next) (λ a b m p. let under : a.1.page.segment < next = All-among (λ x. x.1.page.segment < next) areas a below m in omega (arith, under, p.segment))
+
 module _ (pid first end : ℕ) (policy : Policy) where
   abbrev paint : ℕ × ℕ → Area → Area
   paint = painted pid first end policy
@@ -101,6 +107,13 @@ module _ (pid first end : ℕ) (policy : Policy) where
       subst IsFine (all_repoliced pid first end policy range areas fine.whole)
       (fine_painted (split_at pid end (split_at pid first areas)) (fine_split pid end (split_at pid first areas) (fine_split pid first areas fine)))
 
+  below_repoliced : (next : ℕ) → first < end → (areas : Map (ℕ × ℕ) Area) → AllByRecursion IsSomePages areas → AllByRecursion (λ a. a.1.page.segment < next) areas → AllByRecursion (λ a. a.1.page.segment < next) (flat_map (repoliced pid first end policy) areas)
+  below_repoliced next range areas some below =
+      let Low : Placed → Type 0 = λ a. a.1.page.segment < next in
+      subst (AllByRecursion Low) (all_repoliced pid first end policy range areas some)
+      (all_painted Low Low (λ e under. any_policy (λ x. x.page.segment < next) e.0 e.1 under under) (split_at pid end (split_at pid first areas))
+      (below_split pid end next (split_at pid first areas) (split_some pid first areas some) (below_split pid first next areas some below)))
+
   any_painted : (test : Placed → Bool) → ((e : Placed) → test (e.0, paint e.0 e.1) ≡ test e) → (areas : Map (ℕ × ℕ) Area) → list_any test (with_values paint areas) ≡ list_any test areas
   any_painted test h [] = refl
   any_painted test h (e ∷ areas) = ap (λ b. b || list_any test (with_values paint areas)) (h e) ∙ ap (λ b. test e || b) (any_painted test h areas)
@@ -120,8 +133,8 @@ module _ (t : Table) (place : Map Page ℕ) (h : IsMapped (mapped t place)) wher
   pub fine_here : IsFine t.areas
   fine_here = record { ordered = h.ordered; apart = h.apart; whole = h.whole; low = h.low; indices = h.indices }
 
-  pub with_fine : (areas : Map (ℕ × ℕ) Area) → IsFine areas → AllShown areas t.segments → IsMapped (mapped (with_areas t areas) place)
-  with_fine areas fine shown =
+  pub with_fine : (areas : Map (ℕ × ℕ) Area) → IsFine areas → AllShown areas t.segments → AllByRecursion (λ a. a.1.page.segment < t.next) areas → PrivateIsOnce areas t.segments → IsMapped (mapped (with_areas t areas) place)
+  with_fine areas fine shown below once =
       record {
         ordered = fine.ordered;
         apart = fine.apart;
@@ -129,9 +142,11 @@ module _ (t : Table) (place : Map Page ℕ) (h : IsMapped (mapped t place)) wher
         low = fine.low;
         indices = fine.indices;
         named = h.named;
+        below = below;
         numbers = h.numbers;
         lengths = h.lengths;
         shown = shown;
+        once = once;
         places = h.places;
       }
 
@@ -139,4 +154,8 @@ module _ (t : Table) (place : Map Page ℕ) (h : IsMapped (mapped t place)) wher
   policed_mapped now pid first count policy some is =
       subst (λ (u : Table). IsMapped (mapped u place)) (sym is)
       (with_fine (flat_map (repoliced pid first (first + count) policy) t.areas) (fine_repoliced pid first (first + count) policy t.areas (omega (arith, some)) fine_here)
-      (all_shown t.areas _ (shown_repoliced pid first (first + count) policy (omega (arith, some)) t.areas h.whole) t.segments h.shown))
+      (all_shown t.areas _ (shown_repoliced pid first (first + count) policy (omega (arith, some)) t.areas h.whole) t.segments h.shown)
+      (below_repoliced pid first (first + count) policy t.next (omega (arith, some)) t.areas h.whole h.below)
+      (λ q v r w p here there private.
+      let shows = repoliced_shows pid first (first + count) policy (omega (arith, some)) t.areas h.whole h.apart in
+      h.once q v r w p (sym (shows q v) ∙ here) (sym (shows r w) ∙ there) private))

@@ -1,5 +1,5 @@
 -- The areas of all processes, the segments that they show, and the frames of pages.
-use Rattle.std.specs.Prelude.{◌≡◌, ℕ, ◌+◌, ◌^◌, ◌≤◌, ◌<◌, ◌==◌, Bool, true, false, [], ◌∷◌}
+use Rattle.std.specs.Prelude.{◌≡◌, ℕ, ◌+◌, ◌^◌, ◌≤◌, ◌<◌, ◌==◌, Bool, true, false, [], ◌∷◌, Some}
 use Rattle.std.specs.List.{AllByRecursion, list_any}
 use Rattle.std.specs.List.Sorted.{IsStrictlySortedBy}
 use Rattle.std.specs.Map.{keys_of}
@@ -8,7 +8,8 @@ use Rattle.nm_types.specs.declared.page.Page.{Page}
 use Rattle.nm_types.specs.declared.area.Area.{Area}
 use Rattle.nm_types.specs.declared.area.Segment.{Segment}
 use Rattle.nm_types.specs.Map.{Map, page_cmp, spot_cmp}
-use Rattle.nm_types.specs.State.{Placed, covers}
+use Rattle.nm_types.specs.State.{Placed, covers, page_at}
+use Rattle.nm_areas.specs.Lines.{is_shared}
 use Rattle.nm_areas.specs.Table.{Table}
 
 pub record Mapped : Type 0 where
@@ -50,8 +51,14 @@ AreasAreApart [] = Unit {0}
 AreasAreApart (a ∷ areas) =
     AllByRecursion (λ b. (pid v : ℕ) → covers a pid v ≡ true → covers b pid v ≡ false) areas × AreasAreApart areas
 
+-- a private page is shown at one page number alone
+abbrev pub PrivateIsOnce : Map (ℕ × ℕ) Area → Map ℕ Segment → Type 0
+PrivateIsOnce areas segments =
+    (pid v q w : ℕ) (p : Page) →
+    page_at areas pid v ≡ Some p → page_at areas q w ≡ Some p → is_shared segments p.segment ≡ false → (pid ≡ q) × (v ≡ w)
+
 -- the keys are in order, no two areas of a process are over one page number, each has a page and ends below 2^47, and
--- segments have numbers below the next one's and are shown
+-- segments have numbers below the next one's and are shown, also those that an area shows, and private pages are shown once
 pub record IsMapped (m : Mapped) : Type 0 where
   pub ordered : IsStrictlySortedBy spot_cmp (keys_of m.areas)
   pub apart : AreasAreApart m.areas
@@ -59,7 +66,9 @@ pub record IsMapped (m : Mapped) : Type 0 where
   pub low : AllByRecursion EndsLow m.areas
   pub indices : AllByRecursion HasIndices m.areas
   pub named : IsStrictlySortedBy nat_cmp (keys_of m.segments)
+  pub below : AllByRecursion (λ a. a.1.page.segment < m.next) m.areas
   pub numbers : AllByRecursion (λ e. e.0 < m.next) m.segments
   pub lengths : AllByRecursion (λ e. e.1.pages ≤ 2 ^ 35) m.segments
   pub shown : AllShown m.areas m.segments
+  pub once : PrivateIsOnce m.areas m.segments
   pub places : IsStrictlySortedBy page_cmp (keys_of m.place)

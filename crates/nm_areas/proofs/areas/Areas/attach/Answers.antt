@@ -6,6 +6,7 @@ use Rattle.nm_areas.proofs.Shown.{over_more}
 use Rattle.nm_areas.specs.Refused.{is_stretch}
 use Rattle.nm_areas.specs.Effect.{new_area, over_with}
 use Rattle.nm_areas.proofs.Inserted.{attached_mapped, stretch_ends}
+use Rattle.nm_areas.proofs.Private.{stretch_shared}
 use Rattle.nm_areas.proofs.areas.Areas.attach.Goals as goal
 
 pub attach-requires : goal.attach-requires
@@ -15,9 +16,11 @@ attach-requires g c =
 pub invariant_of-self-2 : goal.invariant_of-self-2
 invariant_of-self-2 g c =
     let range = c.in-Some.ensures.some in
+    let stretch = sym c.if-not-is_stretch.false ∙ c.is_stretch.ensures ∙ ap (λ o. is_stretch o c.args.offset c.args.pages) c.segment.ensures in
+    let there = stretch_shared c.self.inside.table.segments c.args.segment c.args.offset c.args.pages c.self.inside.table.next c.self.invariant.numbers stretch in
     attached_mapped c.self.inside.table c.self.inside.places.entries c.self.invariant c.args.pid c.in-Some.first (new_area c.args.segment c.args.offset c.args.pages) range.2 range.3
-    (stretch_ends c.self.inside.table.segments c.args.segment c.args.offset c.args.pages c.self.invariant.lengths (sym c.if-not-is_stretch.false ∙ c.is_stretch.ensures ∙ ap (λ o. is_stretch o c.args.offset c.args.pages) c.segment.ensures))
-    (sym c.if-not-is_free.false ∙ c.is_free.ensures) c.attach.new.self c.in_ok-attach.ensures.ok
+    (stretch_ends c.self.inside.table.segments c.args.segment c.args.offset c.args.pages c.self.invariant.lengths stretch)
+    (sym c.if-not-is_free.false ∙ c.is_free.ensures) c.attach.new.self there.0 there.1 c.in_ok-attach.ensures.ok
 
 pub returns-clause-over : goal.returns-clause-over
 returns-clause-over g c q v =
