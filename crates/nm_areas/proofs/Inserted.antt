@@ -21,7 +21,7 @@ use Rattle.nm_areas.proofs.Maps.{equal, spot_cmp_total}
 use Rattle.nm_areas.proofs.Keys.{All-set, All-get, sorted-set}
 use Rattle.nm_areas.proofs.Apart.{NoneOverlaps, one_more, other_key, apart-set, all_from_none, each_set, same_key, all_then}
 use Rattle.nm_areas.proofs.Policed.{IsFine}
-use Rattle.nm_areas.proofs.Private.{stretch_shared, shared_before, once_more}
+use Rattle.nm_areas.proofs.Private.{shared_before, once_more}
 
 -- no entry has a number that is past all of them
 pub none_next : {V : Type 0} (m : Map ℕ V) (n : ℕ) → AllByRecursion (λ e. e.0 < n) m → get nat_cmp m n ≡ None

@@ -1,6 +1,6 @@
 -- A private page is shown at one page number alone.
-use Rattle.std.proofs.Common.{◌≡◌, ℕ, suc, ◌+◌, ◌-◌, ◌≤◌, ◌<◌, List, [], ◌∷◌, Bool, true, false, not, ◌&&◌, cond, refl, sym, ap, subst, ◌∙◌, arith, inl, inr, eq-eqb}
-use Rattle.std.specs.Prelude.{Option, Some, None, nat_lt, nat_le, ◌==◌, ◌⊎◌, if◌then◌else◌}
+use Rattle.std.proofs.Common.{◌≡◌, ℕ, ◌+◌, ◌-◌, ◌≤◌, ◌<◌, List, [], ◌∷◌, Bool, true, false, not, ◌&&◌, cond, refl, sym, ap, subst, ◌∙◌, arith, inl, inr, eq-eqb}
+use Rattle.std.specs.Prelude.{Some, None, nat_lt, nat_le, ◌==◌, ◌⊎◌, if◌then◌else◌}
 use Rattle.std.specs.Option.{unwrap_or, option_map}
 use Rattle.std.specs.List.{AllByRecursion, list_any, filter}
 use Rattle.std.specs.Ordering.{nat_cmp, is_eq, eq_by_cmp}
@@ -15,7 +15,7 @@ use Rattle.nm_types.specs.State.{Placed, covers, area_over, page_of, page_shown,
 use Rattle.nm_areas.specs.Lines.{is_shared}
 use Rattle.nm_areas.specs.Table.{Table, with_areas}
 use Rattle.nm_areas.specs.Mapped.{mapped, AreasAreApart, IsSomePages, shows_segment, PrivateIsOnce, IsMapped}
-use Rattle.nm_areas.specs.Parts.{shows_page, covers_page, is_covered}
+use Rattle.nm_areas.specs.Parts.{covers_page, is_covered}
 use Rattle.nm_areas.specs.Policing.{split_at}
 use Rattle.nm_areas.specs.Refused.{is_stretch}
 use Rattle.nm_areas.specs.Removed.{areas_left, segments_left, begins_in, is_own, others, page_in}
@@ -24,7 +24,7 @@ use Rattle.nm_areas.proofs.Apart.{one_more, NoneOverlaps, area_over-set, covers_
 use Rattle.nm_areas.proofs.Parted.{Among, All-among, among_over, over_among}
 use Rattle.nm_areas.proofs.Overs.{get_among}
 use Rattle.nm_areas.proofs.Own.{own_from}
-use Rattle.nm_areas.proofs.Policed.{any_among, among_any, IsFine, fine_here, fine_split}
+use Rattle.nm_areas.proofs.Policed.{any_among, among_any, fine_here, fine_split}
 use Rattle.nm_areas.proofs.Repoliced.{split_some, split_apart}
 use Rattle.nm_areas.proofs.Shown.{left_outside, left_shows}
 
@@ -107,9 +107,9 @@ stretch_shared m number offset pages next h is =
     elim (get nat_cmp m number) as (λ o. get nat_cmp m number ≡ o → true ≡ is_stretch o offset pages → (is_shared m number ≡ true) × (number < next)) [
       | None ↦ λ o k. absurd (true_false k)
       | Some segment ↦ λ o k. (
-          ap (λ x. unwrap_or (option_map (λ s. s.shared) x) false) o ∙ (and_parts segment.shared _ (sym k)).0,
-          numbered m number next segment h o,
-        )
+        ap (λ x. unwrap_or (option_map (λ s. s.shared) x) false) o ∙ (and_parts segment.shared _ (sym k)).0,
+        numbered m number next segment h o,
+      )
     ] refl is
 
 -- another segment than the next one is shared as before
@@ -176,6 +176,10 @@ module _ (t : Table) (place : Map Page ℕ) (h : IsMapped (mapped t place)) (pid
       let apart = split_apart pid first t.areas h.whole h.apart in
       subst (λ (u : Table). PrivateIsOnce u.areas u.segments) (sym was)
       (once_same t.areas (split_at pid end once) t.segments (λ q w. split_shows pid end once some apart q w ∙ split_shows pid first t.areas h.whole h.apart q w) h.once)
+
+pub not_then : (b : Bool) → not b ≡ true → b ≡ false
+not_then true h = sym h
+not_then false h = refl
 
 -- ---- no other area covers a private page
 

@@ -57,8 +57,8 @@ PrivateIsOnce areas segments =
     (pid v q w : ℕ) (p : Page) →
     page_at areas pid v ≡ Some p → page_at areas q w ≡ Some p → is_shared segments p.segment ≡ false → (pid ≡ q) × (v ≡ w)
 
--- the keys are in order, no two areas of a process are over one page number, each has a page and ends below 2^47, and
--- segments have numbers below the next one's and are shown, also those that an area shows, and private pages are shown once
+-- the keys are in order, no two areas of a process are over one page number, each has a page, ends below 2^47 and shows a
+-- segment numbered below the next one, segments are numbered below it and shown, and private pages are shown once
 pub record IsMapped (m : Mapped) : Type 0 where
   pub ordered : IsStrictlySortedBy spot_cmp (keys_of m.areas)
   pub apart : AreasAreApart m.areas

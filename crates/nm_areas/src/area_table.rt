@@ -8,10 +8,12 @@ ghost use Rattle.std.specs.Map.{keys_of};
 ghost use Rattle.nm_types.specs.Map.{get, set, replace, without, spot_cmp};
 ghost use Rattle.nm_types.specs.State.{Placed, area_over};
 ghost use Rattle.nm_areas.specs.Effect.{new_area};
+ghost use Rattle.nm_areas.specs.Lines.{is_shared};
 ghost use Rattle.nm_areas.specs.Mapped.{AreasAreApart, EndsLow, IsSomePages};
 ghost use Rattle.nm_areas.specs.Refused.{overlaps};
 ghost use Rattle.nm_areas.specs.Table.{with_areas};
 
+use crate::lines::is_shared;
 use crate::policing::{next_area, put};
 use nm_types::{Area, Page, Pid, Policy, Segment, Vpn};
 use std::alloc::{AllocError, Allocator};
@@ -64,6 +66,13 @@ impl<A: Allocator + Copy> AreaTable<A> {
         ensures { result ≡ get nat_cmp self.now.segments number }
     {
         self.segments.get(&number).copied()
+    }
+
+    /// Whether a segment is shared. One that is not there is not.
+    pub(crate) fn is_shared(&self, number: u32) -> bool
+        ensures { result ≡ is_shared self.now.segments number }
+    {
+        is_shared(&self.segments, number)
     }
 
     /// The area of a process over a page number, with its first page number.

@@ -10,7 +10,6 @@ ghost use Rattle.nm_areas.specs.Refused.{is_range, insert_refusal, is_stretch, a
 
 use crate::area_error::AreaError;
 use crate::area_table::AreaTable;
-use crate::lines::is_shared;
 use nm_types::limits::{MAX_SEGMENTS, PAGE_NUMBERS};
 use nm_types::{Area, Errno, FrameId, Page, Pid, Segment, Vpn};
 use std::alloc::Allocator;
@@ -19,7 +18,7 @@ use std::marker::Model;
 
 /// The areas of all processes, the segments that they show, and the frame of each page that has one. Contracts see
 /// maps: the areas by process and first page number, the segments by number, and the frames by page. No two areas of a
-/// process are over one page number.
+/// process are over one page number, and a page of a private segment is shown at one page number alone.
 #[derive(Drop)]
 pub struct Areas<A: Allocator + Copy> {
     pub(crate) table: AreaTable<A>,
@@ -61,7 +60,7 @@ impl<A: Allocator + Copy> Areas<A> {
     pub fn is_shared(&self, segment: u32) -> bool
         ensures { result ≡ is_shared self.now.segments segment }
     {
-        is_shared(&self.table.segments, segment)
+        self.table.is_shared(segment)
     }
 
     /// Makes the next segment, of so many pages, and an area of the process over all of it from an address on, with the

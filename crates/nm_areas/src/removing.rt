@@ -1,6 +1,6 @@
 //! Areas that go.
 
-ghost use Rattle.std.specs.Prelude.{ℕ, ◌≡◌, ◌≤◌, ◌<◌, ◌+◌, ◌/◌, ◌^◌, ◌++◌, min, length, vec_len, vec_capacity, None, Some, IfSome, IfNone, IfOk, OnOk};
+ghost use Rattle.std.specs.Prelude.{ℕ, ◌≡◌, ◌≤◌, ◌<◌, ◌+◌, ◌/◌, ◌^◌, ◌++◌, false, true, min, length, vec_len, vec_capacity, None, Some, IfSome, IfNone, IfOk, OnOk};
 ghost use Rattle.std.specs.List.{AllByRecursion, list_any, fold};
 ghost use Rattle.std.specs.List.Sorted.{IsStrictlySortedBy};
 ghost use Rattle.std.specs.Map.{keys_of};
@@ -9,8 +9,9 @@ ghost use Rattle.nm_types.specs.Map.{get, without, page_cmp, spot_cmp};
 ghost use Rattle.nm_types.specs.State.{page_at};
 ghost use Rattle.nm_areas.specs.Does.{Makes};
 ghost use Rattle.nm_areas.specs.Index.{IsIndex, passes};
-ghost use Rattle.nm_areas.specs.Mapped.{AllShown, HasIndices, shows_segment};
-ghost use Rattle.nm_areas.specs.Parts.{shows_page};
+ghost use Rattle.nm_areas.specs.Lines.{is_shared};
+ghost use Rattle.nm_areas.specs.Mapped.{AllShown, AreasAreApart, HasIndices, PrivateIsOnce, shows_segment};
+ghost use Rattle.nm_areas.specs.Parts.{shows_page, is_covered};
 ghost use Rattle.nm_areas.specs.Refused.{remove_refusal};
 ghost use Rattle.nm_areas.specs.Removed.{segments_left, without_own, place_left, lost, all_lost, removed, frames_lost, others, begins_in, page_outside, covers_beside, page_in, pages_of_area, pages_of_own};
 
@@ -65,6 +66,8 @@ impl<A: Allocator + Copy> AreaTable<A> {
         freed: &mut Vec<(Page, FrameId), A>,
     )
         requires range { first ≤ end }
+        requires apart { AreasAreApart self.now.areas }
+        requires once { PrivateIsOnce self.now.areas self.now.segments }
         requires indices { AllByRecursion HasIndices self.now.areas }
         requires room { vec_len freed.old + min (length places.old.entries) (length (pages_of_own pid first end self.now.areas)) ≤ vec_capacity freed.old }
         ensures places { places.new.entries ≡ fold (place_left (others pid first end self.now.areas)) places.old.entries (pages_of_own pid first end self.now.areas) }
@@ -89,6 +92,7 @@ impl<A: Allocator + Copy> AreaTable<A> {
         freed: &mut Vec<(Page, FrameId), A>,
     )
         requires ordered { IsStrictlySortedBy spot_cmp (keys_of self.now.areas) }
+        requires alone { is_shared self.now.segments area.page.segment ≡ false → (i : ℕ) → area.page.index ≤ i → i < area.page.index + area.pages → is_covered (others pid first end self.now.areas) (page_in area.page.segment i) ≡ false }
         requires indices { area.page.index + area.pages < 2 ^ 64 }
         requires room { vec_len freed.old + min (length places.old.entries) area.pages ≤ vec_capacity freed.old }
         ensures places { places.new.entries ≡ fold (place_left (others pid first end self.now.areas)) places.old.entries (pages_of_area area) }
@@ -98,28 +102,32 @@ impl<A: Allocator + Copy> AreaTable<A> {
         ensures room { vec_capacity freed.new ≡ vec_capacity freed.old }
     {
         let segment = area.page.segment;
+        let alone = !self.is_shared(segment);
         let past = area.page.index + area.pages;
         let mut at = area.page.index;
         while let Some((index, frame)) = next_place(places, segment, at, past) {
             let page = Page { segment, index };
-            self.lose_page(pid, first, end, page, frame, places, freed);
+            self.lose_page(pid, first, end, page, alone, frame, places, freed);
             at = index + 1;
         }
     }
 
     /// A page loses its frame, if no area covers it but those of a process that begin from one page number up to
-    /// another. Then it is put behind those of a list that has room for it.
+    /// another: for a page that stands alone, no area has to be looked at. Then it is put behind those of a list that has
+    /// room for it.
     fn lose_page(
         &self,
         pid: Pid,
         first: Vpn,
         end: Vpn,
         page: Page,
+        alone: bool,
         frame: FrameId,
         places: &mut BTreeMap<Page, FrameId, A>,
         freed: &mut Vec<(Page, FrameId), A>,
     )
         requires ordered { IsStrictlySortedBy spot_cmp (keys_of self.now.areas) }
+        requires alone { alone ≡ true → is_covered (others pid first end self.now.areas) page ≡ false }
         requires has { get page_cmp places.old.entries page ≡ Some frame }
         requires room { vec_len freed.old + min (length places.old.entries) 1 ≤ vec_capacity freed.old }
         ensures places { places.new.entries ≡ place_left (others pid first end self.now.areas) places.old.entries page }
@@ -128,7 +136,7 @@ impl<A: Allocator + Copy> AreaTable<A> {
         ensures few { vec_len freed.new ≤ vec_len freed.old + 1 }
         ensures room { vec_capacity freed.new ≡ vec_capacity freed.old }
     {
-        if !is_covered(&self.areas, &self.by_segment, pid, first, end, page) {
+        if alone || !is_covered(&self.areas, &self.by_segment, pid, first, end, page) {
             places.remove(&page);
             freed.push_reserved((page, frame));
         }

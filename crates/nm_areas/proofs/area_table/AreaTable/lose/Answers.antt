@@ -1,7 +1,12 @@
-use Rattle.std.proofs.Common.{arith, ◌+◌, ◌∙◌}
+use Rattle.std.proofs.Common.{sym, arith, ◌+◌, ◌∙◌}
 use Rattle.nm_areas.specs.Removed.{others}
+use Rattle.nm_areas.proofs.Private.{not_then}
 use Rattle.nm_areas.proofs.Lost.{freed_next, left_next, freed_end, left_end}
 use Rattle.nm_areas.proofs.area_table.AreaTable.lose.Goals as goal
+
+pub lose_page-requires-clause-alone : goal.lose_page-requires-clause-alone
+lose_page-requires-clause-alone g c private =
+    c.requires.alone (sym c.is_shared-alone.ensures ∙ not_then c.is_shared-alone.result private) c.in-Some.index (omega (arith, c.loop-index.invariant.low, c.in-Some.ensures.some.0)) c.in-Some.ensures.some.1
 
 pub loop-index-preserved : goal.loop-index-preserved
 loop-index-preserved g c =
@@ -16,6 +21,7 @@ loop-index-preserved g c =
       counted = c.lose_page.ensures.counted ∙ c.loop-index.invariant.counted;
       few = omega (arith, c.loop-index.invariant.few, c.lose_page.ensures.few, some.0, some.1);
       same = c.lose_page.ensures.room ∙ c.loop-index.invariant.same;
+      low = omega (arith, c.loop-index.invariant.low, some.0);
       up = omega (arith, some.1);
     }
 

@@ -15,6 +15,7 @@ invariant-loop-index g l =
       counted : vec_len l.freed + length l.places.entries ≡ vec_len l.fn.freed + length l.fn.places.entries;
       few : vec_len l.freed + (l.past - l.at) ≤ vec_len l.fn.freed + l.fn.area.pages;
       same : vec_capacity l.freed ≡ vec_capacity l.fn.freed;
+      low : l.fn.area.page.index ≤ l.at;
       up : l.at ≤ l.past;
     }
 

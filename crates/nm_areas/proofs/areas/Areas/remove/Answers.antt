@@ -7,8 +7,17 @@ use Rattle.nm_areas.specs.Table.{Table}
 use Rattle.nm_areas.specs.Removed.{removed, frames_lost, page_outside}
 use Rattle.nm_areas.proofs.Shown.{left_shows}
 use Rattle.nm_areas.proofs.Roomy.{few_own}
+use Rattle.nm_areas.proofs.Private.{cut_apart, cut_once}
 use Rattle.nm_areas.proofs.Letting.{cut_indices, cut_shown, now_left, after_is, after_mapped, lost_is}
 use Rattle.nm_areas.proofs.areas.Areas.remove.Goals as goal
+
+pub lose_all-requires-clause-apart : goal.lose_all-requires-clause-apart
+lose_all-requires-clause-apart g c =
+    cut_apart c.self.inside.table c.self.inside.places.entries c.self.invariant c.args.pid c.in-Some.first c.new-end.result c.cut.new.self c.in_ok-cut.ensures.ok
+
+pub lose_all-requires-clause-once : goal.lose_all-requires-clause-once
+lose_all-requires-clause-once g c =
+    cut_once c.self.inside.table c.self.inside.places.entries c.self.invariant c.args.pid c.in-Some.first c.new-end.result c.cut.new.self c.in_ok-cut.ensures.ok
 
 pub lose_all-requires-clause-indices : goal.lose_all-requires-clause-indices
 lose_all-requires-clause-indices g c =
