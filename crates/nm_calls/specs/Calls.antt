@@ -9,6 +9,7 @@ pub data Call : Type 0 where
   ReadBytes : (pid addr len : ℕ) → Call
   WriteBytes : (pid addr : ℕ) (bytes : List ℕ) → Call
   MovePages : (caller pid : ℕ) (pages nodes : List ℕ) (flags : ℕ) → Call
+  Query : (caller pid : ℕ) (pages : List ℕ) (flags : ℕ) → Call
   FreeList : (node : ℕ) → Call
   Pagemap : (pid : ℕ) → Call
 

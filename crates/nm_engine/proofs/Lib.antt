@@ -33,3 +33,4 @@ pub mod Painted
 pub mod Cut
 pub mod Repoliced
 pub mod Policed
+pub mod Asked

@@ -14,6 +14,7 @@ pub mod Sharing
 pub mod Letting
 pub mod Deciding
 pub mod Starts
+pub mod Asking
 pub use Rattle.nm_types.specs.Map
 pub use Rattle.nm_types.specs.Layout
 pub use Rattle.nm_types.specs.State

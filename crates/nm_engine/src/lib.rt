@@ -2,6 +2,7 @@
 #![tactic(auto)]
 
 mod area_map;
+mod asking;
 mod audit;
 mod calls;
 pub mod laws;
@@ -18,6 +19,5 @@ mod touching;
 
 pub use machine::{Machine, Totals};
 pub use machine_error::MachineError;
-pub use nm_runs::{Run, Wanted};
 pub use nm_tables::Entry;
 pub use process::ProcessInfo;

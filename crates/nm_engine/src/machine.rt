@@ -14,6 +14,7 @@ ghost use Rattle.nm_engine.specs.Refused.{spawn_refusal, map_refusal, list_refus
 ghost use Rattle.nm_engine.specs.Policing.{policy_refusal, set_policy};
 ghost use Rattle.nm_engine.specs.Entries.{entries_of};
 ghost use Rattle.nm_engine.specs.Audited.{audited};
+ghost use Rattle.nm_engine.specs.Asking.{node_status};
 ghost use Rattle.nm_engine.specs.Sound.{IsSound};
 ghost use Rattle.nm_engine.specs.Does.{Makes, Tells, Accesses};
 
@@ -194,6 +195,14 @@ impl<A: Allocator + Copy + Send + Sync> Machine<A> {
         ensures { Tells result (entries_refusal self.now pid) (λ entries. entries.items ≡ entries_of self.now pid) }
     {
         self.parts.entries(pid)
+    }
+
+    /// Where the page is that a process sees at a page number: its node's number, or an error's number with a minus sign:
+    /// -14 (EFAULT) without an area, or for the page of zeros; -2 (ENOENT) where nothing was touched.
+    pub fn node_status(&self, pid: Pid, vpn: Vpn) -> i32
+        ensures { result ≡ node_status self.now pid vpn }
+    {
+        self.parts.node_status(pid, vpn)
     }
 
     /// Whether each frame of the machine stands exactly once in its own node's list of free frames, or is the place of
