@@ -1,16 +1,10 @@
 //! Who may act on the pages of a process.
 
-ghost use Rattle.std.specs.Prelude.{◌≡◌, ◌&&◌, not, [], ◌∷◌, IfOk, Some};
-ghost use Rattle.std.specs.Option.{option_map};
-ghost use Rattle.std.specs.Ordering.{nat_cmp};
-ghost use Rattle.nm_types.specs.declared.errno.Errno.TheVariants.{Eperm, Einval};
-ghost use Rattle.nm_types.specs.Map.{get};
-ghost use Rattle.nm_types.specs.State.{Process};
+ghost use Rattle.std.specs.Prelude.{◌≡◌, IfOk, Some};
 ghost use Rattle.nm_runs.specs.Targets.{Checks};
-ghost use Rattle.nm_engine.specs.Refused.{first_error};
-ghost use Rattle.nm_calls.specs.Moving.{has_other_flags, moves_all, owner_of, query_refusal};
+ghost use Rattle.nm_calls.specs.Moving.{flags_refusal, moves_all, owner_of, allowed_at, query_refusal};
 
-use nm_engine::Machine;
+use nm_engine::{Machine, ProcessInfo};
 use nm_types::{Errno, MoveFlags, NodeMask, Pid};
 use std::alloc::Allocator;
 
@@ -19,7 +13,7 @@ use std::alloc::Allocator;
 pub(crate) struct Permit {
     /// The process.
     pub(crate) pid: Pid,
-    /// The nodes that the process may use.
+    /// The nodes that it may use.
     pub(crate) allowed: NodeMask,
     /// Whether pages move though other processes see them.
     pub(crate) all: bool,
@@ -28,7 +22,7 @@ pub(crate) struct Permit {
 /// Whether the flags ask for pages that other processes see as well: EINVAL for a flag that is unknown, and then EPERM
 /// where they do so without privilege.
 fn asks_all(flags: u32, privileged: bool) -> Result<bool, Errno>
-    ensures exact { Checks result (first_error ((has_other_flags flags, Einval) ∷ (moves_all flags && not privileged, Eperm) ∷ [])) }
+    ensures exact { Checks result (flags_refusal privileged flags) }
     ensures all { IfOk result (λ all. all ≡ moves_all flags) }
 {
     let known = MoveFlags::from_bits(flags).ok_or(Errno::Einval)?;
@@ -40,6 +34,13 @@ fn asks_all(flags: u32, privileged: bool) -> Result<bool, Errno>
         return Err(Errno::Eperm);
     }
     Ok(all)
+}
+
+/// Whose pages a call names, where pid 0 is the caller.
+fn owner_of(caller: Pid, pid: Pid) -> Pid
+    ensures { result ≡ owner_of caller pid }
+{
+    if pid.number() == 0 { caller } else { pid }
 }
 
 /// What a caller may do with the pages of a process, where pid 0 is the caller. ESRCH (no such caller); EINVAL (a flag
@@ -54,13 +55,22 @@ pub(crate) fn permit_of<A: Allocator + Copy + Send + Sync>(
     ensures exact { Checks result (query_refusal machine.now caller pid flags) }
     ensures pid { IfOk result (λ permit. permit.pid ≡ owner_of caller pid) }
     ensures all { IfOk result (λ permit. permit.all ≡ moves_all flags) }
-    ensures allowed { IfOk result (λ permit. option_map (λ (p : Process). p.allowed) (get nat_cmp machine.now.processes (owner_of caller pid)) ≡ Some permit.allowed) }
+    ensures allowed { IfOk result (λ permit. allowed_at machine.now (owner_of caller pid) ≡ Some permit.allowed) }
 {
-    let asking = machine.process(caller).ok_or(Errno::Esrch)?;
-    let all = asks_all(flags, asking.privileged)?;
-    let owner = if pid.number() == 0 { caller } else { pid };
-    let asked = machine.process(owner).ok_or(Errno::Esrch)?;
-    if asking.uid != asked.uid && !asking.privileged {
+    let Some(asking) = machine.process(caller) else {
+        return Err(Errno::Esrch);
+    };
+    let ProcessInfo {
+        uid,
+        privileged,
+        ..
+    } = asking;
+    let all = asks_all(flags, privileged)?;
+    let owner = owner_of(caller, pid);
+    let Some(asked) = machine.process(owner) else {
+        return Err(Errno::Esrch);
+    };
+    if uid != asked.uid && !privileged {
         return Err(Errno::Eperm);
     }
     Ok(Permit {

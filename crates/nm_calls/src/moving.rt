@@ -1,15 +1,15 @@
 //! A batch of pages to be moved: whether they may go there, and its runs, one after another.
 
-ghost use Rattle.std.specs.Prelude.{◌≡◌, ◌<◌, ◌≤◌, ◌&&◌, nat_lt, [], All, EachIndex, IfOk, OnOk, length, slice_index, vec_capacity};
+ghost use Rattle.std.specs.Prelude.{◌≡◌, ℕ, ◌<◌, ◌≤◌, ◌/◌, ◌&&◌, nat_lt, [], All, EachIndex, IfOk, OnOk, length, slice_index, vec_capacity};
 ghost use Rattle.std.specs.List.{sum_by};
 ghost use Rattle.nm_types.specs.Layout.{node_count};
 ghost use Rattle.nm_types.specs.Nodes.{is_in};
+ghost use Rattle.nm_runs.specs.declared.Wanted.TheVariants.{At};
 ghost use Rattle.nm_runs.specs.Cut.{cut, stretches_of};
 ghost use Rattle.nm_runs.specs.Targets.{first_refusal, Checks};
 ghost use Rattle.nm_calls.specs.Moving.{failures, requests_of};
 ghost use Rattle.nm_calls.specs.Does.{Moves};
 
-use crate::asking::Permit;
 use crate::call_error::CallError;
 use nm_engine::Machine;
 use nm_runs::{Request, Run, Wanted, check_batch, cut};
@@ -52,6 +52,17 @@ pub(crate) fn check_targets<A: Allocator + Copy + Send + Sync>(
     check_batch(machine.node_count(), online_nodes(machine), allowed, nodes)
 }
 
+/// The request for the page of a process at an address.
+fn request_of(pid: Pid, all: bool, address: u64, node: u32) -> Request
+    ensures { result ≡ record { target = node; wanted = At pid (address / 4096) all } }
+{
+    let vpn = Vpn::of_address(address);
+    Request {
+        target: NodeId::new(node),
+        wanted: Wanted::At { pid, vpn, all },
+    }
+}
+
 /// The requests of a process at some addresses, each with the node at its place.
 fn requests_of<A: Allocator + Copy + Send + Sync>(
     alloc: A,
@@ -62,15 +73,11 @@ fn requests_of<A: Allocator + Copy + Send + Sync>(
 ) -> Result<Vec<Request, A>, AllocError>
     ensures { IfOk result (λ requests. requests.items ≡ requests_of pid all pages.now nodes.now) }
 {
-    let mut requests = Vec::with_capacity(alloc, pages.len())?;
-    for (address, node) in pages.iter().zip(nodes) {
-        let vpn = Vpn::of_address(*address);
-        requests.push(Request {
-            target: NodeId::new(*node),
-            wanted: Wanted::At { pid, vpn, all },
-        })?;
-    }
-    Ok(requests)
+    pages
+        .iter()
+        .zip(nodes)
+        .map(|(address, node)| request_of(pid, all, *address, *node))
+        .collect(alloc)
 }
 
 /// How many entries failed.
@@ -115,16 +122,19 @@ fn move_runs<A: Allocator + Copy + Send + Sync>(
 pub(crate) fn move_batch<A: Allocator + Copy + Send + Sync>(
     alloc: A,
     machine: &mut Machine<A>,
-    permit: Permit,
+    pid: Pid,
+    all: bool,
     pages: &[u64],
     nodes: &[u32],
 ) -> Result<Moved<A>, CallError>
     requires nodes { EachIndex nodes.now (λ k. slice_index nodes.now k < node_count machine.old.layout) }
     requires paired { length pages.now ≡ length nodes.now }
-    ensures { Moves result machine.old machine.new (cut (requests_of permit.pid permit.all pages.now nodes.now)) }
+    ensures { Moves result machine.old machine.new (cut (requests_of pid all pages.now nodes.now)) }
 {
-    let requests = requests_of(alloc, permit.pid, permit.all, pages, nodes)?;
-    let runs = cut(alloc, requests.as_slice())?;
+    let runs = cut(
+        alloc,
+        requests_of(alloc, pid, all, pages, nodes)?.as_slice(),
+    )?;
     let statuses = Vec::with_capacity(alloc, pages.len())?;
     move_runs(machine, runs.as_slice(), statuses)
 }

@@ -8,8 +8,8 @@ ghost use Rattle.nm_calls.specs.Entries.{entries_mapped, entries_shown};
 ghost use Rattle.nm_calls.specs.Outcome.{statuses_of};
 ghost use Rattle.nm_calls.specs.Does.{Does};
 
+use crate::asking::{Permit, permit_of};
 use crate::call_error::CallError;
-use crate::asking::permit_of;
 use crate::moving::{Moved, check_targets, move_batch};
 use nm_engine::{Entry, Machine, Totals};
 use nm_types::{FrameId, Geometry, NodeId, NodeMask, Pid, Vpn};
@@ -152,8 +152,13 @@ impl<A: Allocator + Copy + Send + Sync> System<A> {
         ensures { Does (λ moved. Statuses moved.failed moved.statuses.items) result self.old self.new (MovePages caller pid pages.now nodes.now flags) }
     {
         let permit = permit_of(&self.machine, caller, pid, flags)?;
-        check_targets(&self.machine, permit.allowed, nodes)?;
-        move_batch(self.alloc, &mut self.machine, permit, pages, nodes)
+        let Permit {
+            pid: owner,
+            allowed,
+            all,
+        } = permit;
+        check_targets(&self.machine, allowed, nodes)?;
+        move_batch(self.alloc, &mut self.machine, owner, all, pages, nodes)
     }
 
     /// Where pages are, each named by an address in it: the number of its node, -14 (EFAULT) without an area or for the

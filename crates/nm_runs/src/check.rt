@@ -6,12 +6,7 @@ ghost use Rattle.nm_runs.specs.Targets.{node_refusal, first_refusal, Checks};
 use nm_types::{Errno, NodeId, NodeMask};
 
 /// Whether a page may go to a node.
-fn check_node(
-    count: usize,
-    online: NodeMask,
-    allowed: NodeMask,
-    node: NodeId,
-) -> Result<(), Errno>
+fn check_node(count: usize, online: NodeMask, allowed: NodeMask, node: NodeId) -> Result<(), Errno>
     ensures node { OnOk result (node < count) }
     ensures exact { Checks result (node_refusal count online allowed node) }
 {

@@ -8,7 +8,6 @@ mod tests;
 
 pub use check::check_batch;
 pub use cutting::cut;
-
 use nm_types::{FrameId, NodeId, Page, Pid, Vpn};
 use std::alloc::Allocator;
 
