@@ -1,6 +1,6 @@
 -- What a reader of a part of a trace gives.
 use Rattle.std.specs.Prelude.{◌≡◌, Option, Some, None, Result, Ok, Err}
-use Rattle.nm_calls.specs.Calls.{Call, Spawn, MapPages, ReadBytes, WriteBytes, MovePages, FreeList, Pagemap}
+use Rattle.nm_calls.specs.Calls.{Call, Spawn, MapPages, ReadBytes, WriteBytes, MovePages, Query, FreeList, Pagemap}
 use Rattle.nm_trace.specs.declared.step.StepError.{StepError}
 use Rattle.nm_trace.specs.declared.step.StepError.TheVariants.{Bad, Memory}
 use Rattle.nm_trace.specs.declared.step.Step.{Step}
@@ -23,5 +23,6 @@ call_of (steps.Map pid addr pages) = MapPages pid addr pages
 call_of (steps.Read pid addr len) = ReadBytes pid addr len
 call_of (steps.Write pid addr bytes) = WriteBytes pid addr bytes.items
 call_of (steps.MovePages request) = MovePages request.caller request.pid request.batch.pages.items request.batch.nodes.items request.flags
+call_of (steps.Query caller pid pages flags) = Query caller pid pages.items flags
 call_of (steps.Free node) = FreeList node
 call_of (steps.Pagemap pid) = Pagemap pid

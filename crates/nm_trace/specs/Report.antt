@@ -5,7 +5,7 @@ use Rattle.std.specs.List.{flat_map}
 use Rattle.hex.specs.Hex.{encode_lower}
 use Rattle.nm_types.specs.Names.{name_of}
 use Rattle.nm_types.specs.State.{State}
-use Rattle.nm_calls.specs.Calls.{Call, Spawn, MapPages, ReadBytes, WriteBytes, MovePages, FreeList, Pagemap, Answer, Refusal, Done, Held, NewSegment, TheBytes, Statuses, Frames, Entries}
+use Rattle.nm_calls.specs.Calls.{Call, Spawn, MapPages, ReadBytes, WriteBytes, MovePages, Query, FreeList, Pagemap, Answer, Refusal, Done, Held, NewSegment, TheBytes, Statuses, Frames, Entries}
 use Rattle.nm_calls.specs.Outcome.{Outcome, outcome}
 
 -- the word of a call
@@ -15,6 +15,7 @@ word_of (MapPages pid addr pages) = codes "map"
 word_of (ReadBytes pid addr len) = codes "read"
 word_of (WriteBytes pid addr bytes) = codes "write"
 word_of (MovePages caller pid pages nodes flags) = codes "move_pages"
+word_of (Query caller pid pages flags) = codes "query"
 word_of (FreeList node) = codes "free"
 word_of (Pagemap pid) = codes "pagemap"
 

@@ -22,7 +22,7 @@ pub(crate) enum Answer<A: Allocator + Copy + Send + Sync> {
     Segment(u32),
     /// The bytes that were read.
     Bytes(Vec<u8, A>),
-    /// The statuses of a batch.
+    /// The statuses of a batch, or of pages that are looked at.
     Statuses(Moved<A>),
     /// Frames, the front first.
     Frames(Vec<FrameId, A>),
@@ -73,6 +73,15 @@ fn perform<A: Allocator + Copy + Send + Sync>(
             Ok(Answer::Done)
         }
         Step::MovePages(request) => Ok(Answer::Statuses(move_pages(system, request)?)),
+        Step::Query {
+            caller,
+            pid,
+            pages,
+            flags,
+        } => Ok(Answer::Statuses(Moved {
+            failed: 0,
+            statuses: system.query(*caller, *pid, pages.as_slice(), *flags)?,
+        })),
         Step::Free { node } => Ok(Answer::Frames(system.free_list(*node)?)),
         Step::Pagemap { pid } => Ok(Answer::Entries(system.pagemap(*pid)?)),
     }

@@ -23,6 +23,7 @@ fn word<A: Allocator + Copy + Send + Sync>(step: &Step<A>) -> &'static str
         Step::Read { .. } => "read",
         Step::Write { .. } => "write",
         Step::MovePages(_) => "move_pages",
+        Step::Query { .. } => "query",
         Step::Free { .. } => "free",
         Step::Pagemap { .. } => "pagemap",
     }

@@ -1,6 +1,6 @@
 //! The steps of a trace.
 
-ghost use Rattle.std.specs.Prelude.{◌≡◌, ◌≤◌, ◌==◌, ◌||◌, IsTrue, length};
+ghost use Rattle.std.specs.Prelude.{◌≡◌, ◌≤◌, length};
 ghost use Rattle.nm_trace.specs.declared.step.StepError.TheVariants.{Memory};
 
 use nm_types::{NodeId, NodeMask, Pid};
@@ -17,7 +17,7 @@ pub struct Batch<A: Allocator + Copy + Send + Sync> {
     pub ghost few: { length pages.items ≤ 16384 },
 }
 
-/// What a step that moves pages asks. Until other processes can be named, `pid` is 0 or the caller, and the flags are 2.
+/// What a step that moves pages asks.
 #[derive(Debug, Drop)]
 pub struct MoveRequest<A: Allocator + Copy + Send + Sync> {
     /// Who calls.
@@ -26,10 +26,8 @@ pub struct MoveRequest<A: Allocator + Copy + Send + Sync> {
     pub pid: Pid,
     /// The pages and their targets.
     pub batch: Batch<A>,
-    /// MPOL_MF_MOVE.
+    /// The flags by their bits.
     pub flags: u32,
-    pub ghost own: { IsTrue (pid == 0 || pid == caller) },
-    pub ghost moves: { flags ≡ 2 },
 }
 
 /// What a step of a trace asks.
@@ -63,6 +61,13 @@ pub enum Step<A: Allocator + Copy + Send + Sync> {
     },
     /// Pages to be moved.
     MovePages(MoveRequest<A>),
+    /// Where pages are, each named by an address in it.
+    Query {
+        caller: Pid,
+        pid: Pid,
+        pages: Vec<u64, A>,
+        flags: u32,
+    },
     /// The free frames of a node.
     Free {
         node: NodeId,

@@ -7,7 +7,7 @@ ghost use Rattle.nm_trace.specs.Gives.{Gives, call_of};
 use crate::fields::{flag, hex, number, numbers, set, small, smalls, text};
 use crate::step::{Batch, MoveRequest, Step, StepError};
 use nm_types::limits::MAX_BATCH;
-use nm_types::{MoveFlags, NodeId, Pid};
+use nm_types::{NodeId, Pid};
 use serde_json::Value;
 use std::alloc::Allocator;
 
@@ -72,15 +72,31 @@ fn move_pages<A: Allocator + Copy + Send + Sync>(
     if pages.len() > MAX_BATCH || pages.len() != nodes.len() {
         return Err(StepError::Bad);
     }
-    if (pid != 0 && pid != caller) || flags != MoveFlags::MOVE {
-        return Err(StepError::Bad);
-    }
     Ok(Step::MovePages(MoveRequest {
         caller: Pid::new(caller),
         pid: Pid::new(pid),
         batch: Batch { pages, nodes },
         flags,
     }))
+}
+
+#[tactic(auto, unfolding(crate::specs::Form::query_of))]
+fn query<A: Allocator + Copy + Send + Sync>(alloc: A, value: &Value) -> Result<Step<A>, StepError>
+    ensures { Gives call_of result (form.query_of (view value.now)) }
+{
+    let caller = small(value, "caller")?;
+    let pid = small(value, "pid")?;
+    let pages = numbers(alloc, value, "pages")?;
+    let flags = small(value, "flags")?;
+    if pages.len() > MAX_BATCH {
+        return Err(StepError::Bad);
+    }
+    Ok(Step::Query {
+        caller: Pid::new(caller),
+        pid: Pid::new(pid),
+        pages,
+        flags,
+    })
 }
 
 #[tactic(auto, unfolding(crate::specs::Form::free_of))]
@@ -115,6 +131,7 @@ fn named<A: Allocator + Copy + Send + Sync>(
         "read" => read(value),
         "write" => write(alloc, value),
         "move_pages" => move_pages(alloc, value),
+        "query" => query(alloc, value),
         "free" => free(value),
         "pagemap" => pagemap(value),
         _ => Err(StepError::Bad),
