@@ -4,6 +4,8 @@
 #[cfg(test)]
 mod areas;
 #[cfg(test)]
+mod batches;
+#[cfg(test)]
 mod machine;
 #[cfg(test)]
 mod policies;

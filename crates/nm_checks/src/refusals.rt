@@ -1,6 +1,7 @@
 use crate::machine::{Heap, both_nodes, two_nodes};
-use nm_engine::{Entry, Machine, MachineError, Run, Totals, Wanted};
+use nm_engine::{Entry, Machine, MachineError, Totals};
 use nm_refusing::Refusing;
+use nm_runs::{Run, Wanted};
 use nm_types::{FrameId, NodeId, Pid, Policy, Vpn};
 use std::alloc::AllocError;
 use std::process::Abort;

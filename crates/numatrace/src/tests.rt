@@ -226,7 +226,7 @@ const FAULTS: [(&str, &str, &str); 26] = [
     ),
     ("\"nodes\":[1,1,1]", "\"nodes\":[1,1]", "bad step 5"),
     ("\"data\":\"62\"", "\"data\":\"6\"", "bad step 3"),
-    ("\"flags\":2", "\"flags\":4", "bad step 5"),
+    ("\"flags\":2", "\"flags\":4294967296", "bad step 5"),
     ("\"allowed\":[0,1]", "\"allowed\":[0,64]", "bad step 0"),
     (
         "\"allowed\":[0,1]",
