@@ -1,8 +1,8 @@
 //! The frames of pages.
 
-ghost use Rattle.std.specs.Prelude.{ℕ, ◌≡◌, ◌≤◌, ◌<◌, ◌+◌, ◌^◌, None, Some, IsSome, IfSome, IfNone, OnOk, OnErr};
+ghost use Rattle.std.specs.Prelude.{ℕ, ◌≡◌, ◌≤◌, ◌<◌, ◌+◌, ◌^◌, None, Some, IsSome, IfSome, IfNone, IfOk, OnOk, OnErr};
 ghost use Rattle.std.specs.List.Sorted.{IsStrictlySortedBy};
-ghost use Rattle.std.specs.Map.{keys_of};
+ghost use Rattle.std.specs.Map.{keys_of, values_of};
 ghost use Rattle.nm_types.specs.declared.page.Page.{Page};
 ghost use Rattle.nm_types.specs.Map.{get, page_cmp};
 ghost use Rattle.nm_types.specs.State.{page_of, page_at};
@@ -30,8 +30,16 @@ impl<A: Allocator + Copy> Areas<A> {
         ensures some { IfSome result (λ r. (p : Page) × (at ≤ r.0) × (r.0 < end) × (page_at self.now.areas pid r.0 ≡ Some p) × (get page_cmp self.now.place p ≡ Some r.1)) }
         ensures first { IfSome result (λ r. (v : ℕ) (p : Page) → at ≤ v → v < r.0 → page_at self.now.areas pid v ≡ Some p → get page_cmp self.now.place p ≡ None) }
         ensures none { IfNone result ((v : ℕ) (p : Page) → at ≤ v → v < end → page_at self.now.areas pid v ≡ Some p → get page_cmp self.now.place p ≡ None) }
+        ensures kept { IsMapped self.now }
     {
         frame_from(&self.table, &self.places, pid, at, end)
+    }
+
+    /// The frames of the pages that have one, in the order of the pages. An error is want of memory.
+    pub fn frames(&self) -> Result<Vec<FrameId, A>, AllocError>
+        ensures { IfOk result (λ frames. frames.items ≡ values_of self.now.place) }
+    {
+        list_frames(self.alloc, &self.places)
     }
 
     /// A page has this frame from now on. An error means that nothing has changed.
@@ -110,4 +118,14 @@ fn frame_in<A: Allocator + Copy>(
     let back = area.pages.min(end.number() - first.number());
     let (found, frame) = next_place(places, segment, index + front, index + back)?;
     Some((Vpn::new(first.number() + (found - index)), frame))
+}
+
+/// The frames of pages, in the order of the pages.
+fn list_frames<A: Allocator + Copy>(
+    alloc: A,
+    places: &BTreeMap<Page, FrameId, A>,
+) -> Result<Vec<FrameId, A>, AllocError>
+    ensures { IfOk result (λ frames. frames.items ≡ values_of places.now.entries) }
+{
+    places.values().copied().collect(alloc)
 }

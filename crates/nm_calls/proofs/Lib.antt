@@ -1,2 +1,4 @@
 pub mod Lengths
 pub mod Stretches
+pub mod Targets
+pub mod Requests

@@ -5,10 +5,16 @@ use Rattle.nm_types.specs.declared.errno.Errno.{Errno}
 -- a call and its arguments; a set of nodes is the list of its nodes upwards
 pub data Call : Type 0 where
   Spawn : (pid uid home : ℕ) (allowed : List ℕ) (privileged : Bool) → Call
-  MapPages : (pid addr pages : ℕ) → Call
+  MapPages : (pid addr pages : ℕ) (shared : Bool) → Call
+  Attach : (pid addr segment offset pages : ℕ) → Call
+  Unmap : (pid addr pages : ℕ) → Call
+  Exit : (pid : ℕ) → Call
+  Pin : (pid addr : ℕ) → Call
+  Unpin : (pid addr : ℕ) → Call
   ReadBytes : (pid addr len : ℕ) → Call
   WriteBytes : (pid addr : ℕ) (bytes : List ℕ) → Call
   MovePages : (caller pid : ℕ) (pages nodes : List ℕ) (flags : ℕ) → Call
+  Query : (caller pid : ℕ) (pages : List ℕ) (flags : ℕ) → Call
   FreeList : (node : ℕ) → Call
   Pagemap : (pid : ℕ) → Call
 

@@ -1,64 +1,71 @@
--- Batches of pages to be moved: what is refused, and the requests and their runs.
-use Rattle.std.specs.Prelude.{◌≡◌, ℕ, nat_le, ◌/◌, ◌==◌, Bool, not, ◌||◌, List, [], ◌∷◌, map, length, drop, slice_index, Option, Some, None, if◌then◌else◌}
+-- Batches of pages to be moved or looked at: what is refused, and what is asked for.
+use Rattle.std.specs.Prelude.{ℕ, nat_le, ◌/◌, ◌%◌, ◌==◌, Bool, not, ◌&&◌, ◌||◌, List, [], ◌∷◌, map, Option, Some, None, if◌then◌else◌}
+use Rattle.std.specs.List.{zip}
+use Rattle.std.specs.Option.{option_map}
 use Rattle.std.specs.Ordering.{nat_cmp}
-use Rattle.std.specs.List.{take_while}
 use Rattle.nm_types.specs.declared.errno.Errno.{Errno}
-use Rattle.nm_types.specs.declared.errno.Errno.TheVariants.{Esrch, Eacces, Enodev}
+use Rattle.nm_types.specs.declared.errno.Errno.TheVariants.{Eperm, Esrch, Einval}
 use Rattle.nm_types.specs.Layout.{node_count}
 use Rattle.nm_types.specs.Map.{get}
-use Rattle.nm_types.specs.Nodes.{is_in}
 use Rattle.nm_types.specs.State.{Process, State}
-use Rattle.nm_runs.specs.declared.Wanted.{Wanted}
 use Rattle.nm_runs.specs.declared.Wanted.TheVariants.{At}
-use Rattle.nm_runs.specs.Cut.{Request, cut}
+use Rattle.nm_runs.specs.Cut.{Request}
+use Rattle.nm_runs.specs.Targets.{earlier, first_refusal}
+use Rattle.nm_engine.specs.declared.ProcessInfo.{ProcessInfo}
 use Rattle.nm_engine.specs.Refused.{first_error}
+use Rattle.nm_engine.specs.Tables.{info_of}
 pub use Rattle.nm_engine.specs.Run.{failures}
 
--- no such node, or it is not online; then a node that is not allowed
-abbrev pub node_refusal : State → List ℕ → ℕ → Option Errno
-node_refusal s allowed node =
-    let missing = nat_le (node_count s.layout) node || not (is_in s.online node) in
-    first_error ((missing, Enodev) ∷ (not (is_in allowed node), Eacces) ∷ [])
+-- whether flags have a bit other than those of MPOL_MF_MOVE and MPOL_MF_MOVE_ALL, which are 2 and 4
+abbrev pub has_other_flags : ℕ → Bool
+has_other_flags flags = nat_le 8 flags || (flags % 2 == 1)
 
--- the first of two refusals
-abbrev pub earlier : Option Errno → Option Errno → Option Errno
-earlier (Some e) later = Some e
-earlier None later = later
-
--- the refusal of the first of these nodes that is refused
-abbrev pub first_refusal : State → List ℕ → List ℕ → Option Errno
-first_refusal s allowed [] = None
-first_refusal s allowed (node ∷ nodes) = earlier (node_refusal s allowed node) (first_refusal s allowed nodes)
-
--- the refusal for a caller that may not be there
-abbrev pub refusal_for : State → List ℕ → Option Process → Option Errno
-refusal_for s nodes None = Some Esrch
-refusal_for s nodes (Some process) = first_refusal s process.allowed nodes
-
--- no such caller; then the first node that is refused
-abbrev pub move_refusal : State → ℕ → List ℕ → Option Errno
-move_refusal s caller nodes = refusal_for s nodes (get nat_cmp s.processes caller)
+-- whether MPOL_MF_MOVE_ALL is among flags; without it they act as MPOL_MF_MOVE
+abbrev pub moves_all : ℕ → Bool
+moves_all flags = flags / 4 % 2 == 1
 
 -- pid 0 is the caller
 abbrev pub owner_of : ℕ → ℕ → ℕ
 owner_of caller pid = if pid == 0 then caller else pid
 
+-- a flag that is unknown; MPOL_MF_MOVE_ALL without privilege
+abbrev pub flags_refusal : Bool → ℕ → Option Errno
+flags_refusal privileged flags =
+    first_error ((has_other_flags flags, Einval) ∷ (moves_all flags && not privileged, Eperm) ∷ [])
+
+-- no such process; one of another user, for a caller without privilege
+abbrev pub right_refusal : ProcessInfo → Option ProcessInfo → Option Errno
+right_refusal caller None = Some Esrch
+right_refusal caller (Some owner) = if (caller.uid == owner.uid) || caller.privileged then None else Some Eperm
+
+-- no such caller; then the flags; then the right to act on the process
+abbrev pub asking_refusal : Option ProcessInfo → Option ProcessInfo → ℕ → Option Errno
+asking_refusal None owner flags = Some Esrch
+asking_refusal (Some caller) owner flags = earlier (flags_refusal caller.privileged flags) (right_refusal caller owner)
+
+-- what is fixed of a process, if it is there
+abbrev pub info_at : State → ℕ → Option ProcessInfo
+info_at s pid = option_map info_of (get nat_cmp s.processes pid)
+
+-- the refusal of a look at the pages of a process
+abbrev pub query_refusal : State → ℕ → ℕ → ℕ → Option Errno
+query_refusal s caller pid flags = asking_refusal (info_at s caller) (info_at s (owner_of caller pid)) flags
+
+-- the nodes that a process may use, if it is there
+abbrev pub allowed_at : State → ℕ → Option (List ℕ)
+allowed_at s pid = option_map (λ (p : Process). p.allowed) (get nat_cmp s.processes pid)
+
+-- the refusal of the first of these nodes to which no page of a process with allowed nodes may go
+abbrev pub targets_refusal : State → Option (List ℕ) → List ℕ → Option Errno
+targets_refusal s None nodes = None
+targets_refusal s (Some allowed) nodes = first_refusal (node_count s.layout) s.online allowed nodes
+
+-- the refusal of a move: that of a look, and then that of the first node that is refused
+abbrev pub move_refusal : State → ℕ → ℕ → List ℕ → ℕ → Option Errno
+move_refusal s caller pid nodes flags =
+    earlier (query_refusal s caller pid flags) (targets_refusal s (allowed_at s (owner_of caller pid)) nodes)
+
 -- the requests of a batch: each address of the process with the node at its place
 abbrev pub requests_of : ℕ → Bool → List ℕ → List ℕ → List Request
-requests_of pid all (address ∷ addresses) (node ∷ nodes) =
-    record { target = node; wanted = At pid (address / 4096) all } ∷ requests_of pid all addresses nodes
-requests_of pid all addresses nodes = []
-
--- how many nodes at the front are the first one
-abbrev pub same_front : List ℕ → ℕ
-same_front nodes = length (take_while (λ node. node == slice_index nodes 0) nodes)
-
--- the requests of a process at so many of the addresses
-abbrev pub wanted_at : ℕ → Bool → List ℕ → List Wanted
-wanted_at pid all addresses = map (λ address. At pid (address / 4096) all) addresses
-
--- the first stretch of a batch: behind it the rest is cut
-abbrev pub IsFirst : ℕ → Bool → List ℕ → List ℕ → ℕ → List Wanted → Type 0
-IsFirst pid all addresses nodes target wanted =
-    let rest = requests_of pid all (drop (length wanted) addresses) (drop (length wanted) nodes) in
-    cut (requests_of pid all addresses nodes) ≡ record { target = target; wanted = wanted } ∷ cut rest
+requests_of pid all addresses nodes =
+    map (λ e. record { target = e.1; wanted = At pid (e.0 / 4096) all }) (zip addresses nodes)

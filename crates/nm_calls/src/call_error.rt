@@ -1,6 +1,7 @@
 //! Why a call did not answer.
 
 ghost use Rattle.std.specs.Prelude.{◌≡◌};
+ghost use Rattle.nm_calls.specs.declared.call_error.CallError.TheVariants.{Refused};
 ghost use Rattle.nm_calls.specs.Errors.{out_of_memory, of_machine};
 
 use nm_engine::MachineError;
@@ -43,6 +44,14 @@ impl<T: Drop> From<AllocFailed<T>> for CallError {
             runs: 0,
             policy_set: false,
         }
+    }
+}
+
+impl From<Errno> for CallError {
+    ghost from_gives = { λ errno e. e ≡ Refused errno };
+
+    fn from(errno: Errno) -> CallError {
+        CallError::Refused(errno)
     }
 }
 

@@ -1,13 +1,18 @@
-//! A batch of pages to be moved: what is refused, and the runs that it is cut into.
+//! A batch of pages to be moved: whether they may go there, and its runs, one after another.
 
-ghost use Rattle.std.specs.Prelude.{◌≡◌, ◌<◌, ◌≤◌, [], EachIndex, IfOk, OnOk, length, take, slice_index, vec_capacity};
+ghost use Rattle.std.specs.Prelude.{◌≡◌, ℕ, ◌<◌, ◌≤◌, ◌/◌, ◌&&◌, nat_lt, [], All, EachIndex, IfOk, OnOk, length, slice_index, vec_capacity};
+ghost use Rattle.std.specs.List.{sum_by};
 ghost use Rattle.nm_types.specs.Layout.{node_count};
-ghost use Rattle.nm_calls.specs.Moving.{failures, same_front, wanted_at, node_refusal, first_refusal, requests_of, IsFirst};
-ghost use Rattle.nm_calls.specs.Does.{Checks, Moves};
+ghost use Rattle.nm_types.specs.Nodes.{is_in};
+ghost use Rattle.nm_runs.specs.declared.Wanted.TheVariants.{At};
+ghost use Rattle.nm_runs.specs.Cut.{cut, stretches_of};
+ghost use Rattle.nm_runs.specs.Targets.{first_refusal, Checks};
+ghost use Rattle.nm_calls.specs.Moving.{failures, requests_of};
+ghost use Rattle.nm_calls.specs.Does.{Moves};
 
 use crate::call_error::CallError;
 use nm_engine::Machine;
-use nm_runs::{Run, Wanted};
+use nm_runs::{Request, Run, Wanted, check_batch, cut};
 use nm_types::{Errno, NodeId, NodeMask, Pid, Vpn};
 use std::alloc::{AllocError, Allocator};
 
@@ -20,90 +25,59 @@ pub struct Moved<A: Allocator + Copy + Send + Sync> {
     pub statuses: Vec<i32, A>,
 }
 
-/// Whether a page of a process that may use the allowed nodes may go to a node: ENODEV where there is no such node or
-/// it is offline, and then EACCES where it is not allowed.
-fn check_node<A: Allocator + Copy + Send + Sync>(
-    machine: &Machine<A>,
-    allowed: NodeMask,
-    node: NodeId,
-) -> Result<(), Errno>
-    ensures node { OnOk result (node < node_count (machine.now.layout)) }
-    ensures exact { Checks result (node_refusal machine.now allowed node) }
+/// The nodes of the machine that are online.
+fn online_nodes<A: Allocator + Copy + Send + Sync>(machine: &Machine<A>) -> NodeMask
+    ensures { (node : ℕ) → is_in result node ≡ (nat_lt node (node_count (machine.now.layout)) && is_in machine.now.online node) }
 {
-    if node.index() >= machine.node_count() || !machine.is_online(node) {
-        return Err(Errno::Enodev);
+    let mut nodes = NodeMask::new();
+    for number in 0..machine.node_count() {
+        let node = NodeId::new(number as u32);
+        if machine.is_online(node) {
+            nodes.insert(node);
+        }
     }
-    if !allowed.contains(node) {
-        return Err(Errno::Eacces);
-    }
-    Ok(())
+    nodes
 }
 
 /// Whether the pages of a process that may use the allowed nodes may go to these nodes; else the refusal of the first
-/// entry that is refused.
-pub(crate) fn check_nodes<A: Allocator + Copy + Send + Sync>(
+/// entry that is refused: ENODEV where there is no such node or it is offline, and then EACCES where it is not allowed.
+pub(crate) fn check_targets<A: Allocator + Copy + Send + Sync>(
     machine: &Machine<A>,
     allowed: NodeMask,
     nodes: &[u32],
 ) -> Result<(), Errno>
     ensures nodes { OnOk result (EachIndex nodes.now (λ k. slice_index nodes.now k < node_count (machine.now.layout))) }
-    ensures exact { Checks result (first_refusal machine.now allowed nodes.now) }
+    ensures exact { Checks result (first_refusal (node_count (machine.now.layout)) machine.now.online allowed nodes.now) }
 {
-    for node in nodes {
-        check_node(machine, allowed, NodeId::new(*node))?;
+    check_batch(machine.node_count(), online_nodes(machine), allowed, nodes)
+}
+
+/// The request for the page of a process at an address.
+fn request_of(pid: Pid, all: bool, address: u64, node: u32) -> Request
+    ensures { result ≡ record { target = node; wanted = At pid (address / 4096) all } }
+{
+    let vpn = Vpn::of_address(address);
+    Request {
+        target: NodeId::new(node),
+        wanted: Wanted::At { pid, vpn, all },
     }
-    Ok(())
 }
 
-/// How many nodes at the front are the first one.
-fn same_front(nodes: &[u32]) -> usize
-    requires { 0 < length nodes.now }
-    ensures front { result ≡ same_front nodes.now }
-    ensures some { 0 < result }
-    ensures within { result ≤ length nodes.now }
-{
-    let first = nodes[0];
-    nodes.iter().take_while(|node| **node == first).count()
-}
-
-/// The requests of a process at some addresses.
-fn wanted_at<A: Allocator + Copy + Send + Sync>(
-    alloc: A,
-    pid: Pid,
-    all: bool,
-    addresses: &[u64],
-) -> Result<Vec<Wanted, A>, AllocError>
-    ensures { IfOk result (λ wanted. wanted.items ≡ wanted_at pid all addresses.now) }
-{
-    let mut wanted = Vec::with_capacity(alloc, addresses.len())?;
-    for address in addresses {
-        let vpn = Vpn::of_address(*address);
-        wanted.push(Wanted::At { pid, vpn, all }).unwrap();
-    }
-    Ok(wanted)
-}
-
-/// The run at the front of a batch: its longest stretch of one target.
-fn first_run<A: Allocator + Copy + Send + Sync>(
+/// The requests of a process at some addresses, each with the node at its place.
+fn requests_of<A: Allocator + Copy + Send + Sync>(
     alloc: A,
     pid: Pid,
     all: bool,
     pages: &[u64],
     nodes: &[u32],
-) -> Result<Run<A>, AllocError>
-    requires some { 0 < length nodes.now }
-    requires paired { length pages.now ≡ length nodes.now }
-    ensures target { IfOk result (λ run. run.target ≡ slice_index nodes.now 0) }
-    ensures wanted { IfOk result (λ run. run.wanted.items ≡ wanted_at pid all (take (same_front nodes.now) pages.now)) }
-    ensures some { IfOk result (λ run. 0 < length run.wanted.items) }
-    ensures within { IfOk result (λ run. length run.wanted.items ≤ length pages.now) }
-    ensures first { IfOk result (λ run. IsFirst pid all pages.now nodes.now run.target run.wanted.items) }
+) -> Result<Vec<Request, A>, AllocError>
+    ensures { IfOk result (λ requests. requests.items ≡ requests_of pid all pages.now nodes.now) }
 {
-    let count = same_front(nodes);
-    Ok(Run {
-        target: NodeId::new(nodes[0]),
-        wanted: wanted_at(alloc, pid, all, &pages[..count])?,
-    })
+    pages
+        .iter()
+        .zip(nodes)
+        .map(|(address, node)| request_of(pid, all, *address, *node))
+        .collect(alloc)
 }
 
 /// How many entries failed.
@@ -116,45 +90,51 @@ fn failures(statuses: &[i32]) -> usize
         .count()
 }
 
-/// Makes the runs of a batch one after another, and puts the statuses into a list that has room for them. An error means
-/// that the host refused memory after so many runs.
-pub(crate) fn move_runs<A: Allocator + Copy + Send + Sync>(
+/// Makes runs one after another, and puts the statuses into a list that has room for them. An error means that the host
+/// refused memory after so many runs.
+fn move_runs<A: Allocator + Copy + Send + Sync>(
+    machine: &mut Machine<A>,
+    runs: &[Run<A>],
+    mut statuses: Vec<i32, A>,
+) -> Result<Moved<A>, CallError>
+    requires targets { All (λ run. run.target < node_count machine.old.layout) runs.now }
+    requires empty { statuses.items ≡ [] }
+    requires room { sum_by (λ run. length run.wanted.items) runs.now ≤ vec_capacity statuses }
+    ensures { Moves result machine.old machine.new (stretches_of runs.now) }
+{
+    for (k, run) in runs.iter().enumerate() {
+        let Ok(answered) = machine.run_flight(run) else {
+            return Err(CallError::HostMemory {
+                runs: k,
+                policy_set: false,
+            });
+        };
+        statuses.extend_from_slice(answered.as_slice()).unwrap();
+    }
+    Ok(Moved {
+        failed: failures(statuses.as_slice()),
+        statuses,
+    })
+}
+
+/// Moves the pages of a batch, run after run. All that is asked for is made ready before the first run starts. An error
+/// means that the host refused memory after so many runs.
+pub(crate) fn move_batch<A: Allocator + Copy + Send + Sync>(
     alloc: A,
     machine: &mut Machine<A>,
     pid: Pid,
     all: bool,
     pages: &[u64],
     nodes: &[u32],
-    mut statuses: Vec<i32, A>,
 ) -> Result<Moved<A>, CallError>
     requires nodes { EachIndex nodes.now (λ k. slice_index nodes.now k < node_count machine.old.layout) }
     requires paired { length pages.now ≡ length nodes.now }
-    requires few { length pages.now ≤ 16384 }
-    requires empty { statuses.items ≡ [] }
-    requires room { length pages.now ≤ vec_capacity statuses }
-    ensures { Moves result machine.old machine.new (requests_of pid all pages.now nodes.now) }
+    ensures { Moves result machine.old machine.new (cut (requests_of pid all pages.now nodes.now)) }
 {
-    let mut runs = 0;
-    let mut at = 0;
-    while at < pages.len() {
-        let memory = CallError::HostMemory {
-            runs,
-            policy_set: false,
-        };
-        let (_, pages_left) = pages.split_at(at);
-        let (_, nodes_left) = nodes.split_at(at);
-        let Ok(run) = first_run(alloc, pid, all, pages_left, nodes_left) else {
-            return Err(memory);
-        };
-        let Ok(answered) = machine.run_flight(&run) else {
-            return Err(memory);
-        };
-        statuses.extend_from_slice(answered.as_slice()).unwrap();
-        at += run.wanted.len();
-        runs += 1;
-    }
-    Ok(Moved {
-        failed: failures(statuses.as_slice()),
-        statuses,
-    })
+    let runs = cut(
+        alloc,
+        requests_of(alloc, pid, all, pages, nodes)?.as_slice(),
+    )?;
+    let statuses = Vec::with_capacity(alloc, pages.len())?;
+    move_runs(machine, runs.as_slice(), statuses)
 }

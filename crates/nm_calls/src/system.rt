@@ -1,16 +1,19 @@
 //! The machine, and the calls that processes make on it.
 
-ghost use Rattle.std.specs.Prelude.{◌≡◌, ◌≤◌, ◌==◌, ◌||◌, IsTrue, IfOk, length};
+ghost use Rattle.std.specs.Prelude.{◌≡◌, ◌≤◌, IfOk, length, Some};
 ghost use Rattle.nm_engine.specs.Effect.{new_machine};
 ghost use Rattle.nm_engine.specs.Audited.{audited};
-ghost use Rattle.nm_calls.specs.Calls.{Spawn, MapPages, ReadBytes, WriteBytes, MovePages, FreeList, Pagemap, Done, NewSegment, TheBytes, Statuses, Frames, Entries};
+ghost use Rattle.nm_calls.specs.Calls.{Spawn, MapPages, Attach, Unmap, Exit, Pin, Unpin, ReadBytes, WriteBytes, MovePages, Query, FreeList, Pagemap, Done, NewSegment, TheBytes, Statuses, Frames, Entries};
 ghost use Rattle.nm_calls.specs.Entries.{entries_mapped, entries_shown};
-ghost use Rattle.nm_calls.specs.Does.{Does};
+ghost use Rattle.nm_calls.specs.Outcome.{statuses_of, no_segment_refusal};
+ghost use Rattle.nm_calls.specs.Does.{Does, DoesOrRefuses};
 
+use crate::asking::{Permit, permit_of};
 use crate::call_error::CallError;
-use crate::moving::{Moved, check_nodes, move_runs};
-use nm_engine::{Entry, Machine, ProcessInfo};
-use nm_types::{Errno, FrameId, Geometry, MoveFlags, NodeId, NodeMask, Pid, Vpn};
+use crate::moving::{Moved, check_targets, move_batch};
+use nm_engine::{Entry, Machine, Totals};
+use nm_types::limits::MAX_SEGMENTS;
+use nm_types::{Errno, FrameId, Geometry, NodeId, NodeMask, Pid, Vpn};
 use std::alloc::{AllocError, Allocator};
 use std::marker::Model;
 
@@ -40,6 +43,34 @@ fn mapped_of<A: Allocator + Copy>(
         mapped.push(Mapped { vpn: *vpn, frame })?;
     }
     Ok(mapped)
+}
+
+/// Where the pages of a process at some addresses are.
+fn statuses_of<A: Allocator + Copy + Send + Sync>(
+    alloc: A,
+    machine: &Machine<A>,
+    pid: Pid,
+    pages: &[u64],
+) -> Result<Vec<i32, A>, AllocError>
+    ensures { IfOk result (λ statuses. statuses.items ≡ statuses_of machine.now pid pages.now) }
+{
+    let mut statuses = Vec::with_capacity(alloc, pages.len())?;
+    for address in pages {
+        let status = machine.node_status(pid, Vpn::of_address(*address));
+        statuses.push(status)?;
+    }
+    Ok(statuses)
+}
+
+/// Why no segment can be attached that has a number which none can have: ESRCH without such a process, and then EINVAL.
+fn no_segment<A: Allocator + Copy + Send + Sync>(machine: &Machine<A>, pid: Pid) -> Errno
+    ensures { no_segment_refusal machine.now pid ≡ Some result }
+{
+    if machine.process(pid).is_some() {
+        Errno::Einval
+    } else {
+        Errno::Esrch
+    }
 }
 
 /// A machine of nodes, processes and pages.
@@ -84,13 +115,74 @@ impl<A: Allocator + Copy + Send + Sync> System<A> {
         Ok(self.machine.spawn(pid, uid, home, allowed, privileged)?)
     }
 
-    /// Makes an area of so many pages and answers its segment's number. Refusals in order: ESRCH; EINVAL (an address in
-    /// mid-page, no page, past 2^47, an area there); ENOMEM (no segment number left).
+    /// Makes an area of so many pages over a new segment, private or shared, and answers the segment's number. Refusals in
+    /// order: ESRCH; EINVAL (an address in mid-page, no page, past 2^47, an area there); ENOMEM (no segment number left).
     #[tactic(auto, unfolding(crate::specs::Outcome::refused, crate::specs::Outcome::answered, crate::specs::Outcome::after, crate::specs::Outcome::runs_of))]
-    pub fn map(&mut self, pid: Pid, addr: u64, pages: u64) -> Result<u32, CallError>
-        ensures { Does NewSegment result self.old self.new (MapPages pid addr pages) }
+    pub fn map(&mut self, pid: Pid, addr: u64, pages: u64, shared: bool) -> Result<u32, CallError>
+        ensures { Does NewSegment result self.old self.new (MapPages pid addr pages shared) }
     {
-        Ok(self.machine.map(pid, addr, pages)?)
+        Ok(self.machine.map(pid, addr, pages, shared)?)
+    }
+
+    /// Makes an area over so many pages of a shared segment, from an offset in pages on. Refusals in order: ESRCH; EINVAL
+    /// (an address in mid-page, no page, past 2^47, an area there; or a segment that is unknown, gone or private, or ends
+    /// before the area would).
+    #[tactic(auto, unfolding(crate::specs::Outcome::refused, crate::specs::Outcome::answered, crate::specs::Outcome::after, crate::specs::Outcome::runs_of))]
+    pub fn attach(
+        &mut self,
+        pid: Pid,
+        addr: u64,
+        segment: u64,
+        offset: u64,
+        pages: u64,
+    ) -> Result<(), CallError>
+        ensures { Does (λ done. Done) result self.old self.new (Attach pid addr segment offset pages) }
+    {
+        if segment >= u64::from(MAX_SEGMENTS) {
+            return Err(CallError::Refused(no_segment(&self.machine, pid)));
+        }
+        Ok(
+            self.machine
+                .attach(pid, addr, segment as u32, offset, pages)?,
+        )
+    }
+
+    /// Lets go so many pages from an address on, where there may be holes. A page that no area of any process covers any
+    /// more loses its frame, which goes to the end of its node's free list, by ascending address. Refusals in order:
+    /// ESRCH; EINVAL (an address in mid-page, no page, past 2^47); EBUSY (an area shows a pinned page there).
+    #[tactic(auto, unfolding(crate::specs::Outcome::refused, crate::specs::Outcome::answered, crate::specs::Outcome::after, crate::specs::Outcome::runs_of))]
+    pub fn unmap(&mut self, pid: Pid, addr: u64, pages: u64) -> Result<(), CallError>
+        ensures { Does (λ done. Done) result self.old self.new (Unmap pid addr pages) }
+    {
+        Ok(self.machine.unmap(pid, addr, pages)?)
+    }
+
+    /// Ends a process, which lets go all its areas as by one `unmap`. Its pid may come again. Refusals in order: ESRCH;
+    /// EBUSY (an area of it shows a pinned page).
+    #[tactic(auto, unfolding(crate::specs::Outcome::refused, crate::specs::Outcome::answered, crate::specs::Outcome::after, crate::specs::Outcome::runs_of))]
+    pub fn exit(&mut self, pid: Pid) -> Result<(), CallError>
+        ensures { Does (λ done. Done) result self.old self.new (Exit pid) }
+    {
+        Ok(self.machine.exit(pid)?)
+    }
+
+    /// Pins the page at an address once more, and takes no memory: the page stays in its frame until it is unpinned as
+    /// often. Refusals in order: ESRCH; EFAULT (no area, or the page of zeros); ENOENT (nothing was touched there); EBUSY
+    /// (65,535 pins).
+    #[tactic(auto, unfolding(crate::specs::Outcome::refused, crate::specs::Outcome::answered, crate::specs::Outcome::after, crate::specs::Outcome::runs_of))]
+    pub fn pin(&mut self, pid: Pid, addr: u64) -> Result<(), Errno>
+        ensures { DoesOrRefuses (λ done. Done) result self.old self.new (Pin pid addr) }
+    {
+        self.machine.pin(pid, addr)
+    }
+
+    /// Takes one pin off the page at an address, whoever pinned it, and takes no memory. Refusals in order: ESRCH, EFAULT
+    /// and ENOENT as for `pin`; EINVAL (no pin).
+    #[tactic(auto, unfolding(crate::specs::Outcome::refused, crate::specs::Outcome::answered, crate::specs::Outcome::after, crate::specs::Outcome::runs_of))]
+    pub fn unpin(&mut self, pid: Pid, addr: u64) -> Result<(), Errno>
+        ensures { DoesOrRefuses (λ done. Done) result self.old self.new (Unpin pid addr) }
+    {
+        self.machine.unpin(pid, addr)
     }
 
     /// Reads 1 to 4,096 bytes inside one page. Refusals in order: ESRCH, EINVAL (no byte, or past the page's end),
@@ -110,13 +202,15 @@ impl<A: Allocator + Copy + Send + Sync> System<A> {
         Ok(self.machine.write(pid, addr, bytes)?)
     }
 
-    /// Moves pages, each named by an address in it, to the node of the same place in the list: for now the caller's
-    /// own pages (pid 0 is the caller) with MPOL_MF_MOVE. The list is cut into its longest stretches of one target, and
-    /// each is a run. Answers the status of each entry, and how many entries failed.
+    /// Moves pages, each named by an address in it, to the node of the same place in the list. Pid 0 is the caller. Flags
+    /// 0 act as MPOL_MF_MOVE (2): a page that another process sees stays; with MPOL_MF_MOVE_ALL (4) it moves. The list is
+    /// cut into its longest stretches of one target, and each is a run. Answers the status of each entry, and how many
+    /// entries failed.
     ///
-    /// Refusals in order, each before anything moves: ESRCH (unknown caller); then for the first entry that is refused
-    /// ENODEV (no such node, or it is offline) before EACCES (a node that the process may not use).
-    /// `HostMemory { runs, .. }` leaves the first runs made.
+    /// Refusals in order, each before anything moves: ESRCH (unknown caller); EINVAL (a flag other than the two); EPERM
+    /// (MPOL_MF_MOVE_ALL without privilege); ESRCH (no such process); EPERM (a process of another user, without
+    /// privilege); then for the first entry that is refused ENODEV (no such node, or it is offline) before EACCES (a node
+    /// that the process may not use, whoever calls). `HostMemory { runs, .. }` leaves the first runs made.
     #[tactic(auto, unfolding(crate::specs::Outcome::refused, crate::specs::Outcome::answered, crate::specs::Outcome::after, crate::specs::Outcome::runs_of))]
     pub fn move_pages(
         &mut self,
@@ -126,31 +220,43 @@ impl<A: Allocator + Copy + Send + Sync> System<A> {
         nodes: &[u32],
         flags: u32,
     ) -> Result<Moved<A>, CallError>
-        requires own { IsTrue (pid == 0 || pid == caller) }
-        requires moves { flags ≡ 2 }
         requires paired { length pages.now ≡ length nodes.now }
         requires few { length pages.now ≤ 16384 }
         ensures { Does (λ moved. Statuses moved.failed moved.statuses.items) result self.old self.new (MovePages caller pid pages.now nodes.now flags) }
     {
-        let Some(process) = self.machine.process(caller) else {
-            return Err(CallError::Refused(Errno::Esrch));
-        };
-        let ProcessInfo { allowed, .. } = process;
-        if let Err(errno) = check_nodes(&self.machine, allowed, nodes) {
-            return Err(CallError::Refused(errno));
-        }
-        let owner = if pid.number() == 0 { caller } else { pid };
-        let all = flags & MoveFlags::MOVE_ALL != 0;
-        let statuses = Vec::with_capacity(self.alloc, pages.len())?;
-        move_runs(
-            self.alloc,
-            &mut self.machine,
-            owner,
+        let permit = permit_of(&self.machine, caller, pid, flags)?;
+        let Permit {
+            pid: owner,
+            allowed,
             all,
-            pages,
-            nodes,
-            statuses,
-        )
+        } = permit;
+        check_targets(&self.machine, allowed, nodes)?;
+        move_batch(self.alloc, &mut self.machine, owner, all, pages, nodes)
+    }
+
+    /// Where pages are, each named by an address in it: the number of its node, -14 (EFAULT) without an area or for the
+    /// page of zeros, -2 (ENOENT) where nothing was touched. Pid 0 is the caller. Refusals as for `move_pages`, but for
+    /// those of entries: ESRCH, EINVAL, EPERM, ESRCH, EPERM.
+    #[tactic(auto, unfolding(crate::specs::Outcome::refused, crate::specs::Outcome::answered, crate::specs::Outcome::after, crate::specs::Outcome::runs_of))]
+    pub fn query(
+        &self,
+        caller: Pid,
+        pid: Pid,
+        pages: &[u64],
+        flags: u32,
+    ) -> Result<Vec<i32, A>, CallError>
+        ensures { Does (λ statuses. Statuses 0 statuses.items) result self.now self.now (Query caller pid pages.now flags) }
+    {
+        let permit = permit_of(&self.machine, caller, pid, flags)?;
+        Ok(statuses_of(self.alloc, &self.machine, permit.pid, pages)?)
+    }
+
+    /// How many pages moved, and how many entries failed, so far.
+    pub fn vmstat(&self) -> Totals
+        ensures moved { result.moved ≡ self.now.moved }
+        ensures failed { result.failed ≡ self.now.failed }
+    {
+        self.machine.totals()
     }
 
     /// The free frames of a node, the front first. Refusal: EINVAL (no such node).

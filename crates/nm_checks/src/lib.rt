@@ -4,6 +4,10 @@
 #[cfg(test)]
 mod areas;
 #[cfg(test)]
+mod batches;
+#[cfg(test)]
+mod limits;
+#[cfg(test)]
 mod machine;
 #[cfg(test)]
 mod policies;

@@ -31,7 +31,7 @@ pub(crate) fn both_nodes() -> NodeMask {
 /// segment.
 pub(crate) fn begin(machine: &mut Machine<Heap<'_>>) -> Result<u32, MachineError> {
     machine.spawn(Pid::new(1), 100, NodeId::new(0), both_nodes(), false)?;
-    machine.map(Pid::new(1), 0x10000, 5)
+    machine.map(Pid::new(1), 0x10000, 5, false)
 }
 
 /// Whether process 1 has its pages, from the first on, in these frames and no further ones.
@@ -64,7 +64,7 @@ fn processes_are_known(rt: HostRuntime) -> Result<(), Fail> {
     assert!(rt; begin(&mut machine)? == 0);
     assert!(rt; is_known(&machine));
     assert!(rt; machine.process(Pid::new(2)).is_none());
-    let refused = machine.map(Pid::new(2), 0x10000, 1);
+    let refused = machine.map(Pid::new(2), 0x10000, 1, false);
     assert!(rt; refused.err() == Some(MachineError::Refused(Errno::Esrch)));
     Ok(())
 }

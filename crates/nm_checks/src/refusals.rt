@@ -1,15 +1,18 @@
 use crate::machine::{Heap, both_nodes, two_nodes};
-use nm_engine::{Entry, Machine, MachineError, Run, Totals, Wanted};
+use nm_engine::{Entry, Machine, MachineError, Totals};
 use nm_refusing::Refusing;
+use nm_runs::{Run, Wanted};
 use nm_types::{FrameId, NodeId, Pid, Policy, Vpn};
 use std::alloc::AllocError;
 use std::process::Abort;
 use std::test::Fail;
 
-/// What can be seen of a machine of two nodes and process 1.
+/// What can be seen of a machine of two nodes and the processes 1 and 2.
 #[derive(Drop)]
 struct Picture<'a> {
-    alive: bool,
+    alive: [bool; 2],
+    /// What is at the first page of each area.
+    statuses: [i32; 3],
     first: Vec<FrameId, Heap<'a>>,
     second: Vec<FrameId, Heap<'a>>,
     entries: Vec<(Vpn, Entry), Heap<'a>>,
@@ -19,6 +22,7 @@ struct Picture<'a> {
 impl Picture<'_> {
     fn is_same(&self, other: &Self) -> bool {
         self.alive == other.alive
+            && self.statuses == other.statuses
             && self.first.as_slice() == other.first.as_slice()
             && self.second.as_slice() == other.second.as_slice()
             && self.entries.as_slice() == other.entries.as_slice()
@@ -26,12 +30,16 @@ impl Picture<'_> {
     }
 }
 
-/// The calls that move three pages of a process to another node, and look at them. The second page is an area of its
-/// own.
+/// A call on the machine.
 #[derive(Clone, Copy, Debug)]
 enum Call {
-    Spawn,
+    Spawn(u32),
     Map,
+    MapShared,
+    Attach,
+    ReadOther,
+    Unmap,
+    Exit(u32),
     Policy(u64),
     Write(u64, u8),
     Move,
@@ -41,8 +49,10 @@ enum Call {
     Audit,
 }
 
+/// The calls that move three pages of a process to another node, and look at them. The second page is an area of its
+/// own.
 const CALLS: [Call; 13] = [
-    Call::Spawn,
+    Call::Spawn(1),
     Call::Map,
     Call::Policy(0x11000),
     Call::Write(0x10000, 0x61),
@@ -55,6 +65,22 @@ const CALLS: [Call; 13] = [
     Call::Read(0x11000),
     Call::Read(0x12000),
     Call::Audit,
+];
+
+/// Calls on three pages that two processes see, and which go with the second of them.
+const SHARING: [Call; 12] = [
+    Call::Spawn(1),
+    Call::Spawn(2),
+    Call::Map,
+    Call::Write(0x10000, 0x61),
+    Call::MapShared,
+    Call::Write(0x20000, 0x62),
+    Call::Attach,
+    Call::ReadOther,
+    Call::Move,
+    Call::Unmap,
+    Call::Exit(1),
+    Call::Exit(2),
 ];
 
 /// The page of process 1 at a page number.
@@ -94,8 +120,13 @@ fn perform<'a>(
 ) -> Result<(), MachineError> {
     let one = Pid::new(1);
     match call {
-        Call::Spawn => { machine.spawn(one, 100, NodeId::new(0), both_nodes(), false) }
-        Call::Map => machine.map(one, 0x10000, 3).map(|_| ()),
+        Call::Spawn(pid) => machine.spawn(Pid::new(pid), 100, NodeId::new(0), both_nodes(), false),
+        Call::Map => machine.map(one, 0x10000, 3, false).map(|_| ()),
+        Call::MapShared => machine.map(one, 0x20000, 3, true).map(|_| ()),
+        Call::Attach => machine.attach(Pid::new(2), 0x30000, 1, 0, 3),
+        Call::ReadOther => machine.read(Pid::new(2), 0x30000, 1).map(|_| ()),
+        Call::Unmap => machine.unmap(one, 0x11000, 16),
+        Call::Exit(pid) => machine.exit(Pid::new(pid)),
         Call::Policy(addr) => machine.set_policy(one, addr, 4096, Policy::Local),
         Call::Write(addr, byte) => machine.write(one, addr, [byte].as_slice()),
         Call::Move => {
@@ -114,22 +145,47 @@ fn perform<'a>(
     }
 }
 
+/// The entries of a process, and none where it is not alive.
+fn entries_of<'a>(
+    heap: Heap<'a>,
+    machine: &Machine<Heap<'a>>,
+    pid: Pid,
+) -> Result<Vec<(Vpn, Entry), Heap<'a>>, MachineError> {
+    if machine.process(pid).is_none() {
+        return Ok(Vec::new(heap));
+    }
+    machine.entries(pid)
+}
+
+/// The entries of process 1, and then those of process 2.
+fn all_entries<'a>(
+    heap: Heap<'a>,
+    machine: &Machine<Heap<'a>>,
+) -> Result<Vec<(Vpn, Entry), Heap<'a>>, MachineError> {
+    let mut entries = entries_of(heap, machine, Pid::new(1))?;
+    let others = entries_of(heap, machine, Pid::new(2))?;
+    entries.extend_from_slice(others.as_slice())?;
+    Ok(entries)
+}
+
 fn take_picture<'a>(
     heap: Heap<'a>,
     machine: &Machine<Heap<'a>>,
 ) -> Result<Picture<'a>, MachineError> {
     let one = Pid::new(1);
-    let alive = machine.process(one).is_some();
-    let entries = if alive {
-        machine.entries(one)?
-    } else {
-        Vec::new(heap)
-    };
+    let two = Pid::new(2);
+    let first = machine.node_status(one, Vpn::new(16));
+    let shared = machine.node_status(one, Vpn::new(32));
+    let attached = machine.node_status(two, Vpn::new(48));
     Ok(Picture {
-        alive,
+        alive: [
+            machine.process(one).is_some(),
+            machine.process(two).is_some(),
+        ],
+        statuses: [first, shared, attached],
         first: machine.free_list(NodeId::new(0))?,
         second: machine.free_list(NodeId::new(1))?,
-        entries,
+        entries: all_entries(heap, machine)?,
         totals: machine.totals(),
     })
 }
@@ -184,16 +240,17 @@ fn refuse_each<'a>(
     Err(MachineError::HostMemory)
 }
 
-/// Makes each call, after each of its allocations was refused in turn. Gives how many refusals there were.
+/// Makes each of some calls, after each of its allocations was refused in turn. Gives how many refusals there were.
 fn refuse_all<'a>(
     rt: &impl Abort,
     heap: Heap<'a>,
     machine: &mut Machine<Heap<'a>>,
     run: &Run<Heap<'a>>,
+    calls: &[Call],
 ) -> Result<u64, MachineError> {
     let mut refused = 0u64;
-    for call in CALLS {
-        let more = refuse_each(rt, heap, machine, run, call)?;
+    for call in calls {
+        let more = refuse_each(rt, heap, machine, run, *call)?;
         refused = refused.saturating_add(more);
     }
     Ok(refused)
@@ -226,7 +283,7 @@ fn refused_calls_leave_the_machine(rt: HostRuntime) -> Result<(), Fail> {
     let heap = Refusing::new(rt.alloc());
     let mut machine = two_nodes(&heap)?;
     let run = to_the_other_node(&heap)?;
-    let refused = refuse_all(&rt, &heap, &mut machine, &run)?;
+    let refused = refuse_all(&rt, &heap, &mut machine, &run, CALLS.as_slice())?;
     assert!(rt; refused > 12, "{refused} refusals");
     assert!(rt; has_free(&machine, 0, [3, 0, 1, 2].as_slice())?);
     assert!(rt; has_free(&machine, 1, [7].as_slice())?);
@@ -238,6 +295,20 @@ fn refused_calls_leave_the_machine(rt: HostRuntime) -> Result<(), Fail> {
             }
     );
     assert!(rt; reads(&mut machine, 0x62)?);
+    Ok(())
+}
+
+/// Each allocation of the calls on shared pages is refused in turn, and in the end every frame is free: the private page
+/// moved to frame 4 and was freed first, then the shared one, which the second process had last.
+#[test]
+fn refused_calls_leave_shared_pages(rt: HostRuntime) -> Result<(), Fail> {
+    let heap = Refusing::new(rt.alloc());
+    let mut machine = two_nodes(&heap)?;
+    let run = to_the_other_node(&heap)?;
+    let refused = refuse_all(&rt, &heap, &mut machine, &run, SHARING.as_slice())?;
+    assert!(rt; refused > 12, "{refused} refusals");
+    assert!(rt; has_free(&machine, 0, [2, 3, 0, 1].as_slice())?);
+    assert!(rt; has_free(&machine, 1, [5, 6, 7, 4].as_slice())?);
     Ok(())
 }
 

@@ -7,7 +7,7 @@ use nm_types::Geometry;
 use std::alloc::{AllocError, Global};
 use std::test::Fail;
 
-type Heap<'a> = &'a Refusing<Global>;
+pub(crate) type Heap<'a> = &'a Refusing<Global>;
 
 /// Three pages of one process, written on node 0, moved to node 1 and read there.
 const TRACE: &str =
@@ -80,7 +80,7 @@ fn refused_runs_write_a_front(rt: HostRuntime) -> Result<(), Fail> {
 }
 
 /// A system of two nodes of four frames, at distance 20.
-fn two_nodes(heap: Heap<'_>) -> Result<System<Heap<'_>>, AllocError> {
+pub(crate) fn two_nodes(heap: Heap<'_>) -> Result<System<Heap<'_>>, AllocError> {
     let near = vec![in heap; 10u8, 20u8]?;
     let far = vec![in heap; 20u8, 10u8]?;
     match Geometry::new(vec![in heap; 4u32, 4u32]?, vec![in heap; near, far]?) {

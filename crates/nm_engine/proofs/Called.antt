@@ -112,7 +112,7 @@ spawn_sound s pid uid home allowed privileged h fine =
     )) h.areas)
 
 -- another number of pins of a page
-repinned_sound : (s : State) (l : List ℕ) (p : Page) (n : ℕ) → IsSoundAmid s l → IsSoundAmid (record s { pins = replace page_cmp s.pins p n }) l
+pub repinned_sound : (s : State) (l : List ℕ) (p : Page) (n : ℕ) → IsSoundAmid s l → IsSoundAmid (record s { pins = replace page_cmp s.pins p n }) l
 repinned_sound s l p n h =
     record {
       order = record { processes = h.order.processes; sees = h.order.sees; areas = h.order.areas; place = h.order.place };

@@ -1,6 +1,6 @@
 -- Areas that are split at a page number.
 use Rattle.std.proofs.Common.{◌≡◌, ℕ, ◌+◌, ◌-◌, ◌≤◌, ◌<◌, [], ◌∷◌, ◌++◌, true, false, cond, refl, sym, ap, subst, ◌∙◌, arith, inl, inr, eq-eqb}
-use Rattle.std.specs.Prelude.{Option, Some, None, IfSome, nat_lt, ◌==◌, ◌⊎◌, min, max}
+use Rattle.std.specs.Prelude.{Some, None, nat_lt, ◌==◌, ◌⊎◌, min, max}
 use Rattle.std.specs.List.{AllByRecursion}
 use Rattle.std.specs.List.Sorted.{IsStrictlySortedBy}
 use Rattle.std.specs.Map.{keys_of}
@@ -11,19 +11,17 @@ use Rattle.std.proofs.lemmas.Bool.{eqb-true, ltb-true, ltb-false, lt-ltb, false_
 use Rattle.std.proofs.lemmas.Map.Keys.{sorted_head, sorted_tail}
 use Rattle.nm_types.specs.declared.page.Page.{Page}
 use Rattle.nm_types.specs.declared.area.Area.{Area}
-use Rattle.nm_types.specs.declared.area.Segment.{Segment}
 use Rattle.nm_types.specs.Map.{Map, set, replace, without, spot_cmp}
-use Rattle.nm_types.specs.State.{Placed, covers, area_over}
+use Rattle.nm_types.specs.State.{Placed, covers}
 use Rattle.nm_engine.specs.Effect.{before, behind, parts_outside}
 use Rattle.nm_engine.specs.Sound.{AreasAreApart}
-use Rattle.nm_engine.specs.Tables.{IsSomePages}
-use Rattle.nm_engine.specs.Policing.{split_at, with_areas}
 use Rattle.nm_engine.proofs.Maps.{spot_cmp_total}
-use Rattle.nm_engine.proofs.Areas.{behind_last, covers_parts, covers_from}
-use Rattle.nm_engine.proofs.Parted.{Among, All-among, all_from_among, among_over, over_among}
+use Rattle.nm_engine.proofs.Areas.{behind_last, covers_from}
+use Rattle.nm_engine.proofs.Parted.{Among, All-among, all_from_among}
 use Rattle.nm_engine.proofs.Split.{less_to, less_from, among_keys}
 use Rattle.nm_engine.proofs.Overs.{spot_same, spot_behind}
-use Rattle.nm_engine.specs.Mapped.{Mapped}
+use Rattle.nm_areas.specs.Mapped.{IsSomePages}
+use Rattle.nm_areas.specs.Policing.{split_at}
 
 true_false : true ≡ false → ⊥
 true_false e = cc
@@ -252,48 +250,3 @@ some_is e = cc
 
 none_some : {V : Type 0} {v : V} → None ≡ Some v → ⊥
 none_some e = cc
-
--- there is nothing to split
-pub split_nothing : (pid at : ℕ) (areas : Map (ℕ × ℕ) Area) (o : Option Placed) → AllByRecursion IsSomePages areas → AreasAreApart areas → o ≡ area_over areas pid at → IfSome o (λ e. at ≤ e.0.1) → split_at pid at areas ≡ areas
-split_nothing pid at areas None some apart h begins =
-    split_none pid at areas some (λ a m own low high. none_some (h ∙ over_among areas pid at a apart m (covers_from a pid at own (omega (arith, low)) high)))
-split_nothing pid at areas (Some e) some apart h begins =
-    split_none pid at areas some (λ a m own low high.
-    let same : e ≡ a = some_is (h ∙ over_among areas pid at a apart m (covers_from a pid at own (omega (arith, low)) high)) in
-    let start : e.0.1 ≡ a.0.1 = ap (λ (y : Placed). y.0.1) same in
-    absurd (omega (arith, start, low, begins)))
-
--- it is there, begins no later and ends behind
-pub over_facts : (pid at : ℕ) (areas : Map (ℕ × ℕ) Area) (start : ℕ) (area : Area) → Some ((pid, start), area) ≡ area_over areas pid at → Among ((pid, start), area) areas × (start ≤ at) × (at < start + area.pages)
-over_facts pid at areas start area h =
-    let found = among_over areas pid at ((pid, start), area) (sym h) in
-    let parts = covers_parts ((pid, start), area) pid at found.1 in
-    (found.0, parts.1, parts.2)
-
--- the areas after an insert and a shorter area in front
-pub split_made : (pid at start n : ℕ) (area : Area) (old mid new areas : Map (ℕ × ℕ) Area) → old ≡ areas → Some ((pid, start), area) ≡ area_over areas pid at → n ≡ at - start → start < at
-    → AllByRecursion IsSomePages areas → AreasAreApart areas → IsStrictlySortedBy spot_cmp (keys_of old)
-    → mid ≡ set spot_cmp old (pid, at) (record { pages = area.pages - n; policy = area.policy; page = record { segment = area.page.segment; index = area.page.index + n } })
-    → new ≡ replace spot_cmp mid (pid, start) (record { pages = n; policy = area.policy; page = area.page }) → new ≡ split_at pid at areas
-split_made pid at start n area old mid new areas is over size low some apart sorted inserted put =
-    let a : Placed = ((pid, start), area) in
-    let facts = over_facts pid at areas start area over in
-    put ∙ ap (λ m. replace spot_cmp m (pid, start) (record { pages = n; policy = area.policy; page = area.page })) inserted
-    ∙ ap (λ m. replace spot_cmp (set spot_cmp m (pid, at) (record { pages = area.pages - n; policy = area.policy; page = record { segment = area.page.segment; index = area.page.index + n } })) (pid, start) (record { pages = n; policy = area.policy; page = area.page })) is
-    ∙ ap (λ (k : ℕ). replace spot_cmp (set spot_cmp areas (pid, at) (record { pages = area.pages - k; policy = area.policy; page = record { segment = area.page.segment; index = area.page.index + k } })) (pid, start) (record { pages = k; policy = area.policy; page = area.page })) size
-    ∙ split_is pid at a refl low facts.2 areas some apart (subst (λ m. IsStrictlySortedBy spot_cmp (keys_of m)) is sorted) facts.0
-
--- the areas alone have changed
-pub areas_alone : (old new next_areas : Map (ℕ × ℕ) Area) (segments : Map ℕ Segment) (next : ℕ) (m : Mapped) → record { areas = old; segments = segments; next = next } ≡ m → new ≡ next_areas
-    → record { areas = new; segments = segments; next = next } ≡ with_areas m next_areas
-areas_alone old new next_areas segments next m is change =
-    ap (λ (x : Map (ℕ × ℕ) Area). record { areas = x; segments = segments; next = next }) change ∙ ap (λ (x : Mapped). with_areas x next_areas) is
-
--- a split that is undone
-pub undone : (pid at start : ℕ) (area : Area) (now split back : Mapped) → start < at → area_over now.areas pid at ≡ Some ((pid, start), area)
-    → AllByRecursion IsSomePages now.areas → AreasAreApart now.areas → IsStrictlySortedBy spot_cmp (keys_of now.areas) → split ≡ with_areas now (split_at pid at now.areas)
-    → back ≡ with_areas split (replace spot_cmp (without spot_cmp split.areas (pid, at)) (pid, start) area) → back ≡ now
-undone pid at start area now split back low over some apart sorted is undo =
-    let facts = over_facts pid at now.areas start area (sym over) in
-    undo ∙ ap (λ (m : Mapped). with_areas m (replace spot_cmp (without spot_cmp m.areas (pid, at)) (pid, start) area)) is
-    ∙ ap (with_areas now) (split_back pid at ((pid, start), area) refl low facts.2 now.areas some apart sorted facts.0)

@@ -52,7 +52,7 @@ covered_among (x ∷ areas) p h =
       | false ↦ λ b k. let more = covered_among areas p k in (more.0, inr more.1, more.2)
     ] refl h
 
-among_any : (test : Placed → Bool) (areas : List Placed) (a : Placed) → Among a areas → test a ≡ true → list_any test areas ≡ true
+pub among_any : (test : Placed → Bool) (areas : List Placed) (a : Placed) → Among a areas → test a ≡ true → list_any test areas ≡ true
 among_any test [] a m h = absurd m
 among_any test (x ∷ areas) a (inl e) h = or_left _ _ (ap test (sym e) ∙ h)
 among_any test (x ∷ areas) a (inr m) h = or_right _ _ (among_any test areas a m h)
@@ -71,7 +71,7 @@ covers_shown a p h =
     let same : a.1.page.index + (shown_number a p - a.0.1) ≡ p.index = omega (arith, low) in
     (covers_from a a.0.0 (shown_number a p) refl (omega arith) (omega (arith, low, high)), λ i. record { segment = seg i; index = same i })
 
-listed_from : (segment : ℕ) (n index : ℕ) (p : Page) → segment ≡ p.segment → index ≤ p.index → p.index < index + n → Listed p (pages_from segment index n)
+pub listed_from : (segment : ℕ) (n index : ℕ) (p : Page) → segment ≡ p.segment → index ≤ p.index → p.index < index + n → Listed p (pages_from segment index n)
 listed_from segment zero index p e low high = absurd (omega arith)
 listed_from segment (suc n) index p e low high =
     elim (index == p.index) as (λ b. (index == p.index) ≡ b → Listed p (pages_from segment index (suc n))) [
@@ -181,15 +181,6 @@ module _ (s : State) (l : List ℕ) (h : IsSoundAmid s l) (pid first end : ℕ) 
             let m = flat_among (parts_outside pid first end) s.areas a cut.0 found.0 cut.1 in
             ap (λ o. page_shown o w) (over_among areas q w cut.0 (flat_apart pid first end range s.areas some h.disjoint) m cut.2) ∙ ap Some (part_page pid first end a cut.0 q w part cut.2) ∙ k
       ] refl e
-
-  covered_back : (p : Page) → is_covered areas p ≡ true → is_covered s.areas p ≡ true
-  covered_back p c =
-      let found = covered_among areas p c in
-      let a = whose found.0 found.1 in
-      let at = covers_shown found.0 p found.2 in
-      let w = shown_number found.0 p in
-      let over = part_covers pid first end a.0 found.0 found.0.0.0 w a.2 at.0 in
-      among_any (covers_page p) s.areas a.0 a.1 (subst (λ r. covers_page r a.0 ≡ true) (sym (part_page pid first end a.0 found.0 found.0.0.0 w a.2 at.0) ∙ at.1) (shows_within a.0 found.0.0.0 w over))
 
   still_covered : (a : Placed) (p : Page) → Among a s.areas → covers_page p a ≡ true → Out a.0.0 (shown_number a p) → is_covered areas p ≡ true
   still_covered a p m c out =
@@ -509,3 +500,8 @@ module _ (s : State) (h : IsSound s) (pid : ℕ) where
       (all_from_among (IsWhole (record rest { processes = without nat_cmp rest.processes pid })) rest.areas (λ a m.
       let whole = All-among (IsWhole rest) rest.areas a rest_sound.areas m in
       (whole.0, whole.1, still_there a m, whole.3)))
+
+  -- it sees nothing before it is no more
+  pub sees_none : (w : ℕ) → sight_at (dropped s pid 0 (2 ^ 35)) pid w ≡ None
+  unfolding rest
+  sees_none = nothing_seen

@@ -93,7 +93,7 @@ others (u ∷ w ∷ us) pid s h =
       | false ↦ λ b. two (length us)
     ] refl
 
-look_tells : (s : State) (pid : ℕ) (p : Page) (o : Option Process) (v : ℕ) → IsStrictlySortedBy nat_cmp (keys_of s.processes) → get nat_cmp s.processes pid ≡ o → sight_in o v ≡ Some (Sees p)
+pub look_tells : (s : State) (pid : ℕ) (p : Page) (o : Option Process) (v : ℕ) → IsStrictlySortedBy nat_cmp (keys_of s.processes) → get nat_cmp s.processes pid ≡ o → sight_in o v ≡ Some (Sees p)
     → nat_lt 1 (length (users s p)) ≡ others_see s pid p
 look_tells s pid p None v order h k = cc
 look_tells s pid p (Some q) v order h k =

@@ -204,3 +204,8 @@ module _ {K V : Type 0} {R : K → K → Ordering} (o : IsTotalOrder R) (exact :
         | Equal ↦ λ r c. absurd (none_some (sym c))
         | Greater ↦ λ r c. ap (λ r. cond (is_eq r) (set R m k v) (e ∷ without R (set R m k v) k)) r ∙ ap (λ es. e ∷ es) (without-set m k v (sorted_tail R e.0 (keys_of m) s) c)
       ] refl h
+
+-- the keys stay where each value is changed
+pub keys-values : {K V W : Type 0} (F : K → V → W) (m : Map K V) → keys_of (with_values F m) ≡ keys_of m
+keys-values F [] = refl
+keys-values F (e ∷ m) = ap (λ ks. e.0 ∷ ks) (keys-values F m)

@@ -1,35 +1,24 @@
 -- What the pages of a run make of a machine's parts.
-use Rattle.std.proofs.Common.{◌≡◌, ℕ, suc, zero, ◌+◌, ◌-◌, ◌<◌, ◌≤◌, Bool, false, not, ◌&&◌, List, [], ◌∷◌, ◌++◌, length, drop, refl, sym, ap, subst, ◌∙◌, arith, append_assoc, length-append, ℤ}
-use Rattle.std.specs.Prelude.{Option, Some, pos, ◌==◌, if◌then◌else◌, slice_get, slice_index, slice_index_or}
+use Rattle.std.proofs.Common.{◌≡◌, ℕ, suc, zero, ◌+◌, ◌-◌, ◌<◌, ◌≤◌, List, [], ◌∷◌, ◌++◌, length, drop, refl, sym, ap, subst, ◌∙◌, arith, append_assoc, length-append, ℤ}
+use Rattle.std.specs.Prelude.{Some, slice_get, slice_index, slice_index_or}
 use Rattle.std.proofs.Math.Seq.{drop-cons}
-use Rattle.nm_types.specs.declared.errno.Errno.TheVariants.{Ebusy, Enomem}
 use Rattle.nm_types.specs.declared.page.Page.{Page}
 use Rattle.nm_types.specs.Map.{Map, get, page_cmp}
-use Rattle.nm_types.specs.Layout.{node_of}
-use Rattle.nm_types.specs.declared.sight.Sight.TheVariants.{Sees}
-use Rattle.nm_types.specs.State.{Process, State, page_at, free_list}
+use Rattle.nm_types.specs.Layout.{frame_count}
+use Rattle.nm_types.specs.State.{Process, State, free_list}
 use Rattle.nm_runs.specs.declared.Class.{Class}
 use Rattle.nm_runs.specs.declared.Class.TheVariants.{Status, Move}
 use Rattle.nm_runs.specs.declared.Wanted.{Wanted}
-use Rattle.nm_runs.specs.Seen.{sight_at, is_pinned}
-use Rattle.nm_runs.specs.Status.{code, page_status, status_under, status_or_move}
+use Rattle.nm_runs.specs.Status.{status_or_move}
 use Rattle.nm_engine.specs.Run.{moved_page, decided, one, each, left, failures, with_all_free, added, counted}
 use Rattle.nm_engine.specs.Stocked.{Stocked, IsStocked, free_of, restock_page, free_all, stretch_of}
-use Rattle.nm_engine.specs.Mapped.{Mapped}
+use Rattle.nm_areas.specs.Table.{Table}
 use Rattle.nm_engine.specs.Parts.{shown}
 use Rattle.nm_engine.specs.Sound.{IsSoundAmid}
 use Rattle.nm_engine.specs.Amid.{IsKept}
 use Rattle.nm_engine.proofs.Frames.{left-append}
 use Rattle.nm_engine.proofs.Moved.{decided_sound, freed_sound, counted_sound}
-use Rattle.nm_engine.proofs.Shows.{restocked_shows, freed_shows, alone}
-
--- a page on another node that is not pinned is to move
-pub page_moves : (s : State) (target : ℕ) (p : Page) (o : Option ℕ) (from : ℕ) → Some from ≡ o → (node_of s.layout from == target) ≡ false → is_pinned s p ≡ false
-    → Move p from ≡ page_status s target false p o
-page_moves s target p o from placed other free =
-    sym (ap (λ b. if b then Status (code Ebusy) else Move p from) free)
-    ∙ sym (ap (λ b. if b then Status (pos target) else (if is_pinned s p then Status (code Ebusy) else Move p from)) other)
-    ∙ ap (λ o. page_status s target false p o) placed
+use Rattle.nm_engine.proofs.Shows.{restocked_shows, freed_shows}
 
 -- the bytes from one place up to another
 pub stretch_step : (bytes : List ℕ) (k end : ℕ) → k < end → stretch_of bytes k (end - k) ≡ slice_index bytes k ∷ stretch_of bytes (k + 1) (end - (k + 1))
@@ -58,11 +47,15 @@ front_there : (xs : List ℕ) → 0 < length xs → xs ≡ slice_index xs 0 ∷ 
 front_there [] some = absurd (omega (arith, some))
 front_there (x ∷ xs) some = refl
 
+pub some_front : (xs : List ℕ) (x : ℕ) → slice_get xs 0 ≡ Some x → 0 < length xs
+some_front [] x e = cc
+some_front (y ∷ xs) x e = omega arith
+
 -- the frame that a page leaves
 pub move_left : (s : State) (page : Page) (from target : ℕ) → 0 < length (free_list s target) → from ∷ [] ≡ left (decided s target (Move page from)).taken
 move_left s page from target some = sym (ap (λ fs. left (moved_page s target page from fs).taken) (front_there (free_list s target) some))
 
-module _ (tasks : Map ℕ Process) (m : Mapped) (x : Stocked) (online : List ℕ) (moved failed : ℕ) where
+module _ (tasks : Map ℕ Process) (m : Table) (x : Stocked) (online : List ℕ) (moved failed : ℕ) where
   -- a run's end
   pub end_shows : (y : Stocked) (n k total failures : ℕ) → y ≡ free_all x → total ≡ added moved n → failures ≡ added failed k
       → shown tasks m y online total failures ≡ counted (with_all_free (shown tasks m x online moved failed) x.vacated) n k
@@ -74,15 +67,14 @@ module _ (tasks : Map ℕ Process) (m : Mapped) (x : Stocked) (online : List ℕ
       ∙ ap (λ n. record s { moved = n; failed = failures }) (t ∙ ap (λ (s : State). added s.moved n) same)
       ∙ ap (λ k. record s { moved = added s.moved n; failed = k }) (f ∙ ap (λ (s : State). added s.failed k) same)
 
-  pub end_kept : (y : Stocked) (n k total failures : ℕ) → y ≡ free_all x → total ≡ added moved n → failures ≡ added failed k
-      → IsKept (shown tasks m x online moved failed) x.vacated → IsKept (shown tasks m y online total failures) y.vacated
+  pub end_kept : {c : ℕ} (y : Stocked) (n k total failures : ℕ) → y ≡ free_all x → total ≡ added moved n → failures ≡ added failed k
+      → IsKept (shown tasks m x online moved failed) x.vacated c → IsKept (shown tasks m y online total failures) y.vacated c
   end_kept y n k total failures freed t f h =
       let s = shown tasks m x online moved failed in
       record {
         sound = subst (λ l. IsSoundAmid (shown tasks m y online total failures) l) (sym (ap (λ (y : Stocked). y.vacated) freed))
             (subst (λ s. IsSoundAmid s []) (sym (end_shows y n k total failures freed t f)) (counted_sound (with_all_free s x.vacated) [] n k (freed_sound x.vacated s h.sound)));
-        private = h.private;
-        indices = h.indices;
+        as_many = h.as_many ∙ sym (ap (λ (y : Stocked). frame_count y.layout) freed);
       }
 
   -- a page that moves
@@ -94,8 +86,8 @@ module _ (tasks : Map ℕ Process) (m : Mapped) (x : Stocked) (online : List ℕ
       ∙ restocked_shows tasks m x online moved failed h page from target (slice_index (free_of x target) 0) (drop 1 (free_of x target)) placed front
       ∙ sym (ap (λ fs. (moved_page (shown tasks m x online moved failed) target page from fs).state) front)
 
-  pub move_kept : (y : Stocked) (page : Page) (from target : ℕ) → IsStocked x → get page_cmp x.place page ≡ Some from → 0 < length (free_of x target) → y ≡ restock_page x page from target
-      → IsKept (shown tasks m x online moved failed) x.vacated → IsKept (shown tasks m y online moved failed) y.vacated
+  pub move_kept : {c : ℕ} (y : Stocked) (page : Page) (from target : ℕ) → IsStocked x → get page_cmp x.place page ≡ Some from → 0 < length (free_of x target) → y ≡ restock_page x page from target
+      → IsKept (shown tasks m x online moved failed) x.vacated c → IsKept (shown tasks m y online moved failed) y.vacated c
   move_kept y page from target stocked placed some is h =
       let s = shown tasks m x online moved failed in
       let left_now : x.vacated ++ left (decided s target (Move page from)).taken ≡ y.vacated =
@@ -103,21 +95,8 @@ module _ (tasks : Map ℕ Process) (m : Mapped) (x : Stocked) (online : List ℕ
       record {
         sound = subst (λ t. IsSoundAmid t y.vacated) (sym (move_shows y page from target stocked placed some is))
             (subst (λ l. IsSoundAmid (decided s target (Move page from)).state l) left_now (decided_sound s x.vacated target (Move page from) h.sound placed));
-        private = h.private;
-        indices = h.indices;
+        as_many = h.as_many ∙ sym (ap (λ (y : Stocked). frame_count y.layout) is);
       }
-
--- the target is full
-pub full_is : (s : State) (page : Page) (from target : ℕ) → free_list s target ≡ [] → decided s target (Move page from) ≡ record { state = s; status = code Enomem; taken = [] }
-full_is s page from target e = ap (λ fs. moved_page s target page from fs) e
-
--- a page that a process sees stands under an area, and no other process sees it
-pub sees_status : (s : State) (l : List ℕ) (target pid v : ℕ) (all : Bool) (p : Page) → IsKept s l → sight_at s pid v ≡ Some (Sees p)
-    → page_status s target false p (get page_cmp s.place p) ≡ status_under s target pid all (page_at s.areas pid v) (sight_at s pid v)
-sees_status s l target pid v all p h seen =
-    sym (ap (λ o. status_under s target pid all o (sight_at s pid v)) (h.sound.shown pid v p seen).0
-    ∙ ap (λ o. status_under s target pid all (Some p) o) seen
-    ∙ ap (λ b. page_status s target (b && not all) p (get page_cmp s.place p)) (alone s l h.sound h.private pid v p seen))
 
 -- a request leaves the nodes as they are, and at most one frame
 page_layout : (s : State) (target : ℕ) (p : Page) (from : ℕ) (fs : List ℕ) → (moved_page s target p from fs).state.layout ≡ s.layout

@@ -1,34 +1,29 @@
 -- The areas of a process from one page number up to another, one after another, and their policy.
-use Rattle.std.proofs.Common.{◌≡◌, ℕ, ◌+◌, ◌≤◌, ◌<◌, List, [], ◌∷◌, true, false, ◌&&◌, cond, refl, sym, ap, subst, ◌∙◌, arith, inl, inr, eq-eqb}
-use Rattle.std.specs.Prelude.{Option, Some, None, IsSome, IfNone, nat_lt, nat_le, ◌==◌, ◌⊎◌}
+use Rattle.std.proofs.Common.{◌≡◌, ℕ, ◌+◌, ◌≤◌, ◌<◌, List, [], ◌∷◌, true, false, ◌&&◌, cond, refl, sym, ap, subst, ◌∙◌, arith, eq-eqb}
+use Rattle.std.specs.Prelude.{Some, None, IsSome, nat_lt, nat_le, ◌==◌}
 use Rattle.std.specs.Option.{option_map}
 use Rattle.std.specs.BTreeMap.{BTreeMap}
 use Rattle.std.specs.BTreeMap.Range.{IsRangeOf}
 use Rattle.std.specs.declared.ops.Bound.TheVariants.{Included, Unbounded}
 use Rattle.std.specs.List.Sorted.{IsStrictlySortedBy}
 use Rattle.std.specs.Map.{keys_of}
-use Rattle.std.specs.Ordering.{nat_cmp, is_eq, is_gt}
-use Rattle.std.specs.Cmp.{nat_cmp_is, tied_itself}
-use Rattle.std.specs.declared.cmp.Ordering.TheVariants.{Greater}
+use Rattle.std.specs.Ordering.{nat_cmp, is_eq}
+use Rattle.std.specs.Cmp.{tied_itself}
 use Rattle.std.proofs.lemmas.Bool.{eqb-true, leb-true, ltb-true, ltb-false, lt-ltb, le-leb, and_from}
 use Rattle.std.proofs.lemmas.Map.Lookups.{exact_unsigned, exact_pairs, CmpEqualImpliesEq}
 use Rattle.nm_types.specs.declared.area.Policy.{Policy}
 use Rattle.nm_types.specs.declared.area.Area.{Area}
 use Rattle.nm_types.specs.Map.{Map, get, set, replace, with_values, spot_cmp}
 use Rattle.nm_types.specs.State.{Placed}
-use Rattle.nm_engine.specs.Policing.{painted}
 use Rattle.nm_engine.proofs.Maps.{spot_cmp_total, get-values, agree, set_agree, set_same, replace_is_set}
-use Rattle.nm_engine.proofs.Overs.{up_to, from_up_to, spot_behind, spot_same}
+use Rattle.nm_engine.proofs.Overs.{from_up_to}
+use Rattle.nm_areas.specs.Policing.{painted}
 
 true_false : true ≡ false → ⊥
 true_false e = cc
 
 some_none : {V : Type 0} {v : V} → Some v ≡ None → ⊥
 some_none e = cc
-
-pub none_always : {T P : Type 0} (o : Option T) → P → IfNone o P
-none_always None p = p
-none_always (Some x) p = tt
 
 pub exact_spot : CmpEqualImpliesEq spot_cmp
 exact_spot = exact_pairs nat_cmp nat_cmp exact_unsigned exact_unsigned
@@ -49,33 +44,8 @@ pub none_at_all : (m : BTreeMap (ℕ × ℕ) Area) (pid at : ℕ) (r : List Plac
     → (v : ℕ) → at ≤ v → get spot_cmp m.entries (pid, v) ≡ None
 none_at_all m pid at r range empty v low = range.5 empty (pid, v) (from_up_to (pid, at) (pid, v) refl low, tt)
 
--- nothing comes before the first
-pub none_before : (m : BTreeMap (ℕ × ℕ) Area) (pid at : ℕ) (r rest : List Placed) (e : Placed) → IsRangeOf spot_cmp (Included (pid, at)) Unbounded m r → r ≡ e ∷ rest
-    → (v : ℕ) → at ≤ v → (pid < e.0.0) ⊎ ((e.0.0 ≡ pid) × (v < e.0.1)) → get spot_cmp m.entries (pid, v) ≡ None
-none_before m pid at r rest e range first v low past =
-    let behind : spot_cmp e.0 (pid, v) ≡ Greater = elim past as (λ _. spot_cmp e.0 (pid, v) ≡ Greater) [
-      | inl k ↦ spot_behind e.0 (pid, v) k
-      | inr k ↦ spot_same e.0 (pid, v) k.0 ∙ sym (nat_cmp_is e.0.1 v Greater k.1)
-    ] in
-    elim (get spot_cmp m.entries (pid, v)) as (λ o. get spot_cmp m.entries (pid, v) ≡ o → o ≡ None) [
-      | None ↦ λ o. refl
-      | Some x ↦ λ o.
-          let least = subst (λ (es : List Placed). IsRangeOf spot_cmp (Included (pid, at)) Unbounded m es) first range in
-          absurd (true_false (sym (ap is_gt behind) ∙ least.2 (pid, v) (from_up_to (pid, at) (pid, v) refl low, tt) (subst IsSome (sym o) refl)))
-    ] refl
-
 pub past_first : (n pid : ℕ) → true ≡ (n == pid) → n ≡ pid
 past_first n pid own = eqb-true n pid (sym own)
-
--- another process's area comes behind all of this one's
-pub past_other : (m : BTreeMap (ℕ × ℕ) Area) (pid at : ℕ) (r rest : List Placed) (e : Placed) (v : ℕ) → IsRangeOf spot_cmp (Included (pid, at)) Unbounded m r → r ≡ e ∷ rest → false ≡ (e.0.0 == pid)
-    → (pid < e.0.0) ⊎ ((e.0.0 ≡ pid) × (v < e.0.1))
-past_other m pid at r rest e v range first other =
-    let here = subst (λ (es : List Placed). IsRangeOf spot_cmp (Included (pid, at)) Unbounded m es) first range in
-    elim (up_to (pid, at) e.0 here.1.0.0) as (λ _. (pid < e.0.0) ⊎ ((e.0.0 ≡ pid) × (v < e.0.1))) [
-      | inl k ↦ inl k
-      | inr k ↦ absurd (true_false (sym (eq-eqb e.0.0 pid (sym k.0)) ∙ sym other))
-    ]
 
 -- ---- policies that are set one after another
 
@@ -127,11 +97,6 @@ module _ (pid first : ℕ) (policy : Policy) where
   pub keys_painted : (m : Map (ℕ × ℕ) Area) (to : ℕ) → keys_of (with_values (painted pid first to policy) m) ≡ keys_of m
   keys_painted [] to = refl
   keys_painted (e ∷ m) to = ap (λ ks. e.0 ∷ ks) (keys_painted m to)
-
-  -- before the first
-  pub paint_none : (m : Map (ℕ × ℕ) Area) → m ≡ with_values (painted pid first first policy) m
-  paint_none [] = refl
-  paint_none (e ∷ m) = ap (λ x. (e.0, x) ∷ m) (sym (nothing e.0 e.1)) ∙ ap (λ es. (e.0, painted pid first first policy e.0 e.1) ∷ es) (paint_none m)
 
   -- when a map has been painted up to a page number
   module _ (m now : Map (ℕ × ℕ) Area) (at : ℕ) (is : now ≡ with_values (painted pid first at policy) m) (sorted : IsStrictlySortedBy spot_cmp (keys_of now)) where

@@ -11,22 +11,19 @@ use Rattle.nm_types.specs.declared.page.Page.{Page}
 use Rattle.nm_types.specs.declared.area.Policy.{Policy}
 use Rattle.nm_types.specs.declared.area.Area.{Area}
 use Rattle.nm_types.specs.Map.{Map, get, with_values, page_cmp, spot_cmp}
-use Rattle.nm_types.specs.State.{Process, State, Placed, covers, area_over, page_shown, page_at}
+use Rattle.nm_types.specs.State.{State, Placed, covers, area_over, page_shown, page_at}
 use Rattle.nm_engine.specs.Memory.{byte_of, mem}
 use Rattle.nm_engine.specs.Effect.{parts_outside, is_covered}
 use Rattle.nm_engine.specs.Sound.{AreasAreApart, IsWhole, IsSoundAmid}
-use Rattle.nm_engine.specs.Tables.{IsSomePages}
-use Rattle.nm_engine.specs.Amid.{HasIndices, IsKept}
-use Rattle.nm_engine.specs.Mapped.{Mapped}
-use Rattle.nm_engine.specs.Stocked.{Stocked}
-use Rattle.nm_engine.specs.Parts.{shown}
-use Rattle.nm_engine.specs.Policing.{pages_of, repoliced, set_policy, split_at, painted, with_areas}
+use Rattle.nm_engine.specs.Policing.{pages_of, repoliced, set_policy}
 use Rattle.nm_engine.proofs.Areas.{all_then}
 use Rattle.nm_engine.proofs.Allocated.{area_covers}
 use Rattle.nm_engine.proofs.Parted.{All-among, all_from_among, among_over, over_among, among_flat, flat_among, part_of, part_covers, part_page, part_there}
 use Rattle.nm_engine.proofs.Dropped.{covered_among, covers_shown, shown_number}
 use Rattle.nm_engine.proofs.Painted.{keys_painted}
-use Rattle.nm_engine.proofs.Repoliced.{split_some, split_indices, split_apart, split_sorted, all_repoliced}
+use Rattle.nm_engine.proofs.Repoliced.{split_apart, split_sorted, all_repoliced}
+use Rattle.nm_areas.specs.Mapped.{IsSomePages}
+use Rattle.nm_areas.specs.Policing.{split_at, painted}
 
 some_is : {V : Type 0} {v w : V} → Some v ≡ Some w → v ≡ w
 some_is e = cc
@@ -164,12 +161,6 @@ module _ (pid first end : ℕ) (policy : Policy) where
         same = λ q w. painted_shows areas q w ∙ alike.same q w;
       }
 
-  pub indices_repoliced : first < end → (areas : Map (ℕ × ℕ) Area) → AllByRecursion IsSomePages areas → AllByRecursion HasIndices areas → AllByRecursion HasIndices (flat_map (repoliced pid first end policy) areas)
-  indices_repoliced range areas some few =
-      subst (AllByRecursion HasIndices) (all_repoliced pid first end policy range areas some)
-      (all_painted HasIndices HasIndices (λ e under. any_policy (λ x. HasIndices (e.0, x)) e.0 e.1 under under) (split_at pid end (split_at pid first areas))
-      (split_indices pid end (split_at pid first areas) (split_some pid first areas some) (split_indices pid first areas some few)))
-
 -- ---- the whole call
 
 alike_itself : (s : State) (l : List ℕ) → IsSoundAmid s l → IsAlike s s.areas
@@ -216,14 +207,3 @@ policy_keeps s l pid address len policy q at h =
       | true ↦ λ b. refl
       | false ↦ λ b. ap (option_map byte) ((alike_repoliced s l pid (address / 4096) (address / 4096 + pages_of len) policy (some_page len (eqb-false len 0 b) (address / 4096)) h).same q (at / 4096))
     ] refl
-
--- the parts of a machine with another policy of some areas
-pub kept_repoliced : (tasks : Map ℕ Process) (m new : Mapped) (stock : Stocked) (online : List ℕ) (moved failed : ℕ) (left : List ℕ) (pid first count : ℕ) (policy : Policy) → 0 < count
-    → IsKept (shown tasks m stock online moved failed) left → new ≡ with_areas m (flat_map (repoliced pid first (first + count) policy) m.areas) → IsKept (shown tasks new stock online moved failed) left
-kept_repoliced tasks m new stock online moved failed left pid first count policy some kept is =
-    let s = shown tasks m stock online moved failed in
-    subst (λ (x : Mapped). IsKept (shown tasks x stock online moved failed) left) (sym is) (record {
-      sound = repoliced_sound s left pid first (first + count) policy (omega (arith, some)) kept.sound;
-      private = kept.private;
-      indices = indices_repoliced pid first (first + count) policy (omega (arith, some)) m.areas (all_some s m.areas kept.sound.areas) kept.indices;
-    })

@@ -11,7 +11,7 @@ use Rattle.nm_frames.specs.Store.{bytes_of}
 use Rattle.nm_runs.specs.Seen.{sight_at}
 use Rattle.nm_engine.specs.Memory.{byte_of, mem, mem_range}
 use Rattle.nm_engine.specs.Stocked.{Stocked, stretch_of}
-use Rattle.nm_engine.specs.Mapped.{Mapped}
+use Rattle.nm_areas.specs.Table.{Table}
 use Rattle.nm_engine.specs.Parts.{shown}
 use Rattle.nm_engine.specs.Seeing.{frame_seen}
 use Rattle.nm_engine.specs.Sound.{IsSoundAmid}
@@ -66,7 +66,7 @@ zero_has_none s l pid v h e =
     )
 
 -- what a process reads at an address inside a page
-module _ (tasks : Map ℕ Process) (m : Mapped) (x : Stocked) (online : List ℕ) (moved failed : ℕ) (l : List ℕ) (h : IsSoundAmid (shown tasks m x online moved failed) l) (pid address len : ℕ) (fits : address % 4096 + len ≤ 4096) where
+module _ (tasks : Map ℕ Process) (m : Table) (x : Stocked) (online : List ℕ) (moved failed : ℕ) (l : List ℕ) (h : IsSoundAmid (shown tasks m x online moved failed) l) (pid address len : ℕ) (fits : address % 4096 + len ≤ 4096) where
   pub reads_frame : (f : ℕ) → frame_seen (shown tasks m x online moved failed) pid (address / 4096) ≡ Some f
       → mem_range (shown tasks m x online moved failed) pid address len ≡ stretch_of (bytes_of x.frames f) (address % 4096) len
   reads_frame f seen =

@@ -1,6 +1,6 @@
 -- Areas that are split at both ends of a range, and have another policy inside.
 use Rattle.std.proofs.Common.{◌≡◌, ℕ, suc, zero, ◌+◌, ◌-◌, ◌≤◌, ◌<◌, List, [], ◌∷◌, ◌++◌, true, false, ◌&&◌, cond, refl, sym, ap, ◌∙◌, arith, eq-eqb}
-use Rattle.std.specs.Prelude.{Some, nat_lt, nat_le, ◌==◌, min, max}
+use Rattle.std.specs.Prelude.{nat_lt, nat_le, ◌==◌, min, max}
 use Rattle.std.specs.Option.{is_some}
 use Rattle.std.specs.List.{AllByRecursion, flat_map}
 use Rattle.std.specs.List.Sorted.{IsStrictlySortedBy}
@@ -13,30 +13,16 @@ use Rattle.nm_types.specs.Map.{Map, with_values, spot_cmp}
 use Rattle.nm_types.specs.State.{Placed, area_over}
 use Rattle.nm_engine.specs.Effect.{before, behind, parts_outside}
 use Rattle.nm_engine.specs.Sound.{AreasAreApart}
-use Rattle.nm_engine.specs.Tables.{IsSomePages}
-use Rattle.nm_engine.specs.Amid.{HasIndices}
-use Rattle.nm_engine.specs.Policing.{inside, repoliced, is_mapped, split_at, painted}
-use Rattle.nm_engine.proofs.Areas.{behind_last, covers_from}
-use Rattle.nm_engine.proofs.Parted.{Among, All-among, all_from_among, among_flat, over_among, IsPart, part_of}
+use Rattle.nm_engine.specs.Policing.{inside, repoliced, is_mapped}
+use Rattle.nm_engine.proofs.Areas.{behind_last}
 use Rattle.nm_engine.proofs.Split.{flat_apart, flat_sorted}
-use Rattle.nm_engine.proofs.Cut.{front_of, rest_of, shorter, later, same_placed, one, before_none, before_some, behind_none, behind_some, cut_other, cut_low, cut_high, cut_mid, over_facts}
+use Rattle.nm_engine.proofs.Cut.{front_of, rest_of, shorter, later, same_placed, one, before_none, before_some, behind_none, behind_some, cut_other, cut_low, cut_high, cut_mid}
+use Rattle.nm_areas.specs.Mapped.{IsSomePages}
+use Rattle.nm_areas.specs.Policing.{split_at, painted}
 
 -- ---- what holds of all areas holds when one is split
 
 module _ (pid at : ℕ) (areas : Map (ℕ × ℕ) Area) (some : AllByRecursion IsSomePages areas) where
-  all_parts : (P : Placed → Type 0) → ((a b : Placed) → Among a areas → IsPart pid at at a b → P b) → AllByRecursion P (split_at pid at areas)
-  all_parts P h = all_from_among P (split_at pid at areas) (λ b m.
-      let from = among_flat (parts_outside pid at at) areas b m in
-      h from.0 b from.1 (part_of pid at at from.0 (All-among IsSomePages areas from.0 some from.1) b from.2))
-
-  pub split_some : AllByRecursion IsSomePages (split_at pid at areas)
-  split_some = all_parts IsSomePages (λ a b m p. p.some)
-
-  pub split_indices : AllByRecursion HasIndices areas → AllByRecursion HasIndices (split_at pid at areas)
-  split_indices few = all_parts HasIndices (λ a b m p.
-      let under : HasIndices a = All-among HasIndices areas a few m in
-      omega (arith, under, p.index, p.high, p.low))
-
   pub split_apart : AreasAreApart areas → AreasAreApart (split_at pid at areas)
   split_apart apart = flat_apart pid at at (omega arith) areas some apart
 
@@ -56,33 +42,6 @@ mapped_step areas pid (suc n) r at h =
     ap (is_mapped areas pid at) same ∙ ap (λ b. b && is_mapped areas pid (at + 1) (n + r)) (h at (omega arith) (omega arith))
     ∙ mapped_step areas pid n r (at + 1) (λ v low high. h v (omega (arith, low)) (omega (arith, high)))
     ∙ ap (λ k. is_mapped areas pid k r) there
-
--- behind an area that is over a page number
-mapped_on : (areas : Map (ℕ × ℕ) Area) (pid at end start to : ℕ) (area : Area) → AreasAreApart areas → Some ((pid, start), area) ≡ area_over areas pid at → to ≡ start + area.pages → at < end
-    → is_mapped areas pid at (end - at) ≡ is_mapped areas pid to (end - to)
-mapped_on areas pid at end start to area apart over is more =
-    let a : Placed = ((pid, start), area) in
-    let facts = over_facts pid at areas start area over in
-    let there : (v : ℕ) → at ≤ v → v < start + area.pages → is_some (area_over areas pid v) ≡ true = λ v low high.
-    ap is_some (over_among areas pid v a apart facts.0 (covers_from a pid v refl (omega (arith, facts.1, low)) high)) in
-    elim (nat_lt to end) as (λ b. nat_lt to end ≡ b → is_mapped areas pid at (end - at) ≡ is_mapped areas pid to (end - to)) [
-      | true ↦ λ b.
-          let short : to < end = ltb-true to end b in
-          let sum : end - at ≡ (to - at) + (end - to) = omega (arith, short, is, facts.2, more) in
-          let next : at + (to - at) ≡ to = omega (arith, is, facts.2) in
-          ap (is_mapped areas pid at) sum ∙ mapped_step areas pid (to - at) (end - to) at (λ v low high. there v low (omega (arith, high, next, is)))
-          ∙ ap (λ k. is_mapped areas pid k (end - to)) next
-      | false ↦ λ b.
-          let long : end ≤ to = ltb-false to end b in
-          let sum : end - at ≡ (end - at) + 0 = omega arith in
-          let none : end - to ≡ 0 = omega (arith, long) in
-          ap (is_mapped areas pid at) sum ∙ mapped_step areas pid (end - at) 0 at (λ v low high. there v low (omega (arith, high, long, is, more)))
-          ∙ sym (ap (is_mapped areas pid to) none)
-    ] refl
-
-pub mapped_next : (areas : Map (ℕ × ℕ) Area) (pid at end start n : ℕ) (area : Area) → AreasAreApart areas → Some ((pid, start), area) ≡ area_over areas pid at → n ≡ start → at < end
-    → is_mapped areas pid at (end - at) ≡ is_mapped areas pid (n + area.pages) (end - (n + area.pages))
-mapped_next areas pid at end start n area apart over is more = mapped_on areas pid at end start (n + area.pages) area apart over (ap (λ (k : ℕ). k + area.pages) is) more
 
 -- ---- what is inside has the policy
 

@@ -1,23 +1,23 @@
 -- What holds of a machine's frames, and what stays so.
-use Rattle.std.proofs.Common.{◌≡◌, ℕ, suc, zero, ◌+◌, ◌<◌, ◌≤◌, ◌≢◌, Bool, true, false, cond, List, [], ◌∷◌, ◌++◌, length, refl, sym, ap, subst, ◌∙◌, arith, length-set, eq-eqb, IsSome, IfSome, ◌||◌}
+use Rattle.std.proofs.Common.{◌≡◌, ℕ, suc, zero, ◌+◌, ◌<◌, ◌≤◌, ◌≢◌, Bool, true, false, cond, List, [], ◌∷◌, ◌++◌, length, refl, sym, ap, subst, ◌∙◌, arith, length-set, eq-eqb, IsSome, ◌||◌}
 use Rattle.std.specs.Prelude.{Option, Some, None, nat_lt, ◌==◌, sum, drop, replicate, slice_get, slice_index, slice_index_or, slice_set}
 use Rattle.std.specs.Option.{unwrap_or}
 use Rattle.std.specs.List.{sum_by}
-use Rattle.std.specs.List.Sorted.{IsStrictlySortedBy}
-use Rattle.std.specs.Map.{keys_of, values_of}
-use Rattle.std.proofs.lemmas.Bool.{ltb-true, eqb-true, ne_eqb}
-use Rattle.std.proofs.lemmas.List.{get_or-replicate, length-replicate, get_or-set_other, get_or-set_same, set_comm, set-set, set-get_or}
+use Rattle.std.specs.Map.{values_of}
+use Rattle.std.proofs.lemmas.Bool.{ltb-true}
+use Rattle.std.proofs.lemmas.List.{get_or-replicate, length-replicate, set_comm, set-set, set-get_or}
 use Rattle.std.proofs.lemmas.List.Sums.{sum_by-cons}
 use Rattle.nm_types.specs.declared.page.Page.{Page}
-use Rattle.nm_types.specs.Map.{Map, get, set, page_cmp}
+use Rattle.nm_types.specs.Map.{Map, get, page_cmp}
 use Rattle.nm_types.specs.Layout.{Layout, frame_count, owner}
 use Rattle.nm_types.specs.Nodes.{is_in}
 use Rattle.nm_frames.specs.Store.{Store, IsHome, bytes_of}
 use Rattle.nm_nodes.specs.Pool as pool
-use Rattle.nm_engine.specs.Sound.{times, FramesAreOnce}
-use Rattle.nm_engine.specs.Stocked.{Stocked, IsStocked, frames_alone, free_of, restock_page, with_freed, CanFree}
-use Rattle.nm_engine.proofs.Frames.{here, times_cons, moved_frames, frame_freed, left_below}
-use Rattle.nm_engine.proofs.Allocated.{placed_frames}
+use Rattle.nm_engine.specs.Sound.{times, FramesAreOnce, IsSoundAmid}
+use Rattle.nm_engine.specs.Spaced.{Spaced}
+use Rattle.nm_engine.specs.Parts.{stocked, shown_by}
+use Rattle.nm_engine.specs.Stocked.{Shelf, IsShelf, Stocked, IsStocked, frames_alone, free_of, with_freed, CanFree, pool_of}
+use Rattle.nm_engine.proofs.Frames.{here, times_cons, frame_freed, left_below}
 use Rattle.nm_engine.proofs.Once.{counted_place}
 use Rattle.nm_engine.proofs.New.{new_frames}
 use Rattle.nm_engine.specs.Effect.{all_frames}
@@ -79,54 +79,6 @@ apart_from_front x page node from to h placed front e =
 no : false ≡ true → ⊥
 no e = cc
 
-homes : (frames : Store) (f n : ℕ) (bytes : List ℕ) → length frames ≡ n → ((k : ℕ) → k < n → IsHome frames k) → (k : ℕ) → k < n → IsHome (slice_set frames f (Some bytes)) k
-homes frames f n bytes len home k lt =
-    let within : k < length frames = omega (arith, len, lt) in
-    record {
-      in_range = let same : length (slice_set frames f (Some bytes)) ≡ length frames = length-set frames f (Some bytes) in omega (arith, same, within);
-      here = elim (k == f) as (λ b. (k == f) ≡ b → IsSome (slice_index_or (slice_set frames f (Some bytes)) k None)) [
-        | true ↦ λ e. let is : k ≡ f = eqb-true k f e in
-            subst (λ (o : Option (List ℕ)). IsSome o) (sym (ap (λ j. slice_index_or (slice_set frames f (Some bytes)) j None) is ∙ get_or-set_same frames f (Some bytes) None (omega (arith, within, is)))) refl
-        | false ↦ λ e. subst (λ (o : Option (List ℕ)). IsSome o) (sym (get_or-set_other frames f k (Some bytes) None (λ s. no (sym e ∙ eq-eqb k f s)))) (home k lt).here
-      ] refl;
-    }
-
--- a page that has a frame now
-pub page_stocked : (x : Stocked) (page : Page) (node f : ℕ) (bytes : List ℕ) (place : Map Page ℕ) (frames : Store) (free : List (List ℕ)) → IsStocked x
-    → get page_cmp x.place page ≡ None → slice_get (free_of x node) 0 ≡ Some f
-    → place ≡ set page_cmp x.place page f → frames ≡ slice_set x.frames f (Some bytes) → free ≡ slice_set x.free node (drop 1 (free_of x node))
-    → IsStrictlySortedBy page_cmp (keys_of place) → IsStocked (record x { place = place; frames = frames; free = free })
-page_stocked x page node f bytes place frames free h unplaced front p s r order =
-    let all = frames_alone x.layout x.place x.free in
-    let rest = drop 1 (free_of x node) in
-    let moved = placed_frames all x.vacated node (f ∷ rest) page h.once h.in_order unplaced (front_is (free_of x node) f front) (ne_eqb (length (f ∷ rest)) 0 (λ e. absurd (omega (arith, e)))) in
-    let exact : FramesAreOnce (frames_alone x.layout (set page_cmp x.place page f) (slice_set x.free node rest)) x.vacated = record { lists = moved.lists; once = moved.once; own = moved.own } in
-    record {
-      in_order = order;
-      once = subst (λ m. FramesAreOnce (frames_alone x.layout m free) x.vacated) (sym p) (subst (λ ls. FramesAreOnce (frames_alone x.layout (set page_cmp x.place page f) ls) x.vacated) (sym r) exact);
-      buffers = ap length s ∙ (length-set x.frames f (Some bytes) ∙ h.buffers);
-      home = λ k lt. subst (λ fs. IsHome fs k) (sym s) (homes x.frames f (frame_count x.layout) bytes h.buffers h.home k lt);
-    }
-
--- a page that has another frame now
-pub page_restocked : (x : Stocked) (page : Page) (from node f : ℕ) (bytes : List ℕ) (place : Map Page ℕ) (frames : Store) (free : List (List ℕ)) (vacated : List ℕ) (room : ℕ) → IsStocked x
-    → get page_cmp x.place page ≡ Some from → slice_get (free_of x node) 0 ≡ Some f
-    → place ≡ set page_cmp x.place page f → frames ≡ slice_set x.frames f (Some bytes) → free ≡ slice_set x.free node (drop 1 (free_of x node)) → vacated ≡ x.vacated ++ from ∷ []
-    → IsStrictlySortedBy page_cmp (keys_of place) → IsStocked (record x { place = place; frames = frames; free = free; vacated = vacated; room = room })
-page_restocked x page from node f bytes place frames free vacated room h placed front p s r v order =
-    let all = frames_alone x.layout x.place x.free in
-    let rest = drop 1 (free_of x node) in
-    let left = x.vacated ++ from ∷ [] in
-    let moved = moved_frames all x.vacated node page from (f ∷ rest) h.once h.in_order placed (front_is (free_of x node) f front) in
-    let exact : FramesAreOnce (frames_alone x.layout (set page_cmp x.place page f) (slice_set x.free node rest)) left = record { lists = moved.lists; once = moved.once; own = moved.own } in
-    record {
-      in_order = order;
-      once = subst (λ m. FramesAreOnce (frames_alone x.layout m free) vacated) (sym p) (subst (λ ls. FramesAreOnce (frames_alone x.layout (set page_cmp x.place page f) ls) vacated) (sym r)
-          (subst (λ l. FramesAreOnce (frames_alone x.layout (set page_cmp x.place page f) (slice_set x.free node rest)) l) (sym v) exact));
-      buffers = ap length s ∙ (length-set x.frames f (Some bytes) ∙ h.buffers);
-      home = λ k lt. subst (λ fs. IsHome fs k) (sym s) (homes x.frames f (frame_count x.layout) bytes h.buffers h.home k lt);
-    }
-
 pub same_lists : (first : ℕ) (sizes : List ℕ) → all_frames first sizes ≡ pool.all_frames first sizes
 same_lists first [] = refl
 same_lists first (size ∷ sizes) = ap (λ ls. up_from first size ∷ ls) (same_lists (first + size) sizes)
@@ -138,25 +90,30 @@ all_home n k bytes lt =
       here = subst (λ (o : Option (List ℕ)). IsSome o) (sym (get_or-replicate n k (Some bytes) None lt)) refl;
     }
 
--- all frames of a new machine are free
-pub new_stocked : (g : Layout) (place : Map Page ℕ) (frames : Store) (free : List (List ℕ)) (vacated : List ℕ) (room n : ℕ) → place ≡ [] → n ≡ frame_count g
-    → frames ≡ replicate n (Some (replicate 4096 0)) → free ≡ pool.all_frames 0 g.sizes → vacated ≡ [] → IsStrictlySortedBy page_cmp (keys_of place)
-    → IsStocked (record { layout = g; place = place; frames = frames; free = free; vacated = vacated; room = room })
-new_stocked g place frames free vacated room n p count f l v order =
-    let new = new_frames g in
-    let exact : FramesAreOnce (frames_alone g [] (all_frames 0 g.sizes)) [] = record { lists = new.lists; once = new.once; own = new.own } in
+-- the frames of a new machine, all of them home
+pub new_shelf : (g : Layout) (frames : Store) (free : List (List ℕ)) (vacated : List ℕ) (room n : ℕ) → n ≡ frame_count g → frames ≡ replicate n (Some (replicate 4096 0)) → free ≡ pool.all_frames 0 g.sizes
+    → IsShelf (record { layout = g; frames = frames; free = free; vacated = vacated; room = room })
+new_shelf g frames free vacated room n count f l =
     record {
-      in_order = order;
-      once = subst (λ m. FramesAreOnce (frames_alone g m free) vacated) (sym p) (subst (λ ls. FramesAreOnce (frames_alone g [] ls) vacated) (same_lists 0 g.sizes ∙ sym l)
-          (subst (λ ls. FramesAreOnce (frames_alone g [] (all_frames 0 g.sizes)) ls) (sym v) exact));
+      lists = ap length l ∙ ap length (sym (same_lists 0 g.sizes)) ∙ (new_frames g).lists;
       buffers = ap length f ∙ (length-replicate n (Some (replicate 4096 0)) ∙ count);
       home = λ k lt. subst (λ fs. IsHome fs k) (sym f) (all_home n k (replicate 4096 0) (omega (arith, lt, count)));
     }
 
--- a place is a frame of the machine
-pub known_place : (x : Stocked) (page : Page) (o : Option ℕ) → IsStocked x → o ≡ get page_cmp x.place page → IfSome o (λ f. f < frame_count x.layout)
-known_place x page None h e = tt
-known_place x page (Some f) h e = place_below x page f h (sym e)
+-- as many lists after frames were freed
+pub lists_stay : (p : pool.Pool) (frames : List ℕ) → length (with_freed p frames).lists ≡ length p.lists
+lists_stay p [] = refl
+lists_stay p (frame ∷ frames) = lists_stay (pool.appended p frame) frames ∙ length-set p.lists (owner p.sizes frame) (slice_index_or p.lists (owner p.sizes frame) [] ++ frame ∷ [])
+
+pub sizes_stay : (p : pool.Pool) (frames : List ℕ) → (with_freed p frames).sizes ≡ p.sizes
+sizes_stay p [] = refl
+sizes_stay p (frame ∷ frames) = sizes_stay (pool.appended p frame) frames
+
+-- frames and the pages that are in them, each frame in one place
+pub stocked_is : (y : Spaced) (k : Shelf) (online : List ℕ) (moved failed : ℕ) (left : List ℕ) → k.vacated ≡ left → IsSoundAmid (shown_by y k online moved failed) left → IsShelf k → IsStocked (stocked y k)
+stocked_is y k online moved failed left is h shelf =
+    let frames : FramesAreOnce (frames_alone k.layout y.place k.free) left = record { lists = h.frames.lists; once = h.frames.once; own = h.frames.own } in
+    record { in_order = h.order.place; once = subst (FramesAreOnce (frames_alone k.layout y.place k.free)) (sym is) frames; buffers = shelf.buffers; home = shelf.home }
 
 -- the frames that are left to be freed, from the first on
 pub record IsFreeing (g : Layout) (place : Map Page ℕ) (free : List (List ℕ)) (left : List ℕ) (frame : ℕ) : Type 0 where
@@ -230,16 +187,8 @@ unwrapped (Some x) h = refl
 pub home_bytes : (frames : Store) (frame : ℕ) → IsHome frames frame → slice_index_or frames frame None ≡ Some (bytes_of frames frame)
 home_bytes frames frame h = unwrapped (slice_index_or frames frame None) h.here
 
--- the parts of what a move leaves
-pub restocked : (x : Stocked) (page : Page) (from node f : ℕ) (place : Map Page ℕ) (frames : Store) (free : List (List ℕ)) (vacated : List ℕ) (room : ℕ)
-    → slice_get (free_of x node) 0 ≡ Some f → place ≡ set page_cmp x.place page f → frames ≡ slice_set x.frames f (Some (bytes_of x.frames from))
-    → free ≡ slice_set x.free node (drop 1 (free_of x node)) → vacated ≡ x.vacated ++ from ∷ [] → room ≡ x.room
-    → record x { place = place; frames = frames; free = free; vacated = vacated; room = room } ≡ restock_page x page from node
-restocked x page from node f place frames free vacated room front p s r v o =
-    let index = index_front (free_of x node) f front in
-    ap (λ m. record x { place = m; frames = frames; free = free; vacated = vacated; room = room }) p
-    ∙ ap (λ fs. record x { place = set page_cmp x.place page f; frames = fs; free = free; vacated = vacated; room = room }) s
-    ∙ ap (λ ls. record x { place = set page_cmp x.place page f; frames = slice_set x.frames f (Some (bytes_of x.frames from)); free = ls; vacated = vacated; room = room }) r
-    ∙ ap (λ l. record x { place = set page_cmp x.place page f; frames = slice_set x.frames f (Some (bytes_of x.frames from)); free = slice_set x.free node (drop 1 (free_of x node)); vacated = l; room = room }) v
-    ∙ ap (λ k. record x { place = set page_cmp x.place page f; frames = slice_set x.frames f (Some (bytes_of x.frames from)); free = slice_set x.free node (drop 1 (free_of x node)); vacated = x.vacated ++ from ∷ []; room = k }) o
-    ∙ sym (ap (λ k. record x { place = set page_cmp x.place page k; frames = slice_set x.frames k (Some (bytes_of x.frames from)); free = slice_set x.free node (drop 1 (free_of x node)); vacated = x.vacated ++ from ∷ [] }) index)
+-- the frames that a run left can be freed
+pub can_free : (y : Spaced) (k : Shelf) (online : List ℕ) (moved failed : ℕ) → IsSoundAmid (shown_by y k online moved failed) k.vacated → CanFree (pool_of k) k.vacated
+can_free y k online moved failed h =
+    let frames : FramesAreOnce (frames_alone k.layout y.place k.free) k.vacated = record { lists = h.frames.lists; once = h.frames.once; own = h.frames.own } in
+    (all_freed k.layout y.place (pool_of k) k.vacated refl frames).can

@@ -1,11 +1,11 @@
 -- The table of processes after a change.
 use Rattle.std.proofs.Common.{◌≡◌, ℕ, ◌+◌, ◌<◌, ◌≤◌, List, [], ◌∷◌, true, false, cond, get_or, nat_eq, refl, sym, ap, subst, ◌∙◌, arith}
-use Rattle.std.specs.Prelude.{Option, Some, None, IsSome, IsSorted}
+use Rattle.std.specs.Prelude.{Option, Some, None, IsSome, IsSorted, Result, Ok, Err, OnOk, OnErr, IfOk, IfErr}
 use Rattle.std.specs.List.{IsDistinct}
 use Rattle.std.specs.List.Sorted.{IsStrictlySortedBy}
-use Rattle.std.specs.Map.{keys_of, lookup, set_value}
+use Rattle.std.specs.Map.{keys_of, lookup, set_value, remove_entry}
 use Rattle.std.specs.BTreeMap.{is_at}
-use Rattle.std.specs.Cmp.{nat_cmp_total, nat_cmp_is, nat_eq_equiv, unsigned_ties, tied_itself}
+use Rattle.std.specs.Cmp.{nat_cmp_total, nat_cmp_is, nat_eq_equiv, unsigned_ties}
 use Rattle.std.specs.Ordering.{nat_cmp, is_eq, is_lt, ordering_reverse}
 use Rattle.std.specs.declared.cmp.Ordering.TheVariants.{Less}
 use Rattle.std.proofs.lemmas.Map.Keys.{Less-from_sorted, apart_from_distinct, sorted_from_all_adjacent, ge_from_not_lt}
@@ -16,11 +16,8 @@ use Rattle.std.specs.List.{AllByRecursion}
 use Rattle.std.specs.Prelude.{Bool, T, ◌&&◌}
 use Rattle.std.specs.Ordering.{eq_by_cmp}
 use Rattle.std.specs.FinMap.Entries.{find, below_all, is_sorted, same_entries}
-use Rattle.nm_types.specs.Map.{Map, get, set, replace}
-use Rattle.nm_types.specs.State.{Process}
-use Rattle.nm_types.specs.declared.sight.Sight.{Sight}
-use Rattle.nm_engine.specs.Tables.{seeing, seeing_again}
-use Rattle.nm_engine.proofs.Maps.{get-set, get-replace, replace_is_set, without-set}
+use Rattle.nm_types.specs.Map.{Map, get, set, replace, without}
+use Rattle.nm_engine.proofs.Maps.{get-set}
 use Rattle.nm_engine.proofs.Keys.{sorted-set}
 
 -- numbers told apart by ==
@@ -85,10 +82,6 @@ added m n k v s t h =
     ∙ ap (λ b. cond b (Some v) (get nat_cmp m q)) (nat_eq_equiv.symm k q ∙ unsigned_ties q k)
     ∙ sym (get-set nat_cmp_total m k v q))
 
--- the value that was found is the one that is there
-pub found_there : {V : Type 0} (m now : Map ℕ V) (k : ℕ) (x v : V) → m ≡ now → Some x ≡ lookup (nat_eq k) m → get nat_cmp now k ≡ Some v → x ≡ v
-found_there m now k x v same found there = let e : Some x ≡ Some v = found ∙ get_same m k ∙ ap (λ m. get nat_cmp m k) same ∙ there in cc
-
 -- what is written through a reference
 pub written : {V : Type 0} (m now after : Map ℕ V) (k : ℕ) (w x : V) → m ≡ now → after ≡ set_value (nat_eq k) m w → w ≡ x → after ≡ replace nat_cmp now k x
 written m now after k w x same is to = is ∙ replace_same m k w ∙ ap (λ m. replace nat_cmp m k w) same ∙ ap (replace nat_cmp now k) to
@@ -119,26 +112,35 @@ module _ {V : Type 0} where
   some_is : (o : Option V) (v : V) → o ≡ Some v → IsSome o
   some_is o v h = subst IsSome (sym h) refl
 
-  pub replaced_back : (m : Map ℕ V) (k : ℕ) (v w : V) → get nat_cmp m k ≡ Some w → replace nat_cmp (replace nat_cmp m k v) k w ≡ m
-  replaced_back m k v w h = replace_twice m k v w ∙ set_value_same (is_at (nat_cmp k)) m w h
+-- the value that was found is there
+pub found_value : {V : Type 0} (m now : Map ℕ V) (k : ℕ) (x : V) → m ≡ now → Some x ≡ lookup (nat_eq k) m → get nat_cmp now k ≡ Some x
+found_value m now k x same found = ap (λ m. get nat_cmp m k) (sym same) ∙ sym (get_same m k) ∙ sym found
 
-  pub set_back : (m : Map ℕ V) (k : ℕ) (v w : V) → IsStrictlySortedBy nat_cmp (keys_of m) → get nat_cmp m k ≡ Some w → replace nat_cmp (set nat_cmp m k v) k w ≡ m
-  set_back m k v w s h =
-      ap (λ n. replace nat_cmp n k w) (sym (replace_is_set nat_cmp_total exact_unsigned m k v s (some_is _ w h))) ∙ replaced_back m k v w h
+pub without_same : {V : Type 0} (m : Map ℕ V) (k : ℕ) → remove_entry (nat_eq k) m ≡ without nat_cmp m k
+without_same [] k = refl
+without_same (e ∷ m) k = ap (λ b. cond b m (e ∷ remove_entry (nat_eq k) m)) (unsigned_ties k e.0) ∙ ap (λ es. cond (is_at (nat_cmp k) e.0) m (e ∷ es)) (without_same m k)
 
--- a process that sees something, and again what it saw before
-pub unseen : (p : Process) (v : ℕ) (sight : Sight) → IsStrictlySortedBy nat_cmp (keys_of p.sees) → seeing_again (seeing p v sight) v (get nat_cmp p.sees v) ≡ p
-unseen p v sight s =
-    elim (get nat_cmp p.sees v) as (λ o. get nat_cmp p.sees v ≡ o → seeing_again (seeing p v sight) v o ≡ p) [
-      | None ↦ λ h. ap (λ es. record p { sees = es }) (without-set nat_cmp_total exact_unsigned p.sees v sight s h)
-      | Some w ↦ λ h. ap (λ es. record p { sees = es }) (set_back p.sees v sight w s h)
-    ] refl
+-- what follows on an error
+pub on_err : {T E P Q : Type 0} (r : Result T E) → (P → Q) → OnErr r P → OnErr r Q
+on_err (Ok x) f p = tt
+on_err (Err e) f p = f p
 
-pub seen_and_unseen : (m : Map ℕ Process) (pid v : ℕ) (p : Process) (sight : Sight) → IsStrictlySortedBy nat_cmp (keys_of m) → IsStrictlySortedBy nat_cmp (keys_of p.sees) → get nat_cmp m pid ≡ Some p
-    → replace nat_cmp (replace nat_cmp m pid (seeing p v sight)) pid (seeing_again (seeing p v sight) v (get nat_cmp p.sees v)) ≡ m
-seen_and_unseen m pid v p sight s t h =
-    ap (replace nat_cmp (replace nat_cmp m pid (seeing p v sight)) pid) (unseen p v sight t) ∙ replaced_back m pid (seeing p v sight) p h
+-- what follows where there is no error
+pub on_ok : {T E P Q : Type 0} (r : Result T E) → (P → Q) → OnOk r P → OnOk r Q
+on_ok (Ok x) f p = f p
+on_ok (Err e) f p = tt
 
-pub seeing_found : (m : Map ℕ Process) (pid v : ℕ) (p : Process) (sight : Sight) → get nat_cmp m pid ≡ Some p → get nat_cmp (replace nat_cmp m pid (seeing p v sight)) pid ≡ Some (seeing p v sight)
-seeing_found m pid v p sight h =
-    get-replace nat_cmp_total exact_unsigned m pid (seeing p v sight) pid (some_is _ p h) ∙ ap (λ r. cond (is_eq r) (Some (seeing p v sight)) (get nat_cmp m pid)) (tied_itself nat_cmp_total pid)
+-- what follows in both cases
+pub on_both : {T E P Q R : Type 0} (r : Result T E) → (P → R) → (Q → R) → OnOk r P → OnErr r Q → R
+on_both (Ok x) f g p q = f p
+on_both (Err e) f g p q = g q
+
+-- what follows of what a call gives
+pub if_ok : {T E : Type 0} {P Q : T → Type 0} (r : Result T E) → ((x : T) → P x → Q x) → IfOk r P → IfOk r Q
+if_ok (Ok x) f p = f x p
+if_ok (Err e) f p = tt
+
+-- what follows of the error that it gives
+pub if_err : {T E : Type 0} {P Q : E → Type 0} (r : Result T E) → ((x : E) → P x → Q x) → IfErr r P → IfErr r Q
+if_err (Ok x) f p = tt
+if_err (Err e) f p = f e p

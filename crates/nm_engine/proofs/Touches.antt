@@ -1,11 +1,10 @@
 -- What touches make of a machine's parts.
-use Rattle.std.proofs.Common.{◌≡◌, ℕ, zero, suc, ◌<◌, ◌≤◌, ◌+◌, ◌-◌, ◌/◌, ◌%◌, ◌^◌, ◌||◌, List, [], ◌∷◌, Bool, true, false, cond, length, refl, sym, ap, subst, ◌∙◌, arith, mod-lt}
-use Rattle.std.specs.Prelude.{Option, Some, None, IsSome, IfNone, Ok, Err, ◌==◌, nat_lt, if◌then◌else◌, slice_index_or, slice_set}
+use Rattle.std.proofs.Common.{◌≡◌, ℕ, zero, suc, ◌<◌, ◌≤◌, ◌+◌, ◌-◌, ◌/◌, ◌%◌, ◌||◌, List, [], ◌∷◌, Bool, true, false, cond, length, refl, sym, ap, subst, ◌∙◌, arith, mod-lt}
+use Rattle.std.specs.Prelude.{Option, Some, None, IsSome, IfNone, Ok, Err, ◌==◌, nat_lt, if◌then◌else◌, slice_get, slice_index_or, slice_set}
 use Rattle.std.specs.Option.{option_map}
 use Rattle.std.specs.Ordering.{nat_cmp, is_eq}
-use Rattle.std.specs.List.{AllByRecursion, sum_by}
-use Rattle.std.specs.List.Sorted.{IsStrictlySortedBy}
-use Rattle.std.specs.Map.{keys_of, values_of}
+use Rattle.std.specs.List.{sum_by}
+use Rattle.std.specs.Map.{values_of}
 use Rattle.std.proofs.lemmas.Bool.{ne_eqb, le-ltb}
 use Rattle.nm_types.specs.declared.page.Page.{Page}
 use Rattle.nm_types.specs.declared.area.Area.{Area}
@@ -19,12 +18,12 @@ use Rattle.nm_runs.specs.Seen.{sight_in, sight_at}
 use Rattle.nm_policy.specs.Order.{first_touch_order}
 use Rattle.nm_engine.specs.declared.touching.Touching.{Touching}
 use Rattle.nm_engine.specs.declared.process.ProcessInfo.{ProcessInfo}
-use Rattle.nm_engine.specs.Tables.{info_of, seeing, seeing_again}
+use Rattle.nm_engine.specs.Tables.{info_of, seeing}
 use Rattle.nm_engine.specs.Touch.{Spot, spot, spot_of, spot_over, shown_at, first_free, allocated, filled, with_sight, with_bytes, touched_entry, touched, touch, is_shared}
 use Rattle.nm_engine.specs.Stocked.{Stocked, IsStocked, free_of, stock_page}
-use Rattle.nm_engine.specs.Mapped.{Mapped}
+use Rattle.nm_areas.specs.Table.{Table}
 use Rattle.nm_engine.specs.Parts.{shown}
-use Rattle.nm_engine.specs.Amid.{Amid, HasIndices, IsKept, spot_at, IsTouched}
+use Rattle.nm_engine.specs.Amid.{Amid, IsKept, spot_at, IsTouched}
 use Rattle.nm_engine.specs.Seeing.{frame_of, frame_seen}
 use Rattle.nm_engine.specs.Sound.{times, IsSoundAmid}
 use Rattle.nm_frames.specs.Store.{bytes_of, overwrite as overwritten}
@@ -35,9 +34,6 @@ use Rattle.std.specs.Cmp.{tied_itself}
 use Rattle.nm_engine.proofs.Sights.{IsSpot, page_at_spot, Fits, with_sight_sound, sight_here}
 use Rattle.nm_engine.proofs.Allocated.{placed_sound, placed_front}
 use Rattle.nm_engine.proofs.Touched.{has_front, private_unplaced, bytes_sound}
-use Rattle.nm_engine.proofs.Keys.{All-get}
-use Rattle.nm_engine.proofs.Areas.{covers_parts}
-use Rattle.nm_engine.proofs.Tabled.{seen_and_unseen, seeing_found}
 use Rattle.nm_engine.proofs.Shows.{page_stocked_shows, written_shows}
 
 -- what holds of the state that the parts show holds of the parts
@@ -63,9 +59,6 @@ zero_sees e q k = cc
 pub some_is : {V : Type 0} {v w : V} → Some v ≡ Some w → v ≡ w
 some_is e = cc
 
-pub sight_is : (s : State) (pid v : ℕ) (p : Process) → get nat_cmp s.processes pid ≡ Some p → sight_at s pid v ≡ get nat_cmp p.sees v
-sight_is s pid v p h = ap (λ o. sight_in o v) h
-
 -- a node that has a free frame is one of the machine's
 pub short_list : (free : List (List ℕ)) (node : ℕ) → 0 < length (slice_index_or free node []) → node < length free
 short_list [] node h = absurd (omega (arith, h))
@@ -76,20 +69,23 @@ some_length : (n : ℕ) → (n == 0) ≡ false → 0 < n
 some_length zero h = cc
 some_length (suc n) h = omega arith
 
+pub no_front : (frames : List ℕ) → slice_get frames 0 ≡ None → 0 < length frames → ⊥
+no_front [] h some = omega (arith, some)
+no_front (f ∷ frames) h some = cc
+
 pub found_free : (s : State) (order : List ℕ) (node : ℕ) → first_free s order ≡ Some node → 0 < length (free_list s node)
 found_free s order node h = some_length _ (has_front s order node h)
 
-module _ (tasks : Map ℕ Process) (m : Mapped) (x : Stocked) (online : List ℕ) (moved failed : ℕ) (l : List ℕ) (t : Touching) (p : Process) (a : Placed)
-    (kept : IsKept (shown tasks m x online moved failed) l) (touched : IsTouched (shown tasks m x online moved failed) t p a) where
+module _ {c : ℕ} (tasks : Map ℕ Process) (m : Table) (x : Stocked) (online : List ℕ) (moved failed : ℕ) (l : List ℕ) (t : Touching) (p : Process) (a : Placed)
+    (kept : IsKept (shown tasks m x online moved failed) l c) (touched : IsTouched (shown tasks m x online moved failed) t p a) where
   -- the process sees something else
   pub seen_kept : (sight : Sight) (new : Map ℕ Process) → new ≡ replace nat_cmp tasks t.pid (seeing p t.vpn sight) → Fits (shown tasks m x online moved failed) (spot_at t p a) sight
-      → ((q : Page) → sight_at (shown tasks m x online moved failed) t.pid t.vpn ≡ Some (Sees q) → ⊥) → IsKept (shown new m x online moved failed) l
+      → ((q : Page) → sight_at (shown tasks m x online moved failed) t.pid t.vpn ≡ Some (Sees q) → ⊥) → IsKept (shown new m x online moved failed) l c
   seen_kept sight new is fits unseen =
-      subst (λ ps. IsKept (shown ps m x online moved failed) l) (sym is)
+      subst (λ ps. IsKept (shown ps m x online moved failed) l c) (sym is)
       (record {
         sound = with_sight_sound (shown tasks m x online moved failed) l (spot_at t p a) sight kept.sound (spot_there (shown tasks m x online moved failed) t p a touched) fits unseen;
-        private = kept.private;
-        indices = kept.indices;
+        as_many = kept.as_many;
       })
 
   pub sees_now : (sight : Sight) (new : Map ℕ Process) → new ≡ replace nat_cmp tasks t.pid (seeing p t.vpn sight) → sight_in (get nat_cmp new t.pid) t.vpn ≡ Some sight
@@ -109,14 +105,13 @@ module _ (tasks : Map ℕ Process) (m : Mapped) (x : Stocked) (online : List ℕ
 
   pub filled_kept : (node : ℕ) (new : Map ℕ Process) (after : Stocked) → IsStocked x → new ≡ replace nat_cmp tasks t.pid (seeing p t.vpn (Sees t.page)) → after ≡ stock_page x t.page node
       → get page_cmp x.place t.page ≡ None → 0 < length (free_of x node) → ((q : Page) → sight_at (shown tasks m x online moved failed) t.pid t.vpn ≡ Some (Sees q) → ⊥)
-      → IsKept (shown new m after online moved failed) l
+      → IsKept (shown new m after online moved failed) l c
   filled_kept node new after stocked is to unplaced some unseen =
-      subst (λ s. IsKept s l) (sym (filled_shows node new after stocked is to unplaced some))
+      subst (λ s. IsKept s l c) (sym (filled_shows node new after stocked is to unplaced some))
       (record {
         sound = placed_sound (shown tasks m x online moved failed) l (spot_at t p a) node kept.sound (spot_there (shown tasks m x online moved failed) t p a touched) unseen
             (subst (λ q. get page_cmp x.place q ≡ None) (sym touched.page) unplaced) (ne_eqb (length (free_of x node)) 0 (λ e. absurd (omega (arith, e, some))));
-        private = kept.private;
-        indices = kept.indices;
+        as_many = kept.as_many;
       })
 
   -- and that is what the definition says
@@ -145,16 +140,6 @@ module _ (tasks : Map ℕ Process) (m : Mapped) (x : Stocked) (online : List ℕ
       let same : zero.0 ≡ shown_at (spot_at t p a) = some_is (sym zero.1 ∙ page_at_spot (shown tasks m x online moved failed) (spot_at t p a) (spot_there (shown tasks m x online moved failed) t p a touched)) in
       private_unplaced_here (zero_sees sees) (ap (is_shared (shown tasks m x online moved failed)) (sym touched.page ∙ sym same) ∙ zero.2)
 
-  -- the table is again what it was
-  pub seen_again : (sight : Sight) (new after : Map ℕ Process) (before : Option Sight) → new ≡ replace nat_cmp tasks t.pid (seeing p t.vpn sight) → before ≡ sight_in (get nat_cmp tasks t.pid) t.vpn
-      → ((q : Process) → get nat_cmp new t.pid ≡ Some q → after ≡ replace nat_cmp new t.pid (seeing_again q t.vpn before)) → after ≡ tasks
-  seen_again sight new after before is was undone =
-      undone (seeing p t.vpn sight) (ap (λ ps. get nat_cmp ps t.pid) is ∙ seeing_found tasks t.pid t.vpn p sight touched.known)
-      ∙ ap (λ ps. replace nat_cmp ps t.pid (seeing_again (seeing p t.vpn sight) t.vpn before)) is
-      ∙ ap (λ o. replace nat_cmp (replace nat_cmp tasks t.pid (seeing p t.vpn sight)) t.pid (seeing_again (seeing p t.vpn sight) t.vpn o)) (was ∙ ap (λ o. sight_in o t.vpn) touched.known)
-      ∙ seen_and_unseen tasks t.pid t.vpn p sight kept.sound.order.processes
-      (All-get nat_cmp (λ (q : Process). IsStrictlySortedBy nat_cmp (keys_of q.sees)) tasks t.pid p kept.sound.order.sees touched.known) touched.known
-
 pub get_set_same : (places : Map Page ℕ) (page : Page) (frame : ℕ) → get page_cmp (set page_cmp places page frame) page ≡ Some frame
 get_set_same places page frame =
     get-set page_cmp_total places page frame page ∙ ap (λ r. cond (is_eq r) (Some frame) (get page_cmp places page)) (tied_itself page_cmp_total page)
@@ -167,25 +152,6 @@ over_covers (x ∷ areas) pid v a h =
       | true ↦ λ b k. subst (λ y. covers y pid v ≡ true) (some_is k) b
       | false ↦ λ b k. over_covers areas pid v a k
     ] refl h
-
-pub over_has : (P : Placed → Type 0) (areas : Map (ℕ × ℕ) Area) (pid v : ℕ) (a : Placed) → AllByRecursion P areas → area_over areas pid v ≡ Some a → P a
-over_has P [] pid v a all h = cc
-over_has P (x ∷ areas) pid v a all h =
-    elim (covers x pid v) as (λ b. cond b (Some x) (area_over areas pid v) ≡ Some a → P a) [
-      | true ↦ λ k. subst P (some_is k) all.0
-      | false ↦ λ k. over_has P areas pid v a all.1 k
-    ] h
-
-pub starts_before : (areas : Map (ℕ × ℕ) Area) (pid v : ℕ) (a : Placed) → area_over areas pid v ≡ Some a → a.0.1 ≤ v
-starts_before areas pid v a h = (covers_parts a pid v (over_covers areas pid v a h)).1
-
-pub index_fits : (areas : Map (ℕ × ℕ) Area) (pid v : ℕ) (a : Placed) → AllByRecursion HasIndices areas → area_over areas pid v ≡ Some a → a.1.page.index + (v - a.0.1) < 2 ^ 64
-index_fits areas pid v a all h =
-    let parts = covers_parts a pid v (over_covers areas pid v a h) in
-    let fits = over_has HasIndices areas pid v a all h in
-    let low = parts.1 in
-    let high = parts.2 in
-    omega (arith, fits, low, high)
 
 -- what is kept of a process that is known
 pub mapped_some : {V W : Type 0} (f : V → W) (o : Option V) (w : W) → option_map f o ≡ Some w → (v : V) × (o ≡ Some v) × (f v ≡ w)
@@ -232,7 +198,7 @@ pub touch_is : (s t : State) (pid address len : ℕ) (writes : Bool) (at : Spot)
 touch_is s t pid address len writes at e h = ap (touched s writes) e ∙ h
 
 -- bytes that are written into the frame of the page that is seen
-module _ (tasks : Map ℕ Process) (m : Mapped) (x : Stocked) (online : List ℕ) (moved failed : ℕ) (l : List ℕ) (pid address f : ℕ) (new : List ℕ) (after : Stocked) (kept : IsKept (shown tasks m x online moved failed) l) (stocked : IsStocked x)
+module _ {c : ℕ} (tasks : Map ℕ Process) (m : Table) (x : Stocked) (online : List ℕ) (moved failed : ℕ) (l : List ℕ) (pid address f : ℕ) (new : List ℕ) (after : Stocked) (kept : IsKept (shown tasks m x online moved failed) l c) (stocked : IsStocked x)
     (seen : frame_seen (shown tasks m x online moved failed) pid (address / 4096) ≡ Some f) (is : after ≡ record x { frames = slice_set x.frames f (Some (overwritten (bytes_of x.frames f) (address % 4096) new)) }) where
   pub written_is : shown tasks m after online moved failed
       ≡ with_bytes (shown tasks m x online moved failed) (sight_at (shown tasks m x online moved failed) pid (address / 4096)) (address % 4096) new
@@ -242,9 +208,9 @@ module _ (tasks : Map ℕ Process) (m : Mapped) (x : Stocked) (online : List ℕ
       ∙ written_shows tasks m x online moved failed stocked page.0 f (address % 4096) new page.2
       ∙ ap (λ o. with_bytes (shown tasks m x online moved failed) o (address % 4096) new) (sym page.1)
 
-  pub written_kept : address % 4096 + length new ≤ 4096 → IsKept (shown tasks m after online moved failed) l
+  pub written_kept : address % 4096 + length new ≤ 4096 → IsKept (shown tasks m after online moved failed) l c
   written_kept fits =
       let page = page_of_frame x.place (sight_at (shown tasks m x online moved failed) pid (address / 4096)) f seen in
       let sound = bytes_sound (shown tasks m x online moved failed) l pid (address / 4096) (address % 4096) new (Some (Sees page.0)) kept.sound page.1 fits in
-      subst (λ s. IsKept s l) (sym (written_is ∙ ap (λ o. with_bytes (shown tasks m x online moved failed) o (address % 4096) new) page.1))
-      (record { sound = sound; private = kept.private; indices = kept.indices })
+      subst (λ s. IsKept s l c) (sym (written_is ∙ ap (λ o. with_bytes (shown tasks m x online moved failed) o (address % 4096) new) page.1))
+      (record { sound = sound; as_many = kept.as_many })

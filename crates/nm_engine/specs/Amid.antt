@@ -1,14 +1,13 @@
 -- What the parts of a machine are together, also while a run has not ended.
-use Rattle.std.specs.Prelude.{◌≡◌, ℕ, ◌+◌, ◌^◌, ◌<◌, List, Some}
+use Rattle.std.specs.Prelude.{◌≡◌, ℕ, List, Some}
 use Rattle.std.specs.Ordering.{nat_cmp}
-use Rattle.std.specs.List.{AllByRecursion}
 use Rattle.nm_types.specs.Map.{get}
 use Rattle.nm_types.specs.State.{Process, State, Placed, area_over, page_of}
 use Rattle.nm_engine.specs.declared.touching.Touching.{Touching}
 use Rattle.nm_engine.specs.Tables.{info_of}
 use Rattle.nm_engine.specs.Touch.{Spot}
 use Rattle.nm_engine.specs.Sound.{IsSoundAmid}
-use Rattle.nm_engine.specs.Parts.{AllPrivate}
+use Rattle.nm_types.specs.Layout.{frame_count}
 
 -- a state, and the frames that the pages of a run have left, of which there may be so many
 pub record Amid : Type 0 where
@@ -16,15 +15,10 @@ pub record Amid : Type 0 where
   pub left : List ℕ
   pub room : ℕ
 
--- the last page of an area has an index below 2^64
-abbrev pub HasIndices : Placed → Type 0
-HasIndices a = a.1.page.index + a.1.pages < 2 ^ 64
-
--- sound, and no segment is shared, as long as no call makes a shared one
-pub record IsKept (s : State) (left : List ℕ) : Type 0 where
+-- sound, and the reverse map has as many frames as the nodes
+pub record IsKept (s : State) (left : List ℕ) (frames : ℕ) : Type 0 where
   pub sound : IsSoundAmid s left
-  pub private : AllPrivate s.segments
-  pub indices : AllByRecursion HasIndices s.areas
+  pub as_many : frames ≡ frame_count s.layout
 
 -- a touch of this process under this area
 abbrev pub spot_at : Touching → Process → Placed → Spot

@@ -13,6 +13,11 @@ Makes (Ok value) old new refusal after = (refusal ≡ None) × (new ≡ after)
 Makes (Err (error.Refused e)) old new refusal after = (refusal ≡ Some e) × (new ≡ old)
 Makes (Err error.HostMemory) old new refusal after = new ≡ old
 
+-- a call that changes things and takes no memory: it does so, or is refused for this error and changes nothing
+abbrev pub Alters : {T : Type 0} → Result T Errno → State → State → Option Errno → State → Type 0
+Alters (Ok value) old new refusal after = (refusal ≡ None) × (new ≡ after)
+Alters (Err e) old new refusal after = (refusal ≡ Some e) × (new ≡ old)
+
 -- a call that tells something: it does so, or is refused for this error, or finds no memory on the host
 abbrev pub Tells : {T : Type 0} → Result T MachineError → Option Errno → (T → Type 0) → Type 0
 Tells (Ok value) refusal Holds = (refusal ≡ None) × Holds value

@@ -14,6 +14,7 @@ pub mod Sharing
 pub mod Letting
 pub mod Deciding
 pub mod Starts
+pub mod Asking
 pub use Rattle.nm_types.specs.Map
 pub use Rattle.nm_types.specs.Layout
 pub use Rattle.nm_types.specs.State
@@ -23,9 +24,11 @@ pub use Rattle.nm_runs.specs.Status
 pub use Rattle.nm_runs.specs.Cut
 pub use Rattle.nm_plan.specs.Decide
 pub mod Stocked
-pub mod Mapped
 pub mod Parts
 pub mod Tables
+pub mod Tasked
+pub mod Spaced
+pub mod Tied
 pub mod Seeing
 pub mod Amid
 pub mod Does
@@ -33,3 +36,4 @@ pub mod Entries
 pub mod Audited
 pub mod Policing
 pub mod Setting
+pub mod Errors

@@ -1,40 +1,13 @@
 -- The policy of a range of page numbers of a process, as `mbind(2)` sets it.
-use Rattle.std.specs.Prelude.{ℕ, ◌+◌, ◌-◌, ◌*◌, ◌/◌, ◌%◌, ◌^◌, min, max, ◌==◌, nat_lt, nat_le, Bool, not, ◌&&◌, ◌||◌, List, [], ◌∷◌, ◌++◌, Option, if◌then◌else◌}
-use Rattle.std.specs.Option.{is_some}
-use Rattle.std.specs.List.{list_all, flat_map}
-use Rattle.nm_types.specs.declared.page.Page.{Page}
+use Rattle.std.specs.Prelude.{ℕ, ◌+◌, ◌*◌, ◌/◌, ◌%◌, ◌^◌, ◌==◌, nat_le, not, ◌||◌, [], ◌∷◌, Option, if◌then◌else◌}
+use Rattle.std.specs.List.{flat_map}
 use Rattle.nm_types.specs.declared.area.Policy.{Policy}
-use Rattle.nm_types.specs.declared.area.Area.{Area}
 use Rattle.nm_types.specs.declared.errno.Errno.{Errno}
 use Rattle.nm_types.specs.declared.errno.Errno.TheVariants.{Esrch, Efault, Einval}
-use Rattle.nm_types.specs.Nodes.{up_from}
-use Rattle.nm_types.specs.Map.{Map}
-use Rattle.nm_types.specs.State.{State, Placed, area_over}
-use Rattle.nm_engine.specs.Mapped.{Mapped}
-use Rattle.nm_engine.specs.Effect.{before, behind, parts_outside}
+use Rattle.nm_types.specs.State.{State}
+-- handed on: the policy of a range of areas
+pub use Rattle.nm_areas.specs.Policing.{pages_of, inside, repoliced, is_mapped}
 use Rattle.nm_engine.specs.Refused.{first_error, is_unknown}
-
--- how many whole pages so many bytes want
-abbrev pub pages_of : ℕ → ℕ
-pages_of len = (len + 4095) / 4096
-
--- the part of an area from one page number up to another, with this policy
-abbrev pub inside : ℕ → ℕ → Policy → Placed → List Placed
-inside first end policy a =
-    let from = max first a.0.1 in
-    let last = min end (a.0.1 + a.1.pages) in
-    let page : Page = record { segment = a.1.page.segment; index = a.1.page.index + (from - a.0.1) } in
-    let part : Area = record { pages = last - from; policy = policy; page = page } in
-    if nat_lt from last then ((a.0.0, from), part) ∷ [] else []
-
--- what is in front of the range, inside it and behind it
-abbrev pub repoliced : ℕ → ℕ → ℕ → Policy → Placed → List Placed
-repoliced pid first end policy a =
-    if a.0.0 == pid then before first a ++ inside first end policy a ++ behind end a else a ∷ []
-
--- whether an area of the process is over each of so many page numbers
-abbrev pub is_mapped : Map (ℕ × ℕ) Area → ℕ → ℕ → ℕ → Bool
-is_mapped areas pid first count = list_all (λ v. is_some (area_over areas pid v)) (up_from first count)
 
 -- no such process; an address inside a page, or an end past 2^64 - 1; a page without an area
 abbrev pub policy_refusal : State → ℕ → ℕ → ℕ → Option Errno
@@ -50,16 +23,3 @@ set_policy s pid address len policy =
     let first = address / 4096 in
     if len == 0 then s
     else record s { areas = flat_map (repoliced pid first (first + pages_of len) policy) s.areas }
-
--- the areas of a process are split at a page number ..
-abbrev pub split_at : ℕ → ℕ → Map (ℕ × ℕ) Area → Map (ℕ × ℕ) Area
-split_at pid at areas = flat_map (parts_outside pid at at) areas
-
--- .. and an area that begins in a range has this policy
-abbrev pub painted : ℕ → ℕ → ℕ → Policy → ℕ × ℕ → Area → Area
-painted pid first end policy spot area =
-    if (spot.0 == pid) && (nat_le first spot.1 && nat_lt spot.1 end) then record area { policy = policy } else area
-
--- the areas alone may change
-abbrev pub with_areas : Mapped → Map (ℕ × ℕ) Area → Mapped
-with_areas m areas = record m { areas = areas }

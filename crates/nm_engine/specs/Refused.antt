@@ -1,9 +1,8 @@
 -- Which calls are refused, and with which error.
-use Rattle.std.specs.Prelude.{ℕ, ◌+◌, ◌/◌, ◌%◌, ◌^◌, ◌==◌, nat_lt, nat_le, Bool, false, not, ◌&&◌, ◌||◌, List, [], ◌∷◌, length, Option, Some, None, if◌then◌else◌}
-use Rattle.std.specs.Option.{is_some, unwrap_or, option_map}
+use Rattle.std.specs.Prelude.{ℕ, ◌+◌, ◌/◌, ◌^◌, ◌==◌, nat_lt, nat_le, Bool, not, ◌&&◌, ◌||◌, List, [], ◌∷◌, length, Option, Some, None, if◌then◌else◌}
+use Rattle.std.specs.Option.{is_some}
 use Rattle.std.specs.Ordering.{nat_cmp}
 use Rattle.std.specs.List.{list_any}
-use Rattle.nm_types.specs.declared.area.Segment.{Segment}
 use Rattle.nm_types.specs.declared.errno.Errno.{Errno}
 use Rattle.nm_types.specs.declared.errno.Errno.TheVariants.{Enoent, Esrch, Enomem, Efault, Ebusy, Einval}
 use Rattle.nm_types.specs.declared.seen.Seen.{Seen}
@@ -12,12 +11,10 @@ use Rattle.nm_types.specs.Map.{get}
 use Rattle.nm_types.specs.Layout.{node_count}
 use Rattle.nm_types.specs.State.{State, Placed}
 use Rattle.nm_runs.specs.Seen.{pins_of, look}
+-- handed on: how the first error is found, and what ranges are
+pub use Rattle.nm_areas.specs.Refused.{first_error, is_range, overlaps, is_stretch}
+use Rattle.nm_areas.specs.Refused.{is_room as is_room_in}
 use Rattle.nm_engine.specs.Effect.{pages_between}
-
--- the first of these errors whose condition holds
-abbrev pub first_error : List (Bool × Errno) → Option Errno
-first_error [] = None
-first_error (e ∷ es) = if e.0 then Some e.1 else first_error es
 
 -- whether no process has this pid
 abbrev pub is_unknown : State → ℕ → Bool
@@ -32,29 +29,15 @@ spawn_refusal s pid home allowed =
     let full = nat_le 1024 (length s.processes) in
     first_error (((pid == 0) || not (is_unknown s pid) || bad_nodes, Einval) ∷ (full, Enomem) ∷ [])
 
--- whole pages, at least one, below 2^47
-abbrev pub is_range : ℕ → ℕ → Bool
-is_range address pages = (address % 4096 == 0) && nat_lt 0 pages && nat_le (address / 4096 + pages) (2 ^ 35)
-
--- whether an area of the process is over one of these page numbers
-abbrev pub overlaps : ℕ → ℕ → ℕ → Placed → Bool
-overlaps pid first end a = (a.0.0 == pid) && nat_lt a.0.1 end && nat_lt first (a.0.1 + a.1.pages)
-
 -- whether an area may be made there
 abbrev pub is_room : State → ℕ → ℕ → ℕ → Bool
-is_room s pid address pages =
-    is_range address pages && not (list_any (overlaps pid (address / 4096) (address / 4096 + pages)) s.areas)
+is_room s pid address pages = is_room_in s.areas pid address pages
 
 -- no such process; no room for the area; no segment number left
 abbrev pub map_refusal : State → ℕ → ℕ → ℕ → Option Errno
 map_refusal s pid address pages =
     let full = nat_le 65536 s.next_segment in
     first_error ((is_unknown s pid, Esrch) ∷ (not (is_room s pid address pages), Einval) ∷ (full, Enomem) ∷ [])
-
--- whether so many pages from an offset on are in a shared segment
-abbrev pub is_stretch : Option Segment → ℕ → ℕ → Bool
-is_stretch o offset pages =
-    unwrap_or (option_map (λ segment. segment.shared && nat_le (offset + pages) segment.pages) o) false
 
 -- no such process; no room for the area, or no such stretch of a shared segment
 abbrev pub attach_refusal : State → ℕ → ℕ → ℕ → ℕ → ℕ → Option Errno

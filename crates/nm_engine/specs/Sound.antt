@@ -1,16 +1,17 @@
 -- What holds of every state between two calls.
-use Rattle.std.specs.Prelude.{◌≡◌, ℕ, ◌+◌, ◌^◌, ◌≤◌, ◌<◌, nat_lt, ◌==◌, cond, true, false, List, [], ◌∷◌, length, count_by, Some, IsSome, IsTrue}
+use Rattle.std.specs.Prelude.{◌≡◌, ℕ, ◌+◌, ◌^◌, ◌≤◌, ◌<◌, nat_lt, ◌==◌, cond, false, List, [], length, count_by, Some, IsSome, IsTrue}
 use Rattle.std.specs.List.{sum_by, AllByRecursion}
 use Rattle.std.specs.List.Sorted.{IsStrictlySortedBy}
 use Rattle.std.specs.Map.{keys_of, values_of}
 use Rattle.std.specs.Ordering.{nat_cmp}
 use Rattle.nm_types.specs.declared.page.Page.{Page}
-use Rattle.nm_types.specs.declared.area.Area.{Area}
-use Rattle.nm_types.specs.Map.{Map, get, page_cmp, spot_cmp}
+use Rattle.nm_types.specs.Map.{get, page_cmp, spot_cmp}
 use Rattle.nm_types.specs.Layout.{node_count, frame_count, node_of}
 use Rattle.nm_types.specs.declared.sight.Sight.TheVariants.{ZeroPage, Sees}
-use Rattle.nm_types.specs.State.{State, Placed, covers, page_at, free_list}
+use Rattle.nm_types.specs.State.{State, Placed, page_at, free_list}
 use Rattle.nm_runs.specs.Seen.{sight_at}
+-- handed on: no two areas of a process are over one page number
+pub use Rattle.nm_areas.specs.Mapped.{AreasAreApart}
 use Rattle.nm_engine.specs.Touch.{is_shared}
 use Rattle.nm_engine.specs.Effect.{is_covered}
 
@@ -90,12 +91,6 @@ IsWhole s a =
 -- .. and the next segment's number is new
 abbrev pub SegmentsAreNumbered : State → Type 0
 SegmentsAreNumbered s = (n : ℕ) → IsSome (get nat_cmp s.segments n) → n < s.next_segment
-
--- no two areas of a process are over one page number
-abbrev pub AreasAreApart : Map (ℕ × ℕ) Area → Type 0
-AreasAreApart [] = Unit {0}
-AreasAreApart (a ∷ areas) =
-    AllByRecursion (λ b. (pid v : ℕ) → covers a pid v ≡ true → covers b pid v ≡ false) areas × AreasAreApart areas
 
 -- sound, when a run that has not ended has left these frames
 pub record IsSoundAmid (s : State) (left : List ℕ) : Type 0 where

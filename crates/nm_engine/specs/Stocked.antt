@@ -5,16 +5,43 @@ use Rattle.std.specs.List.Sorted.{IsStrictlySortedBy}
 use Rattle.std.specs.Map.{keys_of}
 use Rattle.nm_types.specs.declared.page.Page.{Page}
 use Rattle.nm_types.specs.Map.{Map, page_cmp, set}
-use Rattle.nm_types.specs.Layout.{Layout, frame_count, owner}
+use Rattle.nm_types.specs.Layout.{Layout, node_count, frame_count, owner}
 use Rattle.nm_types.specs.Nodes.{is_in}
 use Rattle.nm_types.specs.State.{State}
 use Rattle.nm_frames.specs.Store.{Store, IsHome, bytes_of}
 use Rattle.nm_nodes.specs.Pool.{Pool, list_of, appended}
 use Rattle.nm_engine.specs.Sound.{FramesAreOnce}
 
+-- frames by themselves
+pub record Shelf : Type 0 where
+  pub layout : Layout
+  -- by frame its bytes
+  pub frames : Store
+  -- for each node its free frames, the front first
+  pub free : List (List ℕ)
+  -- the frames that the pages of a run have left, and how many there may be
+  pub vacated : List ℕ
+  pub room : ℕ
+
+-- a list for each node, and as many buffers as frames, all of them home
+pub record IsShelf (k : Shelf) : Type 0 where
+  pub lists : length k.free ≡ node_count k.layout
+  pub buffers : length k.frames ≡ frame_count k.layout
+  pub home : (frame : ℕ) → frame < frame_count k.layout → IsHome k.frames frame
+
+-- the free frames of a node
+abbrev pub free_on : Shelf → ℕ → List ℕ
+free_on k node = slice_index_or k.free node []
+
+-- the free frames of all nodes
+abbrev pub pool_of : Shelf → Pool
+pool_of k = record { sizes = k.layout.sizes; lists = k.free }
+
+-- frames, the pages that are in them, and how often each page is pinned
 pub record Stocked : Type 0 where
   pub layout : Layout
   pub place : Map Page ℕ
+  pub pins : Map Page ℕ
   -- by frame its bytes
   pub frames : Store
   -- for each node its free frames, the front first
@@ -57,6 +84,7 @@ stock_page x page node =
     let frame = slice_index (free_of x node) 0 in
     record x {
       place = set page_cmp x.place page frame;
+      pins = set page_cmp x.pins page 0;
       frames = slice_set x.frames frame (Some (replicate 4096 0));
       free = slice_set x.free node (drop 1 (free_of x node));
     }
@@ -84,6 +112,10 @@ CanFree p (frame ∷ frames) = (frame < sum p.sizes) × (is_in (list_of p (owner
 -- the vacated frames are free
 abbrev pub free_all : Stocked → Stocked
 free_all x = record x { free = (with_freed (record { sizes = x.layout.sizes; lists = x.free }) x.vacated).lists; vacated = [] }
+
+-- the same of frames by themselves
+abbrev pub all_freed : Shelf → Shelf
+all_freed k = record k { free = (with_freed (pool_of k) k.vacated).lists; vacated = [] }
 
 -- so many of these bytes from a place on
 abbrev pub stretch_of : List ℕ → ℕ → ℕ → List ℕ

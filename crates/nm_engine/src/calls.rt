@@ -1,16 +1,17 @@
 //! The calls that change processes and areas, and those that tell what there is.
 
-ghost use Rattle.std.specs.Prelude.{◌≡◌, ◌<◌, ◌≤◌, ◌+◌, ◌^◌, ◌/◌, [], false, true, not, nat_le, option_map, IfSome, IfNone, IfOk, Some, None};
+ghost use Rattle.std.specs.Prelude.{◌≡◌, ◌≤◌, [], nat_le, option_map, IfOk};
 ghost use Rattle.std.specs.List.{list_any};
 ghost use Rattle.std.specs.Ordering.{nat_cmp};
-ghost use Rattle.nm_types.specs.Map.{get, with_values};
+ghost use Rattle.nm_types.specs.Map.{get};
 ghost use Rattle.nm_types.specs.Layout.{node_count};
 ghost use Rattle.nm_types.specs.Nodes.{is_in};
 ghost use Rattle.nm_types.specs.State.{free_list};
 ghost use Rattle.nm_engine.specs.Tables.{info_of};
-ghost use Rattle.nm_engine.specs.Effect.{spawn, map_new};
-ghost use Rattle.nm_engine.specs.Refused.{is_range, spawn_refusal, map_refusal, list_refusal, entries_refusal};
-ghost use Rattle.nm_engine.specs.Entries.{entry_of, entries_of};
+ghost use Rattle.nm_engine.specs.Effect.{spawn, map_new, attach};
+ghost use Rattle.nm_engine.specs.Refused.{spawn_refusal, map_refusal, attach_refusal, list_refusal, entries_refusal};
+ghost use Rattle.nm_engine.specs.Policing.{policy_refusal, set_policy};
+ghost use Rattle.nm_engine.specs.Entries.{entries_of};
 ghost use Rattle.nm_engine.specs.Audited.{audited};
 ghost use Rattle.nm_engine.specs.Sound.{IsSound};
 ghost use Rattle.nm_engine.specs.Amid.{with_state};
@@ -20,12 +21,10 @@ use crate::machine::Totals;
 use crate::machine_error::MachineError;
 use crate::parts::Parts;
 use crate::process::ProcessInfo;
-use crate::stock::Stock;
 use nm_tables::Entry;
-use nm_types::limits::{MAX_PROCESSES, MAX_SEGMENTS, PAGE_NUMBERS};
-use nm_types::{Errno, FrameId, NodeId, NodeMask, Pid, Sight, Vpn};
+use nm_types::limits::MAX_PROCESSES;
+use nm_types::{Errno, FrameId, NodeId, NodeMask, Pid, Policy, Vpn};
 use std::alloc::{AllocError, Allocator};
-use std::collections::BTreeMap;
 
 /// Whether a node of a set is not below a count.
 fn has_beyond(nodes: NodeMask, count: usize) -> bool
@@ -39,21 +38,6 @@ fn has_beyond(nodes: NodeMask, count: usize) -> bool
         }
     }
     false
-}
-
-/// The first page number of `pages` pages from an address on, where it is a page's address and they are at least one
-/// page and end below 2^47.
-fn stretch(addr: u64, pages: u64) -> Option<Vpn>
-    ensures some { IfSome result (λ first. (first ≡ addr / 4096) × (is_range addr pages ≡ true) × (0 < pages) × (first + pages ≤ 2 ^ 35)) }
-    ensures none { IfNone result (is_range addr pages ≡ false) }
-{
-    let first = Vpn::of_address(addr);
-    let end = first.number().checked_add(pages)?;
-    if addr % 4096 == 0 && pages > 0 && end <= PAGE_NUMBERS {
-        Some(first)
-    } else {
-        None
-    }
 }
 
 impl<A: Allocator + Copy> Parts<A> {
@@ -77,7 +61,7 @@ impl<A: Allocator + Copy> Parts<A> {
     pub(crate) fn process(&self, pid: Pid) -> Option<ProcessInfo>
         ensures { result ≡ option_map info_of (get nat_cmp self.now.state.processes pid) }
     {
-        self.tasks.info(pid)
+        self.spaces.info(pid)
     }
 
     /// The totals so far.
@@ -96,40 +80,74 @@ impl<A: Allocator + Copy> Parts<A> {
     {
         let count = self.stock.node_count();
         if pid.number() == 0
-            || self.tasks.info(pid).is_some()
+            || self.spaces.info(pid).is_some()
             || info.home.index() >= count
             || info.allowed.is_empty()
             || has_beyond(info.allowed, count)
         {
             return Err(MachineError::Refused(Errno::Einval));
         }
-        if self.tasks.len() >= MAX_PROCESSES {
+        if self.spaces.len() >= MAX_PROCESSES {
             return Err(MachineError::Refused(Errno::Enomem));
         }
-        self.tasks.add(pid, info)?;
+        self.spaces.add(pid, info)?;
         Ok(())
     }
 
-    /// Makes a private segment and an area of the process over all of it.
-    pub(crate) fn map(&mut self, pid: Pid, addr: u64, pages: u64) -> Result<u32, MachineError>
+    /// Makes a segment and an area of the process over all of it.
+    pub(crate) fn map(
+        &mut self,
+        pid: Pid,
+        addr: u64,
+        pages: u64,
+        shared: bool,
+    ) -> Result<u32, MachineError>
         requires { self.old.left ≡ [] }
-        ensures done { Makes result self.old.state self.new.state (map_refusal self.old.state pid addr pages) (map_new self.old.state pid addr pages false) }
+        ensures done { Makes result self.old.state self.new.state (map_refusal self.old.state pid addr pages) (map_new self.old.state pid addr pages shared) }
         ensures number { IfOk result (λ number. number ≡ self.old.state.next_segment) }
         ensures same { self.new ≡ with_state self.old self.new.state }
     {
-        if self.tasks.info(pid).is_none() {
+        if self.spaces.info(pid).is_none() {
             return Err(MachineError::Refused(Errno::Esrch));
         }
-        let Some(first) = stretch(addr, pages) else {
-            return Err(MachineError::Refused(Errno::Einval));
-        };
-        if !self.areas.is_free(pid, first, pages) {
-            return Err(MachineError::Refused(Errno::Einval));
+        Ok(self.spaces.map(pid, addr, pages, shared)?)
+    }
+
+    /// Makes an area of the process over a stretch of a shared segment.
+    pub(crate) fn attach(
+        &mut self,
+        pid: Pid,
+        addr: u64,
+        segment: u32,
+        offset: u64,
+        pages: u64,
+    ) -> Result<(), MachineError>
+        requires { self.old.left ≡ [] }
+        ensures done { Makes result self.old.state self.new.state (attach_refusal self.old.state pid addr segment offset pages) (attach self.old.state pid addr segment offset pages) }
+        ensures same { self.new ≡ with_state self.old self.new.state }
+    {
+        if self.spaces.info(pid).is_none() {
+            return Err(MachineError::Refused(Errno::Esrch));
         }
-        if self.areas.next_segment() >= MAX_SEGMENTS {
-            return Err(MachineError::Refused(Errno::Enomem));
+        Ok(self.spaces.attach(pid, addr, segment, offset, pages)?)
+    }
+
+    /// Sets the policy of the whole pages of a range of addresses of a process, and of no others.
+    pub(crate) fn set_policy(
+        &mut self,
+        pid: Pid,
+        addr: u64,
+        len: u64,
+        policy: Policy,
+    ) -> Result<(), MachineError>
+        requires { self.old.left ≡ [] }
+        ensures done { Makes result self.old.state self.new.state (policy_refusal self.old.state pid addr len) (set_policy self.old.state pid addr len policy) }
+        ensures same { self.new ≡ with_state self.old self.new.state }
+    {
+        if self.spaces.info(pid).is_none() {
+            return Err(MachineError::Refused(Errno::Esrch));
         }
-        Ok(self.areas.map(pid, first, pages)?)
+        Ok(self.spaces.set_policy(pid, addr, len, policy)?)
     }
 
     /// The free frames of a node, the front first.
@@ -146,42 +164,18 @@ impl<A: Allocator + Copy> Parts<A> {
     pub(crate) fn entries(&self, pid: Pid) -> Result<Vec<(Vpn, Entry), A>, MachineError>
         ensures { Tells result (entries_refusal self.now.state pid) (λ entries. entries.items ≡ entries_of self.now.state pid) }
     {
-        let Some(sees) = self.tasks.sees(pid) else {
-            return Err(MachineError::Refused(Errno::Esrch));
-        };
-        Ok(list_entries(self.alloc, &self.stock, sees)?)
+        match self.spaces.entries(pid)? {
+            Some(entries) => Ok(entries),
+            None => Err(MachineError::Refused(Errno::Esrch)),
+        }
     }
 
     /// Whether each frame stands once, in its own node's list or as the place of a page.
     pub(crate) fn audit(&self) -> Result<bool, AllocError>
         ensures { IfOk result (λ b. b ≡ audited self.now.state) }
     {
-        self.stock.audit(self.alloc)
-    }
-}
-
-/// What stands in the table of a process, by page number.
-fn list_entries<A: Allocator + Copy>(
-    alloc: A,
-    stock: &Stock<A>,
-    sees: &BTreeMap<Vpn, Sight, A>,
-) -> Result<Vec<(Vpn, Entry), A>, AllocError>
-    ensures { IfOk result (λ entries. entries.items ≡ with_values (λ v sight. entry_of stock.now.place sight) sees.now.entries) }
-{
-    sees.iter()
-        .map(|(vpn, sight)| (*vpn, entry_of(stock, *sight)))
-        .collect(alloc)
-}
-
-/// What stands in the table of a process that sees this.
-fn entry_of<A: Allocator + Copy>(stock: &Stock<A>, sight: Sight) -> Entry
-    ensures { result ≡ entry_of stock.now.place sight }
-{
-    match sight {
-        Sight::ZeroPage => Entry::Zero,
-        Sight::Sees(page) => match stock.place(page) {
-            Some(frame) => Entry::Frame(frame),
-            None => Entry::Zero,
-        },
+        let places = self.spaces.places()?;
+        let once = self.stock.audit(self.alloc, places.as_slice())?;
+        Ok(once)
     }
 }

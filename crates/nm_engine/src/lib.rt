@@ -1,16 +1,18 @@
 //! The machine: processes, areas and pages over nodes of frames, and the moving of pages from one node to another.
 #![tactic(auto)]
 
-mod area_map;
+mod asking;
 mod audit;
 mod calls;
 pub mod laws;
+mod letting;
 mod machine;
 mod machine_error;
+mod mapping;
 mod moving;
 mod parts;
-mod policing;
 mod process;
+mod spaces;
 mod stock;
 mod tasks;
 mod touch;
@@ -18,6 +20,5 @@ mod touching;
 
 pub use machine::{Machine, Totals};
 pub use machine_error::MachineError;
-pub use nm_runs::{Run, Wanted};
 pub use nm_tables::Entry;
 pub use process::ProcessInfo;

@@ -9,20 +9,21 @@ ghost use Rattle.nm_types.specs.State.{free_list};
 ghost use Rattle.nm_engine.specs.Tables.{info_of};
 ghost use Rattle.nm_engine.specs.Touch.{Bytes, Done, read, write};
 ghost use Rattle.nm_engine.specs.Run.{run};
-ghost use Rattle.nm_engine.specs.Effect.{new_machine, spawn, map_new};
-ghost use Rattle.nm_engine.specs.Refused.{spawn_refusal, map_refusal, list_refusal, entries_refusal};
+ghost use Rattle.nm_engine.specs.Effect.{new_machine, spawn, map_new, attach, pin, unpin, unmap, exit};
+ghost use Rattle.nm_engine.specs.Refused.{spawn_refusal, map_refusal, attach_refusal, pin_refusal, unpin_refusal, unmap_refusal, exit_refusal, list_refusal, entries_refusal};
 ghost use Rattle.nm_engine.specs.Policing.{policy_refusal, set_policy};
 ghost use Rattle.nm_engine.specs.Entries.{entries_of};
 ghost use Rattle.nm_engine.specs.Audited.{audited};
+ghost use Rattle.nm_engine.specs.Asking.{node_status};
 ghost use Rattle.nm_engine.specs.Sound.{IsSound};
-ghost use Rattle.nm_engine.specs.Does.{Makes, Tells, Accesses};
+ghost use Rattle.nm_engine.specs.Does.{Makes, Alters, Tells, Accesses};
 
 use crate::machine_error::MachineError;
 use crate::parts::Parts;
 use crate::process::ProcessInfo;
 use nm_runs::Run;
 use nm_tables::Entry;
-use nm_types::{FrameId, Geometry, NodeId, NodeMask, Pid, Policy, Vpn};
+use nm_types::{Errno, FrameId, Geometry, NodeId, NodeMask, Pid, Policy, Vpn};
 use std::alloc::{AllocError, Allocator};
 use std::marker::Model;
 
@@ -119,14 +120,72 @@ impl<A: Allocator + Copy + Send + Sync> Machine<A> {
         self.parts.spawn(pid, info)
     }
 
-    /// Makes a private segment of so many pages and an area of the process over all of it, with the default policy.
-    /// Gives the segment's number. ESRCH without such a process; EINVAL for an address that is no multiple of 4,096, no
-    /// page, an end beyond 2^47, or an area of the process in the way; then ENOMEM where 65,536 segments were made.
-    pub fn map(&mut self, pid: Pid, addr: u64, pages: u64) -> Result<u32, MachineError>
-        ensures done { Makes result self.old self.new (map_refusal self.old pid addr pages) (map_new self.old pid addr pages false) }
+    /// Makes a segment of so many pages, private or shared, and an area of the process over all of it, with the default
+    /// policy. Gives the segment's number, which is not given again. ESRCH without such a process; EINVAL for an address
+    /// that is no multiple of 4,096, no page, an end beyond 2^47, or an area of the process in the way; then ENOMEM where
+    /// 65,536 segments were made. A refused call uses no number.
+    pub fn map(
+        &mut self,
+        pid: Pid,
+        addr: u64,
+        pages: u64,
+        shared: bool,
+    ) -> Result<u32, MachineError>
+        ensures done { Makes result self.old self.new (map_refusal self.old pid addr pages) (map_new self.old pid addr pages shared) }
         ensures number { IfOk result (λ number. number ≡ self.old.next_segment) }
     {
-        self.parts.map(pid, addr, pages)
+        self.parts.map(pid, addr, pages, shared)
+    }
+
+    /// Makes an area of the process over so many pages of a shared segment, from an offset on that is counted in pages,
+    /// with the default policy. ESRCH without such a process; EINVAL as for `map`, and for a segment that is not there,
+    /// is private or ends before the area would.
+    pub fn attach(
+        &mut self,
+        pid: Pid,
+        addr: u64,
+        segment: u32,
+        offset: u64,
+        pages: u64,
+    ) -> Result<(), MachineError>
+        ensures { Makes result self.old self.new (attach_refusal self.old pid addr segment offset pages) (attach self.old pid addr segment offset pages) }
+    {
+        self.parts.attach(pid, addr, segment, offset, pages)
+    }
+
+    /// Pins the page that a process sees at an address once more: it does not move until it is unpinned as often. ESRCH
+    /// without such a process; EFAULT without an area there, and for the page of zeros; ENOENT where nothing was touched;
+    /// EBUSY where the page has 65,535 pins. It takes no memory.
+    pub fn pin(&mut self, pid: Pid, addr: u64) -> Result<(), Errno>
+        ensures { Alters result self.old self.new (pin_refusal self.old pid addr) (pin self.old pid addr) }
+    {
+        self.parts.pin(pid, addr)
+    }
+
+    /// Takes one pin off the page that a process sees at an address, whoever pinned it. ESRCH, EFAULT and ENOENT as for
+    /// `pin`; EINVAL where the page has no pin. It takes no memory.
+    pub fn unpin(&mut self, pid: Pid, addr: u64) -> Result<(), Errno>
+        ensures { Alters result self.old self.new (unpin_refusal self.old pid addr) (unpin self.old pid addr) }
+    {
+        self.parts.unpin(pid, addr)
+    }
+
+    /// A process lets go so many pages from an address on, where it may have holes: what it sees there, and its areas'
+    /// parts there. A page that no area of any process covers any more loses its frame, which becomes free, by ascending
+    /// address, a page at its lowest. ESRCH without such a process; EINVAL for an address that is no multiple of 4,096,
+    /// no page, or an end beyond 2^47; EBUSY where an area shows a pinned page there.
+    pub fn unmap(&mut self, pid: Pid, addr: u64, pages: u64) -> Result<(), MachineError>
+        ensures { Makes result self.old self.new (unmap_refusal self.old pid addr pages) (unmap self.old pid addr pages) }
+    {
+        self.parts.unmap(pid, addr, pages)
+    }
+
+    /// A process lets go all that it has, as by one `unmap`, and is no more. Its pid may come again. ESRCH without such a
+    /// process; EBUSY where one of its areas shows a pinned page.
+    pub fn exit(&mut self, pid: Pid) -> Result<(), MachineError>
+        ensures { Makes result self.old self.new (exit_refusal self.old pid) (exit self.old pid) }
+    {
+        self.parts.exit(pid)
     }
 
     /// Sets where the new pages of `len` bytes from an address on are placed, rounded up to whole pages, as `mbind(2)`
@@ -164,7 +223,8 @@ impl<A: Allocator + Copy + Send + Sync> Machine<A> {
 
     /// Decides the requests of a run one after another, and gives a status for each: the target's number where the page
     /// is there now, or an error's number with a minus sign. -14 (EFAULT) without an area, or for the page of zeros; -2
-    /// (ENOENT) where nothing was touched; -12 (ENOMEM) where the target has no free frame. A page takes the front of the
+    /// (ENOENT) where nothing was touched; -13 (EACCES) where another process sees the page and the request does not ask
+    /// for all; -16 (EBUSY) for a pinned page; -12 (ENOMEM) where the target has no free frame. A page takes the front of the
     /// target's free frames. The frames that pages leave become free at the run's end, in the order of the moves. The
     /// totals count the moves, and the requests with -12. An error means that the machine is as it was.
     pub fn run_flight(&mut self, requests: &Run<A>) -> Result<Vec<i32, A>, AllocError>
@@ -194,6 +254,14 @@ impl<A: Allocator + Copy + Send + Sync> Machine<A> {
         ensures { Tells result (entries_refusal self.now pid) (λ entries. entries.items ≡ entries_of self.now pid) }
     {
         self.parts.entries(pid)
+    }
+
+    /// Where the page is that a process sees at a page number: its node's number, or an error's number with a minus sign:
+    /// -14 (EFAULT) without an area, or for the page of zeros; -2 (ENOENT) where nothing was touched.
+    pub fn node_status(&self, pid: Pid, vpn: Vpn) -> i32
+        ensures { result ≡ node_status self.now pid vpn }
+    {
+        self.parts.node_status(pid, vpn)
     }
 
     /// Whether each frame of the machine stands exactly once in its own node's list of free frames, or is the place of

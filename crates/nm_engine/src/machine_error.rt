@@ -2,7 +2,9 @@
 
 ghost use Rattle.std.specs.Prelude.{◌≡◌};
 ghost use Rattle.nm_engine.specs.declared.machine_error.MachineError.TheVariants.{HostMemory};
+ghost use Rattle.nm_engine.specs.Errors.{of_areas};
 
+use nm_areas::AreaError;
 use nm_types::Errno;
 use std::alloc::{AllocError, AllocFailed};
 use thiserror::Error;
@@ -23,6 +25,17 @@ impl From<AllocError> for MachineError {
 
     fn from(_e: AllocError) -> MachineError {
         MachineError::HostMemory
+    }
+}
+
+impl From<AreaError> for MachineError {
+    ghost from_gives = { λ error e. e ≡ of_areas error };
+
+    fn from(error: AreaError) -> MachineError {
+        match error {
+            AreaError::Refused(errno) => MachineError::Refused(errno),
+            AreaError::HostMemory => MachineError::HostMemory,
+        }
     }
 }
 

@@ -1,16 +1,20 @@
 //! Runs: pages that move to one node, one after another.
 
-ghost use Rattle.std.specs.Prelude.{◌≡◌, ◌+◌, ◌<◌, ◌≤◌, [], ◌++◌, length, vec_len, vec_capacity, Bool, false, OnOk};
+ghost use Rattle.std.specs.Prelude.{◌≡◌, ◌+◌, ◌<◌, ◌≤◌, [], ◌∷◌, ◌++◌, ◌&&◌, not, nat_lt, length, vec_len, vec_capacity, Some, OnOk};
+ghost use Rattle.std.specs.Bool.{OnTrue, OnFalse};
 ghost use Rattle.nm_types.specs.Layout.{node_count};
 ghost use Rattle.nm_types.specs.Map.{get, page_cmp};
 ghost use Rattle.nm_runs.specs.declared.Wanted.TheVariants.{At};
+ghost use Rattle.nm_types.specs.State.{free_list};
+ghost use Rattle.nm_runs.specs.declared.Class.TheVariants.{Move};
+ghost use Rattle.nm_runs.specs.Seen.{users};
 ghost use Rattle.nm_runs.specs.Status.{page_status, status_or_move};
-ghost use Rattle.nm_engine.specs.Run.{one, each, left, with_all_free, failures, counted};
+ghost use Rattle.nm_engine.specs.Run.{decided, one, each, left, with_all_free, failures, counted};
 
 use crate::machine::Totals;
 use crate::parts::Parts;
 use nm_runs::{Class, Wanted};
-use nm_types::{Errno, NodeId, Page, Pid, Sight, Vpn};
+use nm_types::{Errno, FrameId, NodeId, Page, Pid, Sight, Vpn};
 use std::alloc::{AllocError, Allocator};
 
 impl<A: Allocator + Copy> Parts<A> {
@@ -54,13 +58,35 @@ impl<A: Allocator + Copy> Parts<A> {
         match self.class_of(target, wanted) {
             Class::Status(status) => status,
             Class::Move { page, from } => {
-                if self.stock.move_page(page, from, target) {
+                if self.move_page(page, from, target) {
                     target.number() as i32
                 } else {
                     -Errno::Enomem.number()
                 }
             }
         }
+    }
+
+    /// Moves a page to the front free frame of a node: its bytes are copied, and then every entry that named the frame
+    /// that it leaves names the other. Whether the node had a free frame.
+    fn move_page(&mut self, page: Page, from: FrameId, target: NodeId) -> bool
+        requires placed { get page_cmp self.old.state.place page ≡ Some from }
+        requires target { target < node_count self.old.state.layout }
+        requires room { length self.old.left < self.old.room }
+        ensures some { OnTrue result (0 < length (free_list self.old.state target)) }
+        ensures state { OnTrue result (self.new.state ≡ (decided self.old.state target (Move page from)).state) }
+        ensures left { OnTrue result (self.new.left ≡ self.old.left ++ from ∷ []) }
+        ensures full { OnFalse result (free_list self.old.state target ≡ []) }
+        ensures same { OnFalse result (self.new ≡ self.old) }
+        ensures room { self.new.room ≡ self.old.room }
+    {
+        let Some(to) = self.stock.take_front(target) else {
+            return false;
+        };
+        self.stock.copy(from, to);
+        self.spaces.move_page(page, from, to);
+        self.stock.vacate(from);
+        true
     }
 
     /// What is to be done with a request.
@@ -71,38 +97,41 @@ impl<A: Allocator + Copy> Parts<A> {
     {
         prove!(self.stock.node_count() <= 64);
         match wanted {
-            Wanted::At { pid, vpn, .. } => self.class_seen(target, pid, vpn),
-            Wanted::Whole(page) => self.class_of_page(target, page),
+            Wanted::At { pid, vpn, all } => self.class_seen(target, pid, vpn, all),
+            Wanted::Whole(page) => self.class_of_page(target, page, true),
         }
     }
 
-    /// What is to be done with the page that a process sees at a page number. No other process sees it, as long as every
-    /// segment is private.
-    fn class_seen(&self, target: NodeId, pid: Pid, vpn: Vpn) -> Class
+    /// What is to be done with the page that a process sees at a page number.
+    fn class_seen(&self, target: NodeId, pid: Pid, vpn: Vpn, all: bool) -> Class
         requires { target < node_count self.now.state.layout }
-        ensures { (all : Bool) → result ≡ status_or_move self.now.state target (At pid vpn all) }
+        ensures { result ≡ status_or_move self.now.state target (At pid vpn all) }
     {
-        if self.areas.over(pid, vpn).is_none() {
+        if self.spaces.over(pid, vpn).is_none() {
             return Class::Status(-Errno::Efault.number());
         }
-        match self.tasks.sight(pid, vpn) {
+        match self.spaces.sight(pid, vpn) {
             None => Class::Status(-Errno::Enoent.number()),
             Some(Sight::ZeroPage) => Class::Status(-Errno::Efault.number()),
-            Some(Sight::Sees(page)) => self.class_of_page(target, page),
+            Some(Sight::Sees(page)) => self.class_of_page(target, page, all),
         }
     }
 
-    /// What is to be done with a page. As long as every segment is private and no page is pinned, every page may move.
-    fn class_of_page(&self, target: NodeId, page: Page) -> Class
+    /// What is to be done with a page, which moves though several processes see it only if all are asked for.
+    fn class_of_page(&self, target: NodeId, page: Page, all: bool) -> Class
         requires { target < node_count self.now.state.layout }
-        ensures { result ≡ page_status self.now.state target false page (get page_cmp self.now.state.place page) }
+        ensures { result ≡ page_status self.now.state target (nat_lt 1 (length (users self.now.state page)) && not all) page (get page_cmp self.now.state.place page) }
     {
         prove!(self.stock.node_count() <= 64);
-        let Some(from) = self.stock.place(page) else {
+        let Some(from) = self.spaces.place(page) else {
             return Class::Status(-Errno::Enoent.number());
         };
         if self.stock.node_of(from) == target {
             Class::Status(target.number() as i32)
+        } else if self.spaces.users(from) > 1 && !all {
+            Class::Status(-Errno::Eacces.number())
+        } else if self.spaces.is_pinned(from) {
+            Class::Status(-Errno::Ebusy.number())
         } else {
             Class::Move { page, from }
         }

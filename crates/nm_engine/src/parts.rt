@@ -5,10 +5,9 @@ ghost use Rattle.nm_types.specs.Layout.{node_count};
 ghost use Rattle.nm_types.specs.Nodes.{up_from};
 ghost use Rattle.nm_engine.specs.Effect.{new_machine};
 
-use crate::area_map::AreaMap;
 use crate::machine::Totals;
+use crate::spaces::Spaces;
 use crate::stock::Stock;
-use crate::tasks::Tasks;
 use nm_types::{Geometry, NodeId, NodeMask};
 use std::alloc::{AllocError, Allocator};
 use std::marker::Model;
@@ -16,8 +15,7 @@ use std::marker::Model;
 /// All that calls change, also while pages of a run are on their way.
 #[derive(Drop)]
 pub(crate) struct Parts<A: Allocator + Copy> {
-    pub(crate) tasks: Tasks<A>,
-    pub(crate) areas: AreaMap<A>,
+    pub(crate) spaces: Spaces<A>,
     pub(crate) stock: Stock<A>,
     pub(crate) online: NodeMask,
     pub(crate) totals: Totals,
@@ -25,18 +23,18 @@ pub(crate) struct Parts<A: Allocator + Copy> {
 }
 
 impl<A: Allocator + Copy> Model for Parts<A> {
-    ghost use Rattle.nm_engine.specs.Parts.{shown};
+    ghost use Rattle.nm_engine.specs.Parts.{shown_by};
     ghost use Rattle.nm_engine.specs.Amid.{Amid, IsKept};
 
     ghost Value = { Amid };
 
     ghost view = { λ p. record {
-      state = shown p.tasks p.areas p.stock p.online p.totals.moved p.totals.failed;
+      state = shown_by p.spaces p.stock p.online p.totals.moved p.totals.failed;
       left = p.stock.vacated;
       room = p.stock.room;
     } };
 
-    ghost invariant = { λ p. IsKept (shown p.tasks p.areas p.stock p.online p.totals.moved p.totals.failed) p.stock.vacated };
+    ghost invariant = { λ p. IsKept (shown_by p.spaces p.stock p.online p.totals.moved p.totals.failed) p.stock.vacated p.spaces.frames };
 }
 
 impl<A: Allocator + Copy> Parts<A> {
@@ -47,8 +45,7 @@ impl<A: Allocator + Copy> Parts<A> {
     {
         let online = all_nodes(geometry.node_count());
         Ok(Parts {
-            tasks: Tasks::new(alloc),
-            areas: AreaMap::new(alloc),
+            spaces: Spaces::new(alloc, geometry.frame_count())?,
             stock: Stock::new(alloc, geometry)?,
             online,
             totals: Totals {

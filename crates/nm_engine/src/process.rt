@@ -1,8 +1,8 @@
-//! Processes and what they see.
+//! Processes and their page tables.
 
-use nm_types::{NodeId, NodeMask, Sight, Vpn};
+use nm_tables::PageTable;
+use nm_types::{NodeId, NodeMask};
 use std::alloc::Allocator;
-use std::collections::BTreeMap;
 use std::marker::Model;
 
 /// What `spawn` fixed of a process.
@@ -18,23 +18,17 @@ pub struct ProcessInfo {
     pub allowed: NodeMask,
 }
 
-/// A process with what it has touched.
+/// A process with its page table.
 #[derive(Drop)]
 pub(crate) struct Task<A: Allocator + Copy> {
     pub(crate) info: ProcessInfo,
-    pub(crate) sees: BTreeMap<Vpn, Sight, A>,
+    pub(crate) table: PageTable<A>,
 }
 
 impl<A: Allocator + Copy> Model for Task<A> {
-    ghost use Rattle.nm_types.specs.State.{Process};
+    ghost use Rattle.nm_engine.specs.Tasked.{Task};
 
-    ghost Value = { Process };
+    ghost Value = { Task };
 
-    ghost view = { λ t. record {
-      uid = t.info.uid;
-      privileged = t.info.privileged;
-      home = t.info.home;
-      allowed = t.info.allowed;
-      sees = t.sees.entries;
-    } };
+    ghost view = { λ t. record { info = t.info; table = t.table } };
 }

@@ -1,31 +1,25 @@
-//! The machine's frames: whose they are, which are free, and what they hold.
+//! The machine's frames: which are free, and what they hold.
 
-ghost use Rattle.std.specs.Prelude.{◌≡◌, ◌≢◌, ◌+◌, ◌<◌, ◌≤◌, [], ◌++◌, length, vec_capacity, vec_len, None, Some, IsSome, IfSome, IfOk, OnOk, OnErr, slice_index, slice_set};
-ghost use Rattle.std.specs.Bool.{OnTrue, OnFalse};
+ghost use Rattle.std.specs.Prelude.{◌≡◌, ◌≢◌, ◌+◌, ◌<◌, ◌≤◌, [], ◌∷◌, ◌++◌, length, vec_capacity, vec_len, Some, IfOk, OnOk, replicate, drop, slice_get, slice_set};
 ghost use Rattle.nm_types.specs.Layout.{node_count, frame_count, node_of};
-ghost use Rattle.nm_types.specs.Map.{get, replace, page_cmp};
-ghost use Rattle.std.specs.List.Sorted.{IsStrictlySortedBy};
-ghost use Rattle.std.specs.Map.{keys_of, values_of};
-ghost use Rattle.nm_nodes.specs.Pool.{list_of};
+ghost use Rattle.nm_nodes.specs.Pool.{list_of, appended};
 ghost use Rattle.nm_frames.specs.Store.{IsHome, bytes_of, overwrite};
 ghost use Rattle.nm_engine.specs.Audited.{is_audited, numbered};
 ghost use Rattle.nm_engine.specs.Effect.{all_frames};
-ghost use Rattle.nm_engine.specs.Stocked.{free_of, IsStocked, stock_page, restock_page, free_all, CanFree, with_freed, stretch_of};
+ghost use Rattle.nm_engine.specs.Stocked.{IsShelf, free_on, pool_of, all_freed, CanFree, with_freed, stretch_of};
 
 use crate::audit;
 use nm_frames::{CopyJob, FrameStore};
 use nm_nodes::NodePool;
-use nm_types::{FrameId, Geometry, NodeId, Page};
+use nm_types::{FrameId, Geometry, NodeId};
 use std::alloc::{AllocError, Allocator};
-use std::collections::BTreeMap;
 use std::marker::Model;
 
-/// The frames of all nodes with their bytes, the place of each page that has one, and the frames that a run's pages left
-/// and that become free at its end.
+/// The frames of all nodes with their bytes, the free ones by node, and those that a run's pages left and that become
+/// free at its end.
 #[derive(Drop)]
 pub(crate) struct Stock<A: Allocator + Copy> {
     geometry: Geometry<A>,
-    places: BTreeMap<Page, FrameId, A>,
     frames: FrameStore<A>,
     nodes: NodePool<A>,
     vacated: Vec<FrameId, A>,
@@ -33,22 +27,20 @@ pub(crate) struct Stock<A: Allocator + Copy> {
 
 impl<A: Allocator + Copy> Model for Stock<A> {
     ghost use Rattle.std.specs.Prelude.{◌≡◌, vec_capacity};
-    ghost use Rattle.nm_engine.specs.Stocked.{Stocked, IsStocked};
+    ghost use Rattle.nm_engine.specs.Stocked.{Shelf, IsShelf};
 
-    ghost Value = { Stocked };
+    ghost Value = { Shelf };
 
     ghost view = { λ s. record {
       layout = s.geometry;
-      place = s.places.entries;
       frames = s.frames;
       free = s.nodes.lists;
       vacated = s.vacated.items;
       room = vec_capacity s.vacated;
     } };
 
-    ghost invariant = { λ s. (s.nodes.sizes ≡ s.geometry.sizes) × IsStocked (record {
+    ghost invariant = { λ s. (s.nodes.sizes ≡ s.geometry.sizes) × IsShelf (record {
       layout = s.geometry;
-      place = s.places.entries;
       frames = s.frames;
       free = s.nodes.lists;
       vacated = s.vacated.items;
@@ -60,15 +52,14 @@ impl<A: Allocator + Copy> Stock<A> {
     /// The frames of these nodes, all free.
     pub(crate) fn new(alloc: A, geometry: Geometry<A>) -> Result<Self, AllocError>
         ensures layout { IfOk result (λ s. s.layout ≡ geometry) }
-        ensures place { IfOk result (λ s. s.place ≡ []) }
         ensures free { IfOk result (λ s. s.free ≡ all_frames 0 geometry.sizes) }
         ensures vacated { IfOk result (λ s. s.vacated ≡ []) }
+        ensures shelf { IfOk result (λ s. IsShelf s) }
     {
         let frames = FrameStore::new(alloc, geometry.frame_count())?;
         let nodes = NodePool::new(alloc, &geometry)?;
         Ok(Stock {
             geometry,
-            places: BTreeMap::new(alloc),
             frames,
             nodes,
             vacated: Vec::new(alloc),
@@ -98,17 +89,9 @@ impl<A: Allocator + Copy> Stock<A> {
         self.geometry.node_of(frame)
     }
 
-    /// The frame in which a page stands.
-    pub(crate) fn place(&self, page: Page) -> Option<FrameId>
-        ensures place { result ≡ get page_cmp self.now.place page }
-        ensures known { IfSome result (λ frame. frame < frame_count self.now.layout) }
-    {
-        self.places.get(&page).copied()
-    }
-
     /// How many free frames a node has, which are none where there is no such node.
     pub(crate) fn free_count(&self, node: NodeId) -> usize
-        ensures { result ≡ length (free_of self.now node) }
+        ensures { result ≡ length (free_on self.now node) }
     {
         if node.index() < self.node_count() {
             self.nodes.free_count(node)
@@ -120,9 +103,28 @@ impl<A: Allocator + Copy> Stock<A> {
     /// The free frames of a node, the front first.
     pub(crate) fn free_list(&self, alloc: A, node: NodeId) -> Result<Vec<FrameId, A>, AllocError>
         requires { node < node_count self.now.layout }
-        ensures { IfOk result (λ frames. frames.items ≡ free_of self.now node) }
+        ensures { IfOk result (λ frames. frames.items ≡ free_on self.now node) }
     {
         list_of(alloc, &self.nodes, node)
+    }
+
+    /// The front of a node's free frames.
+    pub(crate) fn front(&self, node: NodeId) -> Option<FrameId>
+        requires { node < node_count self.now.layout }
+        ensures front { result ≡ slice_get (free_on self.now node) 0 }
+        ensures shelf { IsShelf self.now }
+    {
+        self.nodes.nth(node, 0)
+    }
+
+    /// Takes the front of a node's free frames.
+    pub(crate) fn take_front(&mut self, node: NodeId) -> Option<FrameId>
+        requires { node < node_count self.old.layout }
+        ensures front { result ≡ slice_get (free_on self.old node) 0 }
+        ensures rest { self.new ≡ record (self.old) { free = slice_set self.old.free node (drop 1 (free_on self.old node)) } }
+        ensures shelf { IsShelf self.old }
+    {
+        self.nodes.take_front(node)
     }
 
     /// Puts so many bytes of a frame from `at` on behind those of a list that has room for them.
@@ -139,30 +141,28 @@ impl<A: Allocator + Copy> Stock<A> {
     pub(crate) fn write(&mut self, frame: FrameId, at: usize, bytes: &[u8])
         requires frame { frame < frame_count self.old.layout }
         requires inside { at + length bytes.now ≤ 4096 }
-        ensures stocked { IsStocked self.old }
         ensures written { self.new ≡ record (self.old) { frames = slice_set self.old.frames frame (Some (overwrite (bytes_of self.old.frames frame) at bytes.now)) } }
+        ensures shelf { IsShelf self.old }
     {
         self.frames.write(frame, at, bytes);
     }
 
-    /// Gives a page without a frame the front frame of a node that has one, with zeros in it.
-    pub(crate) fn allocate(&mut self, page: Page, node: NodeId) -> Result<FrameId, AllocError>
-        requires node { node < node_count self.old.layout }
-        requires unplaced { get page_cmp self.old.place page ≡ None }
-        requires some_free { 0 < length (free_of self.old node) }
-        ensures frame { IfOk result (λ frame. frame ≡ slice_index (free_of self.old node) 0) }
-        ensures known { IfOk result (λ frame. frame < frame_count self.old.layout) }
-        ensures stocked { IsStocked self.old }
-        ensures ok { OnOk result (self.new ≡ stock_page self.old page node) }
-        ensures err { OnErr result (self.new ≡ self.old) }
+    /// Puts zeros in place of all bytes of a frame.
+    pub(crate) fn zero(&mut self, frame: FrameId)
+        requires { frame < frame_count self.old.layout }
+        ensures { self.new ≡ record (self.old) { frames = slice_set self.old.frames frame (Some (replicate 4096 0)) } }
     {
-        let Some(frame) = self.nodes.nth(node, 0) else {
-            unreachable!()
-        };
-        self.places.insert(page, frame)?;
-        self.nodes.take_front(node);
         self.frames.zero(frame);
-        Ok(frame)
+    }
+
+    /// Makes the bytes of one frame those of another.
+    pub(crate) fn copy(&mut self, from: FrameId, to: FrameId)
+        requires from { from < frame_count self.old.layout }
+        requires to { to < frame_count self.old.layout }
+        requires apart { from ≢ to }
+        ensures { self.new ≡ record (self.old) { frames = slice_set self.old.frames to (Some (bytes_of self.old.frames from)) } }
+    {
+        copy_frame(&mut self.frames, from, to);
     }
 
     /// Makes room for so many frames that a run's pages may leave.
@@ -180,68 +180,39 @@ impl<A: Allocator + Copy> Stock<A> {
         self.vacated.len()
     }
 
-    /// Moves a page to the front free frame of a node: its bytes are copied, and then the frame is its place. Whether the
-    /// node had a free frame.
-    pub(crate) fn move_page(&mut self, page: Page, from: FrameId, target: NodeId) -> bool
-        requires placed { get page_cmp self.old.place page ≡ Some from }
-        requires target { target < node_count self.old.layout }
-        requires room { length self.old.vacated < self.old.room }
-        ensures stocked { IsStocked self.old }
-        ensures some { OnTrue result (0 < length (free_of self.old target)) }
-        ensures moved { OnTrue result (self.new ≡ restock_page self.old page from target) }
-        ensures full { OnFalse result (free_of self.old target ≡ []) }
-        ensures same { OnFalse result (self.new ≡ self.old) }
+    /// A page of this run has left a frame, which becomes free at the run's end.
+    pub(crate) fn vacate(&mut self, frame: FrameId)
+        requires { length self.old.vacated < self.old.room }
+        ensures { self.new ≡ record (self.old) { vacated = self.old.vacated ++ frame ∷ [] } }
     {
-        let Some(to) = self.nodes.take_front(target) else {
-            return false;
-        };
-        copy_frame(&mut self.frames, from, to);
-        put(&mut self.places, page, to);
-        self.vacated.push_reserved(from);
-        true
+        self.vacated.push_reserved(frame);
     }
 
     /// The frames that the pages of this run have left become free, in their order, each at the end of its own node's
     /// list.
     pub(crate) fn free_vacated(&mut self)
-        ensures stocked { IsStocked self.old }
-        ensures freed { self.new ≡ free_all self.old }
+        requires { CanFree (pool_of self.old) self.old.vacated }
+        ensures { self.new ≡ all_freed self.old }
     {
         free_frames(&mut self.nodes, self.vacated.as_slice());
         self.vacated.clear();
     }
 
-    /// Whether each frame stands once, in its own node's list or as the place of a page.
-    pub(crate) fn audit(&self, alloc: A) -> Result<bool, AllocError>
-        ensures { IfOk result (λ b. b ≡ is_audited self.now.layout (numbered 0 self.now.free) (values_of self.now.place)) }
+    /// A frame becomes free, at the end of its own node's list.
+    pub(crate) fn free(&mut self, frame: FrameId)
+        requires { CanFree (pool_of self.old) (frame ∷ []) }
+        ensures { self.new ≡ record (self.old) { free = (appended (pool_of self.old) frame).lists } }
+    {
+        self.nodes.append(frame);
+    }
+
+    /// Whether each frame stands once, in its own node's list or among the places of pages.
+    pub(crate) fn audit(&self, alloc: A, places: &[FrameId]) -> Result<bool, AllocError>
+        ensures { IfOk result (λ b. b ≡ is_audited self.now.layout (numbered 0 self.now.free) places.now) }
     {
         let free = audit::free_frames(alloc, &self.nodes, self.node_count())?;
-        let placed = places_of(alloc, &self.places)?;
-        audit::is_each_once(alloc, &self.geometry, free.as_slice(), placed.as_slice())
+        audit::is_each_once(alloc, &self.geometry, free.as_slice(), places)
     }
-}
-
-/// The frames of the pages that have one, in the order of the pages.
-fn places_of<A: Allocator + Copy>(
-    alloc: A,
-    places: &BTreeMap<Page, FrameId, A>,
-) -> Result<Vec<FrameId, A>, AllocError>
-    ensures { IfOk result (λ frames. frames.items ≡ values_of places.now.entries) }
-{
-    places.values().copied().collect(alloc)
-}
-
-/// Puts another frame in the place of a page that has one. It takes no memory.
-fn put<A: Allocator + Copy>(places: &mut BTreeMap<Page, FrameId, A>, page: Page, frame: FrameId)
-    requires { IsSome (get page_cmp places.old.entries page) }
-    ensures entries { places.new.entries ≡ replace page_cmp places.old.entries page frame }
-    ensures ordered { IsStrictlySortedBy page_cmp (keys_of places.old.entries) }
-    ensures still_ordered { IsStrictlySortedBy page_cmp (keys_of places.new.entries) }
-{
-    let Some(there) = places.get_mut(&page) else {
-        unreachable!()
-    };
-    *there = frame;
 }
 
 /// Makes the bytes of one frame those of another.

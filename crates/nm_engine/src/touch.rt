@@ -67,14 +67,14 @@ impl<A: Allocator + Copy> Parts<A> {
         ensures inside { IfOk result (λ t. addr % 4096 + len ≤ 4096) }
         ensures err { IfErr result (λ errno. spot self.now.state pid addr len ≡ Err errno) }
     {
-        let Some(info) = self.tasks.info(pid) else {
+        let Some(info) = self.spaces.info(pid) else {
             return Err(Errno::Esrch);
         };
         if len == 0 || len > 4096 - addr % 4096 {
             return Err(Errno::Einval);
         }
         let vpn = Vpn::of_address(addr);
-        let Some((first, area)) = self.areas.over(pid, vpn) else {
+        let Some((first, area)) = self.spaces.over(pid, vpn) else {
             return Err(Errno::Efault);
         };
         let Page { segment, index } = area.page;
@@ -101,8 +101,8 @@ impl<A: Allocator + Copy> Parts<A> {
         ensures zeros { IfOk result (λ frame. IfNone frame (sight_at self.new.state t.pid t.vpn ≡ Some ZeroPage)) }
         ensures same { self.new ≡ with_state self.old self.new.state }
     {
-        match self.tasks.sight(t.pid, t.vpn) {
-            Some(Sight::Sees(page)) => Ok(self.stock.place(page)),
+        match self.spaces.sight(t.pid, t.vpn) {
+            Some(Sight::Sees(page)) => Ok(self.spaces.place(page)),
             Some(Sight::ZeroPage) => {
                 if writes {
                     Ok(Some(self.fill(t)?))
@@ -111,12 +111,12 @@ impl<A: Allocator + Copy> Parts<A> {
                 }
             }
             None => {
-                if self.areas.is_shared(t.page.segment) {
+                if self.spaces.is_shared(t.page.segment) {
                     Ok(Some(self.join(t)?))
                 } else if writes {
                     Ok(Some(self.fill(t)?))
                 } else {
-                    self.tasks.see(t.pid, t.vpn, Sight::ZeroPage)?;
+                    self.spaces.see_zero(t.pid, t.vpn)?;
                     Ok(None)
                 }
             }
@@ -132,10 +132,10 @@ impl<A: Allocator + Copy> Parts<A> {
         ensures same { self.new ≡ with_state self.old self.new.state }
     {
         let page = t.page;
-        let Some(frame) = self.stock.place(page) else {
+        let Some(frame) = self.spaces.place(page) else {
             return self.fill(t);
         };
-        self.tasks.see(t.pid, t.vpn, Sight::Sees(page))?;
+        self.spaces.see(t.pid, t.vpn, page, frame)?;
         Ok(frame)
     }
 
@@ -149,16 +149,15 @@ impl<A: Allocator + Copy> Parts<A> {
         ensures same { self.new ≡ with_state self.old self.new.state }
     {
         let page = t.page;
-        let before = self.tasks.sight(t.pid, t.vpn);
         let Some(node) = self.first_node(t.info, t.policy, page.index)? else {
             return Err(MachineError::Refused(Errno::Enomem));
         };
-        let sight = Sight::Sees(page);
-        self.tasks.see(t.pid, t.vpn, sight)?;
-        let Ok(frame) = self.stock.allocate(page, node) else {
-            self.tasks.see_again(t.pid, t.vpn, before);
-            return Err(MachineError::HostMemory);
+        let Some(frame) = self.stock.front(node) else {
+            unreachable!()
         };
+        self.spaces.allocate(t.pid, t.vpn, page, frame)?;
+        self.stock.take_front(node);
+        self.stock.zero(frame);
         Ok(frame)
     }
 

@@ -60,7 +60,8 @@ impl<A: Allocator + Copy> ReverseMap<A> {
     /// Makes a page number of a process no mapper of a frame, if it is one. It takes no memory.
     pub fn drop_one(&mut self, frame: FrameId, pid: Pid, vpn: Vpn)
         requires { frame < length self.old.spots }
-        ensures { self.new ≡ dropped self.old frame (pid, vpn) }
+        ensures dropped { self.new ≡ dropped self.old frame (pid, vpn) }
+        ensures ordered { IsStrictlySortedBy spot_cmp (mappers_of self.old frame) }
     {
         self.spots[frame.index()].remove(pid, vpn);
     }

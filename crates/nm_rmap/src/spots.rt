@@ -59,7 +59,8 @@ impl<A: Allocator + Copy> Spots<A> {
 
     /// Takes one out, if it is there.
     pub(crate) fn remove(&mut self, pid: Pid, vpn: Vpn)
-        ensures { self.new ≡ without_spot self.old (pid, vpn) }
+        ensures dropped { self.new ≡ without_spot self.old (pid, vpn) }
+        ensures ordered { IsStrictlySortedBy spot_cmp self.old }
     {
         let there = self.tree.remove(&(pid, vpn));
         let known = has_process(&self.tree, pid);

@@ -1,6 +1,13 @@
 //! What a batch of requests asks for, run by run, and what is to be done with each request.
 #![tactic(auto)]
 
+mod check;
+mod cutting;
+#[cfg(test)]
+mod tests;
+
+pub use check::check_batch;
+pub use cutting::cut;
 use nm_types::{FrameId, NodeId, Page, Pid, Vpn};
 use std::alloc::Allocator;
 
@@ -18,6 +25,15 @@ pub enum Wanted {
     },
     /// A page by name, whoever sees it.
     Whole(Page),
+}
+
+/// A request of a batch.
+#[derive(Clone, Copy, Debug, PartialEq, Eq)]
+pub struct Request {
+    /// The node to which its page is to go.
+    pub target: NodeId,
+    /// What it wants.
+    pub wanted: Wanted,
 }
 
 /// Consecutive requests for one target node. They are decided one after another, and the frames that their pages

@@ -1,5 +1,5 @@
 -- The form of a trace: which data are which machine, and which steps.
-use Rattle.std.specs.Prelude.{ℕ, ◌^◌, ◌==◌, ◌&&◌, ◌||◌, List, [], ◌∷◌, Bool, false, length, nat_lt, nat_le, if◌then◌else◌, Option, Some, None, option_and_then, codes}
+use Rattle.std.specs.Prelude.{ℕ, ◌^◌, ◌==◌, ◌&&◌, List, [], ◌∷◌, Bool, false, length, nat_lt, nat_le, if◌then◌else◌, Option, Some, None, option_and_then, codes}
 use Rattle.std.specs.Str.{bytes_eq}
 use Rattle.std.specs.Result.{result_ok}
 use Rattle.std.specs.Ordering.{nat_cmp}
@@ -10,7 +10,7 @@ use Rattle.serde_json.specs.Find.{get, as_number, as_u64, as_bool, as_str, as_ar
 use Rattle.nm_types.specs.Layout.{Layout}
 use Rattle.nm_types.specs.Refusal.{refusal}
 use Rattle.nm_types.specs.declared.geometry.GeometryError.{GeometryError}
-use Rattle.nm_calls.specs.Calls.{Call, Spawn, MapPages, ReadBytes, WriteBytes, MovePages, FreeList, Pagemap}
+use Rattle.nm_calls.specs.Calls.{Call, Spawn, MapPages, Attach, Unmap, Exit, Pin, Unpin, ReadBytes, WriteBytes, MovePages, Query, FreeList, Pagemap}
 
 infixl 10 ◌>>=◌
 abbrev pub ◌>>=◌ : {A B : Type 0} → Option A → (A → Option B) → Option B
@@ -125,7 +125,41 @@ map_of d = do
   pid ← small_at (codes "pid") d
   addr ← number_at (codes "addr") d
   pages ← number_at (codes "pages") d
-  Some (MapPages pid addr pages)
+  shared ← flag_at (codes "shared") d
+  Some (MapPages pid addr pages shared)
+
+unfoldable pub attach_of : Data → Option Call
+attach_of d = do
+  pid ← small_at (codes "pid") d
+  addr ← number_at (codes "addr") d
+  segment ← number_at (codes "segment") d
+  offset ← number_at (codes "offset") d
+  pages ← number_at (codes "pages") d
+  Some (Attach pid addr segment offset pages)
+
+unfoldable pub unmap_of : Data → Option Call
+unmap_of d = do
+  pid ← small_at (codes "pid") d
+  addr ← number_at (codes "addr") d
+  pages ← number_at (codes "pages") d
+  Some (Unmap pid addr pages)
+
+unfoldable pub exit_of : Data → Option Call
+exit_of d = do
+  pid ← small_at (codes "pid") d
+  Some (Exit pid)
+
+unfoldable pub pin_of : Data → Option Call
+pin_of d = do
+  pid ← small_at (codes "pid") d
+  addr ← number_at (codes "addr") d
+  Some (Pin pid addr)
+
+unfoldable pub unpin_of : Data → Option Call
+unpin_of d = do
+  pid ← small_at (codes "pid") d
+  addr ← number_at (codes "addr") d
+  Some (Unpin pid addr)
 
 unfoldable pub read_of : Data → Option Call
 read_of d = do
@@ -141,7 +175,7 @@ write_of d = do
   bytes ← hex_at (codes "data") d
   Some (WriteBytes pid addr bytes)
 
--- as many nodes as pages and at most 16,384; for now the caller's own pages with the flag MOVE
+-- as many nodes as pages, and at most 16,384
 unfoldable pub move_pages_of : Data → Option Call
 move_pages_of d = do
   caller ← small_at (codes "caller") d
@@ -149,9 +183,16 @@ move_pages_of d = do
   pages ← numbers_at (codes "pages") d
   nodes ← smalls_at (codes "nodes") d
   flags ← small_at (codes "flags") d
-  if nat_le (length pages) 16384 && (length pages == length nodes)
-      then (if (pid == 0 || pid == caller) && (flags == 2) then Some (MovePages caller pid pages nodes flags) else None)
-      else None
+  if nat_le (length pages) 16384 && (length pages == length nodes) then Some (MovePages caller pid pages nodes flags) else None
+
+-- at most 16,384 pages
+unfoldable pub query_of : Data → Option Call
+query_of d = do
+  caller ← small_at (codes "caller") d
+  pid ← small_at (codes "pid") d
+  pages ← numbers_at (codes "pages") d
+  flags ← small_at (codes "flags") d
+  if nat_le (length pages) 16384 then Some (Query caller pid pages flags) else None
 
 unfoldable pub free_of : Data → Option Call
 free_of d = do
@@ -168,12 +209,18 @@ unfoldable pub named : List ℕ → Data → Option Call
 named op d =
     if bytes_eq op (codes "spawn") then spawn_of d
     else (if bytes_eq op (codes "map") then map_of d
+    else (if bytes_eq op (codes "attach") then attach_of d
+    else (if bytes_eq op (codes "unmap") then unmap_of d
+    else (if bytes_eq op (codes "exit") then exit_of d
+    else (if bytes_eq op (codes "pin") then pin_of d
+    else (if bytes_eq op (codes "unpin") then unpin_of d
     else (if bytes_eq op (codes "read") then read_of d
     else (if bytes_eq op (codes "write") then write_of d
     else (if bytes_eq op (codes "move_pages") then move_pages_of d
+    else (if bytes_eq op (codes "query") then query_of d
     else (if bytes_eq op (codes "free") then free_of d
     else (if bytes_eq op (codes "pagemap") then pagemap_of d
-    else None))))))
+    else None))))))))))))
 
 unfoldable pub step_of : Data → Option Call
 step_of d = do

@@ -25,7 +25,7 @@ three_pages = record {
   layout = record { sizes = 4 ∷ 4 ∷ []; distances = (10 ∷ 20 ∷ []) ∷ (20 ∷ 10 ∷ []) ∷ [] };
   calls =
       Spawn 1 100 0 (0 ∷ 1 ∷ []) false
-      ∷ MapPages 1 65536 3
+      ∷ MapPages 1 65536 3 false
       ∷ WriteBytes 1 65536 (97 ∷ [])
       ∷ WriteBytes 1 69632 (98 ∷ [])
       ∷ WriteBytes 1 73728 (99 ∷ [])

@@ -5,16 +5,22 @@ use Rattle.std.specs.List.{flat_map}
 use Rattle.hex.specs.Hex.{encode_lower}
 use Rattle.nm_types.specs.Names.{name_of}
 use Rattle.nm_types.specs.State.{State}
-use Rattle.nm_calls.specs.Calls.{Call, Spawn, MapPages, ReadBytes, WriteBytes, MovePages, FreeList, Pagemap, Answer, Refusal, Done, Held, NewSegment, TheBytes, Statuses, Frames, Entries}
+use Rattle.nm_calls.specs.Calls.{Call, Spawn, MapPages, Attach, Unmap, Exit, Pin, Unpin, ReadBytes, WriteBytes, MovePages, Query, FreeList, Pagemap, Answer, Refusal, Done, Held, NewSegment, TheBytes, Statuses, Frames, Entries}
 use Rattle.nm_calls.specs.Outcome.{Outcome, outcome}
 
 -- the word of a call
 abbrev pub word_of : Call → List ℕ
 word_of (Spawn pid uid home allowed privileged) = codes "spawn"
-word_of (MapPages pid addr pages) = codes "map"
+word_of (MapPages pid addr pages shared) = codes "map"
+word_of (Attach pid addr segment offset pages) = codes "attach"
+word_of (Unmap pid addr pages) = codes "unmap"
+word_of (Exit pid) = codes "exit"
+word_of (Pin pid addr) = codes "pin"
+word_of (Unpin pid addr) = codes "unpin"
 word_of (ReadBytes pid addr len) = codes "read"
 word_of (WriteBytes pid addr bytes) = codes "write"
 word_of (MovePages caller pid pages nodes flags) = codes "move_pages"
+word_of (Query caller pid pages flags) = codes "query"
 word_of (FreeList node) = codes "free"
 word_of (Pagemap pid) = codes "pagemap"
 

@@ -16,5 +16,5 @@ mod trace_error;
 pub use playing::{Summary, play};
 pub use reading::{Trace, read_trace};
 pub use running::{TRACE_LIMIT, run_trace};
-pub use step::{Batch, MoveRequest, Step};
+pub use step::{Attachment, Batch, MoveRequest, NewArea, NewProcess, Question, Step};
 pub use trace_error::TraceError;

@@ -18,11 +18,17 @@ fn word<A: Allocator + Copy + Send + Sync>(step: &Step<A>) -> &'static str
     ensures { result.now ≡ word_of (call_of step.now) }
 {
     match step {
-        Step::Spawn { .. } => "spawn",
-        Step::Map { .. } => "map",
+        Step::Spawn(_) => "spawn",
+        Step::Map(_) => "map",
+        Step::Attach(_) => "attach",
+        Step::Unmap { .. } => "unmap",
+        Step::Exit { .. } => "exit",
+        Step::Pin { .. } => "pin",
+        Step::Unpin { .. } => "unpin",
         Step::Read { .. } => "read",
         Step::Write { .. } => "write",
         Step::MovePages(_) => "move_pages",
+        Step::Query(_) => "query",
         Step::Free { .. } => "free",
         Step::Pagemap { .. } => "pagemap",
     }

@@ -3,9 +3,10 @@
 ghost use Rattle.std.specs.Prelude.{map, ◌≡◌, [], ◌∷◌, ◌++◌, OnOk, IfErr};
 ghost use Rattle.std.specs.Option.{ok_or};
 ghost use Rattle.serde_json.specs.View.{view, items_view};
+ghost use Rattle.nm_trace.specs.Form as form;
 ghost use Rattle.nm_trace.specs.Faults as faults;
 ghost use Rattle.nm_trace.specs.Faults.{Gives};
-ghost use Rattle.nm_trace.specs.declared.trace_error.TraceError.TheVariants.{NotJson};
+ghost use Rattle.nm_trace.specs.declared.trace_error.TraceError.TheVariants.{NotJson, BadMachine};
 ghost use Rattle.nm_trace.specs.Gives as of_step;
 
 use crate::fields::{list, number};
@@ -90,6 +91,20 @@ fn bad_machine(error: StepError) -> TraceError
     }
 }
 
+/// The machine of a trace, or its fault.
+fn geometry_of<A: Allocator + Copy>(alloc: A, value: &Value) -> Result<Geometry<A>, TraceError>
+    ensures { Gives (λ g. g) result (ok_or (form.machine_of (view value.now)) BadMachine) }
+{
+    machine_of(alloc, value).map_err(bad_machine)
+}
+
+/// The values of the steps of a trace, or the fault of a top that has none.
+fn values_of(value: &Value) -> Result<&Vec<Value>, TraceError>
+    ensures { Gives (λ v. items_view v.now.items) result (ok_or (faults.listed (view value.now)) BadMachine) }
+{
+    listed(value).map_err(bad_machine)
+}
+
 /// The trace that a value is, or the first fault.
 #[tactic(auto, unfolding(crate::specs::Faults::plan_of))]
 fn trace_of<A: Allocator + Copy + Send + Sync>(
@@ -98,8 +113,8 @@ fn trace_of<A: Allocator + Copy + Send + Sync>(
 ) -> Result<Trace<A>, TraceError>
     ensures { Gives (λ t. t) result (faults.plan_of (view value.now)) }
 {
-    let geometry = machine_of(alloc, value).map_err(bad_machine)?;
-    let values = listed(value).map_err(bad_machine)?;
+    let geometry = geometry_of(alloc, value)?;
+    let values = values_of(value)?;
     let steps = steps_of(alloc, values.as_slice())?;
     Ok(Trace { geometry, steps })
 }

@@ -5,9 +5,9 @@ ghost use Rattle.nm_trace.specs.Form as form;
 ghost use Rattle.nm_trace.specs.Gives.{Gives, call_of};
 
 use crate::fields::{flag, hex, number, numbers, set, small, smalls, text};
-use crate::step::{Batch, MoveRequest, Step, StepError};
+use crate::step::{Attachment, Batch, MoveRequest, NewArea, NewProcess, Question, Step, StepError};
 use nm_types::limits::MAX_BATCH;
-use nm_types::{MoveFlags, NodeId, Pid};
+use nm_types::{NodeId, Pid};
 use serde_json::Value;
 use std::alloc::Allocator;
 
@@ -15,23 +15,77 @@ use std::alloc::Allocator;
 fn spawn<A: Allocator + Copy + Send + Sync>(value: &Value) -> Result<Step<A>, StepError>
     ensures { Gives call_of result (form.spawn_of (view value.now)) }
 {
-    Ok(Step::Spawn {
+    Ok(Step::Spawn(NewProcess {
         pid: Pid::new(small(value, "pid")?),
         uid: small(value, "uid")?,
         home: NodeId::new(small(value, "home")?),
         allowed: set(value, "allowed")?,
         privileged: flag(value, "privileged")?,
-    })
+    }))
 }
 
 #[tactic(auto, unfolding(crate::specs::Form::map_of))]
 fn map<A: Allocator + Copy + Send + Sync>(value: &Value) -> Result<Step<A>, StepError>
     ensures { Gives call_of result (form.map_of (view value.now)) }
 {
-    Ok(Step::Map {
+    Ok(Step::Map(NewArea {
         pid: Pid::new(small(value, "pid")?),
         addr: number(value, "addr")?,
         pages: number(value, "pages")?,
+        shared: flag(value, "shared")?,
+    }))
+}
+
+#[tactic(auto, unfolding(crate::specs::Form::attach_of))]
+fn attach<A: Allocator + Copy + Send + Sync>(value: &Value) -> Result<Step<A>, StepError>
+    ensures { Gives call_of result (form.attach_of (view value.now)) }
+{
+    Ok(Step::Attach(Attachment {
+        pid: Pid::new(small(value, "pid")?),
+        addr: number(value, "addr")?,
+        segment: number(value, "segment")?,
+        offset: number(value, "offset")?,
+        pages: number(value, "pages")?,
+    }))
+}
+
+#[tactic(auto, unfolding(crate::specs::Form::unmap_of))]
+fn unmap<A: Allocator + Copy + Send + Sync>(value: &Value) -> Result<Step<A>, StepError>
+    ensures { Gives call_of result (form.unmap_of (view value.now)) }
+{
+    Ok(Step::Unmap {
+        pid: Pid::new(small(value, "pid")?),
+        addr: number(value, "addr")?,
+        pages: number(value, "pages")?,
+    })
+}
+
+#[tactic(auto, unfolding(crate::specs::Form::exit_of))]
+fn exit<A: Allocator + Copy + Send + Sync>(value: &Value) -> Result<Step<A>, StepError>
+    ensures { Gives call_of result (form.exit_of (view value.now)) }
+{
+    Ok(Step::Exit {
+        pid: Pid::new(small(value, "pid")?),
+    })
+}
+
+#[tactic(auto, unfolding(crate::specs::Form::pin_of))]
+fn pin<A: Allocator + Copy + Send + Sync>(value: &Value) -> Result<Step<A>, StepError>
+    ensures { Gives call_of result (form.pin_of (view value.now)) }
+{
+    Ok(Step::Pin {
+        pid: Pid::new(small(value, "pid")?),
+        addr: number(value, "addr")?,
+    })
+}
+
+#[tactic(auto, unfolding(crate::specs::Form::unpin_of))]
+fn unpin<A: Allocator + Copy + Send + Sync>(value: &Value) -> Result<Step<A>, StepError>
+    ensures { Gives call_of result (form.unpin_of (view value.now)) }
+{
+    Ok(Step::Unpin {
+        pid: Pid::new(small(value, "pid")?),
+        addr: number(value, "addr")?,
     })
 }
 
@@ -72,13 +126,29 @@ fn move_pages<A: Allocator + Copy + Send + Sync>(
     if pages.len() > MAX_BATCH || pages.len() != nodes.len() {
         return Err(StepError::Bad);
     }
-    if (pid != 0 && pid != caller) || flags != MoveFlags::MOVE {
-        return Err(StepError::Bad);
-    }
     Ok(Step::MovePages(MoveRequest {
         caller: Pid::new(caller),
         pid: Pid::new(pid),
         batch: Batch { pages, nodes },
+        flags,
+    }))
+}
+
+#[tactic(auto, unfolding(crate::specs::Form::query_of))]
+fn query<A: Allocator + Copy + Send + Sync>(alloc: A, value: &Value) -> Result<Step<A>, StepError>
+    ensures { Gives call_of result (form.query_of (view value.now)) }
+{
+    let caller = small(value, "caller")?;
+    let pid = small(value, "pid")?;
+    let pages = numbers(alloc, value, "pages")?;
+    let flags = small(value, "flags")?;
+    if pages.len() > MAX_BATCH {
+        return Err(StepError::Bad);
+    }
+    Ok(Step::Query(Question {
+        caller: Pid::new(caller),
+        pid: Pid::new(pid),
+        pages,
         flags,
     }))
 }
@@ -112,9 +182,15 @@ fn named<A: Allocator + Copy + Send + Sync>(
     match op {
         "spawn" => spawn(value),
         "map" => map(value),
+        "attach" => attach(value),
+        "unmap" => unmap(value),
+        "exit" => exit(value),
+        "pin" => pin(value),
+        "unpin" => unpin(value),
         "read" => read(value),
         "write" => write(alloc, value),
         "move_pages" => move_pages(alloc, value),
+        "query" => query(alloc, value),
         "free" => free(value),
         "pagemap" => pagemap(value),
         _ => Err(StepError::Bad),

@@ -199,7 +199,7 @@ fn refuses_one_process_too_many(rt: HostRuntime) -> Result<(), Fail> {
 }
 
 /// The trace with one place changed, and what is told of it.
-const FAULTS: [(&str, &str, &str); 26] = [
+const FAULTS: [(&str, &str, &str); 33] = [
     ("[[10,20],[20,10]]", "[[10,10],[20,10]]", "bad machine"),
     ("\"nodes\":[4,4]", "\"nodes\":[4,0]", "bad machine"),
     ("\"version\":1", "\"version\":2", "bad machine"),
@@ -226,12 +226,39 @@ const FAULTS: [(&str, &str, &str); 26] = [
     ),
     ("\"nodes\":[1,1,1]", "\"nodes\":[1,1]", "bad step 5"),
     ("\"data\":\"62\"", "\"data\":\"6\"", "bad step 3"),
-    ("\"flags\":2", "\"flags\":4", "bad step 5"),
+    ("\"flags\":2", "\"flags\":4294967296", "bad step 5"),
     ("\"allowed\":[0,1]", "\"allowed\":[0,64]", "bad step 0"),
     (
         "\"allowed\":[0,1]",
         "\"allowed\":[0,1],\"privileged\":null",
         "bad step 0",
+    ),
+    ("\"pages\":3", "\"pages\":3,\"shared\":null", "bad step 1"),
+    ("\"pages\":3", "\"pages\":3,\"shared\":1", "bad step 1"),
+    (
+        "\"op\":\"map\"",
+        "\"op\":\"attach\",\"segment\":0",
+        "bad step 1",
+    ),
+    (
+        "\"op\":\"free\",\"node\":0",
+        "\"op\":\"pin\",\"pid\":1",
+        "bad step 6",
+    ),
+    (
+        "\"op\":\"free\",\"node\":0",
+        "\"op\":\"exit\",\"pid\":-1",
+        "bad step 6",
+    ),
+    (
+        "\"op\":\"free\",\"node\":0",
+        "\"op\":\"unmap\",\"pid\":1,\"addr\":65536",
+        "bad step 6",
+    ),
+    (
+        "\"op\":\"free\",\"node\":0",
+        "\"op\":\"unpin\",\"addr\":65536",
+        "bad step 6",
     ),
     ("\"uid\":100", "\"uid\":4294967296", "bad step 0"),
     ("\"uid\":100", "\"uid\":-0", "bad step 0"),
@@ -260,7 +287,7 @@ fn is_fault(ran: &Ran, text: &str) -> bool {
 }
 
 /// The trace with one place changed, which changes nothing.
-const SAME: [(&str, &str); 5] = [
+const SAME: [(&str, &str); 6] = [
     ("\"version\":1", "\"version\":2,\"version\":1"),
     (
         "\"version\":1",
@@ -270,7 +297,8 @@ const SAME: [(&str, &str); 5] = [
         "\"allowed\":[0,1]",
         "\"allowed\":[1,0,1],\"privileged\":false",
     ),
-    ("\"pages\":3", "\"pages\":3,\"shared\":7"),
+    ("\"pages\":3", "\"pages\":3,\"shared\":false"),
+    ("\"pages\":3", "\"pages\":3,\"during\":7"),
     ("\"steps\"", " \"st\\u0065ps\" "),
 ];
 
@@ -292,7 +320,12 @@ fn reads_other_spellings(rt: HostRuntime) -> Result<(), Fail> {
 fn tells_the_first_fault(rt: HostRuntime) -> Result<(), Fail> {
     let alloc = rt.alloc();
     let digits = changed(alloc, TRACE, "\"data\":\"62\"", "\"data\":\"6\"")?;
-    let both = changed(alloc, digits.as_str(), "\"op\":\"free\"", "\"op\":\"exit\"")?;
+    let both = changed(
+        alloc,
+        digits.as_str(),
+        "\"op\":\"free\"",
+        "\"op\":\"offline\"",
+    )?;
     let faults: [(&[u8], &str); 6] = [
         (b"", "not JSON"),
         (&TRACE.as_bytes()[..TRACE.len() / 2], "not JSON"),

@@ -1,24 +1,32 @@
 use Rattle.std.proofs.Common.{length, ap, ◌∙◌}
 use Rattle.nm_engine.specs.Run.{with_all_free, counted, failures, added}
 use Rattle.nm_engine.specs.Amid.{Amid}
-use Rattle.nm_engine.specs.Stocked.{Stocked}
+use Rattle.nm_engine.specs.Spaced.{table_of}
+use Rattle.nm_engine.specs.Stocked.{Shelf}
+use Rattle.nm_engine.specs.Parts.{stocked}
 use Rattle.nm_engine.proofs.Paces.{end_shows, end_kept}
+use Rattle.nm_engine.proofs.Stocks.{can_free}
 use Rattle.nm_engine.proofs.parts.Parts.end_run.Goals as goal
+
+pub free_vacated-requires : goal.free_vacated-requires
+free_vacated-requires g c = can_free c.self.inside.spaces c.self.inside.stock c.self.inside.online c.self.inside.totals.moved c.self.inside.totals.failed c.self.invariant.sound
 
 pub invariant_of-self : goal.invariant_of-self
 invariant_of-self g c =
-    let stock : Stocked = c.self.inside.stock in
-    end_kept c.self.inside.tasks c.self.inside.areas stock c.self.inside.online c.self.inside.totals.moved c.self.inside.totals.failed
-    c.free_vacated.new.self (length stock.vacated) (failures c.args.statuses.now) _ _ c.free_vacated.ensures.freed
+    let y = c.self.inside.spaces in
+    let k : Shelf = c.self.inside.stock in
+    end_kept y.processes (table_of y) (stocked y k) c.self.inside.online c.self.inside.totals.moved c.self.inside.totals.failed
+    (stocked y c.free_vacated.new.self) (length k.vacated) (failures c.args.statuses.now) _ _ (ap (stocked y) c.free_vacated.ensures)
     (c.saturating_add.ensures ∙ ap (λ n. added c.self.inside.totals.moved n) c.vacated_count-moved.ensures)
     (c.saturating_add-2.ensures ∙ ap (λ n. added c.self.inside.totals.failed n) c.failures-failed.ensures)
     c.self.invariant
 
 pub returns-clause-state : goal.returns-clause-state
 returns-clause-state g c =
-    let stock : Stocked = c.self.inside.stock in
-    end_shows c.self.inside.tasks c.self.inside.areas stock c.self.inside.online c.self.inside.totals.moved c.self.inside.totals.failed
-    c.free_vacated.new.self (length stock.vacated) (failures c.args.statuses.now) _ _ c.free_vacated.ensures.freed
+    let y = c.self.inside.spaces in
+    let k : Shelf = c.self.inside.stock in
+    end_shows y.processes (table_of y) (stocked y k) c.self.inside.online c.self.inside.totals.moved c.self.inside.totals.failed
+    (stocked y c.free_vacated.new.self) (length k.vacated) (failures c.args.statuses.now) _ _ (ap (stocked y) c.free_vacated.ensures)
     (c.saturating_add.ensures ∙ ap (λ n. added c.self.inside.totals.moved n) c.vacated_count-moved.ensures)
     (c.saturating_add-2.ensures ∙ ap (λ n. added c.self.inside.totals.failed n) c.failures-failed.ensures)
     ∙ ap (λ (x : Amid). counted (with_all_free x.state x.left) (length x.left) (failures c.args.statuses.now)) c.self.view_is

@@ -4,6 +4,8 @@ use Rattle.nm_types.specs.State.{free_list}
 use Rattle.nm_engine.specs.Refused.{list_refusal}
 use Rattle.nm_engine.specs.Amid.{Amid}
 use Rattle.nm_engine.proofs.Kept.{seen, list_fine}
+use Rattle.nm_engine.specs.Spaced.{table_of}
+use Rattle.nm_engine.specs.Parts.{stocked}
 use Rattle.nm_engine.proofs.parts.Parts.free_list.Goals as goal
 
 pub returns : goal.returns
@@ -11,7 +13,7 @@ returns g c =
     let fine : list_refusal c.args.self.now.state c.args.node ≡ None =
     let i = c.self.inside in
     subst (λ (a : Amid). list_refusal a.state c.args.node ≡ None) c.self.view_is
-    (list_fine (seen i.tasks i.areas i.stock i.online i.totals.moved i.totals.failed) c.args.node (omega (arith, c.if-index-node_count.false, c.index.ensures, c.node_count.ensures.count)))
+    (list_fine (seen i.spaces.processes (table_of i.spaces) (stocked i.spaces i.stock) i.online i.totals.moved i.totals.failed) c.args.node (omega (arith, c.if-index-node_count.false, c.index.ensures, c.node_count.ensures.count)))
     in
     let frames : List ℕ = c.in_ok-free_list.field-0.items in
     (fine, c.in_ok-free_list.ensures ∙ ap (λ (a : Amid). free_list a.state c.args.node) c.self.view_is)

@@ -1,14 +1,21 @@
-use Rattle.std.proofs.Common.{rules, ◌≡◌, [], ap, ◌∙◌}
+use Rattle.std.proofs.Common.{rules, ℕ, ◌≡◌, [], ap, ◌∙◌}
 use Rattle.std.specs.Prelude.{None}
 use Rattle.nm_engine.specs.Refused.{map_refusal}
+use Rattle.nm_engine.specs.Parts.{shown_by}
 use Rattle.nm_engine.specs.Amid.{Amid}
-use Rattle.nm_engine.proofs.Kept.{seen, kept_mapped}
+use Rattle.nm_engine.proofs.Remade.{nothing_made, kept_same, kept_inserted}
 use Rattle.nm_engine.proofs.parts.Parts.map.Goals as goal
+
+pub invariant_of-self : goal.invariant_of-self
+invariant_of-self g c =
+    let i = c.self.inside in
+    kept_same i.spaces c.map.new.self i.stock i.online i.totals.moved i.totals.failed c.in_err-map.ensures.same c.self.invariant
+    (nothing_made ℕ c.in_err-map.field-0.0 _ _ _ _ c.in_err-map.ensures.done)
 
 pub invariant_of-self-2 : goal.invariant_of-self-2
 invariant_of-self-2 g c =
     let i = c.self.inside in
     let none : i.stock.vacated ≡ [] = ap (λ (a : Amid). a.left) c.self.view_is ∙ c.requires in
-    let fine : map_refusal (seen i.tasks i.areas i.stock i.online i.totals.moved i.totals.failed) c.args.pid c.args.addr c.args.pages ≡ None = search rules in
-    let range = c.in-Some.ensures.some in
-    kept_mapped i.tasks i.areas i.stock i.online i.totals.moved i.totals.failed c.map.new.self c.args.pid c.args.addr c.in-Some.first c.args.pages none c.self.invariant fine range.0 range.3 c.in_ok-map.ensures.ok
+    let fine : map_refusal (shown_by i.spaces i.stock i.online i.totals.moved i.totals.failed) c.args.pid c.args.addr c.args.pages ≡ None = search rules in
+    kept_inserted i.spaces c.map.new.self i.stock i.online i.totals.moved i.totals.failed c.in_ok-map.ensures.same c.self.invariant
+    c.args.pid c.args.addr c.args.pages c.args.shared none fine c.in_ok-map.ensures.done.1

@@ -1,19 +1,24 @@
-use Rattle.std.proofs.Common.{◌≡◌, sym, arith, [], refl, ap, ◌∙◌}
+use Rattle.std.proofs.Common.{◌≡◌, sym, arith, [], refl, ap, subst, ◌∙◌}
 use Rattle.std.specs.Prelude.{None, nat_le}
 use Rattle.std.specs.List.{list_any}
+use Rattle.std.specs.Ordering.{nat_cmp}
+use Rattle.nm_types.specs.Map.{set}
 use Rattle.nm_engine.specs.Refused.{spawn_refusal}
 use Rattle.nm_engine.specs.Tables.{untouched}
-use Rattle.nm_engine.specs.Amid.{Amid}
+use Rattle.nm_engine.specs.Amid.{Amid, IsKept}
 use Rattle.nm_engine.proofs.Kept.{seen, kept_spawned, spawn_fine}
+use Rattle.nm_engine.specs.Spaced.{Spaced, table_of}
+use Rattle.nm_engine.specs.Parts.{stocked, shown_by}
 use Rattle.nm_engine.proofs.parts.Parts.spawn.Goals as goal
 
 pub invariant_of-self-2 : goal.invariant_of-self-2
 invariant_of-self-2 g c =
     let i = c.self.inside in
     let none : i.stock.vacated ≡ [] = ap (λ (a : Amid). a.left) c.self.view_is ∙ c.requires in
-    let fine : spawn_refusal (seen i.tasks i.areas i.stock i.online i.totals.moved i.totals.failed) c.args.pid c.args.info.home c.args.info.allowed ≡ None =
-    spawn_fine (seen i.tasks i.areas i.stock i.online i.totals.moved i.totals.failed) c.args.pid c.args.info.home c.args.info.allowed c.info.result (λ e. c.if-number-eq0.false (c.number.ensures ∙ e)) c.info.ensures (sym c.is_some.ensures ∙ c.if-is_some.false)
+    let fine : spawn_refusal (seen i.spaces.processes (table_of i.spaces) (stocked i.spaces i.stock) i.online i.totals.moved i.totals.failed) c.args.pid c.args.info.home c.args.info.allowed ≡ None =
+    spawn_fine (seen i.spaces.processes (table_of i.spaces) (stocked i.spaces i.stock) i.online i.totals.moved i.totals.failed) c.args.pid c.args.info.home c.args.info.allowed c.info.result (λ e. c.if-number-eq0.false (c.number.ensures ∙ e)) c.info.ensures (sym c.is_some.ensures ∙ c.if-is_some.false)
     (omega (arith, c.if-index-count.false, c.index.ensures, c.node_count-count.ensures.count)) c.if-is_empty.ensures.1
     (ap (λ k. list_any (nat_le k) c.args.info.allowed) (sym c.node_count-count.ensures.count) ∙ sym c.has_beyond.ensures ∙ c.if-has_beyond.false) (omega (arith, c.if-len-ge-MAX_PROCESSES.false, c.len.ensures))
     in
-    kept_spawned i.tasks i.areas i.stock i.online i.totals.moved i.totals.failed c.add.new.self c.args.pid (untouched c.args.info) none c.self.invariant fine refl c.in_ok-add.ensures.ok
+    subst (λ (y : Spaced). IsKept (shown_by y i.stock i.online i.totals.moved i.totals.failed) i.stock.vacated y.frames) (sym c.in_ok-add.ensures.ok)
+    (kept_spawned i.spaces.processes (table_of i.spaces) (stocked i.spaces i.stock) i.online i.totals.moved i.totals.failed (set nat_cmp i.spaces.processes c.args.pid (untouched c.args.info)) c.args.pid (untouched c.args.info) none c.self.invariant fine refl refl)

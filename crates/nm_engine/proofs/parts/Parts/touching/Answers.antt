@@ -4,26 +4,20 @@ use Rattle.nm_engine.specs.Amid.{IsTouched, spot_at}
 use Rattle.nm_engine.specs.Parts.{shown}
 use Rattle.nm_engine.specs.declared.touching.Touching.{Touching}
 use Rattle.nm_engine.specs.Touch.{spot}
-use Rattle.nm_engine.proofs.Touches.{outside, starts_before, index_fits, some_is, touched_there}
+use Rattle.nm_engine.proofs.Touches.{outside, some_is, touched_there}
+use Rattle.nm_engine.specs.Spaced.{table_of}
+use Rattle.nm_engine.specs.Parts.{stocked}
 use Rattle.nm_engine.proofs.parts.Parts.touching.Goals as goal
 
 pub overflow_sub-page : goal.overflow_sub-page
-overflow_sub-page g c =
-    let over = starts_before c.self.inside.areas.areas c.args.pid c.of_address-vpn.result _ (sym c.in-Some-over.ensures) in
-    let low = c.number-2.ensures in
-    let high = c.number.ensures in
-    omega (arith, over, low, high)
+overflow_sub-page g c = omega (arith, c.in-Some-over.ensures.first, c.number-2.ensures, c.number.ensures)
 
 pub overflow_add-page : goal.overflow_add-page
-overflow_add-page g c =
-    let fits = index_fits c.self.inside.areas.areas c.args.pid c.of_address-vpn.result _ c.self.invariant.indices (sym c.in-Some-over.ensures) in
-    let low = c.number-2.ensures in
-    let high = c.number.ensures in
-    omega (arith, fits, low, high)
+overflow_add-page g c = omega (arith, c.in-Some-over.ensures.index, c.number-2.ensures, c.number.ensures)
 
 pub returns-clause-ok : goal.returns-clause-ok
 returns-clause-ok g c =
-    let same = some_is (c.in-Some-over.ensures ∙ sym c.in-Some-over.ensures') in
+    let same = some_is (c.in-Some-over.ensures.over ∙ sym c.in-Some-over.ensures'.over) in
     let touching : Placed → Touching = λ x. record {
       pid = c.args.pid;
       info = c.in-Some.info;
@@ -34,6 +28,6 @@ returns-clause-ok g c =
     subst (λ x. (p : Process) × (a : Placed) × (spot c.args.self.now.state c.args.pid c.args.addr c.args.len ≡ Ok (spot_at (touching x) p a)) × IsTouched c.args.self.now.state (touching x) p a) (sym same)
     (outside _ _ _ _ c.self.view_is
     (λ s. (p : Process) × (a : Placed) × (spot s c.args.pid c.args.addr c.args.len ≡ Ok (spot_at (touching ((c.args.pid, c.in-Some-over.first), c.in-Some-over.area)) p a)) × IsTouched s (touching ((c.args.pid, c.in-Some-over.first), c.in-Some-over.area)) p a)
-    (touched_there (shown c.self.inside.tasks c.self.inside.areas c.self.inside.stock c.self.inside.online c.self.inside.totals.moved c.self.inside.totals.failed) c.args.pid c.args.addr c.args.len c.of_address-vpn.result c.in-Some-over.first _
-    c.in-Some.info c.in-Some-over.area (sym c.info.ensures ∙ c.in-Some.is) c.if-len-eq0.false c.if-len-addr.false c.of_address-vpn.ensures c.in-Some-over.ensures'
+    (touched_there (shown c.self.inside.spaces.processes (table_of c.self.inside.spaces) (stocked c.self.inside.spaces c.self.inside.stock) c.self.inside.online c.self.inside.totals.moved c.self.inside.totals.failed) c.args.pid c.args.addr c.args.len c.of_address-vpn.result c.in-Some-over.first _
+    c.in-Some.info c.in-Some-over.area (sym c.info.ensures ∙ c.in-Some.is) c.if-len-eq0.false c.if-len-addr.false c.of_address-vpn.ensures c.in-Some-over.ensures'.over
     (ap (λ n. c.in-Some-over.area.page.index + (c.number.result - n)) (c.number-2.ensures ∙ ap (λ (x : Placed). x.0.1) same) ∙ ap (λ n. c.in-Some-over.area.page.index + (n - c.in-Some-over.first)) c.number.ensures)))

@@ -1,27 +1,30 @@
 use Rattle.std.proofs.Common.{◌≡◌, ℕ, ◌/◌, ◌%◌, ◌∙◌, true, sym, ap, subst, length, Some, Ok}
-use Rattle.nm_engine.specs.Stocked.{Stocked}
+use Rattle.nm_engine.specs.Stocked.{Shelf}
 use Rattle.nm_engine.specs.Touch.{Answered, write, write_after, with_bytes}
 use Rattle.nm_engine.specs.Amid.{Amid, IsKept}
 use Rattle.nm_engine.specs.Parts.{shown}
 use Rattle.nm_engine.specs.Seeing.{frame_seen}
 use Rattle.nm_runs.specs.Seen.{sight_at}
 use Rattle.nm_engine.proofs.Touches.{inside, page_of_frame, place_in_range, touch_is, written_is, written_kept}
+use Rattle.nm_engine.specs.Spaced.{table_of}
+use Rattle.nm_engine.specs.Parts.{stocked, shown_by}
+use Rattle.nm_engine.proofs.Joint.{kept_stocked}
 use Rattle.nm_engine.proofs.parts.Parts.write.Goals as goal
 
 pub write-requires-clause-frame : goal.write-requires-clause-frame
 write-requires-clause-frame g c =
     let seen = (inside _ _ _ _ c.self.view_is (λ s. frame_seen s c.args.pid (c.args.addr / 4096) ≡ Some c.in-Some.frame)
     (ap (λ (x : ℕ × ℕ). frame_seen c.touch.new.self.state x.0 x.1) (λ i. (sym c.in-Ok.ensures.pid i, sym c.in-Ok.ensures.page i)) ∙ sym c.in_ok-frame.ensures.frame ∙ c.in-Some.is)) in
-    let page = page_of_frame c.self.inside.stock.place _ c.in-Some.frame seen in
-    place_in_range (shown c.self.inside.tasks c.self.inside.areas c.self.inside.stock c.self.inside.online c.self.inside.totals.moved c.self.inside.totals.failed) _ page.0 c.in-Some.frame c.self.invariant.sound page.2
+    let page = page_of_frame c.self.inside.spaces.place _ c.in-Some.frame seen in
+    place_in_range (shown c.self.inside.spaces.processes (table_of c.self.inside.spaces) (stocked c.self.inside.spaces c.self.inside.stock) c.self.inside.online c.self.inside.totals.moved c.self.inside.totals.failed) _ page.0 c.in-Some.frame c.self.invariant.sound page.2
 
 pub invariant_of-self : goal.invariant_of-self
 invariant_of-self g c =
     let seen = (inside _ _ _ _ c.self.view_is (λ s. frame_seen s c.args.pid (c.args.addr / 4096) ≡ Some c.in-Some.frame)
     (ap (λ (x : ℕ × ℕ). frame_seen c.touch.new.self.state x.0 x.1) (λ i. (sym c.in-Ok.ensures.pid i, sym c.in-Ok.ensures.page i)) ∙ sym c.in_ok-frame.ensures.frame ∙ c.in-Some.is)) in
-    let after : c.write.new.self.vacated ≡ c.self.inside.stock.vacated = ap (λ (x : Stocked). x.vacated) c.write.ensures.written in
-    subst (IsKept (shown c.self.inside.tasks c.self.inside.areas c.write.new.self c.self.inside.online c.self.inside.totals.moved c.self.inside.totals.failed)) (sym after)
-    (written_kept c.self.inside.tasks c.self.inside.areas c.self.inside.stock c.self.inside.online c.self.inside.totals.moved c.self.inside.totals.failed _ c.args.pid c.args.addr c.in-Some.frame c.args.bytes.now c.write.new.self c.self.invariant c.write.ensures.stocked seen c.write.ensures.written c.in-Ok.ensures.inside)
+    let after : c.write.new.self.vacated ≡ c.self.inside.stock.vacated = ap (λ (k : Shelf). k.vacated) c.write.ensures.written in
+    subst (λ l. IsKept (shown_by c.self.inside.spaces c.write.new.self c.self.inside.online c.self.inside.totals.moved c.self.inside.totals.failed) l c.self.inside.spaces.frames) (sym after)
+    (written_kept c.self.inside.spaces.processes (table_of c.self.inside.spaces) (stocked c.self.inside.spaces c.self.inside.stock) c.self.inside.online c.self.inside.totals.moved c.self.inside.totals.failed _ c.args.pid c.args.addr c.in-Some.frame c.args.bytes.now (stocked c.self.inside.spaces c.write.new.self) c.self.invariant (kept_stocked c.self.inside.spaces c.self.inside.stock c.self.inside.online c.self.inside.totals.moved c.self.inside.totals.failed c.self.invariant c.write.ensures.shelf) seen (ap (stocked c.self.inside.spaces) c.write.ensures.written) c.in-Ok.ensures.inside)
 
 pub returns-clause-answer : goal.returns-clause-answer
 returns-clause-answer g c =
@@ -32,7 +35,7 @@ returns-clause-answer g c =
     let done : write c.args.self.now.state c.args.pid c.args.addr c.args.bytes.now ≡ write_after c.args.self.now.state c.args.pid c.args.addr c.args.bytes.now (Ok c.touch.new.self.state) =
     ap (write_after c.args.self.now.state c.args.pid c.args.addr c.args.bytes.now) touched in (
       ap (λ (z : Answered). z.answer) done,
-      written_is c.self.inside.tasks c.self.inside.areas c.self.inside.stock c.self.inside.online c.self.inside.totals.moved c.self.inside.totals.failed _ c.args.pid c.args.addr c.in-Some.frame c.args.bytes.now c.write.new.self c.self.invariant c.write.ensures.stocked seen c.write.ensures.written
+      written_is c.self.inside.spaces.processes (table_of c.self.inside.spaces) (stocked c.self.inside.spaces c.self.inside.stock) c.self.inside.online c.self.inside.totals.moved c.self.inside.totals.failed _ c.args.pid c.args.addr c.in-Some.frame c.args.bytes.now (stocked c.self.inside.spaces c.write.new.self) c.self.invariant (kept_stocked c.self.inside.spaces c.self.inside.stock c.self.inside.online c.self.inside.totals.moved c.self.inside.totals.failed c.self.invariant c.write.ensures.shelf) seen (ap (stocked c.self.inside.spaces) c.write.ensures.written)
           ∙ ap (λ (y : Amid). with_bytes y.state (sight_at y.state c.args.pid (c.args.addr / 4096)) (c.args.addr % 4096) c.args.bytes.now) c.self.view_is
           ∙ sym (ap (λ (z : Answered). z.state) done),
     )

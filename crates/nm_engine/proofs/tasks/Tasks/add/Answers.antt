@@ -2,8 +2,7 @@ use Rattle.std.proofs.Common.{ap, ◌∙◌}
 use Rattle.std.specs.Map.{keys_of}
 use Rattle.std.specs.Ordering.{nat_cmp}
 use Rattle.nm_types.specs.Map.{set}
-use Rattle.nm_types.specs.State.{Process}
-use Rattle.nm_engine.specs.Tables.{untouched}
+use Rattle.nm_engine.specs.Tasked.{Task}
 use Rattle.nm_engine.proofs.Tabled.{strict_from_sorted, sorted_from_strict, added}
 use Rattle.nm_engine.proofs.tasks.Tasks.add.Goals as goal
 
@@ -13,7 +12,10 @@ invariant_of-self-2 g c =
 
 pub returns-clause-ok : goal.returns-clause-ok
 returns-clause-ok g c =
-    let task : Process = record (untouched c.args.info) { sees = c.new.result.entries } in
+    let task : Task = record { info = c.args.info; table = c.new.result } in
     added c.self.inside.tasks.entries c.insert_sorted.new.self.entries c.args.pid task c.self.invariant (invariant_of-self-2 g c) c.in_ok-insert_sorted.ensures.updates.0
     ∙ ap (λ m. set nat_cmp m c.args.pid task) c.self.view_is
-    ∙ ap (λ es. set nat_cmp c.args.self.now c.args.pid (record (untouched c.args.info) { sees = es })) c.new.ensures.empty
+    ∙ ap (λ es. set nat_cmp c.args.self.now c.args.pid (record { info = c.args.info; table = es })) c.new.ensures
+
+pub returns-clause-ordered : goal.returns-clause-ordered
+returns-clause-ordered g c = invariant_of-self-2 g c

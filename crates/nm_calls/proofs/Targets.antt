@@ -1,0 +1,106 @@
+-- Nodes that are online, and those that a batch names.
+use Rattle.std.proofs.Common.{arith, ◌≡◌, ℕ, ◌+◌, nat_lt, ◌&&◌, ◌||◌, Bool, true, false, not, List, [], ◌∷◌, refl, sym, ap, ◌∙◌, inl, inr, eq-eqb}
+use Rattle.std.proofs.lemmas.Bool.{eqb-true, ne_eqb, cases_order}
+use Rattle.std.specs.Prelude.{◌==◌, nat_le, Option, Some, None, if◌then◌else◌}
+use Rattle.std.specs.Ordering.{nat_cmp, match_ordering}
+use Rattle.std.specs.Cmp.{nat_cmp_is}
+use Rattle.std.specs.declared.cmp.Ordering.{Ordering}
+use Rattle.std.specs.declared.cmp.Ordering.TheVariants.{Less, Equal, Greater}
+use Rattle.std.specs.BTreeSet.{insert_key}
+use Rattle.nm_types.specs.declared.errno.Errno.{Errno}
+use Rattle.nm_types.specs.declared.errno.Errno.TheVariants.{Eacces, Enodev}
+use Rattle.nm_types.specs.Nodes.{is_in}
+use Rattle.nm_runs.specs.Targets.{node_refusal, earlier, first_refusal}
+
+-- the refusal of a node that is missing or not
+abbrev refused_for : List ℕ → ℕ → Bool → Option Errno
+refused_for allowed n missing = if missing then Some Enodev else (if is_in allowed n then None else Some Eacces)
+
+-- a node that is in one set if it is below a count and in the other is missing in both or in none
+by_count : (count n : ℕ) (there : Bool) → (nat_le count n || not (nat_lt n count && there)) ≡ (nat_le count n || not there)
+by_count count n there =
+    elim (cases_order count n) [
+      | inl e ↦ let past : nat_le count n ≡ true = grind (arith, e) in rw past refl
+      | inr o ↦ elim o [
+        | inl lt ↦ let past : nat_le count n ≡ true = grind (arith, lt) in rw past refl
+        | inr gt ↦ let below : nat_lt n count ≡ true = grind (arith, gt) in rw below refl
+      ]
+    ]
+
+same_node : (count : ℕ) (ones others allowed : List ℕ) (n : ℕ) → is_in ones n ≡ (nat_lt n count && is_in others n) → node_refusal count ones allowed n ≡ node_refusal count others allowed n
+same_node count ones others allowed n h =
+    ap (λ (b : Bool). refused_for allowed n (nat_le count n || not b)) h
+    ∙ ap (refused_for allowed n) (by_count count n (is_in others n))
+
+-- so the same nodes are refused
+pub same_refusal : (count : ℕ) (ones others allowed ns : List ℕ) → ((n : ℕ) → is_in ones n ≡ (nat_lt n count && is_in others n)) → first_refusal count ones allowed ns ≡ first_refusal count others allowed ns
+same_refusal count ones others allowed [] h = refl
+same_refusal count ones others allowed (n ∷ ns) h =
+    ap (λ o. earlier o (first_refusal count ones allowed ns)) (same_node count ones others allowed n (h n))
+    ∙ ap (λ o. earlier (node_refusal count others allowed n) o) (same_refusal count ones others allowed ns h)
+
+or_again : (a b : Bool) → (a || b) ≡ (a || (a || b))
+or_again true b = refl
+or_again false b = refl
+
+or_swap : (a b c : Bool) → (a || (b || c)) ≡ (b || (a || c))
+or_swap true true c = refl
+or_swap true false c = refl
+or_swap false true c = refl
+or_swap false false c = refl
+
+-- a number is in a set with one more number where it is that, or was in it
+is_in_insert : (ns : List ℕ) (j n : ℕ) → is_in (insert_key nat_cmp ns j) n ≡ ((j == n) || is_in ns n)
+is_in_insert [] j n = refl
+is_in_insert (m ∷ ns) j n =
+    let with : Ordering → Bool = λ r. is_in (match_ordering r (j ∷ m ∷ ns) (m ∷ ns) (m ∷ insert_key nat_cmp ns j)) n in
+    elim (cases_order j m) [
+      | inl e ↦ ap with (sym (nat_cmp_is j m Equal e)) ∙ or_again (m == n) (is_in ns n) ∙ ap (λ i. (i == n) || ((m == n) || is_in ns n)) (sym e)
+      | inr o ↦ elim o [
+        | inl lt ↦ ap with (sym (nat_cmp_is j m Less lt))
+        | inr gt ↦ ap with (sym (nat_cmp_is j m Greater gt)) ∙ ap (λ b. (m == n) || b) (is_in_insert ns j n) ∙ or_swap (m == n) (j == n) (is_in ns n)
+      ]
+    ]
+
+-- a number is below the next one where it is below this one, or is it
+below_next : (n k : ℕ) → nat_lt n (k + 1) ≡ ((k == n) || nat_lt n k)
+below_next n k =
+    elim (cases_order k n) [
+      | inl e ↦ let here : (k == n) ≡ true = eq-eqb k n e in let below : nat_lt n (k + 1) ≡ true = grind (arith, e) in rw here below
+      | inr o ↦ elim o [
+        | inl lt ↦
+            let other : (k == n) ≡ false = ne_eqb k n (λ e. omega (arith, e, lt)) in
+            let here : nat_lt n k ≡ false = grind (arith, lt) in
+            let next : nat_lt n (k + 1) ≡ false = grind (arith, lt) in
+            rw other (rw here next)
+        | inr gt ↦
+            let other : (k == n) ≡ false = ne_eqb k n (λ e. omega (arith, e, gt)) in
+            let here : nat_lt n k ≡ true = grind (arith, gt) in
+            let next : nat_lt n (k + 1) ≡ true = grind (arith, gt) in
+            rw other (rw here next)
+      ]
+    ]
+
+or_and : (a b c : Bool) → (a ≡ true → c ≡ true) → (a || (b && c)) ≡ ((a || b) && c)
+or_and true b c h = sym (h refl)
+or_and false b c h = refl
+
+and_not : (a b c : Bool) → (a ≡ true → c ≡ false) → (b && c) ≡ ((a || b) && c)
+and_not true true c h = refl
+and_not true false c h = sym (h refl)
+and_not false b c h = refl
+
+-- one number further, where that is in the other set ..
+pub one_in : (ns others : List ℕ) (k : ℕ) → is_in others k ≡ true → ((n : ℕ) → is_in ns n ≡ (nat_lt n k && is_in others n)) → (n : ℕ) → is_in (insert_key nat_cmp ns k) n ≡ (nat_lt n (k + 1) && is_in others n)
+one_in ns others k there h n =
+    is_in_insert ns k n
+    ∙ ap (λ (b : Bool). (k == n) || b) (h n)
+    ∙ or_and (k == n) (nat_lt n k) (is_in others n) (λ e. ap (is_in others) (sym (eqb-true k n e)) ∙ there)
+    ∙ ap (λ (b : Bool). b && is_in others n) (sym (below_next n k))
+
+-- .. and where it is not
+pub one_out : (ns others : List ℕ) (k : ℕ) → is_in others k ≡ false → ((n : ℕ) → is_in ns n ≡ (nat_lt n k && is_in others n)) → (n : ℕ) → is_in ns n ≡ (nat_lt n (k + 1) && is_in others n)
+one_out ns others k there h n =
+    h n
+    ∙ and_not (k == n) (nat_lt n k) (is_in others n) (λ e. ap (is_in others) (sym (eqb-true k n e)) ∙ there)
+    ∙ ap (λ (b : Bool). b && is_in others n) (sym (below_next n k))

@@ -1,0 +1,189 @@
+//! Batches whose memory is refused, and the totals, which no step of a trace tells.
+
+use crate::traces::{Heap, two_nodes};
+use nm_calls::{CallError, Moved, System};
+use nm_engine::Totals;
+use nm_refusing::Refusing;
+use nm_types::{NodeId, NodeMask, Pid};
+use std::alloc::AllocError;
+use std::test::Fail;
+
+/// The nodes 0 and 1.
+fn both_nodes() -> NodeMask {
+    let mut nodes = NodeMask::new();
+    nodes.insert(NodeId::new(0));
+    nodes.insert(NodeId::new(1));
+    nodes
+}
+
+/// Makes a process of a user and a home of its own, with so many pages from 0x10000 on, and writes each of them.
+fn begin(system: &mut System<Heap<'_>>, pid: Pid, home: u32, pages: u64) -> Result<(), CallError> {
+    system.spawn(pid, 100, NodeId::new(home), both_nodes(), false)?;
+    system.map(pid, 0x10000, pages, false)?;
+    for page in 0..pages.min(8) {
+        system.write(pid, 0x10000 + page * 4096, [0x61u8].as_slice())?;
+    }
+    Ok(())
+}
+
+/// Two nodes of four frames, and process 1 with three pages in the frames 0, 1 and 2.
+pub(crate) fn three_pages(heap: Heap<'_>) -> Result<System<Heap<'_>>, CallError> {
+    let mut system = two_nodes(heap)?;
+    begin(&mut system, Pid::new(1), 0, 3)?;
+    Ok(system)
+}
+
+/// Moves the first page to node 1 and, in a second run, back to node 0.
+fn there_and_back<'a>(system: &mut System<Heap<'a>>) -> Result<Moved<Heap<'a>>, CallError> {
+    let pages = [0x10000u64, 0x10000];
+    let nodes = [1u32, 0];
+    system.move_pages(Pid::new(1), Pid::new(0), &pages, &nodes, 2)
+}
+
+/// How many runs were made before memory was refused, or None where the call answered.
+fn runs_made(answer: Result<Moved<Heap<'_>>, CallError>) -> Option<usize> {
+    match answer {
+        Err(CallError::HostMemory { runs, .. }) => Some(runs),
+        _ => None,
+    }
+}
+
+/// The frame of the first page of process 1.
+fn first_frame(system: &System<Heap<'_>>) -> Result<Option<u32>, CallError> {
+    let entries = system.pagemap(Pid::new(1))?;
+    Ok(
+        entries
+            .first()
+            .and_then(|entry| entry.frame)
+            .map(|frame| frame.number()),
+    )
+}
+
+/// What came of a batch.
+#[derive(Clone, Copy, Debug)]
+struct Attempt {
+    /// Whether it came to the allocation that was to be refused.
+    met: bool,
+    /// The runs before the refusal.
+    runs: Option<usize>,
+    /// Where the first page is then.
+    frame: Option<u32>,
+}
+
+/// Makes the batch on a new system while the allocation of this number is refused.
+fn make_attempt(heap: Heap<'_>, number: u64) -> Result<Attempt, CallError> {
+    let mut system = three_pages(heap)?;
+    heap.refuse(number);
+    let runs = runs_made(there_and_back(&mut system));
+    let met = heap.asked_since(number) >= number;
+    heap.refuse(0);
+    let frame = first_frame(&system)?;
+    Ok(Attempt { met, runs, frame })
+}
+
+/// Whether the page is where it is after so many runs: it comes back to frame 3, which was free before frame 0.
+fn is_there(tried: Attempt) -> bool {
+    match tried.runs {
+        Some(0) => tried.frame == Some(0),
+        Some(1) => tried.frame == Some(4),
+        Some(_) => false,
+        None => tried.frame == Some(3),
+    }
+}
+
+/// Each allocation of a batch of two runs is refused in turn: the call tells how many runs were made, and the pages are
+/// where these leave them.
+#[test]
+fn refused_batches_tell_their_runs(rt: HostRuntime) -> Result<(), Fail> {
+    let heap = Refusing::new(rt.alloc());
+    let mut before_the_first = false;
+    let mut before_the_second = false;
+    let mut whole = false;
+    for number in 1..1000u64 {
+        let tried = make_attempt(&heap, number)?;
+        assert!(rt; is_there(tried), "allocation {number}: {tried:?}");
+        before_the_first |= tried.runs == Some(0);
+        before_the_second |= tried.runs == Some(1);
+        if !tried.met {
+            whole = tried.runs.is_none();
+            break;
+        }
+    }
+    assert!(rt; before_the_first && before_the_second && whole);
+    Ok(())
+}
+
+/// Two nodes of four frames, process 1 with four pages on node 0, and process 2 with two on node 1.
+fn six_pages(heap: Heap<'_>) -> Result<System<Heap<'_>>, CallError> {
+    let mut system = two_nodes(heap)?;
+    begin(&mut system, Pid::new(1), 0, 4)?;
+    begin(&mut system, Pid::new(2), 1, 2)?;
+    Ok(system)
+}
+
+/// How many entries of four pages to node 1 fail.
+fn crowd(system: &mut System<Heap<'_>>) -> Result<usize, CallError> {
+    let pages = [0x10000u64, 0x11000, 0x12000, 0x13000];
+    let moved = system.move_pages(Pid::new(1), Pid::new(0), &pages, &[1u32; 4], 0)?;
+    Ok(moved.failed)
+}
+
+/// Two of four pages find a frame: the totals count both and the two that do not.
+#[test]
+fn totals_count_moves_and_failures(rt: HostRuntime) -> Result<(), Fail> {
+    let heap = Refusing::new(rt.alloc());
+    let mut system = six_pages(&heap)?;
+    assert!(rt;
+        system.vmstat()
+            == Totals {
+                moved: 0,
+                failed: 0
+            }
+    );
+    assert_eq!(rt; crowd(&mut system)?, 2usize);
+    assert!(rt;
+        system.vmstat()
+            == Totals {
+                moved: 2,
+                failed: 2
+            }
+    );
+    Ok(())
+}
+
+/// How many statuses of a batch that names one page 16,384 times are its target, node 1.
+fn name_often(heap: Heap<'_>, system: &mut System<Heap<'_>>) -> Result<usize, CallError> {
+    let pages = many(heap, 0x10000u64)?;
+    let nodes = many(heap, 1u32)?;
+    if pages.len() != nodes.len() || pages.len() > 16_384 {
+        return Ok(0);
+    }
+    let moved = system.move_pages(Pid::new(1), Pid::new(0), &pages, &nodes, 2)?;
+    Ok(moved.statuses.iter().filter(|status| **status == 1).count())
+}
+
+/// A number, 16,384 times.
+fn many<T: Copy + Drop>(heap: Heap<'_>, number: T) -> Result<Vec<T, Heap<'_>>, AllocError> {
+    let mut numbers = Vec::with_capacity(heap, 16_384)?;
+    for _ in 0..16_384u32 {
+        numbers.push(number)?;
+    }
+    Ok(numbers)
+}
+
+/// A page that is named often moves once, and the totals count one move and no entry that found it there.
+#[test]
+fn totals_count_a_page_once(rt: HostRuntime) -> Result<(), Fail> {
+    let heap = Refusing::new(rt.alloc());
+    let mut system = three_pages(&heap)?;
+    assert_eq!(rt; name_often(&heap, &mut system)?, 16_384usize);
+    assert!(rt;
+        system.vmstat()
+            == Totals {
+                moved: 1,
+                failed: 0
+            }
+    );
+    assert!(rt; first_frame(&system)? == Some(4));
+    Ok(())
+}

@@ -1,0 +1,71 @@
+-- What pins make of a machine's parts, and which are refused.
+use Rattle.std.proofs.Common.{List, ◌≡◌, ℕ, ◌+◌, ◌-◌, ◌<◌, ◌≤◌, ◌/◌, Bool, false, length, sym, ap, subst, ◌∙◌, arith}
+use Rattle.std.specs.Prelude.{Some, None, Result, Ok, Err, OnOk, OnErr, IfErr, nat_le, ◌==◌, if◌then◌else◌}
+use Rattle.std.proofs.lemmas.Bool.{lt-leb, le-leb, ne_eqb, eq-eqb}
+use Rattle.nm_types.specs.declared.page.Page.{Page}
+use Rattle.nm_types.specs.declared.errno.Errno.{Errno}
+use Rattle.nm_types.specs.declared.errno.Errno.TheVariants.{Esrch, Ebusy, Einval}
+use Rattle.nm_types.specs.declared.seen.Seen.TheVariants.{At}
+use Rattle.nm_types.specs.declared.sight.Sight.TheVariants.{Sees}
+use Rattle.nm_types.specs.Map.{get, replace, page_cmp}
+use Rattle.nm_types.specs.State.{State}
+use Rattle.nm_runs.specs.Seen.{sight_at, users, pins_of, is_pinned, look_at_page, look_under, look}
+use Rattle.nm_engine.specs.Effect.{with_pins, pin, unpin}
+use Rattle.nm_engine.specs.Refused.{is_unknown, pins_refusal, pin_refusal, unpin_refusal}
+use Rattle.nm_engine.specs.Does.{Alters}
+use Rattle.nm_engine.specs.Spaced.{Spaced, with_pins_of}
+use Rattle.nm_engine.specs.Stocked.{Shelf}
+use Rattle.nm_engine.specs.Parts.{shown_by}
+use Rattle.nm_engine.specs.Sound.{IsSoundAmid}
+use Rattle.nm_engine.specs.Amid.{IsKept}
+use Rattle.nm_engine.proofs.Called.{repinned_sound}
+
+module _ (y z : Spaced) (k : Shelf) (online : List ℕ) (moved failed : ℕ) (page : Page) (n : ℕ) (kept : IsKept (shown_by y k online moved failed) k.vacated y.frames) where
+  -- another number of pins, or none
+  pub pinned_kept : (r : Result (Unit {0}) Errno) → OnOk r (z ≡ with_pins_of y page n) → OnErr r (z ≡ y) → IsKept (shown_by z k online moved failed) k.vacated z.frames
+  pinned_kept (Ok done) ok err =
+      subst (λ (w : Spaced). IsKept (shown_by w k online moved failed) k.vacated w.frames) (sym ok)
+      (record { sound = repinned_sound (shown_by y k online moved failed) k.vacated page n kept.sound; as_many = kept.as_many })
+  pinned_kept (Err e) ok err = subst (λ (w : Spaced). IsKept (shown_by w k online moved failed) k.vacated w.frames) (sym err) kept
+
+pub ok_then : {P Q : Type 0} (r : Result (Unit {0}) Errno) → (P → Q) → OnOk r P → OnOk r Q
+ok_then (Ok done) f p = f p
+ok_then (Err e) f p = tt
+
+pub err_then : {P Q : Type 0} (r : Result (Unit {0}) Errno) → (P → Q) → OnErr r P → OnErr r Q
+err_then (Ok done) f p = tt
+err_then (Err e) f p = f p
+
+-- a page that a process sees at an address
+module _ (s : State) (l : List ℕ) (pid address : ℕ) (page : Page) (frame : ℕ) (sound : IsSoundAmid s l) (known : is_unknown s pid ≡ false) (seen : sight_at s pid (address / 4096) ≡ Some (Sees page)) (placed : get page_cmp s.place page ≡ Some frame) where
+  look_there : look s pid (address / 4096) ≡ At page frame (length (users s page)) (is_pinned s page)
+  look_there =
+      ap (λ o. look_under s o (sight_at s pid (address / 4096))) (sound.shown pid (address / 4096) page seen).0
+      ∙ ap (look_under s (Some page)) seen
+      ∙ ap (look_at_page s page) placed
+
+  refusal_there : (is_bad : ℕ → Bool) (bad : Errno) → (if is_unknown s pid then Some Esrch else pins_refusal s is_bad bad (look s pid (address / 4096))) ≡ (if is_bad (pins_of s page) then Some bad else None)
+  refusal_there is_bad bad =
+      ap (λ b. if b then Some Esrch else pins_refusal s is_bad bad (look s pid (address / 4096))) known ∙ ap (pins_refusal s is_bad bad) look_there
+
+  pub pin_alters : (t : State) (r : Result (Unit {0}) Errno) → OnOk r (pins_of s page < 65535) → OnOk r (t ≡ record s { pins = replace page_cmp s.pins page (pins_of s page + 1) })
+      → IfErr r (λ e. (e ≡ Ebusy) × (65535 ≤ pins_of s page)) → OnErr r (t ≡ s) → Alters r s t (pin_refusal s pid address) (pin s pid address)
+  pin_alters t (Ok done) room ok full err = (
+    refusal_there (nat_le 65535) Ebusy ∙ ap (λ b. if b then Some Ebusy else None) (lt-leb 65535 (pins_of s page) room),
+    ok ∙ sym (ap (λ o. with_pins s o (λ n. n + 1)) seen),
+  )
+  pin_alters t (Err e) room ok full err = (
+    refusal_there (nat_le 65535) Ebusy ∙ ap (λ b. if b then Some Ebusy else None) (le-leb 65535 (pins_of s page) full.1) ∙ ap Some (sym full.0),
+    err,
+  )
+
+  pub unpin_alters : (t : State) (r : Result (Unit {0}) Errno) → OnOk r (0 < pins_of s page) → OnOk r (t ≡ record s { pins = replace page_cmp s.pins page (pins_of s page - 1) })
+      → IfErr r (λ e. (e ≡ Einval) × (pins_of s page ≡ 0)) → OnErr r (t ≡ s) → Alters r s t (unpin_refusal s pid address) (unpin s pid address)
+  unpin_alters t (Ok done) some ok none err = (
+    refusal_there (λ n. n == 0) Einval ∙ ap (λ b. if b then Some Einval else None) (ne_eqb (pins_of s page) 0 (λ e. omega (arith, e, some))),
+    ok ∙ sym (ap (λ o. with_pins s o (λ n. n - 1)) seen),
+  )
+  unpin_alters t (Err e) some ok none err = (
+    refusal_there (λ n. n == 0) Einval ∙ ap (λ b. if b then Some Einval else None) (eq-eqb (pins_of s page) 0 none.1) ∙ ap Some (sym none.0),
+    err,
+  )

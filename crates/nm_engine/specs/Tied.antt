@@ -1,0 +1,47 @@
+-- What ties page tables, areas and the reverse map to one another.
+use Rattle.std.specs.Prelude.{◌≡◌, ℕ, ◌<◌, ◌==◌, nat_lt, nat_le, Bool, true, not, ◌&&◌, List, length, Some}
+use Rattle.std.specs.BTreeMap.{is_at}
+use Rattle.std.specs.List.{AllByRecursion, list_any}
+use Rattle.std.specs.List.Sorted.{IsStrictlySortedBy}
+use Rattle.std.specs.Map.{keys_of}
+use Rattle.std.specs.Ordering.{nat_cmp}
+use Rattle.nm_types.specs.declared.page.Page.{Page}
+use Rattle.nm_types.specs.Map.{Map, get, page_cmp, spot_cmp}
+use Rattle.nm_types.specs.State.{page_at}
+use Rattle.nm_tables.specs.declared.entry.Entry.TheVariants.{Held}
+use Rattle.nm_areas.specs.Mapped.{Mapped}
+use Rattle.nm_rmap.specs.Mappers.{Mappers, mappers_of, pins_of}
+use Rattle.nm_engine.specs.Tasked.{Task}
+use Rattle.nm_engine.specs.Tasked.{entry_at, names}
+
+-- whether a page number of a process is among these
+abbrev pub has_spot : List (ℕ × ℕ) → ℕ × ℕ → Bool
+has_spot spots spot = list_any (is_at (spot_cmp spot)) spots
+
+pub record IsTied (tasks : Map ℕ Task) (m : Mapped) (r : Mappers) : Type 0 where
+  -- the maps have their keys in order
+  pub pids : IsStrictlySortedBy nat_cmp (keys_of tasks)
+  pub tables : AllByRecursion (λ e. IsStrictlySortedBy nat_cmp (keys_of e.1.table)) tasks
+  pub places : IsStrictlySortedBy page_cmp (keys_of m.place)
+  -- the mappers of a frame are exactly the entries that name it
+  pub mappers : (f pid v : ℕ) → has_spot (mappers_of r f) (pid, v) ≡ names f (entry_at tasks pid v)
+  -- an entry names the frame of the page that is shown there
+  pub shows : (f pid v : ℕ) → names f (entry_at tasks pid v) ≡ true → (p : Page) × (page_at m.areas pid v ≡ Some p) × (get page_cmp m.place p ≡ Some f)
+  -- no frame has two pages
+  pub apart : (p q : Page) (f : ℕ) → get page_cmp m.place p ≡ Some f → get page_cmp m.place q ≡ Some f → p ≡ q
+  -- a frame without a page has no pins
+  pub pinned : (f : ℕ) → ((p : Page) → get page_cmp m.place p ≡ Some f → ⊥) → pins_of r f ≡ 0
+  pub in_range : (p : Page) (f : ℕ) → get page_cmp m.place p ≡ Some f → f < length r.spots
+  pub as_many : length r.pins ≡ length r.spots
+  -- no page is on its way
+  pub settled : (f pid v : ℕ) → entry_at tasks pid v ≡ Some (Held f) → ⊥
+
+-- whether a page number of a process is in a range of one
+abbrev pub is_between : ℕ → ℕ → ℕ → ℕ × ℕ → Bool
+is_between pid first end spot = (spot.0 == pid) && (nat_le first spot.1 && nat_lt spot.1 end)
+
+-- the mappers that were entries of a process in a range are none any more, and the pins stay
+pub record IsCleared (r t : Mappers) (pid first end : ℕ) (tasks : Map ℕ Task) : Type 0 where
+  pub spots : (f : ℕ) (spot : ℕ × ℕ) → has_spot (mappers_of t f) spot ≡ (has_spot (mappers_of r f) spot && not (is_between pid first end spot && names f (entry_at tasks spot.0 spot.1)))
+  pub frames : length t.spots ≡ length r.spots
+  pub pins : t.pins ≡ r.pins

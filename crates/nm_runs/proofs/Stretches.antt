@@ -1,0 +1,84 @@
+-- The first stretch of a batch.
+use Rattle.std.proofs.Common.{arith, ◌≡◌, ℕ, suc, ◌+◌, ◌<◌, ◌≤◌, Bool, true, false, List, [], ◌∷◌, ◌++◌, length, take, drop, cond, refl, sym, ap, ◌∙◌, append_assoc, slice_index_or}
+use Rattle.std.proofs.lemmas.Bool.{eqb-true, eqb-false, eq-eqb, ne_eqb}
+use Rattle.std.proofs.lemmas.Grind.{common_steps}
+use Rattle.std.proofs.lemmas.List.{drop-drop}
+use Rattle.std.proofs.lemmas.List.Sums.{take_while-cons}
+use Rattle.std.specs.Prelude.{◌==◌}
+use Rattle.std.specs.List.{take_while}
+use Rattle.nm_runs.specs.declared.Wanted.{Wanted}
+use Rattle.nm_runs.specs.Cut.{Request, Stretch, in_front, cut, wanted_of, first_target, same_front, IsFirst}
+
+-- how many at the front name this node
+abbrev front : ℕ → List Request → ℕ
+front t es = length (take_while (λ e. e.target == t) es)
+
+front_same : (t : ℕ) (e : Request) (es : List Request) → (e.target == t) ≡ true → front t (e ∷ es) ≡ suc (front t es)
+front_same t e es h = ap length (take_while-cons (λ f. f.target == t) e es ∙ ap (λ b. cond b (e ∷ take_while (λ f. f.target == t) es) []) h)
+
+front_other : (t : ℕ) (e : Request) (es : List Request) → (e.target == t) ≡ false → front t (e ∷ es) ≡ 0
+front_other t e es h = ap length (take_while-cons (λ f. f.target == t) e es ∙ ap (λ b. cond b (e ∷ take_while (λ f. f.target == t) es) []) h)
+
+front_within : (t : ℕ) (es : List Request) → front t es ≤ length es
+front_within t es = grind (arith, common_steps)
+
+-- a request and k more of its target, and the stretches of the rest
+abbrev first_of : ℕ → Wanted → ℕ → List Request → List Stretch
+first_of t w k es = record { target = t; wanted = w ∷ wanted_of (take k es) } ∷ cut (drop k es)
+
+by_test : (e f : Request) (es : List Request) → cut (f ∷ es) ≡ first_of f.target f.wanted (front f.target es) es → (b : Bool) → (e.target == f.target) ≡ b → cut (e ∷ f ∷ es) ≡ first_of e.target e.wanted (front e.target (f ∷ es)) (f ∷ es)
+by_test e f es next true h =
+    let ws = wanted_of (take (suc (front f.target es)) (f ∷ es)) in
+    let rs = cut (drop (front f.target es) es) in
+    let same = eqb-true e.target f.target h in
+    let with_it : List Stretch = record { target = f.target; wanted = e.wanted ∷ ws } ∷ rs in
+    let alone : List Stretch = record { target = e.target; wanted = e.wanted ∷ [] } ∷ record { target = f.target; wanted = ws } ∷ rs in
+    ap (in_front e) next
+    ∙ ap (λ b. cond b with_it alone) h
+    ∙ ap (λ t. first_of t e.wanted (suc (front t es)) (f ∷ es)) (sym same)
+    ∙ ap (λ k. first_of e.target e.wanted k (f ∷ es)) (sym (front_same e.target f es (eq-eqb f.target e.target (sym same))))
+by_test e f es next false h =
+    let ws = wanted_of (take (suc (front f.target es)) (f ∷ es)) in
+    let rs = cut (drop (front f.target es) es) in
+    let with_it : List Stretch = record { target = f.target; wanted = e.wanted ∷ ws } ∷ rs in
+    let alone : List Stretch = record { target = e.target; wanted = e.wanted ∷ [] } ∷ record { target = f.target; wanted = ws } ∷ rs in
+    let one : Stretch = record { target = e.target; wanted = e.wanted ∷ [] } in
+    ap (in_front e) next
+    ∙ ap (λ b. cond b with_it alone) h
+    ∙ ap (λ left. one ∷ left) (sym next)
+    ∙ ap (λ k. first_of e.target e.wanted k (f ∷ es)) (sym (front_other e.target f es (ne_eqb f.target e.target (λ s. eqb-false e.target f.target h (sym s)))))
+
+cut_from : (e : Request) (es : List Request) → cut (e ∷ es) ≡ first_of e.target e.wanted (front e.target es) es
+cut_from e [] = refl
+cut_from e (f ∷ es) = by_test e f es (cut_from f es) (e.target == f.target) refl
+
+wanted_length : (k : ℕ) (es : List Request) → k ≤ length es → length (wanted_of (take k es)) ≡ k
+wanted_length k es h = grind (arith, common_steps)
+
+-- the front of one target is the first stretch
+pub first_stretch : (es : List Request) (target : ℕ) (wanted : List Wanted) → 0 < length es → target ≡ first_target es → wanted ≡ wanted_of (take (same_front es) es) → IsFirst es target wanted
+first_stretch [] target wanted some ht hw = grind arith
+first_stretch (e ∷ es) target wanted some ht hw =
+    let k = front e.target es in
+    let ws = e.wanted ∷ wanted_of (take k es) in
+    let len : length ws ≡ suc k = ap suc (wanted_length k es (front_within e.target es)) in
+    let is : wanted ≡ ws = hw ∙ ap (λ j. wanted_of (take j (e ∷ es))) (front_same e.target e es (eq-eqb e.target e.target refl)) in
+    rw ht (rw is (cut_from e es ∙ ap (λ j. record { target = e.target; wanted = ws } ∷ cut (drop j (e ∷ es))) (sym len)))
+
+-- the first request names the first node
+pub first_is : (es : List Request) (e : Request) → 0 < length es → (slice_index_or es 0 e).target ≡ first_target es
+first_is [] e some = grind arith
+first_is (f ∷ es) e some = refl
+
+-- one more stretch is made
+pub one_more : (made : List Stretch) (es rest : List Request) (at to target : ℕ) (wanted : List Wanted) → rest ≡ drop at es → to ≡ at + length wanted → IsFirst rest target wanted → made ++ cut (drop at es) ≡ cut es → (made ++ record { target = target; wanted = wanted } ∷ []) ++ cut (drop to es) ≡ cut es
+one_more made es rest at to target wanted hr ht first so_far =
+    let n = length wanted in
+    let one : Stretch = record { target = target; wanted = wanted } in
+    append_assoc made (one ∷ []) (cut (drop to es))
+    ∙ ap (λ k. made ++ one ∷ cut (drop k es)) ht
+    ∙ sym (ap (λ l. made ++ one ∷ cut l) (drop-drop n at es))
+    ∙ sym (ap (λ l. made ++ one ∷ cut (drop n l)) hr)
+    ∙ sym (ap (λ l. made ++ l) first)
+    ∙ ap (λ l. made ++ cut l) hr
+    ∙ so_far

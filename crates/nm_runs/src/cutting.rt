@@ -1,0 +1,64 @@
+//! A batch of requests as the runs that it is cut into.
+
+ghost use Rattle.std.specs.Prelude.{◌≡◌, ◌<◌, ◌≤◌, IfOk, length, take};
+ghost use Rattle.nm_runs.specs.Cut.{cut, stretches_of, wanted_of, same_front, IsFirst};
+
+use crate::{Request, Run, Wanted};
+use std::alloc::{AllocError, Allocator};
+
+/// How many requests at the front name the node of the first one.
+fn same_front(requests: &[Request]) -> usize
+    requires { 0 < length requests.now }
+    ensures front { result ≡ same_front requests.now }
+    ensures some { 0 < result }
+    ensures within { result ≤ length requests.now }
+{
+    let first = requests[0].target;
+    requests
+        .iter()
+        .take_while(|request| request.target == first)
+        .count()
+}
+
+/// What requests want.
+fn wanted_of<A: Allocator + Copy>(
+    alloc: A,
+    requests: &[Request],
+) -> Result<Vec<Wanted, A>, AllocError>
+    ensures { IfOk result (λ wanted. wanted.items ≡ wanted_of requests.now) }
+{
+    requests.iter().map(|request| request.wanted).collect(alloc)
+}
+
+/// The run at the front of a batch: its longest stretch of one target.
+fn first_run<A: Allocator + Copy>(alloc: A, requests: &[Request]) -> Result<Run<A>, AllocError>
+    requires { 0 < length requests.now }
+    ensures some { IfOk result (λ run. 0 < length run.wanted.items) }
+    ensures within { IfOk result (λ run. length run.wanted.items ≤ length requests.now) }
+    ensures first { IfOk result (λ run. IsFirst requests.now run.target run.wanted.items) }
+{
+    let count = same_front(requests);
+    Ok(Run {
+        target: requests[0].target,
+        wanted: wanted_of(alloc, &requests[..count])?,
+    })
+}
+
+/// The runs of a batch, in their order: its longest stretches of requests for one node. No requests are no run. An error
+/// means that the host refused memory.
+pub fn cut<A: Allocator + Copy>(
+    alloc: A,
+    requests: &[Request],
+) -> Result<Vec<Run<A>, A>, AllocError>
+    ensures { IfOk result (λ runs. stretches_of runs.items ≡ cut requests.now) }
+{
+    let mut runs = Vec::new(alloc);
+    let mut at = 0;
+    while at < requests.len() {
+        let (_, rest) = requests.split_at(at);
+        let run = first_run(alloc, rest)?;
+        at += run.wanted.len();
+        runs.push(run)?;
+    }
+    Ok(runs)
+}
