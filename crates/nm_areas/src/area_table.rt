@@ -1,6 +1,6 @@
 //! The areas of the processes, and the segments that they show.
 
-ghost use Rattle.std.specs.Prelude.{ℕ, ◌≡◌, ◌≤◌, ◌<◌, ◌+◌, ◌^◌, [], suc, not, None, Some, IfSome, IfNone, OnOk, OnErr, IfOk, option_map};
+ghost use Rattle.std.specs.Prelude.{ℕ, ◌≡◌, ◌≤◌, ◌<◌, ◌+◌, ◌^◌, [], suc, not, false, true, None, Some, IfSome, IfNone, OnOk, OnErr, IfOk, option_map};
 ghost use Rattle.std.specs.Ordering.{nat_cmp};
 ghost use Rattle.std.specs.List.{AllByRecursion, list_any};
 ghost use Rattle.std.specs.List.Sorted.{IsStrictlySortedBy};
@@ -10,7 +10,7 @@ ghost use Rattle.nm_types.specs.State.{Placed, area_over};
 ghost use Rattle.nm_areas.specs.Effect.{new_area};
 ghost use Rattle.nm_areas.specs.Lines.{is_shared};
 ghost use Rattle.nm_areas.specs.Mapped.{AreasAreApart, EndsLow, IsSomePages};
-ghost use Rattle.nm_areas.specs.Refused.{overlaps};
+ghost use Rattle.nm_areas.specs.Refused.{overlaps, is_stretch};
 ghost use Rattle.nm_areas.specs.Table.{with_areas};
 
 use crate::lines::is_shared;
@@ -66,6 +66,19 @@ impl<A: Allocator + Copy> AreaTable<A> {
         ensures { result ≡ get nat_cmp self.now.segments number }
     {
         self.segments.get(&number).copied()
+    }
+
+    /// The number of a segment, where there is one of that number which is shared and has so many pages from an offset on.
+    pub(crate) fn stretch_of(&self, segment: u64, offset: u64, pages: u64) -> Option<u32>
+        requires numbers { AllByRecursion (λ e. e.0 < self.now.next) self.now.segments }
+        ensures none { IfNone result (is_stretch (get nat_cmp self.now.segments segment) offset pages ≡ false) }
+        ensures some { IfSome result (λ number. (number ≡ segment) × (is_stretch (get nat_cmp self.now.segments number) offset pages ≡ true)) }
+    {
+        if segment >= u64::from(self.next_segment()) {
+            return None;
+        }
+        let number = segment as u32;
+        is_stretch(self.segment(number), offset, pages).then_some(number)
     }
 
     /// Whether a segment is shared. One that is not there is not.
@@ -203,6 +216,16 @@ impl<A: Allocator + Copy> AreaTable<A> {
         if let Some(area) = self.areas.remove(&(pid, start)) {
             self.by_segment.remove(&(area.page.segment, pid, start));
         }
+    }
+}
+
+/// Whether so many pages from an offset on are in a shared segment.
+fn is_stretch(segment: Option<Segment>, offset: u64, pages: u64) -> bool
+    ensures { result ≡ is_stretch segment offset pages }
+{
+    match segment {
+        Some(whole) => { whole.shared && offset <= whole.pages && pages <= whole.pages - offset }
+        None => false,
     }
 }
 

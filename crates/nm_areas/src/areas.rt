@@ -6,12 +6,12 @@ ghost use Rattle.nm_areas.specs.Does.{Makes};
 ghost use Rattle.nm_areas.specs.Effect.{no_areas, new_area, inserted, attached, over_with};
 ghost use Rattle.nm_areas.specs.Lines.{is_shared};
 ghost use Rattle.nm_areas.specs.Mapped.{IsMapped};
-ghost use Rattle.nm_areas.specs.Refused.{is_range, insert_refusal, is_stretch, attach_refusal};
+ghost use Rattle.nm_areas.specs.Refused.{is_range, insert_refusal, attach_refusal};
 
 use crate::area_error::AreaError;
 use crate::area_table::AreaTable;
 use nm_types::limits::{MAX_SEGMENTS, PAGE_NUMBERS};
-use nm_types::{Area, Errno, FrameId, Page, Pid, Segment, Vpn};
+use nm_types::{Area, Errno, FrameId, Page, Pid, Vpn};
 use std::alloc::Allocator;
 use std::collections::BTreeMap;
 use std::marker::Model;
@@ -99,7 +99,7 @@ impl<A: Allocator + Copy> Areas<A> {
         &mut self,
         pid: Pid,
         addr: u64,
-        segment: u32,
+        segment: u64,
         offset: u64,
         pages: u64,
     ) -> Result<(), AreaError>
@@ -112,21 +112,11 @@ impl<A: Allocator + Copy> Areas<A> {
         if !self.table.is_free(pid, first, pages) {
             return Err(AreaError::Refused(Errno::Einval));
         }
-        if !is_stretch(self.table.segment(segment), offset, pages) {
+        let Some(number) = self.table.stretch_of(segment, offset, pages) else {
             return Err(AreaError::Refused(Errno::Einval));
-        }
-        self.table.attach(pid, first, segment, offset, pages)?;
+        };
+        self.table.attach(pid, first, number, offset, pages)?;
         Ok(())
-    }
-}
-
-/// Whether so many pages from an offset on are in a shared segment.
-fn is_stretch(segment: Option<Segment>, offset: u64, pages: u64) -> bool
-    ensures { result ≡ is_stretch segment offset pages }
-{
-    match segment {
-        Some(whole) => { whole.shared && offset <= whole.pages && pages <= whole.pages - offset }
-        None => false,
     }
 }
 

@@ -97,18 +97,28 @@ fn the_largest_areas(rt: HostRuntime) -> Result<(), Fail> {
     Ok(())
 }
 
-/// What attaching pages of segment 0, a shared one of three pages, to process 2 answers.
-fn attached(alloc: Global, offset: u64, pages: u64) -> Result<Option<AreaError>, AreaError> {
+/// What attaching pages of a segment to process 2 answers, where segment 0 is there, a shared one of three pages.
+fn attached(
+    alloc: Global,
+    segment: u64,
+    offset: u64,
+    pages: u64,
+) -> Result<Option<AreaError>, AreaError> {
     let mut areas = Areas::new(alloc);
     areas.insert(Pid::new(1), 0x10000, 3, true)?;
-    Ok(areas.attach(Pid::new(2), 0x10000, 0, offset, pages).err())
+    Ok(
+        areas
+            .attach(Pid::new(2), 0x10000, segment, offset, pages)
+            .err(),
+    )
 }
 
 #[test]
 fn stretches_of_shared_segments(rt: HostRuntime) -> Result<(), Fail> {
-    assert_eq!(rt; attached(rt.alloc(), 1, 2)?, None);
-    assert_eq!(rt; attached(rt.alloc(), 2, 2)?, Some(INVALID));
-    assert_eq!(rt; attached(rt.alloc(), u64::MAX, 2)?, Some(INVALID));
+    assert_eq!(rt; attached(rt.alloc(), 0, 1, 2)?, None);
+    assert_eq!(rt; attached(rt.alloc(), 0, 2, 2)?, Some(INVALID));
+    assert_eq!(rt; attached(rt.alloc(), 0, u64::MAX, 2)?, Some(INVALID));
+    assert_eq!(rt; attached(rt.alloc(), 1 << 32, 1, 2)?, Some(INVALID));
     let mut areas = three_pages(rt.alloc())?;
     assert_eq!(rt;
         areas.attach(Pid::new(2), 0x10000, 0, 0, 1).err(),

@@ -7,7 +7,7 @@ use Rattle.nm_types.specs.declared.errno.Errno.{Errno}
 use Rattle.nm_types.specs.declared.errno.Errno.TheVariants.{Eperm, Esrch, Einval}
 use Rattle.nm_types.specs.Layout.{node_count}
 use Rattle.nm_types.specs.Map.{get}
-use Rattle.nm_types.specs.State.{Process, State}
+use Rattle.nm_types.specs.State.{State}
 use Rattle.nm_runs.specs.declared.Wanted.TheVariants.{At}
 use Rattle.nm_runs.specs.Cut.{Request}
 use Rattle.nm_runs.specs.Targets.{earlier, first_refusal}
@@ -53,7 +53,7 @@ query_refusal s caller pid flags = asking_refusal (info_at s caller) (info_at s 
 
 -- the nodes that a process may use, if it is there
 abbrev pub allowed_at : State → ℕ → Option (List ℕ)
-allowed_at s pid = option_map (λ (p : Process). p.allowed) (get nat_cmp s.processes pid)
+allowed_at s pid = option_map (λ (i : ProcessInfo). i.allowed) (info_at s pid)
 
 -- the refusal of the first of these nodes to which no page of a process with allowed nodes may go
 abbrev pub targets_refusal : State → Option (List ℕ) → List ℕ → Option Errno

@@ -1,7 +1,6 @@
 -- Which call is refused, and what the others answer and make of the state.
-use Rattle.std.specs.Prelude.{ℕ, ℤ, ◌/◌, nat_lt, true, List, [], ◌∷◌, map, take, Option, Some, None, if◌then◌else◌}
+use Rattle.std.specs.Prelude.{ℕ, ℤ, ◌/◌, List, [], ◌∷◌, map, take, Option, Some, None}
 use Rattle.nm_types.specs.declared.errno.Errno.{Errno}
-use Rattle.nm_types.specs.declared.errno.Errno.TheVariants.{Esrch, Einval}
 use Rattle.nm_types.specs.State.{State, free_list}
 use Rattle.nm_runs.specs.Cut.{Stretch, cut}
 use Rattle.nm_engine.specs.Touch.{read, write}
@@ -9,7 +8,7 @@ use Rattle.nm_engine.specs.Touch as engine
 use Rattle.nm_engine.specs.Effect.{spawn, map_new, attach, unmap, exit, pin, unpin}
 -- handed on, for those who ask for the report on a trace
 pub use Rattle.nm_engine.specs.Effect.{new_machine}
-use Rattle.nm_engine.specs.Refused.{first_error, is_unknown, spawn_refusal, map_refusal, attach_refusal, unmap_refusal, exit_refusal, pin_refusal, unpin_refusal, list_refusal, entries_refusal}
+use Rattle.nm_engine.specs.Refused.{spawn_refusal, map_refusal, attach_refusal, unmap_refusal, exit_refusal, pin_refusal, unpin_refusal, list_refusal, entries_refusal}
 use Rattle.nm_engine.specs.Run.{Ran}
 use Rattle.nm_engine.specs.Batch.{runs_from, batch, answer_of}
 use Rattle.nm_engine.specs.Entries.{entries_of}
@@ -36,16 +35,11 @@ shown (engine.Refused e) = Refusal e
 abbrev pub statuses_of : State → ℕ → List ℕ → List ℤ
 statuses_of s pid addresses = map (λ address. node_status s pid (address / 4096)) addresses
 
--- no such process; then, of a number that no segment can have, that there is none
-abbrev pub no_segment_refusal : State → ℕ → Option Errno
-no_segment_refusal s pid = first_error ((is_unknown s pid, Esrch) ∷ (true, Einval) ∷ [])
-
 -- the error with which a call is refused, if it is
 unfoldable pub refused : State → Call → Option Errno
 refused s (Spawn pid uid home allowed privileged) = spawn_refusal s pid home allowed
 refused s (MapPages pid addr pages shared) = map_refusal s pid addr pages
-refused s (Attach pid addr segment offset pages) =
-    if nat_lt segment 65536 then attach_refusal s pid addr segment offset pages else no_segment_refusal s pid
+refused s (Attach pid addr segment offset pages) = attach_refusal s pid addr segment offset pages
 refused s (Unmap pid addr pages) = unmap_refusal s pid addr pages
 refused s (Exit pid) = exit_refusal s pid
 refused s (Pin pid addr) = pin_refusal s pid addr

@@ -5,14 +5,13 @@ ghost use Rattle.nm_engine.specs.Effect.{new_machine};
 ghost use Rattle.nm_engine.specs.Audited.{audited};
 ghost use Rattle.nm_calls.specs.Calls.{Spawn, MapPages, Attach, Unmap, Exit, Pin, Unpin, ReadBytes, WriteBytes, MovePages, Query, FreeList, Pagemap, Done, NewSegment, TheBytes, Statuses, Frames, Entries};
 ghost use Rattle.nm_calls.specs.Entries.{entries_mapped, entries_shown};
-ghost use Rattle.nm_calls.specs.Outcome.{statuses_of, no_segment_refusal};
+ghost use Rattle.nm_calls.specs.Outcome.{statuses_of};
 ghost use Rattle.nm_calls.specs.Does.{Does, DoesOrRefuses};
 
 use crate::asking::{Permit, permit_of};
 use crate::call_error::CallError;
 use crate::moving::{Moved, check_targets, move_batch};
 use nm_engine::{Entry, Machine, Totals};
-use nm_types::limits::MAX_SEGMENTS;
 use nm_types::{Errno, FrameId, Geometry, NodeId, NodeMask, Pid, Vpn};
 use std::alloc::{AllocError, Allocator};
 use std::marker::Model;
@@ -60,17 +59,6 @@ fn statuses_of<A: Allocator + Copy + Send + Sync>(
         statuses.push(status)?;
     }
     Ok(statuses)
-}
-
-/// Why no segment can be attached that has a number which none can have: ESRCH without such a process, and then EINVAL.
-fn no_segment<A: Allocator + Copy + Send + Sync>(machine: &Machine<A>, pid: Pid) -> Errno
-    ensures { no_segment_refusal machine.now pid ≡ Some result }
-{
-    if machine.process(pid).is_some() {
-        Errno::Einval
-    } else {
-        Errno::Esrch
-    }
 }
 
 /// A machine of nodes, processes and pages.
@@ -138,13 +126,7 @@ impl<A: Allocator + Copy + Send + Sync> System<A> {
     ) -> Result<(), CallError>
         ensures { Does (λ done. Done) result self.old self.new (Attach pid addr segment offset pages) }
     {
-        if segment >= u64::from(MAX_SEGMENTS) {
-            return Err(CallError::Refused(no_segment(&self.machine, pid)));
-        }
-        Ok(
-            self.machine
-                .attach(pid, addr, segment as u32, offset, pages)?,
-        )
+        Ok(self.machine.attach(pid, addr, segment, offset, pages)?)
     }
 
     /// Lets go so many pages from an address on, where there may be holes. A page that no area of any process covers any
@@ -221,7 +203,6 @@ impl<A: Allocator + Copy + Send + Sync> System<A> {
         flags: u32,
     ) -> Result<Moved<A>, CallError>
         requires paired { length pages.now ≡ length nodes.now }
-        requires few { length pages.now ≤ 16384 }
         ensures { Does (λ moved. Statuses moved.failed moved.statuses.items) result self.old self.new (MovePages caller pid pages.now nodes.now flags) }
     {
         let permit = permit_of(&self.machine, caller, pid, flags)?;

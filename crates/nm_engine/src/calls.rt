@@ -118,7 +118,7 @@ impl<A: Allocator + Copy> Parts<A> {
         &mut self,
         pid: Pid,
         addr: u64,
-        segment: u32,
+        segment: u64,
         offset: u64,
         pages: u64,
     ) -> Result<(), MachineError>

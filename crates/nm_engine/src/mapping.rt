@@ -45,7 +45,7 @@ impl<A: Allocator + Copy> Spaces<A> {
         &mut self,
         pid: Pid,
         addr: u64,
-        segment: u32,
+        segment: u64,
         offset: u64,
         pages: u64,
     ) -> Result<(), AreaError>

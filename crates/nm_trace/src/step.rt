@@ -1,12 +1,12 @@
 //! The steps of a trace.
 
-ghost use Rattle.std.specs.Prelude.{◌≡◌, ◌≤◌, length};
+ghost use Rattle.std.specs.Prelude.{◌≡◌, length};
 ghost use Rattle.nm_trace.specs.declared.step.StepError.TheVariants.{Memory};
 
 use nm_types::{NodeId, NodeMask, Pid};
 use std::alloc::{AllocError, AllocFailed, Allocator};
 
-/// Pages by an address in each, and for each the node that it is to move to: as many, and at most 16,384.
+/// Pages by an address in each, and for each the node that it is to move to: as many.
 #[derive(Debug, Drop)]
 pub struct Batch<A: Allocator + Copy + Send + Sync> {
     /// An address in each page.
@@ -14,7 +14,6 @@ pub struct Batch<A: Allocator + Copy + Send + Sync> {
     /// The target of each page, which need not be a node of the machine.
     pub nodes: Vec<u32, A>,
     pub ghost paired: { length pages.items ≡ length nodes.items },
-    pub ghost few: { length pages.items ≤ 16384 },
 }
 
 /// What a step that moves pages asks.
