@@ -1,12 +1,12 @@
 #!/usr/bin/env python3
 """Times the built program on each kind of trace at 1, 2, 4 and 8 times its smallest size, and writes the table of
-docs/PERFORMANCE.md: seconds (the best of three runs), peak memory, and how the time grows. `./build` makes the program."""
+docs/PERFORMANCE.md: seconds of processor time (the best of five runs), peak memory, and how the time grows. Words name
+kinds, if not all are wanted. `./build` makes the program."""
 import math
 import os
 import subprocess
 import sys
 import tempfile
-import time
 
 import traces
 
@@ -15,15 +15,13 @@ PROGRAM = os.path.join(ROOT, "crates/numatrace/out/numatrace")
 
 
 def run_once(path):
-    """Seconds and peak memory in KiB of one run."""
+    """Seconds of processor time, in the program and in the kernel for it, and peak memory in KiB of one run."""
     with open(path, "rb") as trace, open(os.devnull, "wb") as out:
-        start = time.monotonic()
         child = subprocess.Popen([PROGRAM], stdin=trace, stdout=out)
         _, status, used = os.wait4(child.pid, 0)
-        seconds = time.monotonic() - start
     if status != 0:
         sys.exit("bench/run.py: the program ended with status %d" % os.waitstatus_to_exitcode(status))
-    return seconds, used.ru_maxrss
+    return used.ru_utime + used.ru_stime, used.ru_maxrss
 
 
 def exponent(times):
@@ -35,16 +33,19 @@ def exponent(times):
 
 
 def main():
+    wanted = sys.argv[1:] or [kind.__name__ for kind in traces.KINDS]
     print("| Trace | Size | MiB | Seconds | Peak memory | Growth |")
     print("|---|---|---|---|---|---|")
     with tempfile.TemporaryDirectory() as folder:
         path = os.path.join(folder, "trace.json")
         for kind, smallest in traces.KINDS.items():
+            if kind.__name__ not in wanted:
+                continue
             times = []
             for factor in (1, 2, 4, 8):
                 with open(path, "w", encoding="utf-8") as file:
                     file.write(kind(smallest * factor))
-                runs = [run_once(path) for _ in range(3)]
+                runs = [run_once(path) for _ in range(5)]
                 seconds = min(run[0] for run in runs)
                 times.append((factor, seconds))
                 growth = "%.2f" % exponent(times) if factor == 8 else ""

@@ -11,25 +11,48 @@ def trace(nodes, steps):
     count = len(nodes)
     rows = [[10 if row == column else 20 for column in range(count)] for row in range(count)]
     head = '{"version":1,"machine":{"nodes":%s,"distance":%s},"steps":[\n' % (nodes, rows)
-    spawn = '{"op":"spawn","pid":1,"uid":100,"home":0,"allowed":%s}' % list(range(count))
-    return head + ",\n".join([spawn] + steps) + "]}\n"
+    return head + ",\n".join([spawn(1, list(range(count)))] + steps) + "]}\n"
 
 
-def map_step(address, pages):
-    return '{"op":"map","pid":1,"addr":%d,"pages":%d}' % (address, pages)
+def spawn(pid, allowed, more=""):
+    return '{"op":"spawn","pid":%d,"uid":100,"home":0,"allowed":%s%s}' % (pid, allowed, more)
 
 
-def write(address):
-    return '{"op":"write","pid":1,"addr":%d,"data":"61"}' % address
+def exit_step(pid):
+    return '{"op":"exit","pid":%d}' % pid
 
 
-def read(address):
-    return '{"op":"read","pid":1,"addr":%d,"len":1}' % address
+def map_step(address, pages, pid=1, more=""):
+    return '{"op":"map","pid":%d,"addr":%d,"pages":%d%s}' % (pid, address, pages, more)
 
 
-def move(addresses, node):
-    nodes = [node] * len(addresses)
-    return '{"op":"move_pages","caller":1,"pid":0,"pages":%s,"nodes":%s,"flags":2}' % (addresses, nodes)
+def share(address, pages):
+    return map_step(address, pages, more=',"shared":true')
+
+
+def attach(address, offset, pages, pid):
+    return '{"op":"attach","pid":%d,"addr":%d,"segment":0,"offset":%d,"pages":%d}' % (pid, address, offset, pages)
+
+
+def unmap(address, pages, pid=1):
+    return '{"op":"unmap","pid":%d,"addr":%d,"pages":%d}' % (pid, address, pages)
+
+
+def write(address, pid=1):
+    return '{"op":"write","pid":%d,"addr":%d,"data":"61"}' % (pid, address)
+
+
+def read(address, pid=1):
+    return '{"op":"read","pid":%d,"addr":%d,"len":1}' % (pid, address)
+
+
+def move(addresses, nodes, caller=1, pid=0, flags=2):
+    form = '{"op":"move_pages","caller":%d,"pid":%d,"pages":%s,"nodes":%s,"flags":%d}'
+    return form % (caller, pid, addresses, nodes, flags)
+
+
+def move_to(addresses, node):
+    return move(addresses, [node] * len(addresses))
 
 
 def small_steps(size):
@@ -42,7 +65,7 @@ def small_steps(size):
         elif number % 3 == 1:
             steps.append(read(address))
         else:
-            steps.append(move([address], number // 16 % 2))
+            steps.append(move_to([address], number // 16 % 2))
     return trace([64, 64], steps)
 
 
@@ -51,7 +74,7 @@ def to_and_fro(size):
     pages = [BASE + PAGE * page for page in range(8192)]
     steps = [map_step(BASE, 8192)] + [write(page) for page in pages]
     for number in range(2 * size):
-        steps.append(move(pages, 1 - number % 2))
+        steps.append(move_to(pages, 1 - number % 2))
     return trace([8192, 8192], steps)
 
 
@@ -59,7 +82,7 @@ def one_page(size):
     """So many batches of 16,384 entries that all name one page."""
     steps = [map_step(BASE, 1), write(BASE)]
     for number in range(size):
-        steps.append(move([BASE] * 16384, 1 - number % 2))
+        steps.append(move_to([BASE] * 16384, 1 - number % 2))
     return trace([4, 4], steps)
 
 
@@ -81,8 +104,138 @@ def many_areas(size):
     return trace([8192], steps)
 
 
+def many_runs(size):
+    """One batch of 8,192 pages, each of whose entries is a run of its own: neighbours change places so many times."""
+    pages = [BASE + PAGE * page for page in range(8192)]
+    steps = [map_step(BASE, 8192)] + [write(page) for page in pages]
+    for number in range(2 * size):
+        steps.append(move(pages, [(page + number) % 2 for page in range(8192)]))
+    return trace([8192, 8192], steps)
+
+
+def shared_by(count):
+    """A shared segment of 64 pages that process 1 maps and writes, and so many others attach and read, and the pages'
+    addresses. Process 1000 is privileged and has nothing."""
+    pages = [BASE + PAGE * page for page in range(64)]
+    steps = [spawn(1000, [0, 1], ',"privileged":true'), share(BASE, 64)] + [write(page) for page in pages]
+    for pid in range(2, 2 + count):
+        steps += [spawn(pid, [0, 1]), attach(BASE, 0, 64, pid)] + [read(page, pid) for page in pages]
+    return pages, steps
+
+
+def to_and_fro_with_all(pages, times):
+    """Process 1000 moves pages of process 1 that others see as well, to the other node and back so many times."""
+    return [move(pages, [1 - number % 2] * len(pages), 1000, 1, 4) for number in range(2 * times)]
+
+
+def shared_moves(size):
+    """64 pages that 200 processes share, moved to the other node and back with MPOL_MF_MOVE_ALL so many times."""
+    pages, steps = shared_by(199)
+    return trace([64, 64], steps + to_and_fro_with_all(pages, size))
+
+
+def sharers(size):
+    """64 pages that so many processes share, moved with MPOL_MF_MOVE_ALL to the other node and back 400 times. Then the
+    processes exit."""
+    pages, steps = shared_by(size)
+    steps += to_and_fro_with_all(pages, 400)
+    return trace([64, 64], steps + [exit_step(pid) for pid in range(2, 2 + size)])
+
+
+def churn(size):
+    """So many thousand rounds over 32 processes with 16 slots of 8 pages each: what is left in a slot goes, 8 pages are
+    mapped there, two are written and one read, and three in the middle go. After every 40 rounds a process exits, and
+    one with its pid is spawned."""
+    steps = [spawn(pid, [0, 1]) for pid in range(2, 34)]
+    for number in range(size * 1000):
+        pid = 2 + number % 32
+        slot = BASE + 8 * PAGE * (number // 32 % 16)
+        steps += [unmap(slot, 8, pid), map_step(slot, 8, pid)]
+        steps += [write(slot, pid), write(slot + 3 * PAGE, pid), read(slot + 6 * PAGE, pid)]
+        steps.append(unmap(slot + 2 * PAGE, 3, pid))
+        if number % 40 == 39:
+            steps += [exit_step(pid), spawn(pid, [0, 1])]
+    return trace([1024, 1024], steps)
+
+
+def churn_among_areas(size):
+    """So many thousand areas of one page stand, each touched, and as many rounds follow in between them: a page is
+    mapped, written and unmapped."""
+    steps = []
+    spots = [2 * PAGE * (number * 7919 % 2**20) for number in range(size * 1000)]
+    for number, address in enumerate(spots):
+        steps += [map_step(address, 1), write(address) if number % 8 == 0 else read(address)]
+    for address in spots:
+        steps += [map_step(address + PAGE, 1), write(address + PAGE), unmap(address + PAGE, 1)]
+    return trace([8192], steps)
+
+
+def big_exits(size):
+    """Four times a process maps and writes so many thousand areas of one page, and exits."""
+    steps = []
+    for pid in range(2, 6):
+        steps.append(spawn(pid, [0]))
+        for number in range(size * 1000):
+            address = 2 * PAGE * (number * 7919 % 2**20)
+            steps += [map_step(address, 1, pid), write(address, pid)]
+        steps.append(exit_step(pid))
+    return trace([16384], steps)
+
+
+def shared_holes(size):
+    """A shared segment of so many thousand pages, all written, in which every second page is unmapped."""
+    pages = [BASE + PAGE * page for page in range(size * 1000)]
+    steps = [share(BASE, size * 1000)] + [write(page) for page in pages]
+    return trace([16384], steps + [unmap(page, 1) for page in pages[1::2]])
+
+
+def shared_windows(size):
+    """So many thousand pages of a shared segment, each attached as an area of its own and written. Then both processes
+    that have areas of it exit."""
+    steps = [share(BASE, size * 1000), spawn(2, [0])]
+    for number in range(size * 1000):
+        address = BASE + 2 * PAGE * number
+        steps += [attach(address, number, 1, 2), write(address, 2)]
+    return trace([16384], steps + [exit_step(1), exit_step(2)])
+
+
+def shared_visits(size):
+    """A shared segment of so many thousand pages, all written, and 50 times as many visits of another process: it
+    attaches the segment, reads one page, and unmaps it."""
+    pages = size * 1000
+    steps = [share(BASE, pages)] + [write(BASE + PAGE * page) for page in range(pages)] + [spawn(2, [0])]
+    for number in range(size * 50):
+        steps += [attach(BASE, 0, pages, 2), read(BASE + PAGE * (number * 7919 % pages), 2), unmap(BASE, pages, 2)]
+    return trace([16384], steps)
+
+
+def spawns(size):
+    """So many processes stand, and 100 times as many times one exits and one with its pid is spawned."""
+    steps = [spawn(pid, [0]) for pid in range(2, 2 + size)]
+    for number in range(size * 100):
+        pid = 2 + number * 7919 % size
+        steps += [exit_step(pid), spawn(pid, [0])]
+    return trace([64], steps)
+
+
 # each kind with the size of its smallest trace
-KINDS = {small_steps: 25, to_and_fro: 4, one_page: 8, sparse_touches: 16, many_areas: 7}
+KINDS = {
+    small_steps: 25,
+    to_and_fro: 4,
+    one_page: 8,
+    sparse_touches: 16,
+    many_areas: 7,
+    many_runs: 4,
+    shared_moves: 50,
+    sharers: 25,
+    churn: 5,
+    churn_among_areas: 3,
+    big_exits: 2,
+    shared_holes: 2,
+    shared_windows: 1,
+    shared_visits: 2,
+    spawns: 125,
+}
 
 
 def main():
