@@ -10,11 +10,15 @@ mod limits;
 #[cfg(test)]
 mod machine;
 #[cfg(test)]
+mod plain;
+#[cfg(test)]
 mod policies;
 #[cfg(test)]
 mod refusals;
 #[cfg(test)]
 mod rmap;
+#[cfg(test)]
+mod same_calls;
 #[cfg(test)]
 mod tables;
 #[cfg(test)]
