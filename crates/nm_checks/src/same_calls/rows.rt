@@ -33,7 +33,7 @@ fn spawn(pid: u32) -> Call {
     Call::Spawn(pid, 100, 0, 7, false)
 }
 
-/// Writes the process's number to the first byte of a page.
+/// Writes a byte at the start of a page.
 fn write(pid: u32, page: u64) -> Call {
     Call::Write(pid, page.wrapping_mul(4096), 1, [0x61; 4])
 }
