@@ -14,6 +14,12 @@ ROOT = os.path.dirname(os.path.dirname(os.path.abspath(__file__)))
 PROGRAM = os.path.join(ROOT, "crates/numatrace/out/numatrace")
 
 
+def make_trace(kind, size, path):
+    """Writes a trace in a process of its own: the peak memory of what this one starts counts from its own size on."""
+    with open(path, "wb") as trace:
+        subprocess.run([sys.executable, os.path.join(ROOT, "bench/traces.py"), kind, str(size)], stdout=trace, check=True)
+
+
 def run_once(path):
     """Seconds of processor time, in the program and in the kernel for it, and peak memory in KiB of one run."""
     with open(path, "rb") as trace, open(os.devnull, "wb") as out:
@@ -43,8 +49,7 @@ def main():
                 continue
             times = []
             for factor in (1, 2, 4, 8):
-                with open(path, "w", encoding="utf-8") as file:
-                    file.write(kind(smallest * factor))
+                make_trace(kind.__name__, smallest * factor, path)
                 runs = [run_once(path) for _ in range(5)]
                 seconds = min(run[0] for run in runs)
                 times.append((factor, seconds))

@@ -86,6 +86,14 @@ def one_page(size):
     return trace([4, 4], steps)
 
 
+def long_batches(size):
+    """A hundred batches, each of so many thousand entries that all name one page."""
+    steps = [map_step(BASE, 1), write(BASE)]
+    for number in range(100):
+        steps.append(move_to([BASE] * (size * 1000), 1 - number % 2))
+    return trace([4, 4], steps)
+
+
 def sparse_touches(size):
     """So many thousand touches, far from one another, in one area of 2^34 pages."""
     steps = [map_step(0, 2**34)]
@@ -223,6 +231,7 @@ KINDS = {
     small_steps: 25,
     to_and_fro: 4,
     one_page: 8,
+    long_batches: 2,
     sparse_touches: 16,
     many_areas: 7,
     many_runs: 4,
