@@ -42,7 +42,7 @@ fn perform<'a>(areas: &mut Areas<Heap<'a>>, call: Call, round: u32) -> Result<()
     let addr = u64::from(round) * 0x10000;
     match call {
         Call::Insert => areas.insert(one, addr, 3, true).map(|_| ()),
-        Call::Attach => areas.attach(Pid::new(2), addr, round, 1, 2),
+        Call::Attach => areas.attach(Pid::new(2), addr, u64::from(round), 1, 2),
         Call::Frame => {
             areas.set_frame(first_page(round), FrameId::new(round))?;
             Ok(())
