@@ -20,7 +20,7 @@ pub enum CallError {
     HostMemory {
         /// How many runs of the call were made.
         runs: usize,
-        /// Whether the call had set the policy of areas.
+        /// Whether the call had set the policy of areas. No call does so yet: it is false.
         policy_set: bool,
     },
 }

@@ -77,7 +77,8 @@ impl<A: Allocator + Copy + Send + Sync> Model for System<A> {
 }
 
 impl<A: Allocator + Copy + Send + Sync> System<A> {
-    /// A new machine: no process, every node online, every frame free and its list in ascending order.
+    /// A new machine: no process, every node online, every frame free and its list in ascending order. An error is want of
+    /// memory.
     pub fn new(alloc: A, geometry: Geometry<A>) -> Result<Self, AllocError>
         ensures { IfOk result (λ system. system ≡ new_machine geometry) }
     {
@@ -257,7 +258,8 @@ impl<A: Allocator + Copy + Send + Sync> System<A> {
         Ok(mapped_of(self.alloc, entries.as_slice())?)
     }
 
-    /// Whether each frame is exactly once in its own node's free list, or the place of one page.
+    /// Whether each frame is exactly once in its own node's free list, or the place of one page. An error is want of
+    /// memory.
     pub fn audit(&self) -> Result<bool, AllocError>
         ensures { IfOk result (λ b. b ≡ audited self.now) }
     {

@@ -1,5 +1,5 @@
 -- Deciding changes `place` alone, and gives no place to a page that had none.
-use Rattle.std.proofs.Common.{◌≡◌, ℕ, ◌/◌, ◌%◌, List, [], ◌∷◌, Bool, true, false, cond, refl, sym, ap, ◌∙◌}
+use Rattle.std.proofs.Common.{◌≡◌, ℕ, ◌+◌, ◌/◌, ◌%◌, List, [], ◌∷◌, Bool, true, false, cond, refl, sym, ap, ◌∙◌}
 use Rattle.std.specs.Prelude.{Option, Some, None}
 use Rattle.std.specs.Option.{option_map}
 use Rattle.nm_types.specs.declared.page.Page.{Page}
@@ -9,8 +9,10 @@ use Rattle.nm_runs.specs.declared.Class.{Class}
 use Rattle.nm_runs.specs.declared.Class.TheVariants.{Status, Move}
 use Rattle.nm_runs.specs.declared.Wanted.{Wanted}
 use Rattle.nm_runs.specs.Status.{status_or_move}
+use Rattle.nm_runs.specs.Cut.{Request, Stretch, cut}
 use Rattle.nm_engine.specs.Memory.{mem, byte_of}
-use Rattle.nm_engine.specs.Run.{moved_page, decided, one, each, with_free, with_all_free}
+use Rattle.nm_engine.specs.Run.{moved_page, decided, one, each, with_free, with_all_free, left, run}
+use Rattle.nm_engine.specs.Batch.{runs_from, batch}
 use Rattle.nm_engine.proofs.Maps.{page_cmp_total, exact_page, equal, get-set}
 use Rattle.nm_engine.proofs.Placed.{ClassIsPlaced, status_placed}
 
@@ -45,3 +47,15 @@ each_keeps s target (w ∷ ws) pid address =
 pub frees_keep : (frames : List ℕ) (s : State) (pid address : ℕ) → mem (with_all_free s frames) pid address ≡ mem s pid address
 frees_keep [] s pid address = refl
 frees_keep (frame ∷ frames) s pid address = frees_keep frames (with_free s frame) pid address
+
+run_keeps : (s : State) (target : ℕ) (ws : List Wanted) (pid address : ℕ) → mem (run s target ws []).state pid address ≡ mem s pid address
+run_keeps s target ws pid address =
+    let moves = each s target ws in
+    frees_keep (left moves.taken) moves.state pid address ∙ each_keeps s target ws pid address
+
+runs_keep : (k : ℕ) (s : State) (rs : List Stretch) (pid address : ℕ) → mem (runs_from k s rs []).state pid address ≡ mem s pid address
+runs_keep k s [] pid address = refl
+runs_keep k s (r ∷ rs) pid address = runs_keep (k + 1) (run s r.target r.wanted []).state rs pid address ∙ run_keeps s r.target r.wanted pid address
+
+pub batch_keeps : (s : State) (requests : List Request) (pid address : ℕ) → mem (batch s requests []).state pid address ≡ mem s pid address
+batch_keeps s requests pid address = runs_keep 0 s (cut requests) pid address

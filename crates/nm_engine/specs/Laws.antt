@@ -41,6 +41,12 @@ abbrev pub FreeingKeepsMemory : Type 0
 FreeingKeepsMemory =
     (s : State) (frames : List ℕ) (pid address : ℕ) → mem (with_all_free s frames) pid address ≡ mem s pid address
 
+-- so a batch, run after run, changes no byte that a process has
+abbrev pub BatchKeepsMemory : Type 0
+BatchKeepsMemory =
+    (s : State) (requests : List Request) (pid address : ℕ) →
+    mem (batch s requests []).state pid address ≡ mem s pid address
+
 -- a read changes none, though it may take a frame
 abbrev pub ReadingKeepsMemory : Type 0
 ReadingKeepsMemory =

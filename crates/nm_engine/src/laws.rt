@@ -1,6 +1,6 @@
 //! Laws over the definitions alone, and worked examples.
 
-ghost use Rattle.nm_engine.specs.Laws.{DecidingKeepsMemory, FreeingKeepsMemory, ReadingKeepsMemory, WritingIsExact, PolicyKeepsMemory, LooksSuffice, PlanIsOneByOne, AccessIsSound, RunIsSound, BatchIsSound, NewIsSound, SpawnIsSound, MapIsSound, AttachIsSound, PinIsSound, PolicyIsSound, UnmapIsSound, ExitIsSound};
+ghost use Rattle.nm_engine.specs.Laws.{DecidingKeepsMemory, FreeingKeepsMemory, BatchKeepsMemory, ReadingKeepsMemory, WritingIsExact, PolicyKeepsMemory, LooksSuffice, PlanIsOneByOne, AccessIsSound, RunIsSound, BatchIsSound, NewIsSound, SpawnIsSound, MapIsSound, AttachIsSound, PinIsSound, PolicyIsSound, UnmapIsSound, ExitIsSound};
 ghost use Rattle.nm_engine.specs.Starts.{StartsAreSound};
 ghost use Rattle.nm_engine.specs.Moving.{ThreePagesMove, MovedPageReads, EmptyBatchDoesNothing, OnePageTwiceMovesOnce, ShortageStopsTwoOfFour, LaterRunTakesFrameOfEarlier, EarlierRunFindsNone, PageGoesAndComesHome};
 ghost use Rattle.nm_engine.specs.Sharing.{TwoAddressesAreOneProcess, SharedPageStays, SharedPageIsOnTarget, SharedPageMovesForBoth};
@@ -8,10 +8,11 @@ ghost use Rattle.nm_engine.specs.Letting.{OnlyTheMovingPageIsHeld, EachHasItsSta
 ghost use Rattle.nm_engine.specs.Setting.{MiddlePageIsSplitOff, NewPagesFollowThePolicy, LengthsRoundUp, AreasAreNotMerged, OthersKeepTheirAreas, RangesAreRefused};
 ghost use Rattle.nm_engine.specs.Deciding.{NodesAreOrderedByDistance, PolicyOrdersTheNodes, PlanResolvesRepeats, PlanWithoutFrames, PlanWithoutRequests, PairsLeaveRoomFirst, EachPageMigratesOnce};
 
-/// No move changes a byte that a process reads, and no read and no policy does.
+/// No move changes a byte that a process reads: not one, and not a batch; and no read and no policy does.
 pub fn mem_stays()
     ensures decided { DecidingKeepsMemory }
     ensures freed { FreeingKeepsMemory }
+    ensures batches { BatchKeepsMemory }
     ensures read { ReadingKeepsMemory }
     ensures policies { PolicyKeepsMemory }
 {}

@@ -57,7 +57,7 @@ impl<A: Allocator + Copy + Send + Sync> Model for Machine<A> {
 
 impl<A: Allocator + Copy + Send + Sync> Machine<A> {
     /// A machine of these nodes, all online, with every frame free and no process. Each node's free frames are listed
-    /// upwards.
+    /// upwards. An error is want of memory.
     pub fn new(alloc: A, geometry: Geometry<A>) -> Result<Self, AllocError>
         ensures { IfOk result (λ machine. machine ≡ new_machine geometry) }
     {
@@ -226,7 +226,8 @@ impl<A: Allocator + Copy + Send + Sync> Machine<A> {
     /// (ENOENT) where nothing was touched; -13 (EACCES) where another process sees the page and the request does not ask
     /// for all; -16 (EBUSY) for a pinned page; -12 (ENOMEM) where the target has no free frame. A page takes the front of the
     /// target's free frames. The frames that pages leave become free at the run's end, in the order of the moves. The
-    /// totals count the moves, and the requests with -12. An error means that the machine is as it was.
+    /// totals count the moves, and the requests with -16 or -12. An error is want of memory, and means that the machine is
+    /// as it was.
     pub fn run_flight(&mut self, requests: &Run<A>) -> Result<Vec<i32, A>, AllocError>
         requires { requests.now.target < node_count self.old.layout }
         ensures statuses { IfOk result (λ statuses. statuses.items ≡ (run self.old requests.now.target requests.now.wanted.items []).statuses) }
@@ -265,7 +266,7 @@ impl<A: Allocator + Copy + Send + Sync> Machine<A> {
     }
 
     /// Whether each frame of the machine stands exactly once in its own node's list of free frames, or is the place of
-    /// exactly one page, and not both.
+    /// exactly one page, and not both. An error is want of memory.
     pub fn audit(&self) -> Result<bool, AllocError>
         ensures { IfOk result (λ b. b ≡ audited self.now) }
     {

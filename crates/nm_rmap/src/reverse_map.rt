@@ -137,7 +137,7 @@ impl<A: Allocator + Copy> ReverseMap<A> {
         Ok(())
     }
 
-    /// How often a frame is pinned, at most 65,535 times. It takes no memory.
+    /// How often a frame is pinned. It takes no memory.
     pub fn pins(&self, frame: FrameId) -> u32
         requires { frame < length self.now.spots }
         ensures pins { result ≡ pins_of self.now frame }

@@ -35,6 +35,7 @@ pub struct Area {
 pub struct Segment {
     /// Its length in pages, at least 1.
     pub pages: u64,
-    /// Whether several areas may show it. A private one has one `map` and no `attach`.
+    /// Whether processes may attach it. A private one is shown by the area of its `map`, or what is left of that where it
+    /// was split.
     pub shared: bool,
 }

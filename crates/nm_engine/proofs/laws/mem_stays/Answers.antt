@@ -1,5 +1,5 @@
 use Rattle.std.proofs.Common.{[]}
-use Rattle.nm_engine.proofs.Memory.{each_keeps, frees_keep}
+use Rattle.nm_engine.proofs.Memory.{each_keeps, frees_keep, batch_keeps}
 use Rattle.nm_engine.proofs.Touched.{reading_keeps}
 use Rattle.nm_engine.proofs.Policed.{policy_shows, policy_keeps}
 use Rattle.nm_engine.proofs.laws.mem_stays.Goals as goal
@@ -9,6 +9,9 @@ returns-clause-decided c = each_keeps
 
 pub returns-clause-freed : goal.returns-clause-freed
 returns-clause-freed c = λ s frames. frees_keep frames s
+
+pub returns-clause-batches : goal.returns-clause-batches
+returns-clause-batches c = batch_keeps
 
 pub returns-clause-read : goal.returns-clause-read
 returns-clause-read c = λ s left pid address len q at h. reading_keeps s left pid address len h q at
