@@ -41,7 +41,7 @@ abbrev pub FreeingKeepsMemory : Type 0
 FreeingKeepsMemory =
     (s : State) (frames : List ℕ) (pid address : ℕ) → mem (with_all_free s frames) pid address ≡ mem s pid address
 
--- so a batch, run after run, changes no byte that a process has
+-- so a batch without accesses in flight, run after run, changes no byte that a process has
 abbrev pub BatchKeepsMemory : Type 0
 BatchKeepsMemory =
     (s : State) (requests : List Request) (pid address : ℕ) →
