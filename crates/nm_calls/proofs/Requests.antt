@@ -6,7 +6,7 @@ use Rattle.std.specs.List.{AllByRecursion, sum_by}
 use Rattle.nm_runs.specs.declared.Run.{Run}
 use Rattle.nm_runs.specs.declared.Wanted.TheVariants.{At}
 use Rattle.nm_runs.specs.Cut.{Request, Stretch, in_front, cut, stretches_of}
-use Rattle.nm_calls.specs.Moving.{requests_of}
+use Rattle.nm_calls.specs.Batch.{requests_of}
 
 -- how many requests stretches have
 abbrev entries : List Stretch → ℕ

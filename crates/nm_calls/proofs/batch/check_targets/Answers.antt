@@ -1,7 +1,7 @@
 use Rattle.std.proofs.Common.{ap, subst, ◌∙◌}
 use Rattle.nm_runs.specs.Targets.{first_refusal, Checks}
 use Rattle.nm_calls.proofs.Targets.{same_refusal}
-use Rattle.nm_calls.proofs.moving.check_targets.Goals as goal
+use Rattle.nm_calls.proofs.batch.check_targets.Goals as goal
 
 pub returns-clause-exact : goal.returns-clause-exact
 returns-clause-exact g c =

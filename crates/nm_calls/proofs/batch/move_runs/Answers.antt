@@ -1,15 +1,19 @@
-use Rattle.std.proofs.Common.{◌≡◌, ◌+◌, ◌++◌, arith, ap, refl, ◌∙◌, [], drop, length, length-append}
+use Rattle.std.proofs.Common.{◌≡◌, ◌+◌, ◌++◌, arith, ap, refl, sym, ◌∙◌, [], drop, length, length-append}
 use Rattle.nm_types.specs.Layout.{node_count}
 use Rattle.nm_runs.specs.Cut.{stretches_of}
 use Rattle.nm_engine.specs.Run.{run}
 use Rattle.nm_calls.proofs.Lengths.{run_length, run_layout}
+use Rattle.nm_calls.proofs.Trails.{states_are}
 use Rattle.nm_calls.proofs.Stretches.{one_more_run, some_run, next_left, entries_left, not_last}
-use Rattle.nm_calls.proofs.moving.move_runs.Goals as goal
+use Rattle.nm_calls.proofs.batch.move_runs.Goals as goal
 
 pub returns-in_default : goal.returns-in_default
 returns-in_default g c =
     let runs = c.args.runs.now in
-    (refl, not_last runs c.loop-k.k c.loop-k-test.true, c.in_default.ensures.err ∙ some_run c.args.machine.now (stretches_of runs) (stretches_of (drop c.loop-k.k runs)) c.loop-k.k c.loop-k.machine c.loop-k.statuses.items c.loop-k.invariant.made)
+    let few = not_last runs c.loop-k.k c.loop-k-test.true in
+    let made = some_run c.args.machine.now (stretches_of runs) (stretches_of (drop c.loop-k.k runs)) c.loop-k.k c.loop-k.machine c.loop-k.statuses.items c.loop-k.invariant.made in
+    let trail = states_are 0 c.args.machine.now (stretches_of runs) c.loop-k.k c.args.machine.now (omega (arith, few)) in
+    (refl, few, c.in_default.ensures.err ∙ made ∙ sym trail)
 
 pub unwrap-requires : goal.unwrap-requires
 unwrap-requires g c =

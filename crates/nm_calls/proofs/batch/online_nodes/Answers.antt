@@ -1,8 +1,8 @@
 use Rattle.std.proofs.Common.{ap, sym, ◌∙◌}
 use Rattle.nm_types.specs.Nodes.{is_in}
 use Rattle.nm_calls.proofs.Targets.{one_in, one_out}
-use Rattle.nm_calls.proofs.moving.online_nodes.Goals.{then-is_online, else-is_online}
-use Rattle.nm_calls.proofs.moving.online_nodes.Goals as goal
+use Rattle.nm_calls.proofs.batch.online_nodes.Goals.{then-is_online, else-is_online}
+use Rattle.nm_calls.proofs.batch.online_nodes.Goals as goal
 
 pub loop-number-preserved : goal.loop-number-preserved
 loop-number-preserved g c =

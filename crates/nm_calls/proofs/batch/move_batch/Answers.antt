@@ -1,7 +1,7 @@
 use Rattle.std.proofs.Common.{arith, ap, ◌∙◌}
 use Rattle.nm_runs.specs.Cut.{cut, stretches_of}
 use Rattle.nm_calls.proofs.Requests.{targets_below, entries_fit}
-use Rattle.nm_calls.proofs.moving.move_batch.Goals as goal
+use Rattle.nm_calls.proofs.batch.move_batch.Goals as goal
 
 pub move_runs-requires-clause-targets : goal.move_runs-requires-clause-targets
 move_runs-requires-clause-targets g c κs within =

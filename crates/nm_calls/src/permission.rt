@@ -2,7 +2,8 @@
 
 ghost use Rattle.std.specs.Prelude.{◌≡◌, IfOk, Some};
 ghost use Rattle.nm_runs.specs.Targets.{Checks};
-ghost use Rattle.nm_calls.specs.Moving.{flags_refusal, moves_all, owner_of, allowed_at, query_refusal};
+ghost use Rattle.nm_calls.specs.Permission.{flags_refusal, moves_all, owner_of, query_refusal};
+ghost use Rattle.nm_calls.specs.Batch.{allowed_at};
 
 use nm_engine::{Machine, ProcessInfo};
 use nm_types::{Errno, MoveFlags, NodeMask, Pid};

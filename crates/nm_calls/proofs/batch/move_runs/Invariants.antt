@@ -3,7 +3,7 @@ use Rattle.std.specs.List.{sum_by}
 use Rattle.nm_types.specs.Layout.{node_count}
 use Rattle.nm_runs.specs.Cut.{stretches_of}
 use Rattle.nm_calls.proofs.Stretches.{HaveRun}
-use Rattle.nm_calls.proofs.moving.move_runs.Given as goal
+use Rattle.nm_calls.proofs.batch.move_runs.Given as goal
 
 abbrev pub invariant-loop-k : goal.invariant-loop-k
 invariant-loop-k g l = record {

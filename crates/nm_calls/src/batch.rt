@@ -7,23 +7,16 @@ ghost use Rattle.nm_types.specs.Nodes.{is_in};
 ghost use Rattle.nm_runs.specs.declared.Wanted.TheVariants.{At};
 ghost use Rattle.nm_runs.specs.Cut.{cut, stretches_of};
 ghost use Rattle.nm_runs.specs.Targets.{first_refusal, Checks};
-ghost use Rattle.nm_calls.specs.Moving.{failures, requests_of};
+ghost use Rattle.nm_engine.specs.Run.{failures};
+ghost use Rattle.nm_calls.specs.Batch.{requests_of};
 ghost use Rattle.nm_calls.specs.Does.{Moves};
 
+use crate::answer::Moved;
 use crate::call_error::CallError;
 use nm_engine::Machine;
 use nm_runs::{Request, Run, Wanted, check_batch, cut};
 use nm_types::{Errno, NodeId, NodeMask, Pid, Vpn};
 use std::alloc::{AllocError, Allocator};
-
-/// What a batch answers.
-#[derive(Debug, Drop)]
-pub struct Moved<A: Allocator + Copy + Send + Sync> {
-    /// How many entries failed, for a pin or for want of a free frame: those with status -16 or -12.
-    pub failed: usize,
-    /// The status of each entry: the node where its page is, or an error's number with a minus sign.
-    pub statuses: Vec<i32, A>,
-}
 
 /// The nodes of the machine that are online.
 fn online_nodes<A: Allocator + Copy + Send + Sync>(machine: &Machine<A>) -> NodeMask
@@ -119,6 +112,7 @@ fn move_runs<A: Allocator + Copy + Send + Sync>(
 
 /// Moves the pages of a batch, run after run. All that is asked for is made ready before the first run starts. An error
 /// means that the host refused memory after so many runs.
+#[tactic(auto, using(crate::proofs::Trails::first_state))]
 pub(crate) fn move_batch<A: Allocator + Copy + Send + Sync>(
     alloc: A,
     machine: &mut Machine<A>,
