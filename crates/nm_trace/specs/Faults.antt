@@ -8,8 +8,8 @@ use Rattle.nm_types.specs.Layout.{Layout}
 use Rattle.nm_calls.specs.Calls.{Call}
 use Rattle.nm_trace.specs.declared.trace_error.TraceError.{TraceError}
 use Rattle.nm_trace.specs.declared.trace_error.TraceError.TheVariants.{NotJson, BadMachine, BadStep, ReadFault, WriteFault, HostMemory}
-use Rattle.nm_trace.specs.declared.step.StepError.{StepError}
-use Rattle.nm_trace.specs.declared.step.StepError.TheVariants.{Bad, Memory}
+use Rattle.nm_trace.specs.declared.step_error.StepError.{StepError}
+use Rattle.nm_trace.specs.declared.step_error.StepError.TheVariants.{Bad, Memory}
 use Rattle.nm_trace.specs.Form as form
 
 -- a trace: its machine, and what its steps ask

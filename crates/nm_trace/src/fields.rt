@@ -6,7 +6,7 @@ ghost use Rattle.nm_trace.specs.Form.{number_at, small_at, text_at, flag_at, set
 ghost use Rattle.nm_trace.specs.Form as form;
 ghost use Rattle.nm_trace.specs.Gives.{Gives};
 
-use crate::step::StepError;
+use crate::step_error::StepError;
 use hex::FromHexError;
 use nm_types::{NodeId, NodeMask};
 use serde_json::Value;

@@ -6,7 +6,7 @@ ghost use Rattle.nm_trace.specs.Form as form;
 ghost use Rattle.nm_trace.specs.Gives.{Gives};
 
 use crate::fields::{list, smalls};
-use crate::step::StepError;
+use crate::step_error::StepError;
 use nm_types::Geometry;
 use serde_json::Value;
 use std::alloc::Allocator;

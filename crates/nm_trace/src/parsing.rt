@@ -1,21 +1,23 @@
-//! Steps as JSON has them.
+//! Steps as JSON has them: the call that each asks for.
 
 ghost use Rattle.serde_json.specs.View.{view};
 ghost use Rattle.nm_trace.specs.Form as form;
-ghost use Rattle.nm_trace.specs.Gives.{Gives, call_of};
+ghost use Rattle.nm_calls.specs.Views.{call_of};
+ghost use Rattle.nm_trace.specs.Gives.{Gives};
 
 use crate::fields::{flag, hex, number, numbers, set, small, smalls, text};
-use crate::step::{Attachment, Batch, MoveRequest, NewArea, NewProcess, Question, Step, StepError};
+use crate::step_error::StepError;
+use nm_calls::{Attachment, Batch, Call, MoveRequest, NewArea, NewProcess, Question};
 use nm_types::limits::MAX_BATCH;
 use nm_types::{NodeId, Pid};
 use serde_json::Value;
 use std::alloc::Allocator;
 
 #[tactic(auto, unfolding(crate::specs::Form::spawn_of))]
-fn spawn<A: Allocator + Copy + Send + Sync>(value: &Value) -> Result<Step<A>, StepError>
+fn spawn<A: Allocator + Copy + Send + Sync>(value: &Value) -> Result<Call<A>, StepError>
     ensures { Gives call_of result (form.spawn_of (view value.now)) }
 {
-    Ok(Step::Spawn(NewProcess {
+    Ok(Call::Spawn(NewProcess {
         pid: Pid::new(small(value, "pid")?),
         uid: small(value, "uid")?,
         home: NodeId::new(small(value, "home")?),
@@ -25,10 +27,10 @@ fn spawn<A: Allocator + Copy + Send + Sync>(value: &Value) -> Result<Step<A>, St
 }
 
 #[tactic(auto, unfolding(crate::specs::Form::map_of))]
-fn map<A: Allocator + Copy + Send + Sync>(value: &Value) -> Result<Step<A>, StepError>
+fn map<A: Allocator + Copy + Send + Sync>(value: &Value) -> Result<Call<A>, StepError>
     ensures { Gives call_of result (form.map_of (view value.now)) }
 {
-    Ok(Step::Map(NewArea {
+    Ok(Call::Map(NewArea {
         pid: Pid::new(small(value, "pid")?),
         addr: number(value, "addr")?,
         pages: number(value, "pages")?,
@@ -37,10 +39,10 @@ fn map<A: Allocator + Copy + Send + Sync>(value: &Value) -> Result<Step<A>, Step
 }
 
 #[tactic(auto, unfolding(crate::specs::Form::attach_of))]
-fn attach<A: Allocator + Copy + Send + Sync>(value: &Value) -> Result<Step<A>, StepError>
+fn attach<A: Allocator + Copy + Send + Sync>(value: &Value) -> Result<Call<A>, StepError>
     ensures { Gives call_of result (form.attach_of (view value.now)) }
 {
-    Ok(Step::Attach(Attachment {
+    Ok(Call::Attach(Attachment {
         pid: Pid::new(small(value, "pid")?),
         addr: number(value, "addr")?,
         segment: number(value, "segment")?,
@@ -50,10 +52,10 @@ fn attach<A: Allocator + Copy + Send + Sync>(value: &Value) -> Result<Step<A>, S
 }
 
 #[tactic(auto, unfolding(crate::specs::Form::unmap_of))]
-fn unmap<A: Allocator + Copy + Send + Sync>(value: &Value) -> Result<Step<A>, StepError>
+fn unmap<A: Allocator + Copy + Send + Sync>(value: &Value) -> Result<Call<A>, StepError>
     ensures { Gives call_of result (form.unmap_of (view value.now)) }
 {
-    Ok(Step::Unmap {
+    Ok(Call::Unmap {
         pid: Pid::new(small(value, "pid")?),
         addr: number(value, "addr")?,
         pages: number(value, "pages")?,
@@ -61,39 +63,39 @@ fn unmap<A: Allocator + Copy + Send + Sync>(value: &Value) -> Result<Step<A>, St
 }
 
 #[tactic(auto, unfolding(crate::specs::Form::exit_of))]
-fn exit<A: Allocator + Copy + Send + Sync>(value: &Value) -> Result<Step<A>, StepError>
+fn exit<A: Allocator + Copy + Send + Sync>(value: &Value) -> Result<Call<A>, StepError>
     ensures { Gives call_of result (form.exit_of (view value.now)) }
 {
-    Ok(Step::Exit {
+    Ok(Call::Exit {
         pid: Pid::new(small(value, "pid")?),
     })
 }
 
 #[tactic(auto, unfolding(crate::specs::Form::pin_of))]
-fn pin<A: Allocator + Copy + Send + Sync>(value: &Value) -> Result<Step<A>, StepError>
+fn pin<A: Allocator + Copy + Send + Sync>(value: &Value) -> Result<Call<A>, StepError>
     ensures { Gives call_of result (form.pin_of (view value.now)) }
 {
-    Ok(Step::Pin {
+    Ok(Call::Pin {
         pid: Pid::new(small(value, "pid")?),
         addr: number(value, "addr")?,
     })
 }
 
 #[tactic(auto, unfolding(crate::specs::Form::unpin_of))]
-fn unpin<A: Allocator + Copy + Send + Sync>(value: &Value) -> Result<Step<A>, StepError>
+fn unpin<A: Allocator + Copy + Send + Sync>(value: &Value) -> Result<Call<A>, StepError>
     ensures { Gives call_of result (form.unpin_of (view value.now)) }
 {
-    Ok(Step::Unpin {
+    Ok(Call::Unpin {
         pid: Pid::new(small(value, "pid")?),
         addr: number(value, "addr")?,
     })
 }
 
 #[tactic(auto, unfolding(crate::specs::Form::read_of))]
-fn read<A: Allocator + Copy + Send + Sync>(value: &Value) -> Result<Step<A>, StepError>
+fn read<A: Allocator + Copy + Send + Sync>(value: &Value) -> Result<Call<A>, StepError>
     ensures { Gives call_of result (form.read_of (view value.now)) }
 {
-    Ok(Step::Read {
+    Ok(Call::Read {
         pid: Pid::new(small(value, "pid")?),
         addr: number(value, "addr")?,
         len: number(value, "len")?,
@@ -101,10 +103,10 @@ fn read<A: Allocator + Copy + Send + Sync>(value: &Value) -> Result<Step<A>, Ste
 }
 
 #[tactic(auto, unfolding(crate::specs::Form::write_of))]
-fn write<A: Allocator + Copy + Send + Sync>(alloc: A, value: &Value) -> Result<Step<A>, StepError>
+fn write<A: Allocator + Copy + Send + Sync>(alloc: A, value: &Value) -> Result<Call<A>, StepError>
     ensures { Gives call_of result (form.write_of (view value.now)) }
 {
-    Ok(Step::Write {
+    Ok(Call::Write {
         pid: Pid::new(small(value, "pid")?),
         addr: number(value, "addr")?,
         bytes: hex(alloc, value, "data")?,
@@ -115,7 +117,7 @@ fn write<A: Allocator + Copy + Send + Sync>(alloc: A, value: &Value) -> Result<S
 fn move_pages<A: Allocator + Copy + Send + Sync>(
     alloc: A,
     value: &Value,
-) -> Result<Step<A>, StepError>
+) -> Result<Call<A>, StepError>
     ensures { Gives call_of result (form.move_pages_of (view value.now)) }
 {
     let caller = small(value, "caller")?;
@@ -126,7 +128,7 @@ fn move_pages<A: Allocator + Copy + Send + Sync>(
     if pages.len() > MAX_BATCH || pages.len() != nodes.len() {
         return Err(StepError::Bad);
     }
-    Ok(Step::MovePages(MoveRequest {
+    Ok(Call::MovePages(MoveRequest {
         caller: Pid::new(caller),
         pid: Pid::new(pid),
         batch: Batch { pages, nodes },
@@ -135,7 +137,7 @@ fn move_pages<A: Allocator + Copy + Send + Sync>(
 }
 
 #[tactic(auto, unfolding(crate::specs::Form::query_of))]
-fn query<A: Allocator + Copy + Send + Sync>(alloc: A, value: &Value) -> Result<Step<A>, StepError>
+fn query<A: Allocator + Copy + Send + Sync>(alloc: A, value: &Value) -> Result<Call<A>, StepError>
     ensures { Gives call_of result (form.query_of (view value.now)) }
 {
     let caller = small(value, "caller")?;
@@ -145,7 +147,7 @@ fn query<A: Allocator + Copy + Send + Sync>(alloc: A, value: &Value) -> Result<S
     if pages.len() > MAX_BATCH {
         return Err(StepError::Bad);
     }
-    Ok(Step::Query(Question {
+    Ok(Call::Query(Question {
         caller: Pid::new(caller),
         pid: Pid::new(pid),
         pages,
@@ -154,19 +156,19 @@ fn query<A: Allocator + Copy + Send + Sync>(alloc: A, value: &Value) -> Result<S
 }
 
 #[tactic(auto, unfolding(crate::specs::Form::free_of))]
-fn free<A: Allocator + Copy + Send + Sync>(value: &Value) -> Result<Step<A>, StepError>
+fn free<A: Allocator + Copy + Send + Sync>(value: &Value) -> Result<Call<A>, StepError>
     ensures { Gives call_of result (form.free_of (view value.now)) }
 {
-    Ok(Step::Free {
+    Ok(Call::FreeList {
         node: NodeId::new(small(value, "node")?),
     })
 }
 
 #[tactic(auto, unfolding(crate::specs::Form::pagemap_of))]
-fn pagemap<A: Allocator + Copy + Send + Sync>(value: &Value) -> Result<Step<A>, StepError>
+fn pagemap<A: Allocator + Copy + Send + Sync>(value: &Value) -> Result<Call<A>, StepError>
     ensures { Gives call_of result (form.pagemap_of (view value.now)) }
 {
-    Ok(Step::Pagemap {
+    Ok(Call::Pagemap {
         pid: Pid::new(small(value, "pid")?),
     })
 }
@@ -176,7 +178,7 @@ fn named<A: Allocator + Copy + Send + Sync>(
     alloc: A,
     op: &str,
     value: &Value,
-) -> Result<Step<A>, StepError>
+) -> Result<Call<A>, StepError>
     ensures { Gives call_of result (form.named op.now (view value.now)) }
 {
     match op {
@@ -197,12 +199,12 @@ fn named<A: Allocator + Copy + Send + Sync>(
     }
 }
 
-/// The step that a value is.
+/// The call that a step asks for.
 #[tactic(auto, unfolding(crate::specs::Form::step_of))]
 pub(crate) fn step_of<A: Allocator + Copy + Send + Sync>(
     alloc: A,
     value: &Value,
-) -> Result<Step<A>, StepError>
+) -> Result<Call<A>, StepError>
     ensures { Gives call_of result (form.step_of (view value.now)) }
 {
     named(alloc, text(value, "op")?, value)

@@ -1,36 +1,34 @@
-//! Answers as lines of the report.
+//! What calls answer, as lines of the report.
 
 ghost use Rattle.std.specs.Prelude.{◌≡◌, ◌++◌, ◌∷◌, OnOk, IfOk, string_bytes, map, decimal, codes};
 ghost use Rattle.std.specs.List.{flat_map};
-ghost use Rattle.nm_trace.specs.Answers.{answer_view};
-ghost use Rattle.nm_trace.specs.Gives.{call_of};
-ghost use Rattle.nm_trace.specs.Report.{word_of, listed, signed_listed, address_text, entry_text, answer_text, line_of};
-ghost use Rattle.nm_trace.specs.Played.{Lines};
+ghost use Rattle.nm_types.specs.Names.{name_of};
+ghost use Rattle.nm_calls.specs.Calls.{Refusal};
+ghost use Rattle.nm_calls.specs.Views.{call_of, answer_of};
+ghost use Rattle.nm_trace.specs.Report.{word_of, listed, signed_listed, address_text, entry_text, answer_text, text_of};
 
-use crate::answer::{Answer, answer_to};
-use crate::step::Step;
-use nm_calls::{Mapped, System};
-use nm_types::{FrameId, Vpn};
+use nm_calls::{Answer, Call, Mapped};
+use nm_types::{Errno, FrameId, Vpn};
 use std::alloc::{AllocError, Allocator};
 
-/// The word that names a step's kind.
-fn word<A: Allocator + Copy + Send + Sync>(step: &Step<A>) -> &'static str
-    ensures { result.now ≡ word_of (call_of step.now) }
+/// The word that names a call.
+fn word<A: Allocator + Copy + Send + Sync>(call: &Call<A>) -> &'static str
+    ensures { result.now ≡ word_of (call_of call.now) }
 {
-    match step {
-        Step::Spawn(_) => "spawn",
-        Step::Map(_) => "map",
-        Step::Attach(_) => "attach",
-        Step::Unmap { .. } => "unmap",
-        Step::Exit { .. } => "exit",
-        Step::Pin { .. } => "pin",
-        Step::Unpin { .. } => "unpin",
-        Step::Read { .. } => "read",
-        Step::Write { .. } => "write",
-        Step::MovePages(_) => "move_pages",
-        Step::Query(_) => "query",
-        Step::Free { .. } => "free",
-        Step::Pagemap { .. } => "pagemap",
+    match call {
+        Call::Spawn(_) => "spawn",
+        Call::Map(_) => "map",
+        Call::Attach(_) => "attach",
+        Call::Unmap { .. } => "unmap",
+        Call::Exit { .. } => "exit",
+        Call::Pin { .. } => "pin",
+        Call::Unpin { .. } => "unpin",
+        Call::Read { .. } => "read",
+        Call::Write { .. } => "write",
+        Call::MovePages(_) => "move_pages",
+        Call::Query(_) => "query",
+        Call::FreeList { .. } => "free",
+        Call::Pagemap { .. } => "pagemap",
     }
 }
 
@@ -110,13 +108,9 @@ fn push_answer<A: Allocator + Copy + Send + Sync>(
     line: &mut String<A>,
     answer: &Answer<A>,
 ) -> Result<(), AllocError>
-    ensures { OnOk result (string_bytes line.new ≡ string_bytes line.old ++ answer_text (answer_view answer.now)) }
+    ensures { OnOk result (string_bytes line.new ≡ string_bytes line.old ++ answer_text (answer_of answer.now)) }
 {
     match answer {
-        Answer::Refusal(errno) => {
-            line.push_str("error ")?;
-            line.push_str(errno.name())
-        }
         Answer::Done => line.push_str("ok"),
         Answer::Segment(segment) => {
             let mut buffer = itoa::Buffer::new();
@@ -139,35 +133,51 @@ fn push_answer<A: Allocator + Copy + Send + Sync>(
     }
 }
 
-/// The line of a step that answered.
-#[tactic(auto, unfolding(crate::specs::Report::line_of))]
-fn line_of<A: Allocator + Copy + Send + Sync>(
+/// The front of a step's line: its number and its word, each with a space behind it.
+fn front_of<A: Allocator + Copy + Send + Sync>(
     alloc: A,
     k: usize,
-    step: &Step<A>,
-    answer: &Answer<A>,
+    call: &Call<A>,
 ) -> Result<String<A>, AllocError>
-    ensures { IfOk result (λ line. string_bytes line ≡ line_of k (call_of step.now) (answer_view answer.now)) }
+    ensures { IfOk result (λ line. string_bytes line ≡ decimal k ++ codes " " ++ word_of (call_of call.now) ++ codes " ") }
 {
     let mut buffer = itoa::Buffer::new();
     let mut line = String::from_str(alloc, buffer.format(k))?;
     line.push_str(" ")?;
-    line.push_str(word(step))?;
+    line.push_str(word(call))?;
     line.push_str(" ")?;
+    Ok(line)
+}
+
+/// The lines of step k, whose call answered.
+#[tactic(auto, unfolding(crate::specs::Report::text_of))]
+pub(crate) fn text_of<A: Allocator + Copy + Send + Sync>(
+    alloc: A,
+    k: usize,
+    call: &Call<A>,
+    answer: &Answer<A>,
+) -> Result<String<A>, AllocError>
+    ensures { IfOk result (λ text. string_bytes text ≡ text_of k (call_of call.now) (answer_of answer.now)) }
+{
+    let mut line = front_of(alloc, k, call)?;
     push_answer(alloc, &mut line, answer)?;
     line.push_str("\n")?;
     Ok(line)
 }
 
-/// Makes a step, and gives its line. An error means that the step's call, or its line, was refused memory.
-pub(crate) fn step_line<A: Allocator + Copy + Send + Sync>(
+/// The line of step k, whose call was refused.
+#[tactic(auto, unfolding(crate::specs::Report::text_of, crate::specs::Report::answer_text))]
+pub(crate) fn refusal_text<A: Allocator + Copy + Send + Sync>(
     alloc: A,
-    system: &mut System<A>,
     k: usize,
-    step: &Step<A>,
+    call: &Call<A>,
+    errno: Errno,
 ) -> Result<String<A>, AllocError>
-    ensures { Lines string_bytes k result system.old system.new (call_of step.now) }
+    ensures { IfOk result (λ text. string_bytes text ≡ text_of k (call_of call.now) (Refusal errno)) }
 {
-    let answer = answer_to(system, step)?;
-    line_of(alloc, k, step, &answer)
+    let mut line = front_of(alloc, k, call)?;
+    line.push_str("error ")?;
+    line.push_str(errno.name())?;
+    line.push_str("\n")?;
+    Ok(line)
 }
