@@ -1,13 +1,15 @@
 -- The first stretch of a batch.
-use Rattle.std.proofs.Common.{arith, ◌≡◌, ℕ, suc, ◌+◌, ◌<◌, ◌≤◌, Bool, true, false, List, [], ◌∷◌, ◌++◌, length, take, drop, cond, refl, sym, ap, ◌∙◌, append_assoc, slice_index_or}
+use Rattle.std.proofs.Common.{arith, ◌≡◌, ℕ, suc, ◌<◌, ◌≤◌, Bool, true, false, List, [], ◌∷◌, length, take, drop, cond, refl, sym, ap, ◌∙◌, slice_index_or}
 use Rattle.std.proofs.lemmas.Bool.{eqb-true, eqb-false, eq-eqb, ne_eqb}
 use Rattle.std.proofs.lemmas.Grind.{common_steps}
-use Rattle.std.proofs.lemmas.List.{drop-drop}
+use Rattle.std.proofs.lemmas.List.{length-map}
 use Rattle.std.proofs.lemmas.List.Sums.{take_while-cons}
-use Rattle.std.specs.Prelude.{◌==◌}
+use Rattle.std.specs.Prelude.{◌==◌, slice_index}
 use Rattle.std.specs.List.{take_while}
 use Rattle.nm_runs.specs.declared.Wanted.{Wanted}
+use Rattle.nm_runs.specs.declared.Wanted.TheVariants.{Whole}
 use Rattle.nm_runs.specs.Cut.{Request, Stretch, in_front, cut, wanted_of, first_target, same_front, IsFirst}
+use Rattle.nm_runs.specs.Limit.{for_nodes}
 
 -- how many at the front name this node
 abbrev front : ℕ → List Request → ℕ
@@ -70,15 +72,28 @@ pub first_is : (es : List Request) (e : Request) → 0 < length es → (slice_in
 first_is [] e some = grind arith
 first_is (f ∷ es) e some = refl
 
--- one more stretch is made
-pub one_more : (made : List Stretch) (es rest : List Request) (at to target : ℕ) (wanted : List Wanted) → rest ≡ drop at es → to ≡ at + length wanted → IsFirst rest target wanted → made ++ cut (drop at es) ≡ cut es → (made ++ record { target = target; wanted = wanted } ∷ []) ++ cut (drop to es) ≡ cut es
-one_more made es rest at to target wanted hr ht first so_far =
-    let n = length wanted in
-    let one : Stretch = record { target = target; wanted = wanted } in
-    append_assoc made (one ∷ []) (cut (drop to es))
-    ∙ ap (λ k. made ++ one ∷ cut (drop k es)) ht
-    ∙ sym (ap (λ l. made ++ one ∷ cut l) (drop-drop n at es))
-    ∙ sym (ap (λ l. made ++ one ∷ cut (drop n l)) hr)
-    ∙ sym (ap (λ l. made ++ l) first)
-    ∙ ap (λ l. made ++ cut l) hr
-    ∙ so_far
+-- a request for a node
+abbrev no_page : Wanted
+no_page = Whole (record { segment = 0; index = 0 })
+
+by_node : (t n : ℕ) (ns : List ℕ) (b : Bool) → length (take_while (λ m. m == t) ns) ≡ front t (for_nodes ns)
+    → length (cond b (n ∷ take_while (λ m. m == t) ns) []) ≡ length (cond b (record { target = n; wanted = no_page } ∷ take_while (λ (e : Request). e.target == t) (for_nodes ns)) [])
+by_node t n ns true h = ap suc h
+by_node t n ns false h = refl
+
+-- the nodes at the front of a list that are one node, and the requests for them
+front_of_nodes : (t : ℕ) (ns : List ℕ) → length (take_while (λ n. n == t) ns) ≡ front t (for_nodes ns)
+front_of_nodes t [] = refl
+front_of_nodes t (n ∷ ns) =
+    let right = take_while-cons (λ (e : Request). e.target == t) (record { target = n; wanted = no_page }) (for_nodes ns) in
+    ap length (take_while-cons (λ m. m == t) n ns) ∙ by_node t n ns (n == t) (front_of_nodes t ns) ∙ sym (ap length right)
+
+pub same_nodes : (ns : List ℕ) → 0 < length ns → length (take_while (λ n. n == slice_index ns 0) ns) ≡ same_front (for_nodes ns)
+same_nodes [] some = let z : ⊥ = omega (arith, some) in absurd z
+same_nodes (n ∷ ns) some = front_of_nodes n (n ∷ ns)
+
+pub nodes_first : (ns : List ℕ) (n : ℕ) → 0 < length ns → n ≡ same_front (for_nodes ns) → n ≤ length ns → (length (wanted_of (take n (for_nodes ns))) ≡ n) × IsFirst (for_nodes ns) (first_target (for_nodes ns)) (wanted_of (take n (for_nodes ns)))
+nodes_first ns n some same short =
+    let es = for_nodes ns in
+    let all : length es ≡ length ns = length-map {B = Request} ns (λ m. record { target = m; wanted = no_page }) in
+    (wanted_length n es (omega (arith, all, short)), first_stretch es (first_target es) (wanted_of (take n es)) (omega (arith, all, some)) refl (ap (λ k. wanted_of (take k es)) same))

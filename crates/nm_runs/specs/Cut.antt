@@ -1,6 +1,6 @@
 -- Requests, and the runs that a batch of them is cut into.
-use Rattle.std.specs.Prelude.{◌≡◌, ℕ, ◌==◌, List, [], ◌∷◌, map, length, drop, if◌then◌else◌}
-use Rattle.std.specs.List.{take_while}
+use Rattle.std.specs.Prelude.{◌≡◌, ◌≢◌, ℕ, ◌<◌, ◌==◌, List, [], ◌∷◌, map, length, drop, if◌then◌else◌}
+use Rattle.std.specs.List.{AllByRecursion, flat_map, take_while}
 use Rattle.nm_runs.specs.declared.Wanted.{Wanted}
 use Rattle.nm_runs.specs.declared.Run.{Run}
 use Rattle.nm_runs.specs.declared.Request as declared
@@ -47,3 +47,39 @@ IsFirst requests target wanted =
 -- what runs ask
 abbrev pub stretches_of : {A : Type 0} → List (Run A) → List Stretch
 stretches_of runs = map (λ run. record { target = run.target; wanted = run.wanted.items }) runs
+
+-- what is wanted of one node, as requests
+abbrev pub all_to : ℕ → List Wanted → List Request
+all_to node wanted = map (λ w. record { target = node; wanted = w }) wanted
+
+-- the requests of runs, one after another
+abbrev pub joined : List Stretch → List Request
+joined runs = flat_map (λ r. all_to r.target r.wanted) runs
+
+-- how many requests a run has
+abbrev pub size_of : Stretch → ℕ
+size_of r = length r.wanted
+
+-- this holds of the first of a list, if there is one
+abbrev pub OfFirst : {X : Type 0} → (X → Type 0) → List X → Type 0
+OfFirst P [] = Unit {0}
+OfFirst P (x ∷ xs) = P x
+
+-- this holds of each and the next one
+abbrev pub AllNeighbours : {X : Type 0} → (X → X → Type 0) → List X → Type 0
+AllNeighbours R [] = Unit {0}
+AllNeighbours R (x ∷ xs) = OfFirst (R x) xs × AllNeighbours R xs
+
+-- the longest stretches of a batch: joined they are the batch, none is empty, and neighbours name different nodes
+pub record IsCut (requests : List Request) (runs : List Stretch) : Type 0 where
+  pub same : joined runs ≡ requests
+  pub some : AllByRecursion (λ r. 0 < size_of r) runs
+  pub apart : AllNeighbours (λ r next. r.target ≢ next.target) runs
+
+-- a batch has one such list of stretches, and `cut` gives it
+pub record CutIsTheOne (requests : List Request) : Type 0 where
+  pub is : IsCut requests (cut requests)
+  pub only : (runs : List Stretch) → IsCut requests runs → runs ≡ cut requests
+
+abbrev pub EachBatchHasOneCut : Type 0
+EachBatchHasOneCut = (requests : List Request) → CutIsTheOne requests

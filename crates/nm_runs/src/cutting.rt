@@ -1,7 +1,9 @@
 //! A batch of requests as the runs that it is cut into.
 
-ghost use Rattle.std.specs.Prelude.{◌≡◌, ◌<◌, ◌≤◌, IfOk, length, take};
+ghost use Rattle.std.specs.Prelude.{◌≡◌, ◌<◌, ◌≤◌, ◌==◌, IfOk, length, take, slice_index};
+ghost use Rattle.std.specs.List.{take_while};
 ghost use Rattle.nm_runs.specs.Cut.{cut, stretches_of, wanted_of, same_front, IsFirst};
+ghost use Rattle.nm_runs.specs.Limit.{cut_within, run_count};
 
 use crate::{Request, Run, Wanted};
 use std::alloc::{AllocError, Allocator};
@@ -52,13 +54,57 @@ pub fn cut<A: Allocator + Copy>(
 ) -> Result<Vec<Run<A>, A>, AllocError>
     ensures { IfOk result (λ runs. stretches_of runs.items ≡ cut requests.now) }
 {
+    let whole = requests.len().max(1);
+    cut_within(alloc, requests, whole)
+}
+
+/// The runs of a batch under a limit of at least 1, in their order: its longest stretches of requests for one node, each
+/// cut from its front into runs of so many requests at most. No requests are no run. An error means that the host
+/// refused memory.
+pub fn cut_within<A: Allocator + Copy>(
+    alloc: A,
+    requests: &[Request],
+    limit: usize,
+) -> Result<Vec<Run<A>, A>, AllocError>
+    requires { 0 < limit }
+    ensures { IfOk result (λ runs. stretches_of runs.items ≡ cut_within limit requests.now) }
+{
     let mut runs = Vec::new(alloc);
     let mut at = 0;
     while at < requests.len() {
         let (_, rest) = requests.split_at(at);
-        let run = first_run(alloc, rest)?;
+        let room = rest.len().min(limit);
+        let run = first_run(alloc, &rest[..room])?;
         at += run.wanted.len();
         runs.push(run)?;
     }
     Ok(runs)
+}
+
+/// How many nodes at the front are the first one.
+fn same_nodes(nodes: &[u32]) -> usize
+    requires { 0 < length nodes.now }
+    ensures front { result ≡ length (take_while (λ node. node == slice_index nodes.now 0) nodes.now) }
+    ensures some { 0 < result }
+    ensures within { result ≤ length nodes.now }
+{
+    let first = nodes[0];
+    nodes.iter().take_while(|node| **node == first).count()
+}
+
+/// How many runs a batch of requests for these nodes has under a limit of at least 1. It takes no memory.
+pub fn run_count(nodes: &[u32], limit: usize) -> usize
+    requires { 0 < limit }
+    ensures count { result ≡ run_count limit nodes.now }
+    ensures few { result ≤ length nodes.now }
+{
+    let mut count = 0;
+    let mut at = 0;
+    while at < nodes.len() {
+        let (_, rest) = nodes.split_at(at);
+        let most = rest.len().min(limit);
+        at += same_nodes(&rest[..most]);
+        count += 1;
+    }
+    count
 }

@@ -3,11 +3,12 @@
 
 mod check;
 mod cutting;
+pub mod laws;
 #[cfg(test)]
 mod tests;
 
 pub use check::check_batch;
-pub use cutting::cut;
+pub use cutting::{cut, cut_within, run_count};
 use nm_types::{FrameId, NodeId, Page, Pid, Vpn};
 use std::alloc::Allocator;
 

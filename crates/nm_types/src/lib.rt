@@ -6,6 +6,7 @@ mod area;
 mod errno;
 mod flags;
 mod geometry;
+pub mod laws;
 pub mod limits;
 mod mask;
 mod numbers;

@@ -1,4 +1,4 @@
-use crate::{Errno, FrameId, Geometry, GeometryError, MoveFlags, NodeId, NodeMask, Vpn};
+use crate::{Errno, FrameId, Geometry, GeometryError, MoveFlags, NodeId, NodeMask, Vpn, laws};
 use std::alloc::{AllocError, Global};
 use std::test::Fail;
 
@@ -110,6 +110,33 @@ fn refusals_have_numbers_and_names(rt: HostRuntime) {
         assert_eq!(rt; errno.number(), number);
         assert_eq!(rt; errno.name(), name);
     }
+}
+
+#[test]
+fn refusals_print_their_names(rt: HostRuntime) -> Result<(), Fail> {
+    let alloc = rt.alloc();
+    for (errno, text) in [
+        (Errno::Eperm, "EPERM"),
+        (Errno::Enoent, "ENOENT"),
+        (Errno::Esrch, "ESRCH"),
+        (Errno::Eio, "EIO"),
+        (Errno::Enomem, "ENOMEM"),
+        (Errno::Eacces, "EACCES"),
+        (Errno::Efault, "EFAULT"),
+        (Errno::Ebusy, "EBUSY"),
+        (Errno::Enodev, "ENODEV"),
+        (Errno::Einval, "EINVAL"),
+    ] {
+        let printed = format!(in alloc; "{errno}")?;
+        assert_eq!(rt; printed.as_str(), text);
+    }
+    Ok(())
+}
+
+#[test]
+fn laws_are_called() {
+    laws::flags_have_their_bits();
+    laws::limits_of_a_machine();
 }
 
 #[test]

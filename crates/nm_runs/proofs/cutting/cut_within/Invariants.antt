@@ -1,11 +1,12 @@
 use Rattle.std.proofs.Common.{length, drop, ◌-◌, ◌≡◌, ◌≤◌, ◌++◌}
-use Rattle.nm_runs.specs.Cut.{cut, stretches_of}
-use Rattle.nm_runs.proofs.cutting.cut.Given as goal
+use Rattle.nm_runs.specs.Cut.{stretches_of}
+use Rattle.nm_runs.specs.Limit.{cut_within}
+use Rattle.nm_runs.proofs.cutting.cut_within.Given as goal
 
 abbrev pub invariant-loop-at : goal.invariant-loop-at
 invariant-loop-at g l = record {
   within : l.at ≤ length l.requests;
-  made : stretches_of l.runs.items ++ cut (drop l.at l.requests) ≡ cut l.requests;
+  made : stretches_of l.runs.items ++ cut_within l.fn.limit (drop l.at l.requests) ≡ cut_within l.fn.limit l.requests;
 }
 
 abbrev pub decreases-loop-at : goal.decreases-loop-at
