@@ -15,15 +15,13 @@ use Rattle.std.proofs.lemmas.Map.Lookups.{exact_unsigned, exact_pairs}
 use Rattle.nm_types.specs.declared.area.Area.{Area}
 use Rattle.nm_types.specs.Map.{Map, get, spot_cmp}
 use Rattle.nm_types.specs.State.{Placed, covers, area_over}
+use Rattle.nm_types.proofs.Cases.{true_false, some_is}
 use Rattle.nm_areas.specs.Refused.{overlaps}
 use Rattle.nm_areas.specs.Mapped.{AreasAreApart}
 use Rattle.nm_areas.specs.Mapped.{IsSomePages}
 use Rattle.nm_areas.proofs.Apart.{behind_last, covers_parts, covers_from}
 use Rattle.nm_areas.proofs.Parted.{Among, All-among, among_over, over_among}
-use Rattle.nm_areas.proofs.Maps.{spot_cmp_total}
-
-true_false : true ≡ false → ⊥
-true_false e = cc
+use Rattle.nm_types.proofs.Maps.{spot_cmp_total}
 
 -- one spot after another, or the other way round
 spot_ranked : (a b : ℕ × ℕ) (r : Ordering) → spot_cmp a b ≡ r → (a.0 < b.0) ⊎ ((b.0 < a.0) ⊎ ((a.0 ≡ b.0) × (r ≡ nat_cmp a.1 b.1)))
@@ -119,9 +117,6 @@ among_get (e ∷ areas) a (inr m) =
       | false ↦ among_get areas a m
     ]
 
-some_same : {A : Type 0} {x y : A} → Some x ≡ Some y → x ≡ y
-some_same e = cc
-
 pub get_not_none : (areas : Map (ℕ × ℕ) Area) (a : Placed) → Among a areas → get spot_cmp areas a.0 ≡ None → ⊥
 get_not_none areas a m h = true_false (sym (subst (λ (o : Option Area). is_some o ≡ true) h (among_get areas a m)))
 
@@ -162,7 +157,7 @@ free_says pid first end e of low =
 module _ (areas : Map (ℕ × ℕ) Area) (apart : AreasAreApart areas) (some : AllByRecursion IsSomePages areas) where
   -- two areas over one page number are one
   same_area : (pid v : ℕ) (a b : Placed) → Among a areas → Among b areas → covers a pid v ≡ true → covers b pid v ≡ true → a ≡ b
-  same_area pid v a b m n c k = some_same (sym (over_among areas pid v a apart m c) ∙ over_among areas pid v b apart n k)
+  same_area pid v a b m n c k = some_is (sym (over_among areas pid v a apart m c) ∙ over_among areas pid v b apart n k)
 
   -- an area that begins no later, and ends behind the first page of another, is that one
   alone : (a e : Placed) → Among a areas → Among e areas → a.0.0 ≡ e.0.0 → a.0.1 ≤ e.0.1 → e.0.1 < behind_last a → a ≡ e

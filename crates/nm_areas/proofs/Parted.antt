@@ -7,12 +7,10 @@ use Rattle.nm_types.specs.declared.page.Page.{Page}
 use Rattle.nm_types.specs.declared.area.Area.{Area}
 use Rattle.nm_types.specs.Map.{Map}
 use Rattle.nm_types.specs.State.{Placed, covers, area_over, page_of}
+use Rattle.nm_types.proofs.Cases.{true_false}
 use Rattle.nm_areas.specs.Parts.{before, behind, parts_outside}
 use Rattle.nm_areas.specs.Mapped.{AreasAreApart}
 use Rattle.nm_areas.proofs.Apart.{behind_last, covers_parts, covers_from}
-
-true_false : true ≡ false → ⊥
-true_false e = cc
 
 -- an area of the list
 abbrev pub Among : Placed → List Placed → Type 0

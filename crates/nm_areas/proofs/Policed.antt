@@ -70,21 +70,21 @@ below_split pid at next areas some below =
     all_parts pid at areas some (λ a. a.1.page.segment < next) (λ a b m p. let under : a.1.page.segment < next = All-among (λ x. x.1.page.segment < next) areas a below m in omega (arith, under, p.segment))
 
 module _ (pid first end : ℕ) (policy : Policy) where
-  abbrev paint : ℕ × ℕ → Area → Area
+  abbrev pub paint : ℕ × ℕ → Area → Area
   paint = painted pid first end policy
 
   -- what holds whatever the policy
-  any_policy : (P : Area → Type 0) (k : ℕ × ℕ) (x : Area) → P x → P (record x { policy = policy }) → P (paint k x)
+  pub any_policy : (P : Area → Type 0) (k : ℕ × ℕ) (x : Area) → P x → P (record x { policy = policy }) → P (paint k x)
   any_policy P k x p r = elim ((k.0 == pid) && (nat_le first k.1 && nat_lt k.1 end)) as (λ b. P (cond b (record x { policy = policy }) x)) [ true ↦ r | false ↦ p ]
 
   covers_painted : (e : Placed) (q w : ℕ) → covers (e.0, paint e.0 e.1) q w ≡ covers e q w
   covers_painted e q w = any_policy (λ x. covers (e.0, x) q w ≡ covers e q w) e.0 e.1 refl refl
 
-  all_painted : (P Q : Placed → Type 0) → ((e : Placed) → P e → Q (e.0, paint e.0 e.1)) → (areas : Map (ℕ × ℕ) Area) → AllByRecursion P areas → AllByRecursion Q (with_values paint areas)
+  pub all_painted : (P Q : Placed → Type 0) → ((e : Placed) → P e → Q (e.0, paint e.0 e.1)) → (areas : Map (ℕ × ℕ) Area) → AllByRecursion P areas → AllByRecursion Q (with_values paint areas)
   all_painted P Q f [] h = tt
   all_painted P Q f (e ∷ areas) h = (f e h.0, all_painted P Q f areas h.1)
 
-  apart_painted : (areas : Map (ℕ × ℕ) Area) → AreasAreApart areas → AreasAreApart (with_values paint areas)
+  pub apart_painted : (areas : Map (ℕ × ℕ) Area) → AreasAreApart areas → AreasAreApart (with_values paint areas)
   apart_painted [] h = tt
   apart_painted (e ∷ areas) h = (
     all_painted (λ b. (q w : ℕ) → covers e q w ≡ true → covers b q w ≡ false) (λ b. (q w : ℕ) → covers (e.0, paint e.0 e.1) q w ≡ true → covers b q w ≡ false)
