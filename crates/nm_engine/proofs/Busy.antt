@@ -12,22 +12,17 @@ use Rattle.nm_rmap.specs.Mappers.{pins_of as pins_of_frame}
 use Rattle.nm_engine.specs.Tasked.{Task}
 use Rattle.nm_engine.specs.Spaced.{Spaced, spaced, pins_here}
 use Rattle.nm_types.specs.State.{State, Placed, area_over, page_of, page_shown, page_at}
+use Rattle.nm_types.proofs.Cases.{none_some, some_is}
 use Rattle.nm_runs.specs.Seen.{pins_of}
 use Rattle.nm_engine.specs.Effect.{pages_from, pages_between}
 use Rattle.nm_engine.specs.Refused.{shows_pinned}
 use Rattle.nm_engine.specs.Sound.{AreasAreApart}
-use Rattle.nm_engine.proofs.Areas.{covers_parts, covers_from}
-use Rattle.nm_engine.proofs.Parted.{Among, among_over, over_among}
+use Rattle.nm_areas.proofs.Apart.{covers_parts, covers_from}
+use Rattle.nm_areas.proofs.Parted.{Among, among_over, over_among}
 use Rattle.nm_engine.proofs.Released.{Listed}
 use Rattle.nm_engine.proofs.Dropped.{among_any, listed_from}
-use Rattle.nm_engine.proofs.Maps.{exact_page, get-values}
+use Rattle.nm_types.proofs.Maps.{exact_page, get-values}
 use Rattle.nm_engine.proofs.TiedPinned.{pins_shown}
-
-none_some : {V : Type 0} {v : V} → None ≡ Some v → ⊥
-none_some e = cc
-
-some_is : {V : Type 0} {v w : V} → Some v ≡ Some w → v ≡ w
-some_is e = cc
 
 any_listed : (test : Page → Bool) (pages : List Page) (p : Page) → Listed p pages → test p ≡ true → list_any test pages ≡ true
 any_listed test [] p m h = absurd m

@@ -20,27 +20,19 @@ use Rattle.nm_types.specs.Map.{Map, get, with_values, without, page_cmp, spot_cm
 use Rattle.nm_types.specs.declared.sight.Sight.{Sight}
 use Rattle.nm_types.specs.declared.sight.Sight.TheVariants.{ZeroPage, Sees}
 use Rattle.nm_types.specs.State.{Process, State, Placed, covers, area_over, page_of, page_shown, page_at}
+use Rattle.nm_types.proofs.Cases.{true_false, none_some, some_is}
 use Rattle.nm_runs.specs.Seen.{sight_in, sight_at}
 use Rattle.nm_engine.specs.Touch.{is_shared}
 use Rattle.nm_engine.specs.Effect.{pages_from, pages_between, parts_outside, covers_page, is_covered, released_from, released, blind_between, dropped, unmap, exit}
 use Rattle.nm_engine.specs.Sound.{AreasAreApart, IsWhole, IsSoundAmid, IsSound}
-use Rattle.nm_engine.proofs.Maps.{equal, get-values}
-use Rattle.nm_engine.proofs.Keys.{some_from_keys, sorted-without}
-use Rattle.nm_engine.proofs.Areas.{covers_parts, covers_from, all_then}
+use Rattle.nm_types.proofs.Maps.{equal, get-values}
+use Rattle.nm_types.proofs.Keys.{some_from_keys, sorted-without}
+use Rattle.nm_areas.proofs.Apart.{covers_parts, covers_from, all_then}
 use Rattle.nm_engine.proofs.Allocated.{shows_within, area_covers}
-use Rattle.nm_engine.proofs.Parted.{Among, All-among, all_from_among, among_over, over_among, among_flat, flat_among, IsPart, part_of, part_covers, part_page, part_there}
-use Rattle.nm_engine.proofs.Split.{flat_apart, flat_sorted}
+use Rattle.nm_areas.proofs.Parted.{Among, All-among, all_from_among, among_over, over_among, among_flat, flat_among, IsPart, part_of, part_covers, part_page, part_there}
+use Rattle.nm_areas.proofs.Split.{flat_apart, flat_sorted}
 use Rattle.nm_engine.proofs.Called.{other_processes}
 use Rattle.nm_engine.proofs.Released.{Listed, Pending, all_released}
-
-some_is : {V : Type 0} {v w : V} → Some v ≡ Some w → v ≡ w
-some_is e = cc
-
-none_some : {V : Type 0} {v : V} → None ≡ Some v → ⊥
-none_some e = cc
-
-true_false : true ≡ false → ⊥
-true_false e = cc
 
 -- ---- what areas cover
 

@@ -18,6 +18,7 @@ use Rattle.nm_types.specs.declared.sight.Sight.{Sight}
 use Rattle.nm_types.specs.declared.sight.Sight.TheVariants.{Sees}
 use Rattle.nm_types.specs.Map.{Map, get, without, with_values, page_cmp}
 use Rattle.nm_types.specs.State.{Process, State, Placed, area_over, page_shown, page_at}
+use Rattle.nm_types.proofs.Cases.{true_false, none_some, some_is}
 use Rattle.nm_runs.specs.Seen.{pins_of as pins_at}
 use Rattle.nm_tables.specs.declared.entry.Entry.{Entry}
 use Rattle.nm_tables.specs.declared.entry.Entry.TheVariants.{Zero, Frame, Held}
@@ -30,21 +31,12 @@ use Rattle.nm_engine.specs.Tables.{blind_between}
 use Rattle.nm_engine.specs.Tasked.{Task, entry_at, names, cleared_between, cleared}
 use Rattle.nm_engine.specs.Spaced.{Spaced, spaced, process_of, sight_of, pins_in, without_range}
 use Rattle.nm_engine.specs.Tied.{IsTied, IsCleared, has_spot, is_between}
-use Rattle.nm_engine.proofs.Maps.{equal, agree, get-values, exact_page, page_cmp_total, with_values-without}
-use Rattle.nm_engine.proofs.Keys.{sorted-without, All-get}
+use Rattle.nm_types.proofs.Maps.{equal, agree, get-values, exact_page, page_cmp_total, with_values-without}
+use Rattle.nm_types.proofs.Keys.{sorted-without, All-get}
 use Rattle.nm_engine.proofs.Allocated.{area_covers}
 use Rattle.nm_engine.proofs.Released.{Listed}
 use Rattle.nm_engine.proofs.Remapped.{TableInOrder}
 use Rattle.nm_engine.proofs.TiedCleared.{out, out_not, between_parts, sorted_kept, get_kept, one_cleared, and_true, keys-cleared, tables-cleared, entry_cleared}
-
-true_false : true ≡ false → ⊥
-true_false e = cc
-
-none_some : {V : Type 0} {v : V} → None ≡ Some v → ⊥
-none_some e = cc
-
-some_is : {V : Type 0} {v w : V} → Some v ≡ Some w → v ≡ w
-some_is e = cc
 
 -- ---- places of pages
 

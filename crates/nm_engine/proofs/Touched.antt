@@ -1,5 +1,5 @@
 -- Reads and writes keep a machine sound.
-use Rattle.nm_engine.proofs.Maps.{page_cmp_total, exact_page, equal, get-set}
+use Rattle.nm_types.proofs.Maps.{page_cmp_total, exact_page, equal, get-set}
 use Rattle.nm_engine.specs.Memory.{mem, byte_of}
 use Rattle.std.proofs.Common.{◌≡◌, ℕ, ◌+◌, ◌/◌, ◌%◌, ◌≤◌, List, [], ◌∷◌, Bool, true, false, ◌||◌, cond, refl, sym, ap, subst, ◌∙◌, length, length-append, length-take, length-drop, arith, zero, suc}
 use Rattle.std.specs.Prelude.{Option, Some, None, IsSome, Result, Ok, Err, ◌==◌, nat_lt, if◌then◌else◌, slice_index, replicate}
@@ -13,19 +13,14 @@ use Rattle.nm_types.specs.Map.{get, replace, page_cmp, set}
 use Rattle.nm_types.specs.declared.sight.Sight.{Sight}
 use Rattle.nm_types.specs.declared.sight.Sight.TheVariants.{ZeroPage, Sees}
 use Rattle.nm_types.specs.State.{Process, State, Placed, free_list, area_over, page_at}
+use Rattle.nm_types.proofs.Cases.{some_is}
 use Rattle.nm_runs.specs.Seen.{sight_in, sight_at}
 use Rattle.nm_policy.specs.Order.{first_touch_order}
 use Rattle.nm_engine.specs.Touch.{Spot, shown_at, spot_over, spot_of, first_free, allocated, filled, joined, is_shared, touched_entry, touched, touch, with_sight, Access, Read, Write, read_after, overwrite, with_bytes, write_after, access, with_page, read}
 use Rattle.nm_engine.specs.Sound.{IsSoundAmid}
-use Rattle.nm_engine.proofs.Keys.{keys-replace, All-replace, All-get, some_from_keys}
+use Rattle.nm_types.proofs.Keys.{keys-replace, All-replace, All-get, some_from_keys}
 use Rattle.nm_engine.proofs.Sights.{IsSpot, page_at_spot, with_sight_sound}
 use Rattle.nm_engine.proofs.Allocated.{placed_sound, placed_front}
-
-true_false : true ≡ false → ⊥
-true_false e = cc
-
-some_is : {V : Type 0} {v w : V} → Some v ≡ Some w → v ≡ w
-some_is e = cc
 
 -- a page of zeros shows what was shown before
 zero_byte : (n i : ℕ) → slice_index (replicate n 0) i ≡ 0

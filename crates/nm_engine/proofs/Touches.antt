@@ -29,8 +29,9 @@ use Rattle.nm_engine.specs.Sound.{times, IsSoundAmid}
 use Rattle.nm_frames.specs.Store.{bytes_of, overwrite as overwritten}
 use Rattle.nm_engine.proofs.Stocks.{counted_below}
 use Rattle.nm_engine.proofs.Once.{counted_place}
-use Rattle.nm_engine.proofs.Maps.{page_cmp_total, get-set}
+use Rattle.nm_types.proofs.Maps.{page_cmp_total, get-set}
 use Rattle.std.specs.Cmp.{tied_itself}
+use Rattle.nm_types.proofs.Cases.{some_is}
 use Rattle.nm_engine.proofs.Sights.{IsSpot, page_at_spot, Fits, with_sight_sound, sight_here}
 use Rattle.nm_engine.proofs.Allocated.{placed_sound, placed_front}
 use Rattle.nm_engine.proofs.Touched.{has_front, private_unplaced, bytes_sound}
@@ -55,9 +56,6 @@ none_sees e q k = cc
 
 pub zero_sees : {o : Option Sight} → o ≡ Some ZeroPage → (q : Page) → o ≡ Some (Sees q) → ⊥
 zero_sees e q k = cc
-
-pub some_is : {V : Type 0} {v w : V} → Some v ≡ Some w → v ≡ w
-some_is e = cc
 
 -- a node that has a free frame is one of the machine's
 pub short_list : (free : List (List ℕ)) (node : ℕ) → 0 < length (slice_index_or free node []) → node < length free

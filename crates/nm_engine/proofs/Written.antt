@@ -18,8 +18,8 @@ use Rattle.nm_engine.specs.Memory.{mem, byte_of}
 use Rattle.nm_engine.specs.Touch.{Spot, Done, shown_at, spot_over, spot_of, first_free, allocated, filled, joined, is_shared, touched_entry, touched, touch, with_page, without_front, overwrite, with_bytes, write_after}
 use Rattle.nm_engine.specs.Sound.{IsSoundAmid}
 use Rattle.nm_engine.specs.Laws.{is_one_page, is_within, WritingIsExact}
-use Rattle.nm_engine.proofs.Keys.{some_from_keys}
-use Rattle.nm_engine.proofs.Maps.{page_cmp_total, exact_page, equal, get-replace}
+use Rattle.nm_types.proofs.Keys.{some_from_keys}
+use Rattle.nm_types.proofs.Maps.{page_cmp_total, exact_page, equal, get-replace}
 use Rattle.nm_engine.proofs.Sights.{IsSpot, sight_here}
 use Rattle.nm_engine.proofs.Touched.{StaysSound, touch_sound, seen_bytes, process_fits}
 
