@@ -14,9 +14,8 @@ use Rattle.nm_areas.specs.Policing.{split_at}
 use Rattle.nm_areas.specs.Refused.{overlaps}
 use Rattle.nm_types.proofs.Maps.{spot_cmp_total, get-set}
 use Rattle.nm_areas.proofs.Apart.{covers_from}
-use Rattle.nm_areas.proofs.Parted.{Among, All-among, over_among, among_over, among_flat, part_of, part_covers}
+use Rattle.nm_areas.proofs.Parted.{Among, All-among, over_among, among_over, among_flat, part_of, part_covers, among_any}
 use Rattle.nm_areas.proofs.Overs.{get_among}
-use Rattle.nm_areas.proofs.Policed.{among_any}
 
 among_without : (areas : Map (ℕ × ℕ) Area) (k : ℕ × ℕ) (a : Placed) → Among a (without spot_cmp areas k) → Among a areas
 among_without [] k a m = absurd m

@@ -10,7 +10,7 @@ use Rattle.std.specs.Ordering.{nat_cmp, ordering_then, is_eq, is_lt, is_gt}
 use Rattle.std.specs.Cmp.{nat_cmp_is, ranked, tied_itself}
 use Rattle.std.specs.declared.cmp.Ordering.{Ordering}
 use Rattle.std.specs.declared.cmp.Ordering.TheVariants.{Less, Equal, Greater}
-use Rattle.std.proofs.lemmas.Bool.{or_right, and_parts, and_from, eqb-true, ltb-true, lt-ltb, eq-eqb, ltb-false, leb-true, leb-false, false_from_ne_true}
+use Rattle.std.proofs.lemmas.Bool.{and_parts, and_from, eqb-true, ltb-true, lt-ltb, eq-eqb, ltb-false, leb-true, leb-false, false_from_ne_true}
 use Rattle.std.proofs.lemmas.Map.Lookups.{exact_unsigned, exact_pairs}
 use Rattle.nm_types.specs.declared.area.Area.{Area}
 use Rattle.nm_types.specs.Map.{Map, get, spot_cmp}
@@ -20,7 +20,7 @@ use Rattle.nm_areas.specs.Refused.{overlaps}
 use Rattle.nm_areas.specs.Mapped.{AreasAreApart}
 use Rattle.nm_areas.specs.Mapped.{IsSomePages}
 use Rattle.nm_areas.proofs.Apart.{behind_last, covers_parts, covers_from}
-use Rattle.nm_areas.proofs.Parted.{Among, All-among, among_over, over_among}
+use Rattle.nm_areas.proofs.Parted.{Among, All-among, among_over, over_among, among_any}
 use Rattle.nm_types.proofs.Maps.{spot_cmp_total}
 
 -- one spot after another, or the other way round
@@ -119,11 +119,6 @@ among_get (e ∷ areas) a (inr m) =
 
 pub get_not_none : (areas : Map (ℕ × ℕ) Area) (a : Placed) → Among a areas → get spot_cmp areas a.0 ≡ None → ⊥
 get_not_none areas a m h = true_false (sym (subst (λ (o : Option Area). is_some o ≡ true) h (among_get areas a m)))
-
-any_among : (test : Placed → Bool) (areas : List Placed) (a : Placed) → Among a areas → test a ≡ true → list_any test areas ≡ true
-any_among test [] a m h = absurd m
-any_among test (x ∷ areas) a (inl e) h = ap (λ b. b || list_any test areas) (ap test (sym e) ∙ h)
-any_among test (x ∷ areas) a (inr m) h = or_right (test x) (list_any test areas) (any_among test areas a m h)
 
 any_none : (test : Placed → Bool) (areas : List Placed) → ((a : Placed) → Among a areas → test a ≡ true → ⊥) → list_any test areas ≡ false
 any_none test [] h = refl
@@ -257,7 +252,7 @@ module _ (m : BTreeMap (ℕ × ℕ) Area) (areas : Map (ℕ × ℕ) Area) (is : 
       let among : Among e m.entries = get_among m.entries e.0 e.1 here.1 in
       ap (list_any (overlaps pid first end)) (sym is)
       ∙ elim (overlaps pid first end e) as (λ b. overlaps pid first end e ≡ b → list_any (overlaps pid first end) m.entries ≡ b) [
-        | true ↦ λ b. any_among (overlaps pid first end) m.entries e among b
+        | true ↦ λ b. among_any (overlaps pid first end) m.entries e among b
         | false ↦ λ b. any_none (overlaps pid first end) m.entries (free_last m.entries apart_here some_here pid first end e among here.0.1 (λ q low. range.4 e t last q (tt, low)) b)
       ] refl
 

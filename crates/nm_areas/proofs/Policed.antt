@@ -1,8 +1,8 @@
 -- What another policy of a range keeps of all areas.
-use Rattle.std.proofs.Common.{◌≡◌, ℕ, ◌+◌, ◌<◌, [], ◌∷◌, true, false, ◌&&◌, cond, refl, sym, ap, subst, ◌∙◌, arith, ◌||◌, ◌≤◌, List, inl, inr}
+use Rattle.std.proofs.Common.{◌≡◌, ℕ, ◌+◌, ◌<◌, [], ◌∷◌, true, false, ◌&&◌, cond, refl, sym, ap, subst, ◌∙◌, arith, ◌||◌, ◌≤◌, inl, inr}
 use Rattle.std.specs.Prelude.{nat_lt, nat_le, ◌==◌, ◌⊎◌, Bool}
 use Rattle.std.specs.List.{AllByRecursion, flat_map, list_any}
-use Rattle.std.proofs.lemmas.Bool.{or_left, or_right, ltb-true, ltb-false}
+use Rattle.std.proofs.lemmas.Bool.{ltb-true, ltb-false}
 use Rattle.std.specs.List.Sorted.{IsStrictlySortedBy}
 use Rattle.std.specs.Map.{keys_of}
 use Rattle.nm_types.specs.declared.page.Page.{Page}
@@ -16,7 +16,7 @@ use Rattle.nm_areas.specs.Mapped.{mapped, AreasAreApart, IsSomePages, EndsLow, H
 use Rattle.nm_areas.specs.Parts.{parts_outside}
 use Rattle.nm_areas.specs.Policing.{repoliced, split_at, painted}
 use Rattle.nm_areas.proofs.Apart.{covers_from}
-use Rattle.nm_areas.proofs.Parted.{Among, All-among, flat_among, part_of, part_there}
+use Rattle.nm_areas.proofs.Parted.{All-among, flat_among, part_of, part_there, any_among, among_any}
 use Rattle.nm_areas.proofs.Painted.{keys_painted}
 use Rattle.nm_areas.proofs.Shown.{repoliced_shows}
 use Rattle.nm_areas.proofs.Repoliced.{all_parts, split_some, split_indices, split_apart, split_sorted, all_repoliced}
@@ -38,19 +38,6 @@ fine_split pid at areas fine =
       low = all_parts pid at areas fine.whole EndsLow (λ a b m p. let under : EndsLow a = All-among EndsLow areas a fine.low m in omega (arith, under, p.high));
       indices = split_indices pid at areas fine.whole fine.indices;
     }
-
-pub any_among : (test : Placed → Bool) (areas : List Placed) → list_any test areas ≡ true → (a : Placed) × Among a areas × (test a ≡ true)
-any_among test [] h = cc
-any_among test (x ∷ areas) h =
-    elim (test x) as (λ b. test x ≡ b → (b || list_any test areas) ≡ true → (a : Placed) × Among a (x ∷ areas) × (test a ≡ true)) [
-      | true ↦ λ b k. (x, inl refl, b)
-      | false ↦ λ b k. let more = any_among test areas k in (more.0, inr more.1, more.2)
-    ] refl h
-
-pub among_any : (test : Placed → Bool) (areas : List Placed) (a : Placed) → Among a areas → test a ≡ true → list_any test areas ≡ true
-among_any test [] a m h = absurd m
-among_any test (x ∷ areas) a (inl e) h = or_left _ _ (ap test (sym e) ∙ h)
-among_any test (x ∷ areas) a (inr m) h = or_right _ _ (among_any test areas a m h)
 
 -- a segment that is shown is shown by a part
 pub shown_split : (pid at : ℕ) (areas : Map (ℕ × ℕ) Area) → AllByRecursion IsSomePages areas → (n : ℕ) → list_any (shows_segment n) areas ≡ true → list_any (shows_segment n) (split_at pid at areas) ≡ true

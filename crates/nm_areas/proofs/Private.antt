@@ -22,10 +22,10 @@ use Rattle.nm_areas.specs.Refused.{is_stretch}
 use Rattle.nm_areas.specs.Removed.{areas_left, segments_left, begins_in, is_own, others, page_in}
 use Rattle.nm_types.proofs.Maps.{equal, get-set}
 use Rattle.nm_areas.proofs.Apart.{one_more, NoneOverlaps, area_over-set, covers_parts, covers_from}
-use Rattle.nm_areas.proofs.Parted.{Among, All-among, among_over, over_among}
+use Rattle.nm_areas.proofs.Parted.{Among, All-among, among_over, over_among, any_among, among_any}
 use Rattle.nm_areas.proofs.Overs.{get_among}
 use Rattle.nm_areas.proofs.Own.{own_from}
-use Rattle.nm_areas.proofs.Policed.{any_among, among_any, fine_here, fine_split}
+use Rattle.nm_areas.proofs.Policed.{fine_here, fine_split}
 use Rattle.nm_areas.proofs.Repoliced.{split_some, split_apart}
 use Rattle.nm_areas.proofs.Shown.{left_outside, left_shows}
 

@@ -22,10 +22,9 @@ use Rattle.nm_areas.specs.Mapped.{shows_segment}
 use Rattle.nm_areas.specs.Parts.{covers_page}
 use Rattle.nm_areas.specs.Removed.{is_own, covers_beside}
 use Rattle.nm_types.proofs.Maps.{spot_cmp_total, found_first, found_later}
-use Rattle.nm_areas.proofs.Parted.{Among}
+use Rattle.nm_areas.proofs.Parted.{Among, any_among, among_any}
 use Rattle.nm_areas.proofs.Painted.{exact_spot}
 use Rattle.nm_areas.proofs.Overs.{get_among}
-use Rattle.nm_areas.proofs.Policed.{any_among, among_any}
 use Rattle.nm_areas.proofs.Indexed.{has, same_key, key_itself}
 
 -- whether an area of the first keys passes a test, as long as they are of one segment

@@ -18,9 +18,9 @@ use Rattle.nm_engine.specs.Effect.{pages_from, pages_between}
 use Rattle.nm_engine.specs.Refused.{shows_pinned}
 use Rattle.nm_engine.specs.Sound.{AreasAreApart}
 use Rattle.nm_areas.proofs.Apart.{covers_parts, covers_from}
-use Rattle.nm_areas.proofs.Parted.{Among, among_over, over_among}
+use Rattle.nm_areas.proofs.Parted.{Among, among_over, over_among, among_any}
 use Rattle.nm_engine.proofs.Released.{Listed}
-use Rattle.nm_engine.proofs.Dropped.{among_any, listed_from}
+use Rattle.nm_engine.proofs.Dropped.{listed_from}
 use Rattle.nm_types.proofs.Maps.{exact_page, get-values}
 use Rattle.nm_engine.proofs.TiedPinned.{pins_shown}
 

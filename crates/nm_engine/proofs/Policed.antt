@@ -14,13 +14,13 @@ use Rattle.nm_types.specs.Map.{Map, get, with_values, page_cmp, spot_cmp}
 use Rattle.nm_types.specs.State.{State, area_over, page_shown, page_at}
 use Rattle.nm_types.proofs.Cases.{none_some, some_is}
 use Rattle.nm_engine.specs.Memory.{byte_of, mem}
-use Rattle.nm_engine.specs.Effect.{parts_outside, is_covered}
+use Rattle.nm_engine.specs.Effect.{parts_outside, covers_page, is_covered}
 use Rattle.nm_engine.specs.Sound.{AreasAreApart, IsWhole, IsSoundAmid}
 use Rattle.nm_engine.specs.Policing.{pages_of, repoliced, set_policy}
 use Rattle.nm_areas.proofs.Apart.{all_then}
 use Rattle.nm_engine.proofs.Allocated.{area_covers}
-use Rattle.nm_areas.proofs.Parted.{All-among, all_from_among, over_among, among_flat, part_of}
-use Rattle.nm_engine.proofs.Dropped.{covered_among, covers_shown, shown_number}
+use Rattle.nm_areas.proofs.Parted.{All-among, all_from_among, over_among, among_flat, part_of, any_among}
+use Rattle.nm_engine.proofs.Dropped.{covers_shown, shown_number}
 use Rattle.nm_areas.proofs.Painted.{keys_painted}
 use Rattle.nm_areas.proofs.Shown.{split_shows, painted_shows}
 use Rattle.nm_areas.proofs.Policed.{paint, any_policy, all_painted, apart_painted}
@@ -46,7 +46,7 @@ module _ (s : State) (l : List ℕ) (h : IsSoundAmid s l) (areas : Map (ℕ × �
 
   still_covered : (p : Page) → is_covered s.areas p ≡ true → is_covered areas p ≡ true
   still_covered p c =
-      let found = covered_among s.areas p c in
+      let found = any_among (covers_page p) s.areas c in
       let a = found.0 in
       let at = covers_shown a p found.2 in
       let w = shown_number a p in
