@@ -39,7 +39,7 @@ module _ (s : State) (at : Spot) (i : IsSpot s at) where
       (refl, (shown_at at, sight_here placed at (Sees (shown_at at)) (record { process = i.process; area = i.area })))
 
   filled_reaches : Reaches s at.pid at.vpn (filled s at)
-  filled_reaches = allocated_reaches (first_free s (first_touch_order s.layout s.online at.process.home at.process.allowed at.area.1.policy (shown_at at).index))
+  filled_reaches = allocated_reaches (first_free s.free (first_touch_order s.layout s.online at.process.home at.process.allowed at.area.1.policy (shown_at at).index))
 
   joined_reaches : (o : Option ℕ) → Reaches s at.pid at.vpn (joined s at o)
   unfolding Reaches
