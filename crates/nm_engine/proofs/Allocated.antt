@@ -17,14 +17,15 @@ use Rattle.nm_types.specs.Layout.{node_of}
 use Rattle.nm_types.specs.Map.{Map, get, set, page_cmp}
 use Rattle.nm_types.specs.declared.sight.Sight.TheVariants.{ZeroPage, Sees}
 use Rattle.nm_types.specs.State.{State, Placed, free_list, page_at, page_of, covers, area_over}
+use Rattle.nm_types.proofs.Cases.{true_false}
 use Rattle.nm_runs.specs.Seen.{sight_at}
 use Rattle.nm_engine.specs.Touch.{Spot, shown_at, with_sight, with_page, is_shared}
 use Rattle.nm_engine.specs.Effect.{covers_page, is_covered}
 use Rattle.nm_engine.specs.Sound.{times, FramesAreOnce, IsWhole, IsSoundAmid}
-use Rattle.nm_engine.proofs.Maps.{page_cmp_total, exact_page, equal, get-set}
-use Rattle.nm_engine.proofs.Keys.{All-set, sorted-set, keys_same-set}
+use Rattle.nm_types.proofs.Maps.{page_cmp_total, exact_page, equal, get-set}
+use Rattle.nm_types.proofs.Keys.{All-set, sorted-set, keys_same-set}
 use Rattle.nm_engine.proofs.Frames.{here, times_cons, within, own_set}
-use Rattle.nm_engine.proofs.Areas.{all_then}
+use Rattle.nm_areas.proofs.Apart.{all_then}
 use Rattle.nm_engine.proofs.Once.{places_are_apart}
 use Rattle.nm_engine.proofs.Sights.{IsSpot, whole_still, page_at_spot, sight_cases, sight_here, sight_stays, order_kept}
 
@@ -41,9 +42,6 @@ placed_sum p q r t l y z k a b c = omega arith
 -- the state with the page in the front frame of a node, whose list this is
 abbrev pub placed_front : State → ℕ → List ℕ → Page → State
 placed_front s node front p = with_page (record s { free = slice_set s.free node (drop 1 front) }) p (slice_index front 0)
-
-true_false : true ≡ false → ⊥
-true_false e = cc
 
 pub placed_frames : (s : State) (l : List ℕ) (node : ℕ) (front : List ℕ) (p : Page) → FramesAreOnce s l → IsStrictlySortedBy page_cmp (keys_of s.place) → get page_cmp s.place p ≡ None
     → free_list s node ≡ front → (length front == 0) ≡ false → FramesAreOnce (placed_front s node front p) l

@@ -20,30 +20,19 @@ use Rattle.nm_types.specs.Map.{Map, get, set, replace, page_cmp, spot_cmp}
 use Rattle.nm_types.specs.declared.sight.Sight.{Sight}
 use Rattle.nm_types.specs.declared.sight.Sight.TheVariants.{ZeroPage, Sees}
 use Rattle.nm_types.specs.State.{Process, State, covers, area_over, page_of, page_shown, page_at}
+use Rattle.nm_types.proofs.Cases.{true_false, none_some, some_none, some_is}
 use Rattle.nm_runs.specs.Seen.{sight_in, sight_at, pins_of}
 use Rattle.nm_engine.specs.Touch.{is_shared}
 use Rattle.nm_engine.specs.Effect.{spawn, attach, map_new, with_pins, pin, unpin, covers_page, is_covered}
 use Rattle.nm_engine.specs.Refused.{first_error, is_unknown, spawn_refusal, is_range, overlaps, is_room, map_refusal, is_stretch, attach_refusal}
 use Rattle.nm_engine.specs.Sound.{IsWhole, IsSoundAmid, IsSound}
-use Rattle.nm_engine.proofs.Maps.{equal, get-set, spot_cmp_total}
-use Rattle.nm_engine.proofs.Keys.{keys-replace, All-set, sorted-set}
-use Rattle.nm_engine.proofs.Areas.{NoneOverlaps, all_from_none, all_then, apart-set, apart_from_new, area_over-set, covers_parts, each_set, is_covered-set, one_more, same_key}
+use Rattle.nm_types.proofs.Maps.{equal, get-set, spot_cmp_total}
+use Rattle.nm_types.proofs.Keys.{keys-replace, All-set, sorted-set}
+use Rattle.nm_areas.proofs.Apart.{NoneOverlaps, all_from_none, all_then, apart-set, apart_from_new, area_over-set, covers_parts, each_set, is_covered-set, one_more, same_key}
 
 -- whether a segment is shared
 abbrev shared_in : Option Segment → Bool
 shared_in o = unwrap_or (option_map (λ segment. segment.shared) o) false
-
-some_none : {V : Type 0} {v : V} → Some v ≡ None → ⊥
-some_none e = cc
-
-none_some : {V : Type 0} {v : V} → None ≡ Some v → ⊥
-none_some e = cc
-
-true_false : true ≡ false → ⊥
-true_false e = cc
-
-some_is : {V : Type 0} {v w : V} → Some v ≡ Some w → v ≡ w
-some_is e = cc
 
 -- where no error comes, no condition holds
 no_error : (b : Bool) (e : Errno) (es : List (Bool × Errno)) → first_error ((b, e) ∷ es) ≡ None → (b ≡ false) × (first_error es ≡ None)

@@ -20,42 +20,21 @@ use Rattle.nm_types.specs.Map.{Map, get, with_values, without, page_cmp, spot_cm
 use Rattle.nm_types.specs.declared.sight.Sight.{Sight}
 use Rattle.nm_types.specs.declared.sight.Sight.TheVariants.{ZeroPage, Sees}
 use Rattle.nm_types.specs.State.{Process, State, Placed, covers, area_over, page_of, page_shown, page_at}
+use Rattle.nm_types.proofs.Cases.{true_false, none_some, some_is}
 use Rattle.nm_runs.specs.Seen.{sight_in, sight_at}
 use Rattle.nm_engine.specs.Touch.{is_shared}
 use Rattle.nm_engine.specs.Effect.{pages_from, pages_between, parts_outside, covers_page, is_covered, released_from, released, blind_between, dropped, unmap, exit}
 use Rattle.nm_engine.specs.Sound.{AreasAreApart, IsWhole, IsSoundAmid, IsSound}
-use Rattle.nm_engine.proofs.Maps.{equal, get-values}
-use Rattle.nm_engine.proofs.Keys.{some_from_keys, sorted-without}
-use Rattle.nm_engine.proofs.Areas.{covers_parts, covers_from, all_then}
+use Rattle.nm_types.proofs.Maps.{equal, get-values, keys-values}
+use Rattle.nm_types.proofs.Keys.{some_from_keys, sorted-without}
+use Rattle.nm_areas.proofs.Apart.{covers_parts, covers_from, all_then}
 use Rattle.nm_engine.proofs.Allocated.{shows_within, area_covers}
-use Rattle.nm_engine.proofs.Parted.{Among, All-among, all_from_among, among_over, over_among, among_flat, flat_among, IsPart, part_of, part_covers, part_page, part_there}
-use Rattle.nm_engine.proofs.Split.{flat_apart, flat_sorted}
+use Rattle.nm_areas.proofs.Parted.{Among, All-among, all_from_among, among_over, over_among, among_flat, flat_among, IsPart, part_of, part_covers, part_page, part_there, any_among, among_any}
+use Rattle.nm_areas.proofs.Split.{flat_apart, flat_sorted}
 use Rattle.nm_engine.proofs.Called.{other_processes}
 use Rattle.nm_engine.proofs.Released.{Listed, Pending, all_released}
 
-some_is : {V : Type 0} {v w : V} → Some v ≡ Some w → v ≡ w
-some_is e = cc
-
-none_some : {V : Type 0} {v : V} → None ≡ Some v → ⊥
-none_some e = cc
-
-true_false : true ≡ false → ⊥
-true_false e = cc
-
 -- ---- what areas cover
-
-pub covered_among : (areas : List Placed) (p : Page) → list_any (covers_page p) areas ≡ true → (a : Placed) × Among a areas × (covers_page p a ≡ true)
-covered_among [] p h = cc
-covered_among (x ∷ areas) p h =
-    elim (covers_page p x) as (λ b. covers_page p x ≡ b → (b || list_any (covers_page p) areas) ≡ true → (a : Placed) × Among a (x ∷ areas) × (covers_page p a ≡ true)) [
-      | true ↦ λ b k. (x, inl refl, b)
-      | false ↦ λ b k. let more = covered_among areas p k in (more.0, inr more.1, more.2)
-    ] refl h
-
-pub among_any : (test : Placed → Bool) (areas : List Placed) (a : Placed) → Among a areas → test a ≡ true → list_any test areas ≡ true
-among_any test [] a m h = absurd m
-among_any test (x ∷ areas) a (inl e) h = or_left _ _ (ap test (sym e) ∙ h)
-among_any test (x ∷ areas) a (inr m) h = or_right _ _ (among_any test areas a m h)
 
 -- the page number at which an area shows a page that it covers
 abbrev pub shown_number : Placed → Page → ℕ
@@ -97,10 +76,6 @@ listed_flat f test (x ∷ areas) a p (inr m) t k =
     elim (test x) as (λ b. Listed p (flat_map f (cond b (x ∷ filter test areas) (filter test areas)))) [ true ↦ listed_right (f x) (flat_map f (filter test areas)) p more | false ↦ more ]
 
 -- ---- what processes see
-
-keys_shown : {V W : Type 0} (F : ℕ → V → W) (m : Map ℕ V) → keys_of (with_values F m) ≡ keys_of m
-keys_shown F [] = refl
-keys_shown F (e ∷ m) = ap (λ ks. e.0 ∷ ks) (keys_shown F m)
 
 keys_all_filter : (P : ℕ → Type 0) (test : ℕ → Bool) (m : Map ℕ Sight) → AllByRecursion P (keys_of m) → AllByRecursion P (keys_of (filter (λ e. test e.0) m))
 keys_all_filter P test [] h = tt
@@ -201,7 +176,7 @@ module _ (s : State) (l : List ℕ) (h : IsSoundAmid s l) (pid first end : ℕ) 
   covered_or_listed : (p : Page) → is_covered s.areas p ≡ true → (is_covered areas p ≡ true) ⊎ Listed p pages
   unfolding pages
   covered_or_listed p c =
-      let found = covered_among s.areas p c in
+      let found = any_among (covers_page p) s.areas c in
       let a = found.0 in
       let at = covers_shown a p found.2 in
       let w = shown_number a p in
@@ -305,7 +280,7 @@ module _ (s : State) (l : List ℕ) (h : IsSoundAmid s l) (pid first end : ℕ) 
 
   used : (p : Page) → is_covered areas p ≡ true → list_any (λ a. a.1.page.segment == p.segment) areas ≡ true
   used p c =
-      let found = covered_among areas p c in
+      let found = any_among (covers_page p) areas c in
       among_any (λ a. a.1.page.segment == p.segment) areas found.0 found.1 (and_parts (found.0.1.page.segment == p.segment) _ found.2).0
 
   -- ---- the state before the pages lose their frames
@@ -335,7 +310,7 @@ module _ (s : State) (l : List ℕ) (h : IsSoundAmid s l) (pid first end : ℕ) 
   -- where a page is covered still, nobody saw it in the range
   stays_out : (p : Page) (q w : ℕ) → is_covered areas p ≡ true → is_shared s p ≡ false → page_at s.areas q w ≡ Some p → Out q w
   stays_out p q w c private e =
-      let found = covered_among areas p c in
+      let found = any_among (covers_page p) areas c in
       let b = found.0 in
       let at = covers_shown b p found.2 in
       let v = shown_number b p in
@@ -346,7 +321,7 @@ module _ (s : State) (l : List ℕ) (h : IsSoundAmid s l) (pid first end : ℕ) 
 
   same_keys : keys_of blind ≡ keys_of s.processes
   unfolding blind
-  same_keys = keys_shown (λ q process. if q == pid then blind_between first end process else process) s.processes
+  same_keys = keys-values (λ q process. if q == pid then blind_between first end process else process) s.processes
 
   blind_sorted : AllByRecursion (λ e. IsStrictlySortedBy nat_cmp (keys_of e.1.sees)) blind
   unfolding blind

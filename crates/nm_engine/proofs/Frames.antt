@@ -17,7 +17,7 @@ use Rattle.nm_types.specs.State.{State, free_list}
 use Rattle.nm_plan.specs.declared.Taken.{Taken}
 use Rattle.nm_engine.specs.Run.{moved_page, with_free, left}
 use Rattle.nm_engine.specs.Sound.{times, holders, FramesAreOnce}
-use Rattle.nm_engine.proofs.Maps.{page_cmp_total}
+use Rattle.nm_types.proofs.Maps.{page_cmp_total}
 
 -- whether it is this frame, as a number
 abbrev pub here : ℕ → ℕ → ℕ

@@ -24,9 +24,10 @@ use Rattle.nm_engine.specs.Stocked.{Shelf, Stocked, frames_alone, with_freed, po
 use Rattle.nm_engine.specs.Parts.{bytes_in, shown, stocked, shown_by}
 use Rattle.nm_engine.specs.Amid.{IsKept}
 use Rattle.std.proofs.lemmas.Map.Entries.{sum_by-remove_entry}
+use Rattle.nm_types.proofs.Cases.{some_none, none_is_not}
 use Rattle.nm_engine.proofs.Frames.{here, times_push}
-use Rattle.nm_engine.proofs.Keys.{some_from_keys, keys_same-without}
-use Rattle.nm_engine.proofs.Maps.{with_values-without}
+use Rattle.nm_types.proofs.Keys.{some_from_keys, keys_same-without}
+use Rattle.nm_types.proofs.Maps.{with_values-without}
 use Rattle.nm_engine.proofs.Stocks.{sizes_stay, all_freed}
 use Rattle.nm_engine.proofs.Dropped.{dropped_sound}
 
@@ -51,17 +52,11 @@ without_absent (e ∷ m) p h =
       | false ↦ λ h. ap (λ es. e ∷ es) (without_absent m p h)
     ] h
 
-some_none_of : {V : Type 0} {v : V} → Some v ≡ None → ⊥
-some_none_of e = cc
-
-some_none : IsSome {T = ℕ} None → ⊥
-some_none h = cc
-
 none_from_keys : (m n : Map Page ℕ) (p : Page) → keys_of m ≡ keys_of n → get page_cmp n p ≡ None → get page_cmp m p ≡ None
 none_from_keys m n p keys none =
     elim (get page_cmp m p) as (λ o. get page_cmp m p ≡ o → o ≡ None) [
       | None ↦ λ e. refl
-      | Some v ↦ λ e. absurd (some_none (subst IsSome none (some_from_keys page_cmp m n p keys (subst IsSome (sym e) refl))))
+      | Some v ↦ λ e. absurd (none_is_not ℕ (subst IsSome none (some_from_keys page_cmp m n p keys (subst IsSome (sym e) refl))))
     ] refl
 
 abbrev pool : Stocked → Pool
@@ -201,4 +196,4 @@ module _ (y : Spaced) (k : Shelf) (online : List ℕ) (moved failed : ℕ) (pid 
 -- a process that sees nothing at any page number sees nothing
 pub sees_nothing : (sees : Map ℕ Sight) → ((v : ℕ) → get nat_cmp sees v ≡ None) → sees ≡ []
 sees_nothing [] h = refl
-sees_nothing (e ∷ sees) h = absurd (some_none_of (sym (ap (λ r. cond (is_eq r) (Some e.1) (get nat_cmp sees e.0)) (tied_itself nat_cmp_total e.0)) ∙ h e.0))
+sees_nothing (e ∷ sees) h = absurd (some_none (sym (ap (λ r. cond (is_eq r) (Some e.1) (get nat_cmp sees e.0)) (tied_itself nat_cmp_total e.0)) ∙ h e.0))

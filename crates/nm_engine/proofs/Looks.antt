@@ -24,7 +24,7 @@ use Rattle.nm_types.specs.Layout.{node_of}
 use Rattle.nm_runs.specs.declared.Class.TheVariants.{Status, Move}
 use Rattle.nm_runs.specs.Seen.{is_pinned}
 use Rattle.nm_runs.specs.Status.{code}
-use Rattle.nm_engine.proofs.Maps.{page_cmp_total, equal}
+use Rattle.nm_types.proofs.Maps.{page_cmp_total, equal}
 
 -- a test of processes, whatever it asks
 abbrev chosen : (Process → Bool) → Map ℕ Process → List ℕ

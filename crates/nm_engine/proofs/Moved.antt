@@ -12,8 +12,8 @@ use Rattle.nm_runs.specs.declared.Wanted.{Wanted}
 use Rattle.nm_runs.specs.Status.{status_or_move}
 use Rattle.nm_engine.specs.Run.{moved_page, decided, one, each, with_free, with_all_free, left, counted}
 use Rattle.nm_engine.specs.Sound.{FramesAreOnce, IsSoundAmid}
-use Rattle.nm_engine.proofs.Maps.{page_cmp_total, exact_page, keys-set}
-use Rattle.nm_engine.proofs.Keys.{some_from_keys}
+use Rattle.nm_types.proofs.Maps.{page_cmp_total, exact_page, keys-set}
+use Rattle.nm_types.proofs.Keys.{some_from_keys}
 use Rattle.nm_engine.proofs.Frames.{moved_frames, frame_freed, left-append, append-nil}
 use Rattle.nm_engine.proofs.Once.{places_are_apart}
 use Rattle.nm_engine.proofs.Placed.{ClassIsPlaced, status_placed}

@@ -1,6 +1,6 @@
 -- The new machine is sound.
 use Rattle.std.proofs.Common.{◌≡◌, ℕ, suc, zero, ◌+◌, ◌-◌, ◌≤◌, ◌<◌, List, [], ◌∷◌, true, false, cond, refl, ap, ◌∙◌, arith, length, eq-eqb}
-use Rattle.std.specs.Prelude.{Some, None, nat_lt, ◌==◌, slice_index_or, sum, if◌then◌else◌}
+use Rattle.std.specs.Prelude.{nat_lt, ◌==◌, slice_index_or, sum, if◌then◌else◌}
 use Rattle.std.specs.List.{AllByRecursion, sum_by}
 use Rattle.std.specs.List.Sorted.{IsStrictlySortedBy}
 use Rattle.std.specs.Ordering.{nat_cmp}
@@ -10,6 +10,7 @@ use Rattle.std.proofs.lemmas.List.Sums.{sum_by-cons}
 use Rattle.nm_types.specs.Nodes.{up_from}
 use Rattle.nm_types.specs.Map.{page_cmp, spot_cmp}
 use Rattle.nm_types.specs.Layout.{Layout, owner}
+use Rattle.nm_types.proofs.Cases.{none_some}
 use Rattle.nm_engine.specs.Effect.{all_frames, new_machine}
 use Rattle.nm_engine.specs.Sound.{times, FramesAreOnce, IsSound}
 use Rattle.nm_engine.proofs.Frames.{here, times_cons}
@@ -110,9 +111,6 @@ own_from (size ∷ sizes) first (suc node) =
     let same : (f - first) - size ≡ f - (first + size) = omega (arith, low) in
     (omega (arith, low), past_first size sizes (f - first) node (omega (arith, low)) (ap (owner sizes) same ∙ h.1)))
     (own_from sizes (first + size) node)
-
-none_some : {V : Type 0} {v : V} → None ≡ Some v → ⊥
-none_some e = cc
 
 no_keys : {K : Type 0} (R : K → K → Ordering) → IsStrictlySortedBy R []
 unfolding IsStrictlySortedBy

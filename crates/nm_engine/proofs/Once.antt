@@ -8,12 +8,10 @@ use Rattle.nm_types.specs.declared.page.Page.{Page}
 use Rattle.nm_types.specs.Map.{Map, get, page_cmp}
 use Rattle.nm_types.specs.Layout.{frame_count}
 use Rattle.nm_types.specs.State.{State}
+use Rattle.nm_types.proofs.Cases.{some_is}
 use Rattle.nm_engine.specs.Sound.{times, FramesAreOnce, PlacesAreApart}
-use Rattle.nm_engine.proofs.Maps.{equal, exact_page}
+use Rattle.nm_types.proofs.Maps.{equal, exact_page}
 use Rattle.nm_engine.proofs.Frames.{here, times_cons}
-
-some_is : {V : Type 0} {v w : V} → Some v ≡ Some w → v ≡ w
-some_is e = cc
 
 one_here : (f g : ℕ) → g ≡ f → here f g ≡ 1
 one_here f g e = ap (λ b. cond b 1 0) (eq-eqb g f e)

@@ -24,7 +24,7 @@ use Rattle.nm_plan.specs.Decide.{Choice, Decisions, has_moved, take_front, choos
 use Rattle.nm_engine.specs.Run.{Outcome, Progress, moved_page, decided, each}
 use Rattle.nm_engine.specs.Sound.{OwnsItsFree}
 use Rattle.nm_engine.specs.Laws.{Agrees, moves_all, with_moves}
-use Rattle.nm_engine.proofs.Maps.{page_cmp_total, exact_page, equal, get-set}
+use Rattle.nm_types.proofs.Maps.{page_cmp_total, exact_page, equal, get-set}
 use Rattle.nm_engine.proofs.Looks.{looks_suffice}
 
 -- the class of a page that has this place

@@ -19,13 +19,14 @@ use Rattle.nm_types.specs.Map.{Map, get, without, page_cmp}
 use Rattle.nm_types.specs.Layout.{node_of, frame_count}
 use Rattle.nm_types.specs.declared.sight.Sight.TheVariants.{Sees}
 use Rattle.nm_types.specs.State.{State, free_list, page_at, page_shown, area_over}
+use Rattle.nm_types.proofs.Cases.{true_false, some_is, none_is_not}
 use Rattle.nm_runs.specs.Seen.{sight_at}
 use Rattle.nm_engine.specs.Touch.{is_shared}
 use Rattle.nm_engine.specs.Run.{with_free}
 use Rattle.nm_engine.specs.Effect.{is_covered, released_from, released}
 use Rattle.nm_engine.specs.Sound.{IsInOrder, times, FramesAreOnce, SeesWhatIsShown, ZeroIsPrivate, PlacedHasBytes, PlacedHasPins, PrivateIsOnce, IsWhole, SegmentsAreNumbered, AreasAreApart, IsSoundAmid}
-use Rattle.nm_engine.proofs.Maps.{page_cmp_total, exact_page, equal}
-use Rattle.nm_engine.proofs.Keys.{sorted-without, keys_same-without}
+use Rattle.nm_types.proofs.Maps.{page_cmp_total, exact_page, equal}
+use Rattle.nm_types.proofs.Keys.{sorted-without, keys_same-without}
 use Rattle.nm_engine.proofs.Frames.{here, times_push, owner_below, own_set, all_push}
 use Rattle.nm_engine.proofs.Once.{counted_place, places_are_apart}
 use Rattle.nm_engine.proofs.Allocated.{area_covers}
@@ -49,12 +50,6 @@ pub record Pending (s : State) (l : List ℕ) (pages : List Page) : Type 0 where
   pub areas : AllByRecursion (IsWhole s) s.areas
   pub numbers : SegmentsAreNumbered s
   pub disjoint : AreasAreApart s.areas
-
-true_false : true ≡ false → ⊥
-true_false e = cc
-
-none_some_of : (V : Type 0) → IsSome {T = V} None → ⊥
-none_some_of V e = cc
 
 placed_below : (a b c k : ℕ) (t : Bool) → a + b + c ≡ cond t 1 0 → 1 ≤ a → t ≡ true
 placed_below a b c k true e h = refl
@@ -95,12 +90,9 @@ tied p q e = ap (page_cmp p) (sym e) ∙ tied_itself page_cmp_total p
 was_placed : (m : Map Page ℕ) (p q : Page) → IsStrictlySortedBy page_cmp (keys_of m) → IsSome (get page_cmp (without page_cmp m p) q) → (p ≡ q → ⊥) × IsSome (get page_cmp m q)
 was_placed m p q sorted h =
     elim (is_eq (page_cmp p q)) as (λ b. is_eq (page_cmp p q) ≡ b → IsSome (cond b None (get page_cmp m q)) → (p ≡ q → ⊥) × IsSome (get page_cmp m q)) [
-      | true ↦ λ b k. absurd (none_some_of ℕ k)
+      | true ↦ λ b k. absurd (none_is_not ℕ k)
       | false ↦ λ b k. (λ e. true_false (sym (ap is_eq (tied p q e)) ∙ b), k)
     ] refl (subst IsSome (get-without m p q sorted) h)
-
-some_is : {V : Type 0} {v w : V} → Some v ≡ Some w → v ≡ w
-some_is e = cc
 
 -- what is shown is covered
 shown_covered : (s : State) (q w : ℕ) (p : Page) → page_at s.areas q w ≡ Some p → is_covered s.areas p ≡ true
@@ -138,7 +130,7 @@ fewer s l p pages h first =
     }
 
 release_sound : (s : State) (l : List ℕ) (p : Page) (pages : List Page) (o : Option ℕ) → Pending s l (p ∷ pages) → is_covered s.areas p ≡ false → get page_cmp s.place p ≡ o → Pending (released_from s p o) l pages
-release_sound s l p pages None h bare e = fewer s l p pages h (λ q k same. absurd (none_some_of ℕ (subst IsSome (ap (get page_cmp s.place) same ∙ e) k)))
+release_sound s l p pages None h bare e = fewer s l p pages h (λ q k same. absurd (none_is_not ℕ (subst IsSome (ap (get page_cmp s.place) same ∙ e) k)))
 release_sound s l p pages (Some frame) h bare e =
     let sorted = h.order.place in
     let other = λ (q w : ℕ) (r : Page) (k : page_at s.areas q w ≡ Some r) (same : p ≡ r). true_false (sym (shown_covered s q w r k) ∙ sym (ap (is_covered s.areas) same) ∙ bare) in

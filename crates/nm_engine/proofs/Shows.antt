@@ -19,7 +19,7 @@ use Rattle.nm_engine.specs.Sound.{PlacesAreApart}
 use Rattle.nm_engine.specs.Stocked.{Stocked, IsStocked, frames_alone, free_of, stock_page, restock_page, with_freed, free_all}
 use Rattle.nm_areas.specs.Table.{Table}
 use Rattle.nm_engine.specs.Parts.{bytes_in, shown}
-use Rattle.nm_engine.proofs.Maps.{page_cmp_total, exact_page, get-values, with_values-set, with_values-moved, set_agree, set_same, replace_is_set}
+use Rattle.nm_types.proofs.Maps.{page_cmp_total, exact_page, get-values, with_values-set, with_values-moved, set_agree, set_same, replace_is_set}
 use Rattle.nm_engine.proofs.Once.{places_are_apart}
 use Rattle.nm_engine.proofs.Stocks.{place_below, front_below, apart_from_front}
 

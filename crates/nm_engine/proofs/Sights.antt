@@ -11,12 +11,13 @@ use Rattle.nm_types.specs.Map.{get, page_cmp, replace, set}
 use Rattle.nm_types.specs.declared.sight.Sight.{Sight}
 use Rattle.nm_types.specs.declared.sight.Sight.TheVariants.{Sees, ZeroPage}
 use Rattle.nm_types.specs.State.{Placed, Process, State, area_over, page_at, page_shown}
+use Rattle.nm_types.proofs.Cases.{some_is}
 use Rattle.nm_runs.specs.Seen.{sight_in, sight_at}
 use Rattle.nm_engine.specs.Touch.{Spot, shown_at, with_sight, is_shared}
 use Rattle.nm_engine.specs.Sound.{IsInOrder, IsSoundAmid, IsWhole}
-use Rattle.nm_engine.proofs.Maps.{equal, get-set, get-replace}
-use Rattle.nm_engine.proofs.Areas.{all_then}
-use Rattle.nm_engine.proofs.Keys.{some_from_keys, keys-replace, All-replace, All-get, sorted-set}
+use Rattle.nm_types.proofs.Maps.{equal, get-set, get-replace}
+use Rattle.nm_areas.proofs.Apart.{all_then}
+use Rattle.nm_types.proofs.Keys.{some_from_keys, keys-replace, All-replace, All-get, sorted-set}
 
 -- the process is there, and its area
 pub record IsSpot (s : State) (at : Spot) : Type 0 where
@@ -38,9 +39,6 @@ sight_at-with_sight s at x q w i =
           ∙ ap (λ o. cond (is_eq (nat_cmp w at.vpn)) (Some x) (sight_in o w)) (sym i.process ∙ ap (get nat_cmp s.processes) (sym (exact_unsigned q at.pid (equal _ b))))
       | false ↦ λ b. refl
     ] refl
-
-some_is : {V : Type 0} {v w : V} → Some v ≡ Some w → v ≡ w
-some_is e = cc
 
 here_parts : (at : Spot) (q w : ℕ) → is_here at q w ≡ true → (q ≡ at.pid) × (w ≡ at.vpn)
 here_parts at q w =

@@ -1,8 +1,8 @@
 -- Reads and writes keep a machine sound.
-use Rattle.nm_engine.proofs.Maps.{page_cmp_total, exact_page, equal, get-set}
+use Rattle.nm_types.proofs.Maps.{page_cmp_total, exact_page, equal, get-set}
 use Rattle.nm_engine.specs.Memory.{mem, byte_of}
 use Rattle.std.proofs.Common.{◌≡◌, ℕ, ◌+◌, ◌/◌, ◌%◌, ◌≤◌, List, [], ◌∷◌, Bool, true, false, ◌||◌, cond, refl, sym, ap, subst, ◌∙◌, length, length-append, length-take, length-drop, arith, zero, suc}
-use Rattle.std.specs.Prelude.{Option, Some, None, IsSome, Result, Ok, Err, ◌==◌, nat_lt, if◌then◌else◌, slice_index, replicate}
+use Rattle.std.specs.Prelude.{slice_index_or, Option, Some, None, IsSome, Result, Ok, Err, ◌==◌, nat_lt, if◌then◌else◌, slice_index, replicate}
 use Rattle.std.specs.Option.{unwrap_or, option_map}
 use Rattle.std.specs.Ordering.{nat_cmp, is_eq}
 use Rattle.std.proofs.lemmas.Bool.{or_right, ltb-false}
@@ -13,19 +13,14 @@ use Rattle.nm_types.specs.Map.{get, replace, page_cmp, set}
 use Rattle.nm_types.specs.declared.sight.Sight.{Sight}
 use Rattle.nm_types.specs.declared.sight.Sight.TheVariants.{ZeroPage, Sees}
 use Rattle.nm_types.specs.State.{Process, State, Placed, free_list, area_over, page_at}
+use Rattle.nm_types.proofs.Cases.{some_is}
 use Rattle.nm_runs.specs.Seen.{sight_in, sight_at}
 use Rattle.nm_policy.specs.Order.{first_touch_order}
 use Rattle.nm_engine.specs.Touch.{Spot, shown_at, spot_over, spot_of, first_free, allocated, filled, joined, is_shared, touched_entry, touched, touch, with_sight, Access, Read, Write, read_after, overwrite, with_bytes, write_after, access, with_page, read}
 use Rattle.nm_engine.specs.Sound.{IsSoundAmid}
-use Rattle.nm_engine.proofs.Keys.{keys-replace, All-replace, All-get, some_from_keys}
+use Rattle.nm_types.proofs.Keys.{keys-replace, All-replace, All-get, some_from_keys}
 use Rattle.nm_engine.proofs.Sights.{IsSpot, page_at_spot, with_sight_sound}
 use Rattle.nm_engine.proofs.Allocated.{placed_sound, placed_front}
-
-true_false : true ≡ false → ⊥
-true_false e = cc
-
-some_is : {V : Type 0} {v w : V} → Some v ≡ Some w → v ≡ w
-some_is e = cc
 
 -- a page of zeros shows what was shown before
 zero_byte : (n i : ℕ) → slice_index (replicate n 0) i ≡ 0
@@ -64,12 +59,12 @@ StaysSound s l (Err e) = Unit {0}
 StaysSound s l (Ok t) = IsSoundAmid t l × ((q a : ℕ) → mem t q a ≡ mem s q a)
 
 -- the node that is found has a free frame
-pub has_front : (s : State) (nodes : List ℕ) (node : ℕ) → first_free s nodes ≡ Some node → (length (free_list s node) == 0) ≡ false
-has_front s [] node h = cc
-has_front s (n ∷ nodes) node h =
-    elim (length (free_list s n) == 0) as (λ b. (length (free_list s n) == 0) ≡ b → cond b (first_free s nodes) (Some n) ≡ Some node → (length (free_list s node) == 0) ≡ false) [
-      | true ↦ λ b h. has_front s nodes node h
-      | false ↦ λ b h. let is : n ≡ node = cc in subst (λ k. (length (free_list s k) == 0) ≡ false) is b
+pub has_front : (free : List (List ℕ)) (nodes : List ℕ) (node : ℕ) → first_free free nodes ≡ Some node → (length (slice_index_or free node []) == 0) ≡ false
+has_front free [] node h = cc
+has_front free (n ∷ nodes) node h =
+    elim (length (slice_index_or free n []) == 0) as (λ b. (length (slice_index_or free n []) == 0) ≡ b → cond b (first_free free nodes) (Some n) ≡ Some node → (length (slice_index_or free node []) == 0) ≡ false) [
+      | true ↦ λ b h. has_front free nodes node h
+      | false ↦ λ b h. subst (λ k. (length (slice_index_or free k []) == 0) ≡ false) (some_is h) b
     ] refl h
 
 module _ (s : State) (l : List ℕ) (at : Spot) (h : IsSoundAmid s l) (i : IsSpot s at) (unseen : (p : Page) → sight_at s at.pid at.vpn ≡ Some (Sees p) → ⊥) where
@@ -81,7 +76,7 @@ module _ (s : State) (l : List ℕ) (at : Spot) (h : IsSoundAmid s l) (i : IsSpo
   filled_sound : get page_cmp s.place (shown_at at) ≡ None → StaysSound s l (filled s at)
   filled_sound unplaced =
       let order = first_touch_order s.layout s.online at.process.home at.process.allowed at.area.1.policy (shown_at at).index in
-      allocated_sound (first_free s order) unplaced (λ node. has_front s order node)
+      allocated_sound (first_free s.free order) unplaced (λ node. has_front s.free order node)
 
   -- a private page that is not seen here has no place
   pub private_unplaced : is_shared s (shown_at at) ≡ false → get page_cmp s.place (shown_at at) ≡ None

@@ -1,13 +1,15 @@
 -- Which calls are refused, and with which error.
 use Rattle.std.specs.Prelude.{ℕ, ◌+◌, ◌/◌, ◌^◌, ◌==◌, nat_lt, nat_le, Bool, not, ◌&&◌, ◌||◌, List, [], ◌∷◌, length, Option, Some, None, if◌then◌else◌}
-use Rattle.std.specs.Option.{is_some}
+use Rattle.std.specs.Option.{is_some, unwrap_or}
 use Rattle.std.specs.Ordering.{nat_cmp}
 use Rattle.std.specs.List.{list_any}
 use Rattle.nm_types.specs.declared.errno.Errno.{Errno}
 use Rattle.nm_types.specs.declared.errno.Errno.TheVariants.{Enoent, Esrch, Enomem, Efault, Ebusy, Einval}
 use Rattle.nm_types.specs.declared.seen.Seen.{Seen}
 use Rattle.nm_types.specs.declared.seen.Seen.TheVariants.{NoArea, Absent, Zero, At}
-use Rattle.nm_types.specs.Map.{get}
+use Rattle.nm_types.specs.declared.page.Page.{Page}
+use Rattle.nm_types.specs.declared.area.Area.{Area}
+use Rattle.nm_types.specs.Map.{Map, get, page_cmp}
 use Rattle.nm_types.specs.Layout.{node_count}
 use Rattle.nm_types.specs.State.{State, Placed}
 use Rattle.nm_runs.specs.Seen.{pins_of, look}
@@ -45,21 +47,22 @@ attach_refusal s pid address segment offset pages =
     let fits = is_room s pid address pages && is_stretch (get nat_cmp s.segments segment) offset pages in
     first_error ((is_unknown s pid, Esrch) ∷ (not fits, Einval) ∷ [])
 
--- whether an area of the process shows a pinned page at one of these page numbers
-abbrev pub shows_pinned : State → ℕ → ℕ → ℕ → Bool
-shows_pinned s pid first end =
-    let shown = λ (a : Placed). (a.0.0 == pid) && list_any (λ p. nat_lt 0 (pins_of s p)) (pages_between first end a) in
-    list_any shown s.areas
+-- whether an area of the process shows a page with pins at one of these page numbers
+abbrev pub shows_pinned : Map (ℕ × ℕ) Area → Map Page ℕ → ℕ → ℕ → ℕ → Bool
+shows_pinned areas pins pid first end =
+    let is_pinned = λ (p : Page). nat_lt 0 (unwrap_or (get page_cmp pins p) 0) in
+    let shown = λ (a : Placed). (a.0.0 == pid) && list_any is_pinned (pages_between first end a) in
+    list_any shown areas
 
 -- no such process; no whole pages; a pinned page in the range
 abbrev pub unmap_refusal : State → ℕ → ℕ → ℕ → Option Errno
 unmap_refusal s pid address pages =
-    let busy = shows_pinned s pid (address / 4096) (address / 4096 + pages) in
+    let busy = shows_pinned s.areas s.pins pid (address / 4096) (address / 4096 + pages) in
     first_error ((is_unknown s pid, Esrch) ∷ (not (is_range address pages), Einval) ∷ (busy, Ebusy) ∷ [])
 
 -- no such process; a pinned page in one of its areas
 abbrev pub exit_refusal : State → ℕ → Option Errno
-exit_refusal s pid = first_error ((is_unknown s pid, Esrch) ∷ (shows_pinned s pid 0 (2 ^ 35), Ebusy) ∷ [])
+exit_refusal s pid = first_error ((is_unknown s pid, Esrch) ∷ (shows_pinned s.areas s.pins pid 0 (2 ^ 35), Ebusy) ∷ [])
 
 -- the number of pins with which a call is refused, and how
 abbrev pub pins_refusal : State → (ℕ → Bool) → Errno → Seen → Option Errno

@@ -1,5 +1,5 @@
 -- Reads and writes.
-use Rattle.std.specs.Prelude.{ℕ, ◌+◌, ◌/◌, ◌%◌, ◌==◌, nat_lt, ◌||◌, Bool, true, false, List, [], ◌∷◌, ◌++◌, length, take, drop, replicate, slice_index, slice_set, Option, Some, None, Result, Ok, Err, if◌then◌else◌}
+use Rattle.std.specs.Prelude.{ℕ, ◌+◌, ◌/◌, ◌%◌, ◌==◌, nat_lt, ◌||◌, Bool, true, false, List, [], ◌∷◌, ◌++◌, length, take, drop, replicate, slice_index, slice_index_or, slice_set, Option, Some, None, Result, Ok, Err, if◌then◌else◌}
 use Rattle.std.specs.Option.{unwrap_or, option_map}
 use Rattle.std.specs.Ordering.{nat_cmp}
 use Rattle.nm_types.specs.declared.page.Page.{Page}
@@ -59,10 +59,10 @@ with_page s page frame =
 abbrev pub without_front : State → ℕ → State
 without_front s node = record s { free = slice_set s.free node (drop 1 (free_list s node)) }
 
--- the first of these nodes that has a free frame
-abbrev pub first_free : State → List ℕ → Option ℕ
-first_free s [] = None
-first_free s (node ∷ nodes) = if length (free_list s node) == 0 then first_free s nodes else Some node
+-- the first of these nodes that has a frame in its list of free ones
+abbrev pub first_free : List (List ℕ) → List ℕ → Option ℕ
+first_free free [] = None
+first_free free (node ∷ nodes) = if length (slice_index_or free node []) == 0 then first_free free nodes else Some node
 
 -- the page takes the front frame of the node, and the process sees it
 abbrev pub allocated : State → Spot → Option ℕ → Result State Errno
@@ -76,7 +76,7 @@ abbrev pub filled : State → Spot → Result State Errno
 filled s at =
     let process = at.process in
     let order = first_touch_order s.layout s.online process.home process.allowed at.area.1.policy (shown_at at).index in
-    allocated s at (first_free s order)
+    allocated s at (first_free s.free order)
 
 -- a page that others may show has a frame already, or gets one
 abbrev pub joined : State → Spot → Option ℕ → Result State Errno

@@ -124,7 +124,7 @@ impl<A: Allocator + Copy> Parts<A> {
         requires left { self.old.left ≡ [] }
         requires known { is_unknown self.old.state pid ≡ false }
         requires range { is_range addr pages ≡ true }
-        requires unpinned { shows_pinned self.old.state pid (addr / 4096) (addr / 4096 + pages) ≡ false }
+        requires unpinned { shows_pinned self.old.state.areas self.old.state.pins pid (addr / 4096) (addr / 4096 + pages) ≡ false }
         ensures done { Makes result self.old.state self.new.state None (dropped self.old.state pid (addr / 4096) (addr / 4096 + pages)) }
         ensures same { self.new ≡ with_state self.old self.new.state }
     {

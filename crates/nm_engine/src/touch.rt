@@ -5,7 +5,7 @@ ghost use Rattle.std.specs.Ordering.{nat_cmp};
 ghost use Rattle.nm_types.specs.declared.page.Page.{Page};
 ghost use Rattle.nm_types.specs.declared.sight.Sight.TheVariants.{Sees, ZeroPage};
 ghost use Rattle.nm_types.specs.Map.{get, page_cmp};
-ghost use Rattle.nm_types.specs.State.{Process, State, Placed};
+ghost use Rattle.nm_types.specs.State.{Process, Placed};
 ghost use Rattle.nm_runs.specs.Seen.{sight_at};
 ghost use Rattle.nm_policy.specs.Order.{first_touch_order};
 ghost use Rattle.nm_engine.specs.Touch.{Bytes, Done, shown_at, spot, first_free, filled, joined, touched_entry, read, write};
@@ -168,7 +168,7 @@ impl<A: Allocator + Copy> Parts<A> {
         policy: Policy,
         index: u64,
     ) -> Result<Option<NodeId>, AllocError>
-        ensures { IfOk result (λ found. found ≡ first_free self.now.state (first_touch_order self.now.state.layout self.now.state.online info.home info.allowed policy index)) }
+        ensures { IfOk result (λ found. found ≡ first_free self.now.state.free (first_touch_order self.now.state.layout self.now.state.online info.home info.allowed policy index)) }
     {
         let ProcessInfo { home, allowed, .. } = info;
         let order = first_touch_order(
@@ -186,7 +186,7 @@ impl<A: Allocator + Copy> Parts<A> {
 
 /// The first of these nodes that has a free frame.
 fn first_free<A: Allocator + Copy>(stock: &Stock<A>, order: &[NodeId]) -> Option<NodeId>
-    ensures { (s : State) → s.free ≡ stock.now.free → result ≡ first_free s order.now }
+    ensures { result ≡ first_free stock.now.free order.now }
 {
     for node in order {
         if stock.free_count(*node) > 0 {

@@ -19,6 +19,7 @@ use Rattle.std.proofs.lemmas.Map.{lookup-none, lookup-set_value}
 use Rattle.std.proofs.lemmas.Map.Entries.{none_past_head, none_below_head}
 use Rattle.std.proofs.lemmas.Map.Keys.{IsDistinct-from_sorted, sorted_tail}
 use Rattle.nm_types.specs.Map.{Map, get, set, without, replace, with_values, page_cmp, spot_cmp}
+use Rattle.nm_types.proofs.Cases.{none_some, none_is_not}
 
 pub page_cmp_total : IsTotalOrder page_cmp
 page_cmp_total = then_total (on_total (λ p. p.segment) nat_cmp_total) (on_total (λ p. p.index) nat_cmp_total)
@@ -52,12 +53,6 @@ put_set R (e ∷ m) k v =
 pub get-set : {K V : Type 0} {R : K → K → Ordering} → IsTotalOrder R → (m : Map K V) (k : K) (v : V) (q : K) → get R (set R m k v) q ≡ cond (eq_by_cmp R q k) (Some v) (get R m q)
 get-set {R = R} o m k v q =
     find_get R (set R m k v) q ∙ ap (find R q) (put_set R m k v) ∙ find-put R o q k v m ∙ ap (cond (eq_by_cmp R q k) (Some v)) (sym (find_get R m q))
-
-none_some : {V : Type 0} {w : V} → None ≡ Some w → ⊥
-none_some e = cc
-
-some_none : (V : Type 0) → IsSome {T = V} None → ⊥
-some_none V e = cc
 
 greater_equal : Greater ≡ Equal → ⊥
 greater_equal e = cc
@@ -120,14 +115,14 @@ module _ {K V : Type 0} {R : K → K → Ordering} (o : IsTotalOrder R) (exact :
   none_after : (e : K × V) (m : Map K V) → IsStrictlySortedBy R (keys_of (e ∷ m)) → (q : K) → is_eq (R q e.0) ≡ true → get R m q ≡ None
   none_after e m s q h = lookup-none (is_at (R q)) m (none_past_head (eq_by_cmp_equiv o) q e m (IsDistinct-from_sorted R (keys_of (e ∷ m)) s) h)
 
-  found_later : (e : K × V) (m : Map K V) → IsStrictlySortedBy R (keys_of (e ∷ m)) → (q : K) (v : V) → get R m q ≡ Some v → get R (e ∷ m) q ≡ Some v
+  pub found_later : (e : K × V) (m : Map K V) → IsStrictlySortedBy R (keys_of (e ∷ m)) → (q : K) (v : V) → get R m q ≡ Some v → get R (e ∷ m) q ≡ Some v
   found_later e m s q v found =
       elim (is_eq (R q e.0)) as (λ b. is_eq (R q e.0) ≡ b → cond b (Some e.1) (get R m q) ≡ Some v) [
         | true ↦ λ b. absurd (none_some (sym (none_after e m s q b) ∙ found))
         | false ↦ λ b. found
       ] refl
 
-  found_first : (e : K × V) (m : Map K V) → get R (e ∷ m) e.0 ≡ Some e.1
+  pub found_first : (e : K × V) (m : Map K V) → get R (e ∷ m) e.0 ≡ Some e.1
   found_first e m = ap (λ r. cond (is_eq r) (Some e.1) (get R m e.0)) (tied_itself o e.0)
 
   -- what holds of each value that is found holds of all
@@ -190,7 +185,7 @@ module _ {K V : Type 0} {R : K → K → Ordering} (o : IsTotalOrder R) (exact :
   replace_is_set [] k v s h = cc
   replace_is_set (e ∷ m) k v s h =
       elim (R k e.0) as (λ r. R k e.0 ≡ r → IsSome (cond (is_eq r) (Some e.1) (get R m k)) → cond (is_eq r) ((e.0, v) ∷ m) (e ∷ replace R m k v) ≡ match_ordering r ((k, v) ∷ e ∷ m) ((e.0, v) ∷ m) (e ∷ set R m k v)) [
-        | Less ↦ λ r c. absurd (some_none V (subst IsSome (lookup-none (is_at (R k)) (e ∷ m) (none_below_head o k e m s r)) h))
+        | Less ↦ λ r c. absurd (none_is_not V (subst IsSome (lookup-none (is_at (R k)) (e ∷ m) (none_below_head o k e m s r)) h))
         | Equal ↦ λ r c. refl
         | Greater ↦ λ r c. ap (λ es. e ∷ es) (replace_is_set m k v (sorted_tail R e.0 (keys_of m) s) c)
       ] refl h
