@@ -2,7 +2,8 @@
 use Rattle.std.specs.Prelude.{ℕ, ℤ, ◌+◌, ◌/◌, List, [], ◌∷◌, map, slice_index_or, Option, Some, None, Result, Ok, Err}
 use Rattle.nm_types.specs.declared.errno.Errno.{Errno}
 use Rattle.nm_types.specs.State.{State, free_list}
-use Rattle.nm_runs.specs.Cut.{Stretch, cut}
+use Rattle.nm_runs.specs.Cut.{Stretch}
+use Rattle.nm_runs.specs.Limit.{cut_within}
 use Rattle.nm_engine.specs.Touch.{read, write}
 use Rattle.nm_engine.specs.Touch as engine
 use Rattle.nm_engine.specs.Effect.{spawn, map_new, attach, unmap, exit, pin, unpin}
@@ -54,7 +55,7 @@ refused s (Pagemap pid) = entries_refusal s pid
 -- the runs that a call makes, where it is not refused; one that moves no pages makes none
 unfoldable pub runs_asked : SystemState → Call → List Stretch
 runs_asked y (MovePages caller pid pages nodes flags) =
-    cut (requests_of (owner_of caller pid) (moves_all flags) pages nodes)
+    cut_within y.run_limit (requests_of (owner_of caller pid) (moves_all flags) pages nodes)
 runs_asked y call = []
 
 -- an answer, and the system after it

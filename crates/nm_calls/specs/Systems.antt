@@ -13,9 +13,13 @@ pub record SystemState : Type 0 where
 abbrev pub default_limit : ℕ
 default_limit = 16384
 
--- a new machine of these nodes, where nothing is said of runs
+-- a new machine of these nodes, with this limit
+abbrev pub system_with : Layout → ℕ → SystemState
+system_with layout limit = record { state = new_machine layout; run_limit = limit }
+
+-- .. and where nothing is said of runs
 abbrev pub new_system : Layout → SystemState
-new_system layout = record { state = new_machine layout; run_limit = default_limit }
+new_system layout = system_with layout default_limit
 
 -- the system in another state
 abbrev pub in_state : SystemState → State → SystemState

@@ -5,7 +5,8 @@ ghost use Rattle.std.specs.List.{sum_by};
 ghost use Rattle.nm_types.specs.Layout.{node_count};
 ghost use Rattle.nm_types.specs.Nodes.{is_in};
 ghost use Rattle.nm_runs.specs.declared.Wanted.TheVariants.{At};
-ghost use Rattle.nm_runs.specs.Cut.{cut, stretches_of};
+ghost use Rattle.nm_runs.specs.Cut.{stretches_of};
+ghost use Rattle.nm_runs.specs.Limit.{cut_within};
 ghost use Rattle.nm_runs.specs.Targets.{first_refusal, Checks};
 ghost use Rattle.nm_engine.specs.Run.{failures};
 ghost use Rattle.nm_calls.specs.Batch.{requests_of};
@@ -14,7 +15,7 @@ ghost use Rattle.nm_calls.specs.Does.{Moves};
 use crate::answer::Moved;
 use crate::call_error::CallError;
 use nm_engine::Machine;
-use nm_runs::{Request, Run, Wanted, check_batch, cut};
+use nm_runs::{Request, Run, Wanted, check_batch, cut_within};
 use nm_types::{Errno, NodeId, NodeMask, Pid, Vpn};
 use std::alloc::{AllocError, Allocator};
 
@@ -110,8 +111,9 @@ fn move_runs<A: Allocator + Copy + Send + Sync>(
     })
 }
 
-/// Moves the pages of a batch, run after run. All that is asked for is made ready before the first run starts. An error
-/// means that the host refused memory after so many runs.
+/// Moves the pages of a batch, run after run, none of more entries than the limit. All that is asked for is made ready
+/// before the first run starts: what could be known before is not refused in the middle. An error means that the host
+/// refused memory after so many runs.
 #[tactic(auto, using(crate::proofs::Trails::first_state))]
 pub(crate) fn move_batch<A: Allocator + Copy + Send + Sync>(
     alloc: A,
@@ -120,15 +122,15 @@ pub(crate) fn move_batch<A: Allocator + Copy + Send + Sync>(
     all: bool,
     pages: &[u64],
     nodes: &[u32],
+    limit: usize,
 ) -> Result<Moved<A>, CallError>
+    requires some { 0 < limit }
     requires nodes { EachIndex nodes.now (λ k. slice_index nodes.now k < node_count machine.old.layout) }
     requires paired { length pages.now ≡ length nodes.now }
-    ensures { Moves result machine.old machine.new (cut (requests_of pid all pages.now nodes.now)) }
+    ensures { Moves result machine.old machine.new (cut_within limit (requests_of pid all pages.now nodes.now)) }
 {
-    let runs = cut(
-        alloc,
-        requests_of(alloc, pid, all, pages, nodes)?.as_slice(),
-    )?;
+    let requests = requests_of(alloc, pid, all, pages, nodes)?;
+    let runs = cut_within(alloc, requests.as_slice(), limit)?;
     let statuses = Vec::with_capacity(alloc, pages.len())?;
     move_runs(machine, runs.as_slice(), statuses)
 }

@@ -1,10 +1,10 @@
 //! The machine, and the calls that processes make on it.
 
-ghost use Rattle.std.specs.Prelude.{◌≡◌, IfOk, length};
+ghost use Rattle.std.specs.Prelude.{◌≡◌, ◌<◌, ◌≤◌, IfOk, length};
 ghost use Rattle.nm_engine.specs.Audited.{audited};
 ghost use Rattle.nm_calls.specs.Calls.{Spawn, MapPages, Attach, Unmap, Exit, Pin, Unpin, ReadBytes, WriteBytes, MovePages, Query, FreeList, Pagemap, Done, NewSegment, TheBytes, Statuses, Frames, Entries};
 ghost use Rattle.nm_calls.specs.Entries.{entries_mapped, entries_shown};
-ghost use Rattle.nm_calls.specs.Systems.{SystemState, new_system};
+ghost use Rattle.nm_calls.specs.Systems.{default_limit, new_system, system_with};
 ghost use Rattle.nm_calls.specs.Outcome.{statuses_of};
 ghost use Rattle.nm_calls.specs.Does.{Does, DoesOrRefuses};
 
@@ -13,6 +13,7 @@ use crate::batch::{check_targets, move_batch};
 use crate::call_error::CallError;
 use crate::permission::{Permit, permit_of};
 use nm_engine::{Entry, Machine, Totals};
+use nm_types::limits::MAX_BATCH;
 use nm_types::{Errno, FrameId, Geometry, NodeId, NodeMask, Pid, Vpn};
 use std::alloc::{AllocError, Allocator};
 use std::marker::Model;
@@ -53,19 +54,24 @@ fn statuses_of<A: Allocator + Copy + Send + Sync>(
     Ok(statuses)
 }
 
-/// A machine of nodes, processes and pages.
+/// A machine of nodes, processes and pages, and how many entries a run has at most. Contracts see its state, which is
+/// sound, and that limit.
 #[derive(Drop)]
 pub struct System<A: Allocator + Copy + Send + Sync> {
     machine: Machine<A>,
+    run_limit: usize,
     alloc: A,
 }
 
 impl<A: Allocator + Copy + Send + Sync> Model for System<A> {
-    ghost use Rattle.nm_calls.specs.Systems.{SystemState, default_limit};
+    ghost use Rattle.std.specs.Prelude.{◌<◌};
+    ghost use Rattle.nm_calls.specs.Systems.{SystemState};
 
     ghost Value = { SystemState };
 
-    ghost view = { λ s. record { state = s.machine; run_limit = default_limit } };
+    ghost view = { λ s. record { state = s.machine; run_limit = s.run_limit } };
+
+    ghost invariant = { λ s. 0 < s.run_limit };
 }
 
 impl<A: Allocator + Copy + Send + Sync> System<A> {
@@ -74,8 +80,23 @@ impl<A: Allocator + Copy + Send + Sync> System<A> {
     pub fn new(alloc: A, geometry: Geometry<A>) -> Result<Self, AllocError>
         ensures { IfOk result (λ system. system ≡ new_system geometry) }
     {
+        System::with_run_limit(alloc, geometry, MAX_BATCH)
+    }
+
+    /// A new machine as by `new`, whose runs have at most so many entries, 1 to 16,384: a longer stretch of one target is
+    /// cut from its front. An error is want of memory.
+    pub fn with_run_limit(
+        alloc: A,
+        geometry: Geometry<A>,
+        run_limit: usize,
+    ) -> Result<Self, AllocError>
+        requires some { 0 < run_limit }
+        requires within { run_limit ≤ default_limit }
+        ensures { IfOk result (λ system. system ≡ system_with geometry run_limit) }
+    {
         Ok(System {
             machine: Machine::new(alloc, geometry)?,
+            run_limit,
             alloc,
         })
     }
@@ -179,7 +200,7 @@ impl<A: Allocator + Copy + Send + Sync> System<A> {
 
     /// Moves pages, each named by an address in it, to the node of the same place in the list. Pid 0 is the caller. Flags
     /// 0 act as MPOL_MF_MOVE (2): a page that another process sees stays; with MPOL_MF_MOVE_ALL (4) it moves. The list is
-    /// cut into its longest stretches of one target, and each is a run. Answers the status of each entry, and how many
+    /// cut into its longest stretches of one target, and each is a run, or several where it is longer than the limit. Answers the status of each entry, and how many
     /// entries failed.
     ///
     /// Refusals in order, each before anything moves: ESRCH (unknown caller); EINVAL (a flag other than the two); EPERM
@@ -205,7 +226,8 @@ impl<A: Allocator + Copy + Send + Sync> System<A> {
             all,
         } = permit;
         check_targets(&self.machine, allowed, nodes)?;
-        move_batch(self.alloc, &mut self.machine, owner, all, pages, nodes)
+        let limit = self.run_limit;
+        move_batch(self.alloc, &mut self.machine, owner, all, pages, nodes, limit)
     }
 
     /// Where pages are, each named by an address in it: the number of its node, -14 (EFAULT) without an area or for the
