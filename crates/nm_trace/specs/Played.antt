@@ -1,7 +1,7 @@
 -- What a play makes and leaves written, and what a run from bytes does.
 use Rattle.std.specs.Prelude.{◌≡◌, ◌⊎◌, ℕ, ◌<◌, Bool, List, [], ◌++◌, length, take, slice_get, Option, Some, Result, Ok, Err}
 use Rattle.std.specs.Io.KnownBytes.{Appends}
-use Rattle.nm_calls.specs.Systems.{SystemState, new_system}
+use Rattle.nm_calls.specs.Systems.{SystemState, system_with}
 use Rattle.nm_calls.specs.Calls.{Call, Answer}
 use Rattle.nm_calls.specs.Outcome.{outcome}
 use Rattle.nm_calls.specs.Does.{HostLeaves}
@@ -51,11 +51,11 @@ Plays s calls t old new (Err (HostMemory k)) =
 
 -- the report on a trace: on its steps, from a new machine on
 abbrev pub report_of : Plan → List ℕ
-report_of plan = report_from 0 (new_system plan.layout) plan.calls
+report_of plan = report_from 0 (system_with plan.layout plan.run_limit) plan.calls
 
 -- a play of a trace on a new machine, whatever state it leaves
 abbrev pub PlaysNew : Plan → Option (List ℕ) → Option (List ℕ) → Result Summary TraceError → Type 0
-PlaysNew plan old new result = (t : SystemState) × Plays (new_system plan.layout) plan.calls t old new result
+PlaysNew plan old new result = (t : SystemState) × Plays (system_with plan.layout plan.run_limit) plan.calls t old new result
 
 -- what a run from a trace's bytes does: its fault is the first of the bytes, or it plays the trace
 abbrev pub Runs : Result Plan TraceError → Option (List ℕ) → Option (List ℕ) → Result Summary TraceError → Type 0

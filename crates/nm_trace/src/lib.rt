@@ -10,9 +10,11 @@ mod reading;
 mod running;
 mod step_error;
 mod text;
+mod trace;
 mod trace_error;
 
 pub use playing::{Summary, play};
-pub use reading::{Trace, read_trace};
+pub use reading::read_trace;
 pub use running::{TRACE_LIMIT, run_trace};
+pub use trace::Trace;
 pub use trace_error::TraceError;

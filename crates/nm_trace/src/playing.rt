@@ -5,8 +5,8 @@ ghost use Rattle.std.specs.Io.KnownBytes.{Appends};
 ghost use Rattle.nm_calls.specs.Views.{call_of};
 ghost use Rattle.nm_trace.specs.Played.{BreaksOff, Plays, Tells};
 
-use crate::reading::Trace;
 use crate::text::{refusal_text, text_of};
+use crate::trace::Trace;
 use crate::trace_error::TraceError;
 use nm_calls::{Call, CallError, System};
 use std::alloc::{AllocError, Allocator};
@@ -74,7 +74,7 @@ pub(crate) fn play_calls<A: Allocator + Copy + Send + Sync, W: Write>(
     Ok(Summary { steps: calls.len() })
 }
 
-/// Makes the calls of a trace on a system, and writes the report on them: the lines of each step, when it ends. Answers how many steps there were.
+/// Makes the calls of a trace on a system that has the trace's limit on runs, and writes the report on them: the lines of each step, when it ends. Answers how many steps there were.
 ///
 /// `WriteFault` where the writer failed or took no byte: the report breaks off inside the lines of the last step that was
 /// made. `HostMemory(k)` where the host refused memory in step k: the lines of the steps before it were written, and step
@@ -85,6 +85,7 @@ pub fn play<A: Allocator + Copy + Send + Sync, W: Write>(
     trace: &Trace<A>,
     writer: &mut W,
 ) -> Result<Summary, TraceError>
+    requires limit { system.old.run_limit ≡ trace.now.run_limit }
     ensures { Plays system.old (map call_of trace.now.calls.items) system.new (W.contents writer.old) (W.contents writer.new) result }
 {
     play_calls(alloc, system, trace.calls.as_slice(), writer)

@@ -1,6 +1,7 @@
 //! Bytes to a trace.
 
-ghost use Rattle.std.specs.Prelude.{map, ◌≡◌, [], ◌∷◌, ◌++◌, OnOk, IfErr};
+ghost use Rattle.std.specs.Prelude.{map, ◌≡◌, ◌<◌, ◌≤◌, [], ◌∷◌, ◌++◌, IfOk, OnOk, IfErr, codes};
+ghost use Rattle.nm_calls.specs.Systems.{default_limit};
 ghost use Rattle.nm_calls.specs.Views.{call_of};
 ghost use Rattle.std.specs.Option.{ok_or};
 ghost use Rattle.serde_json.specs.View.{view, items_view};
@@ -15,30 +16,34 @@ use crate::fields::{list, number};
 use crate::machine::machine_of;
 use crate::parsing::step_of;
 use crate::step_error::StepError;
+use crate::trace::Trace;
 use crate::trace_error::TraceError;
 use nm_calls::Call;
 use nm_types::Geometry;
+use nm_types::limits::MAX_BATCH;
 use serde_json::Value;
 use std::alloc::{Allocator, Global};
 
-/// A machine, and the calls that are made on it, step by step.
-#[derive(Debug, Drop)]
-pub struct Trace<A: Allocator + Copy + Send + Sync> {
-    /// The nodes, their frames and distances.
-    pub geometry: Geometry<A>,
-    /// The calls of the steps, step 0 first.
-    pub calls: Vec<Call<A>, A>,
-}
-
-/// The values of the steps, where the version is 1.
-#[tactic(auto, unfolding(crate::specs::Faults::listed))]
-fn listed(value: &Value) -> Result<&Vec<Value>, StepError>
-    ensures { of_step.Gives (λ v. items_view v.now.items) result (faults.listed (view value.now)) }
+/// How many entries a run has at most: 16,384 in version 1, whatever it says of it, and what version 2 says.
+#[tactic(auto, unfolding(crate::specs::Form::limit_of))]
+fn limit_of(value: &Value) -> Result<usize, StepError>
+    ensures limit { of_step.Gives (λ n. n) result (form.limit_of (view value.now)) }
+    ensures some { IfOk result (λ n. 0 < n) }
+    ensures within { IfOk result (λ n. n ≤ default_limit) }
 {
-    if number(value, "version")? != 1 {
+    let version = number(value, "version")?;
+    if version == 1 {
+        return Ok(MAX_BATCH);
+    }
+    if version != 2 {
         return Err(StepError::Bad);
     }
-    list(value, "steps")
+    let limit = number(value, "run_limit")?;
+    if limit >= 1 && limit <= MAX_BATCH as u64 {
+        Ok(limit as usize)
+    } else {
+        Err(StepError::Bad)
+    }
 }
 
 /// Puts a call at the end of a list.
@@ -91,11 +96,23 @@ fn geometry_of<A: Allocator + Copy>(alloc: A, value: &Value) -> Result<Geometry<
     machine_of(alloc, value).map_err(bad_machine)
 }
 
+/// The limit on runs of a trace, or its fault.
+fn run_limit_of(value: &Value) -> Result<usize, TraceError>
+    ensures limit { Gives (λ n. n) result (ok_or (form.limit_of (view value.now)) BadMachine) }
+    ensures some { IfOk result (λ n. 0 < n) }
+    ensures within { IfOk result (λ n. n ≤ default_limit) }
+{
+    match limit_of(value) {
+        Ok(limit) => Ok(limit),
+        Err(error) => Err(bad_machine(error)),
+    }
+}
+
 /// The values of the steps of a trace, or the fault of a top that has none.
 fn values_of(value: &Value) -> Result<&Vec<Value>, TraceError>
-    ensures { Gives (λ v. items_view v.now.items) result (ok_or (faults.listed (view value.now)) BadMachine) }
+    ensures { Gives (λ v. items_view v.now.items) result (ok_or (form.items_at (codes "steps") (view value.now)) BadMachine) }
 {
-    listed(value).map_err(bad_machine)
+    list(value, "steps").map_err(bad_machine)
 }
 
 /// The trace that a value is, or the first fault.
@@ -107,9 +124,14 @@ fn trace_of<A: Allocator + Copy + Send + Sync>(
     ensures { Gives plan_in result (faults.plan_of (view value.now)) }
 {
     let geometry = geometry_of(alloc, value)?;
+    let run_limit = run_limit_of(value)?;
     let values = values_of(value)?;
     let calls = calls_of(alloc, values.as_slice())?;
-    Ok(Trace { geometry, calls })
+    Ok(Trace {
+        geometry,
+        run_limit,
+        calls,
+    })
 }
 
 /// The value that bytes are as JSON.
