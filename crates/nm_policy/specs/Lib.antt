@@ -1,3 +1,5 @@
 pub mod Order
 pub mod Zones
 pub mod Rows
+pub mod Pairs
+pub mod PairRows

@@ -8,7 +8,7 @@ use nm_types::{Geometry, NodeId, NodeMask, Policy};
 use std::alloc::{AllocError, Allocator};
 
 /// The node of a set whose turn it is at an index: the nodes take turns upwards. Node 0 where the set is empty.
-fn turn(nodes: NodeMask, index: u64) -> NodeId
+pub(crate) fn turn(nodes: NodeMask, index: u64) -> NodeId
     ensures { result ≡ turn nodes index }
 {
     let count = nodes.len() as u64;

@@ -2,6 +2,8 @@
 
 ghost use Rattle.nm_policy.specs.Zones.{EachSetHasOneOrder};
 ghost use Rattle.nm_policy.specs.Rows.{ZonelistRows, FirstTouchRows};
+ghost use Rattle.nm_policy.specs.Pairs.{EachSetIsPairedInOrder};
+ghost use Rattle.nm_policy.specs.PairRows.{PairRows};
 
 /// Each set of nodes has one order by distance, ties by number, and it is the one that `zonelist` gives.
 pub fn each_set_has_one_order()
@@ -16,4 +18,15 @@ pub fn zonelist_rows()
 /// Worked orders of a first touch.
 pub fn first_touch_rows()
     ensures { FirstTouchRows }
+{}
+
+/// Whatever sets of nodes pages move between: no node moves to itself, each that moves is left once, and where the target
+/// of a pair is still to be left, so is that of every pair behind it.
+pub fn each_set_is_paired_in_order()
+    ensures { EachSetIsPairedInOrder }
+{}
+
+/// Worked pairs.
+pub fn pair_rows()
+    ensures { PairRows }
 {}

@@ -3,9 +3,11 @@
 
 mod first_touch;
 pub mod laws;
+mod pairing;
 #[cfg(test)]
 mod tests;
 mod zones;
 
 pub use first_touch::{first_touch_order, follows};
+pub use pairing::{Pair, pairs};
 pub use zones::zonelist;

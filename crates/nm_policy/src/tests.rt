@@ -1,4 +1,4 @@
-use crate::{first_touch_order, follows, laws, zonelist};
+use crate::{first_touch_order, follows, laws, pairs, zonelist};
 use nm_types::{Geometry, NodeId, NodeMask, Policy};
 use std::alloc::Global;
 use std::process::Abort;
@@ -99,8 +99,35 @@ fn pages_follow(rt: HostRuntime) {
 }
 
 #[test]
+fn pairs_in_order(rt: HostRuntime) -> Result<(), Fail> {
+    let alloc = rt.alloc();
+    for (old, new, want) in [
+        (
+            [0u32, 1, 2, 3, 4, 5, 6, 7].as_slice(),
+            [3u32, 4, 5].as_slice(),
+            [(7u32, 4u32), (6, 3), (2, 5), (1, 4), (0, 3)].as_slice(),
+        ),
+        (&[0, 1], &[1, 2], &[(1, 2), (0, 1)]),
+        (&[0, 1], &[1, 0], &[]),
+        (&[0, 1, 2], &[4, 5], &[(0, 4), (1, 5), (2, 4)]),
+        (&[0, 63], &[], &[]),
+        (&[], &[0, 63], &[]),
+    ] {
+        let found = pairs(alloc, set_of(&rt, old), set_of(&rt, new))?;
+        let numbers: Vec<(u32, u32)> = found
+            .iter()
+            .map(|pair| (pair.from.number(), pair.to.number()))
+            .collect(alloc)?;
+        assert!(rt; numbers.as_slice() == want, "from {old:?} to {new:?}");
+    }
+    Ok(())
+}
+
+#[test]
 fn laws_are_called() {
     laws::each_set_has_one_order();
     laws::zonelist_rows();
     laws::first_touch_rows();
+    laws::each_set_is_paired_in_order();
+    laws::pair_rows();
 }

@@ -1,5 +1,5 @@
 -- The members of a mask, upwards, and the mask without the lowest.
-use Rattle.std.proofs.Common.{◌≡◌, ◌≢◌, ℕ, zero, suc, ◌+◌, ◌*◌, ◌%◌, ◌<◌, ◌≤◌, ◌^◌, ⊎_elim, true, false, ◌∷◌, length, get_or, refl, sym, ap, ◌∙◌, arith, w64}
+use Rattle.std.proofs.Common.{◌≡◌, ◌≢◌, ℕ, zero, suc, ◌+◌, ◌*◌, ◌%◌, ◌<◌, ◌≤◌, ◌^◌, ⊎_elim, true, false, not, ◌∷◌, length, get_or, refl, sym, ap, ◌∙◌, arith, w64}
 use Rattle.std.specs.Prelude.{◌==◌, if◌then◌else◌}
 use Rattle.std.specs.Int.{bit_at, bit_not, trailing_zeros}
 use Rattle.std.specs.Int.RustNames.{bit_and}
@@ -7,10 +7,10 @@ use Rattle.std.specs.List.{AllByRecursion}
 use Rattle.std.specs.List.Sorted.{IsStrictlySortedBy}
 use Rattle.std.specs.Ordering.{nat_cmp}
 use Rattle.std.specs.declared.cmp.Ordering.TheVariants.{Less}
-use Rattle.std.proofs.lemmas.Bool.{cases_order}
+use Rattle.std.proofs.lemmas.Bool.{cases_eq, cases_order, eq-eqb, ne_eqb}
 use Rattle.std.proofs.lemmas.Map.Keys.{IsStrictlyIncreasing-from_sorted}
 use Rattle.std.proofs.lemmas.Nat.Bits.{bit_at-trailing_zeros, bit_at_clear_same, bit_at_clear_other}
-use Rattle.nm_types.specs.Nodes.{members_from, members, IsNodeSet}
+use Rattle.nm_types.specs.Nodes.{members_from, members, without_node, IsNodeSet}
 use Rattle.nm_types.proofs.Members.{less}
 
 -- the same bits have the same members
@@ -99,3 +99,45 @@ IsNodeSet-members bits = record {
   upwards = IsStrictlyIncreasing-from_sorted (members_from bits 0 64) (up bits 0 64);
   below = λ i d h. let lt = within bits 0 64 i d h in omega arith;
 }
+
+-- the members of a mask but for one are those of the mask without its bit
+without : (a b n k t : ℕ) → bit_at a t ≡ 0 → ((i : ℕ) → i < n + k → i ≢ t → bit_at a i ≡ bit_at b i) → members_from a n k ≡ without_node (members_from b n k) t
+without a b n zero t gone others = refl
+without a b n (suc k) t gone others =
+    let rest = without a b (n + 1) k t gone (λ i lt ne. others i (omega arith) ne) in
+    let left = without_node (members_from b (n + 1) k) t in
+    ⊎_elim
+    (λ e.
+    let unset : bit_at a n ≡ 0 = ap (bit_at a) e ∙ gone in
+    ap (λ x. if x == 1 then n ∷ members_from a (n + 1) k else members_from a (n + 1) k) unset ∙ rest
+    ∙ elim (bit_at b n == 1) as (λ bit. left ≡ without_node (if bit then n ∷ members_from b (n + 1) k else members_from b (n + 1) k) t) [
+      | true ↦ sym (ap (λ bit. if not bit then n ∷ left else left) (eq-eqb n t e))
+      | false ↦ refl
+    ])
+    (λ ne.
+    ap (λ x. if x == 1 then n ∷ members_from a (n + 1) k else members_from a (n + 1) k) (others n (omega arith) ne)
+    ∙ ap (λ ms. if bit_at b n == 1 then n ∷ ms else ms) rest
+    ∙ elim (bit_at b n == 1) as (λ bit. (if bit then n ∷ left else left) ≡ without_node (if bit then n ∷ members_from b (n + 1) k else members_from b (n + 1) k) t) [
+      | true ↦ sym (ap (λ bit. if not bit then n ∷ left else left) (ne_eqb n t ne))
+      | false ↦ refl
+    ])
+    (cases_eq n t)
+
+pub members-remove : (bits t : ℕ) → t < 64 → members (bit_and bits (bit_not w64 (1 * 2 ^ t % 2 ^ 64))) ≡ without_node (members bits) t
+unfolding members
+members-remove bits t h = without (bit_and bits (bit_not w64 (1 * 2 ^ t % 2 ^ 64))) bits 0 64 t (bit_at_clear_same w64 bits t h) (λ i lt ne. bit_at_clear_other w64 bits t h i (omega arith) ne)
+
+-- what is no place is no member
+without_none : (bits n k t : ℕ) → n + k ≤ t → members_from bits n k ≡ without_node (members_from bits n k) t
+without_none bits n zero t h = refl
+without_none bits n (suc k) t h =
+    let rest = without_none bits (n + 1) k t (omega arith) in
+    let ne : n ≢ t = λ e. omega arith in
+    elim (bit_at bits n == 1) as (λ bit. (if bit then n ∷ members_from bits (n + 1) k else members_from bits (n + 1) k) ≡ without_node (if bit then n ∷ members_from bits (n + 1) k else members_from bits (n + 1) k) t) [
+      | true ↦ ap (λ ms. n ∷ ms) rest ∙ sym (ap (λ bit. if not bit then n ∷ without_node (members_from bits (n + 1) k) t else without_node (members_from bits (n + 1) k) t) (ne_eqb n t ne))
+      | false ↦ rest
+    ]
+
+pub members-remove_none : (bits t : ℕ) → 64 ≤ t → members bits ≡ without_node (members bits) t
+unfolding members
+members-remove_none bits t h = without_none bits 0 64 t h

@@ -1,8 +1,8 @@
 -- Sets of nodes, as the list of their numbers upwards.
-use Rattle.std.specs.Prelude.{ℕ, zero, suc, ◌+◌, ◌^◌, ◌<◌, ◌==◌, Bool, List, [], ◌∷◌, All, if◌then◌else◌}
+use Rattle.std.specs.Prelude.{ℕ, zero, suc, ◌+◌, ◌^◌, ◌<◌, ◌==◌, Bool, not, List, [], ◌∷◌, All, if◌then◌else◌}
 use Rattle.std.specs.List.Sorted.{IsStrictlyIncreasing}
 use Rattle.std.specs.Int.{bit_at}
-use Rattle.std.specs.List.{list_any}
+use Rattle.std.specs.List.{list_any, filter}
 
 -- the numbers from one on, so many of them
 abbrev pub up_from : ℕ → ℕ → List ℕ
@@ -12,6 +12,10 @@ up_from n (suc k) = n ∷ up_from (n + 1) k
 -- whether a list has this number
 abbrev pub is_in : List ℕ → ℕ → Bool
 is_in ns n = list_any (λ m. m == n) ns
+
+-- a set without a node
+abbrev pub without_node : List ℕ → ℕ → List ℕ
+without_node ns n = filter (λ m. not (m == n)) ns
 
 -- the places from n on, so many of them, whose bits are set
 abbrev pub members_from : ℕ → ℕ → ℕ → List ℕ

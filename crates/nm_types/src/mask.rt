@@ -3,7 +3,7 @@
 ghost use Rattle.std.specs.Prelude.{◌≡◌, ◌<◌, ◌↔◌, [], IsTrue, drop, length, slice_get};
 ghost use Rattle.std.specs.Ordering.{nat_cmp};
 ghost use Rattle.std.specs.BTreeSet.{insert_key};
-ghost use Rattle.nm_types.specs.Nodes.{is_in, IsNodeSet};
+ghost use Rattle.nm_types.specs.Nodes.{is_in, without_node, IsNodeSet};
 
 use crate::numbers::NodeId;
 use std::marker::Model;
@@ -59,6 +59,15 @@ impl NodeMask {
         ensures { self.new ≡ insert_key nat_cmp self.old node }
     {
         self.bits |= 1 << node.number();
+    }
+
+    /// Takes a node out, if it is in it.
+    pub fn remove(&mut self, node: NodeId)
+        ensures { self.new ≡ without_node self.old node }
+    {
+        if node.number() < 64 {
+            self.bits &= !(1 << node.number());
+        }
     }
 
     /// Takes the lowest node out. None where the set has no node.

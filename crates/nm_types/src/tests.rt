@@ -173,6 +173,11 @@ fn masks_in_order(rt: HostRuntime) {
     assert_eq!(rt; mask.take_first(), Some(NodeId::new(0)));
     assert_eq!(rt; mask.take_first(), Some(NodeId::new(5)));
     assert_eq!(rt; mask.len(), 1usize);
+    mask.remove(NodeId::new(62));
+    mask.remove(NodeId::new(64));
+    assert_eq!(rt; mask.len(), 1usize);
+    mask.remove(NodeId::new(63));
+    assert!(rt; mask.is_empty());
 }
 
 #[test]

@@ -1,0 +1,23 @@
+-- Worked pairs of nodes.
+use Rattle.std.specs.Prelude.{◌≡◌, ℕ, List, [], ◌∷◌, map}
+use Rattle.nm_policy.specs.Pairs.{pairs}
+
+-- the pairs as couples of numbers
+abbrev pub couples : List ℕ → List ℕ → List (ℕ × ℕ)
+couples old new = map {B = ℕ × ℕ} (λ p. (p.from, p.to)) (pairs old new)
+
+pub record PairRows : Type 0 where
+  -- nodes 3, 4 and 5 keep their pages and are never left, so the last comes first
+  pub eight_to_three : couples (0 ∷ 1 ∷ 2 ∷ 3 ∷ 4 ∷ 5 ∷ 6 ∷ 7 ∷ []) (3 ∷ 4 ∷ 5 ∷ []) ≡ (7, 4) ∷ (6, 3) ∷ (2, 5) ∷ (1, 4) ∷ (0, 3) ∷ []
+  -- node 1 is left before pages come to it
+  pub two_in_a_chain : couples (0 ∷ 1 ∷ []) (1 ∷ 2 ∷ []) ≡ (1, 2) ∷ (0, 1) ∷ []
+  pub three_in_a_chain : couples (0 ∷ 1 ∷ 2 ∷ []) (1 ∷ 2 ∷ 3 ∷ []) ≡ (2, 3) ∷ (1, 2) ∷ (0, 1) ∷ []
+  pub to_itself : couples (0 ∷ 1 ∷ []) (0 ∷ 1 ∷ []) ≡ []
+  -- nobody waits for another, so the first comes first; the third takes the first turn again
+  pub apart : couples (0 ∷ 1 ∷ 2 ∷ []) (4 ∷ 5 ∷ []) ≡ (0, 4) ∷ (1, 5) ∷ (2, 4) ∷ []
+  -- sets of one size: node 1 moves though it is in both
+  pub one_in_both : couples (1 ∷ 3 ∷ []) (0 ∷ 1 ∷ []) ≡ (1, 0) ∷ (3, 1) ∷ []
+  -- sets of two sizes: it stays
+  pub one_stays : couples (1 ∷ 3 ∷ []) (1 ∷ []) ≡ (3, 1) ∷ []
+  pub from_none : couples [] (0 ∷ []) ≡ []
+  pub to_none : couples (0 ∷ 1 ∷ []) [] ≡ []

@@ -1,0 +1,60 @@
+-- Which nodes pages leave for which, and in which order.
+use Rattle.std.specs.Prelude.{◌≡◌, ◌≢◌, ℕ, suc, zero, ◌+◌, ◌==◌, nat_eq, Bool, true, not, ◌&&◌, ◌||◌, List, [], ◌∷◌, map, length, find, Option, Some, None, if◌then◌else◌, IsPermutation}
+use Rattle.std.specs.List.{AllByRecursion, IsDistinct, filter, last_or}
+use Rattle.std.specs.List.Sorted.{IsStrictlyIncreasing}
+use Rattle.std.specs.Option.{option_or}
+use Rattle.nm_types.specs.Nodes.{is_in, without_node}
+use Rattle.nm_policy.specs.declared.pairing.Pair.{Pair}
+use Rattle.nm_policy.specs.Order.{turn}
+
+-- each node of `old` with the node of `new` whose turn it is, from a turn on
+abbrev pub dealt : ℕ → List ℕ → List ℕ → List Pair
+dealt k [] new = []
+dealt k (n ∷ old) new = record { from = n; to = turn new k } ∷ dealt (k + 1) old new
+
+-- a node keeps its pages if it is its own target, or if the sets differ in size and it is in `new`
+abbrev pub stays : List ℕ → List ℕ → Pair → Bool
+stays old new pair = (pair.from == pair.to) || (not (length old == length new) && is_in new pair.from)
+
+-- the pairs whose pages move, by the node that they leave: none where `new` has no node
+abbrev pub moving : List ℕ → List ℕ → List Pair
+moving old new = if length new == 0 then [] else filter (λ p. not (stays old new p)) (dealt 0 old new)
+
+-- the first whose target is not still to be left, else the last
+abbrev pub next_pair : List ℕ → List Pair → Option Pair
+next_pair remaining pairs = option_or (find (λ p. not (is_in remaining p.to)) pairs) (last_or None pairs)
+
+-- the pairs but those that leave a node
+abbrev pub without_source : List Pair → ℕ → List Pair
+without_source pairs node = filter (λ p. not (p.from == node)) pairs
+
+-- at most so many pairs, one after another; each time its node is left
+abbrev pub pairs_after : ℕ → List ℕ → List Pair → List Pair
+pairs_after zero remaining left = []
+pairs_after (suc n) remaining left =
+    elim (next_pair remaining left) [
+      | None ↦ []
+      | Some pair ↦ pair ∷ pairs_after n (without_node remaining pair.from) (without_source left pair.from)
+    ]
+
+-- which node's pages go where, in order: every node of `old` is still to be left at first, also one that keeps its pages
+abbrev pub pairs : List ℕ → List ℕ → List Pair
+pairs old new = pairs_after (length (moving old new)) old (moving old new)
+
+-- where the target of a pair is still to be left, so is that of every pair behind it: a chain of nodes is emptied from its
+-- end
+abbrev pub EmptiesFromTheEnd : List ℕ → List Pair → Type 0
+EmptiesFromTheEnd remaining [] = Unit {0}
+EmptiesFromTheEnd remaining (p ∷ ps) =
+    (is_in remaining p.to ≡ true → AllByRecursion (λ q. is_in remaining q.to ≡ true) ps)
+    × EmptiesFromTheEnd (without_node remaining p.from) ps
+
+-- no node moves to itself, none is left twice, each that moves is left once, and chains are emptied from their ends
+pub record PairsAreInOrder (old new : List ℕ) : Type 0 where
+  pub away : AllByRecursion (λ p. p.from ≢ p.to) (pairs old new)
+  pub once : IsDistinct nat_eq (map (λ p. p.from) (pairs old new))
+  pub all : IsPermutation (moving old new) (pairs old new)
+  pub from_the_end : EmptiesFromTheEnd old (pairs old new)
+
+abbrev pub EachSetIsPairedInOrder : Type 0
+EachSetIsPairedInOrder = (old new : List ℕ) → IsStrictlyIncreasing old → PairsAreInOrder old new
