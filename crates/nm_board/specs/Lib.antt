@@ -1,0 +1,4 @@
+pub mod Tickets
+pub mod Rule
+pub mod Steps
+pub mod Shown
