@@ -5,3 +5,5 @@ pub mod Stepping
 pub mod Hands
 pub mod Filled
 pub mod Full
+pub mod Callers
+pub mod Staged

@@ -2,3 +2,4 @@ pub mod Tickets
 pub mod Rule
 pub mod Steps
 pub mod Shown
+pub mod Stages

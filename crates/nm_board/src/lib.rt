@@ -4,9 +4,12 @@
 
 mod board;
 mod hand;
+pub mod laws;
 mod plays;
 mod seats;
 mod slots;
+#[cfg(test)]
+mod tests;
 mod view;
 
 pub use board::{Board, Short};
