@@ -88,7 +88,7 @@ as_many : (sizes : List ℕ) (a : ℕ) → length (all_frames a sizes) ≡ lengt
 as_many [] a = refl
 as_many (size ∷ sizes) a = ap suc (as_many sizes (a + size))
 
-up_all : (P : ℕ → Type 0) (n a : ℕ) → ((f : ℕ) → a ≤ f → f < a + n → P f) → AllByRecursion P (up_from a n)
+pub up_all : (P : ℕ → Type 0) (n a : ℕ) → ((f : ℕ) → a ≤ f → f < a + n → P f) → AllByRecursion P (up_from a n)
 up_all P zero a h = tt
 up_all P (suc n) a h = (h a (omega arith) (omega arith), up_all P n (a + 1) (λ f low high. h f (omega (arith, low)) (omega (arith, high))))
 

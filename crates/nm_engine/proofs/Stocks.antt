@@ -128,7 +128,7 @@ not_in (x ∷ xs) f e =
       | false ↦ λ h. not_in xs f (omega (arith, e, times_cons f x xs))
     ] refl
 
-part_of : (free : List (List ℕ)) (node f : ℕ) → times f (slice_index_or free node []) ≤ sum_by (times f) free
+pub part_of : (free : List (List ℕ)) (node f : ℕ) → times f (slice_index_or free node []) ≤ sum_by (times f) free
 part_of [] node f = omega arith
 part_of (xs ∷ free) zero f = let whole : sum_by (times f) (xs ∷ free) ≡ times f xs + sum_by (times f) free = sum_by-cons (times f) xs free in omega (arith, whole)
 part_of (xs ∷ free) (suc node) f =

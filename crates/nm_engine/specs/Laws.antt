@@ -19,10 +19,15 @@ use Rattle.nm_engine.specs.Memory.{mem}
 use Rattle.nm_engine.specs.Touch.{Access, Done, read, write, access}
 use Rattle.nm_engine.specs.Run.{Progress, each, with_all_free, run}
 use Rattle.nm_engine.specs.Batch.{batch}
+use Rattle.nm_engine.specs.Audited.{audited}
 use Rattle.nm_engine.specs.Effect.{new_machine, spawn, map_new, attach, pin, unpin, unmap, exit}
 use Rattle.nm_engine.specs.Refused.{spawn_refusal, map_refusal, attach_refusal, pin_refusal}
 use Rattle.nm_engine.specs.Policing.{set_policy}
 use Rattle.nm_engine.specs.Sound.{OwnsItsFree, IsSoundAmid, IsSound}
+
+-- on a sound machine each frame is in one place
+abbrev pub SoundIsAudited : Type 0
+SoundIsAudited = (s : State) → IsSound s → audited s ≡ true
 
 -- a look that counts the processes tells what is to be done with a request
 abbrev pub LooksSuffice : Type 0

@@ -1,6 +1,6 @@
 //! Laws over the definitions alone, and worked examples.
 
-ghost use Rattle.nm_engine.specs.Laws.{DecidingKeepsMemory, FreeingKeepsMemory, BatchKeepsMemory, ReadingKeepsMemory, WritingIsExact, PolicyKeepsMemory, LooksSuffice, PlanIsOneByOne, AccessIsSound, RunIsSound, BatchIsSound, NewIsSound, SpawnIsSound, MapIsSound, AttachIsSound, PinIsSound, UnpinIsSound, PolicyIsSound, UnmapIsSound, ExitIsSound};
+ghost use Rattle.nm_engine.specs.Laws.{DecidingKeepsMemory, FreeingKeepsMemory, BatchKeepsMemory, ReadingKeepsMemory, WritingIsExact, PolicyKeepsMemory, LooksSuffice, SoundIsAudited, PlanIsOneByOne, AccessIsSound, RunIsSound, BatchIsSound, NewIsSound, SpawnIsSound, MapIsSound, AttachIsSound, PinIsSound, UnpinIsSound, PolicyIsSound, UnmapIsSound, ExitIsSound};
 ghost use Rattle.nm_engine.specs.Starts.{StartsAreSound};
 ghost use Rattle.nm_engine.specs.Moving.{ThreePagesMove, MovedPageReads, EmptyBatchDoesNothing, OnePageTwiceMovesOnce, ShortageStopsTwoOfFour, LaterRunTakesFrameOfEarlier, EarlierRunFindsNone, PageGoesAndComesHome};
 ghost use Rattle.nm_engine.specs.Sharing.{TwoAddressesAreOneProcess, SharedPageStays, SharedPageIsOnTarget, SharedPageMovesForBoth};
@@ -31,6 +31,11 @@ pub fn looks_suffice()
 /// To class the requests of a run at its start and then decide is to decide one after another.
 pub fn plan_is_one_by_one()
     ensures { PlanIsOneByOne }
+{}
+
+/// An audit of a sound machine finds each frame in one place.
+pub fn sound_is_audited()
+    ensures { SoundIsAudited }
 {}
 
 /// Reads and writes, runs with their accesses in flight, and batches keep a machine sound.
