@@ -24,9 +24,9 @@ use Rattle.nm_types.proofs.Cases.{true_false, none_some, some_is}
 use Rattle.nm_runs.specs.Seen.{sight_in, sight_at}
 use Rattle.nm_engine.specs.Touch.{is_shared}
 use Rattle.nm_engine.specs.Effect.{pages_from, pages_between, parts_outside, covers_page, is_covered, released_from, released, blind_between, dropped, unmap, exit}
-use Rattle.nm_engine.specs.Sound.{AreasAreApart, IsWhole, IsSoundAmid, IsSound}
+use Rattle.nm_engine.specs.Sound.{AreasAreApart, HasPages, IsWhole, IsSoundAmid, IsSound}
 use Rattle.nm_types.proofs.Maps.{equal, get-values, keys-values}
-use Rattle.nm_types.proofs.Keys.{some_from_keys, sorted-without}
+use Rattle.nm_types.proofs.Keys.{some_from_keys, sorted-without, few-without, as_many-values}
 use Rattle.nm_areas.proofs.Apart.{covers_parts, covers_from, all_then}
 use Rattle.nm_engine.proofs.Allocated.{shows_within, area_covers}
 use Rattle.nm_areas.proofs.Parted.{Among, All-among, all_from_among, among_over, over_among, among_flat, flat_among, IsPart, part_of, part_covers, part_page, part_there, any_among, among_any}
@@ -75,14 +75,23 @@ listed_flat f test (x ∷ areas) a p (inr m) t k =
     let more = listed_flat f test areas a p m t k in
     elim (test x) as (λ b. Listed p (flat_map f (cond b (x ∷ filter test areas) (filter test areas)))) [ true ↦ listed_right (f x) (flat_map f (filter test areas)) p more | false ↦ more ]
 
+-- a part of an area ends within the segment, as the area does
+pub part_within : (pid first end : ℕ) (a b : Placed) → IsPart pid first end a b → (o : ℕ → Option Segment) → HasPages (o a.1.page.segment) (a.1.page.index + a.1.pages) → HasPages (o b.1.page.segment) (b.1.page.index + b.1.pages)
+part_within pid first end a b part o within =
+    subst (λ n. HasPages (o n) (b.1.page.index + b.1.pages)) (sym part.segment)
+    (elim (o a.1.page.segment) as (λ s. HasPages s (a.1.page.index + a.1.pages) → HasPages s (b.1.page.index + b.1.pages)) [
+      | None ↦ λ h. h
+      | Some segment ↦ λ h. omega (arith, h, part.index, part.low, part.high)
+    ] within)
+
 -- ---- what processes see
 
-keys_all_filter : (P : ℕ → Type 0) (test : ℕ → Bool) (m : Map ℕ Sight) → AllByRecursion P (keys_of m) → AllByRecursion P (keys_of (filter (λ e. test e.0) m))
+keys_all_filter : {V : Type 0} (P : ℕ → Type 0) (test : ℕ → Bool) (m : Map ℕ V) → AllByRecursion P (keys_of m) → AllByRecursion P (keys_of (filter (λ e. test e.0) m))
 keys_all_filter P test [] h = tt
 keys_all_filter P test (e ∷ m) h =
     elim (test e.0) as (λ b. AllByRecursion P (keys_of (cond b (e ∷ filter (λ e. test e.0) m) (filter (λ e. test e.0) m)))) [ true ↦ (h.0, keys_all_filter P test m h.1) | false ↦ keys_all_filter P test m h.1 ]
 
-sorted_filter : (test : ℕ → Bool) (m : Map ℕ Sight) → IsStrictlySortedBy nat_cmp (keys_of m) → IsStrictlySortedBy nat_cmp (keys_of (filter (λ e. test e.0) m))
+sorted_filter : {V : Type 0} (test : ℕ → Bool) (m : Map ℕ V) → IsStrictlySortedBy nat_cmp (keys_of m) → IsStrictlySortedBy nat_cmp (keys_of (filter (λ e. test e.0) m))
 unfolding IsStrictlySortedBy
 sorted_filter test [] h = tt
 sorted_filter test (e ∷ m) h =
@@ -337,20 +346,21 @@ module _ (s : State) (l : List ℕ) (h : IsSoundAmid s l) (pid first end : ℕ) 
         a.2.some,
         omega (arith, a.2.high, whole.1),
         subst (λ n. IsSome (get nat_cmp blind n)) (sym a.2.process) process,
-        subst IsSome (sym (get_segment b.1.page.segment used)) (subst (λ n. IsSome (get nat_cmp s.segments n)) (sym a.2.segment) whole.3),
+        subst (λ o. HasPages o (b.1.page.index + b.1.pages)) (sym (get_segment b.1.page.segment used)) (part_within pid first end a.0 b a.2 (get nat_cmp s.segments) whole.3),
       )
 
   left_pending : Pending left l pages
-  unfolding left
+  unfolding left segments blind
   left_pending =
       record {
         order = record {
           processes = subst (IsStrictlySortedBy nat_cmp) (sym same_keys) h.order.processes;
           sees = blind_sorted;
           areas = sorted;
+          segments = sorted_filter (λ n. list_any (λ a. a.1.page.segment == n) areas) s.segments h.order.segments;
           place = h.order.place;
         };
-        frames = record { lists = h.frames.lists; once = h.frames.once; own = h.frames.own };
+        frames = h.frames;
         shown = λ q w p e. let was = seen_back q w (Sees p) e in let shown = h.shown q w p was.0 in (shown_on q w p shown.0 was.1, shown.1);
         zeros = λ q w e.
             let was = seen_back q w ZeroPage e in
@@ -358,7 +368,7 @@ module _ (s : State) (l : List ℕ) (h : IsSoundAmid s l) (pid first end : ℕ) 
             let shown = shown_on q w zero.0 zero.1 was.1 in
             (zero.0, shown, same_shared zero.0 (shown_covered q w zero.0 shown) ∙ zero.2);
         covered = λ p e. covered_or_listed p (h.covered p e);
-        bytes = record { same_pages = h.bytes.same_pages; whole = h.bytes.whole };
+        bytes = h.bytes;
         pins = h.pins;
         seen = λ p e c private.
             let was_private = sym (same_shared p c) ∙ private in
@@ -367,8 +377,10 @@ module _ (s : State) (l : List ℕ) (h : IsSoundAmid s l) (pid first end : ℕ) 
         once = λ q w r x p e k private.
             h.once q w r x p (shown_back q w p e).0 (shown_back r x p k).0 (sym (same_shared p (shown_covered q w p e)) ∙ private);
         areas = all_from_among (IsWhole left) areas part_whole;
-        numbers = λ n e. h.numbers n (segment_there n e);
+        numbers = record { below = λ n e. h.numbers.below n (segment_there n e); few = h.numbers.few };
         disjoint = disjoint;
+        online = h.online;
+        few = subst (λ n. n ≤ 1024) (sym (as_many-values (λ q process. if q == pid then blind_between first end process else process) s.processes)) h.few;
       }
 
   pub dropped_sound : IsSoundAmid (dropped s pid first end) l
@@ -475,6 +487,7 @@ module _ (s : State) (h : IsSound s) (pid : ℕ) where
       (all_from_among (IsWhole (record rest { processes = without nat_cmp rest.processes pid })) rest.areas (λ a m.
       let whole = All-among (IsWhole rest) rest.areas a rest_sound.areas m in
       (whole.0, whole.1, still_there a m, whole.3)))
+      (let fewer = few-without nat_cmp rest.processes pid in let few = rest_sound.few in omega (arith, fewer, few))
 
   -- it sees nothing before it is no more
   pub sees_none : (w : ℕ) → sight_at (dropped s pid 0 (2 ^ 35)) pid w ≡ None

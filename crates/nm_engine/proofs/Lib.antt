@@ -40,3 +40,5 @@ pub mod TiedMapped
 pub mod TiedCleared
 pub mod Busy
 pub mod TiedRemoved
+pub mod Alike
+pub mod Sounded

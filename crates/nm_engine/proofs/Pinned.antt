@@ -1,15 +1,14 @@
 -- What pins make of a machine's parts, and which are refused.
-use Rattle.std.proofs.Common.{List, ◌≡◌, ℕ, ◌+◌, ◌-◌, ◌<◌, ◌≤◌, ◌/◌, Bool, false, length, sym, ap, subst, ◌∙◌, arith}
+use Rattle.std.proofs.Common.{List, ◌≡◌, ℕ, ◌+◌, ◌-◌, ◌<◌, ◌≤◌, ◌/◌, Bool, false, sym, ap, subst, ◌∙◌, arith}
 use Rattle.std.specs.Prelude.{Some, None, Result, Ok, Err, OnOk, OnErr, IfErr, nat_le, ◌==◌, if◌then◌else◌}
 use Rattle.std.proofs.lemmas.Bool.{lt-leb, le-leb, ne_eqb, eq-eqb}
 use Rattle.nm_types.specs.declared.page.Page.{Page}
 use Rattle.nm_types.specs.declared.errno.Errno.{Errno}
 use Rattle.nm_types.specs.declared.errno.Errno.TheVariants.{Esrch, Ebusy, Einval}
-use Rattle.nm_types.specs.declared.seen.Seen.TheVariants.{At}
 use Rattle.nm_types.specs.declared.sight.Sight.TheVariants.{Sees}
 use Rattle.nm_types.specs.Map.{get, replace, page_cmp}
 use Rattle.nm_types.specs.State.{State}
-use Rattle.nm_runs.specs.Seen.{sight_at, users, pins_of, is_pinned, look_at_page, look_under, look}
+use Rattle.nm_runs.specs.Seen.{sight_at, pins_of, look}
 use Rattle.nm_engine.specs.Effect.{with_pins, pin, unpin}
 use Rattle.nm_engine.specs.Refused.{is_unknown, pins_refusal, pin_refusal, unpin_refusal}
 use Rattle.nm_engine.specs.Does.{Alters}
@@ -18,16 +17,26 @@ use Rattle.nm_engine.specs.Stocked.{Shelf}
 use Rattle.nm_engine.specs.Parts.{shown_by}
 use Rattle.nm_engine.specs.Sound.{IsSoundAmid}
 use Rattle.nm_engine.specs.Amid.{Amid, IsKept}
-use Rattle.nm_engine.proofs.Called.{repinned_sound}
+use Rattle.nm_engine.proofs.Called.{repinned_sound, few_pins, look_there}
 use Rattle.nm_engine.proofs.Touches.{inside, outside}
 
 module _ (y z : Spaced) (k : Shelf) (online : List ℕ) (moved failed : ℕ) (page : Page) (n : ℕ) (kept : IsKept (shown_by y k online moved failed) k.vacated y.frames) where
   -- another number of pins, or none
-  pub pinned_kept : (r : Result (Unit {0}) Errno) → OnOk r (z ≡ with_pins_of y page n) → OnErr r (z ≡ y) → IsKept (shown_by z k online moved failed) k.vacated z.frames
-  pinned_kept (Ok done) ok err =
+  pub pinned_kept : (r : Result (Unit {0}) Errno) → OnOk r (n ≤ 65535) → OnOk r (z ≡ with_pins_of y page n) → OnErr r (z ≡ y) → IsKept (shown_by z k online moved failed) k.vacated z.frames
+  pinned_kept (Ok done) most ok err =
       subst (λ (w : Spaced). IsKept (shown_by w k online moved failed) k.vacated w.frames) (sym ok)
-      (record { sound = repinned_sound (shown_by y k online moved failed) k.vacated page n kept.sound; as_many = kept.as_many })
-  pinned_kept (Err e) ok err = subst (λ (w : Spaced). IsKept (shown_by w k online moved failed) k.vacated w.frames) (sym err) kept
+      (record { sound = repinned_sound (shown_by y k online moved failed) k.vacated page n kept.sound most; as_many = kept.as_many })
+  pinned_kept (Err e) most ok err = subst (λ (w : Spaced). IsKept (shown_by w k online moved failed) k.vacated w.frames) (sym err) kept
+
+-- one pin fewer
+pub one_fewer : (s : State) (l : List ℕ) (page : Page) → IsSoundAmid s l → (r : Result (Unit {0}) Errno) → OnOk r (pins_of s page - 1 ≤ 65535)
+one_fewer s l page sound (Ok done) = let few = few_pins s l page sound in omega (arith, few)
+one_fewer s l page sound (Err e) = tt
+
+-- one pin more
+pub one_more : (n : ℕ) (r : Result (Unit {0}) Errno) → OnOk r (n < 65535) → OnOk r (n + 1 ≤ 65535)
+one_more n (Ok done) room = omega (arith, room)
+one_more n (Err e) room = tt
 
 pub ok_then : {P Q : Type 0} (r : Result (Unit {0}) Errno) → (P → Q) → OnOk r P → OnOk r Q
 ok_then (Ok done) f p = f p
@@ -43,15 +52,10 @@ module _ (s : State) (l : List ℕ) (room : ℕ) (x : Amid) (is : record { state
   seen_inside : sight_at s pid (address / 4096) ≡ Some (Sees page)
   seen_inside = inside s l room x is (λ s. sight_at s pid (address / 4096) ≡ Some (Sees page)) seen
 
-  look_there : look s pid (address / 4096) ≡ At page frame (length (users s page)) (is_pinned s page)
-  look_there =
-      ap (λ o. look_under s o (sight_at s pid (address / 4096))) (sound.shown pid (address / 4096) page seen_inside).0
-      ∙ ap (look_under s (Some page)) seen_inside
-      ∙ ap (look_at_page s page) (inside s l room x is (λ s. get page_cmp s.place page ≡ Some frame) placed)
-
   refusal_there : (is_bad : ℕ → Bool) (bad : Errno) → (if is_unknown s pid then Some Esrch else pins_refusal s is_bad bad (look s pid (address / 4096))) ≡ (if is_bad (pins_of s page) then Some bad else None)
   refusal_there is_bad bad =
-      ap (λ b. if b then Some Esrch else pins_refusal s is_bad bad (look s pid (address / 4096))) (inside s l room x is (λ s. is_unknown s pid ≡ false) known) ∙ ap (pins_refusal s is_bad bad) look_there
+      ap (λ b. if b then Some Esrch else pins_refusal s is_bad bad (look s pid (address / 4096))) (inside s l room x is (λ s. is_unknown s pid ≡ false) known)
+      ∙ ap (pins_refusal s is_bad bad) (look_there s l pid (address / 4096) page frame sound seen_inside (inside s l room x is (λ s. get page_cmp s.place page ≡ Some frame) placed))
 
   pin_inside : (t : State) (r : Result (Unit {0}) Errno) → OnOk r (pins_of s page < 65535) → OnOk r (t ≡ record s { pins = replace page_cmp s.pins page (pins_of s page + 1) })
       → IfErr r (λ e. (e ≡ Ebusy) × (65535 ≤ pins_of s page)) → OnErr r (t ≡ s) → Alters r s t (pin_refusal s pid address) (pin s pid address)

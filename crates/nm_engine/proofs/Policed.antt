@@ -20,7 +20,7 @@ use Rattle.nm_engine.specs.Policing.{pages_of, repoliced, set_policy}
 use Rattle.nm_areas.proofs.Apart.{all_then}
 use Rattle.nm_engine.proofs.Allocated.{area_covers}
 use Rattle.nm_areas.proofs.Parted.{All-among, all_from_among, over_among, among_flat, part_of, any_among}
-use Rattle.nm_engine.proofs.Dropped.{covers_shown, shown_number}
+use Rattle.nm_engine.proofs.Dropped.{covers_shown, shown_number, part_within}
 use Rattle.nm_areas.proofs.Painted.{keys_painted}
 use Rattle.nm_areas.proofs.Shown.{split_shows, painted_shows}
 use Rattle.nm_areas.proofs.Policed.{paint, any_policy, all_painted, apart_painted}
@@ -55,19 +55,21 @@ module _ (s : State) (l : List ℕ) (h : IsSoundAmid s l) (areas : Map (ℕ × �
   alike_sound : IsSoundAmid (record s { areas = areas }) l
   alike_sound =
       record {
-        order = record { processes = h.order.processes; sees = h.order.sees; areas = alike.sorted; place = h.order.place };
+        order = record { processes = h.order.processes; sees = h.order.sees; areas = alike.sorted; segments = h.order.segments; place = h.order.place };
         apart = h.apart;
-        frames = record { lists = h.frames.lists; once = h.frames.once; own = h.frames.own };
+        frames = h.frames;
         shown = λ q w p e. let was = h.shown q w p e in (alike.same q w ∙ was.0, was.1);
         zeros = λ q w e. let was = h.zeros q w e in (was.0, alike.same q w ∙ was.1, was.2);
         covered = λ p e. still_covered p (h.covered p e);
-        bytes = record { same_pages = h.bytes.same_pages; whole = h.bytes.whole };
+        bytes = h.bytes;
         pins = h.pins;
         seen = h.seen;
         once = λ q w r x p e k private. h.once q w r x p (sym (alike.same q w) ∙ e) (sym (alike.same r x) ∙ k) private;
         areas = alike.whole;
         numbers = h.numbers;
         disjoint = alike.apart;
+        online = h.online;
+        few = h.few;
       }
 
 -- ---- areas that are split
@@ -88,7 +90,7 @@ alike_split s areas pid at alike =
             part.some,
             omega (arith, part.high, of.1),
             subst (λ n. IsSome (get nat_cmp s.processes n)) (sym part.process) of.2,
-            subst (λ n. IsSome (get nat_cmp s.segments n)) (sym part.segment) of.3,
+            part_within pid at at from.0 b part (get nat_cmp s.segments) of.3,
           ));
       same = λ q w. split_shows pid at areas some alike.apart q w ∙ alike.same q w;
     }

@@ -16,7 +16,7 @@ use Rattle.nm_frames.specs.Store.{Store, bytes_of, overwrite as overwritten}
 use Rattle.nm_engine.specs.Touch.{with_page, without_front, overwrite}
 use Rattle.nm_engine.specs.Run.{with_free, with_all_free}
 use Rattle.nm_engine.specs.Sound.{PlacesAreApart}
-use Rattle.nm_engine.specs.Stocked.{Stocked, IsStocked, frames_alone, free_of, stock_page, restock_page, with_freed, free_all}
+use Rattle.nm_engine.specs.Stocked.{Stocked, IsStocked, free_of, stock_page, restock_page, with_freed, free_all}
 use Rattle.nm_areas.specs.Table.{Table}
 use Rattle.nm_engine.specs.Parts.{bytes_in, shown}
 use Rattle.nm_types.proofs.Maps.{page_cmp_total, exact_page, get-values, with_values-set, with_values-moved, set_agree, set_same, replace_is_set}
@@ -28,8 +28,8 @@ front_got [] some = absurd (omega (arith, some))
 front_got (y ∷ xs) some = refl
 
 -- no frame has two pages
-pub stocked_apart : (x : Stocked) → IsStocked x → PlacesAreApart (frames_alone x.layout x.place x.free)
-stocked_apart x h = places_are_apart (frames_alone x.layout x.place x.free) x.vacated h.once
+pub stocked_apart : (x : Stocked) → IsStocked x → PlacesAreApart x.place
+stocked_apart x h = places_are_apart h.once
 
 -- the bytes of the frame that got some, and those of the others
 new_bytes : (x : Stocked) (frame : ℕ) (bytes : List ℕ) → IsStocked x → frame < frame_count x.layout → bytes_of (slice_set x.frames frame (Some bytes)) frame ≡ bytes

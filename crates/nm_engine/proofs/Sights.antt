@@ -1,5 +1,5 @@
 -- What processes see after one of them sees something else at a page number.
-use Rattle.std.proofs.Common.{◌≡◌, ℕ, List, Bool, true, false, ◌&&◌, cond, refl, sym, ap, subst, ◌∙◌, inl, inr}
+use Rattle.std.proofs.Common.{◌≤◌, ◌≡◌, ℕ, List, Bool, true, false, ◌&&◌, cond, refl, sym, ap, subst, ◌∙◌, inl, inr}
 use Rattle.std.specs.Prelude.{Some, IsSome, ◌⊎◌}
 use Rattle.std.specs.List.Sorted.{IsStrictlySortedBy}
 use Rattle.std.specs.Map.{keys_of}
@@ -17,7 +17,7 @@ use Rattle.nm_engine.specs.Touch.{Spot, shown_at, with_sight, is_shared}
 use Rattle.nm_engine.specs.Sound.{IsInOrder, IsSoundAmid, IsWhole}
 use Rattle.nm_types.proofs.Maps.{equal, get-set, get-replace}
 use Rattle.nm_areas.proofs.Apart.{all_then}
-use Rattle.nm_types.proofs.Keys.{some_from_keys, keys-replace, All-replace, All-get, sorted-set}
+use Rattle.nm_types.proofs.Keys.{as_many-replace, some_from_keys, keys-replace, All-replace, All-get, sorted-set}
 
 -- the process is there, and its area
 pub record IsSpot (s : State) (at : Spot) : Type 0 where
@@ -78,6 +78,7 @@ order_kept s at x i h =
       sees = All-replace nat_cmp (λ q. IsStrictlySortedBy nat_cmp (keys_of q.sees)) s.processes at.pid new h.sees
           (sorted-set nat_cmp nat_cmp_total at.process.sees at.vpn x (All-get nat_cmp (λ q. IsStrictlySortedBy nat_cmp (keys_of q.sees)) s.processes at.pid at.process h.sees i.process));
       areas = h.areas;
+      segments = h.segments;
       place = h.place;
     }
 
@@ -106,7 +107,7 @@ with_sight_sound s l at x h i fits unseen =
     record {
       order = order_kept s at x i h.order;
       apart = h.apart;
-      frames = record { lists = h.frames.lists; once = h.frames.once; own = h.frames.own };
+      frames = h.frames;
       shown = λ q w p e. elim (sight_cases s at x (Sees p) q w i e) as (λ _. (page_at s.areas q w ≡ Some p) × IsSome (get page_cmp s.place p)) [
         | inl new ↦
             let f = fit_page s at x p fits new.2 in
@@ -118,11 +119,13 @@ with_sight_sound s l at x h i fits unseen =
         | inr old ↦ h.zeros q w old
       ];
       covered = h.covered;
-      bytes = record { same_pages = h.bytes.same_pages; whole = h.bytes.whole };
+      bytes = h.bytes;
       pins = h.pins;
       seen = λ p e private. let was = h.seen p e private in (was.0, was.1, sight_stays s at x (Sees p) was.0 was.1 i (unseen p) was.2);
       once = h.once;
       areas = all_then s.areas (IsWhole s) (IsWhole (with_sight s at x)) (whole_still s at x) h.areas;
       numbers = h.numbers;
       disjoint = h.disjoint;
+      online = h.online;
+      few = subst (λ n. n ≤ 1024) (sym (as_many-replace nat_cmp s.processes at.pid _)) h.few;
     }

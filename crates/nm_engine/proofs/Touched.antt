@@ -167,9 +167,9 @@ seen_bytes s l p (Some b) h e some = All-get page_cmp (λ b. length b ≡ 4096) 
 rewritten_sound : (s : State) (l : List ℕ) (p : Page) (new : List ℕ) → IsSoundAmid s l → length new ≡ 4096 → IsSoundAmid (record s { bytes = replace page_cmp s.bytes p new }) l
 rewritten_sound s l p new h whole =
     record {
-      order = record { processes = h.order.processes; sees = h.order.sees; areas = h.order.areas; place = h.order.place };
+      order = record { processes = h.order.processes; sees = h.order.sees; areas = h.order.areas; segments = h.order.segments; place = h.order.place };
       apart = h.apart;
-      frames = record { lists = h.frames.lists; once = h.frames.once; own = h.frames.own };
+      frames = h.frames;
       shown = h.shown;
       zeros = h.zeros;
       covered = h.covered;
@@ -183,6 +183,8 @@ rewritten_sound s l p new h whole =
       areas = h.areas;
       numbers = h.numbers;
       disjoint = h.disjoint;
+      online = h.online;
+      few = h.few;
     }
 
 pub bytes_sound : (s : State) (l : List ℕ) (pid v i : ℕ) (new : List ℕ) (o : Option Sight) → IsSoundAmid s l → sight_at s pid v ≡ o → i + length new ≤ 4096 → IsSoundAmid (with_bytes s o i new) l

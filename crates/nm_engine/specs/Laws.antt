@@ -19,10 +19,15 @@ use Rattle.nm_engine.specs.Memory.{mem}
 use Rattle.nm_engine.specs.Touch.{Access, Done, read, write, access}
 use Rattle.nm_engine.specs.Run.{Progress, each, with_all_free, run}
 use Rattle.nm_engine.specs.Batch.{batch}
+use Rattle.nm_engine.specs.Audited.{audited}
 use Rattle.nm_engine.specs.Effect.{new_machine, spawn, map_new, attach, pin, unpin, unmap, exit}
-use Rattle.nm_engine.specs.Refused.{spawn_refusal, map_refusal, attach_refusal}
+use Rattle.nm_engine.specs.Refused.{spawn_refusal, map_refusal, attach_refusal, pin_refusal}
 use Rattle.nm_engine.specs.Policing.{set_policy}
 use Rattle.nm_engine.specs.Sound.{OwnsItsFree, IsSoundAmid, IsSound}
+
+-- on a sound machine each frame is in one place
+abbrev pub SoundIsAudited : Type 0
+SoundIsAudited = (s : State) → IsSound s → audited s ≡ true
 
 -- a look that counts the processes tells what is to be done with a request
 abbrev pub LooksSuffice : Type 0
@@ -103,7 +108,7 @@ pub record Agrees (s : State) (target : ℕ) (p : Progress) (d : Decisions) : Ty
 abbrev pub PlanIsOneByOne : Type 0
 PlanIsOneByOne =
     (s : State) (target : ℕ) (all : Bool) (ws : List Wanted) →
-    IsStrictlySortedBy nat_cmp (keys_of s.processes) → OwnsItsFree s target →
+    IsStrictlySortedBy nat_cmp (keys_of s.processes) → OwnsItsFree s.layout s.free target →
     AllByRecursion (λ w. moves_all w ≡ all) ws →
     Agrees s target (each s target ws) (decide (map (status_or_move s target) ws) [] (free_list s target) target)
 
@@ -148,7 +153,11 @@ AttachIsSound =
 
 -- .. and pins
 abbrev pub PinIsSound : Type 0
-PinIsSound = (s : State) (pid address : ℕ) → IsSound s → IsSound (pin s pid address) × IsSound (unpin s pid address)
+PinIsSound = (s : State) (pid address : ℕ) → IsSound s → pin_refusal s pid address ≡ None → IsSound (pin s pid address)
+
+-- .. which never are too few to be taken off
+abbrev pub UnpinIsSound : Type 0
+UnpinIsSound = (s : State) (pid address : ℕ) → IsSound s → IsSound (unpin s pid address)
 
 -- .. and another policy of a range
 abbrev pub PolicyIsSound : Type 0

@@ -7,7 +7,6 @@ use Rattle.nm_types.specs.declared.page.Page.{Page}
 use Rattle.nm_types.specs.Map.{Map, page_cmp, set}
 use Rattle.nm_types.specs.Layout.{Layout, node_count, frame_count, owner}
 use Rattle.nm_types.specs.Nodes.{is_in}
-use Rattle.nm_types.specs.State.{State}
 use Rattle.nm_frames.specs.Store.{Store, IsHome, bytes_of}
 use Rattle.nm_nodes.specs.Pool.{Pool, list_of, appended}
 use Rattle.nm_engine.specs.Sound.{FramesAreOnce}
@@ -50,28 +49,10 @@ pub record Stocked : Type 0 where
   pub vacated : List ℕ
   pub room : ℕ
 
--- a state with these frames and nothing else
-abbrev pub frames_alone : Layout → Map Page ℕ → List (List ℕ) → State
-frames_alone g place free =
-    record {
-      layout = g;
-      processes = [];
-      areas = [];
-      segments = [];
-      next_segment = 0;
-      place = place;
-      bytes = [];
-      pins = [];
-      free = free;
-      online = [];
-      moved = 0;
-      failed = 0;
-    }
-
 -- each frame is free, vacated or the place of one page, and its bytes are home
 pub record IsStocked (x : Stocked) : Type 0 where
   pub in_order : IsStrictlySortedBy page_cmp (keys_of x.place)
-  pub once : FramesAreOnce (frames_alone x.layout x.place x.free) x.vacated
+  pub once : FramesAreOnce x.layout x.place x.free x.vacated
   pub buffers : length x.frames ≡ frame_count x.layout
   pub home : (frame : ℕ) → frame < frame_count x.layout → IsHome x.frames frame
 

@@ -1,6 +1,6 @@
 //! The calls that change processes and areas, and those that tell what there is.
 
-ghost use Rattle.std.specs.Prelude.{◌≡◌, ◌≤◌, [], nat_le, option_map, IfOk};
+ghost use Rattle.std.specs.Prelude.{◌≡◌, ◌≤◌, [], true, nat_le, option_map, IfOk};
 ghost use Rattle.std.specs.List.{list_any};
 ghost use Rattle.std.specs.Ordering.{nat_cmp};
 ghost use Rattle.nm_types.specs.Map.{get};
@@ -172,7 +172,8 @@ impl<A: Allocator + Copy> Parts<A> {
 
     /// Whether each frame stands once, in its own node's list or as the place of a page.
     pub(crate) fn audit(&self) -> Result<bool, AllocError>
-        ensures { IfOk result (λ b. b ≡ audited self.now.state) }
+        ensures told { IfOk result (λ b. b ≡ audited self.now.state) }
+        ensures sound { self.now.left ≡ [] → IfOk result (λ b. b ≡ true) }
     {
         let places = self.spaces.places()?;
         let once = self.stock.audit(self.alloc, places.as_slice())?;

@@ -1,6 +1,6 @@
 //! The machine.
 
-ghost use Rattle.std.specs.Prelude.{◌≡◌, ◌<◌, ◌≤◌, [], false, IfOk, OnOk, OnErr, option_map, None};
+ghost use Rattle.std.specs.Prelude.{◌≡◌, ◌<◌, ◌≤◌, [], true, false, IfOk, OnOk, OnErr, option_map, None};
 ghost use Rattle.std.specs.Ordering.{nat_cmp};
 ghost use Rattle.nm_types.specs.Map.{get};
 ghost use Rattle.nm_types.specs.Layout.{node_count};
@@ -8,7 +8,7 @@ ghost use Rattle.nm_types.specs.Nodes.{is_in};
 ghost use Rattle.nm_types.specs.State.{free_list};
 ghost use Rattle.nm_engine.specs.Tables.{info_of};
 ghost use Rattle.nm_engine.specs.Touch.{Bytes, Done, read, write};
-ghost use Rattle.nm_engine.specs.Run.{run};
+ghost use Rattle.nm_engine.specs.Run.{run, HasOneAll};
 ghost use Rattle.nm_engine.specs.Effect.{new_machine, spawn, map_new, attach, pin, unpin, unmap, exit};
 ghost use Rattle.nm_engine.specs.Refused.{spawn_refusal, map_refusal, attach_refusal, pin_refusal, unpin_refusal, unmap_refusal, exit_refusal, list_refusal, entries_refusal};
 ghost use Rattle.nm_engine.specs.Policing.{policy_refusal, set_policy};
@@ -226,10 +226,12 @@ impl<A: Allocator + Copy + Send + Sync> Machine<A> {
     /// (ENOENT) where nothing was touched; -13 (EACCES) where another process sees the page and the request does not ask
     /// for all; -16 (EBUSY) for a pinned page; -12 (ENOMEM) where the target has no free frame. A page takes the front of the
     /// target's free frames. The frames that pages leave become free at the run's end, in the order of the moves. The
-    /// totals count the moves, and the requests with -16 or -12. An error is want of memory, and means that the machine is
-    /// as it was.
+    /// totals count the moves, and the requests with -16 or -12. The requests are all by address, with one `all`, or all by
+    /// page: then their classes at the run's start are those that they have one after another. An error is want of memory,
+    /// and means that the machine is as it was.
     pub fn run_flight(&mut self, requests: &Run<A>) -> Result<Vec<i32, A>, AllocError>
-        requires { requests.now.target < node_count self.old.layout }
+        requires target { requests.now.target < node_count self.old.layout }
+        requires alike { HasOneAll requests.now.wanted.items }
         ensures statuses { IfOk result (λ statuses. statuses.items ≡ (run self.old requests.now.target requests.now.wanted.items []).statuses) }
         ensures state { OnOk result (self.new ≡ (run self.old requests.now.target requests.now.wanted.items []).state) }
         ensures err { OnErr result (self.new ≡ self.old) }
@@ -266,9 +268,10 @@ impl<A: Allocator + Copy + Send + Sync> Machine<A> {
     }
 
     /// Whether each frame of the machine stands exactly once in its own node's list of free frames, or is the place of
-    /// exactly one page, and not both. An error is want of memory.
+    /// exactly one page, and not both: true, since a machine is sound. An error is want of memory.
     pub fn audit(&self) -> Result<bool, AllocError>
-        ensures { IfOk result (λ b. b ≡ audited self.now) }
+        ensures told { IfOk result (λ b. b ≡ audited self.now) }
+        ensures sound { IfOk result (λ b. b ≡ true) }
     {
         self.parts.audit()
     }

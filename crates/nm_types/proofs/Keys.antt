@@ -1,5 +1,5 @@
 -- Keys of a map after a change, and what holds of all its entries.
-use Rattle.std.proofs.Common.{◌≡◌, List, [], ◌∷◌, true, false, cond, refl, sym, ap, subst, ◌∙◌}
+use Rattle.std.proofs.Common.{◌≡◌, ℕ, suc, ◌≤◌, length, arith, List, [], ◌∷◌, true, false, cond, refl, sym, ap, subst, ◌∙◌}
 use Rattle.std.specs.Prelude.{Some, IsSome, ◌||◌}
 use Rattle.std.specs.Option.{is_some}
 use Rattle.std.specs.List.{AllByRecursion, list_any}
@@ -10,7 +10,7 @@ use Rattle.std.specs.Ordering.{is_eq, match_ordering, ordering_reverse}
 use Rattle.std.specs.BTreeMap.{is_at}
 use Rattle.std.specs.declared.cmp.Ordering.{Ordering}
 use Rattle.std.specs.declared.cmp.Ordering.TheVariants.{Less, Equal, Greater}
-use Rattle.nm_types.specs.Map.{Map, get, set, replace, without}
+use Rattle.nm_types.specs.Map.{Map, get, set, replace, without, with_values}
 
 all_above : {K : Type 0} {R : K → K → Ordering} → IsTotalOrder R → (k e : K) (ks : List K) → R k e ≡ Less → AllByRecursion (λ y. R e y ≡ Less) ks → AllByRecursion (λ y. R k y ≡ Less) ks
 all_above o k e [] p h = tt
@@ -95,6 +95,44 @@ module _ {K V : Type 0} (R : K → K → Ordering) where
       ]
 
 -- two maps of the same keys
+-- how many entries there are after a change
+module _ {K V : Type 0} (R : K → K → Ordering) where
+  pub as_many-replace : (m : Map K V) (k : K) (v : V) → length (replace R m k v) ≡ length m
+  as_many-replace [] k v = refl
+  as_many-replace (e ∷ m) k v =
+      elim (is_eq (R k e.0)) as (λ b. length (cond b ((e.0, v) ∷ m) (e ∷ replace R m k v)) ≡ suc (length m)) [
+        | true ↦ refl
+        | false ↦ ap suc (as_many-replace m k v)
+      ]
+
+  pub few-set : (m : Map K V) (k : K) (v : V) → length (set R m k v) ≤ suc (length m)
+  few-set [] k v = omega arith
+  few-set (e ∷ m) k v =
+      let rest = few-set m k v in
+      elim (R k e.0) as (λ o. length (match_ordering o ((k, v) ∷ e ∷ m) ((e.0, v) ∷ m) (e ∷ set R m k v)) ≤ suc (suc (length m))) [
+        | Less ↦ omega arith
+        | Equal ↦ omega arith
+        | Greater ↦ omega (arith, rest)
+      ]
+
+  pub few-without : (m : Map K V) (k : K) → length (without R m k) ≤ length m
+  few-without [] k = omega arith
+  few-without (e ∷ m) k =
+      let rest = few-without m k in
+      elim (is_eq (R k e.0)) as (λ b. length (cond b m (e ∷ without R m k)) ≤ suc (length m)) [
+        | true ↦ omega arith
+        | false ↦ omega (arith, rest)
+      ]
+
+  -- what holds of all values holds of those that are left
+  pub All-without : (P : V → Type 0) (m : Map K V) (k : K) → AllByRecursion (λ e. P e.1) m → AllByRecursion (λ e. P e.1) (without R m k)
+  All-without P [] k h = tt
+  All-without P (e ∷ m) k h = elim (is_eq (R k e.0)) as (λ b. AllByRecursion (λ e. P e.1) (cond b m (e ∷ without R m k))) [ true ↦ h.1 | false ↦ (h.0, All-without P m k h.1) ]
+
+pub as_many-values : {K V W : Type 0} (F : K → V → W) (m : Map K V) → length (with_values F m) ≡ length m
+as_many-values F [] = refl
+as_many-values F (e ∷ m) = ap suc (as_many-values F m)
+
 module _ {K V W : Type 0} (R : K → K → Ordering) where
   pub some_from_keys : (m : Map K V) (n : Map K W) (k : K) → keys_of m ≡ keys_of n → IsSome (get R m k) → IsSome (get R n k)
   some_from_keys m n k e h = some_any R n k ∙ sym (ap (list_any (is_at (R k))) e) ∙ sym (some_any R m k) ∙ h

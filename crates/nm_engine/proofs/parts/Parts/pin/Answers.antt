@@ -1,13 +1,14 @@
 use Rattle.std.proofs.Common.{ap}
 use Rattle.nm_engine.specs.Parts.{shown_by}
 use Rattle.nm_engine.specs.Spaced.{Spaced}
-use Rattle.nm_engine.proofs.Pinned.{ok_then, err_then, pinned_kept, pin_alters}
+use Rattle.nm_engine.proofs.Pinned.{one_more, ok_then, err_then, pinned_kept, pin_alters}
 use Rattle.nm_engine.proofs.parts.Parts.pin.Goals as goal
 
 pub invariant_of-self : goal.invariant_of-self
 invariant_of-self g c =
     let i = c.self.inside in
-    pinned_kept i.spaces c.pin.new.self i.stock i.online i.totals.moved i.totals.failed c.in_ok-page.page _ c.self.invariant c.pin.result c.pin.ensures.ok c.pin.ensures.err
+    pinned_kept i.spaces c.pin.new.self i.stock i.online i.totals.moved i.totals.failed c.in_ok-page.page _ c.self.invariant c.pin.result
+    (one_more _ c.pin.result c.pin.ensures.room) c.pin.ensures.ok c.pin.ensures.err
 
 pub returns-clause-done : goal.returns-clause-done
 returns-clause-done g c =

@@ -1,13 +1,14 @@
 use Rattle.std.proofs.Common.{ap}
 use Rattle.nm_engine.specs.Parts.{shown_by}
 use Rattle.nm_engine.specs.Spaced.{Spaced}
-use Rattle.nm_engine.proofs.Pinned.{ok_then, err_then, pinned_kept, unpin_alters}
+use Rattle.nm_engine.proofs.Pinned.{one_fewer, ok_then, err_then, pinned_kept, unpin_alters}
 use Rattle.nm_engine.proofs.parts.Parts.unpin.Goals as goal
 
 pub invariant_of-self : goal.invariant_of-self
 invariant_of-self g c =
     let i = c.self.inside in
-    pinned_kept i.spaces c.unpin.new.self i.stock i.online i.totals.moved i.totals.failed c.in_ok-page.page _ c.self.invariant c.unpin.result c.unpin.ensures.ok c.unpin.ensures.err
+    pinned_kept i.spaces c.unpin.new.self i.stock i.online i.totals.moved i.totals.failed c.in_ok-page.page _ c.self.invariant c.unpin.result
+    (one_fewer (shown_by i.spaces i.stock i.online i.totals.moved i.totals.failed) i.stock.vacated c.in_ok-page.page c.self.invariant.sound c.unpin.result) c.unpin.ensures.ok c.unpin.ensures.err
 
 pub returns-clause-done : goal.returns-clause-done
 returns-clause-done g c =
