@@ -1,5 +1,5 @@
 -- What the runs of a batch have of its requests.
-use Rattle.std.proofs.Common.{arith, ◌≡◌, ℕ, suc, ◌+◌, ◌<◌, ◌≤◌, Bool, List, [], ◌∷◌, ◌++◌, length, map, refl, sym, ap, ◌∙◌, slice_index_or, zero, length-append, subst}
+use Rattle.std.proofs.Common.{arith, ◌≡◌, ℕ, suc, ◌+◌, ◌<◌, ◌≤◌, inl, Bool, List, [], ◌∷◌, ◌++◌, length, map, refl, sym, ap, ◌∙◌, slice_index_or, zero, length-append, subst}
 use Rattle.std.proofs.lemmas.List.{length-map}
 use Rattle.std.specs.Prelude.{◌/◌, slice_index}
 use Rattle.std.proofs.lemmas.List.Sums.{sum_by-cons}
@@ -10,6 +10,8 @@ use Rattle.nm_runs.specs.declared.Wanted.TheVariants.{At}
 use Rattle.nm_runs.specs.Cut.{Request, Stretch, all_to, joined, size_of, stretches_of}
 use Rattle.nm_runs.specs.Limit.{cut_within}
 use Rattle.nm_runs.proofs.Pieces.{each_limit_cuts}
+use Rattle.nm_engine.specs.Run.{IsByAddress, HasOneAll}
+use Rattle.nm_engine.proofs.Alike.{each_has_one_all}
 use Rattle.nm_calls.specs.Batch.{requests_of}
 
 -- what holds of each request of a run
@@ -82,3 +84,23 @@ entries_fit limit pid all ps ns runs some e =
     runs_entries runs ∙ ap (λ rs. length (joined rs)) e ∙ ap length (each_limit_cuts limit es some).is.same in
     let few = batch_length pid all ps ns in
     omega (arith, all_of, few)
+
+-- the requests of a batch are by address, with one `all` ..
+batch_alike : (pid : ℕ) (all : Bool) (ps ns : List ℕ) → AllByRecursion (λ e. IsByAddress all e.wanted) (requests_of pid all ps ns)
+batch_alike pid all [] ns = tt
+batch_alike pid all (p ∷ ps) [] = tt
+batch_alike pid all (p ∷ ps) (m ∷ ns) = (refl, batch_alike pid all ps ns)
+
+run_alike : (all : Bool) (target : ℕ) (wanted : List Wanted) → AllByRecursion (λ e. IsByAddress all e.wanted) (all_to target wanted) → AllByRecursion (IsByAddress all) wanted
+run_alike all target [] h = tt
+run_alike all target (w ∷ ws) h = (h.0, run_alike all target ws h.1)
+
+all_alike : (all : Bool) (rs : List Stretch) → AllByRecursion (OfRun (λ e. IsByAddress all e.wanted)) rs → AllByRecursion (λ r. HasOneAll r.wanted) rs
+all_alike all [] h = tt
+all_alike all (r ∷ rs) h = (inl (all, run_alike all r.target r.wanted h.0), all_alike all rs h.1)
+
+-- .. and so are those of each of its runs
+pub runs_alike : {A : Type 0} (limit pid : ℕ) (all : Bool) (ps ns : List ℕ) (runs : List (Run A)) → 0 < limit → stretches_of runs ≡ cut_within limit (requests_of pid all ps ns) → (k : ℕ) (d : Run A) → k < length runs → HasOneAll (slice_index_or runs k d).wanted.items
+runs_alike limit pid all ps ns runs some e =
+    let es = requests_of pid all ps ns in
+    each_has_one_all runs (rw e (all_alike all (cut_within limit es) (of_runs (λ e. IsByAddress all e.wanted) limit es some (batch_alike pid all ps ns))))

@@ -8,7 +8,7 @@ ghost use Rattle.nm_runs.specs.declared.Wanted.TheVariants.{At};
 ghost use Rattle.nm_runs.specs.Cut.{stretches_of};
 ghost use Rattle.nm_runs.specs.Limit.{cut_within};
 ghost use Rattle.nm_runs.specs.Targets.{first_refusal, Checks};
-ghost use Rattle.nm_engine.specs.Run.{failures};
+ghost use Rattle.nm_engine.specs.Run.{failures, HasOneAll};
 ghost use Rattle.nm_calls.specs.Batch.{requests_of};
 ghost use Rattle.nm_calls.specs.Does.{Moves};
 
@@ -92,6 +92,7 @@ fn move_runs<A: Allocator + Copy + Send + Sync>(
     mut statuses: Vec<i32, A>,
 ) -> Result<Moved<A>, CallError>
     requires targets { All (λ run. run.target < node_count machine.old.layout) runs.now }
+    requires alike { All (λ run. HasOneAll run.wanted.items) runs.now }
     requires empty { statuses.items ≡ [] }
     requires room { sum_by (λ run. length run.wanted.items) runs.now ≤ vec_capacity statuses }
     ensures { Moves result machine.old machine.new (stretches_of runs.now) }

@@ -1,7 +1,8 @@
 //! The machine, and the calls that processes make on it.
 
-ghost use Rattle.std.specs.Prelude.{◌≡◌, ◌<◌, ◌≤◌, IfOk, length};
+ghost use Rattle.std.specs.Prelude.{◌≡◌, ◌<◌, ◌≤◌, true, IfOk, length};
 ghost use Rattle.nm_engine.specs.Audited.{audited};
+ghost use Rattle.nm_engine.specs.Sound.{IsSound};
 ghost use Rattle.nm_calls.specs.Calls.{Spawn, MapPages, Attach, Unmap, Exit, Pin, Unpin, ReadBytes, WriteBytes, MovePages, Query, FreeList, Pagemap, Done, NewSegment, TheBytes, Statuses, Frames, Entries};
 ghost use Rattle.nm_calls.specs.Entries.{entries_mapped, entries_shown};
 ghost use Rattle.nm_calls.specs.Systems.{default_limit, new_system, system_with};
@@ -247,8 +248,10 @@ impl<A: Allocator + Copy + Send + Sync> System<A> {
         Ok(statuses_of(self.alloc, &self.machine, permit.pid, pages)?)
     }
 
-    /// How many pages moved, and how many entries failed, so far.
+    /// How many pages moved, and how many entries failed, so far: `pgmigrate_success` and `pgmigrate_fail` of
+    /// `/proc/vmstat`. Each stays at 2^64 - 1 once it is there. Between two calls a system is sound.
     pub fn vmstat(&self) -> Totals
+        ensures sound { IsSound self.now.state }
         ensures moved { result.moved ≡ self.now.state.moved }
         ensures failed { result.failed ≡ self.now.state.failed }
     {
@@ -272,10 +275,11 @@ impl<A: Allocator + Copy + Send + Sync> System<A> {
         Ok(mapped_of(self.alloc, entries.as_slice())?)
     }
 
-    /// Whether each frame is exactly once in its own node's free list, or the place of one page. An error is want of
-    /// memory.
+    /// Whether each frame is exactly once in its own node's free list, or the place of one page: true, since a system is
+    /// always sound. An error is want of memory.
     pub fn audit(&self) -> Result<bool, AllocError>
-        ensures { IfOk result (λ b. b ≡ audited self.now.state) }
+        ensures told { IfOk result (λ b. b ≡ audited self.now.state) }
+        ensures sound { IfOk result (λ b. b ≡ true) }
     {
         self.machine.audit()
     }

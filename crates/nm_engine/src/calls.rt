@@ -68,6 +68,7 @@ impl<A: Allocator + Copy> Parts<A> {
     pub(crate) fn totals(&self) -> Totals
         ensures moved { result.moved ≡ self.now.state.moved }
         ensures failed { result.failed ≡ self.now.state.failed }
+        ensures sound { self.now.left ≡ [] → IsSound self.now.state }
     {
         self.totals
     }

@@ -90,10 +90,11 @@ impl<A: Allocator + Copy + Send + Sync> Machine<A> {
         self.parts.process(pid)
     }
 
-    /// How many pages moved and how many requests failed so far.
+    /// How many pages moved and how many requests failed so far. Between two calls a machine is sound.
     pub fn totals(&self) -> Totals
         ensures moved { result.moved ≡ self.now.moved }
         ensures failed { result.failed ≡ self.now.failed }
+        ensures sound { IsSound self.now }
     {
         self.parts.totals()
     }

@@ -10,6 +10,7 @@ ghost use Rattle.nm_trace.specs.Faults as faults;
 ghost use Rattle.nm_trace.specs.Faults.{Gives};
 ghost use Rattle.nm_trace.specs.Plans.{plan_in};
 ghost use Rattle.nm_trace.specs.declared.trace_error.TraceError.TheVariants.{NotJson, BadMachine};
+ghost use Rattle.nm_trace.specs.declared.step_error.StepError.TheVariants.{Bad};
 ghost use Rattle.nm_trace.specs.Gives as of_step;
 
 use crate::fields::{list, number};
@@ -28,6 +29,7 @@ use std::alloc::{Allocator, Global};
 #[tactic(auto, unfolding(crate::specs::Form::limit_of))]
 fn limit_of(value: &Value) -> Result<usize, StepError>
     ensures limit { of_step.Gives (λ n. n) result (form.limit_of (view value.now)) }
+    ensures bad { IfErr result (λ e. e ≡ Bad) }
     ensures some { IfOk result (λ n. 0 < n) }
     ensures within { IfOk result (λ n. n ≤ default_limit) }
 {
@@ -99,6 +101,7 @@ fn geometry_of<A: Allocator + Copy>(alloc: A, value: &Value) -> Result<Geometry<
 /// The limit on runs of a trace, or its fault.
 fn run_limit_of(value: &Value) -> Result<usize, TraceError>
     ensures limit { Gives (λ n. n) result (ok_or (form.limit_of (view value.now)) BadMachine) }
+    ensures bad { IfErr result (λ e. e ≡ BadMachine) }
     ensures some { IfOk result (λ n. 0 < n) }
     ensures within { IfOk result (λ n. n ≤ default_limit) }
 {
@@ -110,7 +113,8 @@ fn run_limit_of(value: &Value) -> Result<usize, TraceError>
 
 /// The values of the steps of a trace, or the fault of a top that has none.
 fn values_of(value: &Value) -> Result<&Vec<Value>, TraceError>
-    ensures { Gives (λ v. items_view v.now.items) result (ok_or (form.items_at (codes "steps") (view value.now)) BadMachine) }
+    ensures values { Gives (λ v. items_view v.now.items) result (ok_or (form.items_at (codes "steps") (view value.now)) BadMachine) }
+    ensures bad { IfErr result (λ e. e ≡ BadMachine) }
 {
     list(value, "steps").map_err(bad_machine)
 }

@@ -37,3 +37,6 @@ loop-k-preserved g c =
       nodes = ap (λ s. node_count s.layout) c.in-Ok.ensures.state ∙ ap node_count (run_layout c.loop-k.machine asked.target asked.wanted.items) ∙ c.loop-k.invariant.nodes;
       made = rw c.in-Ok.ensures.state (rw items (one_more_run c.args.machine.now (stretches_of runs) (stretches_of (drop c.loop-k.k runs)) c.loop-k.k c.loop-k.machine c.loop-k.statuses.items (record { target = asked.target; wanted = asked.wanted.items }) (stretches_of (drop (c.loop-k.k + 1) runs)) (ap stretches_of next) c.loop-k.invariant.made));
     }
+
+pub run_flight-requires-clause-alike : goal.run_flight-requires-clause-alike
+run_flight-requires-clause-alike g c κs within = rw c.index-runs-k.is (c.requires.alike c.loop-k.k c.index-runs-k.result c.loop-k-test.true)
