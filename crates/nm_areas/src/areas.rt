@@ -67,7 +67,8 @@ impl<A: Allocator + Copy> Areas<A> {
     /// default policy. Gives the segment's number, which is not given again.
     ///
     /// EINVAL: the address is not a page's, there is no page, the area would end past 2^47, or an area of the process is
-    /// over one of its page numbers. Then ENOMEM: 65,536 segments were made. A refused call uses no number.
+    /// over one of its page numbers. Then ENOMEM: 65,536 segments were made. A refused call uses no number. Memory is asked
+    /// for only where the call is not refused.
     pub fn insert(
         &mut self,
         pid: Pid,
@@ -76,12 +77,14 @@ impl<A: Allocator + Copy> Areas<A> {
         shared: bool,
     ) -> Result<u32, AreaError>
         ensures done { Makes result self.old self.new (insert_refusal self.old pid addr pages) (inserted self.old pid addr pages shared) }
+        ensures memory { result ≡ Err AreaError.HostMemory → insert_refusal self.old pid addr pages ≡ None }
         ensures number { IfOk result (λ number. number ≡ self.old.next) }
         ensures over { OnOk result ((q v : ℕ) → area_over self.new.areas q v ≡ over_with self.old.areas ((pid, addr / 4096), new_area self.old.next 0 pages) q v) }
     {
         let Some(first) = stretch(addr, pages) else {
             return Err(AreaError::Refused(Errno::Einval));
         };
+        // An area in the way is told before the limit.
         if !self.table.is_free(pid, first, pages) {
             return Err(AreaError::Refused(Errno::Einval));
         }
@@ -94,7 +97,8 @@ impl<A: Allocator + Copy> Areas<A> {
     /// Makes an area of the process from an address on, with the default policy, over so many pages of a shared segment
     /// from an offset on, counted in pages.
     ///
-    /// EINVAL: as at `insert`; or there is no such segment, it is private, or it ends before the area would.
+    /// EINVAL: as at `insert`; or there is no such segment, it is private, or it ends before the area would. Memory is asked
+    /// for only where the call is not refused.
     pub fn attach(
         &mut self,
         pid: Pid,
@@ -104,6 +108,7 @@ impl<A: Allocator + Copy> Areas<A> {
         pages: u64,
     ) -> Result<(), AreaError>
         ensures done { Makes result self.old self.new (attach_refusal self.old pid addr segment offset pages) (attached self.old pid addr segment offset pages) }
+        ensures memory { result ≡ Err AreaError.HostMemory → attach_refusal self.old pid addr segment offset pages ≡ None }
         ensures over { OnOk result ((q v : ℕ) → area_over self.new.areas q v ≡ over_with self.old.areas ((pid, addr / 4096), new_area segment offset pages) q v) }
     {
         let Some(first) = stretch(addr, pages) else {

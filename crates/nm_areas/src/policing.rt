@@ -150,7 +150,8 @@ impl<A: Allocator + Copy> Areas<A> {
     /// are split at both ends, and those between have the policy. Areas are never merged.
     ///
     /// EINVAL: the address is not a page's, or the pages end past 2^64 - 1. Then EFAULT: one of the pages has no area.
-    /// No byte is no page, and then nothing is split.
+    /// No byte is no page, and then nothing is split. Memory is asked for only where the call is not refused, and there is
+    /// a byte.
     pub fn split_policy(
         &mut self,
         pid: Pid,
@@ -159,6 +160,7 @@ impl<A: Allocator + Copy> Areas<A> {
         policy: Policy,
     ) -> Result<(), AreaError>
         ensures done { Makes result self.old self.new (policy_refusal self.old pid addr len) (with_policy self.old pid addr len policy) }
+        ensures memory { result ≡ Err AreaError.HostMemory → (policy_refusal self.old pid addr len ≡ None) × (0 < len) }
         ensures pages { (q v : ℕ) → page_at self.new.areas q v ≡ page_at self.old.areas q v }
     {
         let Some((first, count)) = whole_pages(addr, len) else {

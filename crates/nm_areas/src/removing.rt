@@ -29,7 +29,8 @@ impl<A: Allocator + Copy> Areas<A> {
     /// more lose their frames: the answer lists them with the frames that they had, by ascending address, a page at its
     /// lowest.
     ///
-    /// EINVAL: the address is not a page's, there is no page, or they end past 2^47.
+    /// EINVAL: the address is not a page's, there is no page, or they end past 2^47. Memory is asked for only where the call
+    /// is not refused; the answer has room for no more than the pages that have frames, and than those of the range.
     pub fn remove(
         &mut self,
         pid: Pid,
@@ -37,8 +38,10 @@ impl<A: Allocator + Copy> Areas<A> {
         pages: u64,
     ) -> Result<Vec<(Page, FrameId), A>, AreaError>
         ensures done { Makes result self.old self.new (remove_refusal addr pages) (removed self.old pid (addr / 4096) (addr / 4096 + pages)) }
+        ensures memory { result ≡ Err AreaError.HostMemory → remove_refusal addr pages ≡ None }
         ensures pages { OnOk result ((q v : ℕ) → page_at self.new.areas q v ≡ page_outside self.old.areas pid (addr / 4096) (addr / 4096 + pages) q v) }
         ensures freed { IfOk result (λ freed. freed.items ≡ frames_lost self.old pid (addr / 4096) (addr / 4096 + pages)) }
+        ensures room { IfOk result (λ freed. vec_capacity freed ≤ min (length self.old.place) pages) }
     {
         let Some(first) = stretch(addr, pages) else {
             return Err(AreaError::Refused(Errno::Einval));
@@ -72,6 +75,7 @@ impl<A: Allocator + Copy> AreaTable<A> {
         requires room { vec_len freed.old + min (length places.old.entries) (length (pages_of_own pid first end self.now.areas)) ≤ vec_capacity freed.old }
         ensures places { places.new.entries ≡ fold (place_left (others pid first end self.now.areas)) places.old.entries (pages_of_own pid first end self.now.areas) }
         ensures freed { freed.new.items ≡ freed.old.items ++ all_lost (others pid first end self.now.areas) places.old.entries (pages_of_own pid first end self.now.areas) }
+        ensures room { vec_capacity freed.new ≡ vec_capacity freed.old }
     {
         let mut at = first.number();
         while let Some((start, area)) = self.next_own(pid, Vpn::new(at), end) {

@@ -38,6 +38,7 @@ loop-start-preserved g c =
           ∙ own_left_next left c.args.self.now.areas c.args.pid c.loop-start.at _ c.args.end _ some.1 c.next_own.ensures.ordered (omega (arith, some.0, c.new.ensures)) some.2 (λ v low high. c.in-Some.ensures.first v (omega (arith, low, c.new.ensures)) high)
           c.loop-start.places.entries c.lose.new.places.entries c.lose.ensures.places _ c.loop-start.invariant.places;
       room = omega (arith, c.loop-start.invariant.room, c.lose.ensures.counted, c.lose.ensures.few, c.lose.ensures.room, count, ap (λ (n : ℕ). length (next (n + 1))) c.number-at-in-Some.ensures);
+      kept = omega (arith, c.loop-start.invariant.kept, c.lose.ensures.room);
       low = omega (arith, c.loop-start.invariant.low, some.0, c.new.ensures, c.number-at-in-Some.ensures);
       up = omega (arith, some.1, c.number-at-in-Some.ensures);
     }
