@@ -40,6 +40,15 @@ spot_of s (Some process) pid address len =
 abbrev pub spot : State → ℕ → ℕ → ℕ → Result Spot Errno
 spot s pid address len = spot_of s (get nat_cmp s.processes pid) pid address len
 
+-- the error, if there is one
+abbrev pub error_in : {X : Type 0} → Result X Errno → Option Errno
+error_in (Ok x) = None
+error_in (Err e) = Some e
+
+-- the refusals that a read or a write of so many bytes comes to before it looks for a frame: all but the want of one
+abbrev pub spot_refusal : State → ℕ → ℕ → ℕ → Option Errno
+spot_refusal s pid address len = error_in (spot s pid address len)
+
 -- the process sees this there from now on
 abbrev pub with_sight : State → Spot → Sight → State
 with_sight s at sight =

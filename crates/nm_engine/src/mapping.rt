@@ -1,6 +1,6 @@
 //! Areas of address spaces that come, split and go.
 
-ghost use Rattle.std.specs.Prelude.{ℕ, true, false, ◌≡◌, ◌<◌, ◌≤◌, ◌+◌, ◌/◌, [], length, Some, IfOk, OnOk, OnErr};
+ghost use Rattle.std.specs.Prelude.{ℕ, true, false, ◌≡◌, ◌<◌, ◌≤◌, ◌+◌, ◌/◌, [], length, None, Some, Err, IfOk, OnOk, OnErr};
 ghost use Rattle.std.specs.List.{AllByRecursion};
 ghost use Rattle.std.specs.Map.{keys_of};
 ghost use Rattle.std.specs.Ordering.{nat_cmp};
@@ -34,6 +34,7 @@ impl<A: Allocator + Copy> Spaces<A> {
         shared: bool,
     ) -> Result<u32, AreaError>
         ensures done { Makes result (mapped_of self.old) (mapped_of self.new) (insert_refusal (mapped_of self.old) pid addr pages) (inserted (mapped_of self.old) pid addr pages shared) }
+        ensures memory { result ≡ Err AreaError.HostMemory → insert_refusal (mapped_of self.old) pid addr pages ≡ None }
         ensures number { IfOk result (λ number. number ≡ self.old.next) }
         ensures same { self.new ≡ with_mapped self.old (mapped_of self.new) }
     {
@@ -50,6 +51,7 @@ impl<A: Allocator + Copy> Spaces<A> {
         pages: u64,
     ) -> Result<(), AreaError>
         ensures done { Makes result (mapped_of self.old) (mapped_of self.new) (attach_refusal (mapped_of self.old) pid addr segment offset pages) (attached (mapped_of self.old) pid addr segment offset pages) }
+        ensures memory { result ≡ Err AreaError.HostMemory → attach_refusal (mapped_of self.old) pid addr segment offset pages ≡ None }
         ensures same { self.new ≡ with_mapped self.old (mapped_of self.new) }
     {
         self.areas.attach(pid, addr, segment, offset, pages)
@@ -64,6 +66,7 @@ impl<A: Allocator + Copy> Spaces<A> {
         policy: Policy,
     ) -> Result<(), AreaError>
         ensures done { Makes result (mapped_of self.old) (mapped_of self.new) (policy_refusal (mapped_of self.old) pid addr len) (with_policy (mapped_of self.old) pid addr len policy) }
+        ensures memory { result ≡ Err AreaError.HostMemory → policy_refusal (mapped_of self.old) pid addr len ≡ None }
         ensures same { self.new ≡ with_mapped self.old (mapped_of self.new) }
     {
         self.areas.split_policy(pid, addr, len, policy)
