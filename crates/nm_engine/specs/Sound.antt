@@ -1,5 +1,6 @@
 -- What holds of every state between two calls.
-use Rattle.std.specs.Prelude.{◌≡◌, ℕ, ◌+◌, ◌^◌, ◌≤◌, ◌<◌, nat_lt, ◌==◌, cond, false, List, [], length, count_by, slice_index_or, Option, Some, None, IsSome, IsTrue}
+use Rattle.std.specs.Prelude.{◌≡◌, ℕ, ◌+◌, ◌^◌, ◌≤◌, ◌<◌, nat_lt, ◌==◌, cond, false, List, [], length, count_by}
+use Rattle.std.specs.Prelude.{slice_index_or, Option, Some, None, IsSome, IsTrue}
 use Rattle.std.specs.List.{sum_by, AllByRecursion}
 use Rattle.std.specs.List.Sorted.{IsStrictlySortedBy}
 use Rattle.std.specs.Map.{keys_of, values_of}

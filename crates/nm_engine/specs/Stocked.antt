@@ -53,7 +53,8 @@ with_freed p frames = fold appended p frames
 -- each of these frames, in their order, is one of the nodes' and not free before it is freed
 abbrev pub CanFree : Pool → List ℕ → Type 0
 CanFree p [] = Unit {0}
-CanFree p (frame ∷ frames) = (frame < sum p.sizes) × (is_in (list_of p (owner p.sizes frame)) frame ≡ false) × CanFree (appended p frame) frames
+CanFree p (frame ∷ frames) =
+    (frame < sum p.sizes) × (is_in (list_of p (owner p.sizes frame)) frame ≡ false) × CanFree (appended p frame) frames
 
 -- the vacated frames are free
 abbrev pub all_freed : Shelf → Shelf
