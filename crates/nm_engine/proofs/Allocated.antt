@@ -19,7 +19,8 @@ use Rattle.nm_types.specs.declared.sight.Sight.TheVariants.{ZeroPage, Sees}
 use Rattle.nm_types.specs.State.{State, Placed, free_list, page_at, page_of, covers, area_over}
 use Rattle.nm_types.proofs.Cases.{true_false}
 use Rattle.nm_runs.specs.Seen.{sight_at}
-use Rattle.nm_engine.specs.Touch.{Spot, shown_at, with_sight, with_page, is_shared}
+use Rattle.nm_areas.specs.Lines.{is_shared}
+use Rattle.nm_engine.specs.Touch.{Spot, shown_at, with_sight, with_page}
 use Rattle.nm_engine.specs.Effect.{covers_page, is_covered}
 use Rattle.nm_engine.specs.Sound.{times, IsWhole, IsSoundAmid}
 use Rattle.nm_types.proofs.Maps.{page_cmp_total, exact_page, equal, get-set}
@@ -130,7 +131,7 @@ placed_sound s l at node h i unseen unplaced some =
             (ap (λ (z : ℕ × ℕ). page_at s.areas z.0 z.1) (λ j. (new.0 j, new.1 j)) ∙ page_at_spot s at i ∙ ap Some same, subst (λ r. IsSome (get page_cmp (set page_cmp s.place p f) r)) same (some_new s.place p f))
         | inr old ↦ let was = h.shown q w r old in (was.0, some_still s.place p r f was.1)
       ];
-      zeros = λ q w e. elim (sight_cases middle at (Sees p) ZeroPage q w there e) as (λ _. (r : Page) × (page_at s.areas q w ≡ Some r) × (is_shared s r ≡ false)) [
+      zeros = λ q w e. elim (sight_cases middle at (Sees p) ZeroPage q w there e) as (λ _. (r : Page) × (page_at s.areas q w ≡ Some r) × (is_shared s.segments r.segment ≡ false)) [
         | inl new ↦ absurd (sees_zero new.2)
         | inr old ↦ h.zeros q w old
       ];

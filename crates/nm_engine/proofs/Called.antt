@@ -23,9 +23,10 @@ use Rattle.nm_types.specs.State.{Process, State, covers, area_over, page_of, pag
 use Rattle.nm_types.proofs.Cases.{true_false, none_some, some_none, some_is, none_is_not}
 use Rattle.nm_runs.specs.Seen.{sight_in, sight_at, pins_of, users, is_pinned, look, look_under, look_at_page}
 use Rattle.nm_types.specs.declared.seen.Seen.TheVariants.{At}
-use Rattle.nm_engine.specs.Touch.{is_shared}
+use Rattle.nm_areas.specs.Lines.{is_shared}
 use Rattle.nm_engine.specs.Effect.{spawn, attach, map_new, with_pins, pin, unpin, covers_page, is_covered}
-use Rattle.nm_engine.specs.Refused.{first_error, is_unknown, pins_refusal, pin_refusal, spawn_refusal, is_range, overlaps, is_room, map_refusal, is_stretch, attach_refusal}
+use Rattle.nm_areas.specs.Refused.{is_room}
+use Rattle.nm_engine.specs.Refused.{first_error, is_unknown, pins_refusal, pin_refusal, spawn_refusal, is_range, overlaps, map_refusal, is_stretch, attach_refusal}
 use Rattle.nm_engine.specs.Sound.{HasPages, IsWhole, IsSoundAmid, IsSound}
 use Rattle.nm_types.proofs.Maps.{equal, get-set, spot_cmp_total}
 use Rattle.nm_types.proofs.Keys.{keys-replace, All-set, All-replace, All-get, sorted-set, few-set}
@@ -194,7 +195,7 @@ same_place index first w x a b e = omega arith
 
 -- one more area, of a stretch that may be shown there
 module _ (s : State) (l : List ℕ) (h : IsSoundAmid s l) (pid first : ℕ) (new : Area) (whole : IsWhole s ((pid, first), new)) (none : NoneOverlaps pid first new s.areas)
-    (alone : is_shared s new.page ≡ false → (q w : ℕ) (p : Page) → page_at s.areas q w ≡ Some p → p.segment ≡ new.page.segment → ⊥) where
+    (alone : is_shared s.segments new.page.segment ≡ false → (q w : ℕ) (p : Page) → page_at s.areas q w ≡ Some p → p.segment ≡ new.page.segment → ⊥) where
   each_some : AllByRecursion (λ a. 0 < a.1.pages) s.areas
   each_some = all_then s.areas (IsWhole s) (λ a. 0 < a.1.pages) (λ a whole. whole.0) h.areas
 
@@ -225,10 +226,10 @@ module _ (s : State) (l : List ℕ) (h : IsSoundAmid s l) (pid first : ℕ) (new
   segment_of : (w : ℕ) (p : Page) → page_of (one_more pid first new) w ≡ p → p.segment ≡ new.page.segment
   segment_of w p e = sym (ap (λ (x : Page). x.segment) e)
 
-  private_new : (w : ℕ) (p : Page) → page_of (one_more pid first new) w ≡ p → is_shared s p ≡ false → is_shared s new.page ≡ false
+  private_new : (w : ℕ) (p : Page) → page_of (one_more pid first new) w ≡ p → is_shared s.segments p.segment ≡ false → is_shared s.segments new.page.segment ≡ false
   private_new w p e private = ap (λ n. shared_in (get nat_cmp s.segments n)) (sym (segment_of w p e)) ∙ private
 
-  once_still : (q w r x : ℕ) (p : Page) → page_at after q w ≡ Some p → page_at after r x ≡ Some p → is_shared s p ≡ false → (q ≡ r) × (w ≡ x)
+  once_still : (q w r x : ℕ) (p : Page) → page_at after q w ≡ Some p → page_at after r x ≡ Some p → is_shared s.segments p.segment ≡ false → (q ≡ r) × (w ≡ x)
   once_still q w r x p e k private =
       shown_cases q w p ((q ≡ r) × (w ≡ x)) e
       (λ a. shown_cases r x p ((q ≡ r) × (w ≡ x)) k
@@ -259,7 +260,7 @@ module _ (s : State) (l : List ℕ) (h : IsSoundAmid s l) (pid first : ℕ) (new
         few = h.few;
       }
 
-room_range : (s : State) (pid address pages : ℕ) → is_room s pid address pages ≡ true → (0 < pages) × (address / 4096 + pages ≤ 2 ^ 35)
+room_range : (s : State) (pid address pages : ℕ) → is_room s.areas pid address pages ≡ true → (0 < pages) × (address / 4096 + pages ≤ 2 ^ 35)
 room_range s pid address pages h =
     let range = and_parts (is_range address pages) _ h in
     let low = and_parts ((address % 4096 == 0) && nat_lt 0 pages) _ range.0 in
@@ -269,7 +270,7 @@ known_some : (o : Option Process) → not (is_some o) ≡ false → IsSome o
 known_some None h = absurd (true_false h)
 known_some (Some p) h = refl
 
-room_free : (s : State) (pid address pages : ℕ) → is_room s pid address pages ≡ true → AllByRecursion (λ a. overlaps pid (address / 4096) (address / 4096 + pages) a ≡ false) s.areas
+room_free : (s : State) (pid address pages : ℕ) → is_room s.areas pid address pages ≡ true → AllByRecursion (λ a. overlaps pid (address / 4096) (address / 4096 + pages) a ≡ false) s.areas
 room_free s pid address pages h =
     all_from_none s.areas (overlaps pid (address / 4096) (address / 4096 + pages)) (not_true _ (and_parts (is_range address pages) _ h).1)
 
@@ -286,9 +287,9 @@ within_some (Some segment) pages h = refl
 
 pub attach_sound : (s : State) (pid address segment offset pages : ℕ) → IsSound s → attach_refusal s pid address segment offset pages ≡ None → IsSound (attach s pid address segment offset pages)
 attach_sound s pid address segment offset pages h fine =
-    let fits = is_room s pid address pages && is_stretch (get nat_cmp s.segments segment) offset pages in
+    let fits = is_room s.areas pid address pages && is_stretch (get nat_cmp s.segments segment) offset pages in
     let known = no_error (is_unknown s pid) Esrch ((not fits, Einval) ∷ []) fine in
-    let both = and_parts (is_room s pid address pages) (is_stretch (get nat_cmp s.segments segment) offset pages) (not_false fits (no_error (not fits) Einval [] known.1).0) in
+    let both = and_parts (is_room s.areas pid address pages) (is_stretch (get nat_cmp s.segments segment) offset pages) (not_false fits (no_error (not fits) Einval [] known.1).0) in
     let area : Area = record { pages = pages; policy = Default; page = record { segment = segment; index = offset } } in
     let shared = stretch_shared (get nat_cmp s.segments segment) area both.1 in
     one_more_sound s [] h pid (address / 4096) area ((room_range s pid address pages both.0).0, (room_range s pid address pages both.0).1, known_some (get nat_cmp s.processes pid) known.0, shared.0) (room_free s pid address pages both.0)
@@ -332,7 +333,7 @@ module _ (s : State) (l : List ℕ) (h : IsSoundAmid s l) (segment : Segment) (r
   within_still : (n pages : ℕ) → HasPages (get nat_cmp s.segments n) pages → HasPages (get nat_cmp numbered.segments n) pages
   within_still n pages within = subst (λ o. HasPages o pages) (sym (same_segment n (within_some _ pages within))) within
 
-  same_shared : (p : Page) → IsSome (get nat_cmp s.segments p.segment) → is_shared numbered p ≡ is_shared s p
+  same_shared : (p : Page) → IsSome (get nat_cmp s.segments p.segment) → is_shared numbered.segments p.segment ≡ is_shared s.segments p.segment
   same_shared p there = ap shared_in (same_segment p.segment there)
 
   numbers_after : (n : ℕ) → IsSome (get nat_cmp numbered.segments n) → n < suc s.next_segment
@@ -374,9 +375,9 @@ pub map_sound : (s : State) (pid address pages : ℕ) (shared : Bool) → IsSoun
 unfolding numbered
 map_sound s pid address pages shared h fine =
     let segment : Segment = record { pages = pages; shared = shared } in
-    let known = no_error (is_unknown s pid) Esrch ((not (is_room s pid address pages), Einval) ∷ (nat_le 65536 s.next_segment, Enomem) ∷ []) fine in
-    let free = no_error (not (is_room s pid address pages)) Einval ((nat_le 65536 s.next_segment, Enomem) ∷ []) known.1 in
-    let room = not_false (is_room s pid address pages) free.0 in
+    let known = no_error (is_unknown s pid) Esrch ((not (is_room s.areas pid address pages), Einval) ∷ (nat_le 65536 s.next_segment, Enomem) ∷ []) fine in
+    let free = no_error (not (is_room s.areas pid address pages)) Einval ((nat_le 65536 s.next_segment, Enomem) ∷ []) known.1 in
+    let room = not_false (is_room s.areas pid address pages) free.0 in
     let few : s.next_segment < 65536 = leb-false 65536 s.next_segment (no_error (nat_le 65536 s.next_segment) Enomem [] free.1).0 in
     let area : Area = record { pages = pages; policy = Default; page = record { segment = s.next_segment; index = 0 } } in
     let within = subst (λ o. HasPages o (0 + pages)) (sym (new_there s [] h segment few)) (omega arith) in

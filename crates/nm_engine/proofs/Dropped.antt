@@ -22,7 +22,7 @@ use Rattle.nm_types.specs.declared.sight.Sight.TheVariants.{ZeroPage, Sees}
 use Rattle.nm_types.specs.State.{Process, State, Placed, covers, area_over, page_of, page_shown, page_at}
 use Rattle.nm_types.proofs.Cases.{true_false, none_some, some_is}
 use Rattle.nm_runs.specs.Seen.{sight_in, sight_at}
-use Rattle.nm_engine.specs.Touch.{is_shared}
+use Rattle.nm_areas.specs.Lines.{is_shared}
 use Rattle.nm_engine.specs.Effect.{pages_from, pages_between, parts_outside, covers_page, is_covered, released_from, released, blind_between, dropped, unmap, exit}
 use Rattle.nm_engine.specs.Sound.{AreasAreApart, HasPages, IsWhole, IsSoundAmid, IsSound}
 use Rattle.nm_types.proofs.Maps.{equal, get-values, keys-values}
@@ -297,7 +297,7 @@ module _ (s : State) (l : List ℕ) (h : IsSoundAmid s l) (pid first end : ℕ) 
   left : State
   left = record s { processes = blind; areas = areas; segments = segments }
 
-  same_shared : (p : Page) → is_covered areas p ≡ true → is_shared left p ≡ is_shared s p
+  same_shared : (p : Page) → is_covered areas p ≡ true → is_shared left.segments p.segment ≡ is_shared s.segments p.segment
   unfolding left
   same_shared p c = ap (λ o. unwrap_or (option_map (λ (g : Segment). g.shared) o) false) (get_segment p.segment (used p c))
 
@@ -317,7 +317,7 @@ module _ (s : State) (l : List ℕ) (h : IsSoundAmid s l) (pid first end : ℕ) 
   sorted = flat_sorted pid first end range s.areas some h.disjoint h.order.areas
 
   -- where a page is covered still, nobody saw it in the range
-  stays_out : (p : Page) (q w : ℕ) → is_covered areas p ≡ true → is_shared s p ≡ false → page_at s.areas q w ≡ Some p → Out q w
+  stays_out : (p : Page) (q w : ℕ) → is_covered areas p ≡ true → is_shared s.segments p.segment ≡ false → page_at s.areas q w ≡ Some p → Out q w
   stays_out p q w c private e =
       let found = any_among (covers_page p) areas c in
       let b = found.0 in

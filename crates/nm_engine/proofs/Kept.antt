@@ -14,7 +14,8 @@ use Rattle.nm_types.specs.Layout.{Layout, node_count, frame_count}
 use Rattle.nm_types.specs.Nodes.{up_from}
 use Rattle.nm_types.specs.State.{Process, State}
 use Rattle.nm_types.proofs.Cases.{true_false, none_some, some_none}
-use Rattle.nm_engine.specs.Effect.{spawn, new_machine, all_frames}
+use Rattle.nm_nodes.specs.Pool.{all_frames}
+use Rattle.nm_engine.specs.Effect.{spawn, new_machine}
 use Rattle.nm_engine.specs.Refused.{first_error, is_unknown, spawn_refusal, list_refusal}
 use Rattle.nm_engine.specs.declared.process.ProcessInfo.{ProcessInfo}
 use Rattle.nm_engine.specs.Sound.{IsSoundAmid, IsSound}

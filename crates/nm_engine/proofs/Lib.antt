@@ -42,3 +42,4 @@ pub mod Busy
 pub mod TiedRemoved
 pub mod Alike
 pub mod Sounded
+pub mod Shelved

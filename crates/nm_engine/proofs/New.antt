@@ -13,7 +13,8 @@ use Rattle.nm_types.specs.Nodes.{up_from}
 use Rattle.nm_types.specs.Map.{page_cmp, spot_cmp}
 use Rattle.nm_types.specs.Layout.{Layout, node_count, owner}
 use Rattle.nm_types.proofs.Cases.{none_some}
-use Rattle.nm_engine.specs.Effect.{all_frames, new_machine}
+use Rattle.nm_nodes.specs.Pool.{all_frames}
+use Rattle.nm_engine.specs.Effect.{new_machine}
 use Rattle.nm_engine.specs.Sound.{times, FramesAreOnce, IsSound}
 use Rattle.nm_engine.proofs.Frames.{here, times_cons}
 use Rattle.nm_engine.proofs.Once.{places_are_apart}

@@ -14,7 +14,7 @@ use Rattle.nm_types.specs.Map.{Map, get, with_values, page_cmp, spot_cmp}
 use Rattle.nm_types.specs.State.{State, area_over, page_shown, page_at}
 use Rattle.nm_types.proofs.Cases.{none_some, some_is}
 use Rattle.nm_engine.specs.Memory.{byte_of, mem}
-use Rattle.nm_engine.specs.Effect.{parts_outside, covers_page, is_covered}
+use Rattle.nm_engine.specs.Effect.{areas_of, with_areas_of, parts_outside, covers_page, is_covered}
 use Rattle.nm_engine.specs.Sound.{AreasAreApart, IsWhole, IsSoundAmid}
 use Rattle.nm_engine.specs.Policing.{pages_of, repoliced, set_policy}
 use Rattle.nm_areas.proofs.Apart.{all_then}
@@ -132,7 +132,7 @@ some_page len more first = let some : 0 < len = some_bytes len more in omega ari
 pub policy_sound : (s : State) (l : List ℕ) (pid address len : ℕ) (policy : Policy) → IsSoundAmid s l → IsSoundAmid (set_policy s pid address len policy) l
 policy_sound s l pid address len policy h =
     let after = flat_map (repoliced pid (address / 4096) (address / 4096 + pages_of len) policy) s.areas in
-    elim (len == 0) as (λ b. (len == 0) ≡ b → IsSoundAmid (if b then s else record s { areas = after }) l) [
+    elim (len == 0) as (λ b. (len == 0) ≡ b → IsSoundAmid (with_areas_of s (if b then areas_of s else record (areas_of s) { areas = after })) l) [
       | true ↦ λ b. h
       | false ↦ λ b. repoliced_sound s l pid (address / 4096) (address / 4096 + pages_of len) policy (some_page len (eqb-false len 0 b) (address / 4096)) h
     ] refl
@@ -140,7 +140,7 @@ policy_sound s l pid address len policy h =
 pub policy_shows : (s : State) (l : List ℕ) (pid address len : ℕ) (policy : Policy) (q v : ℕ) → IsSoundAmid s l → page_at (set_policy s pid address len policy).areas q v ≡ page_at s.areas q v
 policy_shows s l pid address len policy q v h =
     let after = flat_map (repoliced pid (address / 4096) (address / 4096 + pages_of len) policy) s.areas in
-    elim (len == 0) as (λ b. (len == 0) ≡ b → page_at (if b then s else record s { areas = after }).areas q v ≡ page_at s.areas q v) [
+    elim (len == 0) as (λ b. (len == 0) ≡ b → page_at (if b then areas_of s else record (areas_of s) { areas = after }).areas q v ≡ page_at s.areas q v) [
       | true ↦ λ b. refl
       | false ↦ λ b. (alike_repoliced s l pid (address / 4096) (address / 4096 + pages_of len) policy (some_page len (eqb-false len 0 b) (address / 4096)) h).same q v
     ] refl
@@ -149,7 +149,7 @@ pub policy_keeps : (s : State) (l : List ℕ) (pid address len : ℕ) (policy : 
 policy_keeps s l pid address len policy q at h =
     let after = flat_map (repoliced pid (address / 4096) (address / 4096 + pages_of len) policy) s.areas in
     let byte : Page → ℕ = λ p. byte_of s p (get page_cmp s.place p) (at % 4096) in
-    elim (len == 0) as (λ b. (len == 0) ≡ b → mem (if b then s else record s { areas = after }) q at ≡ mem s q at) [
+    elim (len == 0) as (λ b. (len == 0) ≡ b → mem (with_areas_of s (if b then areas_of s else record (areas_of s) { areas = after })) q at ≡ mem s q at) [
       | true ↦ λ b. refl
       | false ↦ λ b. ap (option_map byte) ((alike_repoliced s l pid (address / 4096) (address / 4096 + pages_of len) policy (some_page len (eqb-false len 0 b) (address / 4096)) h).same q (at / 4096))
     ] refl

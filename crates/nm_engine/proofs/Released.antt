@@ -21,7 +21,7 @@ use Rattle.nm_types.specs.declared.sight.Sight.TheVariants.{Sees}
 use Rattle.nm_types.specs.State.{State, free_list, page_at, page_shown, area_over}
 use Rattle.nm_types.proofs.Cases.{true_false, some_is, none_is_not}
 use Rattle.nm_runs.specs.Seen.{sight_at}
-use Rattle.nm_engine.specs.Touch.{is_shared}
+use Rattle.nm_areas.specs.Lines.{is_shared}
 use Rattle.nm_engine.specs.Run.{with_free}
 use Rattle.nm_engine.specs.Effect.{is_covered, released_from, released}
 use Rattle.nm_engine.specs.Sound.{IsInOrder, times, SeesWhatIsShown, ZeroIsPrivate, PlacedHasBytes, PlacedHasPins, PrivateIsOnce, IsWhole, SegmentsAreNumbered, AreNodes, ProcessesAreFew, AreasAreApart, IsSoundAmid}
@@ -45,8 +45,8 @@ pub record Pending (s : State) (l : List ℕ) (pages : List Page) : Type 0 where
   pub covered : (p : Page) → IsSome (get page_cmp s.place p) → (is_covered s.areas p ≡ true) ⊎ Listed p pages
   pub bytes : PlacedHasBytes s.place s.bytes
   pub pins : PlacedHasPins s.place s.pins
-  pub seen : (p : Page) → IsSome (get page_cmp s.place p) → is_covered s.areas p ≡ true → is_shared s p ≡ false → (q : ℕ) × (w : ℕ) × (sight_at s q w ≡ Some (Sees p))
-  pub once : PrivateIsOnce s
+  pub seen : (p : Page) → IsSome (get page_cmp s.place p) → is_covered s.areas p ≡ true → is_shared s.segments p.segment ≡ false → (q : ℕ) × (w : ℕ) × (sight_at s q w ≡ Some (Sees p))
+  pub once : PrivateIsOnce s.areas s.segments
   pub areas : AllByRecursion (IsWhole s) s.areas
   pub numbers : SegmentsAreNumbered s.segments s.next_segment
   pub disjoint : AreasAreApart s.areas

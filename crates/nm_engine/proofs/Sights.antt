@@ -13,7 +13,8 @@ use Rattle.nm_types.specs.declared.sight.Sight.TheVariants.{Sees, ZeroPage}
 use Rattle.nm_types.specs.State.{Placed, Process, State, area_over, page_at, page_shown}
 use Rattle.nm_types.proofs.Cases.{some_is}
 use Rattle.nm_runs.specs.Seen.{sight_in, sight_at}
-use Rattle.nm_engine.specs.Touch.{Spot, shown_at, with_sight, is_shared}
+use Rattle.nm_areas.specs.Lines.{is_shared}
+use Rattle.nm_engine.specs.Touch.{Spot, shown_at, with_sight}
 use Rattle.nm_engine.specs.Sound.{IsInOrder, IsSoundAmid, IsWhole}
 use Rattle.nm_types.proofs.Maps.{equal, get-set, get-replace}
 use Rattle.nm_areas.proofs.Apart.{all_then}
@@ -90,14 +91,14 @@ whole_still s at x a whole =
 
 -- a process may see this here: the page of zeros in private memory, and the page that is shown, where it has a frame
 abbrev pub Fits : State → Spot → Sight → Type 0
-Fits s at ZeroPage = is_shared s (shown_at at) ≡ false
+Fits s at ZeroPage = is_shared s.segments (shown_at at).segment ≡ false
 Fits s at (Sees p) = (p ≡ shown_at at) × IsSome (get page_cmp s.place p)
 
 fit_page : (s : State) (at : Spot) (x : Sight) (p : Page) → Fits s at x → x ≡ Sees p → (shown_at at ≡ p) × IsSome (get page_cmp s.place p)
 fit_page s at ZeroPage p f e = cc
 fit_page s at (Sees q) p f e = let same : q ≡ p = cc in (sym f.0 ∙ same, subst (λ r. IsSome (get page_cmp s.place r)) same f.1)
 
-fit_zero : (s : State) (at : Spot) (x : Sight) → Fits s at x → x ≡ ZeroPage → is_shared s (shown_at at) ≡ false
+fit_zero : (s : State) (at : Spot) (x : Sight) → Fits s at x → x ≡ ZeroPage → is_shared s.segments (shown_at at).segment ≡ false
 fit_zero s at ZeroPage f e = f
 fit_zero s at (Sees q) f e = cc
 
@@ -114,7 +115,7 @@ with_sight_sound s l at x h i fits unseen =
             (ap (λ (z : ℕ × ℕ). page_at s.areas z.0 z.1) (λ j. (new.0 j, new.1 j)) ∙ page_at_spot s at i ∙ ap Some f.0, f.1)
         | inr old ↦ h.shown q w p old
       ];
-      zeros = λ q w e. elim (sight_cases s at x ZeroPage q w i e) as (λ _. (p : Page) × (page_at s.areas q w ≡ Some p) × (is_shared s p ≡ false)) [
+      zeros = λ q w e. elim (sight_cases s at x ZeroPage q w i e) as (λ _. (p : Page) × (page_at s.areas q w ≡ Some p) × (is_shared s.segments p.segment ≡ false)) [
         | inl new ↦ (shown_at at, ap (λ (z : ℕ × ℕ). page_at s.areas z.0 z.1) (λ j. (new.0 j, new.1 j)) ∙ page_at_spot s at i, fit_zero s at x fits new.2)
         | inr old ↦ h.zeros q w old
       ];

@@ -16,12 +16,12 @@ use Rattle.nm_nodes.specs.Pool as pool
 use Rattle.nm_engine.specs.Sound.{times, FramesAreOnce, IsSoundAmid}
 use Rattle.nm_engine.specs.Spaced.{Spaced}
 use Rattle.nm_engine.specs.Parts.{stocked, shown_by}
-use Rattle.nm_engine.specs.Stocked.{Shelf, IsShelf, Stocked, IsStocked, free_of, with_freed, CanFree, pool_of}
+use Rattle.nm_engine.specs.Stocked.{Shelf, IsShelf, Stocked, with_freed, CanFree, pool_of}
+use Rattle.nm_engine.proofs.Shelved.{IsStocked, free_of}
 use Rattle.nm_engine.proofs.Frames.{here, times_cons, frame_freed, left_below}
 use Rattle.nm_engine.proofs.Once.{counted_place}
 use Rattle.nm_engine.proofs.New.{new_frames}
-use Rattle.nm_engine.specs.Effect.{all_frames}
-use Rattle.nm_types.specs.Nodes.{up_from}
+use Rattle.nm_nodes.specs.Pool.{all_frames}
 
 -- the front of a list
 pub front_is : (xs : List ℕ) (f : ℕ) → slice_get xs 0 ≡ Some f → xs ≡ f ∷ drop 1 xs
@@ -79,10 +79,6 @@ apart_from_front x page node from to h placed front e =
 no : false ≡ true → ⊥
 no e = cc
 
-pub same_lists : (first : ℕ) (sizes : List ℕ) → all_frames first sizes ≡ pool.all_frames first sizes
-same_lists first [] = refl
-same_lists first (size ∷ sizes) = ap (λ ls. up_from first size ∷ ls) (same_lists (first + size) sizes)
-
 all_home : (n k : ℕ) (bytes : List ℕ) → k < n → IsHome (replicate n (Some bytes)) k
 all_home n k bytes lt =
     record {
@@ -91,11 +87,11 @@ all_home n k bytes lt =
     }
 
 -- the frames of a new machine, all of them home
-pub new_shelf : (g : Layout) (frames : Store) (free : List (List ℕ)) (vacated : List ℕ) (room n : ℕ) → n ≡ frame_count g → frames ≡ replicate n (Some (replicate 4096 0)) → free ≡ pool.all_frames 0 g.sizes
+pub new_shelf : (g : Layout) (frames : Store) (free : List (List ℕ)) (vacated : List ℕ) (room n : ℕ) → n ≡ frame_count g → frames ≡ replicate n (Some (replicate 4096 0)) → free ≡ all_frames 0 g.sizes
     → IsShelf (record { layout = g; frames = frames; free = free; vacated = vacated; room = room })
 new_shelf g frames free vacated room n count f l =
     record {
-      lists = ap length l ∙ ap length (sym (same_lists 0 g.sizes)) ∙ (new_frames g).lists;
+      lists = ap length l ∙ (new_frames g).lists;
       buffers = ap length f ∙ (length-replicate n (Some (replicate 4096 0)) ∙ count);
       home = λ k lt. subst (λ fs. IsHome fs k) (sym f) (all_home n k (replicate 4096 0) (omega (arith, lt, count)));
     }

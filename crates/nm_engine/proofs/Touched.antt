@@ -16,7 +16,9 @@ use Rattle.nm_types.specs.State.{Process, State, Placed, free_list, area_over, p
 use Rattle.nm_types.proofs.Cases.{some_is}
 use Rattle.nm_runs.specs.Seen.{sight_in, sight_at}
 use Rattle.nm_policy.specs.Order.{first_touch_order}
-use Rattle.nm_engine.specs.Touch.{Spot, shown_at, spot_over, spot_of, first_free, allocated, filled, joined, is_shared, touched_entry, touched, touch, with_sight, Access, Read, Write, read_after, overwrite, with_bytes, write_after, access, with_page, read}
+use Rattle.nm_areas.specs.Lines.{is_shared}
+use Rattle.nm_frames.specs.Store.{overwrite}
+use Rattle.nm_engine.specs.Touch.{Spot, shown_at, spot_over, spot_of, first_free, allocated, filled, joined, touched_entry, touched, touch, with_sight, Access, Read, Write, read_after, with_bytes, write_after, access, with_page, read}
 use Rattle.nm_engine.specs.Sound.{IsSoundAmid}
 use Rattle.nm_types.proofs.Keys.{keys-replace, All-replace, All-get, some_from_keys}
 use Rattle.nm_engine.proofs.Sights.{IsSpot, page_at_spot, with_sight_sound}
@@ -79,7 +81,7 @@ module _ (s : State) (l : List ℕ) (at : Spot) (h : IsSoundAmid s l) (i : IsSpo
       allocated_sound (first_free s.free order) unplaced (λ node. has_front s.free order node)
 
   -- a private page that is not seen here has no place
-  pub private_unplaced : is_shared s (shown_at at) ≡ false → get page_cmp s.place (shown_at at) ≡ None
+  pub private_unplaced : is_shared s.segments (shown_at at).segment ≡ false → get page_cmp s.place (shown_at at) ≡ None
   private_unplaced private =
       elim (get page_cmp s.place (shown_at at)) as (λ o. get page_cmp s.place (shown_at at) ≡ o → o ≡ None) [
         | None ↦ λ e. refl
@@ -98,7 +100,7 @@ module _ (s : State) (l : List ℕ) (at : Spot) (h : IsSoundAmid s l) (i : IsSpo
   absent_sound : (writes : Bool) → StaysSound s l (touched_entry s at writes None)
   unfolding StaysSound
   absent_sound writes =
-      elim (is_shared s (shown_at at)) as (λ b. is_shared s (shown_at at) ≡ b → StaysSound s l (if b then joined s at (get page_cmp s.place (shown_at at)) else (if writes then filled s at else Ok (with_sight s at ZeroPage)))) [
+      elim (is_shared s.segments (shown_at at).segment) as (λ b. is_shared s.segments (shown_at at).segment ≡ b → StaysSound s l (if b then joined s at (get page_cmp s.place (shown_at at)) else (if writes then filled s at else Ok (with_sight s at ZeroPage)))) [
         | true ↦ λ b. joined_sound (get page_cmp s.place (shown_at at)) refl
         | false ↦ λ b. elim writes as (λ w. StaysSound s l (if w then filled s at else Ok (with_sight s at ZeroPage))) [
           | true ↦ filled_sound (private_unplaced b)
@@ -106,7 +108,7 @@ module _ (s : State) (l : List ℕ) (at : Spot) (h : IsSoundAmid s l) (i : IsSpo
         ]
       ] refl
 
-  zero_sound : (writes : Bool) → is_shared s (shown_at at) ≡ false → StaysSound s l (touched_entry s at writes (Some ZeroPage))
+  zero_sound : (writes : Bool) → is_shared s.segments (shown_at at).segment ≡ false → StaysSound s l (touched_entry s at writes (Some ZeroPage))
   unfolding StaysSound
   zero_sound writes private =
       elim writes as (λ w. StaysSound s l (if w then filled s at else Ok s)) [ true ↦ filled_sound (private_unplaced private) | false ↦ (h, λ q a. refl) ]
@@ -126,7 +128,7 @@ entry_sound s l at writes None h i e = absent_sound s l at h i (λ p k. none_pag
 entry_sound s l at writes (Some ZeroPage) h i e =
     let zero = h.zeros at.pid at.vpn e in
     let same : Some zero.0 ≡ Some (shown_at at) = sym zero.1 ∙ page_at_spot s at i in
-    zero_sound s l at h i (λ p k. zero_page p (sym e ∙ k)) writes (subst (λ p. is_shared s p ≡ false) (some_is same) zero.2)
+    zero_sound s l at h i (λ p k. zero_page p (sym e ∙ k)) writes (subst (λ p. is_shared s.segments p.segment ≡ false) (some_is same) zero.2)
 entry_sound s l at writes (Some (Sees p)) h i e = (h, λ q a. refl)
 
 over_sound : (s : State) (l : List ℕ) (pid v : ℕ) (process : Process) (writes : Bool) (o : Option Placed) → IsSoundAmid s l → get nat_cmp s.processes pid ≡ Some process → area_over s.areas pid v ≡ o

@@ -19,14 +19,16 @@ use Rattle.nm_policy.specs.Order.{first_touch_order}
 use Rattle.nm_engine.specs.declared.touching.Touching.{Touching}
 use Rattle.nm_engine.specs.declared.process.ProcessInfo.{ProcessInfo}
 use Rattle.nm_engine.specs.Tables.{info_of, seeing}
-use Rattle.nm_engine.specs.Touch.{Spot, spot, spot_of, spot_over, shown_at, first_free, allocated, filled, with_sight, with_bytes, touched_entry, touched, touch, is_shared}
-use Rattle.nm_engine.specs.Stocked.{Stocked, IsStocked, free_of, stock_page}
+use Rattle.nm_areas.specs.Lines.{is_shared}
+use Rattle.nm_engine.specs.Touch.{Spot, spot, spot_of, spot_over, shown_at, first_free, allocated, filled, with_sight, with_bytes, touched_entry, touched, touch}
+use Rattle.nm_engine.specs.Stocked.{Stocked}
+use Rattle.nm_engine.proofs.Shelved.{IsStocked, free_of, stock_page}
 use Rattle.nm_areas.specs.Table.{Table}
 use Rattle.nm_engine.specs.Parts.{shown}
 use Rattle.nm_engine.specs.Amid.{Amid, IsKept, spot_at, IsTouched}
 use Rattle.nm_engine.specs.Seeing.{frame_of, frame_seen}
 use Rattle.nm_engine.specs.Sound.{times, IsSoundAmid}
-use Rattle.nm_frames.specs.Store.{bytes_of, overwrite as overwritten}
+use Rattle.nm_frames.specs.Store.{bytes_of, overwrite}
 use Rattle.nm_engine.proofs.Stocks.{counted_below}
 use Rattle.nm_engine.proofs.Once.{counted_place}
 use Rattle.nm_types.proofs.Maps.{page_cmp_total, get-set}
@@ -122,10 +124,10 @@ module _ {c : ℕ} (tasks : Map ℕ Process) (m : Table) (x : Stocked) (online :
       ap (allocated (shown tasks m x online moved failed) (spot_at t p a)) (ap (first_free x.free) order ∙ found)
 
   -- a private page that the process does not see has no frame
-  pub private_here : is_shared (shown tasks m x online moved failed) t.page ≡ false → is_shared (shown tasks m x online moved failed) (shown_at (spot_at t p a)) ≡ false
-  private_here private = ap (is_shared (shown tasks m x online moved failed)) touched.page ∙ private
+  pub private_here : is_shared m.segments t.page.segment ≡ false → is_shared m.segments (shown_at (spot_at t p a)).segment ≡ false
+  private_here private = ap (λ (q : Page). is_shared m.segments q.segment) touched.page ∙ private
 
-  pub private_unplaced_here : ((q : Page) → sight_at (shown tasks m x online moved failed) t.pid t.vpn ≡ Some (Sees q) → ⊥) → is_shared (shown tasks m x online moved failed) t.page ≡ false
+  pub private_unplaced_here : ((q : Page) → sight_at (shown tasks m x online moved failed) t.pid t.vpn ≡ Some (Sees q) → ⊥) → is_shared m.segments t.page.segment ≡ false
       → get page_cmp x.place t.page ≡ None
   private_unplaced_here unseen private =
       ap (get page_cmp x.place) (sym touched.page)
@@ -136,7 +138,7 @@ module _ {c : ℕ} (tasks : Map ℕ Process) (m : Table) (x : Stocked) (online :
   zero_unplaced sees =
       let zero = kept.sound.zeros t.pid t.vpn sees in
       let same : zero.0 ≡ shown_at (spot_at t p a) = some_is (sym zero.1 ∙ page_at_spot (shown tasks m x online moved failed) (spot_at t p a) (spot_there (shown tasks m x online moved failed) t p a touched)) in
-      private_unplaced_here (zero_sees sees) (ap (is_shared (shown tasks m x online moved failed)) (sym touched.page ∙ sym same) ∙ zero.2)
+      private_unplaced_here (zero_sees sees) (ap (λ (q : Page). is_shared m.segments q.segment) (sym touched.page ∙ sym same) ∙ zero.2)
 
 pub get_set_same : (places : Map Page ℕ) (page : Page) (frame : ℕ) → get page_cmp (set page_cmp places page frame) page ≡ Some frame
 get_set_same places page frame =
@@ -197,7 +199,7 @@ touch_is s t pid address len writes at e h = ap (touched s writes) e ∙ h
 
 -- bytes that are written into the frame of the page that is seen
 module _ {c : ℕ} (tasks : Map ℕ Process) (m : Table) (x : Stocked) (online : List ℕ) (moved failed : ℕ) (l : List ℕ) (pid address f : ℕ) (new : List ℕ) (after : Stocked) (kept : IsKept (shown tasks m x online moved failed) l c) (stocked : IsStocked x)
-    (seen : frame_seen (shown tasks m x online moved failed) pid (address / 4096) ≡ Some f) (is : after ≡ record x { frames = slice_set x.frames f (Some (overwritten (bytes_of x.frames f) (address % 4096) new)) }) where
+    (seen : frame_seen (shown tasks m x online moved failed) pid (address / 4096) ≡ Some f) (is : after ≡ record x { frames = slice_set x.frames f (Some (overwrite (bytes_of x.frames f) (address % 4096) new)) }) where
   pub written_is : shown tasks m after online moved failed
       ≡ with_bytes (shown tasks m x online moved failed) (sight_at (shown tasks m x online moved failed) pid (address / 4096)) (address % 4096) new
   written_is =

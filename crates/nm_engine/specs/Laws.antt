@@ -1,5 +1,6 @@
 -- What holds of every state, run and request.
-use Rattle.std.specs.Prelude.{◌≡◌, ℕ, ◌+◌, ◌-◌, ◌/◌, ◌%◌, nat_le, nat_lt, Bool, true, false, ◌&&◌, List, [], map, length, drop, slice_index, slice_set, Option, Some, None, if◌then◌else◌}
+use Rattle.std.specs.Prelude.{◌≡◌, ◌≤◌, ℕ, ◌+◌, ◌-◌, ◌/◌, ◌%◌, nat_le, nat_lt, Bool, true, false, ◌&&◌, List, [], map, length}
+use Rattle.std.specs.Prelude.{drop, slice_index, slice_set, Option, Some, None, if◌then◌else◌}
 use Rattle.std.specs.List.{AllByRecursion, fold}
 use Rattle.std.specs.List.Sorted.{IsStrictlySortedBy}
 use Rattle.std.specs.Map.{keys_of}
@@ -11,6 +12,8 @@ use Rattle.nm_types.specs.declared.area.Policy.{Policy}
 use Rattle.nm_types.specs.State.{State, page_at, free_list}
 use Rattle.nm_runs.specs.declared.Wanted.{Wanted}
 use Rattle.nm_runs.specs.declared.Wanted.TheVariants.{At as Spot, Whole}
+use Rattle.nm_types.specs.declared.seen.Seen.TheVariants.{At}
+use Rattle.nm_runs.specs.Seen.{look}
 use Rattle.nm_runs.specs.Cut.{Request}
 use Rattle.nm_runs.specs.Status.{status_or_move, class_of}
 use Rattle.nm_plan.specs.declared.Taken.{Taken}
@@ -34,6 +37,12 @@ abbrev pub LooksSuffice : Type 0
 LooksSuffice =
     (s : State) (target : ℕ) (w : Wanted) →
     IsStrictlySortedBy nat_cmp (keys_of s.processes) → class_of s target w ≡ status_or_move s target w
+
+-- a look counts no more processes than may be alive
+abbrev pub LooksAreBounded : Type 0
+LooksAreBounded =
+    (s : State) (pid v : ℕ) (p : Page) (frame processes : ℕ) (pinned : Bool) →
+    IsSound s → look s pid v ≡ At p frame processes pinned → processes ≤ 1024
 
 -- deciding requests changes no byte that a process has at an address
 abbrev pub DecidingKeepsMemory : Type 0

@@ -1,5 +1,6 @@
 -- Which calls are refused, and with which error.
-use Rattle.std.specs.Prelude.{ℕ, ◌+◌, ◌/◌, ◌^◌, ◌==◌, nat_lt, nat_le, Bool, not, ◌&&◌, ◌||◌, List, [], ◌∷◌, length, Option, Some, None, if◌then◌else◌}
+use Rattle.std.specs.Prelude.{ℕ, ◌+◌, ◌/◌, ◌^◌, ◌==◌, nat_lt, nat_le, Bool, not, ◌&&◌, ◌||◌, List, [], ◌∷◌, length, Option}
+use Rattle.std.specs.Prelude.{Some, None, if◌then◌else◌}
 use Rattle.std.specs.Option.{is_some, unwrap_or}
 use Rattle.std.specs.Ordering.{nat_cmp}
 use Rattle.std.specs.List.{list_any}
@@ -15,8 +16,8 @@ use Rattle.nm_types.specs.State.{State, Placed}
 use Rattle.nm_runs.specs.Seen.{pins_of, look}
 -- handed on: how the first error is found, and what ranges are
 pub use Rattle.nm_areas.specs.Refused.{first_error, is_range, overlaps, is_stretch}
-use Rattle.nm_areas.specs.Refused.{is_room as is_room_in}
-use Rattle.nm_engine.specs.Effect.{pages_between}
+use Rattle.nm_areas.specs.Refused as areas
+use Rattle.nm_engine.specs.Effect.{areas_of, pages_between}
 
 -- whether no process has this pid
 abbrev pub is_unknown : State → ℕ → Bool
@@ -31,21 +32,15 @@ spawn_refusal s pid home allowed =
     let full = nat_le 1024 (length s.processes) in
     first_error (((pid == 0) || not (is_unknown s pid) || bad_nodes, Einval) ∷ (full, Enomem) ∷ [])
 
--- whether an area may be made there
-abbrev pub is_room : State → ℕ → ℕ → ℕ → Bool
-is_room s pid address pages = is_room_in s.areas pid address pages
-
 -- no such process; no room for the area; no segment number left
 abbrev pub map_refusal : State → ℕ → ℕ → ℕ → Option Errno
 map_refusal s pid address pages =
-    let full = nat_le 65536 s.next_segment in
-    first_error ((is_unknown s pid, Esrch) ∷ (not (is_room s pid address pages), Einval) ∷ (full, Enomem) ∷ [])
+    if is_unknown s pid then Some Esrch else areas.insert_refusal (areas_of s) pid address pages
 
 -- no such process; no room for the area, or no such stretch of a shared segment
 abbrev pub attach_refusal : State → ℕ → ℕ → ℕ → ℕ → ℕ → Option Errno
 attach_refusal s pid address segment offset pages =
-    let fits = is_room s pid address pages && is_stretch (get nat_cmp s.segments segment) offset pages in
-    first_error ((is_unknown s pid, Esrch) ∷ (not fits, Einval) ∷ [])
+    if is_unknown s pid then Some Esrch else areas.attach_refusal (areas_of s) pid address segment offset pages
 
 -- whether an area of the process shows a page with pins at one of these page numbers
 abbrev pub shows_pinned : Map (ℕ × ℕ) Area → Map Page ℕ → ℕ → ℕ → ℕ → Bool

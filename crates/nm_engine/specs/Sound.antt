@@ -1,5 +1,6 @@
 -- What holds of every state between two calls.
-use Rattle.std.specs.Prelude.{◌≡◌, ℕ, ◌+◌, ◌^◌, ◌≤◌, ◌<◌, nat_lt, ◌==◌, cond, false, List, [], length, count_by, slice_index_or, Option, Some, None, IsSome, IsTrue}
+use Rattle.std.specs.Prelude.{◌≡◌, ℕ, ◌+◌, ◌^◌, ◌≤◌, ◌<◌, nat_lt, ◌==◌, cond, false, List, [], length, count_by}
+use Rattle.std.specs.Prelude.{slice_index_or, Option, Some, None, IsSome, IsTrue}
 use Rattle.std.specs.List.{sum_by, AllByRecursion}
 use Rattle.std.specs.List.Sorted.{IsStrictlySortedBy}
 use Rattle.std.specs.Map.{keys_of, values_of}
@@ -11,9 +12,9 @@ use Rattle.nm_types.specs.Layout.{Layout, node_count, frame_count, node_of}
 use Rattle.nm_types.specs.declared.sight.Sight.TheVariants.{ZeroPage, Sees}
 use Rattle.nm_types.specs.State.{Process, State, Placed, page_at}
 use Rattle.nm_runs.specs.Seen.{sight_at}
--- handed on: no two areas of a process are over one page number
-pub use Rattle.nm_areas.specs.Mapped.{AreasAreApart}
-use Rattle.nm_engine.specs.Touch.{is_shared}
+-- handed on: no two areas of a process are over one page number, and a private page is shown at one page number alone
+pub use Rattle.nm_areas.specs.Mapped.{AreasAreApart, PrivateIsOnce}
+use Rattle.nm_areas.specs.Lines.{is_shared}
 use Rattle.nm_engine.specs.Effect.{is_covered}
 
 -- the maps have their keys in order
@@ -57,7 +58,7 @@ SeesWhatIsShown s =
 abbrev pub ZeroIsPrivate : State → Type 0
 ZeroIsPrivate s =
     (pid v : ℕ) →
-    sight_at s pid v ≡ Some ZeroPage → (p : Page) × (page_at s.areas pid v ≡ Some p) × (is_shared s p ≡ false)
+    sight_at s pid v ≡ Some ZeroPage → (p : Page) × (page_at s.areas pid v ≡ Some p) × (is_shared s.segments p.segment ≡ false)
 
 -- a page with a frame is covered by an area
 abbrev pub PlacedIsCovered : State → Type 0
@@ -76,14 +77,8 @@ pub record PlacedHasPins (place pins : Map Page ℕ) : Type 0 where
 -- a private page with a frame is seen
 abbrev pub PrivateIsSeen : State → Type 0
 PrivateIsSeen s =
-    (p : Page) → IsSome (get page_cmp s.place p) → is_shared s p ≡ false →
+    (p : Page) → IsSome (get page_cmp s.place p) → is_shared s.segments p.segment ≡ false →
     (pid : ℕ) × (v : ℕ) × (sight_at s pid v ≡ Some (Sees p))
-
--- a private page is shown at one page number alone
-abbrev pub PrivateIsOnce : State → Type 0
-PrivateIsOnce s =
-    (pid v q w : ℕ) (p : Page) →
-    page_at s.areas pid v ≡ Some p → page_at s.areas q w ≡ Some p → is_shared s p ≡ false → (pid ≡ q) × (v ≡ w)
 
 -- a segment is there, and has at least so many pages
 abbrev pub HasPages : Option Segment → ℕ → Type 0
@@ -121,7 +116,7 @@ pub record IsSoundAmid (s : State) (left : List ℕ) : Type 0 where
   pub bytes : PlacedHasBytes s.place s.bytes
   pub pins : PlacedHasPins s.place s.pins
   pub seen : PrivateIsSeen s
-  pub once : PrivateIsOnce s
+  pub once : PrivateIsOnce s.areas s.segments
   pub areas : AllByRecursion (IsWhole s) s.areas
   pub numbers : SegmentsAreNumbered s.segments s.next_segment
   pub disjoint : AreasAreApart s.areas
