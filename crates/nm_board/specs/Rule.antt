@@ -31,8 +31,8 @@ pub record IsHand {A : Type 0} (jobs : List (CopyJob A)) (next given : ℕ) (v :
   pub spent : v.shares ≡ 0 → (v.drawn ≡ []) × (v.done ≡ [])
 
 -- what holds of the words `next` and `given`, the slots at home and the hands
-pub record Keeps {A : Type 0} (jobs : List (CopyJob A)) (words : List ℕ) (homes : List (Opt.Option (Option (CopyJob A)))) (views : List (View A))
-    (next given : ℕ) : Type 0 where
+pub record Keeps {A : Type 0} (jobs : List (CopyJob A)) (words : List ℕ) (homes : List (Opt.Option (Option (CopyJob A))))
+    (views : List (View A)) (next given : ℕ) : Type 0 where
   pub words_are : words ≡ next ∷ given ∷ []
   pub few : length jobs < 2 ^ 63
   pub slots : length homes ≡ length jobs
@@ -47,7 +47,8 @@ pub record Keeps {A : Type 0} (jobs : List (CopyJob A)) (words : List ℕ) (home
   pub hands : (id : ℕ) (v : View A) → get_elem? views id ≡ some v → IsHand jobs next given v
   -- a job lies as it was laid until it is drawn, and as its copy once it was given back
   pub laid : (t : ℕ) (job : CopyJob A) → next ≤ t → get_elem? jobs t ≡ some job → get_elem? homes t ≡ some (some (Some job))
-  pub back : (t : ℕ) (job : CopyJob A) → 0 < total (λ v. times t v.done) views → get_elem? jobs t ≡ some job → get_elem? homes t ≡ some (some (Some (copied job)))
+  pub back : (t : ℕ) (job : CopyJob A) → 0 < total (λ v. times t v.done) views → get_elem? jobs t ≡ some job
+      → get_elem? homes t ≡ some (some (Some (copied job)))
 
 -- the board's rule
 abbrev pub IsKept : {A : Type 0} → List (CopyJob A) → State (Option (CopyJob A)) (View A) → Type 0

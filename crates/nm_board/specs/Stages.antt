@@ -73,7 +73,8 @@ LateDrawTakesNone A = (jobs : List (CopyJob A)) (hand : ℕ) (old new : Moment A
 
 -- a hand gives back the job that it took last
 abbrev pub GiveReturnsTheLast : Type 0 → Type 0
-GiveReturnsTheLast A = (jobs : List (CopyJob A)) (hand t : ℕ) (job : Option (CopyJob A)) (old new : Moment A) (me now : Mine A) (s : Step (Option (CopyJob A)))
+GiveReturnsTheLast A = (jobs : List (CopyJob A)) (hand t : ℕ) (job : Option (CopyJob A)) (old new : Moment A) (me now : Mine A)
+    → (s : Step (Option (CopyJob A)))
     → Moves jobs hand 1 (given_of old + 1) old new me now → Gives s me (given_of old) now → me.1 ≡ (t, job) ∷ rest me.1
     → Turns old new t (InHand hand) Given
 

@@ -31,23 +31,6 @@ impl<A: Allocator + Copy> Model for Hand<A> {
 }
 
 impl<A: Allocator + Copy> Hand<A> {
-    /// How many of the 64 shares it has: at least one.
-    pub fn shares(&self) -> u64
-        ensures value { result ≡ self.now.shares }
-        ensures range { (0 < result) × (result ≤ 64) }
-    {
-        self.shares
-    }
-
-    /// Whether it drew where no job was left. A hand of all shares that did has drawn each ticket once.
-    pub fn past_end(&self) -> bool
-        ensures value { result ≡ self.now.past_end }
-        ensures once { HasNoneTwice self.now }
-        ensures each { result ≡ true → self.now.shares ≡ 64 → HasEach self.now }
-    {
-        self.past_end
-    }
-
     /// Splits off a new hand with so many of this one's shares. Each keeps at least one. The new one has drawn nothing,
     /// and is past the end where this one is.
     pub fn split(&mut self, board: &Board<A>, shares: u64) -> Hand<A>

@@ -2,6 +2,7 @@
 //! all of them come back in order.
 #![tactic(auto)]
 
+mod asking;
 mod board;
 mod hand;
 pub mod laws;

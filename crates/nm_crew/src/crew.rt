@@ -6,6 +6,7 @@ ghost use Rattle.nm_frames.specs.Job.{copied};
 ghost use Rattle.nm_board.specs.Tickets.{InTicketOrder};
 ghost use Rattle.nm_board.specs.Shown.{all_shares};
 ghost use Rattle.nm_crew.specs.Named.{named};
+ghost use Rattle.nm_crew.specs.Hands.{IsReady, IsOver};
 
 use crate::gate::Gate;
 use crate::room::Room;
@@ -17,7 +18,7 @@ use std::alloc::Allocator;
 use std::marker::{Brand, PhantomData};
 use std::sync::Wait;
 use std::thread;
-use std::thread::Threads;
+use std::thread::{Scope, Threads};
 
 /// Copies the jobs with so many workers and calls `work` beside them. The caller is worker 0: it starts the others,
 /// calls `work`, and then copies with them. Every job comes back, copied, in the order of its ticket, with the answer
@@ -162,9 +163,9 @@ fn hire<A: Allocator + Copy, B: Room>(
     others: usize,
 ) -> Vec<Worker<A, B>, A>
     requires room { named board.now ≡ B.board }
-    requires own { own.old.board ≡ board.now }
+    requires ready { IsReady board.now own.old }
     requires others { others < own.old.shares }
-    ensures own { (own.new.board ≡ board.now) × (own.new.out ≡ own.old.out) × (own.new.past_end ≡ own.old.past_end) }
+    ensures ready { IsReady board.now own.new }
     ensures shares { own.new.shares + vec_len result ≡ own.old.shares }
 {
     let mut workers = Vec::new(alloc);
@@ -181,9 +182,9 @@ fn hire<A: Allocator + Copy, B: Room>(
 /// A worker with one share of the hand.
 fn hired<A: Allocator + Copy, B: Room>(board: &Board<A>, own: &mut Hand<A>) -> Worker<A, B>
     requires room { named board.now ≡ B.board }
-    requires own { own.old.board ≡ board.now }
+    requires ready { IsReady board.now own.old }
     requires shares { 1 < own.old.shares }
-    ensures own { (own.new.board ≡ board.now) × (own.new.out ≡ own.old.out) × (own.new.past_end ≡ own.old.past_end) }
+    ensures ready { IsReady board.now own.new }
     ensures shares { own.new.shares + 1 ≡ own.old.shares }
 {
     Worker {
@@ -197,26 +198,22 @@ fn work_beside<
     'x,
     A: Allocator + Copy + Send + Sync,
     B: Room + Send + Sync,
-    R: Threads + Wait + Sync,
-    S: Starts,
     G: Gate + Sync,
     T,
     W: FnOnce() -> T,
 >(
-    rt: &R,
+    rt: &(impl Threads + Wait + Sync),
     board: &'x Board<A>,
     mut workers: Vec<Worker<A, B>, A>,
     own: Hand<A>,
-    starts: &S,
+    starts: &impl Starts,
     gate: &'x G,
     work: W,
 ) -> (Hand<A>, T, Vec<Worker<A, B>, A>)
     requires room { named board.now ≡ B.board }
-    requires own { own.board ≡ board.now }
-    requires ready { (own.out ≡ []) × (own.past_end ≡ false) }
+    requires ready { IsReady board.now own }
     requires work { W.pre work }
-    ensures own { result.0.board ≡ board.now }
-    ensures over { (result.0.out ≡ []) × (result.0.past_end ≡ true) × (result.0.shares ≡ own.shares) }
+    ensures over { IsOver board.now own.shares result.0 }
     ensures work { W.post work result.1 }
     ensures workers { vec_len result.2 ≡ vec_len workers }
 {
@@ -225,28 +222,41 @@ fn work_beside<
         thread::scope_env(),
         rt,
         |scope| -> (Hand<A>, T)
-            requires { (named board.now ≡ B.board) × (own.board ≡ board.now) × (own.out ≡ []) × (own.past_end ≡ false) × W.pre work × IsSync G.row × IsSync B.row × IsSend B.row × IsSync A.row × IsSend A.row }
-            ensures { (result.0.board ≡ board.entry.now) × (result.0.out ≡ []) × (result.0.past_end ≡ true) × (result.0.shares ≡ own.shares) × W.post work result.1 }
+            requires { (named board.now ≡ B.board) × IsReady board.now own × W.pre work × IsSync G.row × IsSync B.row × IsSend B.row × IsSync A.row × IsSend A.row }
+            ensures { IsOver board.entry.now own.shares result.0 × W.post work result.1 }
         {
-            let mut own = own;
-            let mut number = 1;
-            for worker in all {
-                let mine = number;
-                let started = starts.builder(mine).spawn_scoped(
-                    scope,
-                    move ||
-                        requires { named board.now ≡ B.board }
-                    { worker.run(board, gate, mine) },
-                );
-                drop(started);
-                number = mine.wrapping_add(1);
-            }
+            start_each(scope, all, board, starts, gate);
             let answer = work();
+            let mut own = own;
             work_off(board, &mut own, gate, 0);
             (own, answer)
         },
     );
     (own, answer, workers)
+}
+
+/// Starts a thread for each worker. Where the host starts none, the others do what that worker would have done.
+fn start_each<'s, E, A: Allocator + Copy + Send + Sync, B: Room + Send + Sync, G: Gate + Sync>(
+    scope: &Scope<'s, E>,
+    workers: &'s mut [Worker<A, B>],
+    board: &'s Board<A>,
+    starts: &impl Starts,
+    gate: &'s G,
+)
+    requires { named board.now ≡ B.board }
+{
+    let mut number = 1;
+    for worker in workers {
+        let mine = number;
+        let started = starts.builder(mine).spawn_scoped(
+            scope,
+            move ||
+                requires { named board.now ≡ B.board }
+            { worker.run(board, gate, mine) },
+        );
+        drop(started);
+        number = mine.wrapping_add(1);
+    }
 }
 
 /// Joins all workers' hands into one.
@@ -256,10 +266,8 @@ fn gather<A: Allocator + Copy, B: Room>(
     mut workers: Vec<Worker<A, B>, A>,
 )
     requires room { named board.now ≡ B.board }
-    requires own { own.old.board ≡ board.now }
-    requires over { (own.old.out ≡ []) × (own.old.past_end ≡ true) }
-    ensures own { (own.new.board ≡ board.now) × (own.new.out ≡ []) × (own.new.past_end ≡ true) }
-    ensures shares { own.new.shares ≡ own.old.shares + vec_len workers }
+    requires over { IsOver board.now own.old.shares own.old }
+    ensures { IsOver board.now (own.old.shares + vec_len workers) own.new }
 {
     while let Some(worker) = workers.pop() {
         let Worker { hand, .. } = worker;

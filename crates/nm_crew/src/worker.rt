@@ -2,6 +2,7 @@
 
 ghost use Rattle.std.specs.Prelude.{◌≡◌, [], true, false};
 ghost use Rattle.nm_crew.specs.Named.{named};
+ghost use Rattle.nm_crew.specs.Hands.{IsReady, IsOver};
 
 use crate::gate::Gate;
 use crate::room::Room;
@@ -38,10 +39,8 @@ pub(crate) fn work_off<A: Allocator + Copy, G: Gate>(
     gate: &G,
     worker: usize,
 )
-    requires own { hand.old.board ≡ board.now }
-    requires ready { (hand.old.out ≡ []) × (hand.old.past_end ≡ false) }
-    ensures own { hand.new.board ≡ board.now }
-    ensures over { (hand.new.out ≡ []) × (hand.new.past_end ≡ true) × (hand.new.shares ≡ hand.old.shares) }
+    requires { IsReady board.now hand.old }
+    ensures { IsOver board.now hand.old.shares hand.new }
 {
     while let Some(mut job) = board.draw(hand) {
         gate.pass(worker, job.ticket);

@@ -10,4 +10,4 @@ loop-job-smaller g c =
     let before = beyond_at_most c.loop-job.hand.drawn c.in-Some.job.ticket drew.above in
     let after = beyond_last c.loop-job.hand.drawn c.in-Some.job.ticket in
     let drawn : c.give.new.hand.drawn ≡ c.loop-job.hand.drawn ++ c.in-Some.job.ticket ∷ [] = ap (λ h. h.drawn) (c.give.ensures) ∙ ap (λ h. h.drawn) drew.now in
-    omega (arith, ap beyond drawn, ap (λ b. length b.jobs) c.loop-job.invariant.0)
+    omega (arith, ap beyond drawn, ap (λ b. length b.jobs) c.loop-job.invariant.0.own)
