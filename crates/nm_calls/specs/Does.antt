@@ -9,13 +9,14 @@ use Rattle.nm_calls.specs.declared.call_error.CallError.TheVariants.{Refused, Ho
 use Rattle.nm_calls.specs.declared.answer.Moved.{Moved}
 use Rattle.nm_calls.specs.Calls.{Call, Answer, Refusal}
 use Rattle.nm_calls.specs.Systems.{SystemState}
-use Rattle.nm_calls.specs.Outcome.{outcome, runs_of, after_runs, states_of}
+use Rattle.nm_calls.specs.Outcome.{refused_at_once, outcome, runs_of, after_runs, states_of}
 
--- A host without memory leaves a call with some first ones of its runs made, of which the last is none. No call sets a
--- policy yet.
+-- A call for which the host has no memory is not one that is refused, and leaves some first ones of its runs made, of
+-- which the last is none. No call sets a policy yet.
 abbrev pub HostLeaves : SystemState → Call → ℕ → Bool → SystemState → Type 0
 HostLeaves old call runs policy_set new =
-    (policy_set ≡ false) × (runs ≤ length (runs_of old call) - 1) × (new ≡ after_runs old call runs)
+    (refused_at_once old.state call ≡ None) × (policy_set ≡ false) × (runs ≤ length (runs_of old call) - 1)
+    × (new ≡ after_runs old call runs)
 
 -- a call answers as defined and leaves the system as defined, also where it is refused; or the host has no memory for it
 abbrev pub Does : {T : Type 0} → (T → Answer) → Result T CallError → SystemState → SystemState → Call → Type 0

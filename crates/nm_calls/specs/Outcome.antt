@@ -1,10 +1,10 @@
 -- Which call is refused, what the others answer, and the state after each, also where the host refuses memory.
-use Rattle.std.specs.Prelude.{ℕ, ℤ, ◌+◌, ◌/◌, List, [], ◌∷◌, map, slice_index_or, Option, Some, None, Result, Ok, Err}
+use Rattle.std.specs.Prelude.{ℕ, ℤ, ◌+◌, ◌/◌, List, [], ◌∷◌, length, map, slice_index_or, Option, Some, None, Result, Ok, Err}
 use Rattle.nm_types.specs.declared.errno.Errno.{Errno}
 use Rattle.nm_types.specs.State.{State, free_list}
 use Rattle.nm_runs.specs.Cut.{Stretch}
 use Rattle.nm_runs.specs.Limit.{cut_within}
-use Rattle.nm_engine.specs.Touch.{read, write}
+use Rattle.nm_engine.specs.Touch.{read, write, spot_refusal}
 use Rattle.nm_engine.specs.Touch as engine
 use Rattle.nm_engine.specs.Effect.{spawn, map_new, attach, unmap, exit, pin, unpin}
 use Rattle.nm_engine.specs.Refused.{spawn_refusal, map_refusal, attach_refusal, unmap_refusal, exit_refusal, pin_refusal, unpin_refusal, list_refusal, entries_refusal}
@@ -51,6 +51,12 @@ refused s (MovePages caller pid pages nodes flags) = move_refusal s caller pid n
 refused s (Query caller pid pages flags) = query_refusal s caller pid flags
 refused s (FreeList node) = list_refusal s node
 refused s (Pagemap pid) = entries_refusal s pid
+
+-- the refusals that a call comes to before it asks the host for memory: all but the want of a free frame, for an access
+unfoldable pub refused_at_once : State → Call → Option Errno
+refused_at_once s (ReadBytes pid addr len) = spot_refusal s pid addr len
+refused_at_once s (WriteBytes pid addr bytes) = spot_refusal s pid addr (length bytes)
+refused_at_once s call = refused s call
 
 -- the runs that a call makes, where it is not refused; one that moves no pages makes none
 unfoldable pub runs_asked : SystemState → Call → List Stretch
