@@ -22,7 +22,7 @@ is_refusal (Frames frames) = false
 is_refusal (Entries entries) = false
 
 some_none : (e : Errno) → Some e ≡ None → ⊥
-some_none e h = true≢false (ap (λ (o : Option Errno). elim o [ | Some d ↦ true | None ↦ false ]) h)
+some_none e h = true≢false (ap (λ (o : Option Errno). elim o [ Some d ↦ true | None ↦ false ]) h)
 
 -- an access that is not refused answers no refusal
 access_answers : (a : engine.Answer) → refusal_in a ≡ None → is_refusal (shown a) ≡ false

@@ -228,7 +228,15 @@ impl<A: Allocator + Copy + Send + Sync> System<A> {
         } = permit;
         check_targets(&self.machine, allowed, nodes)?;
         let limit = self.run_limit;
-        move_batch(self.alloc, &mut self.machine, owner, all, pages, nodes, limit)
+        move_batch(
+            self.alloc,
+            &mut self.machine,
+            owner,
+            all,
+            pages,
+            nodes,
+            limit,
+        )
     }
 
     /// Where pages are, each named by an address in it: the number of its node, -14 (EFAULT) without an area or for the

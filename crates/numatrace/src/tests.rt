@@ -207,7 +207,10 @@ fn tells_why_words_are_unread(rt: HostRuntime) -> Result<(), Fail> {
     assert_eq!(rt; err.as_slice(), b"numatrace: a word is not UTF-8\n");
     let mut err = Vec::new(alloc);
     assert_eq!(rt; unread_words(ErrorKind::OutOfMemory, &mut err), 3u8);
-    assert_eq!(rt; err.as_slice(), b"numatrace: host memory refused after 0 steps\n");
+    assert_eq!(rt;
+        err.as_slice(),
+        b"numatrace: host memory refused after 0 steps\n"
+    );
     Ok(())
 }
 
