@@ -11,9 +11,20 @@ ROOT = os.path.dirname(os.path.dirname(os.path.abspath(__file__)))
 COMMENTS = {"$schema", "$defs", "title", "description"}
 TYPES = {"object": dict, "array": list, "string": str, "boolean": bool, "integer": int}
 
+# The first example with one place changed, which the program plays as it plays the example.
+SAME = [
+    ('"version":1', '"version":1,"run_limit":"none"'),
+    ('"version":1', '"version":2,"run_limit":1'),
+    ('"version":1', '"version":2,"run_limit":16384'),
+]
+
 # The first example with one place changed, each of which the program tells of as a bad machine or a bad step.
 FAULTS = [
     ('"version":1', '"version":2'),
+    ('"version":1', '"version":3'),
+    ('"version":1', '"version":2,"run_limit":0'),
+    ('"version":1', '"version":2,"run_limit":16385'),
+    ('"version":1', '"version":2,"run_limit":"1"'),
     ('"version":1', '"version":1.0'),
     ('"version":1', '"version":"1"'),
     ('"version":1', '"version":true'),
@@ -121,6 +132,9 @@ def main():
             sys.exit("tests/schema.py: %s does not fit the schema: %s" % (os.path.relpath(path, ROOT), fault))
     with open(os.path.join(ROOT, "examples/three_pages.json"), encoding="utf-8") as file:
         text = file.read()
+    for old, new in SAME:
+        if fault_of(schema, json.loads(text.replace(old, new, 1)), schema) is not None:
+            sys.exit("tests/schema.py: the schema refuses %s for %s" % (new, old))
     for old, new in FAULTS:
         if old not in text:
             sys.exit("tests/schema.py: %s is not in the first example" % old)

@@ -10,12 +10,10 @@ use Rattle.nm_types.specs.declared.page.Page.{Page}
 use Rattle.nm_types.specs.declared.area.Area.{Area}
 use Rattle.nm_types.specs.Map.{Map, set, spot_cmp}
 use Rattle.nm_types.specs.State.{Placed, covers, area_over}
+use Rattle.nm_types.proofs.Cases.{true_false}
 use Rattle.nm_areas.specs.Parts.{covers_page, is_covered}
 use Rattle.nm_areas.specs.Refused.{overlaps}
 use Rattle.nm_areas.specs.Mapped.{AreasAreApart}
-
-true_false : true ≡ false → ⊥
-true_false e = cc
 
 -- from the first page number to before the last
 abbrev pub behind_last : Placed → ℕ

@@ -7,21 +7,15 @@ use Rattle.std.proofs.lemmas.Bool.{and_from, lt-ltb}
 use Rattle.nm_types.specs.declared.area.Area.{Area}
 use Rattle.nm_types.specs.Map.{Map, get, set, without, spot_cmp}
 use Rattle.nm_types.specs.State.{Placed, covers, area_over}
+use Rattle.nm_types.proofs.Cases.{true_false, some_is}
 use Rattle.nm_areas.specs.Mapped.{AreasAreApart, IsSomePages}
 use Rattle.nm_areas.specs.Parts.{parts_outside}
 use Rattle.nm_areas.specs.Policing.{split_at}
 use Rattle.nm_areas.specs.Refused.{overlaps}
-use Rattle.nm_areas.proofs.Maps.{spot_cmp_total, get-set}
+use Rattle.nm_types.proofs.Maps.{spot_cmp_total, get-set}
 use Rattle.nm_areas.proofs.Apart.{covers_from}
-use Rattle.nm_areas.proofs.Parted.{Among, All-among, over_among, among_over, among_flat, part_of, part_covers}
+use Rattle.nm_areas.proofs.Parted.{Among, All-among, over_among, among_over, among_flat, part_of, part_covers, among_any}
 use Rattle.nm_areas.proofs.Overs.{get_among}
-use Rattle.nm_areas.proofs.Policed.{among_any}
-
-true_false : true ≡ false → ⊥
-true_false e = cc
-
-some_same : {V : Type 0} {v w : V} → Some v ≡ Some w → v ≡ w
-some_same e = cc
 
 among_without : (areas : Map (ℕ × ℕ) Area) (k : ℕ × ℕ) (a : Placed) → Among a (without spot_cmp areas k) → Among a areas
 among_without [] k a m = absurd m
@@ -60,7 +54,7 @@ module _ (pid at start : ℕ) (area : Area) (areas : Map (ℕ × ℕ) Area) (apa
         | None ↦ λ o. refl
         | Some y ↦ λ o.
             let m = get_among areas (pid, at) y o in
-            let same = some_same (sym (over_among areas pid at ((pid, at), y) apart m (covers_first areas ((pid, at), y) whole m)) ∙ over) in
+            let same = some_is (sym (over_among areas pid at ((pid, at), y) apart m (covers_first areas ((pid, at), y) whole m)) ∙ over) in
             let begin : at ≡ start = ap (λ (z : Placed). z.0.1) same in
             absurd (omega (arith, begin, low))
       ] refl
@@ -69,7 +63,7 @@ module _ (pid at start : ℕ) (area : Area) (areas : Map (ℕ × ℕ) Area) (apa
   one_over : (a : Placed) → Among a areas → covers a pid start ≡ true → a ≡ ((pid, start), area)
   one_over a m c =
       let it = (among_over areas pid at ((pid, start), area) over).0 in
-      some_same (sym (over_among areas pid start a apart m c) ∙ over_among areas pid start ((pid, start), area) apart it (covers_first areas ((pid, start), area) whole it))
+      some_is (sym (over_among areas pid start a apart m c) ∙ over_among areas pid start ((pid, start), area) apart it (covers_first areas ((pid, start), area) whole it))
 
   same_begin : (y : Area) → get spot_cmp areas (pid, start) ≡ Some y → y ≡ area
   same_begin y o =
@@ -84,7 +78,7 @@ module _ (pid at start : ℕ) (area : Area) (areas : Map (ℕ × ℕ) Area) (apa
         | Some y ↦ λ o.
             let found : cond (eq_by_cmp spot_cmp (pid, start) (pid, at)) (Some rest) (get spot_cmp areas (pid, start)) ≡ Some y = sym (ap (λ (m : Map (ℕ × ℕ) Area). get spot_cmp m (pid, start)) is ∙ get-set spot_cmp_total areas (pid, at) rest (pid, start)) ∙ o in
             elim (eq_by_cmp spot_cmp (pid, start) (pid, at)) as (λ b. cond b (Some rest) (get spot_cmp areas (pid, start)) ≡ Some y → y.page.segment ≡ area.page.segment) [
-              | true ↦ λ h. ap (λ (z : Area). z.page.segment) (sym (some_same h)) ∙ same
+              | true ↦ λ h. ap (λ (z : Area). z.page.segment) (sym (some_is h)) ∙ same
               | false ↦ λ h. ap (λ (z : Area). z.page.segment) (same_begin y h)
             ] found
       ] refl

@@ -14,20 +14,18 @@ use Rattle.nm_types.specs.declared.area.Area.{Area}
 use Rattle.nm_types.specs.declared.area.Segment.{Segment}
 use Rattle.nm_types.specs.Map.{Map, set, replace, without, spot_cmp}
 use Rattle.nm_types.specs.State.{Placed, covers, area_over}
+use Rattle.nm_types.proofs.Cases.{true_false, none_some, some_is}
 use Rattle.nm_areas.specs.Parts.{before, behind, parts_outside}
 use Rattle.nm_areas.specs.Mapped.{AreasAreApart}
 use Rattle.nm_areas.specs.Mapped.{IsSomePages}
 use Rattle.nm_areas.specs.Policing.{split_at}
 use Rattle.nm_areas.specs.Table.{with_areas}
-use Rattle.nm_areas.proofs.Maps.{spot_cmp_total}
+use Rattle.nm_types.proofs.Maps.{spot_cmp_total}
 use Rattle.nm_areas.proofs.Apart.{behind_last, covers_parts, covers_from}
 use Rattle.nm_areas.proofs.Parted.{Among, All-among, all_from_among, among_over, over_among}
 use Rattle.nm_areas.proofs.Split.{less_to, less_from, among_keys}
 use Rattle.nm_areas.proofs.Overs.{spot_same, spot_behind}
 use Rattle.nm_areas.specs.Table.{Table}
-
-true_false : true ≡ false → ⊥
-true_false e = cc
 
 -- an area up to a page number ..
 abbrev pub shorter : ℕ → Placed → Area
@@ -247,12 +245,6 @@ split_back pid at a own low high (x ∷ areas) some apart sorted (inr m) =
     (split_back pid at a own low high areas some.1 apart.1 (sorted_tail spot_cmp x.0 (keys_of areas) sorted) m)
 
 -- ---- what the area over a page number tells
-
-some_is : {V : Type 0} {v w : V} → Some v ≡ Some w → v ≡ w
-some_is e = cc
-
-none_some : {V : Type 0} {v : V} → None ≡ Some v → ⊥
-none_some e = cc
 
 -- there is nothing to split
 pub split_nothing : (pid at : ℕ) (areas : Map (ℕ × ℕ) Area) (o : Option Placed) → AllByRecursion IsSomePages areas → AreasAreApart areas → o ≡ area_over areas pid at → IfSome o (λ e. at ≤ e.0.1) → split_at pid at areas ≡ areas

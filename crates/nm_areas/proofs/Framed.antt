@@ -1,5 +1,5 @@
 -- The pages of a segment that have a frame, one after another.
-use Rattle.std.proofs.Common.{◌≡◌, ℕ, ◌≤◌, ◌<◌, List, [], ◌∷◌, true, false, refl, sym, ap, subst, ◌∙◌, inl, inr}
+use Rattle.std.proofs.Common.{◌≡◌, ℕ, ◌≤◌, ◌<◌, List, [], ◌∷◌, refl, sym, ap, subst, ◌∙◌, inl, inr}
 use Rattle.std.specs.Prelude.{Some, None, IsSome, ◌⊎◌}
 use Rattle.std.specs.BTreeMap.{BTreeMap}
 use Rattle.std.specs.BTreeMap.Range.{IsRangeOf}
@@ -9,11 +9,9 @@ use Rattle.std.specs.Cmp.{nat_cmp_is}
 use Rattle.std.specs.declared.cmp.Ordering.TheVariants.{Greater}
 use Rattle.nm_types.specs.declared.page.Page.{Page}
 use Rattle.nm_types.specs.Map.{get, page_cmp}
+use Rattle.nm_types.proofs.Cases.{true_false}
 use Rattle.nm_areas.specs.Removed.{page_in}
 use Rattle.nm_areas.proofs.Overs.{up_to, from_up_to, spot_behind, spot_same}
-
-true_false : true ≡ false → ⊥
-true_false e = cc
 
 -- nothing comes from there on
 pub no_place_at_all : (m : BTreeMap Page ℕ) (segment at : ℕ) (r : List (Page × ℕ)) → IsRangeOf page_cmp (Included (page_in segment at)) Unbounded m r → r ≡ []

@@ -1,6 +1,6 @@
 -- Areas that go, and the segments that no other area shows.
 use Rattle.std.proofs.Common.{◌≡◌, ℕ, suc, ◌≤◌, ◌<◌, arith, List, [], ◌∷◌, length, Bool, true, false, not, ◌||◌, cond, refl, sym, ap, subst, ◌∙◌, eq-eqb, inl, inr}
-use Rattle.std.specs.Prelude.{Some, None, ◌==◌}
+use Rattle.std.specs.Prelude.{Some, ◌==◌}
 use Rattle.std.specs.List.{AllByRecursion, list_any, filter}
 use Rattle.std.specs.List.Sorted.{IsStrictlySortedBy}
 use Rattle.std.specs.Map.{keys_of}
@@ -15,20 +15,15 @@ use Rattle.nm_types.specs.declared.area.Area.{Area}
 use Rattle.nm_types.specs.declared.area.Segment.{Segment}
 use Rattle.nm_types.specs.Map.{Map, get, without, spot_cmp}
 use Rattle.nm_types.specs.State.{Placed}
+use Rattle.nm_types.proofs.Cases.{true_false, some_none}
 use Rattle.nm_areas.specs.Mapped.{shows_segment, AllShown}
 use Rattle.nm_areas.specs.Removed.{segments_left, begins_in, is_own, others, without_own}
 use Rattle.nm_areas.specs.Table.{Table, with_areas}
-use Rattle.nm_areas.proofs.Maps.{equal}
+use Rattle.nm_types.proofs.Maps.{equal}
 use Rattle.nm_areas.proofs.Parted.{Among}
 use Rattle.nm_areas.proofs.Overs.{get_not_none}
 use Rattle.nm_areas.proofs.Painted.{exact_spot}
 use Rattle.nm_areas.proofs.Own.{NoneBegins, own_parts, own_from}
-
-true_false : true ≡ false → ⊥
-true_false e = cc
-
-some_none : {V : Type 0} {v : V} → Some v ≡ None → ⊥
-some_none e = cc
 
 less_equal : {r : Ordering} → r ≡ Less → is_eq r ≡ true → ⊥
 less_equal h e = true_false (sym e ∙ ap is_eq h)

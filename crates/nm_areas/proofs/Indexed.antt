@@ -13,20 +13,12 @@ use Rattle.std.proofs.Common.{eq-eqb}
 use Rattle.nm_types.specs.declared.area.Area.{Area}
 use Rattle.nm_types.specs.declared.area.Policy.{Policy}
 use Rattle.nm_types.specs.Map.{Map, get, replace, with_values, spot_cmp}
+use Rattle.nm_types.proofs.Cases.{true_false, some_is}
 use Rattle.nm_areas.specs.Index.{Key, key_cmp, is_of, is_key, IsIndex}
 use Rattle.nm_areas.specs.Policing.{painted}
 use Rattle.nm_areas.specs.Removed.{begins_in}
-use Rattle.nm_areas.proofs.Maps.{equal, spot_cmp_total, get-values}
+use Rattle.nm_types.proofs.Maps.{equal, spot_cmp_total, get-values}
 use Rattle.nm_areas.proofs.Painted.{exact_spot, put_nowhere}
-
-true_false : true ≡ false → ⊥
-true_false e = cc
-
-some_none : {V : Type 0} {v : V} → Some v ≡ None → ⊥
-some_none e = cc
-
-some_same : {V : Type 0} {v w : V} → Some v ≡ Some w → v ≡ w
-some_same e = cc
 
 pub exact_key : CmpEqualImpliesEq key_cmp
 exact_key x y e =
@@ -113,7 +105,7 @@ put_same [] s x y there same n q = refl
 put_same (e ∷ m) s x y there same n q =
     elim (is_eq (spot_cmp s e.0)) as (λ b. cond b (Some e.1) (get spot_cmp m s) ≡ Some y → is_of n (get spot_cmp (cond b ((e.0, x) ∷ m) (e ∷ replace spot_cmp m s x)) q) ≡ is_of n (get spot_cmp (e ∷ m) q)) [
       | true ↦ λ h.
-          let value : e.1.page.segment ≡ x.page.segment = ap (λ (z : Area). z.page.segment) (some_same h) ∙ same in
+          let value : e.1.page.segment ≡ x.page.segment = ap (λ (z : Area). z.page.segment) (some_is h) ∙ same in
           elim (is_eq (spot_cmp q e.0)) as (λ c. is_of n (cond c (Some x) (get spot_cmp m q)) ≡ is_of n (cond c (Some e.1) (get spot_cmp m q))) [
             | true ↦ ap (λ (k : ℕ). k == n) (sym value)
             | false ↦ refl

@@ -12,13 +12,14 @@ use Rattle.nm_types.specs.declared.area.Area.{Area}
 use Rattle.nm_types.specs.declared.area.Segment.{Segment}
 use Rattle.nm_types.specs.Map.{Map, get, set, spot_cmp}
 use Rattle.nm_types.specs.State.{Placed}
+use Rattle.nm_types.proofs.Cases.{true_false}
 use Rattle.nm_areas.specs.Table.{Table, with_areas}
 use Rattle.nm_areas.specs.Mapped.{mapped, IsSomePages, EndsLow, HasIndices, shows_segment, AllShown, PrivateIsOnce, IsMapped}
 use Rattle.nm_areas.specs.Refused.{overlaps, is_stretch}
 use Rattle.nm_areas.specs.Effect.{new_area}
 use Rattle.nm_areas.specs.Lines.{is_shared}
-use Rattle.nm_areas.proofs.Maps.{equal, spot_cmp_total}
-use Rattle.nm_areas.proofs.Keys.{All-set, All-get, sorted-set}
+use Rattle.nm_types.proofs.Maps.{equal, spot_cmp_total}
+use Rattle.nm_types.proofs.Keys.{All-set, All-get, sorted-set}
 use Rattle.nm_areas.proofs.Apart.{NoneOverlaps, one_more, other_key, apart-set, all_from_none, each_set, same_key, all_then}
 use Rattle.nm_areas.proofs.Policed.{IsFine}
 use Rattle.nm_areas.proofs.Private.{shared_before, once_more}
@@ -45,9 +46,6 @@ numbers_next (e ∷ m) n new h =
       | Equal ↦ (omega (arith, h.0), all_up m n h.1)
       | Greater ↦ (omega (arith, h.0), numbers_next m n new h.1)
     ]
-
-true_false : true ≡ false → ⊥
-true_false e = cc
 
 not_true : (b : Bool) → true ≡ not b → b ≡ false
 not_true true h = cc

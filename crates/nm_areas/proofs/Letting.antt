@@ -19,7 +19,7 @@ use Rattle.nm_areas.specs.Mapped.{Mapped, mapped, IsSomePages, EndsLow, HasIndic
 use Rattle.nm_areas.specs.Parts.{pages_from, pages_between, before, behind, parts_outside, is_covered}
 use Rattle.nm_areas.specs.Policing.{inside, repoliced, split_at, painted}
 use Rattle.nm_areas.specs.Removed.{areas_left, segments_left, pages_gone, place_left, all_lost, removed, frames_lost, begins_in, is_own, others, without_own, pages_of_area, pages_of_own}
-use Rattle.nm_areas.proofs.Keys.{sorted-without}
+use Rattle.nm_types.proofs.Keys.{sorted-without}
 use Rattle.nm_areas.proofs.Parted.{All-among, all_from_among, among_flat, IsPart, part_of}
 use Rattle.nm_areas.proofs.Split.{flat_apart, flat_sorted}
 use Rattle.nm_areas.proofs.Repoliced.{split_some, all_repoliced}

@@ -1,5 +1,3 @@
-pub mod Maps
-pub mod Keys
 pub mod Apart
 pub mod Parted
 pub mod Split

@@ -10,12 +10,10 @@ use Rattle.nm_types.specs.declared.page.Page.{Page}
 use Rattle.nm_types.specs.declared.area.Area.{Area}
 use Rattle.nm_types.specs.Map.{Map, get, without, page_cmp, spot_cmp}
 use Rattle.nm_types.specs.State.{Placed}
+use Rattle.nm_types.proofs.Cases.{some_none}
 use Rattle.nm_areas.specs.Parts.{pages_from, covers_page, is_covered}
 use Rattle.nm_areas.specs.Removed.{place_left, with_its_frame, lost, all_lost, is_own, others, covers_beside, pages_of_area, pages_of_own, page_in}
 use Rattle.nm_areas.proofs.Own.{NoneBegins, own_next, own_none}
-
-some_none : {V : Type 0} {v : V} → Some v ≡ None → ⊥
-some_none e = cc
 
 pub without_none : (place : Map Page ℕ) (p : Page) → get page_cmp place p ≡ None → without page_cmp place p ≡ place
 without_none [] p h = refl

@@ -10,20 +10,18 @@ use Rattle.std.specs.Ordering.{nat_cmp, ordering_then, is_eq, is_lt, is_gt}
 use Rattle.std.specs.Cmp.{nat_cmp_is, ranked, tied_itself}
 use Rattle.std.specs.declared.cmp.Ordering.{Ordering}
 use Rattle.std.specs.declared.cmp.Ordering.TheVariants.{Less, Equal, Greater}
-use Rattle.std.proofs.lemmas.Bool.{or_right, and_parts, and_from, eqb-true, ltb-true, lt-ltb, eq-eqb, ltb-false, leb-true, leb-false, false_from_ne_true}
+use Rattle.std.proofs.lemmas.Bool.{and_parts, and_from, eqb-true, ltb-true, lt-ltb, eq-eqb, ltb-false, leb-true, leb-false, false_from_ne_true}
 use Rattle.std.proofs.lemmas.Map.Lookups.{exact_unsigned, exact_pairs}
 use Rattle.nm_types.specs.declared.area.Area.{Area}
 use Rattle.nm_types.specs.Map.{Map, get, spot_cmp}
 use Rattle.nm_types.specs.State.{Placed, covers, area_over}
+use Rattle.nm_types.proofs.Cases.{true_false, some_is}
 use Rattle.nm_areas.specs.Refused.{overlaps}
 use Rattle.nm_areas.specs.Mapped.{AreasAreApart}
 use Rattle.nm_areas.specs.Mapped.{IsSomePages}
 use Rattle.nm_areas.proofs.Apart.{behind_last, covers_parts, covers_from}
-use Rattle.nm_areas.proofs.Parted.{Among, All-among, among_over, over_among}
-use Rattle.nm_areas.proofs.Maps.{spot_cmp_total}
-
-true_false : true ≡ false → ⊥
-true_false e = cc
+use Rattle.nm_areas.proofs.Parted.{Among, All-among, among_over, over_among, among_any}
+use Rattle.nm_types.proofs.Maps.{spot_cmp_total}
 
 -- one spot after another, or the other way round
 spot_ranked : (a b : ℕ × ℕ) (r : Ordering) → spot_cmp a b ≡ r → (a.0 < b.0) ⊎ ((b.0 < a.0) ⊎ ((a.0 ≡ b.0) × (r ≡ nat_cmp a.1 b.1)))
@@ -119,16 +117,8 @@ among_get (e ∷ areas) a (inr m) =
       | false ↦ among_get areas a m
     ]
 
-some_same : {A : Type 0} {x y : A} → Some x ≡ Some y → x ≡ y
-some_same e = cc
-
 pub get_not_none : (areas : Map (ℕ × ℕ) Area) (a : Placed) → Among a areas → get spot_cmp areas a.0 ≡ None → ⊥
 get_not_none areas a m h = true_false (sym (subst (λ (o : Option Area). is_some o ≡ true) h (among_get areas a m)))
-
-any_among : (test : Placed → Bool) (areas : List Placed) (a : Placed) → Among a areas → test a ≡ true → list_any test areas ≡ true
-any_among test [] a m h = absurd m
-any_among test (x ∷ areas) a (inl e) h = ap (λ b. b || list_any test areas) (ap test (sym e) ∙ h)
-any_among test (x ∷ areas) a (inr m) h = or_right (test x) (list_any test areas) (any_among test areas a m h)
 
 any_none : (test : Placed → Bool) (areas : List Placed) → ((a : Placed) → Among a areas → test a ≡ true → ⊥) → list_any test areas ≡ false
 any_none test [] h = refl
@@ -162,7 +152,7 @@ free_says pid first end e of low =
 module _ (areas : Map (ℕ × ℕ) Area) (apart : AreasAreApart areas) (some : AllByRecursion IsSomePages areas) where
   -- two areas over one page number are one
   same_area : (pid v : ℕ) (a b : Placed) → Among a areas → Among b areas → covers a pid v ≡ true → covers b pid v ≡ true → a ≡ b
-  same_area pid v a b m n c k = some_same (sym (over_among areas pid v a apart m c) ∙ over_among areas pid v b apart n k)
+  same_area pid v a b m n c k = some_is (sym (over_among areas pid v a apart m c) ∙ over_among areas pid v b apart n k)
 
   -- an area that begins no later, and ends behind the first page of another, is that one
   alone : (a e : Placed) → Among a areas → Among e areas → a.0.0 ≡ e.0.0 → a.0.1 ≤ e.0.1 → e.0.1 < behind_last a → a ≡ e
@@ -262,7 +252,7 @@ module _ (m : BTreeMap (ℕ × ℕ) Area) (areas : Map (ℕ × ℕ) Area) (is : 
       let among : Among e m.entries = get_among m.entries e.0 e.1 here.1 in
       ap (list_any (overlaps pid first end)) (sym is)
       ∙ elim (overlaps pid first end e) as (λ b. overlaps pid first end e ≡ b → list_any (overlaps pid first end) m.entries ≡ b) [
-        | true ↦ λ b. any_among (overlaps pid first end) m.entries e among b
+        | true ↦ λ b. among_any (overlaps pid first end) m.entries e among b
         | false ↦ λ b. any_none (overlaps pid first end) m.entries (free_last m.entries apart_here some_here pid first end e among here.0.1 (λ q low. range.4 e t last q (tt, low)) b)
       ] refl
 

@@ -1,6 +1,6 @@
 -- The areas of a process from one page number up to another, one after another, and their policy.
 use Rattle.std.proofs.Common.{◌≡◌, ℕ, ◌+◌, ◌≤◌, ◌<◌, List, [], ◌∷◌, true, false, ◌&&◌, cond, refl, sym, ap, subst, ◌∙◌, arith, inl, inr, eq-eqb}
-use Rattle.std.specs.Prelude.{Option, Some, None, IsSome, IfNone, nat_lt, nat_le, ◌==◌, ◌⊎◌}
+use Rattle.std.specs.Prelude.{Some, None, IsSome, nat_lt, nat_le, ◌==◌, ◌⊎◌}
 use Rattle.std.specs.Option.{option_map}
 use Rattle.std.specs.BTreeMap.{BTreeMap}
 use Rattle.std.specs.BTreeMap.Range.{IsRangeOf}
@@ -16,19 +16,10 @@ use Rattle.nm_types.specs.declared.area.Policy.{Policy}
 use Rattle.nm_types.specs.declared.area.Area.{Area}
 use Rattle.nm_types.specs.Map.{Map, get, set, replace, with_values, spot_cmp}
 use Rattle.nm_types.specs.State.{Placed}
+use Rattle.nm_types.proofs.Cases.{true_false, some_none}
 use Rattle.nm_areas.specs.Policing.{painted}
-use Rattle.nm_areas.proofs.Maps.{spot_cmp_total, get-values, agree, set_agree, set_same, replace_is_set}
+use Rattle.nm_types.proofs.Maps.{spot_cmp_total, get-values, agree, set_agree, set_same, replace_is_set}
 use Rattle.nm_areas.proofs.Overs.{up_to, from_up_to, spot_behind, spot_same}
-
-true_false : true ≡ false → ⊥
-true_false e = cc
-
-some_none : {V : Type 0} {v : V} → Some v ≡ None → ⊥
-some_none e = cc
-
-pub none_always : {T P : Type 0} (o : Option T) → P → IfNone o P
-none_always None p = p
-none_always (Some x) p = tt
 
 pub exact_spot : CmpEqualImpliesEq spot_cmp
 exact_spot = exact_pairs nat_cmp nat_cmp exact_unsigned exact_unsigned

@@ -1,18 +1,16 @@
 -- Areas without a range of page numbers of a process.
-use Rattle.std.proofs.Common.{◌≡◌, ℕ, ◌+◌, ◌-◌, ◌≤◌, ◌<◌, List, [], ◌∷◌, ◌++◌, true, false, cond, refl, sym, ap, subst, ◌∙◌, arith, inl, inr}
+use Rattle.std.proofs.Common.{◌≡◌, ℕ, ◌+◌, ◌-◌, ◌≤◌, ◌<◌, List, Bool, ◌||◌, [], ◌∷◌, ◌++◌, true, false, cond, refl, sym, ap, subst, ◌∙◌, arith, inl, inr}
 use Rattle.std.specs.Prelude.{Some, nat_lt, ◌==◌, ◌⊎◌, min, max}
-use Rattle.std.specs.List.{AllByRecursion, flat_map}
-use Rattle.std.proofs.lemmas.Bool.{eqb-true, eqb-false, ltb-true, lt-ltb}
+use Rattle.std.specs.List.{AllByRecursion, flat_map, list_any}
+use Rattle.std.proofs.lemmas.Bool.{or_left, or_right, eqb-true, eqb-false, ltb-true, lt-ltb}
 use Rattle.nm_types.specs.declared.page.Page.{Page}
 use Rattle.nm_types.specs.declared.area.Area.{Area}
 use Rattle.nm_types.specs.Map.{Map}
 use Rattle.nm_types.specs.State.{Placed, covers, area_over, page_of}
+use Rattle.nm_types.proofs.Cases.{true_false}
 use Rattle.nm_areas.specs.Parts.{before, behind, parts_outside}
 use Rattle.nm_areas.specs.Mapped.{AreasAreApart}
 use Rattle.nm_areas.proofs.Apart.{behind_last, covers_parts, covers_from}
-
-true_false : true ≡ false → ⊥
-true_false e = cc
 
 -- an area of the list
 abbrev pub Among : Placed → List Placed → Type 0
@@ -177,3 +175,17 @@ part_there pid first end a q w c out =
       ]
       | false ↦ λ t. (a, inl refl, c)
     ] refl
+
+-- an area that passes a test
+pub any_among : (test : Placed → Bool) (areas : List Placed) → list_any test areas ≡ true → (a : Placed) × Among a areas × (test a ≡ true)
+any_among test [] h = cc
+any_among test (x ∷ areas) h =
+    elim (test x) as (λ b. test x ≡ b → (b || list_any test areas) ≡ true → (a : Placed) × Among a (x ∷ areas) × (test a ≡ true)) [
+      | true ↦ λ b k. (x, inl refl, b)
+      | false ↦ λ b k. let more = any_among test areas k in (more.0, inr more.1, more.2)
+    ] refl h
+
+pub among_any : (test : Placed → Bool) (areas : List Placed) (a : Placed) → Among a areas → test a ≡ true → list_any test areas ≡ true
+among_any test [] a m h = absurd m
+among_any test (x ∷ areas) a (inl e) h = or_left _ _ (ap test (sym e) ∙ h)
+among_any test (x ∷ areas) a (inr m) h = or_right _ _ (among_any test areas a m h)

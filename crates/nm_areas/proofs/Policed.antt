@@ -1,8 +1,8 @@
 -- What another policy of a range keeps of all areas.
-use Rattle.std.proofs.Common.{◌≡◌, ℕ, ◌+◌, ◌<◌, [], ◌∷◌, true, false, ◌&&◌, cond, refl, sym, ap, subst, ◌∙◌, arith, ◌||◌, ◌≤◌, List, inl, inr}
+use Rattle.std.proofs.Common.{◌≡◌, ℕ, ◌+◌, ◌<◌, [], ◌∷◌, true, false, ◌&&◌, cond, refl, sym, ap, subst, ◌∙◌, arith, ◌||◌, ◌≤◌, inl, inr}
 use Rattle.std.specs.Prelude.{nat_lt, nat_le, ◌==◌, ◌⊎◌, Bool}
 use Rattle.std.specs.List.{AllByRecursion, flat_map, list_any}
-use Rattle.std.proofs.lemmas.Bool.{or_left, or_right, ltb-true, ltb-false}
+use Rattle.std.proofs.lemmas.Bool.{ltb-true, ltb-false}
 use Rattle.std.specs.List.Sorted.{IsStrictlySortedBy}
 use Rattle.std.specs.Map.{keys_of}
 use Rattle.nm_types.specs.declared.page.Page.{Page}
@@ -16,7 +16,7 @@ use Rattle.nm_areas.specs.Mapped.{mapped, AreasAreApart, IsSomePages, EndsLow, H
 use Rattle.nm_areas.specs.Parts.{parts_outside}
 use Rattle.nm_areas.specs.Policing.{repoliced, split_at, painted}
 use Rattle.nm_areas.proofs.Apart.{covers_from}
-use Rattle.nm_areas.proofs.Parted.{Among, All-among, flat_among, part_of, part_there}
+use Rattle.nm_areas.proofs.Parted.{All-among, flat_among, part_of, part_there, any_among, among_any}
 use Rattle.nm_areas.proofs.Painted.{keys_painted}
 use Rattle.nm_areas.proofs.Shown.{repoliced_shows}
 use Rattle.nm_areas.proofs.Repoliced.{all_parts, split_some, split_indices, split_apart, split_sorted, all_repoliced}
@@ -39,19 +39,6 @@ fine_split pid at areas fine =
       indices = split_indices pid at areas fine.whole fine.indices;
     }
 
-pub any_among : (test : Placed → Bool) (areas : List Placed) → list_any test areas ≡ true → (a : Placed) × Among a areas × (test a ≡ true)
-any_among test [] h = cc
-any_among test (x ∷ areas) h =
-    elim (test x) as (λ b. test x ≡ b → (b || list_any test areas) ≡ true → (a : Placed) × Among a (x ∷ areas) × (test a ≡ true)) [
-      | true ↦ λ b k. (x, inl refl, b)
-      | false ↦ λ b k. let more = any_among test areas k in (more.0, inr more.1, more.2)
-    ] refl h
-
-pub among_any : (test : Placed → Bool) (areas : List Placed) (a : Placed) → Among a areas → test a ≡ true → list_any test areas ≡ true
-among_any test [] a m h = absurd m
-among_any test (x ∷ areas) a (inl e) h = or_left _ _ (ap test (sym e) ∙ h)
-among_any test (x ∷ areas) a (inr m) h = or_right _ _ (among_any test areas a m h)
-
 -- a segment that is shown is shown by a part
 pub shown_split : (pid at : ℕ) (areas : Map (ℕ × ℕ) Area) → AllByRecursion IsSomePages areas → (n : ℕ) → list_any (shows_segment n) areas ≡ true → list_any (shows_segment n) (split_at pid at areas) ≡ true
 shown_split pid at areas some n h =
@@ -70,21 +57,21 @@ below_split pid at next areas some below =
     all_parts pid at areas some (λ a. a.1.page.segment < next) (λ a b m p. let under : a.1.page.segment < next = All-among (λ x. x.1.page.segment < next) areas a below m in omega (arith, under, p.segment))
 
 module _ (pid first end : ℕ) (policy : Policy) where
-  abbrev paint : ℕ × ℕ → Area → Area
+  abbrev pub paint : ℕ × ℕ → Area → Area
   paint = painted pid first end policy
 
   -- what holds whatever the policy
-  any_policy : (P : Area → Type 0) (k : ℕ × ℕ) (x : Area) → P x → P (record x { policy = policy }) → P (paint k x)
+  pub any_policy : (P : Area → Type 0) (k : ℕ × ℕ) (x : Area) → P x → P (record x { policy = policy }) → P (paint k x)
   any_policy P k x p r = elim ((k.0 == pid) && (nat_le first k.1 && nat_lt k.1 end)) as (λ b. P (cond b (record x { policy = policy }) x)) [ true ↦ r | false ↦ p ]
 
   covers_painted : (e : Placed) (q w : ℕ) → covers (e.0, paint e.0 e.1) q w ≡ covers e q w
   covers_painted e q w = any_policy (λ x. covers (e.0, x) q w ≡ covers e q w) e.0 e.1 refl refl
 
-  all_painted : (P Q : Placed → Type 0) → ((e : Placed) → P e → Q (e.0, paint e.0 e.1)) → (areas : Map (ℕ × ℕ) Area) → AllByRecursion P areas → AllByRecursion Q (with_values paint areas)
+  pub all_painted : (P Q : Placed → Type 0) → ((e : Placed) → P e → Q (e.0, paint e.0 e.1)) → (areas : Map (ℕ × ℕ) Area) → AllByRecursion P areas → AllByRecursion Q (with_values paint areas)
   all_painted P Q f [] h = tt
   all_painted P Q f (e ∷ areas) h = (f e h.0, all_painted P Q f areas h.1)
 
-  apart_painted : (areas : Map (ℕ × ℕ) Area) → AreasAreApart areas → AreasAreApart (with_values paint areas)
+  pub apart_painted : (areas : Map (ℕ × ℕ) Area) → AreasAreApart areas → AreasAreApart (with_values paint areas)
   apart_painted [] h = tt
   apart_painted (e ∷ areas) h = (
     all_painted (λ b. (q w : ℕ) → covers e q w ≡ true → covers b q w ≡ false) (λ b. (q w : ℕ) → covers (e.0, paint e.0 e.1) q w ≡ true → covers b q w ≡ false)

@@ -12,6 +12,7 @@ use Rattle.nm_types.specs.declared.area.Area.{Area}
 use Rattle.nm_types.specs.declared.area.Segment.{Segment}
 use Rattle.nm_types.specs.Map.{Map, get, set, spot_cmp}
 use Rattle.nm_types.specs.State.{Placed, covers, area_over, page_of, page_shown, page_at}
+use Rattle.nm_types.proofs.Cases.{true_false, none_some, some_is}
 use Rattle.nm_areas.specs.Lines.{is_shared}
 use Rattle.nm_areas.specs.Table.{Table, with_areas}
 use Rattle.nm_areas.specs.Mapped.{mapped, AreasAreApart, IsSomePages, shows_segment, PrivateIsOnce, IsMapped}
@@ -19,23 +20,14 @@ use Rattle.nm_areas.specs.Parts.{covers_page, is_covered}
 use Rattle.nm_areas.specs.Policing.{split_at}
 use Rattle.nm_areas.specs.Refused.{is_stretch}
 use Rattle.nm_areas.specs.Removed.{areas_left, segments_left, begins_in, is_own, others, page_in}
-use Rattle.nm_areas.proofs.Maps.{equal, get-set}
+use Rattle.nm_types.proofs.Maps.{equal, get-set}
 use Rattle.nm_areas.proofs.Apart.{one_more, NoneOverlaps, area_over-set, covers_parts, covers_from}
-use Rattle.nm_areas.proofs.Parted.{Among, All-among, among_over, over_among}
+use Rattle.nm_areas.proofs.Parted.{Among, All-among, among_over, over_among, any_among, among_any}
 use Rattle.nm_areas.proofs.Overs.{get_among}
 use Rattle.nm_areas.proofs.Own.{own_from}
-use Rattle.nm_areas.proofs.Policed.{any_among, among_any, fine_here, fine_split}
+use Rattle.nm_areas.proofs.Policed.{fine_here, fine_split}
 use Rattle.nm_areas.proofs.Repoliced.{split_some, split_apart}
 use Rattle.nm_areas.proofs.Shown.{left_outside, left_shows}
-
-true_false : true ≡ false → ⊥
-true_false e = cc
-
-none_some : {V : Type 0} {v : V} → None ≡ Some v → ⊥
-none_some e = cc
-
-some_same : {V : Type 0} {v w : V} → Some v ≡ Some w → v ≡ w
-some_same e = cc
 
 -- ---- the area behind a page that is shown
 
@@ -43,7 +35,7 @@ shown_by : (areas : Map (ℕ × ℕ) Area) (q v : ℕ) (p : Page) → page_at ar
 shown_by areas q v p h =
     elim (area_over areas q v) as (λ o. area_over areas q v ≡ o → page_shown o v ≡ Some p → (a : Placed) × Among a areas × (covers a q v ≡ true) × (page_of a v ≡ p)) [
       | None ↦ λ o k. absurd (none_some k)
-      | Some a ↦ λ o k. let found = among_over areas q v a o in (a, found.0, found.1, some_same k)
+      | Some a ↦ λ o k. let found = among_over areas q v a o in (a, found.0, found.1, some_is k)
     ] refl h
 
 -- its segment has a number below the next one's
@@ -127,7 +119,7 @@ module _ (pid first : ℕ) (new : Area) (areas : Map (ℕ × ℕ) Area) (fresh :
   old_or_new q v p h =
       elim (covers (one_more pid first new) q v) as (λ b. covers (one_more pid first new) q v ≡ b → page_shown (cond b (Some (one_more pid first new)) (area_over areas q v)) v ≡ Some p
       → (page_at areas q v ≡ Some p) ⊎ ((covers (one_more pid first new) q v ≡ true) × (page_of (one_more pid first new) v ≡ p))) [
-        | true ↦ λ b k. inr (b, some_same k)
+        | true ↦ λ b k. inr (b, some_is k)
         | false ↦ λ b k. inl k
       ] refl (sym (ap (λ o. page_shown o v) (area_over-set pid first new areas q v fresh some none)) ∙ h)
 
@@ -222,5 +214,5 @@ none_beside areas segments pid first end s x apart once there low high private i
     let mine = shows_at areas apart it p (get_among areas (pid, s) x there) refl from to in
     let theirs = shows_at areas apart a p other.0 parts.0 parts.1 parts.2 in
     let same = once pid (s + (i - x.page.index)) a.0.0 (a.0.1 + (i - a.1.page.index)) p mine.1 theirs.1 private in
-    let is : it ≡ a = some_same (sym mine.0 ∙ ap (λ (q : ℕ). area_over areas q (s + (i - x.page.index))) same.0 ∙ ap (area_over areas a.0.0) same.1 ∙ theirs.0) in
+    let is : it ≡ a = some_is (sym mine.0 ∙ ap (λ (q : ℕ). area_over areas q (s + (i - x.page.index))) same.0 ∙ ap (area_over areas a.0.0) same.1 ∙ theirs.0) in
     true_false (sym other.1 ∙ ap (λ (y : Placed). not (is_own pid first end y)) (sym is) ∙ ap not (own_from pid first end it refl low high)))

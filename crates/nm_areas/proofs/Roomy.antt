@@ -12,6 +12,7 @@ use Rattle.nm_types.specs.declared.page.Page.{Page}
 use Rattle.nm_types.specs.declared.area.Area.{Area}
 use Rattle.nm_types.specs.Map.{Map, get, spot_cmp}
 use Rattle.nm_types.specs.State.{Placed, covers}
+use Rattle.nm_types.proofs.Cases.{true_false}
 use Rattle.nm_areas.specs.Table.{Table, with_areas}
 use Rattle.nm_areas.specs.Mapped.{mapped, AreasAreApart, IsSomePages, IsMapped}
 use Rattle.nm_areas.specs.Parts.{pages_from, pages_between}
@@ -23,9 +24,6 @@ use Rattle.nm_areas.proofs.Split.{less_to, among_keys}
 use Rattle.nm_areas.proofs.Own.{NoneBegins}
 use Rattle.nm_areas.proofs.Lost.{own_pages_next}
 use Rattle.nm_areas.proofs.Letting.{cut_own}
-
-true_false : true ≡ false → ⊥
-true_false e = cc
 
 pub so_many : (segment index n : ℕ) → length (pages_from segment index n) ≡ n
 so_many segment index zero = refl

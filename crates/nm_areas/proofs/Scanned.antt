@@ -16,24 +16,21 @@ use Rattle.nm_types.specs.declared.page.Page.{Page}
 use Rattle.nm_types.specs.declared.area.Area.{Area}
 use Rattle.nm_types.specs.Map.{Map, get, spot_cmp}
 use Rattle.nm_types.specs.State.{Placed}
+use Rattle.nm_types.proofs.Cases.{true_false}
 use Rattle.nm_areas.specs.Index.{Key, key_cmp, is_of, IsIndex, is_passed, passes}
 use Rattle.nm_areas.specs.Mapped.{shows_segment}
 use Rattle.nm_areas.specs.Parts.{covers_page}
 use Rattle.nm_areas.specs.Removed.{is_own, covers_beside}
-use Rattle.nm_areas.proofs.Maps.{spot_cmp_total, found_first, found_later}
-use Rattle.nm_areas.proofs.Parted.{Among}
+use Rattle.nm_types.proofs.Maps.{spot_cmp_total, found_first, found_later}
+use Rattle.nm_areas.proofs.Parted.{Among, any_among, among_any}
 use Rattle.nm_areas.proofs.Painted.{exact_spot}
 use Rattle.nm_areas.proofs.Overs.{get_among}
-use Rattle.nm_areas.proofs.Policed.{any_among, among_any}
 use Rattle.nm_areas.proofs.Indexed.{has, same_key, key_itself}
 
 -- whether an area of the first keys passes a test, as long as they are of one segment
 abbrev pub scan : ℕ → (Placed → Bool) → Map (ℕ × ℕ) Area → List Key → Bool
 scan number test areas [] = false
 scan number test areas (k ∷ keys) = (k.0 == number) && (passes test areas (k.1, k.2) || scan number test areas keys)
-
-true_false : true ≡ false → ⊥
-true_false e = cc
 
 both_ways : (a b : Bool) → (a ≡ true → b ≡ true) → (b ≡ true → a ≡ true) → a ≡ b
 both_ways true b h k = sym (h refl)

@@ -7,17 +7,12 @@ use Rattle.nm_types.specs.declared.page.Page.{Page}
 use Rattle.nm_types.specs.declared.area.Area.{Area}
 use Rattle.nm_types.specs.Map.{Map, get, page_cmp, spot_cmp}
 use Rattle.nm_types.specs.State.{area_over, page_of, page_shown, page_at}
+use Rattle.nm_types.proofs.Cases.{none_some, some_is}
 use Rattle.nm_areas.specs.Mapped.{AreasAreApart, IsSomePages}
 use Rattle.nm_areas.proofs.Apart.{covers_parts, covers_from}
 use Rattle.nm_areas.proofs.Parted.{Among, All-among, among_over, over_among}
 use Rattle.nm_areas.proofs.Overs.{get_among, get_not_none}
 use Rattle.nm_areas.proofs.Own.{NoneBegins}
-
-none_some : {V : Type 0} {v : V} → None ≡ Some v → ⊥
-none_some e = cc
-
-some_same : {V : Type 0} {v w : V} → Some v ≡ Some w → v ≡ w
-some_same e = cc
 
 -- ---- the first area over one of them
 
@@ -107,7 +102,7 @@ module _ (areas : Map (ℕ × ℕ) Area) (place : Map Page ℕ) (pid at from end
           | true ↦ λ c. so_far v p low (ltb-true v from c) last shown
           | false ↦ λ c.
               let up = ltb-false v first b in
-              let is : page_of ((pid, first), x) v ≡ p = some_same (sym (ap (λ o. page_shown o v) (over v up (omega (arith, high, short)))) ∙ shown) in
+              let is : page_of ((pid, first), x) v ≡ p = some_is (sym (ap (λ o. page_shown o v) (over v up (omega (arith, high, short)))) ∙ shown) in
               ap (get page_cmp place) (sym is) ∙ none v (ltb-false v from c) up high last
         ] refl
       ] refl

@@ -8,6 +8,7 @@ use Rattle.nm_types.specs.declared.area.Policy.{Policy}
 use Rattle.nm_types.specs.declared.area.Area.{Area}
 use Rattle.nm_types.specs.Map.{Map, set, with_values, spot_cmp}
 use Rattle.nm_types.specs.State.{covers, area_over, page_shown, page_at}
+use Rattle.nm_types.proofs.Cases.{true_false, none_some}
 use Rattle.nm_areas.specs.Table.{Table}
 use Rattle.nm_areas.specs.Mapped.{AreasAreApart, IsSomePages, mapped, IsMapped}
 use Rattle.nm_areas.specs.Effect.{over_with}
@@ -19,12 +20,6 @@ use Rattle.nm_areas.proofs.Apart.{all_from_none, area_over-set, covers_parts}
 use Rattle.nm_areas.proofs.Parted.{All-among, among_over, over_among, among_flat, flat_among, part_of, part_covers, part_page, part_there}
 use Rattle.nm_areas.proofs.Split.{flat_apart}
 use Rattle.nm_areas.proofs.Repoliced.{split_some, split_apart, all_repoliced}
-
-true_false : true ≡ false → ⊥
-true_false e = cc
-
-none_some : {V : Type 0} {v : V} → None ≡ Some v → ⊥
-none_some e = cc
 
 -- ---- without a range
 
@@ -87,8 +82,15 @@ module _ (pid first end : ℕ) (range : first ≤ end) (areas : Map (ℕ × ℕ)
 
 -- ---- with another policy
 
+pub either_side : (pid at q w : ℕ) → q ≡ pid → (w < at) ⊎ (at ≤ w)
+either_side pid at q w own = elim (nat_lt w at) as (λ b. nat_lt w at ≡ b → (w < at) ⊎ (at ≤ w)) [ true ↦ λ b. inl (ltb-true w at b) | false ↦ λ b. inr (ltb-false w at b) ] refl
+
+-- areas that are split show what they showed
+pub split_shows : (pid at : ℕ) (areas : Map (ℕ × ℕ) Area) → AllByRecursion IsSomePages areas → AreasAreApart areas → (q w : ℕ) → page_at (split_at pid at areas) q w ≡ page_at areas q w
+split_shows pid at areas some apart q w = left_outside pid at at (omega arith) areas some apart q w (either_side pid at q w)
+
 module _ (pid first end : ℕ) (policy : Policy) where
-  painted_shows : (areas : Map (ℕ × ℕ) Area) (q w : ℕ) → page_at (with_values (painted pid first end policy) areas) q w ≡ page_at areas q w
+  pub painted_shows : (areas : Map (ℕ × ℕ) Area) (q w : ℕ) → page_at (with_values (painted pid first end policy) areas) q w ≡ page_at areas q w
   painted_shows [] q w = refl
   painted_shows (e ∷ areas) q w =
       elim (begins_in pid first end e.0) as (λ t. page_shown (cond (covers (e.0, cond t (record (e.1) { policy = policy }) e.1) q w) (Some (e.0, cond t (record (e.1) { policy = policy }) e.1)) (area_over (with_values (painted pid first end policy) areas) q w)) w
@@ -97,16 +99,12 @@ module _ (pid first end : ℕ) (policy : Policy) where
         | false ↦ elim (covers e q w) as (λ b. page_shown (cond b (Some e) (area_over (with_values (painted pid first end policy) areas) q w)) w ≡ page_shown (cond b (Some e) (area_over areas q w)) w) [ true ↦ refl | false ↦ painted_shows areas q w ]
       ]
 
-  either_side : (at q w : ℕ) → q ≡ pid → (w < at) ⊎ (at ≤ w)
-  either_side at q w own = elim (nat_lt w at) as (λ b. nat_lt w at ≡ b → (w < at) ⊎ (at ≤ w)) [ true ↦ λ b. inl (ltb-true w at b) | false ↦ λ b. inr (ltb-false w at b) ] refl
-
-  -- areas that are split and have another policy show what they showed
+  -- and those with another policy
   pub repoliced_shows : first < end → (areas : Map (ℕ × ℕ) Area) → AllByRecursion IsSomePages areas → AreasAreApart areas → (q w : ℕ) → page_at (flat_map (repoliced pid first end policy) areas) q w ≡ page_at areas q w
   repoliced_shows range areas some apart q w =
       let once = split_at pid first areas in
       ap (λ es. page_at es q w) (sym (all_repoliced pid first end policy range areas some)) ∙ painted_shows (split_at pid end once) q w
-      ∙ left_outside pid end end (omega arith) once (split_some pid first areas some) (split_apart pid first areas some apart) q w (either_side end q w)
-      ∙ left_outside pid first first (omega arith) areas some apart q w (either_side first q w)
+      ∙ split_shows pid end once (split_some pid first areas some) (split_apart pid first areas some apart) q w ∙ split_shows pid first areas some apart q w
 
 -- ---- with one area more
 

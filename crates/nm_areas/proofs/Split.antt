@@ -13,13 +13,11 @@ use Rattle.nm_types.specs.declared.page.Page.{Page}
 use Rattle.nm_types.specs.declared.area.Area.{Area}
 use Rattle.nm_types.specs.Map.{Map, spot_cmp}
 use Rattle.nm_types.specs.State.{Placed, covers}
+use Rattle.nm_types.proofs.Cases.{true_false}
 use Rattle.nm_areas.specs.Parts.{before, behind, parts_outside}
 use Rattle.nm_areas.specs.Mapped.{AreasAreApart}
 use Rattle.nm_areas.proofs.Apart.{behind_last, covers_parts, covers_from}
 use Rattle.nm_areas.proofs.Parted.{Among, All-among, all_from_among, among_either, among_flat, IsPart, before_part, behind_part, part_of, part_covers}
-
-true_false : true ≡ false → ⊥
-true_false e = cc
 
 -- never both over one page number
 abbrev Apart : Placed → Placed → Type 0

@@ -1,76 +1,106 @@
--- What the stretches of a batch have of its requests.
-use Rattle.std.proofs.Common.{arith, ◌≡◌, ℕ, suc, ◌+◌, ◌<◌, ◌≤◌, Bool, true, false, List, [], ◌∷◌, length, cond, refl, ap, ◌∙◌, slice_index_or, zero}
-use Rattle.std.specs.Prelude.{◌==◌, ◌/◌, slice_index}
+-- What the runs of a batch have of its requests.
+use Rattle.std.proofs.Common.{arith, ◌≡◌, ℕ, suc, ◌+◌, ◌<◌, ◌≤◌, inl, Bool, List, [], ◌∷◌, ◌++◌, length, map, refl, sym, ap, ◌∙◌, slice_index_or, zero, length-append, subst}
+use Rattle.std.proofs.lemmas.List.{length-map}
+use Rattle.std.specs.Prelude.{◌/◌, slice_index}
 use Rattle.std.proofs.lemmas.List.Sums.{sum_by-cons}
 use Rattle.std.specs.List.{AllByRecursion, sum_by}
 use Rattle.nm_runs.specs.declared.Run.{Run}
+use Rattle.nm_runs.specs.declared.Wanted.{Wanted}
 use Rattle.nm_runs.specs.declared.Wanted.TheVariants.{At}
-use Rattle.nm_runs.specs.Cut.{Request, Stretch, in_front, cut, stretches_of}
-use Rattle.nm_calls.specs.Moving.{requests_of}
+use Rattle.nm_runs.specs.Cut.{Request, Stretch, all_to, joined, size_of, stretches_of}
+use Rattle.nm_runs.specs.Limit.{cut_within}
+use Rattle.nm_runs.proofs.Pieces.{each_limit_cuts}
+use Rattle.nm_engine.specs.Run.{IsByAddress, HasOneAll}
+use Rattle.nm_engine.proofs.Alike.{each_has_one_all}
+use Rattle.nm_calls.specs.Batch.{requests_of}
 
--- how many requests stretches have
-abbrev entries : List Stretch → ℕ
-entries [] = 0
-entries (r ∷ rs) = length r.wanted + entries rs
+-- what holds of each request of a run
+abbrev OfRun : (Request → Type 0) → Stretch → Type 0
+OfRun Q r = AllByRecursion Q (all_to r.target r.wanted)
 
-by_front : (e : Request) (rs : List Stretch) → entries (in_front e rs) ≡ suc (entries rs)
-by_front e [] = omega arith
-by_front e (r ∷ rs) =
-    let joined : Stretch = record { target = r.target; wanted = e.wanted ∷ r.wanted } in
-    let alone : Stretch = record { target = e.target; wanted = e.wanted ∷ [] } in
-    elim (e.target == r.target) as (λ (b : Bool). entries (cond b (joined ∷ rs) (alone ∷ r ∷ rs)) ≡ suc (entries (r ∷ rs))) [
-      | true ↦ omega arith
-      | false ↦ omega arith
-    ]
+front_of : {X : Type 0} (P : X → Type 0) (xs ys : List X) → AllByRecursion P (xs ++ ys) → AllByRecursion P xs
+front_of P [] ys h = tt
+front_of P (x ∷ xs) ys h = (h.0, front_of P xs ys h.1)
 
--- those of a batch are all its requests
-cut_entries : (es : List Request) → entries (cut es) ≡ length es
-cut_entries [] = refl
-cut_entries (e ∷ es) = by_front e (cut es) ∙ ap suc (cut_entries es)
+back_of : {X : Type 0} (P : X → Type 0) (xs ys : List X) → AllByRecursion P (xs ++ ys) → AllByRecursion P ys
+back_of P [] ys h = h
+back_of P (x ∷ xs) ys h = back_of P xs ys h.1
 
--- every stretch goes to a node below a count
-abbrev AreBelow : ℕ → List Stretch → Type 0
-AreBelow n rs = AllByRecursion (λ r. r.target < n) rs
+-- what holds of each request of some runs, one after another, holds of each run's
+each_run : (Q : Request → Type 0) (rs : List Stretch) → AllByRecursion Q (joined rs) → AllByRecursion (OfRun Q) rs
+each_run Q [] h = tt
+each_run Q (r ∷ rs) h =
+    (front_of Q (all_to r.target r.wanted) (joined rs) h, each_run Q rs (back_of Q (all_to r.target r.wanted) (joined rs) h))
 
-front_below : (n : ℕ) (e : Request) (rs : List Stretch) → e.target < n → AreBelow n rs → AreBelow n (in_front e rs)
-front_below n e [] h hs = (h, tt)
-front_below n e (r ∷ rs) h hs =
-    let joined : Stretch = record { target = r.target; wanted = e.wanted ∷ r.wanted } in
-    let alone : Stretch = record { target = e.target; wanted = e.wanted ∷ [] } in
-    elim (e.target == r.target) as (λ (b : Bool). AreBelow n (cond b (joined ∷ rs) (alone ∷ r ∷ rs))) [
-      | true ↦ hs
-      | false ↦ (h, hs)
-    ]
+-- what holds of each request of a batch holds of each of its runs'
+pub of_runs : (Q : Request → Type 0) (limit : ℕ) (es : List Request) → 0 < limit → AllByRecursion Q es → AllByRecursion (OfRun Q) (cut_within limit es)
+of_runs Q limit es some h = each_run Q (cut_within limit es) (subst (AllByRecursion Q) (sym (each_limit_cuts limit es some).is.same) h)
 
-batch_below : (n pid : ℕ) (all : Bool) (ps ns : List ℕ) → ((k : ℕ) → k < length ns → slice_index ns k < n) → AreBelow n (cut (requests_of pid all ps ns))
+-- the node of a run is that of its first request
+target_below : (n target : ℕ) (wanted : List Wanted) → 0 < length wanted → AllByRecursion (λ e. e.target < n) (all_to target wanted) → target < n
+target_below n target [] some h = absurd (omega (arith, some))
+target_below n target (w ∷ ws) some h = h.0
+
+all_below : (n : ℕ) (rs : List Stretch) → AllByRecursion (λ r. 0 < size_of r) rs → AllByRecursion (OfRun (λ e. e.target < n)) rs → AllByRecursion (λ r. r.target < n) rs
+all_below n [] some h = tt
+all_below n (r ∷ rs) some h = (target_below n r.target r.wanted some.0 h.0, all_below n rs some.1 h.1)
+
+batch_below : (n pid : ℕ) (all : Bool) (ps ns : List ℕ) → ((k : ℕ) → k < length ns → slice_index ns k < n) → AllByRecursion (λ e. e.target < n) (requests_of pid all ps ns)
 batch_below n pid all [] ns h = tt
 batch_below n pid all (p ∷ ps) [] h = tt
 batch_below n pid all (p ∷ ps) (m ∷ ns) h =
-    front_below n (record { target = m; wanted = At pid (p / 4096) all }) (cut (requests_of pid all ps ns)) (h 0 (omega arith))
-    (batch_below n pid all ps ns (λ k lt. h (suc k) (omega (arith, lt))))
+    (h 0 (omega arith), batch_below n pid all ps ns (λ k lt. h (suc k) (omega (arith, lt))))
 
 batch_length : (pid : ℕ) (all : Bool) (ps ns : List ℕ) → length (requests_of pid all ps ns) ≤ length ps
 batch_length pid all [] ns = omega arith
 batch_length pid all (p ∷ ps) [] = omega arith
 batch_length pid all (p ∷ ps) (m ∷ ns) = let rest = batch_length pid all ps ns in omega (arith, rest)
 
-runs_below : {A : Type 0} (n : ℕ) (runs : List (Run A)) → AreBelow n (stretches_of runs) → (k : ℕ) (d : Run A) → k < length runs → (slice_index_or runs k d).target < n
+runs_below : {A : Type 0} (n : ℕ) (runs : List (Run A)) → AllByRecursion (λ r. r.target < n) (stretches_of runs) → (k : ℕ) (d : Run A) → k < length runs → (slice_index_or runs k d).target < n
 runs_below n [] hs k d lt = absurd (omega (arith, lt))
 runs_below n (run ∷ runs) hs zero d lt = hs.0
 runs_below n (run ∷ runs) hs (suc k) d lt = runs_below n runs hs.1 k d (omega (arith, lt))
 
-runs_entries : {A : Type 0} (runs : List (Run A)) → sum_by (λ (run : Run A). length run.wanted.items) runs ≡ entries (stretches_of runs)
+runs_entries : {A : Type 0} (runs : List (Run A)) → sum_by (λ (run : Run A). length run.wanted.items) runs ≡ length (joined (stretches_of runs))
 runs_entries [] = refl
-runs_entries (run ∷ runs) = sum_by-cons (λ r. length r.wanted.items) run runs ∙ ap (λ n. length run.wanted.items + n) (runs_entries runs)
+runs_entries {A = A} (run ∷ runs) =
+    let parts = length-append (all_to run.target run.wanted.items) (joined (stretches_of runs)) in
+    let own = length-map {B = Request} run.wanted.items (λ w. record { target = run.target; wanted = w }) in
+    let rest = runs_entries runs in
+    let first = sum_by-cons (λ (r : Run A). length r.wanted.items) run runs in
+    omega (arith, parts, own, rest, first)
 
 -- the runs of a batch go to nodes that its entries name ..
-pub targets_below : {A : Type 0} (n pid : ℕ) (all : Bool) (ps ns : List ℕ) (runs : List (Run A)) → stretches_of runs ≡ cut (requests_of pid all ps ns) → ((k : ℕ) → k < length ns → slice_index ns k < n) → (k : ℕ) (d : Run A) → k < length runs → (slice_index_or runs k d).target < n
-targets_below n pid all ps ns runs e h = runs_below n runs (rw e (batch_below n pid all ps ns h))
+pub targets_below : {A : Type 0} (n limit pid : ℕ) (all : Bool) (ps ns : List ℕ) (runs : List (Run A)) → 0 < limit → stretches_of runs ≡ cut_within limit (requests_of pid all ps ns) → ((k : ℕ) → k < length ns → slice_index ns k < n) → (k : ℕ) (d : Run A) → k < length runs → (slice_index_or runs k d).target < n
+targets_below n limit pid all ps ns runs some e h =
+    let es = requests_of pid all ps ns in
+    runs_below n runs (rw e (all_below n (cut_within limit es) (each_limit_cuts limit es some).is.some (of_runs (λ e. e.target < n) limit es some (batch_below n pid all ps ns h))))
 
 -- .. and have no more entries than the batch has addresses
-pub entries_fit : {A : Type 0} (pid : ℕ) (all : Bool) (ps ns : List ℕ) (runs : List (Run A)) → stretches_of runs ≡ cut (requests_of pid all ps ns) → sum_by (λ (run : Run A). length run.wanted.items) runs ≤ length ps
-entries_fit pid all ps ns runs e =
-    let all_of : sum_by (λ run. length run.wanted.items) runs ≡ length (requests_of pid all ps ns) =
-    runs_entries runs ∙ ap entries e ∙ cut_entries (requests_of pid all ps ns) in
+pub entries_fit : {A : Type 0} (limit pid : ℕ) (all : Bool) (ps ns : List ℕ) (runs : List (Run A)) → 0 < limit → stretches_of runs ≡ cut_within limit (requests_of pid all ps ns) → sum_by (λ (run : Run A). length run.wanted.items) runs ≤ length ps
+entries_fit limit pid all ps ns runs some e =
+    let es = requests_of pid all ps ns in
+    let all_of : sum_by (λ run. length run.wanted.items) runs ≡ length es =
+    runs_entries runs ∙ ap (λ rs. length (joined rs)) e ∙ ap length (each_limit_cuts limit es some).is.same in
     let few = batch_length pid all ps ns in
     omega (arith, all_of, few)
+
+-- the requests of a batch are by address, with one `all` ..
+batch_alike : (pid : ℕ) (all : Bool) (ps ns : List ℕ) → AllByRecursion (λ e. IsByAddress all e.wanted) (requests_of pid all ps ns)
+batch_alike pid all [] ns = tt
+batch_alike pid all (p ∷ ps) [] = tt
+batch_alike pid all (p ∷ ps) (m ∷ ns) = (refl, batch_alike pid all ps ns)
+
+run_alike : (all : Bool) (target : ℕ) (wanted : List Wanted) → AllByRecursion (λ e. IsByAddress all e.wanted) (all_to target wanted) → AllByRecursion (IsByAddress all) wanted
+run_alike all target [] h = tt
+run_alike all target (w ∷ ws) h = (h.0, run_alike all target ws h.1)
+
+all_alike : (all : Bool) (rs : List Stretch) → AllByRecursion (OfRun (λ e. IsByAddress all e.wanted)) rs → AllByRecursion (λ r. HasOneAll r.wanted) rs
+all_alike all [] h = tt
+all_alike all (r ∷ rs) h = (inl (all, run_alike all r.target r.wanted h.0), all_alike all rs h.1)
+
+-- .. and so are those of each of its runs
+pub runs_alike : {A : Type 0} (limit pid : ℕ) (all : Bool) (ps ns : List ℕ) (runs : List (Run A)) → 0 < limit → stretches_of runs ≡ cut_within limit (requests_of pid all ps ns) → (k : ℕ) (d : Run A) → k < length runs → HasOneAll (slice_index_or runs k d).wanted.items
+runs_alike limit pid all ps ns runs some e =
+    let es = requests_of pid all ps ns in
+    each_has_one_all runs (rw e (all_alike all (cut_within limit es) (of_runs (λ e. IsByAddress all e.wanted) limit es some (batch_alike pid all ps ns))))

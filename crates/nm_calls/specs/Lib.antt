@@ -1,6 +1,10 @@
 pub mod Calls
 pub mod Errors
 pub mod Entries
-pub mod Moving
+pub mod Permission
+pub mod Batch
+pub mod Systems
 pub mod Outcome
 pub mod Does
+pub mod Views
+pub mod Laws

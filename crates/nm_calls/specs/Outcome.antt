@@ -1,21 +1,22 @@
--- Which call is refused, and what the others answer and make of the state.
-use Rattle.std.specs.Prelude.{ℕ, ℤ, ◌/◌, List, [], ◌∷◌, map, take, Option, Some, None}
+-- Which call is refused, what the others answer, and the state after each, also where the host refuses memory.
+use Rattle.std.specs.Prelude.{ℕ, ℤ, ◌+◌, ◌/◌, List, [], ◌∷◌, length, map, slice_index_or, Option, Some, None, Result, Ok, Err}
 use Rattle.nm_types.specs.declared.errno.Errno.{Errno}
 use Rattle.nm_types.specs.State.{State, free_list}
-use Rattle.nm_runs.specs.Cut.{Stretch, cut}
-use Rattle.nm_engine.specs.Touch.{read, write}
+use Rattle.nm_runs.specs.Cut.{Stretch}
+use Rattle.nm_runs.specs.Limit.{cut_within}
+use Rattle.nm_engine.specs.Touch.{read, write, spot_refusal}
 use Rattle.nm_engine.specs.Touch as engine
 use Rattle.nm_engine.specs.Effect.{spawn, map_new, attach, unmap, exit, pin, unpin}
--- handed on, for those who ask for the report on a trace
-pub use Rattle.nm_engine.specs.Effect.{new_machine}
 use Rattle.nm_engine.specs.Refused.{spawn_refusal, map_refusal, attach_refusal, unmap_refusal, exit_refusal, pin_refusal, unpin_refusal, list_refusal, entries_refusal}
-use Rattle.nm_engine.specs.Run.{Ran}
-use Rattle.nm_engine.specs.Batch.{runs_from, batch, answer_of}
+use Rattle.nm_engine.specs.Run.{Ran, run}
+use Rattle.nm_engine.specs.Batch.{runs_from, answer_of}
 use Rattle.nm_engine.specs.Entries.{entries_of}
 use Rattle.nm_engine.specs.Asking.{node_status}
 use Rattle.nm_calls.specs.Calls.{Call, Spawn, MapPages, Attach, Unmap, Exit, Pin, Unpin, ReadBytes, WriteBytes, MovePages, Query, FreeList, Pagemap, Answer, Refusal, Done, Held, NewSegment, TheBytes, Statuses, Frames, Entries}
 use Rattle.nm_calls.specs.Entries.{entries_shown}
-use Rattle.nm_calls.specs.Moving.{move_refusal, query_refusal, moves_all, owner_of, requests_of}
+use Rattle.nm_calls.specs.Permission.{query_refusal, moves_all, owner_of}
+use Rattle.nm_calls.specs.Batch.{move_refusal, requests_of}
+use Rattle.nm_calls.specs.Systems.{SystemState, in_state}
 
 -- why an access is refused
 abbrev pub refusal_in : engine.Answer → Option Errno
@@ -35,7 +36,7 @@ shown (engine.Refused e) = Refusal e
 abbrev pub statuses_of : State → ℕ → List ℕ → List ℤ
 statuses_of s pid addresses = map (λ address. node_status s pid (address / 4096)) addresses
 
--- the error with which a call is refused, if it is
+-- the error with which a call is refused before it changes anything, if it is
 unfoldable pub refused : State → Call → Option Errno
 refused s (Spawn pid uid home allowed privileged) = spawn_refusal s pid home allowed
 refused s (MapPages pid addr pages shared) = map_refusal s pid addr pages
@@ -51,66 +52,74 @@ refused s (Query caller pid pages flags) = query_refusal s caller pid flags
 refused s (FreeList node) = list_refusal s node
 refused s (Pagemap pid) = entries_refusal s pid
 
--- what a call answers, where it is not refused
-unfoldable pub answered : State → Call → Answer
-answered s (Spawn pid uid home allowed privileged) = Done
-answered s (MapPages pid addr pages shared) = NewSegment s.next_segment
-answered s (Attach pid addr segment offset pages) = Done
-answered s (Unmap pid addr pages) = Done
-answered s (Exit pid) = Done
-answered s (Pin pid addr) = Done
-answered s (Unpin pid addr) = Done
-answered s (ReadBytes pid addr len) = shown (read s pid addr len).answer
-answered s (WriteBytes pid addr bytes) = shown (write s pid addr bytes).answer
-answered s (MovePages caller pid pages nodes flags) =
-    let made : Ran = batch s (requests_of (owner_of caller pid) (moves_all flags) pages nodes) [] in
-    Statuses (answer_of made) made.statuses
-answered s (Query caller pid pages flags) = Statuses 0 (statuses_of s (owner_of caller pid) pages)
-answered s (FreeList node) = Frames (free_list s node)
-answered s (Pagemap pid) = Entries (entries_shown (entries_of s pid))
+-- the refusals that a call comes to before it asks the host for memory: all but the want of a free frame, for an access
+unfoldable pub refused_at_once : State → Call → Option Errno
+refused_at_once s (ReadBytes pid addr len) = spot_refusal s pid addr len
+refused_at_once s (WriteBytes pid addr bytes) = spot_refusal s pid addr (length bytes)
+refused_at_once s call = refused s call
 
--- the state after a call, where it is not refused
-unfoldable pub after : State → Call → State
-after s (Spawn pid uid home allowed privileged) = spawn s pid uid home allowed privileged
-after s (MapPages pid addr pages shared) = map_new s pid addr pages shared
-after s (Attach pid addr segment offset pages) = attach s pid addr segment offset pages
-after s (Unmap pid addr pages) = unmap s pid addr pages
-after s (Exit pid) = exit s pid
-after s (Pin pid addr) = pin s pid addr
-after s (Unpin pid addr) = unpin s pid addr
-after s (ReadBytes pid addr len) = (read s pid addr len).state
-after s (WriteBytes pid addr bytes) = (write s pid addr bytes).state
-after s (MovePages caller pid pages nodes flags) =
-    (batch s (requests_of (owner_of caller pid) (moves_all flags) pages nodes) []).state
-after s (Query caller pid pages flags) = s
-after s (FreeList node) = s
-after s (Pagemap pid) = s
+-- the runs that a call makes, where it is not refused; one that moves no pages makes none
+unfoldable pub runs_asked : SystemState → Call → List Stretch
+runs_asked y (MovePages caller pid pages nodes flags) =
+    cut_within y.run_limit (requests_of (owner_of caller pid) (moves_all flags) pages nodes)
+runs_asked y call = []
 
--- an answer, and the state after it
+-- an answer, and the system after it
 pub record Outcome : Type 0 where
   pub answer : Answer
-  pub state : State
+  pub system : SystemState
 
--- the refusal and the state as it was, unless there is no refusal
-abbrev pub unless : Option Errno → State → Outcome → Outcome
-unless (Some e) s o = record { answer = Refusal e; state = s }
-unless None s o = o
+-- this answer, and the system in this state
+abbrev pub leaves : SystemState → Answer → State → Outcome
+leaves y answer s = record { answer = answer; system = in_state y s }
 
--- what a call answers, and the state after it; one that is refused changes nothing
-abbrev pub outcome : State → Call → Outcome
-outcome s call = unless (refused s call) s (record { answer = answered s call; state = after s call })
+-- what a call that is not refused answers once its runs are made, and the system then
+unfoldable pub ended : SystemState → Call → Ran → Outcome
+ended y (Spawn pid uid home allowed privileged) made = leaves y Done (spawn y.state pid uid home allowed privileged)
+ended y (MapPages pid addr pages shared) made =
+    leaves y (NewSegment y.state.next_segment) (map_new y.state pid addr pages shared)
+ended y (Attach pid addr segment offset pages) made = leaves y Done (attach y.state pid addr segment offset pages)
+ended y (Unmap pid addr pages) made = leaves y Done (unmap y.state pid addr pages)
+ended y (Exit pid) made = leaves y Done (exit y.state pid)
+ended y (Pin pid addr) made = leaves y Done (pin y.state pid addr)
+ended y (Unpin pid addr) made = leaves y Done (unpin y.state pid addr)
+ended y (ReadBytes pid addr len) made =
+    let access = read y.state pid addr len in leaves y (shown access.answer) access.state
+ended y (WriteBytes pid addr bytes) made =
+    let access = write y.state pid addr bytes in leaves y (shown access.answer) access.state
+ended y (MovePages caller pid pages nodes flags) made = leaves y (Statuses (answer_of made) made.statuses) made.state
+ended y (Query caller pid pages flags) made =
+    leaves y (Statuses 0 (statuses_of y.state (owner_of caller pid) pages)) y.state
+ended y (FreeList node) made = leaves y (Frames (free_list y.state node)) y.state
+ended y (Pagemap pid) made = leaves y (Entries (entries_shown (entries_of y.state pid))) y.state
 
--- the runs of a call that is not refused
+-- the refusal and the system as it was, unless there is no refusal
+abbrev pub unless : Option Errno → SystemState → Outcome → Outcome
+unless (Some e) y o = record { answer = Refusal e; system = y }
+unless None y o = o
+
+-- what a call answers, and the system after it; one that is refused changes nothing
+abbrev pub outcome : SystemState → Call → Outcome
+outcome y call = unless (refused y.state call) y (ended y call (runs_from 0 y.state (runs_asked y call) []))
+
+-- no runs, unless there is no refusal
 abbrev pub runs_unless : Option Errno → List Stretch → List Stretch
 runs_unless (Some e) runs = []
 runs_unless None runs = runs
 
--- the runs of a call; one that moves no pages has none
-unfoldable pub runs_of : State → Call → List Stretch
-runs_of s (MovePages caller pid pages nodes flags) =
-    runs_unless (move_refusal s caller pid nodes flags) (cut (requests_of (owner_of caller pid) (moves_all flags) pages nodes))
-runs_of s call = []
+-- the runs of a call; one that is refused makes none
+abbrev pub runs_of : SystemState → Call → List Stretch
+runs_of y call = runs_unless (refused y.state call) (runs_asked y call)
 
--- the state after the first so many runs of a call
-abbrev pub after_runs : State → Call → ℕ → State
-after_runs s call runs = (runs_from 0 s (take runs (runs_of s call)) []).state
+-- the states before, between and after runs
+abbrev pub states_of : State → List Stretch → List State
+states_of s [] = s ∷ []
+states_of s (r ∷ rs) = s ∷ states_of (run s r.target r.wanted []).state rs
+
+-- the trail of a call: the states from before its first run to after its last
+abbrev pub trail : SystemState → Call → List State
+trail y call = states_of y.state (runs_of y call)
+
+-- the system after so many runs of a call
+abbrev pub after_runs : SystemState → Call → ℕ → SystemState
+after_runs y call runs = in_state y (slice_index_or (trail y call) runs y.state)

@@ -1,11 +1,16 @@
 //! The calls of the modelled machine: the refusals and answers of `move_pages(2)` and of the calls around it.
 #![tactic(auto)]
 
-mod asking;
+mod answer;
+mod batch;
+mod call;
 mod call_error;
-mod moving;
+mod calling;
+pub mod laws;
+mod permission;
 mod system;
 
+pub use answer::{Answer, Mapped, Moved};
+pub use call::{Attachment, Batch, Call, MoveRequest, NewArea, NewProcess, Question};
 pub use call_error::CallError;
-pub use moving::Moved;
-pub use system::{Mapped, System};
+pub use system::System;

@@ -1,29 +1,23 @@
 //! The machine, and the calls that processes make on it.
 
-ghost use Rattle.std.specs.Prelude.{◌≡◌, ◌≤◌, IfOk, length, Some};
-ghost use Rattle.nm_engine.specs.Effect.{new_machine};
+ghost use Rattle.std.specs.Prelude.{◌≡◌, ◌<◌, ◌≤◌, true, IfOk, length};
 ghost use Rattle.nm_engine.specs.Audited.{audited};
+ghost use Rattle.nm_engine.specs.Sound.{IsSound};
 ghost use Rattle.nm_calls.specs.Calls.{Spawn, MapPages, Attach, Unmap, Exit, Pin, Unpin, ReadBytes, WriteBytes, MovePages, Query, FreeList, Pagemap, Done, NewSegment, TheBytes, Statuses, Frames, Entries};
 ghost use Rattle.nm_calls.specs.Entries.{entries_mapped, entries_shown};
+ghost use Rattle.nm_calls.specs.Systems.{default_limit, new_system, system_with};
 ghost use Rattle.nm_calls.specs.Outcome.{statuses_of};
 ghost use Rattle.nm_calls.specs.Does.{Does, DoesOrRefuses};
 
-use crate::asking::{Permit, permit_of};
+use crate::answer::{Mapped, Moved};
+use crate::batch::{check_targets, move_batch};
 use crate::call_error::CallError;
-use crate::moving::{Moved, check_targets, move_batch};
+use crate::permission::{Permit, permit_of};
 use nm_engine::{Entry, Machine, Totals};
+use nm_types::limits::MAX_BATCH;
 use nm_types::{Errno, FrameId, Geometry, NodeId, NodeMask, Pid, Vpn};
 use std::alloc::{AllocError, Allocator};
 use std::marker::Model;
-
-/// An entry of a process, at a page number.
-#[derive(Clone, Copy, Debug, PartialEq, Eq)]
-pub struct Mapped {
-    /// The page number.
-    pub vpn: Vpn,
-    /// The frame, or None for the page of zeros.
-    pub frame: Option<FrameId>,
-}
 
 /// Entries as a process's list shows them.
 fn mapped_of<A: Allocator + Copy>(
@@ -61,36 +55,56 @@ fn statuses_of<A: Allocator + Copy + Send + Sync>(
     Ok(statuses)
 }
 
-/// A machine of nodes, processes and pages.
+/// A machine of nodes, processes and pages, and how many entries a run has at most. Contracts see its state, which is
+/// sound, and that limit.
 #[derive(Drop)]
 pub struct System<A: Allocator + Copy + Send + Sync> {
     machine: Machine<A>,
+    run_limit: usize,
     alloc: A,
 }
 
 impl<A: Allocator + Copy + Send + Sync> Model for System<A> {
-    ghost use Rattle.nm_types.specs.State.{State};
+    ghost use Rattle.std.specs.Prelude.{◌<◌};
+    ghost use Rattle.nm_calls.specs.Systems.{SystemState};
 
-    ghost Value = { State };
+    ghost Value = { SystemState };
 
-    ghost view = { λ s. s.machine };
+    ghost view = { λ s. record { state = s.machine; run_limit = s.run_limit } };
+
+    ghost invariant = { λ s. 0 < s.run_limit };
 }
 
 impl<A: Allocator + Copy + Send + Sync> System<A> {
     /// A new machine: no process, every node online, every frame free and its list in ascending order. An error is want of
     /// memory.
     pub fn new(alloc: A, geometry: Geometry<A>) -> Result<Self, AllocError>
-        ensures { IfOk result (λ system. system ≡ new_machine geometry) }
+        ensures { IfOk result (λ system. system ≡ new_system geometry) }
+    {
+        System::with_run_limit(alloc, geometry, MAX_BATCH)
+    }
+
+    /// A new machine as by `new`, whose runs have at most so many entries, 1 to 16,384: a longer stretch of one target is
+    /// cut from its front. An error is want of memory.
+    pub fn with_run_limit(
+        alloc: A,
+        geometry: Geometry<A>,
+        run_limit: usize,
+    ) -> Result<Self, AllocError>
+        requires some { 0 < run_limit }
+        requires within { run_limit ≤ default_limit }
+        ensures { IfOk result (λ system. system ≡ system_with geometry run_limit) }
     {
         Ok(System {
             machine: Machine::new(alloc, geometry)?,
+            run_limit,
             alloc,
         })
     }
 
     /// Makes a process. Refusals in order: EINVAL (pid 0 or alive, a home that is no node, no allowed node or one beyond
     /// the machine), ENOMEM (1,024 processes are alive).
-    #[tactic(auto, unfolding(crate::specs::Outcome::refused, crate::specs::Outcome::answered, crate::specs::Outcome::after, crate::specs::Outcome::runs_of))]
+    #[tactic(auto, unfolding(crate::specs::Outcome::refused, crate::specs::Outcome::refused_at_once, crate::specs::Outcome::ended, crate::specs::Outcome::runs_asked), using(crate::proofs::Outcomes::answers, crate::proofs::Outcomes::refuses))]
     pub fn spawn(
         &mut self,
         pid: Pid,
@@ -106,7 +120,7 @@ impl<A: Allocator + Copy + Send + Sync> System<A> {
 
     /// Makes an area of so many pages over a new segment, private or shared, and answers the segment's number. Refusals in
     /// order: ESRCH; EINVAL (an address in mid-page, no page, past 2^47, an area there); ENOMEM (no segment number left).
-    #[tactic(auto, unfolding(crate::specs::Outcome::refused, crate::specs::Outcome::answered, crate::specs::Outcome::after, crate::specs::Outcome::runs_of))]
+    #[tactic(auto, unfolding(crate::specs::Outcome::refused, crate::specs::Outcome::refused_at_once, crate::specs::Outcome::ended, crate::specs::Outcome::runs_asked), using(crate::proofs::Outcomes::answers, crate::proofs::Outcomes::refuses))]
     pub fn map(&mut self, pid: Pid, addr: u64, pages: u64, shared: bool) -> Result<u32, CallError>
         ensures { Does NewSegment result self.old self.new (MapPages pid addr pages shared) }
     {
@@ -116,7 +130,7 @@ impl<A: Allocator + Copy + Send + Sync> System<A> {
     /// Makes an area over so many pages of a shared segment, from an offset in pages on. Refusals in order: ESRCH; EINVAL
     /// (an address in mid-page, no page, past 2^47, an area there; or a segment that is unknown, gone or private, or ends
     /// before the area would).
-    #[tactic(auto, unfolding(crate::specs::Outcome::refused, crate::specs::Outcome::answered, crate::specs::Outcome::after, crate::specs::Outcome::runs_of))]
+    #[tactic(auto, unfolding(crate::specs::Outcome::refused, crate::specs::Outcome::refused_at_once, crate::specs::Outcome::ended, crate::specs::Outcome::runs_asked), using(crate::proofs::Outcomes::answers, crate::proofs::Outcomes::refuses))]
     pub fn attach(
         &mut self,
         pid: Pid,
@@ -133,7 +147,7 @@ impl<A: Allocator + Copy + Send + Sync> System<A> {
     /// Lets go so many pages from an address on, where there may be holes. A page that no area of any process covers any
     /// more loses its frame, which goes to the end of its node's free list, by ascending address. Refusals in order:
     /// ESRCH; EINVAL (an address in mid-page, no page, past 2^47); EBUSY (an area shows a pinned page there).
-    #[tactic(auto, unfolding(crate::specs::Outcome::refused, crate::specs::Outcome::answered, crate::specs::Outcome::after, crate::specs::Outcome::runs_of))]
+    #[tactic(auto, unfolding(crate::specs::Outcome::refused, crate::specs::Outcome::refused_at_once, crate::specs::Outcome::ended, crate::specs::Outcome::runs_asked), using(crate::proofs::Outcomes::answers, crate::proofs::Outcomes::refuses))]
     pub fn unmap(&mut self, pid: Pid, addr: u64, pages: u64) -> Result<(), CallError>
         ensures { Does (λ done. Done) result self.old self.new (Unmap pid addr pages) }
     {
@@ -142,7 +156,7 @@ impl<A: Allocator + Copy + Send + Sync> System<A> {
 
     /// Ends a process, which lets go all its areas as by one `unmap`. Its pid may come again. Refusals in order: ESRCH;
     /// EBUSY (an area of it shows a pinned page).
-    #[tactic(auto, unfolding(crate::specs::Outcome::refused, crate::specs::Outcome::answered, crate::specs::Outcome::after, crate::specs::Outcome::runs_of))]
+    #[tactic(auto, unfolding(crate::specs::Outcome::refused, crate::specs::Outcome::refused_at_once, crate::specs::Outcome::ended, crate::specs::Outcome::runs_asked), using(crate::proofs::Outcomes::answers, crate::proofs::Outcomes::refuses))]
     pub fn exit(&mut self, pid: Pid) -> Result<(), CallError>
         ensures { Does (λ done. Done) result self.old self.new (Exit pid) }
     {
@@ -152,7 +166,7 @@ impl<A: Allocator + Copy + Send + Sync> System<A> {
     /// Pins the page at an address once more, and takes no memory: the page stays in its frame until it is unpinned as
     /// often. Refusals in order: ESRCH; EFAULT (no area, or the page of zeros); ENOENT (nothing was touched there); EBUSY
     /// (65,535 pins).
-    #[tactic(auto, unfolding(crate::specs::Outcome::refused, crate::specs::Outcome::answered, crate::specs::Outcome::after, crate::specs::Outcome::runs_of))]
+    #[tactic(auto, unfolding(crate::specs::Outcome::refused, crate::specs::Outcome::refused_at_once, crate::specs::Outcome::ended, crate::specs::Outcome::runs_asked), using(crate::proofs::Outcomes::answers, crate::proofs::Outcomes::refuses))]
     pub fn pin(&mut self, pid: Pid, addr: u64) -> Result<(), Errno>
         ensures { DoesOrRefuses (λ done. Done) result self.old self.new (Pin pid addr) }
     {
@@ -161,7 +175,7 @@ impl<A: Allocator + Copy + Send + Sync> System<A> {
 
     /// Takes one pin off the page at an address, whoever pinned it, and takes no memory. Refusals in order: ESRCH, EFAULT
     /// and ENOENT as for `pin`; EINVAL (no pin).
-    #[tactic(auto, unfolding(crate::specs::Outcome::refused, crate::specs::Outcome::answered, crate::specs::Outcome::after, crate::specs::Outcome::runs_of))]
+    #[tactic(auto, unfolding(crate::specs::Outcome::refused, crate::specs::Outcome::refused_at_once, crate::specs::Outcome::ended, crate::specs::Outcome::runs_asked), using(crate::proofs::Outcomes::answers, crate::proofs::Outcomes::refuses))]
     pub fn unpin(&mut self, pid: Pid, addr: u64) -> Result<(), Errno>
         ensures { DoesOrRefuses (λ done. Done) result self.old self.new (Unpin pid addr) }
     {
@@ -170,7 +184,7 @@ impl<A: Allocator + Copy + Send + Sync> System<A> {
 
     /// Reads 1 to 4,096 bytes inside one page. Refusals in order: ESRCH, EINVAL (no byte, or past the page's end),
     /// EFAULT (no area), ENOMEM (no free frame).
-    #[tactic(auto, unfolding(crate::specs::Outcome::refused, crate::specs::Outcome::answered, crate::specs::Outcome::after, crate::specs::Outcome::runs_of))]
+    #[tactic(auto, unfolding(crate::specs::Outcome::refused, crate::specs::Outcome::refused_at_once, crate::specs::Outcome::ended, crate::specs::Outcome::runs_asked), using(crate::proofs::Outcomes::answers, crate::proofs::Outcomes::refuses))]
     pub fn read(&mut self, pid: Pid, addr: u64, len: u64) -> Result<Vec<u8, A>, CallError>
         ensures { Does (λ bytes. TheBytes bytes.items) result self.old self.new (ReadBytes pid addr len) }
     {
@@ -178,7 +192,7 @@ impl<A: Allocator + Copy + Send + Sync> System<A> {
     }
 
     /// Writes 1 to 4,096 bytes inside one page. Refusals as for `read`.
-    #[tactic(auto, unfolding(crate::specs::Outcome::refused, crate::specs::Outcome::answered, crate::specs::Outcome::after, crate::specs::Outcome::runs_of))]
+    #[tactic(auto, unfolding(crate::specs::Outcome::refused, crate::specs::Outcome::refused_at_once, crate::specs::Outcome::ended, crate::specs::Outcome::runs_asked), using(crate::proofs::Outcomes::answers, crate::proofs::Outcomes::refuses))]
     pub fn write(&mut self, pid: Pid, addr: u64, bytes: &[u8]) -> Result<(), CallError>
         ensures { Does (λ done. Done) result self.old self.new (WriteBytes pid addr bytes.now) }
     {
@@ -187,14 +201,14 @@ impl<A: Allocator + Copy + Send + Sync> System<A> {
 
     /// Moves pages, each named by an address in it, to the node of the same place in the list. Pid 0 is the caller. Flags
     /// 0 act as MPOL_MF_MOVE (2): a page that another process sees stays; with MPOL_MF_MOVE_ALL (4) it moves. The list is
-    /// cut into its longest stretches of one target, and each is a run. Answers the status of each entry, and how many
+    /// cut into its longest stretches of one target, and each is a run, or several where it is longer than the limit. Answers the status of each entry, and how many
     /// entries failed.
     ///
     /// Refusals in order, each before anything moves: ESRCH (unknown caller); EINVAL (a flag other than the two); EPERM
     /// (MPOL_MF_MOVE_ALL without privilege); ESRCH (no such process); EPERM (a process of another user, without
     /// privilege); then for the first entry that is refused ENODEV (no such node, or it is offline) before EACCES (a node
     /// that the process may not use, whoever calls). `HostMemory { runs, .. }` leaves the first runs made.
-    #[tactic(auto, unfolding(crate::specs::Outcome::refused, crate::specs::Outcome::answered, crate::specs::Outcome::after, crate::specs::Outcome::runs_of))]
+    #[tactic(auto, unfolding(crate::specs::Outcome::refused, crate::specs::Outcome::refused_at_once, crate::specs::Outcome::ended, crate::specs::Outcome::runs_asked), using(crate::proofs::Outcomes::answers, crate::proofs::Outcomes::refuses, crate::proofs::Outcomes::host_leaves))]
     pub fn move_pages(
         &mut self,
         caller: Pid,
@@ -213,13 +227,14 @@ impl<A: Allocator + Copy + Send + Sync> System<A> {
             all,
         } = permit;
         check_targets(&self.machine, allowed, nodes)?;
-        move_batch(self.alloc, &mut self.machine, owner, all, pages, nodes)
+        let limit = self.run_limit;
+        move_batch(self.alloc, &mut self.machine, owner, all, pages, nodes, limit)
     }
 
     /// Where pages are, each named by an address in it: the number of its node, -14 (EFAULT) without an area or for the
     /// page of zeros, -2 (ENOENT) where nothing was touched. Pid 0 is the caller. Refusals as for `move_pages`, but for
     /// those of entries: ESRCH, EINVAL, EPERM, ESRCH, EPERM.
-    #[tactic(auto, unfolding(crate::specs::Outcome::refused, crate::specs::Outcome::answered, crate::specs::Outcome::after, crate::specs::Outcome::runs_of))]
+    #[tactic(auto, unfolding(crate::specs::Outcome::refused, crate::specs::Outcome::refused_at_once, crate::specs::Outcome::ended, crate::specs::Outcome::runs_asked), using(crate::proofs::Outcomes::answers, crate::proofs::Outcomes::refuses))]
     pub fn query(
         &self,
         caller: Pid,
@@ -233,16 +248,18 @@ impl<A: Allocator + Copy + Send + Sync> System<A> {
         Ok(statuses_of(self.alloc, &self.machine, permit.pid, pages)?)
     }
 
-    /// How many pages moved, and how many entries failed, so far.
+    /// How many pages moved, and how many entries failed, so far: `pgmigrate_success` and `pgmigrate_fail` of
+    /// `/proc/vmstat`. Each stays at 2^64 - 1 once it is there. Between two calls a system is sound.
     pub fn vmstat(&self) -> Totals
-        ensures moved { result.moved ≡ self.now.moved }
-        ensures failed { result.failed ≡ self.now.failed }
+        ensures sound { IsSound self.now.state }
+        ensures moved { result.moved ≡ self.now.state.moved }
+        ensures failed { result.failed ≡ self.now.state.failed }
     {
         self.machine.totals()
     }
 
     /// The free frames of a node, the front first. Refusal: EINVAL (no such node).
-    #[tactic(auto, unfolding(crate::specs::Outcome::refused, crate::specs::Outcome::answered, crate::specs::Outcome::after, crate::specs::Outcome::runs_of))]
+    #[tactic(auto, unfolding(crate::specs::Outcome::refused, crate::specs::Outcome::refused_at_once, crate::specs::Outcome::ended, crate::specs::Outcome::runs_asked), using(crate::proofs::Outcomes::answers, crate::proofs::Outcomes::refuses))]
     pub fn free_list(&self, node: NodeId) -> Result<Vec<FrameId, A>, CallError>
         ensures { Does (λ frames. Frames frames.items) result self.now self.now (FreeList node) }
     {
@@ -250,7 +267,7 @@ impl<A: Allocator + Copy + Send + Sync> System<A> {
     }
 
     /// The entries of a process by address: the frame of each, or the page of zeros. Refusal: ESRCH.
-    #[tactic(auto, unfolding(crate::specs::Outcome::refused, crate::specs::Outcome::answered, crate::specs::Outcome::after, crate::specs::Outcome::runs_of))]
+    #[tactic(auto, unfolding(crate::specs::Outcome::refused, crate::specs::Outcome::refused_at_once, crate::specs::Outcome::ended, crate::specs::Outcome::runs_asked), using(crate::proofs::Outcomes::answers, crate::proofs::Outcomes::refuses))]
     pub fn pagemap(&self, pid: Pid) -> Result<Vec<Mapped, A>, CallError>
         ensures { Does (λ mapped. Entries (entries_mapped mapped.items)) result self.now self.now (Pagemap pid) }
     {
@@ -258,10 +275,11 @@ impl<A: Allocator + Copy + Send + Sync> System<A> {
         Ok(mapped_of(self.alloc, entries.as_slice())?)
     }
 
-    /// Whether each frame is exactly once in its own node's free list, or the place of one page. An error is want of
-    /// memory.
+    /// Whether each frame is exactly once in its own node's free list, or the place of one page: true, since a system is
+    /// always sound. An error is want of memory.
     pub fn audit(&self) -> Result<bool, AllocError>
-        ensures { IfOk result (λ b. b ≡ audited self.now) }
+        ensures told { IfOk result (λ b. b ≡ audited self.now.state) }
+        ensures sound { IfOk result (λ b. b ≡ true) }
     {
         self.machine.audit()
     }

@@ -5,7 +5,7 @@ use Rattle.std.specs.List.{AllByRecursion, sum_by}
 use Rattle.std.specs.Option.{unwrap_or, option_map}
 use Rattle.std.specs.List.Sorted.{IsStrictlySortedBy}
 use Rattle.std.specs.Map.{keys_of, values_of}
-use Rattle.std.specs.Ordering.{is_eq}
+use Rattle.std.specs.Ordering.{nat_cmp, is_eq}
 use Rattle.std.specs.Cmp.{tied_itself}
 use Rattle.std.proofs.lemmas.Bool.{or_left, or_right, and_parts, and_from, leb-true, ltb-true, le-leb, lt-ltb}
 use Rattle.std.proofs.lemmas.List.Sums.{sum_by-set}
@@ -17,14 +17,16 @@ use Rattle.nm_types.specs.Layout.{node_of}
 use Rattle.nm_types.specs.Map.{Map, get, set, page_cmp}
 use Rattle.nm_types.specs.declared.sight.Sight.TheVariants.{ZeroPage, Sees}
 use Rattle.nm_types.specs.State.{State, Placed, free_list, page_at, page_of, covers, area_over}
+use Rattle.nm_types.proofs.Cases.{true_false}
 use Rattle.nm_runs.specs.Seen.{sight_at}
-use Rattle.nm_engine.specs.Touch.{Spot, shown_at, with_sight, with_page, is_shared}
+use Rattle.nm_areas.specs.Lines.{is_shared}
+use Rattle.nm_engine.specs.Touch.{Spot, shown_at, with_sight, with_page}
 use Rattle.nm_engine.specs.Effect.{covers_page, is_covered}
-use Rattle.nm_engine.specs.Sound.{times, FramesAreOnce, IsWhole, IsSoundAmid}
-use Rattle.nm_engine.proofs.Maps.{page_cmp_total, exact_page, equal, get-set}
-use Rattle.nm_engine.proofs.Keys.{All-set, sorted-set, keys_same-set}
-use Rattle.nm_engine.proofs.Frames.{here, times_cons, within, own_set}
-use Rattle.nm_engine.proofs.Areas.{all_then}
+use Rattle.nm_engine.specs.Sound.{times, IsWhole, IsSoundAmid}
+use Rattle.nm_types.proofs.Maps.{page_cmp_total, exact_page, equal, get-set}
+use Rattle.nm_types.proofs.Keys.{as_many-replace, All-set, sorted-set, keys_same-set}
+use Rattle.nm_engine.proofs.Frames.{OnceIn, here, times_cons, within, own_set}
+use Rattle.nm_areas.proofs.Apart.{all_then}
 use Rattle.nm_engine.proofs.Once.{places_are_apart}
 use Rattle.nm_engine.proofs.Sights.{IsSpot, whole_still, page_at_spot, sight_cases, sight_here, sight_stays, order_kept}
 
@@ -42,11 +44,8 @@ placed_sum p q r t l y z k a b c = omega arith
 abbrev pub placed_front : State → ℕ → List ℕ → Page → State
 placed_front s node front p = with_page (record s { free = slice_set s.free node (drop 1 front) }) p (slice_index front 0)
 
-true_false : true ≡ false → ⊥
-true_false e = cc
-
-pub placed_frames : (s : State) (l : List ℕ) (node : ℕ) (front : List ℕ) (p : Page) → FramesAreOnce s l → IsStrictlySortedBy page_cmp (keys_of s.place) → get page_cmp s.place p ≡ None
-    → free_list s node ≡ front → (length front == 0) ≡ false → FramesAreOnce (placed_front s node front p) l
+pub placed_frames : (s : State) (l : List ℕ) (node : ℕ) (front : List ℕ) (p : Page) → OnceIn s l → IsStrictlySortedBy page_cmp (keys_of s.place) → get page_cmp s.place p ≡ None
+    → free_list s node ≡ front → (length front == 0) ≡ false → OnceIn (placed_front s node front p) l
 placed_frames s l node [] p h order unplaced e some = absurd (true_false some)
 placed_frames s l node (frame ∷ rest) p h order unplaced e some =
     let at = within s.free node frame rest e in
@@ -114,17 +113,17 @@ placed_sound s l at node h i unseen unplaced some =
     let middle = placed_front s node (free_list s node) p in
     let there : IsSpot middle at = record { process = i.process; area = i.area } in
     let t = with_sight middle at (Sees p) in
-    let placed = placed_frames s l node (free_list s node) p h.frames h.order.place unplaced refl some in
-    let frames : FramesAreOnce t l = record { lists = placed.lists; once = placed.once; own = placed.own } in
+    let frames : OnceIn t l = placed_frames s l node (free_list s node) p h.frames h.order.place unplaced refl some in
     let order = order_kept s at (Sees p) i h.order in
     record {
       order = record {
         processes = order.processes;
         sees = order.sees;
         areas = order.areas;
+        segments = order.segments;
         place = sorted-set page_cmp page_cmp_total s.place p f h.order.place;
       };
-      apart = places_are_apart t l frames;
+      apart = places_are_apart frames;
       frames = frames;
       shown = λ q w r e. elim (sight_cases middle at (Sees p) (Sees r) q w there e) as (λ _. (page_at s.areas q w ≡ Some r) × IsSome (get page_cmp (set page_cmp s.place p f) r)) [
         | inl new ↦
@@ -132,7 +131,7 @@ placed_sound s l at node h i unseen unplaced some =
             (ap (λ (z : ℕ × ℕ). page_at s.areas z.0 z.1) (λ j. (new.0 j, new.1 j)) ∙ page_at_spot s at i ∙ ap Some same, subst (λ r. IsSome (get page_cmp (set page_cmp s.place p f) r)) same (some_new s.place p f))
         | inr old ↦ let was = h.shown q w r old in (was.0, some_still s.place p r f was.1)
       ];
-      zeros = λ q w e. elim (sight_cases middle at (Sees p) ZeroPage q w there e) as (λ _. (r : Page) × (page_at s.areas q w ≡ Some r) × (is_shared s r ≡ false)) [
+      zeros = λ q w e. elim (sight_cases middle at (Sees p) ZeroPage q w there e) as (λ _. (r : Page) × (page_at s.areas q w ≡ Some r) × (is_shared s.segments r.segment ≡ false)) [
         | inl new ↦ absurd (sees_zero new.2)
         | inr old ↦ h.zeros q w old
       ];
@@ -141,7 +140,7 @@ placed_sound s l at node h i unseen unplaced some =
         same_pages = keys_same-set page_cmp s.bytes s.place p (replicate 4096 0) f h.bytes.same_pages;
         whole = All-set page_cmp (λ b. length b ≡ 4096) s.bytes p (replicate 4096 0) h.bytes.whole zeros_whole;
       };
-      pins = keys_same-set page_cmp s.pins s.place p 0 f h.pins;
+      pins = record { same_pages = keys_same-set page_cmp s.pins s.place p 0 f h.pins.same_pages; few = All-set page_cmp (λ n. n ≤ 65535) s.pins p 0 h.pins.few (omega arith) };
       seen = λ r e private. some_cases s.place p r f ((q : ℕ) × (w : ℕ) × (sight_at t q w ≡ Some (Sees r)))
           (λ same. (at.pid, at.vpn, sight_here middle at (Sees p) there ∙ ap (λ x. Some (Sees x)) (sym same)))
           (λ had. let was = h.seen r had private in (was.0, was.1, sight_stays middle at (Sees p) (Sees r) was.0 was.1 there (unseen r) was.2)) e;
@@ -149,4 +148,6 @@ placed_sound s l at node h i unseen unplaced some =
       areas = all_then s.areas (IsWhole s) (IsWhole t) (whole_still s at (Sees p)) h.areas;
       numbers = h.numbers;
       disjoint = h.disjoint;
+      online = h.online;
+      few = subst (λ n. n ≤ 1024) (sym (as_many-replace nat_cmp s.processes at.pid _)) h.few;
     }

@@ -9,6 +9,7 @@ use Rattle.std.proofs.lemmas.List.Sums.{count_by-le-length, count_by_more_yes, c
 use Rattle.std.proofs.lemmas.Option.{slice_get_within, get_or_from_slice_get}
 use Rattle.nm_types.specs.Layout.{Layout, frame_count}
 use Rattle.nm_types.specs.Nodes.{up_from}
+use Rattle.nm_types.proofs.Cases.{true_false}
 use Rattle.nm_engine.specs.Sound.{times}
 use Rattle.nm_engine.specs.Audited.{is_frame, is_own, is_audited, numbered}
 
@@ -62,9 +63,6 @@ tallied cs xs n i x v li at lt len h e k below =
       | false ↦ λ b.
           get_or-set_other cs x k v 0 (λ s. true_false (sym (eq-eqb x k (sym s)) ∙ b)) ∙ h k below ∙ sym (count_by_more_no (λ f. f == k) xs i x li (ap (λ f. f == k) (sym at) ∙ b))
     ] refl
-  where
-    true_false : true ≡ false → ⊥
-    true_false e = cc
 
 pub passed_over : (cs xs : List ℕ) (n i x : ℕ) → i < length xs → x ≡ get_or xs i x → n ≤ x → Tallies cs n (take i xs) → Tallies cs n (take (i + 1) xs)
 passed_over cs xs n i x li at past h k below =

@@ -5,29 +5,24 @@ use Rattle.std.specs.List.{list_any}
 use Rattle.std.specs.Option.{unwrap_or, option_map}
 use Rattle.std.proofs.lemmas.Bool.{or_left, or_right, eqb-true, eqb-false, eq-eqb, ltb-true, ltb-false, lt-ltb}
 use Rattle.nm_types.specs.declared.page.Page.{Page}
+use Rattle.nm_types.specs.declared.area.Area.{Area}
 use Rattle.nm_types.specs.Map.{Map, get, page_cmp}
 use Rattle.nm_areas.specs.Mapped.{Mapped}
 use Rattle.nm_rmap.specs.Mappers.{Mappers}
 use Rattle.nm_rmap.specs.Mappers.{pins_of as pins_of_frame}
 use Rattle.nm_engine.specs.Tasked.{Task}
 use Rattle.nm_engine.specs.Spaced.{Spaced, spaced, pins_here}
-use Rattle.nm_types.specs.State.{State, Placed, area_over, page_of, page_shown, page_at}
-use Rattle.nm_runs.specs.Seen.{pins_of}
+use Rattle.nm_types.specs.State.{Placed, area_over, page_of, page_shown, page_at}
+use Rattle.nm_types.proofs.Cases.{none_some, some_is}
 use Rattle.nm_engine.specs.Effect.{pages_from, pages_between}
 use Rattle.nm_engine.specs.Refused.{shows_pinned}
 use Rattle.nm_engine.specs.Sound.{AreasAreApart}
-use Rattle.nm_engine.proofs.Areas.{covers_parts, covers_from}
-use Rattle.nm_engine.proofs.Parted.{Among, among_over, over_among}
+use Rattle.nm_areas.proofs.Apart.{covers_parts, covers_from}
+use Rattle.nm_areas.proofs.Parted.{Among, among_over, over_among, among_any}
 use Rattle.nm_engine.proofs.Released.{Listed}
-use Rattle.nm_engine.proofs.Dropped.{among_any, listed_from}
-use Rattle.nm_engine.proofs.Maps.{exact_page, get-values}
+use Rattle.nm_engine.proofs.Dropped.{listed_from}
+use Rattle.nm_types.proofs.Maps.{exact_page, get-values}
 use Rattle.nm_engine.proofs.TiedPinned.{pins_shown}
-
-none_some : {V : Type 0} {v : V} → None ≡ Some v → ⊥
-none_some e = cc
-
-some_is : {V : Type 0} {v w : V} → Some v ≡ Some w → v ≡ w
-some_is e = cc
 
 any_listed : (test : Page → Bool) (pages : List Page) (p : Page) → Listed p pages → test p ≡ true → list_any test pages ≡ true
 any_listed test [] p m h = absurd m
@@ -50,35 +45,38 @@ none_among : (test : Placed → Bool) (areas : List Placed) → ((a : Placed) �
 none_among test [] h = refl
 none_among test (a ∷ areas) h = ap (λ b. b || list_any test areas) (h a (inl refl)) ∙ none_among test areas (λ b m. h b (inr m))
 
-module _ (s : State) (pid first end : ℕ) where
+module _ (areas : Map (ℕ × ℕ) Area) (pins : Map Page ℕ) (pid first end : ℕ) where
+  abbrev has_pins : Page → Bool
+  has_pins p = nat_lt 0 (unwrap_or (get page_cmp pins p) 0)
+
   -- a pinned page that is shown in the range
-  pub busy_there : (v : ℕ) (p : Page) → page_at s.areas pid v ≡ Some p → first ≤ v → v < end → nat_lt 0 (pins_of s p) ≡ true → shows_pinned s pid first end ≡ true
+  pub busy_there : (v : ℕ) (p : Page) → page_at areas pid v ≡ Some p → first ≤ v → v < end → has_pins p ≡ true → shows_pinned areas pins pid first end ≡ true
   busy_there v p shown low high pinned =
-      elim (area_over s.areas pid v) as (λ o. area_over s.areas pid v ≡ o → page_shown o v ≡ Some p → shows_pinned s pid first end ≡ true) [
+      elim (area_over areas pid v) as (λ o. area_over areas pid v ≡ o → page_shown o v ≡ Some p → shows_pinned areas pins pid first end ≡ true) [
         | None ↦ λ o k. absurd (none_some k)
         | Some a ↦ λ o k.
-            let found = among_over s.areas pid v a o in
+            let found = among_over areas pid v a o in
             let parts = covers_parts a pid v found.1 in
             let is : page_of a v ≡ p = some_is k in
             let listed = listed_from a.1.page.segment (min end (a.0.1 + a.1.pages) - max first a.0.1) (a.1.page.index + (max first a.0.1 - a.0.1)) (page_of a v) refl
             (omega (arith, low, parts.1)) (omega (arith, low, high, parts.1, parts.2)) in
-            let one : list_any (λ p. nat_lt 0 (pins_of s p)) (pages_between first end a) ≡ true =
-            any_listed (λ p. nat_lt 0 (pins_of s p)) (pages_between first end a) (page_of a v) listed (ap (λ q. nat_lt 0 (pins_of s q)) is ∙ pinned) in
-            among_any (λ a. (a.0.0 == pid) && list_any (λ p. nat_lt 0 (pins_of s p)) (pages_between first end a)) s.areas a found.0
-            (ap (λ b. b && list_any (λ p. nat_lt 0 (pins_of s p)) (pages_between first end a)) (eq-eqb a.0.0 pid parts.0) ∙ one)
+            let one : list_any has_pins (pages_between first end a) ≡ true =
+            any_listed has_pins (pages_between first end a) (page_of a v) listed (ap has_pins is ∙ pinned) in
+            among_any (λ (a : Placed). (a.0.0 == pid) && list_any has_pins (pages_between first end a)) areas a found.0
+            (ap (λ b. b && list_any has_pins (pages_between first end a)) (eq-eqb a.0.0 pid parts.0) ∙ one)
       ] refl shown
 
   -- no page that is shown in the range is pinned
-  pub none_busy : AreasAreApart s.areas → ((v : ℕ) (p : Page) → first ≤ v → v < end → page_at s.areas pid v ≡ Some p → nat_lt 0 (pins_of s p) ≡ false) → shows_pinned s pid first end ≡ false
+  pub none_busy : AreasAreApart areas → ((v : ℕ) (p : Page) → first ≤ v → v < end → page_at areas pid v ≡ Some p → has_pins p ≡ false) → shows_pinned areas pins pid first end ≡ false
   none_busy apart none =
-      none_among (λ a. (a.0.0 == pid) && list_any (λ p. nat_lt 0 (pins_of s p)) (pages_between first end a)) s.areas (λ a m.
-      elim (a.0.0 == pid) as (λ b. (a.0.0 == pid) ≡ b → (b && list_any (λ p. nat_lt 0 (pins_of s p)) (pages_between first end a)) ≡ false) [
+      none_among (λ (a : Placed). (a.0.0 == pid) && list_any has_pins (pages_between first end a)) areas (λ a m.
+      elim (a.0.0 == pid) as (λ b. (a.0.0 == pid) ≡ b → (b && list_any has_pins (pages_between first end a)) ≡ false) [
         | false ↦ λ b. refl
         | true ↦ λ b.
             let from = max first a.0.1 in
-            none_in_row (λ p. nat_lt 0 (pins_of s p)) a.1.page.segment (min end (a.0.1 + a.1.pages) - from) (a.1.page.index + (from - a.0.1)) (λ j lt.
+            none_in_row has_pins a.1.page.segment (min end (a.0.1 + a.1.pages) - from) (a.1.page.index + (from - a.0.1)) (λ j lt.
             let v = from + j in
-            let over = over_among s.areas pid v a apart m (covers_from a pid v (eqb-true a.0.0 pid b) (omega arith) (omega (arith, lt))) in
+            let over = over_among areas pid v a apart m (covers_from a pid v (eqb-true a.0.0 pid b) (omega arith) (omega (arith, lt))) in
             let at : a.1.page.index + (v - a.0.1) ≡ a.1.page.index + (from - a.0.1) + j = omega arith in
             let page : page_of a v ≡ record { segment = a.1.page.segment; index = a.1.page.index + (from - a.0.1) + j } = λ i. record { segment = a.1.page.segment; index = at i } in
             none v _ (omega arith) (omega (arith, lt)) (ap (λ o. page_shown o v) over ∙ ap Some page))
@@ -117,24 +115,21 @@ module _ (y : Spaced) (tasks : Map ℕ Task) (m : Mapped) (r : Mappers) (is : sp
       ] refl
 
   -- none is pinned at all
-  pub none_at_all : (s : State) (pid first at begin end : ℕ) → s.areas ≡ y.areas → s.pins ≡ y.pins → begin ≡ at → AreasAreApart m.areas
-      → ((v : ℕ) (p : Page) → first ≤ v → v < at → page_at y.areas pid v ≡ Some p → nat_lt 0 (pins_here y p) ≡ false)
-      → ((v : ℕ) (p : Page) → begin ≤ v → v < end → page_at m.areas pid v ≡ Some p → get page_cmp m.place p ≡ None) → shows_pinned s pid first end ≡ false
-  none_at_all s pid first at begin end areas pins b apart none unplaced =
-      let same : s.areas ≡ m.areas = areas ∙ ap (λ (y : Spaced). y.areas) (sym is) in
-      none_busy s pid first end (subst AreasAreApart (sym same) apart) (λ v p low high here.
+  pub none_at_all : (pid first at begin end : ℕ) → begin ≡ at → AreasAreApart m.areas → ((v : ℕ) (p : Page) → first ≤ v → v < at → page_at y.areas pid v ≡ Some p → nat_lt 0 (pins_here y p) ≡ false)
+      → ((v : ℕ) (p : Page) → begin ≤ v → v < end → page_at m.areas pid v ≡ Some p → get page_cmp m.place p ≡ None) → shows_pinned y.areas y.pins pid first end ≡ false
+  none_at_all pid first at begin end b apart none unplaced =
+      let same : y.areas ≡ m.areas = ap (λ (y : Spaced). y.areas) (sym is) in
+      none_busy y.areas y.pins pid first end (subst AreasAreApart (sym same) apart) (λ v p low high here.
       let there : page_at m.areas pid v ≡ Some p = ap (λ areas. page_at areas pid v) (sym same) ∙ here in
-      let shown : page_at y.areas pid v ≡ Some p = ap (λ areas. page_at areas pid v) (sym areas) ∙ here in
-      ap (λ pins. nat_lt 0 (unwrap_or (get page_cmp pins p) 0)) pins
-      ∙ elim (nat_lt v at) as (λ t. nat_lt v at ≡ t → nat_lt 0 (pins_here y p) ≡ false) [
-        | true ↦ λ t. none v p low (ltb-true v at t) shown
+      elim (nat_lt v at) as (λ t. nat_lt v at ≡ t → nat_lt 0 (pins_here y p) ≡ false) [
+        | true ↦ λ t. none v p low (ltb-true v at t) here
         | false ↦ λ t. let from : at ≤ v = ltb-false v at t in unplaced_pins p (unplaced v p (omega (arith, b, from)) high there)
       ] refl)
 
   -- one is pinned
-  pub one_there : (s : State) (pid first end w : ℕ) (q : Page) (f : ℕ) → s.areas ≡ y.areas → s.pins ≡ y.pins → first ≤ w → w < end → page_at m.areas pid w ≡ Some q → get page_cmp m.place q ≡ Some f
-      → 0 < pins_of_frame r f → shows_pinned s pid first end ≡ true
-  one_there s pid first end w q f areas pins low high shown placed some =
-      let same : s.areas ≡ m.areas = areas ∙ ap (λ (y : Spaced). y.areas) (sym is) in
-      busy_there s pid first end w q (ap (λ areas. page_at areas pid w) same ∙ shown) low high
-      (ap (λ pins. nat_lt 0 (unwrap_or (get page_cmp pins q) 0)) pins ∙ ap (nat_lt 0) (placed_pins q f placed) ∙ lt-ltb 0 (pins_of_frame r f) some)
+  pub one_there : (pid first end w : ℕ) (q : Page) (f : ℕ) → first ≤ w → w < end → page_at m.areas pid w ≡ Some q → get page_cmp m.place q ≡ Some f → 0 < pins_of_frame r f
+      → shows_pinned y.areas y.pins pid first end ≡ true
+  one_there pid first end w q f low high shown placed some =
+      let same : y.areas ≡ m.areas = ap (λ (y : Spaced). y.areas) (sym is) in
+      busy_there y.areas y.pins pid first end w q (ap (λ areas. page_at areas pid w) same ∙ shown) low high
+      (ap (nat_lt 0) (placed_pins q f placed) ∙ lt-ltb 0 (pins_of_frame r f) some)

@@ -1,49 +1,40 @@
 -- The calls that make processes and areas, and pins, keep a machine sound.
 use Rattle.std.proofs.Common.{Bool, List, [], ap, arith, cond, false, length, not, refl, subst, suc, sym, true, ℕ, ◌%◌, ◌&&◌, ◌+◌, ◌-◌, ◌/◌, ◌<◌, ◌^◌, ◌||◌, ◌∙◌, ◌∷◌, ◌≡◌, ◌≤◌}
-use Rattle.std.specs.Prelude.{Option, Some, None, IsSome, nat_lt, nat_le, ◌==◌}
+use Rattle.std.specs.Prelude.{if◌then◌else◌, Option, Some, None, IsSome, nat_lt, nat_le, ◌==◌}
 use Rattle.std.specs.Option.{is_some, unwrap_or, option_map}
 use Rattle.std.specs.List.{AllByRecursion, list_any}
 use Rattle.std.specs.List.Sorted.{IsStrictlySortedBy}
 use Rattle.std.specs.Map.{keys_of}
 use Rattle.std.specs.Ordering.{nat_cmp, is_eq}
 use Rattle.std.specs.Cmp.{nat_cmp_total, tied_itself}
-use Rattle.std.proofs.lemmas.Bool.{and_parts, eqb-true, leb-true, ltb-true}
+use Rattle.std.proofs.lemmas.Bool.{and_parts, eqb-true, leb-true, leb-false, ltb-true}
 use Rattle.std.proofs.lemmas.Map.Lookups.{exact_unsigned}
 use Rattle.nm_types.specs.declared.page.Page.{Page}
 use Rattle.nm_types.specs.declared.area.Area.{Area}
 use Rattle.nm_types.specs.declared.area.Segment.{Segment}
 use Rattle.nm_types.specs.declared.area.Policy.TheVariants.{Default}
 use Rattle.nm_types.specs.declared.errno.Errno.{Errno}
-use Rattle.nm_types.specs.declared.errno.Errno.TheVariants.{Esrch, Einval, Enomem}
+use Rattle.nm_types.specs.declared.errno.Errno.TheVariants.{Esrch, Einval, Enomem, Ebusy}
 use Rattle.nm_types.specs.Layout.{node_count}
 use Rattle.nm_types.specs.Map.{Map, get, set, replace, page_cmp, spot_cmp}
 use Rattle.nm_types.specs.declared.sight.Sight.{Sight}
 use Rattle.nm_types.specs.declared.sight.Sight.TheVariants.{ZeroPage, Sees}
 use Rattle.nm_types.specs.State.{Process, State, covers, area_over, page_of, page_shown, page_at}
-use Rattle.nm_runs.specs.Seen.{sight_in, sight_at, pins_of}
-use Rattle.nm_engine.specs.Touch.{is_shared}
+use Rattle.nm_types.proofs.Cases.{true_false, none_some, some_none, some_is, none_is_not}
+use Rattle.nm_runs.specs.Seen.{sight_in, sight_at, pins_of, users, is_pinned, look, look_under, look_at_page}
+use Rattle.nm_types.specs.declared.seen.Seen.TheVariants.{At}
+use Rattle.nm_areas.specs.Lines.{is_shared}
 use Rattle.nm_engine.specs.Effect.{spawn, attach, map_new, with_pins, pin, unpin, covers_page, is_covered}
-use Rattle.nm_engine.specs.Refused.{first_error, is_unknown, spawn_refusal, is_range, overlaps, is_room, map_refusal, is_stretch, attach_refusal}
-use Rattle.nm_engine.specs.Sound.{IsWhole, IsSoundAmid, IsSound}
-use Rattle.nm_engine.proofs.Maps.{equal, get-set, spot_cmp_total}
-use Rattle.nm_engine.proofs.Keys.{keys-replace, All-set, sorted-set}
-use Rattle.nm_engine.proofs.Areas.{NoneOverlaps, all_from_none, all_then, apart-set, apart_from_new, area_over-set, covers_parts, each_set, is_covered-set, one_more, same_key}
+use Rattle.nm_areas.specs.Refused.{is_room}
+use Rattle.nm_engine.specs.Refused.{first_error, is_unknown, pins_refusal, pin_refusal, spawn_refusal, is_range, overlaps, map_refusal, is_stretch, attach_refusal}
+use Rattle.nm_engine.specs.Sound.{HasPages, IsWhole, IsSoundAmid, IsSound}
+use Rattle.nm_types.proofs.Maps.{equal, get-set, spot_cmp_total}
+use Rattle.nm_types.proofs.Keys.{keys-replace, All-set, All-replace, All-get, sorted-set, few-set}
+use Rattle.nm_areas.proofs.Apart.{NoneOverlaps, all_from_none, all_then, apart-set, apart_from_new, area_over-set, covers_parts, each_set, is_covered-set, one_more, same_key}
 
 -- whether a segment is shared
 abbrev shared_in : Option Segment → Bool
 shared_in o = unwrap_or (option_map (λ segment. segment.shared) o) false
-
-some_none : {V : Type 0} {v : V} → Some v ≡ None → ⊥
-some_none e = cc
-
-none_some : {V : Type 0} {v : V} → None ≡ Some v → ⊥
-none_some e = cc
-
-true_false : true ≡ false → ⊥
-true_false e = cc
-
-some_is : {V : Type 0} {v w : V} → Some v ≡ Some w → v ≡ w
-some_is e = cc
 
 -- where no error comes, no condition holds
 no_error : (b : Bool) (e : Errno) (es : List (Bool × Errno)) → first_error ((b, e) ∷ es) ≡ None → (b ≡ false) × (first_error es ≡ None)
@@ -60,22 +51,24 @@ or_parts false b h = (refl, h)
 
 -- other processes that see the same
 pub other_processes : (s : State) (l : List ℕ) (ps : Map ℕ Process) → IsSoundAmid s l → IsStrictlySortedBy nat_cmp (keys_of ps) → AllByRecursion (λ e. IsStrictlySortedBy nat_cmp (keys_of e.1.sees)) ps
-    → ((q w : ℕ) → sight_in (get nat_cmp ps q) w ≡ sight_at s q w) → AllByRecursion (IsWhole (record s { processes = ps })) s.areas → IsSoundAmid (record s { processes = ps }) l
-other_processes s l ps h sorted sees same there =
+    → ((q w : ℕ) → sight_in (get nat_cmp ps q) w ≡ sight_at s q w) → AllByRecursion (IsWhole (record s { processes = ps })) s.areas → length ps ≤ 1024 → IsSoundAmid (record s { processes = ps }) l
+other_processes s l ps h sorted sees same there few =
     record {
-      order = record { processes = sorted; sees = sees; areas = h.order.areas; place = h.order.place };
+      order = record { processes = sorted; sees = sees; areas = h.order.areas; segments = h.order.segments; place = h.order.place };
       apart = h.apart;
-      frames = record { lists = h.frames.lists; once = h.frames.once; own = h.frames.own };
+      frames = h.frames;
       shown = λ q w p e. h.shown q w p (sym (same q w) ∙ e);
       zeros = λ q w e. h.zeros q w (sym (same q w) ∙ e);
       covered = h.covered;
-      bytes = record { same_pages = h.bytes.same_pages; whole = h.bytes.whole };
+      bytes = h.bytes;
       pins = h.pins;
       seen = λ p e private. let was = h.seen p e private in (was.0, was.1, same was.0 was.1 ∙ was.2);
       once = h.once;
       areas = there;
       numbers = h.numbers;
       disjoint = h.disjoint;
+      online = h.online;
+      few = few;
     }
 
 sorted_none : IsStrictlySortedBy nat_cmp []
@@ -94,6 +87,9 @@ spawn_sound s pid uid home allowed privileged h fine =
     let bad = no_error (((pid == 0) || not (is_unknown s pid)) || bad_nodes) Einval ((nat_le 1024 (length s.processes), Enomem) ∷ []) fine in
     let pids = or_parts ((pid == 0) || not (is_unknown s pid)) bad_nodes bad.0 in
     let known = or_parts (pid == 0) (not (is_unknown s pid)) pids.0 in
+    let more : length (set nat_cmp s.processes pid new) ≤ suc (length s.processes) = few-set nat_cmp s.processes pid new in
+    let room : length s.processes < 1024 = leb-false 1024 (length s.processes) (no_error (nat_le 1024 (length s.processes)) Enomem [] bad.1).0 in
+    let few : length (set nat_cmp s.processes pid new) ≤ 1024 = omega (arith, more, room) in
     let fresh : get nat_cmp s.processes pid ≡ None = unknown_none (get nat_cmp s.processes pid) (not_false (is_unknown s pid) known.1) in
     other_processes s [] (set nat_cmp s.processes pid new) h (sorted-set nat_cmp nat_cmp_total s.processes pid new h.order.processes)
     (All-set nat_cmp (λ q. IsStrictlySortedBy nat_cmp (keys_of q.sees)) s.processes pid new h.order.sees sorted_none)
@@ -110,34 +106,76 @@ spawn_sound s pid uid home allowed privileged h fine =
           (elim (is_eq (nat_cmp a.0.0 pid)) as (λ b. IsSome (cond b (Some new) (get nat_cmp s.processes a.0.0))) [ true ↦ refl | false ↦ whole.2 ]),
       whole.3,
     )) h.areas)
+    few
 
 -- another number of pins of a page
-pub repinned_sound : (s : State) (l : List ℕ) (p : Page) (n : ℕ) → IsSoundAmid s l → IsSoundAmid (record s { pins = replace page_cmp s.pins p n }) l
-repinned_sound s l p n h =
+pub repinned_sound : (s : State) (l : List ℕ) (p : Page) (n : ℕ) → IsSoundAmid s l → n ≤ 65535 → IsSoundAmid (record s { pins = replace page_cmp s.pins p n }) l
+repinned_sound s l p n h most =
     record {
-      order = record { processes = h.order.processes; sees = h.order.sees; areas = h.order.areas; place = h.order.place };
+      order = record { processes = h.order.processes; sees = h.order.sees; areas = h.order.areas; segments = h.order.segments; place = h.order.place };
       apart = h.apart;
-      frames = record { lists = h.frames.lists; once = h.frames.once; own = h.frames.own };
+      frames = h.frames;
       shown = h.shown;
       zeros = h.zeros;
       covered = h.covered;
-      bytes = record { same_pages = h.bytes.same_pages; whole = h.bytes.whole };
-      pins = keys-replace page_cmp s.pins p n ∙ h.pins;
+      bytes = h.bytes;
+      pins = record { same_pages = keys-replace page_cmp s.pins p n ∙ h.pins.same_pages; few = All-replace page_cmp (λ k. k ≤ 65535) s.pins p n h.pins.few most };
       seen = h.seen;
       once = h.once;
       areas = h.areas;
       numbers = h.numbers;
       disjoint = h.disjoint;
+      online = h.online;
+      few = h.few;
     }
 
-pins_sound : (s : State) (o : Option Sight) (change : ℕ → ℕ) → IsSound s → IsSound (with_pins s o change)
-pins_sound s None change h = h
-pins_sound s (Some ZeroPage) change h = h
-pins_sound s (Some (Sees p)) change h = repinned_sound s [] p (change (pins_of s p)) h
+-- a page has so many pins at most
+pub few_pins : (s : State) (l : List ℕ) (p : Page) → IsSoundAmid s l → pins_of s p ≤ 65535
+few_pins s l p h =
+    elim (get page_cmp s.pins p) as (λ o. get page_cmp s.pins p ≡ o → unwrap_or o 0 ≤ 65535) [
+      | None ↦ λ o. omega arith
+      | Some n ↦ λ o. All-get page_cmp (λ n. n ≤ 65535) s.pins p n h.pins.few o
+    ] refl
 
-pub pin_sound : (s : State) (pid address : ℕ) → IsSound s → IsSound (pin s pid address) × IsSound (unpin s pid address)
-pin_sound s pid address h =
-    (pins_sound s (sight_at s pid (address / 4096)) (λ n. n + 1) h, pins_sound s (sight_at s pid (address / 4096)) (λ n. n - 1) h)
+-- the page that a process sees at an address, as a look tells it
+pub look_there : (s : State) (l : List ℕ) (pid v : ℕ) (p : Page) (frame : ℕ) → IsSoundAmid s l → sight_at s pid v ≡ Some (Sees p) → get page_cmp s.place p ≡ Some frame → look s pid v ≡ At p frame (length (users s p)) (is_pinned s p)
+look_there s l pid v p frame h seen placed =
+    ap (λ o. look_under s o (sight_at s pid v)) (h.shown pid v p seen).0 ∙ ap (look_under s (Some p)) seen ∙ ap (look_at_page s p) placed
+
+not_full : (n : ℕ) → (if nat_le 65535 n then Some Ebusy else None) ≡ None → n + 1 ≤ 65535
+not_full n h =
+    elim (nat_le 65535 n) as (λ b. nat_le 65535 n ≡ b → (if b then Some Ebusy else None) ≡ None → n + 1 ≤ 65535) [
+      | true ↦ λ b k. absurd (some_none k)
+      | false ↦ λ b k. let below = leb-false 65535 n b in omega (arith, below)
+    ] refl h
+
+if_known : (b : Bool) (r : Option Errno) → (if b then Some Esrch else r) ≡ None → r ≡ None
+if_known true r h = absurd (some_none h)
+if_known false r h = h
+
+pinned_sound : (s : State) (pid address : ℕ) (o : Option Sight) → IsSound s → sight_at s pid (address / 4096) ≡ o → pin_refusal s pid address ≡ None → IsSound (with_pins s o (λ n. n + 1))
+pinned_sound s pid address None h e fine = h
+pinned_sound s pid address (Some ZeroPage) h e fine = h
+pinned_sound s pid address (Some (Sees p)) h e fine =
+    let placed = h.shown pid (address / 4096) p e in
+    let told = if_known (is_unknown s pid) (pins_refusal s (nat_le 65535) Ebusy (look s pid (address / 4096))) fine in
+    elim (get page_cmp s.place p) as (λ o. get page_cmp s.place p ≡ o → IsSome o → IsSound (with_pins s (Some (Sees p)) (λ n. n + 1))) [
+      | None ↦ λ o k. absurd (none_is_not ℕ k)
+      | Some frame ↦ λ o k.
+          repinned_sound s [] p (pins_of s p + 1) h
+          (not_full (pins_of s p) (sym (ap (pins_refusal s (nat_le 65535) Ebusy) (look_there s [] pid (address / 4096) p frame h e o)) ∙ told))
+    ] refl placed.1
+
+pub pin_sound : (s : State) (pid address : ℕ) → IsSound s → pin_refusal s pid address ≡ None → IsSound (pin s pid address)
+pin_sound s pid address h fine = pinned_sound s pid address (sight_at s pid (address / 4096)) h refl fine
+
+unpinned_sound : (s : State) (o : Option Sight) → IsSound s → IsSound (with_pins s o (λ n. n - 1))
+unpinned_sound s None h = h
+unpinned_sound s (Some ZeroPage) h = h
+unpinned_sound s (Some (Sees p)) h = let few = few_pins s [] p h in repinned_sound s [] p (pins_of s p - 1) h (omega (arith, few))
+
+pub unpin_sound : (s : State) (pid address : ℕ) → IsSound s → IsSound (unpin s pid address)
+unpin_sound s pid address h = unpinned_sound s (sight_at s pid (address / 4096)) h
 
 not_true : (b : Bool) → not b ≡ true → b ≡ false
 not_true true h = absurd (true_false (sym h))
@@ -157,7 +195,7 @@ same_place index first w x a b e = omega arith
 
 -- one more area, of a stretch that may be shown there
 module _ (s : State) (l : List ℕ) (h : IsSoundAmid s l) (pid first : ℕ) (new : Area) (whole : IsWhole s ((pid, first), new)) (none : NoneOverlaps pid first new s.areas)
-    (alone : is_shared s new.page ≡ false → (q w : ℕ) (p : Page) → page_at s.areas q w ≡ Some p → p.segment ≡ new.page.segment → ⊥) where
+    (alone : is_shared s.segments new.page.segment ≡ false → (q w : ℕ) (p : Page) → page_at s.areas q w ≡ Some p → p.segment ≡ new.page.segment → ⊥) where
   each_some : AllByRecursion (λ a. 0 < a.1.pages) s.areas
   each_some = all_then s.areas (IsWhole s) (λ a. 0 < a.1.pages) (λ a whole. whole.0) h.areas
 
@@ -188,10 +226,10 @@ module _ (s : State) (l : List ℕ) (h : IsSoundAmid s l) (pid first : ℕ) (new
   segment_of : (w : ℕ) (p : Page) → page_of (one_more pid first new) w ≡ p → p.segment ≡ new.page.segment
   segment_of w p e = sym (ap (λ (x : Page). x.segment) e)
 
-  private_new : (w : ℕ) (p : Page) → page_of (one_more pid first new) w ≡ p → is_shared s p ≡ false → is_shared s new.page ≡ false
+  private_new : (w : ℕ) (p : Page) → page_of (one_more pid first new) w ≡ p → is_shared s.segments p.segment ≡ false → is_shared s.segments new.page.segment ≡ false
   private_new w p e private = ap (λ n. shared_in (get nat_cmp s.segments n)) (sym (segment_of w p e)) ∙ private
 
-  once_still : (q w r x : ℕ) (p : Page) → page_at after q w ≡ Some p → page_at after r x ≡ Some p → is_shared s p ≡ false → (q ≡ r) × (w ≡ x)
+  once_still : (q w r x : ℕ) (p : Page) → page_at after q w ≡ Some p → page_at after r x ≡ Some p → is_shared s.segments p.segment ≡ false → (q ≡ r) × (w ≡ x)
   once_still q w r x p e k private =
       shown_cases q w p ((q ≡ r) × (w ≡ x)) e
       (λ a. shown_cases r x p ((q ≡ r) × (w ≡ x)) k
@@ -205,22 +243,24 @@ module _ (s : State) (l : List ℕ) (h : IsSoundAmid s l) (pid first : ℕ) (new
   unfolding after
   one_more_sound =
       record {
-        order = record { processes = h.order.processes; sees = h.order.sees; areas = sorted-set spot_cmp spot_cmp_total s.areas (pid, first) new h.order.areas; place = h.order.place };
+        order = record { processes = h.order.processes; sees = h.order.sees; areas = sorted-set spot_cmp spot_cmp_total s.areas (pid, first) new h.order.areas; segments = h.order.segments; place = h.order.place };
         apart = h.apart;
-        frames = record { lists = h.frames.lists; once = h.frames.once; own = h.frames.own };
+        frames = h.frames;
         shown = λ q w p e. let was = h.shown q w p e in (shown_still q w p was.0, was.1);
         zeros = λ q w e. let was = h.zeros q w e in (was.0, shown_still q w was.0 was.1, was.2);
         covered = λ p e. is_covered-set pid first new s.areas p whole.0 each_some none (h.covered p e);
-        bytes = record { same_pages = h.bytes.same_pages; whole = h.bytes.whole };
+        bytes = h.bytes;
         pins = h.pins;
         seen = h.seen;
         once = once_still;
         areas = each_set pid first new (IsWhole s) s.areas (λ a e. subst (IsWhole s) (sym (same_key pid first new a e)) whole) whole h.areas;
         numbers = h.numbers;
         disjoint = apart-set pid first new s.areas whole.0 each_some none h.disjoint;
+        online = h.online;
+        few = h.few;
       }
 
-room_range : (s : State) (pid address pages : ℕ) → is_room s pid address pages ≡ true → (0 < pages) × (address / 4096 + pages ≤ 2 ^ 35)
+room_range : (s : State) (pid address pages : ℕ) → is_room s.areas pid address pages ≡ true → (0 < pages) × (address / 4096 + pages ≤ 2 ^ 35)
 room_range s pid address pages h =
     let range = and_parts (is_range address pages) _ h in
     let low = and_parts ((address % 4096 == 0) && nat_lt 0 pages) _ range.0 in
@@ -230,21 +270,28 @@ known_some : (o : Option Process) → not (is_some o) ≡ false → IsSome o
 known_some None h = absurd (true_false h)
 known_some (Some p) h = refl
 
-room_free : (s : State) (pid address pages : ℕ) → is_room s pid address pages ≡ true → AllByRecursion (λ a. overlaps pid (address / 4096) (address / 4096 + pages) a ≡ false) s.areas
+room_free : (s : State) (pid address pages : ℕ) → is_room s.areas pid address pages ≡ true → AllByRecursion (λ a. overlaps pid (address / 4096) (address / 4096 + pages) a ≡ false) s.areas
 room_free s pid address pages h =
     all_from_none s.areas (overlaps pid (address / 4096) (address / 4096 + pages)) (not_true _ (and_parts (is_range address pages) _ h).1)
 
-stretch_shared : (o : Option Segment) (offset pages : ℕ) → is_stretch o offset pages ≡ true → IsSome o × (shared_in o ≡ true)
-stretch_shared None offset pages h = cc
-stretch_shared (Some segment) offset pages h = (refl, (and_parts segment.shared _ h).0)
+stretch_shared : (o : Option Segment) (area : Area) → is_stretch o area.page.index area.pages ≡ true → HasPages o (area.page.index + area.pages) × (shared_in o ≡ true)
+stretch_shared None area h = cc
+stretch_shared (Some segment) area h =
+    let both = and_parts segment.shared (nat_le (area.page.index + area.pages) segment.pages) h in
+    (leb-true (area.page.index + area.pages) segment.pages both.1, both.0)
+
+-- the segment of an area is there
+pub within_some : (o : Option Segment) (pages : ℕ) → HasPages o pages → IsSome o
+within_some None pages h = absurd h
+within_some (Some segment) pages h = refl
 
 pub attach_sound : (s : State) (pid address segment offset pages : ℕ) → IsSound s → attach_refusal s pid address segment offset pages ≡ None → IsSound (attach s pid address segment offset pages)
 attach_sound s pid address segment offset pages h fine =
-    let fits = is_room s pid address pages && is_stretch (get nat_cmp s.segments segment) offset pages in
+    let fits = is_room s.areas pid address pages && is_stretch (get nat_cmp s.segments segment) offset pages in
     let known = no_error (is_unknown s pid) Esrch ((not fits, Einval) ∷ []) fine in
-    let both = and_parts (is_room s pid address pages) (is_stretch (get nat_cmp s.segments segment) offset pages) (not_false fits (no_error (not fits) Einval [] known.1).0) in
-    let shared = stretch_shared (get nat_cmp s.segments segment) offset pages both.1 in
+    let both = and_parts (is_room s.areas pid address pages) (is_stretch (get nat_cmp s.segments segment) offset pages) (not_false fits (no_error (not fits) Einval [] known.1).0) in
     let area : Area = record { pages = pages; policy = Default; page = record { segment = segment; index = offset } } in
+    let shared = stretch_shared (get nat_cmp s.segments segment) area both.1 in
     one_more_sound s [] h pid (address / 4096) area ((room_range s pid address pages both.0).0, (room_range s pid address pages both.0).1, known_some (get nat_cmp s.processes pid) known.0, shared.0) (room_free s pid address pages both.0)
     (λ private q w p e k. true_false (sym shared.1 ∙ private))
 
@@ -253,7 +300,7 @@ shown_there : (s : State) (areas : Map (ℕ × ℕ) Area) (q w : ℕ) (p : Page)
 shown_there s [] q w p h e = absurd (none_some e)
 shown_there s (a ∷ areas) q w p h e =
     elim (covers a q w) as (λ b. page_shown (cond b (Some a) (area_over areas q w)) w ≡ Some p → IsSome (get nat_cmp s.segments p.segment)) [
-      | true ↦ λ k. subst (λ (x : Page). IsSome (get nat_cmp s.segments x.segment)) (some_is k) h.0.3
+      | true ↦ λ k. subst (λ (x : Page). IsSome (get nat_cmp s.segments x.segment)) (some_is k) (within_some _ _ h.0.3)
       | false ↦ λ k. shown_there s areas q w p h.1 k
     ] e
 
@@ -261,12 +308,12 @@ covered_there : (s : State) (areas : Map (ℕ × ℕ) Area) (p : Page) → AllBy
 covered_there s [] p h e = cc
 covered_there s (a ∷ areas) p h e =
     elim (covers_page p a) as (λ b. covers_page p a ≡ b → (b || is_covered areas p) ≡ true → IsSome (get nat_cmp s.segments p.segment)) [
-      | true ↦ λ b k. subst (λ n. IsSome (get nat_cmp s.segments n)) (eqb-true a.1.page.segment p.segment (and_parts (a.1.page.segment == p.segment) _ b).0) h.0.3
+      | true ↦ λ b k. subst (λ n. IsSome (get nat_cmp s.segments n)) (eqb-true a.1.page.segment p.segment (and_parts (a.1.page.segment == p.segment) _ b).0) (within_some _ _ h.0.3)
       | false ↦ λ b k. covered_there s areas p h.1 k
     ] refl e
 
 -- a segment with a new number
-module _ (s : State) (l : List ℕ) (h : IsSoundAmid s l) (segment : Segment) where
+module _ (s : State) (l : List ℕ) (h : IsSoundAmid s l) (segment : Segment) (room : s.next_segment < 65536) where
   pub numbered : State
   numbered = record s { segments = set nat_cmp s.segments s.next_segment segment; next_segment = suc s.next_segment }
 
@@ -279,21 +326,21 @@ module _ (s : State) (l : List ℕ) (h : IsSoundAmid s l) (segment : Segment) wh
   same_segment n there =
       get_numbered n
       ∙ elim (is_eq (nat_cmp n s.next_segment)) as (λ b. is_eq (nat_cmp n s.next_segment) ≡ b → cond b (Some segment) (get nat_cmp s.segments n) ≡ get nat_cmp s.segments n) [
-        | true ↦ λ b. let below = h.numbers n there in let same : n ≡ s.next_segment = exact_unsigned n s.next_segment (equal _ b) in absurd (omega (arith, below, same))
+        | true ↦ λ b. let below = h.numbers.below n there in let same : n ≡ s.next_segment = exact_unsigned n s.next_segment (equal _ b) in absurd (omega (arith, below, same))
         | false ↦ λ b. refl
       ] refl
 
-  still_there : (n : ℕ) → IsSome (get nat_cmp s.segments n) → IsSome (get nat_cmp numbered.segments n)
-  still_there n there = subst IsSome (sym (same_segment n there)) there
+  within_still : (n pages : ℕ) → HasPages (get nat_cmp s.segments n) pages → HasPages (get nat_cmp numbered.segments n) pages
+  within_still n pages within = subst (λ o. HasPages o pages) (sym (same_segment n (within_some _ pages within))) within
 
-  same_shared : (p : Page) → IsSome (get nat_cmp s.segments p.segment) → is_shared numbered p ≡ is_shared s p
+  same_shared : (p : Page) → IsSome (get nat_cmp s.segments p.segment) → is_shared numbered.segments p.segment ≡ is_shared s.segments p.segment
   same_shared p there = ap shared_in (same_segment p.segment there)
 
   numbers_after : (n : ℕ) → IsSome (get nat_cmp numbered.segments n) → n < suc s.next_segment
   numbers_after n there =
       elim (is_eq (nat_cmp n s.next_segment)) as (λ b. is_eq (nat_cmp n s.next_segment) ≡ b → IsSome (cond b (Some segment) (get nat_cmp s.segments n)) → n < suc s.next_segment) [
         | true ↦ λ b k. let same : n ≡ s.next_segment = exact_unsigned n s.next_segment (equal _ b) in omega (arith, same)
-        | false ↦ λ b k. let below = h.numbers n k in omega (arith, below)
+        | false ↦ λ b k. let below = h.numbers.below n k in omega (arith, below)
       ] refl (subst IsSome (get_numbered n) there)
 
   pub numbered_sound : IsSoundAmid numbered l
@@ -301,33 +348,38 @@ module _ (s : State) (l : List ℕ) (h : IsSoundAmid s l) (segment : Segment) wh
   numbered_sound =
       let of_shown = λ (q w : ℕ) (p : Page) (e : page_at s.areas q w ≡ Some p). same_shared p (shown_there s s.areas q w p h.areas e) in
       record {
-        order = record { processes = h.order.processes; sees = h.order.sees; areas = h.order.areas; place = h.order.place };
+        order = record { processes = h.order.processes; sees = h.order.sees; areas = h.order.areas; segments = sorted-set nat_cmp nat_cmp_total s.segments s.next_segment segment h.order.segments; place = h.order.place };
         apart = h.apart;
-        frames = record { lists = h.frames.lists; once = h.frames.once; own = h.frames.own };
+        frames = h.frames;
         shown = h.shown;
         zeros = λ q w e. let was = h.zeros q w e in (was.0, was.1, of_shown q w was.0 was.1 ∙ was.2);
         covered = h.covered;
-        bytes = record { same_pages = h.bytes.same_pages; whole = h.bytes.whole };
+        bytes = h.bytes;
         pins = h.pins;
         seen = λ p e private. h.seen p e (sym (same_shared p (covered_there s s.areas p h.areas (h.covered p e))) ∙ private);
         once = λ q w r x p e k private. h.once q w r x p e k (sym (of_shown q w p e) ∙ private);
-        areas = all_then s.areas (IsWhole s) (IsWhole numbered) (λ a whole. (whole.0, whole.1, whole.2, still_there a.1.page.segment whole.3)) h.areas;
-        numbers = numbers_after;
+        areas = all_then s.areas (IsWhole s) (IsWhole numbered) (λ a whole. (whole.0, whole.1, whole.2, within_still a.1.page.segment (a.1.page.index + a.1.pages) whole.3)) h.areas;
+        numbers = record { below = numbers_after; few = omega (arith, room) };
         disjoint = h.disjoint;
+        online = h.online;
+        few = h.few;
       }
 
-  pub new_there : IsSome (get nat_cmp numbered.segments s.next_segment)
-  new_there = subst IsSome (sym (get_numbered s.next_segment ∙ ap (λ r. cond (is_eq r) (Some segment) (get nat_cmp s.segments s.next_segment)) (tied_itself nat_cmp_total s.next_segment))) refl
+  pub new_there : get nat_cmp numbered.segments s.next_segment ≡ Some segment
+  new_there = get_numbered s.next_segment ∙ ap (λ r. cond (is_eq r) (Some segment) (get nat_cmp s.segments s.next_segment)) (tied_itself nat_cmp_total s.next_segment)
 
   pub new_alone : (q w : ℕ) (p : Page) → page_at s.areas q w ≡ Some p → p.segment ≡ s.next_segment → ⊥
-  new_alone q w p e k = let below = h.numbers p.segment (shown_there s s.areas q w p h.areas e) in absurd (omega (arith, below, k))
+  new_alone q w p e k = let below = h.numbers.below p.segment (shown_there s s.areas q w p h.areas e) in absurd (omega (arith, below, k))
 
 pub map_sound : (s : State) (pid address pages : ℕ) (shared : Bool) → IsSound s → map_refusal s pid address pages ≡ None → IsSound (map_new s pid address pages shared)
 unfolding numbered
 map_sound s pid address pages shared h fine =
     let segment : Segment = record { pages = pages; shared = shared } in
-    let known = no_error (is_unknown s pid) Esrch ((not (is_room s pid address pages), Einval) ∷ (nat_le 65536 s.next_segment, Enomem) ∷ []) fine in
-    let room = not_false (is_room s pid address pages) (no_error (not (is_room s pid address pages)) Einval ((nat_le 65536 s.next_segment, Enomem) ∷ []) known.1).0 in
+    let known = no_error (is_unknown s pid) Esrch ((not (is_room s.areas pid address pages), Einval) ∷ (nat_le 65536 s.next_segment, Enomem) ∷ []) fine in
+    let free = no_error (not (is_room s.areas pid address pages)) Einval ((nat_le 65536 s.next_segment, Enomem) ∷ []) known.1 in
+    let room = not_false (is_room s.areas pid address pages) free.0 in
+    let few : s.next_segment < 65536 = leb-false 65536 s.next_segment (no_error (nat_le 65536 s.next_segment) Enomem [] free.1).0 in
     let area : Area = record { pages = pages; policy = Default; page = record { segment = s.next_segment; index = 0 } } in
-    one_more_sound (numbered s [] h segment) [] (numbered_sound s [] h segment) pid (address / 4096) area ((room_range s pid address pages room).0, (room_range s pid address pages room).1, known_some (get nat_cmp s.processes pid) known.0, new_there s [] h segment) (room_free s pid address pages room)
-    (λ private. new_alone s [] h segment)
+    let within = subst (λ o. HasPages o (0 + pages)) (sym (new_there s [] h segment few)) (omega arith) in
+    one_more_sound (numbered s [] h segment few) [] (numbered_sound s [] h segment few) pid (address / 4096) area ((room_range s pid address pages room).0, (room_range s pid address pages room).1, known_some (get nat_cmp s.processes pid) known.0, within) (room_free s pid address pages room)
+    (λ private. new_alone s [] h segment few)

@@ -17,6 +17,7 @@ use Rattle.std.proofs.lemmas.Map.Lookups.{exact_unsigned}
 use Rattle.std.proofs.lemmas.Map.Made.{IsDistinct-keys_filter, length-from_keys}
 use Rattle.nm_types.specs.declared.page.Page.{Page}
 use Rattle.nm_types.specs.Map.{Map, get, with_values, page_cmp, same_page, spot_cmp}
+use Rattle.nm_types.proofs.Cases.{none_some, some_is}
 use Rattle.nm_runs.specs.Seen.{is_sight_of, sees_page}
 use Rattle.nm_tables.specs.declared.entry.Entry.{Entry}
 use Rattle.nm_tables.specs.declared.entry.Entry.TheVariants.{Zero, Frame, Held}
@@ -25,15 +26,9 @@ use Rattle.nm_rmap.specs.Mappers.{Mappers, mappers_of, pids, process_count}
 use Rattle.nm_engine.specs.Tasked.{Task, entry_at, entry_in, names}
 use Rattle.nm_engine.specs.Spaced.{process_of, sight_of, page_here}
 use Rattle.nm_engine.specs.Tied.{IsTied, has_spot}
-use Rattle.nm_engine.proofs.Maps.{keys-values, equal, get-values, page_cmp_total, exact_page, spot_cmp_total}
-use Rattle.nm_engine.proofs.Keys.{All-get}
+use Rattle.nm_types.proofs.Maps.{keys-values, equal, get-values, page_cmp_total, exact_page, spot_cmp_total}
+use Rattle.nm_types.proofs.Keys.{All-get}
 use Rattle.nm_engine.proofs.Remapped.{same_spot, exact_spot, TableInOrder}
-
-none_some : {V : Type 0} {w : V} → None ≡ Some w → ⊥
-none_some e = cc
-
-some_is : {V : Type 0} {v w : V} → Some v ≡ Some w → v ≡ w
-some_is e = cc
 
 false_true : false ≡ true → ⊥
 false_true e = cc

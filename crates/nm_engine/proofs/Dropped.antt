@@ -20,42 +20,21 @@ use Rattle.nm_types.specs.Map.{Map, get, with_values, without, page_cmp, spot_cm
 use Rattle.nm_types.specs.declared.sight.Sight.{Sight}
 use Rattle.nm_types.specs.declared.sight.Sight.TheVariants.{ZeroPage, Sees}
 use Rattle.nm_types.specs.State.{Process, State, Placed, covers, area_over, page_of, page_shown, page_at}
+use Rattle.nm_types.proofs.Cases.{true_false, none_some, some_is}
 use Rattle.nm_runs.specs.Seen.{sight_in, sight_at}
-use Rattle.nm_engine.specs.Touch.{is_shared}
+use Rattle.nm_areas.specs.Lines.{is_shared}
 use Rattle.nm_engine.specs.Effect.{pages_from, pages_between, parts_outside, covers_page, is_covered, released_from, released, blind_between, dropped, unmap, exit}
-use Rattle.nm_engine.specs.Sound.{AreasAreApart, IsWhole, IsSoundAmid, IsSound}
-use Rattle.nm_engine.proofs.Maps.{equal, get-values}
-use Rattle.nm_engine.proofs.Keys.{some_from_keys, sorted-without}
-use Rattle.nm_engine.proofs.Areas.{covers_parts, covers_from, all_then}
+use Rattle.nm_engine.specs.Sound.{AreasAreApart, HasPages, IsWhole, IsSoundAmid, IsSound}
+use Rattle.nm_types.proofs.Maps.{equal, get-values, keys-values}
+use Rattle.nm_types.proofs.Keys.{some_from_keys, sorted-without, few-without, as_many-values}
+use Rattle.nm_areas.proofs.Apart.{covers_parts, covers_from, all_then}
 use Rattle.nm_engine.proofs.Allocated.{shows_within, area_covers}
-use Rattle.nm_engine.proofs.Parted.{Among, All-among, all_from_among, among_over, over_among, among_flat, flat_among, IsPart, part_of, part_covers, part_page, part_there}
-use Rattle.nm_engine.proofs.Split.{flat_apart, flat_sorted}
+use Rattle.nm_areas.proofs.Parted.{Among, All-among, all_from_among, among_over, over_among, among_flat, flat_among, IsPart, part_of, part_covers, part_page, part_there, any_among, among_any}
+use Rattle.nm_areas.proofs.Split.{flat_apart, flat_sorted}
 use Rattle.nm_engine.proofs.Called.{other_processes}
 use Rattle.nm_engine.proofs.Released.{Listed, Pending, all_released}
 
-some_is : {V : Type 0} {v w : V} → Some v ≡ Some w → v ≡ w
-some_is e = cc
-
-none_some : {V : Type 0} {v : V} → None ≡ Some v → ⊥
-none_some e = cc
-
-true_false : true ≡ false → ⊥
-true_false e = cc
-
 -- ---- what areas cover
-
-pub covered_among : (areas : List Placed) (p : Page) → list_any (covers_page p) areas ≡ true → (a : Placed) × Among a areas × (covers_page p a ≡ true)
-covered_among [] p h = cc
-covered_among (x ∷ areas) p h =
-    elim (covers_page p x) as (λ b. covers_page p x ≡ b → (b || list_any (covers_page p) areas) ≡ true → (a : Placed) × Among a (x ∷ areas) × (covers_page p a ≡ true)) [
-      | true ↦ λ b k. (x, inl refl, b)
-      | false ↦ λ b k. let more = covered_among areas p k in (more.0, inr more.1, more.2)
-    ] refl h
-
-pub among_any : (test : Placed → Bool) (areas : List Placed) (a : Placed) → Among a areas → test a ≡ true → list_any test areas ≡ true
-among_any test [] a m h = absurd m
-among_any test (x ∷ areas) a (inl e) h = or_left _ _ (ap test (sym e) ∙ h)
-among_any test (x ∷ areas) a (inr m) h = or_right _ _ (among_any test areas a m h)
 
 -- the page number at which an area shows a page that it covers
 abbrev pub shown_number : Placed → Page → ℕ
@@ -96,18 +75,23 @@ listed_flat f test (x ∷ areas) a p (inr m) t k =
     let more = listed_flat f test areas a p m t k in
     elim (test x) as (λ b. Listed p (flat_map f (cond b (x ∷ filter test areas) (filter test areas)))) [ true ↦ listed_right (f x) (flat_map f (filter test areas)) p more | false ↦ more ]
 
+-- a part of an area ends within the segment, as the area does
+pub part_within : (pid first end : ℕ) (a b : Placed) → IsPart pid first end a b → (o : ℕ → Option Segment) → HasPages (o a.1.page.segment) (a.1.page.index + a.1.pages) → HasPages (o b.1.page.segment) (b.1.page.index + b.1.pages)
+part_within pid first end a b part o within =
+    subst (λ n. HasPages (o n) (b.1.page.index + b.1.pages)) (sym part.segment)
+    (elim (o a.1.page.segment) as (λ s. HasPages s (a.1.page.index + a.1.pages) → HasPages s (b.1.page.index + b.1.pages)) [
+      | None ↦ λ h. h
+      | Some segment ↦ λ h. omega (arith, h, part.index, part.low, part.high)
+    ] within)
+
 -- ---- what processes see
 
-keys_shown : {V W : Type 0} (F : ℕ → V → W) (m : Map ℕ V) → keys_of (with_values F m) ≡ keys_of m
-keys_shown F [] = refl
-keys_shown F (e ∷ m) = ap (λ ks. e.0 ∷ ks) (keys_shown F m)
-
-keys_all_filter : (P : ℕ → Type 0) (test : ℕ → Bool) (m : Map ℕ Sight) → AllByRecursion P (keys_of m) → AllByRecursion P (keys_of (filter (λ e. test e.0) m))
+keys_all_filter : {V : Type 0} (P : ℕ → Type 0) (test : ℕ → Bool) (m : Map ℕ V) → AllByRecursion P (keys_of m) → AllByRecursion P (keys_of (filter (λ e. test e.0) m))
 keys_all_filter P test [] h = tt
 keys_all_filter P test (e ∷ m) h =
     elim (test e.0) as (λ b. AllByRecursion P (keys_of (cond b (e ∷ filter (λ e. test e.0) m) (filter (λ e. test e.0) m)))) [ true ↦ (h.0, keys_all_filter P test m h.1) | false ↦ keys_all_filter P test m h.1 ]
 
-sorted_filter : (test : ℕ → Bool) (m : Map ℕ Sight) → IsStrictlySortedBy nat_cmp (keys_of m) → IsStrictlySortedBy nat_cmp (keys_of (filter (λ e. test e.0) m))
+sorted_filter : {V : Type 0} (test : ℕ → Bool) (m : Map ℕ V) → IsStrictlySortedBy nat_cmp (keys_of m) → IsStrictlySortedBy nat_cmp (keys_of (filter (λ e. test e.0) m))
 unfolding IsStrictlySortedBy
 sorted_filter test [] h = tt
 sorted_filter test (e ∷ m) h =
@@ -201,7 +185,7 @@ module _ (s : State) (l : List ℕ) (h : IsSoundAmid s l) (pid first end : ℕ) 
   covered_or_listed : (p : Page) → is_covered s.areas p ≡ true → (is_covered areas p ≡ true) ⊎ Listed p pages
   unfolding pages
   covered_or_listed p c =
-      let found = covered_among s.areas p c in
+      let found = any_among (covers_page p) s.areas c in
       let a = found.0 in
       let at = covers_shown a p found.2 in
       let w = shown_number a p in
@@ -305,7 +289,7 @@ module _ (s : State) (l : List ℕ) (h : IsSoundAmid s l) (pid first end : ℕ) 
 
   used : (p : Page) → is_covered areas p ≡ true → list_any (λ a. a.1.page.segment == p.segment) areas ≡ true
   used p c =
-      let found = covered_among areas p c in
+      let found = any_among (covers_page p) areas c in
       among_any (λ a. a.1.page.segment == p.segment) areas found.0 found.1 (and_parts (found.0.1.page.segment == p.segment) _ found.2).0
 
   -- ---- the state before the pages lose their frames
@@ -313,7 +297,7 @@ module _ (s : State) (l : List ℕ) (h : IsSoundAmid s l) (pid first end : ℕ) 
   left : State
   left = record s { processes = blind; areas = areas; segments = segments }
 
-  same_shared : (p : Page) → is_covered areas p ≡ true → is_shared left p ≡ is_shared s p
+  same_shared : (p : Page) → is_covered areas p ≡ true → is_shared left.segments p.segment ≡ is_shared s.segments p.segment
   unfolding left
   same_shared p c = ap (λ o. unwrap_or (option_map (λ (g : Segment). g.shared) o) false) (get_segment p.segment (used p c))
 
@@ -333,9 +317,9 @@ module _ (s : State) (l : List ℕ) (h : IsSoundAmid s l) (pid first end : ℕ) 
   sorted = flat_sorted pid first end range s.areas some h.disjoint h.order.areas
 
   -- where a page is covered still, nobody saw it in the range
-  stays_out : (p : Page) (q w : ℕ) → is_covered areas p ≡ true → is_shared s p ≡ false → page_at s.areas q w ≡ Some p → Out q w
+  stays_out : (p : Page) (q w : ℕ) → is_covered areas p ≡ true → is_shared s.segments p.segment ≡ false → page_at s.areas q w ≡ Some p → Out q w
   stays_out p q w c private e =
-      let found = covered_among areas p c in
+      let found = any_among (covers_page p) areas c in
       let b = found.0 in
       let at = covers_shown b p found.2 in
       let v = shown_number b p in
@@ -346,7 +330,7 @@ module _ (s : State) (l : List ℕ) (h : IsSoundAmid s l) (pid first end : ℕ) 
 
   same_keys : keys_of blind ≡ keys_of s.processes
   unfolding blind
-  same_keys = keys_shown (λ q process. if q == pid then blind_between first end process else process) s.processes
+  same_keys = keys-values (λ q process. if q == pid then blind_between first end process else process) s.processes
 
   blind_sorted : AllByRecursion (λ e. IsStrictlySortedBy nat_cmp (keys_of e.1.sees)) blind
   unfolding blind
@@ -362,20 +346,21 @@ module _ (s : State) (l : List ℕ) (h : IsSoundAmid s l) (pid first end : ℕ) 
         a.2.some,
         omega (arith, a.2.high, whole.1),
         subst (λ n. IsSome (get nat_cmp blind n)) (sym a.2.process) process,
-        subst IsSome (sym (get_segment b.1.page.segment used)) (subst (λ n. IsSome (get nat_cmp s.segments n)) (sym a.2.segment) whole.3),
+        subst (λ o. HasPages o (b.1.page.index + b.1.pages)) (sym (get_segment b.1.page.segment used)) (part_within pid first end a.0 b a.2 (get nat_cmp s.segments) whole.3),
       )
 
   left_pending : Pending left l pages
-  unfolding left
+  unfolding left segments blind
   left_pending =
       record {
         order = record {
           processes = subst (IsStrictlySortedBy nat_cmp) (sym same_keys) h.order.processes;
           sees = blind_sorted;
           areas = sorted;
+          segments = sorted_filter (λ n. list_any (λ a. a.1.page.segment == n) areas) s.segments h.order.segments;
           place = h.order.place;
         };
-        frames = record { lists = h.frames.lists; once = h.frames.once; own = h.frames.own };
+        frames = h.frames;
         shown = λ q w p e. let was = seen_back q w (Sees p) e in let shown = h.shown q w p was.0 in (shown_on q w p shown.0 was.1, shown.1);
         zeros = λ q w e.
             let was = seen_back q w ZeroPage e in
@@ -383,7 +368,7 @@ module _ (s : State) (l : List ℕ) (h : IsSoundAmid s l) (pid first end : ℕ) 
             let shown = shown_on q w zero.0 zero.1 was.1 in
             (zero.0, shown, same_shared zero.0 (shown_covered q w zero.0 shown) ∙ zero.2);
         covered = λ p e. covered_or_listed p (h.covered p e);
-        bytes = record { same_pages = h.bytes.same_pages; whole = h.bytes.whole };
+        bytes = h.bytes;
         pins = h.pins;
         seen = λ p e c private.
             let was_private = sym (same_shared p c) ∙ private in
@@ -392,8 +377,10 @@ module _ (s : State) (l : List ℕ) (h : IsSoundAmid s l) (pid first end : ℕ) 
         once = λ q w r x p e k private.
             h.once q w r x p (shown_back q w p e).0 (shown_back r x p k).0 (sym (same_shared p (shown_covered q w p e)) ∙ private);
         areas = all_from_among (IsWhole left) areas part_whole;
-        numbers = λ n e. h.numbers n (segment_there n e);
+        numbers = record { below = λ n e. h.numbers.below n (segment_there n e); few = h.numbers.few };
         disjoint = disjoint;
+        online = h.online;
+        few = subst (λ n. n ≤ 1024) (sym (as_many-values (λ q process. if q == pid then blind_between first end process else process) s.processes)) h.few;
       }
 
   pub dropped_sound : IsSoundAmid (dropped s pid first end) l
@@ -500,6 +487,7 @@ module _ (s : State) (h : IsSound s) (pid : ℕ) where
       (all_from_among (IsWhole (record rest { processes = without nat_cmp rest.processes pid })) rest.areas (λ a m.
       let whole = All-among (IsWhole rest) rest.areas a rest_sound.areas m in
       (whole.0, whole.1, still_there a m, whole.3)))
+      (let fewer = few-without nat_cmp rest.processes pid in let few = rest_sound.few in omega (arith, fewer, few))
 
   -- it sees nothing before it is no more
   pub sees_none : (w : ℕ) → sight_at (dropped s pid 0 (2 ^ 35)) pid w ≡ None

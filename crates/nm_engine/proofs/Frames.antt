@@ -15,9 +15,9 @@ use Rattle.nm_types.specs.Map.{Map, get, set, page_cmp}
 use Rattle.nm_types.specs.Layout.{Layout, owner, node_of}
 use Rattle.nm_types.specs.State.{State, free_list}
 use Rattle.nm_plan.specs.declared.Taken.{Taken}
-use Rattle.nm_engine.specs.Run.{moved_page, with_free, left}
+use Rattle.nm_engine.specs.Run.{moved_page, left}
 use Rattle.nm_engine.specs.Sound.{times, holders, FramesAreOnce}
-use Rattle.nm_engine.proofs.Maps.{page_cmp_total}
+use Rattle.nm_types.proofs.Maps.{page_cmp_total}
 
 -- whether it is this frame, as a number
 abbrev pub here : ℕ → ℕ → ℕ
@@ -57,6 +57,10 @@ false_true e = cc
 none_left : (a b c d : ℕ) → d ≡ 1 + c → a + b + d ≡ 0 → ⊥
 none_left a b c d e h = omega arith
 
+-- each frame of a state is in one place
+abbrev pub OnceIn : State → List ℕ → Type 0
+OnceIn s l = FramesAreOnce s.layout s.place s.free l
+
 -- the free lists with another one at a node
 abbrev pub AllOwn : Layout → List (List ℕ) → Type 0
 AllOwn g free = (node : ℕ) → AllByRecursion (λ frame. node_of g frame ≡ node) (slice_index_or free node [])
@@ -69,9 +73,9 @@ own_set g free at new h own this = λ node.
       | false ↦ λ e. subst (AllByRecursion (λ frame. node_of g frame ≡ node)) (sym (get_or-set_other free at node new [] (λ s. false_true (sym e ∙ eq-eqb _ _ s)))) (own node)
     ] refl
 
-pub moved_frames : (s : State) (l : List ℕ) (target : ℕ) (p : Page) (from : ℕ) (front : List ℕ) → FramesAreOnce s l → IsStrictlySortedBy page_cmp (keys_of s.place) → get page_cmp s.place p ≡ Some from → free_list s target ≡ front
-    → FramesAreOnce (moved_page s target p from front).state (l ++ left (moved_page s target p from front).taken)
-moved_frames s l target p from [] h order placed e = subst (FramesAreOnce s) (sym (append-nil l)) h
+pub moved_frames : (s : State) (l : List ℕ) (target : ℕ) (p : Page) (from : ℕ) (front : List ℕ) → OnceIn s l → IsStrictlySortedBy page_cmp (keys_of s.place) → get page_cmp s.place p ≡ Some from → free_list s target ≡ front
+    → OnceIn (moved_page s target p from front).state (l ++ left (moved_page s target p from front).taken)
+moved_frames s l target p from [] h order placed e = subst (OnceIn s) (sym (append-nil l)) h
 moved_frames s l target p from (frame ∷ rest) h order placed e =
     let at = within s.free target frame rest e in
     let own : AllByRecursion (λ f. node_of s.layout f ≡ target) (frame ∷ rest) = subst (AllByRecursion (λ f. node_of s.layout f ≡ target)) e (h.own target) in
@@ -107,23 +111,25 @@ all_push P [] x h p = (p, h)
 all_push P (y ∷ xs) x h p = (h.0, all_push P xs x h.1 p)
 
 -- a frame that was left is one of the machine's
-pub left_below : (s : State) (frame : ℕ) (l : List ℕ) → FramesAreOnce s (frame ∷ l) → frame < sum s.layout.sizes
-left_below s frame l h =
-    elim (nat_lt frame (sum s.layout.sizes)) as (λ b. nat_lt frame (sum s.layout.sizes) ≡ b → holders s (frame ∷ l) frame ≡ cond b 1 0 → frame < sum s.layout.sizes) [
+pub left_below : (g : Layout) (place : Map Page ℕ) (free : List (List ℕ)) (frame : ℕ) (l : List ℕ) → FramesAreOnce g place free (frame ∷ l) → frame < sum g.sizes
+left_below g place free frame l h =
+    elim (nat_lt frame (sum g.sizes)) as (λ b. nat_lt frame (sum g.sizes) ≡ b → holders place free (frame ∷ l) frame ≡ cond b 1 0 → frame < sum g.sizes) [
       | true ↦ λ e k. ltb-true _ _ e
-      | false ↦ λ e k. absurd (none_left (times frame (values_of s.place)) (sum_by (times frame) s.free) (times frame l) _ (times_cons frame frame l ∙ ap (λ b. cond b 1 0 + times frame l) (eq-eqb frame frame refl)) k)
+      | false ↦ λ e k. absurd (none_left (times frame (values_of place)) (sum_by (times frame) free) (times frame l) _ (times_cons frame frame l ∙ ap (λ b. cond b 1 0 + times frame l) (eq-eqb frame frame refl)) k)
     ] refl (h.once frame)
 
-pub frame_freed : (s : State) (frame : ℕ) (l : List ℕ) → FramesAreOnce s (frame ∷ l) → FramesAreOnce (with_free s frame) l
-frame_freed s frame l h =
-    let node = node_of s.layout frame in
-    let below : node < length s.layout.sizes = owner_below s.layout.sizes frame (left_below s frame l h) in
-    let at : node < length s.free = omega (arith, below, h.lists) in
+pub frame_freed : (g : Layout) (place : Map Page ℕ) (free : List (List ℕ)) (frame : ℕ) (l : List ℕ) → FramesAreOnce g place free (frame ∷ l)
+    → FramesAreOnce g place (slice_set free (node_of g frame) (slice_index_or free (node_of g frame) [] ++ frame ∷ [])) l
+frame_freed g place free frame l h =
+    let node = node_of g frame in
+    let list = slice_index_or free node [] in
+    let below : node < length g.sizes = owner_below g.sizes frame (left_below g place free frame l h) in
+    let at : node < length free = omega (arith, below, h.lists) in
     record {
-      lists = length-set s.free node (free_list s node ++ frame ∷ []) ∙ h.lists;
+      lists = length-set free node (list ++ frame ∷ []) ∙ h.lists;
       once = λ f.
-          freed_sum (times f (values_of s.place)) (sum_by (times f) s.free) _ (times f l) (here f frame) (times f (free_list s node)) _
-          (sum_by-set (times f) s.free node (free_list s node ++ frame ∷ []) [] at ∙ ap (λ n. sum_by (times f) s.free + n) (times_push f frame (free_list s node)))
-          (ap (λ n. times f (values_of s.place) + sum_by (times f) s.free + n) (sym (times_cons f frame l)) ∙ h.once f);
-      own = own_set s.layout s.free node (free_list s node ++ frame ∷ []) at h.own (all_push (λ f. node_of s.layout f ≡ node) (free_list s node) frame (h.own node) refl);
+          freed_sum (times f (values_of place)) (sum_by (times f) free) _ (times f l) (here f frame) (times f list) _
+          (sum_by-set (times f) free node (list ++ frame ∷ []) [] at ∙ ap (λ n. sum_by (times f) free + n) (times_push f frame list))
+          (ap (λ n. times f (values_of place) + sum_by (times f) free + n) (sym (times_cons f frame l)) ∙ h.once f);
+      own = own_set g free node (list ++ frame ∷ []) at h.own (all_push (λ f. node_of g f ≡ node) list frame (h.own node) refl);
     }

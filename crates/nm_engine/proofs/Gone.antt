@@ -20,13 +20,14 @@ use Rattle.nm_areas.specs.Removed.{areas_left, pages_gone, place_left, lost, wit
 use Rattle.nm_engine.specs.Effect.{is_covered, released_from, released, dropped}
 use Rattle.nm_engine.specs.Sound.{times, FramesAreOnce, IsSoundAmid}
 use Rattle.nm_engine.specs.Spaced.{Spaced, mapped_of, table_of, without_range}
-use Rattle.nm_engine.specs.Stocked.{Shelf, Stocked, frames_alone, with_freed, pool_of, CanFree}
+use Rattle.nm_engine.specs.Stocked.{Shelf, Stocked, with_freed, pool_of, CanFree}
 use Rattle.nm_engine.specs.Parts.{bytes_in, shown, stocked, shown_by}
 use Rattle.nm_engine.specs.Amid.{IsKept}
 use Rattle.std.proofs.lemmas.Map.Entries.{sum_by-remove_entry}
+use Rattle.nm_types.proofs.Cases.{some_none, none_is_not}
 use Rattle.nm_engine.proofs.Frames.{here, times_push}
-use Rattle.nm_engine.proofs.Keys.{some_from_keys, keys_same-without}
-use Rattle.nm_engine.proofs.Maps.{with_values-without}
+use Rattle.nm_types.proofs.Keys.{some_from_keys, keys_same-without}
+use Rattle.nm_types.proofs.Maps.{with_values-without}
 use Rattle.nm_engine.proofs.Stocks.{sizes_stay, all_freed}
 use Rattle.nm_engine.proofs.Dropped.{dropped_sound}
 
@@ -51,17 +52,11 @@ without_absent (e ∷ m) p h =
       | false ↦ λ h. ap (λ es. e ∷ es) (without_absent m p h)
     ] h
 
-some_none_of : {V : Type 0} {v : V} → Some v ≡ None → ⊥
-some_none_of e = cc
-
-some_none : IsSome {T = ℕ} None → ⊥
-some_none h = cc
-
 none_from_keys : (m n : Map Page ℕ) (p : Page) → keys_of m ≡ keys_of n → get page_cmp n p ≡ None → get page_cmp m p ≡ None
 none_from_keys m n p keys none =
     elim (get page_cmp m p) as (λ o. get page_cmp m p ≡ o → o ≡ None) [
       | None ↦ λ e. refl
-      | Some v ↦ λ e. absurd (some_none (subst IsSome none (some_from_keys page_cmp m n p keys (subst IsSome (sym e) refl))))
+      | Some v ↦ λ e. absurd (none_is_not ℕ (subst IsSome none (some_from_keys page_cmp m n p keys (subst IsSome (sym e) refl))))
     ] refl
 
 abbrev pool : Stocked → Pool
@@ -136,11 +131,11 @@ aside : (p q t l m x k : ℕ) → q + x ≡ p → m ≡ l + x → p + t + l ≡ 
 aside p q t l m x k a b c = omega (arith, a, b, c)
 
 module _ (g : Layout) (free : List (List ℕ)) (areas : Map (ℕ × ℕ) Area) where
-  frame_aside : (place : Map Page ℕ) (left : List ℕ) (p : Page) (o : Option ℕ) → get page_cmp place p ≡ o → FramesAreOnce (frames_alone g place free) left
-      → FramesAreOnce (frames_alone g (without page_cmp place p) free) (left ++ frames_of (with_its_frame p o))
+  frame_aside : (place : Map Page ℕ) (left : List ℕ) (p : Page) (o : Option ℕ) → get page_cmp place p ≡ o → FramesAreOnce g place free left
+      → FramesAreOnce g (without page_cmp place p) free (left ++ frames_of (with_its_frame p o))
   frame_aside place left p None e h =
-      subst (λ l. FramesAreOnce (frames_alone g (without page_cmp place p) free) l) (sym (append-nil left))
-      (subst (λ m. FramesAreOnce (frames_alone g m free) left) (sym (without_absent place p e)) h)
+      subst (λ l. FramesAreOnce g (without page_cmp place p) free l) (sym (append-nil left))
+      (subst (λ m. FramesAreOnce g m free left) (sym (without_absent place p e)) h)
   frame_aside place left p (Some frame) e h =
       record {
         lists = h.lists;
@@ -151,18 +146,18 @@ module _ (g : Layout) (free : List (List ℕ)) (areas : Map (ℕ × ℕ) Area) w
         own = h.own;
       }
 
-  page_aside : (b : Bool) (place : Map Page ℕ) (left : List ℕ) (p : Page) → FramesAreOnce (frames_alone g place free) left
-      → FramesAreOnce (frames_alone g (if b then place else without page_cmp place p) free) (left ++ frames_of (if b then [] else with_its_frame p (get page_cmp place p)))
-  page_aside true place left p h = subst (λ l. FramesAreOnce (frames_alone g place free) l) (sym (append-nil left)) h
+  page_aside : (b : Bool) (place : Map Page ℕ) (left : List ℕ) (p : Page) → FramesAreOnce g place free left
+      → FramesAreOnce g (if b then place else without page_cmp place p) free (left ++ frames_of (if b then [] else with_its_frame p (get page_cmp place p)))
+  page_aside true place left p h = subst (λ l. FramesAreOnce g place free l) (sym (append-nil left)) h
   page_aside false place left p h = frame_aside place left p (get page_cmp place p) refl h
 
-  pub pages_aside : (pages : List Page) (place : Map Page ℕ) (left : List ℕ) → FramesAreOnce (frames_alone g place free) left
-      → FramesAreOnce (frames_alone g (fold (place_left areas) place pages) free) (left ++ frames_of (all_lost areas place pages))
-  pages_aside [] place left h = subst (λ l. FramesAreOnce (frames_alone g place free) l) (sym (append-nil left)) h
+  pub pages_aside : (pages : List Page) (place : Map Page ℕ) (left : List ℕ) → FramesAreOnce g place free left
+      → FramesAreOnce g (fold (place_left areas) place pages) free (left ++ frames_of (all_lost areas place pages))
+  pages_aside [] place left h = subst (λ l. FramesAreOnce g place free l) (sym (append-nil left)) h
   pages_aside (p ∷ pages) place left h =
       let now = page_aside (is_covered areas p) place left p h in
       let rest = all_lost areas (place_left areas place p) pages in
-      subst (λ l. FramesAreOnce (frames_alone g (fold (place_left areas) (place_left areas place p) pages) free) l)
+      subst (λ l. FramesAreOnce g (fold (place_left areas) (place_left areas place p) pages) free l)
       (append_assoc left (frames_of (lost areas place p)) (frames_of rest) ∙ ap (λ fs. left ++ fs) (sym (frames_both (lost areas place p) rest)))
       (pages_aside pages (place_left areas place p) (left ++ frames_of (lost areas place p)) now)
 
@@ -174,8 +169,7 @@ module _ (y : Spaced) (k : Shelf) (online : List ℕ) (moved failed : ℕ) (pid 
   can_go none h =
       let areas = areas_left y.areas pid first end in
       let pages = pages_gone y.areas pid first end in
-      let now : FramesAreOnce (frames_alone k.layout y.place k.free) k.vacated = record { lists = h.frames.lists; once = h.frames.once; own = h.frames.own } in
-      let after = pages_aside k.layout k.free areas pages y.place [] (subst (FramesAreOnce (frames_alone k.layout y.place k.free)) none now) in
+      let after = pages_aside k.layout k.free areas pages y.place [] (subst (FramesAreOnce k.layout y.place k.free) none h.frames) in
       (all_freed k.layout (fold (place_left areas) y.place pages) (pool_of k) (frames_of (frames_lost (mapped_of y) pid first end)) refl after).can
 
   pub gone_shows : (z : Spaced) (after : Shelf) (freed : List (Page × ℕ)) → keys_of y.pins ≡ keys_of y.place → z ≡ without_range y pid first end → freed ≡ frames_lost (mapped_of y) pid first end
@@ -190,7 +184,7 @@ module _ (y : Spaced) (k : Shelf) (online : List ℕ) (moved failed : ℕ) (pid 
       → freed ≡ frames_lost (mapped_of y) pid first end → after ≡ record k { free = (with_freed (pool_of k) (frames_of freed)).lists } → IsKept (shown_by z after online moved failed) after.vacated z.frames
   gone_kept z after freed range none kept is lost free =
       let s = shown_by y k online moved failed in
-      let same = gone_shows z after freed kept.sound.pins is lost free in
+      let same = gone_shows z after freed kept.sound.pins.same_pages is lost free in
       let left : after.vacated ≡ [] = ap (λ (k : Shelf). k.vacated) free ∙ none in
       record {
         sound = subst (λ l. IsSoundAmid (shown_by z after online moved failed) l) (sym left)
@@ -201,4 +195,4 @@ module _ (y : Spaced) (k : Shelf) (online : List ℕ) (moved failed : ℕ) (pid 
 -- a process that sees nothing at any page number sees nothing
 pub sees_nothing : (sees : Map ℕ Sight) → ((v : ℕ) → get nat_cmp sees v ≡ None) → sees ≡ []
 sees_nothing [] h = refl
-sees_nothing (e ∷ sees) h = absurd (some_none_of (sym (ap (λ r. cond (is_eq r) (Some e.1) (get nat_cmp sees e.0)) (tied_itself nat_cmp_total e.0)) ∙ h e.0))
+sees_nothing (e ∷ sees) h = absurd (some_none (sym (ap (λ r. cond (is_eq r) (Some e.1) (get nat_cmp sees e.0)) (tied_itself nat_cmp_total e.0)) ∙ h e.0))

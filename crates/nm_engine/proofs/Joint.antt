@@ -7,7 +7,8 @@ use Rattle.nm_types.specs.Layout.{frame_count}
 use Rattle.nm_types.specs.State.{Process}
 use Rattle.nm_frames.specs.Store.{bytes_of}
 use Rattle.nm_engine.specs.Spaced.{Spaced, with_moved, with_new_page}
-use Rattle.nm_engine.specs.Stocked.{Shelf, IsShelf, IsStocked, free_on, stock_page, restock_page}
+use Rattle.nm_engine.specs.Stocked.{Shelf, IsShelf, free_on}
+use Rattle.nm_engine.proofs.Shelved.{IsStocked, stock_page, restock_page}
 use Rattle.nm_engine.specs.Parts.{stocked, shown_by}
 use Rattle.nm_engine.specs.Amid.{IsKept}
 use Rattle.nm_engine.proofs.Stocks.{index_front, place_below, front_below, apart_from_front, stocked_is}

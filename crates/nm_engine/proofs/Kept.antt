@@ -1,5 +1,5 @@
 -- What the calls that change processes and areas keep of the parts of a machine.
-use Rattle.std.proofs.Common.{◌≡◌, ℕ, zero, suc, ◌+◌, ◌<◌, List, [], ◌∷◌, Bool, true, false, refl, sym, ap, subst, ◌∙◌, arith}
+use Rattle.std.proofs.Common.{◌≡◌, ℕ, zero, suc, ◌+◌, ◌<◌, List, [], ◌∷◌, Bool, false, refl, sym, ap, subst, ◌∙◌, arith}
 use Rattle.std.specs.Prelude.{Option, Some, None, IsTrue, drop, nat_le, not, length, ◌||◌, ◌==◌, if◌then◌else◌}
 use Rattle.std.specs.Option.{is_some, option_map}
 use Rattle.std.specs.List.{list_any, slice_get}
@@ -13,7 +13,9 @@ use Rattle.nm_types.specs.Map.{Map, get, set}
 use Rattle.nm_types.specs.Layout.{Layout, node_count, frame_count}
 use Rattle.nm_types.specs.Nodes.{up_from}
 use Rattle.nm_types.specs.State.{Process, State}
-use Rattle.nm_engine.specs.Effect.{spawn, new_machine, all_frames}
+use Rattle.nm_types.proofs.Cases.{true_false, none_some, some_none}
+use Rattle.nm_nodes.specs.Pool.{all_frames}
+use Rattle.nm_engine.specs.Effect.{spawn, new_machine}
 use Rattle.nm_engine.specs.Refused.{first_error, is_unknown, spawn_refusal, list_refusal}
 use Rattle.nm_engine.specs.declared.process.ProcessInfo.{ProcessInfo}
 use Rattle.nm_engine.specs.Sound.{IsSoundAmid, IsSound}
@@ -69,18 +71,12 @@ shown_new g y k online n e l f o =
     ∙ ap (λ free. shown_by (no_spaces n) (of g free) online 0 0) f
     ∙ ap (λ nodes. shown_by (no_spaces n) (of g (all_frames 0 g.sizes)) nodes 0 0) o
 
-some_none : {V : Type 0} {v : V} → Some v ≡ None → ⊥
-some_none e = cc
-
 -- conditions of which none holds
 none_holds : (a b c d e f : Bool) → a ≡ false → b ≡ false → c ≡ false → d ≡ false → e ≡ false → f ≡ false → first_error (((a || b) || (c || d || e), Einval) ∷ (f, Enomem) ∷ []) ≡ None
 none_holds a b c d e f ha hb hc hd he hf =
     let all = λ (u v w x y z : Bool). first_error (((u || v) || (w || x || y), Einval) ∷ (z, Enomem) ∷ []) in
     ap (λ u. all u b c d e f) ha ∙ ap (λ v. all false v c d e f) hb ∙ ap (λ w. all false false w d e f) hc ∙ ap (λ x. all false false false x e f) hd
     ∙ ap (λ y. all false false false false y f) he ∙ ap (λ z. all false false false false false z) hf
-
-true_false : true ≡ false → ⊥
-true_false e = cc
 
 no_process : (o : Option Process) → is_some (option_map info_of o) ≡ false → not (not (is_some o)) ≡ false
 no_process None h = refl
@@ -101,9 +97,6 @@ spawn_fine s pid home allowed o some e unknown there nodes below few =
 
 pub list_fine : (s : State) (node : ℕ) → node < node_count s.layout → list_refusal s node ≡ None
 list_fine s node h = ap (λ b. if b then Some Einval else None) (lt-leb (node_count s.layout) node h)
-
-none_some : {V : Type 0} {v : V} → None ≡ Some v → ⊥
-none_some e = cc
 
 -- the front, and the others
 pub any_front : (p : ℕ → Bool) (xs : List ℕ) (x : ℕ) → slice_get xs 0 ≡ Some x → list_any p xs ≡ (p x || list_any p (drop 1 xs))

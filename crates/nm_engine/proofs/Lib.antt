@@ -1,5 +1,3 @@
-pub mod Maps
-pub mod Keys
 pub mod Looks
 pub mod Placed
 pub mod Memory
@@ -12,16 +10,12 @@ pub mod Allocated
 pub mod Touched
 pub mod Written
 pub mod Ran
-pub mod Areas
 pub mod Called
-pub mod Parted
-pub mod Split
 pub mod Released
 pub mod Dropped
 pub mod New
 pub mod Starts
 pub mod Stocks
-pub mod Overs
 pub mod Tabled
 pub mod Shows
 pub mod Kept
@@ -29,9 +23,6 @@ pub mod Audits
 pub mod Touches
 pub mod Ranges
 pub mod Paces
-pub mod Painted
-pub mod Cut
-pub mod Repoliced
 pub mod Policed
 pub mod Joint
 pub mod Remade
@@ -49,3 +40,6 @@ pub mod TiedMapped
 pub mod TiedCleared
 pub mod Busy
 pub mod TiedRemoved
+pub mod Alike
+pub mod Sounded
+pub mod Shelved

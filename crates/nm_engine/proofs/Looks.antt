@@ -1,5 +1,5 @@
 -- A look that counts the processes tells whether another one sees the page.
-use Rattle.std.proofs.Common.{◌≡◌, ℕ, suc, List, [], ◌∷◌, Bool, true, false, not, ◌&&◌, ◌||◌, cond, length, refl, sym, ap, subst, ◌∙◌, eq-eqb, lt-ltb, arith}
+use Rattle.std.proofs.Common.{◌≡◌, ◌≤◌, ℕ, suc, List, [], ◌∷◌, Bool, true, false, not, ◌&&◌, ◌||◌, cond, length, refl, sym, ap, subst, ◌∙◌, eq-eqb, lt-ltb, arith}
 use Rattle.std.specs.Prelude.{Option, Some, None, pos, nat_lt, ◌==◌, if◌then◌else◌}
 use Rattle.std.specs.List.{list_any, filter, AllByRecursion}
 use Rattle.std.specs.List.Sorted.{IsStrictlySortedBy}
@@ -24,7 +24,9 @@ use Rattle.nm_types.specs.Layout.{node_of}
 use Rattle.nm_runs.specs.declared.Class.TheVariants.{Status, Move}
 use Rattle.nm_runs.specs.Seen.{is_pinned}
 use Rattle.nm_runs.specs.Status.{code}
-use Rattle.nm_engine.proofs.Maps.{page_cmp_total, equal}
+use Rattle.nm_types.specs.declared.seen.Seen.TheVariants.{At}
+use Rattle.nm_engine.specs.Laws.{LooksAreBounded}
+use Rattle.nm_types.proofs.Maps.{page_cmp_total, equal}
 
 -- a test of processes, whatever it asks
 abbrev chosen : (Process → Bool) → Map ℕ Process → List ℕ
@@ -124,3 +126,32 @@ none_other false = refl
 pub looks_suffice : (s : State) (target : ℕ) (w : Wanted) → IsStrictlySortedBy nat_cmp (keys_of s.processes) → class_of s target w ≡ status_or_move s target w
 looks_suffice s target (Spot pid v all) order = under_tells s target pid v all (page_at s.areas pid v) order
 looks_suffice s target (Whole p) order = page_tells s target true false p (get page_cmp s.place p) (none_other (nat_lt 1 (length (users s p))))
+
+-- no more processes see a page than there are
+few_chosen : (test : Process → Bool) (ps : Map ℕ Process) → length (chosen test ps) ≤ length ps
+few_chosen test [] = omega arith
+few_chosen test (e ∷ ps) =
+    let rest = few_chosen test ps in
+    elim (test e.1) as (λ b. length (keys_of (cond b (e ∷ filter (λ e. test e.1) ps) (filter (λ e. test e.1) ps))) ≤ suc (length ps)) [
+      | true ↦ omega (arith, rest)
+      | false ↦ omega (arith, rest)
+    ]
+
+counted_is : {p q : Page} {f g n m : ℕ} {b c : Bool} → At p f n b ≡ At q g m c → n ≡ m
+counted_is e = cc
+
+few_at_page : (s : State) (q p : Page) (o : Option ℕ) (frame n : ℕ) (pinned : Bool) → look_at_page s q o ≡ At p frame n pinned → n ≤ length s.processes
+few_at_page s q p None frame n pinned e = cc
+few_at_page s q p (Some f) frame n pinned e = let few = few_chosen (sees_page q) s.processes in let same = counted_is e in omega (arith, few, same)
+
+few_under : (s : State) (p : Page) (o : Option Page) (x : Option Sight) (frame n : ℕ) (pinned : Bool) → look_under s o x ≡ At p frame n pinned → n ≤ length s.processes
+few_under s p None x frame n pinned e = cc
+few_under s p (Some q) None frame n pinned e = cc
+few_under s p (Some q) (Some ZeroPage) frame n pinned e = cc
+few_under s p (Some q) (Some (Sees r)) frame n pinned e = few_at_page s r p (get page_cmp s.place r) frame n pinned e
+
+pub looks_are_bounded : LooksAreBounded
+looks_are_bounded s pid v p frame n pinned h e =
+    let few = h.few in
+    let seen = few_under s p (page_at s.areas pid v) (sight_at s pid v) frame n pinned e in
+    omega (arith, few, seen)

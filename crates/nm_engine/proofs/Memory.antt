@@ -13,7 +13,7 @@ use Rattle.nm_runs.specs.Cut.{Request, Stretch, cut}
 use Rattle.nm_engine.specs.Memory.{mem, byte_of}
 use Rattle.nm_engine.specs.Run.{moved_page, decided, one, each, with_free, with_all_free, left, run}
 use Rattle.nm_engine.specs.Batch.{runs_from, batch}
-use Rattle.nm_engine.proofs.Maps.{page_cmp_total, exact_page, equal, get-set}
+use Rattle.nm_types.proofs.Maps.{page_cmp_total, exact_page, equal, get-set}
 use Rattle.nm_engine.proofs.Placed.{ClassIsPlaced, status_placed}
 
 -- the byte at a place in the page that is shown

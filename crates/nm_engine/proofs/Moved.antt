@@ -12,15 +12,15 @@ use Rattle.nm_runs.specs.declared.Wanted.{Wanted}
 use Rattle.nm_runs.specs.Status.{status_or_move}
 use Rattle.nm_engine.specs.Run.{moved_page, decided, one, each, with_free, with_all_free, left, counted}
 use Rattle.nm_engine.specs.Sound.{FramesAreOnce, IsSoundAmid}
-use Rattle.nm_engine.proofs.Maps.{page_cmp_total, exact_page, keys-set}
-use Rattle.nm_engine.proofs.Keys.{some_from_keys}
+use Rattle.nm_types.proofs.Maps.{page_cmp_total, exact_page, keys-set}
+use Rattle.nm_types.proofs.Keys.{some_from_keys}
 use Rattle.nm_engine.proofs.Frames.{moved_frames, frame_freed, left-append, append-nil}
 use Rattle.nm_engine.proofs.Once.{places_are_apart}
 use Rattle.nm_engine.proofs.Placed.{ClassIsPlaced, status_placed}
 
 -- the same pages have a place, and the frames are once
 pub other_places : (s : State) (l k : List ℕ) (m : Map Page ℕ) (free : List (List ℕ)) → IsSoundAmid s l → keys_of m ≡ keys_of s.place
-    → FramesAreOnce (record s { place = m; free = free }) k → IsSoundAmid (record s { place = m; free = free }) k
+    → FramesAreOnce s.layout m free k → IsSoundAmid (record s { place = m; free = free }) k
 other_places s l k m free h same frames =
     let was : (p : Page) → IsSome (get page_cmp m p) → IsSome (get page_cmp s.place p) = λ p. some_from_keys page_cmp m s.place p same in
     record {
@@ -28,20 +28,23 @@ other_places s l k m free h same frames =
         processes = h.order.processes;
         sees = h.order.sees;
         areas = h.order.areas;
+        segments = h.order.segments;
         place = subst (IsStrictlySortedBy page_cmp) (sym same) h.order.place;
       };
-      apart = places_are_apart (record s { place = m; free = free }) k frames;
+      apart = places_are_apart frames;
       frames = frames;
       shown = λ pid v p e. let was = h.shown pid v p e in (was.0, some_from_keys page_cmp s.place m p (sym same) was.1);
       zeros = h.zeros;
       covered = λ p e. h.covered p (was p e);
       bytes = record { same_pages = h.bytes.same_pages ∙ sym same; whole = h.bytes.whole };
-      pins = h.pins ∙ sym same;
+      pins = record { same_pages = h.pins.same_pages ∙ sym same; few = h.pins.few };
       seen = λ p e. h.seen p (was p e);
       once = h.once;
       areas = h.areas;
       numbers = h.numbers;
       disjoint = h.disjoint;
+      online = h.online;
+      few = h.few;
     }
 
 page_moved : (s : State) (l : List ℕ) (target : ℕ) (p : Page) (from : ℕ) (front : List ℕ) → IsSoundAmid s l → get page_cmp s.place p ≡ Some from → free_list s target ≡ front
@@ -65,7 +68,7 @@ each_sound s l target (w ∷ ws) h =
     (each_sound now.state (l ++ left now.taken) target ws (decided_sound s l target (status_or_move s target w) h (status_placed s target w)))
 
 pub frame_freed_sound : (s : State) (frame : ℕ) (l : List ℕ) → IsSoundAmid s (frame ∷ l) → IsSoundAmid (with_free s frame) l
-frame_freed_sound s frame l h = other_places s (frame ∷ l) l s.place (with_free s frame).free h refl (frame_freed s frame l h.frames)
+frame_freed_sound s frame l h = other_places s (frame ∷ l) l s.place (with_free s frame).free h refl (frame_freed s.layout s.place s.free frame l h.frames)
 
 pub freed_sound : (frames : List ℕ) (s : State) → IsSoundAmid s frames → IsSoundAmid (with_all_free s frames) []
 freed_sound [] s h = h
@@ -75,17 +78,19 @@ freed_sound (frame ∷ frames) s h = freed_sound frames (with_free s frame) (fra
 pub counted_sound : (s : State) (l : List ℕ) (moved failed : ℕ) → IsSoundAmid s l → IsSoundAmid (counted s moved failed) l
 counted_sound s l moved failed h =
     record {
-      order = record { processes = h.order.processes; sees = h.order.sees; areas = h.order.areas; place = h.order.place };
+      order = record { processes = h.order.processes; sees = h.order.sees; areas = h.order.areas; segments = h.order.segments; place = h.order.place };
       apart = h.apart;
-      frames = record { lists = h.frames.lists; once = h.frames.once; own = h.frames.own };
+      frames = h.frames;
       shown = h.shown;
       zeros = h.zeros;
       covered = h.covered;
-      bytes = record { same_pages = h.bytes.same_pages; whole = h.bytes.whole };
+      bytes = h.bytes;
       pins = h.pins;
       seen = h.seen;
       once = h.once;
       areas = h.areas;
       numbers = h.numbers;
       disjoint = h.disjoint;
+      online = h.online;
+      few = h.few;
     }

@@ -1,16 +1,20 @@
 -- The new machine is sound.
-use Rattle.std.proofs.Common.{◌≡◌, ℕ, suc, zero, ◌+◌, ◌-◌, ◌≤◌, ◌<◌, List, [], ◌∷◌, true, false, cond, refl, ap, ◌∙◌, arith, length, eq-eqb}
-use Rattle.std.specs.Prelude.{Some, None, nat_lt, ◌==◌, slice_index_or, sum, if◌then◌else◌}
+use Rattle.std.proofs.Common.{◌≡◌, ℕ, suc, zero, ◌+◌, ◌-◌, ◌≤◌, ◌<◌, List, [], ◌∷◌, true, false, cond, refl, sym, ap, ◌∙◌, arith, length, eq-eqb}
+use Rattle.std.specs.Prelude.{nat_lt, ◌==◌, slice_index_or, sum, if◌then◌else◌}
 use Rattle.std.specs.List.{AllByRecursion, sum_by}
 use Rattle.std.specs.List.Sorted.{IsStrictlySortedBy}
 use Rattle.std.specs.Ordering.{nat_cmp}
 use Rattle.std.specs.declared.cmp.Ordering.{Ordering}
+use Rattle.std.specs.declared.cmp.Ordering.TheVariants.{Less}
+use Rattle.std.specs.Cmp.{nat_cmp_is}
 use Rattle.std.proofs.lemmas.Bool.{lt-ltb, le-ltb, ltb-true, ltb-false, ne_eqb, eqb-true, eqb-false}
 use Rattle.std.proofs.lemmas.List.Sums.{sum_by-cons}
 use Rattle.nm_types.specs.Nodes.{up_from}
 use Rattle.nm_types.specs.Map.{page_cmp, spot_cmp}
-use Rattle.nm_types.specs.Layout.{Layout, owner}
-use Rattle.nm_engine.specs.Effect.{all_frames, new_machine}
+use Rattle.nm_types.specs.Layout.{Layout, node_count, owner}
+use Rattle.nm_types.proofs.Cases.{none_some}
+use Rattle.nm_nodes.specs.Pool.{all_frames}
+use Rattle.nm_engine.specs.Effect.{new_machine}
 use Rattle.nm_engine.specs.Sound.{times, FramesAreOnce, IsSound}
 use Rattle.nm_engine.proofs.Frames.{here, times_cons}
 use Rattle.nm_engine.proofs.Once.{places_are_apart}
@@ -85,7 +89,7 @@ as_many : (sizes : List ℕ) (a : ℕ) → length (all_frames a sizes) ≡ lengt
 as_many [] a = refl
 as_many (size ∷ sizes) a = ap suc (as_many sizes (a + size))
 
-up_all : (P : ℕ → Type 0) (n a : ℕ) → ((f : ℕ) → a ≤ f → f < a + n → P f) → AllByRecursion P (up_from a n)
+pub up_all : (P : ℕ → Type 0) (n a : ℕ) → ((f : ℕ) → a ≤ f → f < a + n → P f) → AllByRecursion P (up_from a n)
 up_all P zero a h = tt
 up_all P (suc n) a h = (h a (omega arith) (omega arith), up_all P n (a + 1) (λ f low high. h f (omega (arith, low)) (omega (arith, high))))
 
@@ -111,9 +115,6 @@ own_from (size ∷ sizes) first (suc node) =
     (omega (arith, low), past_first size sizes (f - first) node (omega (arith, low)) (ap (owner sizes) same ∙ h.1)))
     (own_from sizes (first + size) node)
 
-none_some : {V : Type 0} {v : V} → None ≡ Some v → ⊥
-none_some e = cc
-
 no_keys : {K : Type 0} (R : K → K → Ordering) → IsStrictlySortedBy R []
 unfolding IsStrictlySortedBy
 no_keys R = tt
@@ -124,7 +125,7 @@ in_all f g b = let h = ltb-true f (sum g.sizes) b in omega (arith, h)
 out_of_all : (f : ℕ) (g : Layout) → nat_lt f (sum g.sizes) ≡ false → 0 + sum g.sizes ≤ f
 out_of_all f g b = let h = ltb-false f (sum g.sizes) b in omega (arith, h)
 
-pub new_frames : (g : Layout) → FramesAreOnce (new_machine g) []
+pub new_frames : (g : Layout) → FramesAreOnce g [] (all_frames 0 g.sizes) []
 new_frames g =
     record {
       lists = as_many g.sizes 0;
@@ -137,20 +138,28 @@ new_frames g =
           (λ f h. let same : f ≡ f - 0 = omega arith in ap (owner g.sizes) same ∙ h.1) (own_from g.sizes 0 node);
     }
 
+-- consecutive numbers are in order
+up_sorted : (n a : ℕ) → IsStrictlySortedBy nat_cmp (up_from a n)
+unfolding IsStrictlySortedBy
+up_sorted zero a = tt
+up_sorted (suc n) a = (up_all (λ b. nat_cmp a b ≡ Less) n (a + 1) (λ b low high. sym (nat_cmp_is a b Less (omega (arith, low)))), up_sorted n (a + 1))
+
 pub new_sound : (g : Layout) → IsSound (new_machine g)
 new_sound g =
     record {
-      order = record { processes = no_keys nat_cmp; sees = tt; areas = no_keys spot_cmp; place = no_keys page_cmp };
-      apart = places_are_apart (new_machine g) [] (new_frames g);
+      order = record { processes = no_keys nat_cmp; sees = tt; areas = no_keys spot_cmp; segments = no_keys nat_cmp; place = no_keys page_cmp };
+      apart = places_are_apart (new_frames g);
       frames = new_frames g;
       shown = λ q w p e. absurd (none_some e);
       zeros = λ q w e. absurd (none_some e);
       covered = λ p e. cc;
       bytes = record { same_pages = refl; whole = tt };
-      pins = refl;
+      pins = record { same_pages = refl; few = tt };
       seen = λ p e. cc;
       once = λ q w r x p e. absurd (none_some e);
       areas = tt;
-      numbers = λ n e. cc;
+      numbers = record { below = λ n e. cc; few = omega arith };
       disjoint = tt;
+      online = record { upwards = up_sorted (node_count g) 0; below = up_all (λ node. node < node_count g) (node_count g) 0 (λ node low high. omega (arith, high)) };
+      few = omega arith;
     }

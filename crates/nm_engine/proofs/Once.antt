@@ -6,14 +6,11 @@ use Rattle.std.specs.Map.{values_of}
 use Rattle.std.specs.Ordering.{is_eq}
 use Rattle.nm_types.specs.declared.page.Page.{Page}
 use Rattle.nm_types.specs.Map.{Map, get, page_cmp}
-use Rattle.nm_types.specs.Layout.{frame_count}
-use Rattle.nm_types.specs.State.{State}
+use Rattle.nm_types.specs.Layout.{Layout, frame_count}
+use Rattle.nm_types.proofs.Cases.{some_is}
 use Rattle.nm_engine.specs.Sound.{times, FramesAreOnce, PlacesAreApart}
-use Rattle.nm_engine.proofs.Maps.{equal, exact_page}
+use Rattle.nm_types.proofs.Maps.{equal, exact_page}
 use Rattle.nm_engine.proofs.Frames.{here, times_cons}
-
-some_is : {V : Type 0} {v w : V} → Some v ≡ Some w → v ≡ w
-some_is e = cc
 
 one_here : (f g : ℕ) → g ≡ f → here f g ≡ 1
 one_here f g e = ap (λ b. cond b 1 0) (eq-eqb g f e)
@@ -49,7 +46,7 @@ one_or_none false = omega arith
 at_most : (a b c k : ℕ) → a + b + c ≡ k → k ≤ 1 → a ≤ 1
 at_most a b c k e h = omega arith
 
-pub places_are_apart : (s : State) (left : List ℕ) → FramesAreOnce s left → PlacesAreApart s
-places_are_apart s left h = λ p q f.
-    apart_from_once s.place p q f
-    (at_most (times f (values_of s.place)) (sum_by (times f) s.free) (times f left) _ (h.once f) (one_or_none (nat_lt f (frame_count s.layout))))
+pub places_are_apart : {g : Layout} {place : Map Page ℕ} {free : List (List ℕ)} {left : List ℕ} → FramesAreOnce g place free left → PlacesAreApart place
+places_are_apart {g} {place} {free} {left} h = λ p q f.
+    apart_from_once place p q f
+    (at_most (times f (values_of place)) (sum_by (times f) free) (times f left) _ (h.once f) (one_or_none (nat_lt f (frame_count g))))

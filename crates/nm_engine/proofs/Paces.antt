@@ -11,7 +11,8 @@ use Rattle.nm_runs.specs.declared.Class.TheVariants.{Status, Move}
 use Rattle.nm_runs.specs.declared.Wanted.{Wanted}
 use Rattle.nm_runs.specs.Status.{status_or_move}
 use Rattle.nm_engine.specs.Run.{moved_page, decided, one, each, left, failures, with_all_free, added, counted}
-use Rattle.nm_engine.specs.Stocked.{Stocked, IsStocked, free_of, restock_page, free_all, stretch_of}
+use Rattle.nm_engine.specs.Stocked.{Stocked, stretch_of}
+use Rattle.nm_engine.proofs.Shelved.{IsStocked, free_of, restock_page, free_all}
 use Rattle.nm_areas.specs.Table.{Table}
 use Rattle.nm_engine.specs.Parts.{shown}
 use Rattle.nm_engine.specs.Sound.{IsSoundAmid}

@@ -24,7 +24,7 @@ use Rattle.nm_plan.specs.Decide.{Choice, Decisions, has_moved, take_front, choos
 use Rattle.nm_engine.specs.Run.{Outcome, Progress, moved_page, decided, each}
 use Rattle.nm_engine.specs.Sound.{OwnsItsFree}
 use Rattle.nm_engine.specs.Laws.{Agrees, moves_all, with_moves}
-use Rattle.nm_engine.proofs.Maps.{page_cmp_total, exact_page, equal, get-set}
+use Rattle.nm_types.proofs.Maps.{page_cmp_total, exact_page, equal, get-set}
 use Rattle.nm_engine.proofs.Looks.{looks_suffice}
 
 -- the class of a page that has this place
@@ -249,7 +249,7 @@ agree s target all (w ∷ ws) order h = λ m f moved i.
     step s target all ws (agree s target all ws order h.1) m f moved i (status_or_move s target w) (status_or_move (midway s m f) target w) becomes
     (subst (IsItsClass s target all) (looks_suffice s target w order) (its_class s target all w h.0))
 
-pub plan_agrees : (s : State) (target : ℕ) (all : Bool) (ws : List Wanted) → IsStrictlySortedBy nat_cmp (keys_of s.processes) → OwnsItsFree s target → AllByRecursion (λ w. moves_all w ≡ all) ws
+pub plan_agrees : (s : State) (target : ℕ) (all : Bool) (ws : List Wanted) → IsStrictlySortedBy nat_cmp (keys_of s.processes) → OwnsItsFree s.layout s.free target → AllByRecursion (λ w. moves_all w ≡ all) ws
     → Agrees s target (each s target ws) (decide (map (status_or_move s target) ws) [] (free_list s target) target)
 plan_agrees s target all ws order own h =
     agree s target all ws order h s.place s.free [] (record { places = λ q. refl; classes = λ q e. absurd (no_true e); own = own })

@@ -15,7 +15,7 @@ use Rattle.nm_areas.specs.Table.{Table}
 use Rattle.nm_engine.specs.Parts.{shown}
 use Rattle.nm_engine.specs.Seeing.{frame_seen}
 use Rattle.nm_engine.specs.Sound.{IsSoundAmid}
-use Rattle.nm_engine.proofs.Maps.{exact_page, get-values}
+use Rattle.nm_types.proofs.Maps.{exact_page, get-values}
 use Rattle.nm_engine.proofs.Touches.{page_of_frame, zero_sees}
 
 module _ (s : State) (pid v : ℕ) (p : Page) (at : page_at s.areas pid v ≡ Some p) where

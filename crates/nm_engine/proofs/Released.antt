@@ -19,14 +19,15 @@ use Rattle.nm_types.specs.Map.{Map, get, without, page_cmp}
 use Rattle.nm_types.specs.Layout.{node_of, frame_count}
 use Rattle.nm_types.specs.declared.sight.Sight.TheVariants.{Sees}
 use Rattle.nm_types.specs.State.{State, free_list, page_at, page_shown, area_over}
+use Rattle.nm_types.proofs.Cases.{true_false, some_is, none_is_not}
 use Rattle.nm_runs.specs.Seen.{sight_at}
-use Rattle.nm_engine.specs.Touch.{is_shared}
+use Rattle.nm_areas.specs.Lines.{is_shared}
 use Rattle.nm_engine.specs.Run.{with_free}
 use Rattle.nm_engine.specs.Effect.{is_covered, released_from, released}
-use Rattle.nm_engine.specs.Sound.{IsInOrder, times, FramesAreOnce, SeesWhatIsShown, ZeroIsPrivate, PlacedHasBytes, PlacedHasPins, PrivateIsOnce, IsWhole, SegmentsAreNumbered, AreasAreApart, IsSoundAmid}
-use Rattle.nm_engine.proofs.Maps.{page_cmp_total, exact_page, equal}
-use Rattle.nm_engine.proofs.Keys.{sorted-without, keys_same-without}
-use Rattle.nm_engine.proofs.Frames.{here, times_push, owner_below, own_set, all_push}
+use Rattle.nm_engine.specs.Sound.{IsInOrder, times, SeesWhatIsShown, ZeroIsPrivate, PlacedHasBytes, PlacedHasPins, PrivateIsOnce, IsWhole, SegmentsAreNumbered, AreNodes, ProcessesAreFew, AreasAreApart, IsSoundAmid}
+use Rattle.nm_types.proofs.Maps.{page_cmp_total, exact_page, equal}
+use Rattle.nm_types.proofs.Keys.{All-without, sorted-without, keys_same-without}
+use Rattle.nm_engine.proofs.Frames.{OnceIn, here, times_push, owner_below, own_set, all_push}
 use Rattle.nm_engine.proofs.Once.{counted_place, places_are_apart}
 use Rattle.nm_engine.proofs.Allocated.{area_covers}
 
@@ -38,23 +39,19 @@ Listed p (q ∷ pages) = (p ≡ q) ⊎ Listed p pages
 -- sound, but for these pages, which may have a frame though no area covers them
 pub record Pending (s : State) (l : List ℕ) (pages : List Page) : Type 0 where
   pub order : IsInOrder s
-  pub frames : FramesAreOnce s l
+  pub frames : OnceIn s l
   pub shown : SeesWhatIsShown s
   pub zeros : ZeroIsPrivate s
   pub covered : (p : Page) → IsSome (get page_cmp s.place p) → (is_covered s.areas p ≡ true) ⊎ Listed p pages
-  pub bytes : PlacedHasBytes s
-  pub pins : PlacedHasPins s
-  pub seen : (p : Page) → IsSome (get page_cmp s.place p) → is_covered s.areas p ≡ true → is_shared s p ≡ false → (q : ℕ) × (w : ℕ) × (sight_at s q w ≡ Some (Sees p))
-  pub once : PrivateIsOnce s
+  pub bytes : PlacedHasBytes s.place s.bytes
+  pub pins : PlacedHasPins s.place s.pins
+  pub seen : (p : Page) → IsSome (get page_cmp s.place p) → is_covered s.areas p ≡ true → is_shared s.segments p.segment ≡ false → (q : ℕ) × (w : ℕ) × (sight_at s q w ≡ Some (Sees p))
+  pub once : PrivateIsOnce s.areas s.segments
   pub areas : AllByRecursion (IsWhole s) s.areas
-  pub numbers : SegmentsAreNumbered s
+  pub numbers : SegmentsAreNumbered s.segments s.next_segment
   pub disjoint : AreasAreApart s.areas
-
-true_false : true ≡ false → ⊥
-true_false e = cc
-
-none_some_of : (V : Type 0) → IsSome {T = V} None → ⊥
-none_some_of V e = cc
+  pub online : AreNodes s.layout s.online
+  pub few : ProcessesAreFew s.processes
 
 placed_below : (a b c k : ℕ) (t : Bool) → a + b + c ≡ cond t 1 0 → 1 ≤ a → t ≡ true
 placed_below a b c k true e h = refl
@@ -64,8 +61,8 @@ release_sum : (p q r t l x z k : ℕ) → q + x ≡ p → t + z ≡ r + (z + x) 
 release_sum p q r t l x z k a b c = omega arith
 
 -- the frame of a page goes to its node
-release_frames : (s : State) (l : List ℕ) (p : Page) (frame : ℕ) → FramesAreOnce s l → get page_cmp s.place p ≡ Some frame
-    → FramesAreOnce (with_free (record s { place = without page_cmp s.place p; bytes = without page_cmp s.bytes p; pins = without page_cmp s.pins p }) frame) l
+release_frames : (s : State) (l : List ℕ) (p : Page) (frame : ℕ) → OnceIn s l → get page_cmp s.place p ≡ Some frame
+    → OnceIn (with_free (record s { place = without page_cmp s.place p; bytes = without page_cmp s.bytes p; pins = without page_cmp s.pins p }) frame) l
 release_frames s l p frame h placed =
     let node = node_of s.layout frame in
     let one = placed_below (times frame (values_of s.place)) (sum_by (times frame) s.free) (times frame l) 0 (nat_lt frame (frame_count s.layout)) (h.once frame) (counted_place s.place p frame placed) in
@@ -95,12 +92,9 @@ tied p q e = ap (page_cmp p) (sym e) ∙ tied_itself page_cmp_total p
 was_placed : (m : Map Page ℕ) (p q : Page) → IsStrictlySortedBy page_cmp (keys_of m) → IsSome (get page_cmp (without page_cmp m p) q) → (p ≡ q → ⊥) × IsSome (get page_cmp m q)
 was_placed m p q sorted h =
     elim (is_eq (page_cmp p q)) as (λ b. is_eq (page_cmp p q) ≡ b → IsSome (cond b None (get page_cmp m q)) → (p ≡ q → ⊥) × IsSome (get page_cmp m q)) [
-      | true ↦ λ b k. absurd (none_some_of ℕ k)
+      | true ↦ λ b k. absurd (none_is_not ℕ k)
       | false ↦ λ b k. (λ e. true_false (sym (ap is_eq (tied p q e)) ∙ b), k)
     ] refl (subst IsSome (get-without m p q sorted) h)
-
-some_is : {V : Type 0} {v w : V} → Some v ≡ Some w → v ≡ w
-some_is e = cc
 
 -- what is shown is covered
 shown_covered : (s : State) (q w : ℕ) (p : Page) → page_at s.areas q w ≡ Some p → is_covered s.areas p ≡ true
@@ -109,10 +103,6 @@ shown_covered s q w p e =
       | None ↦ λ o k. cc
       | Some a ↦ λ o k. subst (λ r. is_covered s.areas r ≡ true) (some_is k) (area_covers s.areas q w a o)
     ] refl e
-
-all_without : (m : Map Page (List ℕ)) (p : Page) → AllByRecursion (λ e. length e.1 ≡ 4096) m → AllByRecursion (λ e. length e.1 ≡ 4096) (without page_cmp m p)
-all_without [] p h = tt
-all_without (e ∷ m) p h = elim (is_eq (page_cmp p e.0)) as (λ b. AllByRecursion (λ e. length e.1 ≡ 4096) (cond b m (e ∷ without page_cmp m p))) [ true ↦ h.1 | false ↦ (h.0, all_without m p h.1) ]
 
 -- the front of the list has no frame, or is covered
 not_first : (s : State) (p q : Page) (pages : List Page) → (q ≡ p → is_covered s.areas q ≡ true) → (is_covered s.areas q ≡ true) ⊎ Listed q (p ∷ pages) → (is_covered s.areas q ≡ true) ⊎ Listed q pages
@@ -135,30 +125,34 @@ fewer s l p pages h first =
       areas = h.areas;
       numbers = h.numbers;
       disjoint = h.disjoint;
+      online = h.online;
+      few = h.few;
     }
 
 release_sound : (s : State) (l : List ℕ) (p : Page) (pages : List Page) (o : Option ℕ) → Pending s l (p ∷ pages) → is_covered s.areas p ≡ false → get page_cmp s.place p ≡ o → Pending (released_from s p o) l pages
-release_sound s l p pages None h bare e = fewer s l p pages h (λ q k same. absurd (none_some_of ℕ (subst IsSome (ap (get page_cmp s.place) same ∙ e) k)))
+release_sound s l p pages None h bare e = fewer s l p pages h (λ q k same. absurd (none_is_not ℕ (subst IsSome (ap (get page_cmp s.place) same ∙ e) k)))
 release_sound s l p pages (Some frame) h bare e =
     let sorted = h.order.place in
     let other = λ (q w : ℕ) (r : Page) (k : page_at s.areas q w ≡ Some r) (same : p ≡ r). true_false (sym (shown_covered s q w r k) ∙ sym (ap (is_covered s.areas) same) ∙ bare) in
     let frames = release_frames s l p frame h.frames e in
     record {
-      order = record { processes = h.order.processes; sees = h.order.sees; areas = h.order.areas; place = sorted-without page_cmp s.place p h.order.place };
+      order = record { processes = h.order.processes; sees = h.order.sees; areas = h.order.areas; segments = h.order.segments; place = sorted-without page_cmp s.place p h.order.place };
       frames = frames;
       shown = λ q w r k. let was = h.shown q w r k in (was.0, subst IsSome (sym (other_placed s.place p r sorted (other q w r was.0))) was.1);
       zeros = h.zeros;
       covered = λ q k. let was = was_placed s.place p q sorted k in not_first s p q pages (λ same. absurd (was.0 (sym same))) (h.covered q was.1);
       bytes = record {
         same_pages = keys_same-without page_cmp s.bytes s.place p h.bytes.same_pages;
-        whole = all_without s.bytes p h.bytes.whole;
+        whole = All-without page_cmp (λ b. length b ≡ 4096) s.bytes p h.bytes.whole;
       };
-      pins = keys_same-without page_cmp s.pins s.place p h.pins;
+      pins = record { same_pages = keys_same-without page_cmp s.pins s.place p h.pins.same_pages; few = All-without page_cmp (λ n. n ≤ 65535) s.pins p h.pins.few };
       seen = λ q k c private. h.seen q (was_placed s.place p q sorted k).1 c private;
       once = h.once;
       areas = h.areas;
       numbers = h.numbers;
       disjoint = h.disjoint;
+      online = h.online;
+      few = h.few;
     }
 
 one_released : (s : State) (l : List ℕ) (p : Page) (pages : List Page) → Pending s l (p ∷ pages) → Pending (released s p) l pages
@@ -176,7 +170,7 @@ pub all_released : (pages : List Page) (s : State) (l : List ℕ) → Pending s 
 all_released [] s l h =
     record {
       order = h.order;
-      apart = places_are_apart s l h.frames;
+      apart = places_are_apart h.frames;
       frames = h.frames;
       shown = h.shown;
       zeros = h.zeros;
@@ -188,5 +182,7 @@ all_released [] s l h =
       areas = h.areas;
       numbers = h.numbers;
       disjoint = h.disjoint;
+      online = h.online;
+      few = h.few;
     }
 all_released (p ∷ pages) s l h = all_released pages (released s p) l (one_released s l p pages h)

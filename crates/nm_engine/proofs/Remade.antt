@@ -1,7 +1,6 @@
 -- What changes of areas alone make of a machine's parts.
-use Rattle.std.proofs.Common.{◌≡◌, ℕ, ◌+◌, ◌/◌, List, [], Bool, true, false, refl, sym, ap, subst, ◌∙◌}
-use Rattle.std.specs.Prelude.{Option, None, Err, ◌==◌, if◌then◌else◌}
-use Rattle.std.specs.List.{flat_map}
+use Rattle.std.proofs.Common.{◌≡◌, ℕ, List, [], Bool, sym, ap, subst, ◌∙◌}
+use Rattle.std.specs.Prelude.{Option, None, Err}
 use Rattle.nm_types.specs.declared.errno.Errno.{Errno}
 use Rattle.nm_types.specs.declared.area.Policy.{Policy}
 use Rattle.nm_areas.specs.declared.area_error.AreaError.{AreaError}
@@ -12,9 +11,8 @@ use Rattle.nm_areas.specs.Mapped.{Mapped}
 use Rattle.nm_engine.specs.Spaced.{Spaced, mapped_of, table_of, with_mapped}
 use Rattle.nm_engine.specs.Stocked.{Shelf}
 use Rattle.nm_engine.specs.Parts.{shown_by, stocked}
-use Rattle.nm_engine.specs.Policing.{pages_of, repoliced}
 use Rattle.nm_engine.specs.Refused.{map_refusal, attach_refusal}
-use Rattle.nm_engine.specs.Sound.{IsSoundAmid, IsSound}
+use Rattle.nm_engine.specs.Sound.{IsSound}
 use Rattle.nm_engine.specs.Amid.{IsKept}
 use Rattle.nm_engine.proofs.Kept.{kept_mapped}
 use Rattle.nm_engine.proofs.Called.{map_sound, attach_sound}
@@ -44,15 +42,7 @@ module _ (y z : Spaced) (k : Shelf) (online : List ℕ) (moved failed : ℕ) (is
   kept_attached pid address segment offset pages none fine now =
       kept_after (attached (mapped_of y) pid address segment offset pages) now none (λ sound. attach_sound (shown_by y k online moved failed) pid address segment offset pages sound fine)
 
-  -- other policies, or none
-  policed : (b : Bool) (m : Mapped) → shown_by (with_mapped y (if b then mapped_of y else record (mapped_of y) { areas = m.areas })) k online moved failed
-      ≡ (if b then shown_by y k online moved failed else record (shown_by y k online moved failed) { areas = m.areas })
-  policed true m = refl
-  policed false m = refl
-
   pub kept_policed : (pid address len : ℕ) (policy : Policy) → mapped_of z ≡ with_policy (mapped_of y) pid address len policy → IsKept (shown_by z k online moved failed) k.vacated z.frames
   kept_policed pid address len policy now =
-      let s = shown_by y k online moved failed in
-      let after : Mapped = record (mapped_of y) { areas = flat_map (repoliced pid (address / 4096) (address / 4096 + pages_of len) policy) y.areas } in
       subst (λ (w : Spaced). IsKept (shown_by w k online moved failed) k.vacated w.frames) (sym (is ∙ ap (with_mapped y) now))
-      (record { sound = subst (λ t. IsSoundAmid t k.vacated) (sym (policed (len == 0) after)) (policy_sound s k.vacated pid address len policy kept.sound); as_many = kept.as_many })
+      (record { sound = policy_sound (shown_by y k online moved failed) k.vacated pid address len policy kept.sound; as_many = kept.as_many })

@@ -16,8 +16,8 @@ use Rattle.nm_tables.specs.declared.entry.Entry.TheVariants.{Zero, Frame, Held}
 use Rattle.nm_engine.specs.Tasked.{Task, entry_at, entry_in, names, IsThere, with_other_entry, replaced, replaced_in, remapped}
 use Rattle.nm_engine.specs.Spaced.{process_of, sight_of}
 use Rattle.nm_engine.specs.Tied.{has_spot}
-use Rattle.nm_engine.proofs.Maps.{equal, spot_cmp_total, with_values-replace_alike, get-replace}
-use Rattle.nm_engine.proofs.Keys.{keys-replace, All-replace, All-get}
+use Rattle.nm_types.proofs.Maps.{equal, spot_cmp_total, with_values-replace_alike, get-replace}
+use Rattle.nm_types.proofs.Keys.{keys-replace, All-replace, All-get}
 
 -- whether an entry names a frame
 abbrev pub is_mapped : Option Entry → Bool

@@ -12,14 +12,15 @@ use Rattle.nm_types.specs.declared.page.Page.{Page}
 use Rattle.nm_types.specs.Map.{Map, get, set, replace, with_values, page_cmp}
 use Rattle.nm_types.specs.Layout.{frame_count}
 use Rattle.nm_types.specs.State.{Process, State}
-use Rattle.nm_frames.specs.Store.{Store, bytes_of, overwrite as overwritten}
-use Rattle.nm_engine.specs.Touch.{with_page, without_front, overwrite}
+use Rattle.nm_frames.specs.Store.{Store, bytes_of, overwrite}
+use Rattle.nm_engine.specs.Touch.{with_page, without_front}
 use Rattle.nm_engine.specs.Run.{with_free, with_all_free}
 use Rattle.nm_engine.specs.Sound.{PlacesAreApart}
-use Rattle.nm_engine.specs.Stocked.{Stocked, IsStocked, frames_alone, free_of, stock_page, restock_page, with_freed, free_all}
+use Rattle.nm_engine.specs.Stocked.{Stocked, with_freed}
+use Rattle.nm_engine.proofs.Shelved.{IsStocked, free_of, stock_page, restock_page, free_all}
 use Rattle.nm_areas.specs.Table.{Table}
 use Rattle.nm_engine.specs.Parts.{bytes_in, shown}
-use Rattle.nm_engine.proofs.Maps.{page_cmp_total, exact_page, get-values, with_values-set, with_values-moved, set_agree, set_same, replace_is_set}
+use Rattle.nm_types.proofs.Maps.{page_cmp_total, exact_page, get-values, with_values-set, with_values-moved, set_agree, set_same, replace_is_set}
 use Rattle.nm_engine.proofs.Once.{places_are_apart}
 use Rattle.nm_engine.proofs.Stocks.{place_below, front_below, apart_from_front}
 
@@ -28,8 +29,8 @@ front_got [] some = absurd (omega (arith, some))
 front_got (y ∷ xs) some = refl
 
 -- no frame has two pages
-pub stocked_apart : (x : Stocked) → IsStocked x → PlacesAreApart (frames_alone x.layout x.place x.free)
-stocked_apart x h = places_are_apart (frames_alone x.layout x.place x.free) x.vacated h.once
+pub stocked_apart : (x : Stocked) → IsStocked x → PlacesAreApart x.place
+stocked_apart x h = places_are_apart h.once
 
 -- the bytes of the frame that got some, and those of the others
 new_bytes : (x : Stocked) (frame : ℕ) (bytes : List ℕ) → IsStocked x → frame < frame_count x.layout → bytes_of (slice_set x.frames frame (Some bytes)) frame ≡ bytes
@@ -45,10 +46,10 @@ keys_shown F (e ∷ m) = ap (λ ks. e.0 ∷ ks) (keys_shown F m)
 module _ (tasks : Map ℕ Process) (m : Table) (x : Stocked) (online : List ℕ) (moved failed : ℕ) where
   -- new bytes in a page
   pub written_shows : IsStocked x → (page : Page) (frame at : ℕ) (new : List ℕ) → get page_cmp x.place page ≡ Some frame
-      → shown tasks m (record x { frames = slice_set x.frames frame (Some (overwritten (bytes_of x.frames frame) at new)) }) online moved failed
+      → shown tasks m (record x { frames = slice_set x.frames frame (Some (overwrite (bytes_of x.frames frame) at new)) }) online moved failed
       ≡ record (shown tasks m x online moved failed) { bytes = replace page_cmp (bytes_in x.frames x.place) page (overwrite (unwrap_or (get page_cmp (bytes_in x.frames x.place) page) []) at new) }
   written_shows h page frame at new placed =
-      let whole = overwritten (bytes_of x.frames frame) at new in
+      let whole = overwrite (bytes_of x.frames frame) at new in
       let frames = slice_set x.frames frame (Some whole) in
       let found : get page_cmp (bytes_in x.frames x.place) page ≡ Some (bytes_of x.frames frame) =
       get-values exact_page (λ q. bytes_of x.frames) x.place page ∙ ap (option_map (bytes_of x.frames)) placed in

@@ -1,5 +1,5 @@
 -- What processes see after one of them sees something else at a page number.
-use Rattle.std.proofs.Common.{◌≡◌, ℕ, List, Bool, true, false, ◌&&◌, cond, refl, sym, ap, subst, ◌∙◌, inl, inr}
+use Rattle.std.proofs.Common.{◌≤◌, ◌≡◌, ℕ, List, Bool, true, false, ◌&&◌, cond, refl, sym, ap, subst, ◌∙◌, inl, inr}
 use Rattle.std.specs.Prelude.{Some, IsSome, ◌⊎◌}
 use Rattle.std.specs.List.Sorted.{IsStrictlySortedBy}
 use Rattle.std.specs.Map.{keys_of}
@@ -11,12 +11,14 @@ use Rattle.nm_types.specs.Map.{get, page_cmp, replace, set}
 use Rattle.nm_types.specs.declared.sight.Sight.{Sight}
 use Rattle.nm_types.specs.declared.sight.Sight.TheVariants.{Sees, ZeroPage}
 use Rattle.nm_types.specs.State.{Placed, Process, State, area_over, page_at, page_shown}
+use Rattle.nm_types.proofs.Cases.{some_is}
 use Rattle.nm_runs.specs.Seen.{sight_in, sight_at}
-use Rattle.nm_engine.specs.Touch.{Spot, shown_at, with_sight, is_shared}
+use Rattle.nm_areas.specs.Lines.{is_shared}
+use Rattle.nm_engine.specs.Touch.{Spot, shown_at, with_sight}
 use Rattle.nm_engine.specs.Sound.{IsInOrder, IsSoundAmid, IsWhole}
-use Rattle.nm_engine.proofs.Maps.{equal, get-set, get-replace}
-use Rattle.nm_engine.proofs.Areas.{all_then}
-use Rattle.nm_engine.proofs.Keys.{some_from_keys, keys-replace, All-replace, All-get, sorted-set}
+use Rattle.nm_types.proofs.Maps.{equal, get-set, get-replace}
+use Rattle.nm_areas.proofs.Apart.{all_then}
+use Rattle.nm_types.proofs.Keys.{as_many-replace, some_from_keys, keys-replace, All-replace, All-get, sorted-set}
 
 -- the process is there, and its area
 pub record IsSpot (s : State) (at : Spot) : Type 0 where
@@ -38,9 +40,6 @@ sight_at-with_sight s at x q w i =
           ∙ ap (λ o. cond (is_eq (nat_cmp w at.vpn)) (Some x) (sight_in o w)) (sym i.process ∙ ap (get nat_cmp s.processes) (sym (exact_unsigned q at.pid (equal _ b))))
       | false ↦ λ b. refl
     ] refl
-
-some_is : {V : Type 0} {v w : V} → Some v ≡ Some w → v ≡ w
-some_is e = cc
 
 here_parts : (at : Spot) (q w : ℕ) → is_here at q w ≡ true → (q ≡ at.pid) × (w ≡ at.vpn)
 here_parts at q w =
@@ -80,6 +79,7 @@ order_kept s at x i h =
       sees = All-replace nat_cmp (λ q. IsStrictlySortedBy nat_cmp (keys_of q.sees)) s.processes at.pid new h.sees
           (sorted-set nat_cmp nat_cmp_total at.process.sees at.vpn x (All-get nat_cmp (λ q. IsStrictlySortedBy nat_cmp (keys_of q.sees)) s.processes at.pid at.process h.sees i.process));
       areas = h.areas;
+      segments = h.segments;
       place = h.place;
     }
 
@@ -91,14 +91,14 @@ whole_still s at x a whole =
 
 -- a process may see this here: the page of zeros in private memory, and the page that is shown, where it has a frame
 abbrev pub Fits : State → Spot → Sight → Type 0
-Fits s at ZeroPage = is_shared s (shown_at at) ≡ false
+Fits s at ZeroPage = is_shared s.segments (shown_at at).segment ≡ false
 Fits s at (Sees p) = (p ≡ shown_at at) × IsSome (get page_cmp s.place p)
 
 fit_page : (s : State) (at : Spot) (x : Sight) (p : Page) → Fits s at x → x ≡ Sees p → (shown_at at ≡ p) × IsSome (get page_cmp s.place p)
 fit_page s at ZeroPage p f e = cc
 fit_page s at (Sees q) p f e = let same : q ≡ p = cc in (sym f.0 ∙ same, subst (λ r. IsSome (get page_cmp s.place r)) same f.1)
 
-fit_zero : (s : State) (at : Spot) (x : Sight) → Fits s at x → x ≡ ZeroPage → is_shared s (shown_at at) ≡ false
+fit_zero : (s : State) (at : Spot) (x : Sight) → Fits s at x → x ≡ ZeroPage → is_shared s.segments (shown_at at).segment ≡ false
 fit_zero s at ZeroPage f e = f
 fit_zero s at (Sees q) f e = cc
 
@@ -108,23 +108,25 @@ with_sight_sound s l at x h i fits unseen =
     record {
       order = order_kept s at x i h.order;
       apart = h.apart;
-      frames = record { lists = h.frames.lists; once = h.frames.once; own = h.frames.own };
+      frames = h.frames;
       shown = λ q w p e. elim (sight_cases s at x (Sees p) q w i e) as (λ _. (page_at s.areas q w ≡ Some p) × IsSome (get page_cmp s.place p)) [
         | inl new ↦
             let f = fit_page s at x p fits new.2 in
             (ap (λ (z : ℕ × ℕ). page_at s.areas z.0 z.1) (λ j. (new.0 j, new.1 j)) ∙ page_at_spot s at i ∙ ap Some f.0, f.1)
         | inr old ↦ h.shown q w p old
       ];
-      zeros = λ q w e. elim (sight_cases s at x ZeroPage q w i e) as (λ _. (p : Page) × (page_at s.areas q w ≡ Some p) × (is_shared s p ≡ false)) [
+      zeros = λ q w e. elim (sight_cases s at x ZeroPage q w i e) as (λ _. (p : Page) × (page_at s.areas q w ≡ Some p) × (is_shared s.segments p.segment ≡ false)) [
         | inl new ↦ (shown_at at, ap (λ (z : ℕ × ℕ). page_at s.areas z.0 z.1) (λ j. (new.0 j, new.1 j)) ∙ page_at_spot s at i, fit_zero s at x fits new.2)
         | inr old ↦ h.zeros q w old
       ];
       covered = h.covered;
-      bytes = record { same_pages = h.bytes.same_pages; whole = h.bytes.whole };
+      bytes = h.bytes;
       pins = h.pins;
       seen = λ p e private. let was = h.seen p e private in (was.0, was.1, sight_stays s at x (Sees p) was.0 was.1 i (unseen p) was.2);
       once = h.once;
       areas = all_then s.areas (IsWhole s) (IsWhole (with_sight s at x)) (whole_still s at x) h.areas;
       numbers = h.numbers;
       disjoint = h.disjoint;
+      online = h.online;
+      few = subst (λ n. n ≤ 1024) (sym (as_many-replace nat_cmp s.processes at.pid _)) h.few;
     }

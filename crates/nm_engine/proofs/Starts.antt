@@ -56,7 +56,7 @@ on_two_of_three_sound =
     batch_sound _ (to (B ∷ []) 1) [] (wrote_sound _ 1 B 0x62 (wrote_sound _ 1 A 0x61 (map_sound _ 1 A 2 false one refl)))
 
 one_of_each_sound : IsSound one_of_each
-one_of_each_sound = (pin_sound _ 1 C (wrote_sound _ 1 C 0x61 (access_sound _ [] (Read 1 A 1) (map_sound one_process 1 A 3 false one_sound refl)))).0
+one_of_each_sound = pin_sound _ 1 C (wrote_sound _ 1 C 0x61 (access_sound _ [] (Read 1 A 1) (map_sound one_process 1 A 3 false one_sound refl))) refl
 
 pub starts_are_sound : StartsAreSound
 starts_are_sound =

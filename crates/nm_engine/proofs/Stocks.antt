@@ -16,12 +16,12 @@ use Rattle.nm_nodes.specs.Pool as pool
 use Rattle.nm_engine.specs.Sound.{times, FramesAreOnce, IsSoundAmid}
 use Rattle.nm_engine.specs.Spaced.{Spaced}
 use Rattle.nm_engine.specs.Parts.{stocked, shown_by}
-use Rattle.nm_engine.specs.Stocked.{Shelf, IsShelf, Stocked, IsStocked, frames_alone, free_of, with_freed, CanFree, pool_of}
+use Rattle.nm_engine.specs.Stocked.{Shelf, IsShelf, Stocked, with_freed, CanFree, pool_of}
+use Rattle.nm_engine.proofs.Shelved.{IsStocked, free_of}
 use Rattle.nm_engine.proofs.Frames.{here, times_cons, frame_freed, left_below}
 use Rattle.nm_engine.proofs.Once.{counted_place}
 use Rattle.nm_engine.proofs.New.{new_frames}
-use Rattle.nm_engine.specs.Effect.{all_frames}
-use Rattle.nm_types.specs.Nodes.{up_from}
+use Rattle.nm_nodes.specs.Pool.{all_frames}
 
 -- the front of a list
 pub front_is : (xs : List ℕ) (f : ℕ) → slice_get xs 0 ≡ Some f → xs ≡ f ∷ drop 1 xs
@@ -79,10 +79,6 @@ apart_from_front x page node from to h placed front e =
 no : false ≡ true → ⊥
 no e = cc
 
-pub same_lists : (first : ℕ) (sizes : List ℕ) → all_frames first sizes ≡ pool.all_frames first sizes
-same_lists first [] = refl
-same_lists first (size ∷ sizes) = ap (λ ls. up_from first size ∷ ls) (same_lists (first + size) sizes)
-
 all_home : (n k : ℕ) (bytes : List ℕ) → k < n → IsHome (replicate n (Some bytes)) k
 all_home n k bytes lt =
     record {
@@ -91,11 +87,11 @@ all_home n k bytes lt =
     }
 
 -- the frames of a new machine, all of them home
-pub new_shelf : (g : Layout) (frames : Store) (free : List (List ℕ)) (vacated : List ℕ) (room n : ℕ) → n ≡ frame_count g → frames ≡ replicate n (Some (replicate 4096 0)) → free ≡ pool.all_frames 0 g.sizes
+pub new_shelf : (g : Layout) (frames : Store) (free : List (List ℕ)) (vacated : List ℕ) (room n : ℕ) → n ≡ frame_count g → frames ≡ replicate n (Some (replicate 4096 0)) → free ≡ all_frames 0 g.sizes
     → IsShelf (record { layout = g; frames = frames; free = free; vacated = vacated; room = room })
 new_shelf g frames free vacated room n count f l =
     record {
-      lists = ap length l ∙ ap length (sym (same_lists 0 g.sizes)) ∙ (new_frames g).lists;
+      lists = ap length l ∙ (new_frames g).lists;
       buffers = ap length f ∙ (length-replicate n (Some (replicate 4096 0)) ∙ count);
       home = λ k lt. subst (λ fs. IsHome fs k) (sym f) (all_home n k (replicate 4096 0) (omega (arith, lt, count)));
     }
@@ -112,14 +108,13 @@ sizes_stay p (frame ∷ frames) = sizes_stay (pool.appended p frame) frames
 -- frames and the pages that are in them, each frame in one place
 pub stocked_is : (y : Spaced) (k : Shelf) (online : List ℕ) (moved failed : ℕ) (left : List ℕ) → k.vacated ≡ left → IsSoundAmid (shown_by y k online moved failed) left → IsShelf k → IsStocked (stocked y k)
 stocked_is y k online moved failed left is h shelf =
-    let frames : FramesAreOnce (frames_alone k.layout y.place k.free) left = record { lists = h.frames.lists; once = h.frames.once; own = h.frames.own } in
-    record { in_order = h.order.place; once = subst (FramesAreOnce (frames_alone k.layout y.place k.free)) (sym is) frames; buffers = shelf.buffers; home = shelf.home }
+    record { in_order = h.order.place; once = subst (FramesAreOnce k.layout y.place k.free) (sym is) h.frames; buffers = shelf.buffers; home = shelf.home }
 
 -- the frames that are left to be freed, from the first on
 pub record IsFreeing (g : Layout) (place : Map Page ℕ) (free : List (List ℕ)) (left : List ℕ) (frame : ℕ) : Type 0 where
   pub in_machine : frame < sum g.sizes
   pub taken : is_in (slice_index_or free (owner g.sizes frame) []) frame ≡ false
-  pub next : FramesAreOnce (frames_alone g place (slice_set free (owner g.sizes frame) (slice_index_or free (owner g.sizes frame) [] ++ frame ∷ []))) left
+  pub next : FramesAreOnce g place (slice_set free (owner g.sizes frame) (slice_index_or free (owner g.sizes frame) [] ++ frame ∷ [])) left
 
 not_in : (xs : List ℕ) (f : ℕ) → times f xs ≡ 0 → is_in xs f ≡ false
 not_in [] f e = refl
@@ -129,7 +124,7 @@ not_in (x ∷ xs) f e =
       | false ↦ λ h. not_in xs f (omega (arith, e, times_cons f x xs))
     ] refl
 
-part_of : (free : List (List ℕ)) (node f : ℕ) → times f (slice_index_or free node []) ≤ sum_by (times f) free
+pub part_of : (free : List (List ℕ)) (node f : ℕ) → times f (slice_index_or free node []) ≤ sum_by (times f) free
 part_of [] node f = omega arith
 part_of (xs ∷ free) zero f = let whole : sum_by (times f) (xs ∷ free) ≡ times f xs + sum_by (times f) free = sum_by-cons (times f) xs free in omega (arith, whole)
 part_of (xs ∷ free) (suc node) f =
@@ -137,30 +132,29 @@ part_of (xs ∷ free) (suc node) f =
     let rest = part_of free node f in
     omega (arith, whole, rest)
 
-pub freeing : (g : Layout) (place : Map Page ℕ) (free : List (List ℕ)) (left : List ℕ) (frame : ℕ) → FramesAreOnce (frames_alone g place free) (frame ∷ left) → IsFreeing g place free left frame
+pub freeing : (g : Layout) (place : Map Page ℕ) (free : List (List ℕ)) (left : List ℕ) (frame : ℕ) → FramesAreOnce g place free (frame ∷ left) → IsFreeing g place free left frame
 freeing g place free left frame h =
-    let after = frame_freed (frames_alone g place free) frame left h in
     let most = counted_once (times frame (values_of place)) (sum_by (times frame) free) (times frame (frame ∷ left)) _ (h.once frame) in
     let one : here frame frame ≡ 1 = ap (λ b. cond b 1 0) (eq-eqb frame frame refl) in
     let part = part_of free (owner g.sizes frame) frame in
     record {
-      in_machine = left_below (frames_alone g place free) frame left h;
+      in_machine = left_below g place free frame left h;
       taken = not_in _ frame (omega (arith, most, one, part, times_cons frame frame left));
-      next = record { lists = after.lists; once = after.once; own = after.own };
+      next = frame_freed g place free frame left h;
     }
 
 -- the frames that a run left can be freed, and then every frame is free or a place
 pub record IsFreed (g : Layout) (place : Map Page ℕ) (p : pool.Pool) (left : List ℕ) : Type 0 where
   pub can : CanFree p left
   pub sizes : (with_freed p left).sizes ≡ g.sizes
-  pub once : FramesAreOnce (frames_alone g place (with_freed p left).lists) []
+  pub once : FramesAreOnce g place (with_freed p left).lists []
 
-pub all_freed : (g : Layout) (place : Map Page ℕ) (p : pool.Pool) (left : List ℕ) → p.sizes ≡ g.sizes → FramesAreOnce (frames_alone g place p.lists) left → IsFreed g place p left
+pub all_freed : (g : Layout) (place : Map Page ℕ) (p : pool.Pool) (left : List ℕ) → p.sizes ≡ g.sizes → FramesAreOnce g place p.lists left → IsFreed g place p left
 all_freed g place p [] e h = record { can = tt; sizes = e; once = h }
 all_freed g place p (frame ∷ left) e h =
     let now = freeing g place p.lists left frame h in
     let after = all_freed g place (pool.appended p frame) left e
-    (subst (λ sizes. FramesAreOnce (frames_alone g place (slice_set p.lists (owner sizes frame) (slice_index_or p.lists (owner sizes frame) [] ++ frame ∷ []))) left) (sym e) now.next) in
+    (subst (λ sizes. FramesAreOnce g place (slice_set p.lists (owner sizes frame) (slice_index_or p.lists (owner sizes frame) [] ++ frame ∷ [])) left) (sym e) now.next) in
     record {
       can = (
         subst (λ sizes. frame < sum sizes) (sym e) now.in_machine,
@@ -190,5 +184,4 @@ home_bytes frames frame h = unwrapped (slice_index_or frames frame None) h.here
 -- the frames that a run left can be freed
 pub can_free : (y : Spaced) (k : Shelf) (online : List ℕ) (moved failed : ℕ) → IsSoundAmid (shown_by y k online moved failed) k.vacated → CanFree (pool_of k) k.vacated
 can_free y k online moved failed h =
-    let frames : FramesAreOnce (frames_alone k.layout y.place k.free) k.vacated = record { lists = h.frames.lists; once = h.frames.once; own = h.frames.own } in
-    (all_freed k.layout y.place (pool_of k) k.vacated refl frames).can
+    (all_freed k.layout y.place (pool_of k) k.vacated refl h.frames).can

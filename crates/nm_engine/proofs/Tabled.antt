@@ -17,8 +17,8 @@ use Rattle.std.specs.Prelude.{Bool, T, ◌&&◌}
 use Rattle.std.specs.Ordering.{eq_by_cmp}
 use Rattle.std.specs.FinMap.Entries.{find, below_all, is_sorted, same_entries}
 use Rattle.nm_types.specs.Map.{Map, get, set, replace, without}
-use Rattle.nm_engine.proofs.Maps.{get-set}
-use Rattle.nm_engine.proofs.Keys.{sorted-set}
+use Rattle.nm_types.proofs.Maps.{get-set}
+use Rattle.nm_types.proofs.Keys.{sorted-set}
 
 -- numbers told apart by ==
 module _ {V : Type 0} where

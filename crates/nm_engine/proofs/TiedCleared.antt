@@ -18,6 +18,7 @@ use Rattle.std.proofs.lemmas.Map.Lookups.{exact_unsigned}
 use Rattle.nm_types.specs.declared.area.Area.{Area}
 use Rattle.nm_types.specs.Map.{Map, get, replace, without, with_values, spot_cmp}
 use Rattle.nm_types.specs.State.{Process}
+use Rattle.nm_types.proofs.Cases.{true_false, none_some}
 use Rattle.nm_tables.specs.declared.entry.Entry.{Entry}
 use Rattle.nm_tables.specs.declared.entry.Entry.TheVariants.{Zero, Frame, Held}
 use Rattle.nm_areas.specs.Mapped.{Mapped}
@@ -25,20 +26,11 @@ use Rattle.nm_rmap.specs.Mappers.{Mappers, mappers_of, dropped}
 use Rattle.nm_engine.specs.Tasked.{Task, entry_at, entry_in, names, without_entry, cleared_between, cleared}
 use Rattle.nm_engine.specs.Spaced.{Spaced, spaced, process_of, sight_of}
 use Rattle.nm_engine.specs.Tied.{IsTied, IsCleared, has_spot, is_between}
-use Rattle.nm_engine.proofs.Maps.{equal, agree, get-values, get-replace, spot_cmp_total, with_values-without}
-use Rattle.nm_engine.proofs.Keys.{keys-replace, sorted-without, All-get}
+use Rattle.nm_types.proofs.Maps.{equal, agree, get-values, get-replace, spot_cmp_total, with_values-without}
+use Rattle.nm_types.proofs.Keys.{keys-replace, sorted-without, All-get}
 use Rattle.nm_engine.proofs.Tabled.{same_tables}
 use Rattle.nm_engine.proofs.Remapped.{same_spot, flip_spot, exact_spot, TableInOrder}
 use Rattle.nm_engine.proofs.TiedMoved.{get_or-set}
-
-pub true_false : true ≡ false → ⊥
-true_false e = cc
-
-none_some : {V : Type 0} {v : V} → None ≡ Some v → ⊥
-none_some e = cc
-
-some_is : {V : Type 0} {v w : V} → Some v ≡ Some w → v ≡ w
-some_is e = cc
 
 -- ---- a process goes
 

@@ -17,6 +17,7 @@ use Rattle.nm_types.specs.declared.errno.Errno.{Errno}
 use Rattle.nm_types.specs.declared.errno.Errno.TheVariants.{Einval, Enomem}
 use Rattle.nm_types.specs.Map.{Map, get, page_cmp}
 use Rattle.nm_types.specs.State.{covers, area_over, page_shown, page_at}
+use Rattle.nm_types.proofs.Cases.{true_false, none_some, some_none}
 use Rattle.nm_tables.specs.declared.entry.Entry.{Entry}
 use Rattle.nm_tables.specs.declared.entry.Entry.TheVariants.{Zero, Frame, Held}
 use Rattle.nm_areas.specs.declared.area_error.AreaError.{AreaError}
@@ -30,19 +31,10 @@ use Rattle.nm_rmap.specs.Mappers.{Mappers}
 use Rattle.nm_engine.specs.Tasked.{Task, entry_at, entry_in, names}
 use Rattle.nm_engine.specs.Spaced.{Spaced, spaced, process_of, sight_of, page_here, pins_in, mapped_of, with_mapped}
 use Rattle.nm_engine.specs.Tied.{IsTied}
-use Rattle.nm_engine.proofs.Maps.{agree}
-use Rattle.nm_engine.proofs.Keys.{All-get}
+use Rattle.nm_types.proofs.Maps.{agree}
+use Rattle.nm_types.proofs.Keys.{All-get}
 use Rattle.nm_engine.proofs.Remapped.{TableInOrder}
-use Rattle.nm_engine.proofs.Areas.{NoneOverlaps, apart_from_new, all_from_none, one_more}
-
-some_none : {V : Type 0} {v : V} → Some v ≡ None → ⊥
-some_none e = cc
-
-none_some : {V : Type 0} {v : V} → None ≡ Some v → ⊥
-none_some e = cc
-
-true_false : true ≡ false → ⊥
-true_false e = cc
+use Rattle.nm_areas.proofs.Apart.{NoneOverlaps, apart_from_new, all_from_none, one_more}
 
 -- every page that was shown is shown there still, and frames stay
 pub record IsShownStill (m n : Mapped) : Type 0 where

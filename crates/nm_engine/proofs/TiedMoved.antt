@@ -9,6 +9,7 @@ use Rattle.std.proofs.lemmas.List.{get_or-set_same, get_or-set_other}
 use Rattle.nm_types.specs.declared.page.Page.{Page}
 use Rattle.nm_types.specs.Map.{Map, get, set, page_cmp}
 use Rattle.nm_types.specs.State.{page_at}
+use Rattle.nm_types.proofs.Cases.{some_is}
 use Rattle.nm_tables.specs.declared.entry.Entry.{Entry}
 use Rattle.nm_tables.specs.declared.entry.Entry.TheVariants.{Zero, Frame, Held}
 use Rattle.nm_areas.specs.Mapped.{Mapped}
@@ -17,11 +18,8 @@ use Rattle.nm_rmap.specs.Mappers.{Mappers, mappers_of, pins_of, carried}
 use Rattle.nm_engine.specs.Tasked.{Task, entry_at, names, remapped}
 use Rattle.nm_engine.specs.Spaced.{Spaced, spaced, pins_in, with_moved}
 use Rattle.nm_engine.specs.Tied.{IsTied, has_spot}
-use Rattle.nm_engine.proofs.Maps.{equal, get-set, page_cmp_total, exact_page, spot_cmp_total, with_values-moved, keys-set}
+use Rattle.nm_types.proofs.Maps.{equal, get-set, page_cmp_total, exact_page, spot_cmp_total, with_values-moved, keys-set}
 use Rattle.nm_engine.proofs.Remapped.{mappers_mapped, entry_at-remapped, remapped_shows, keys-remapped, order-remapped}
-
-some_is : {V : Type 0} {v w : V} → Some v ≡ Some w → v ≡ w
-some_is e = cc
 
 frame_held : {f g : ℕ} → Some (Frame f) ≡ Some (Held g) → ⊥
 frame_held e = cc

@@ -13,6 +13,7 @@ use Rattle.nm_types.specs.declared.area.Area.{Area}
 use Rattle.nm_types.specs.declared.sight.Sight.TheVariants.{Sees}
 use Rattle.nm_types.specs.Map.{Map, get, set, with_values, page_cmp}
 use Rattle.nm_types.specs.State.{Process, page_at}
+use Rattle.nm_types.proofs.Cases.{none_some}
 use Rattle.nm_runs.specs.Seen.{sight_in}
 use Rattle.nm_tables.specs.declared.entry.Entry.{Entry}
 use Rattle.nm_tables.specs.declared.entry.Entry.TheVariants.{Zero, Frame, Held}
@@ -25,8 +26,8 @@ use Rattle.nm_engine.specs.Tables.{info_of, untouched}
 use Rattle.nm_engine.specs.Tasked.{Task, new_task, task_info, task_table, entry_at, entry_in, names}
 use Rattle.nm_engine.specs.Spaced.{Spaced, spaced, process_of, sight_of, page_here}
 use Rattle.nm_engine.specs.Tied.{IsTied, has_spot}
-use Rattle.nm_engine.proofs.Maps.{equal, get-set, get-values, all_from_get, with_values-set}
-use Rattle.nm_engine.proofs.Keys.{All-set, All-get, sorted-set}
+use Rattle.nm_types.proofs.Maps.{equal, get-set, get-values, all_from_get, with_values-set}
+use Rattle.nm_types.proofs.Keys.{All-set, All-get, sorted-set}
 use Rattle.nm_engine.proofs.Remapped.{TableInOrder}
 use Rattle.nm_engine.proofs.TiedTouched.{sight_shown}
 
@@ -34,9 +35,6 @@ none_of_all : {A : Type 0} (n i : ℕ) (d : A) → slice_index_or (replicate n d
 none_of_all zero i d = refl
 none_of_all (suc n) zero d = refl
 none_of_all (suc n) (suc i) d = none_of_all n i d
-
-none_some : {V : Type 0} {w : V} → None ≡ Some w → ⊥
-none_some e = cc
 
 false_true : false ≡ true → ⊥
 false_true e = cc

@@ -14,7 +14,7 @@ use Rattle.nm_rmap.specs.Mappers.{Mappers, pins_of, with_pins}
 use Rattle.nm_engine.specs.Tasked.{Task}
 use Rattle.nm_engine.specs.Spaced.{Spaced, spaced, pins_in, pins_here, with_pins_of}
 use Rattle.nm_engine.specs.Tied.{IsTied}
-use Rattle.nm_engine.proofs.Maps.{keys-values, get-values, page_cmp_total, exact_page, with_values-set, set_agree, set_same, replace_is_set}
+use Rattle.nm_types.proofs.Maps.{keys-values, get-values, page_cmp_total, exact_page, with_values-set, set_agree, set_same, replace_is_set}
 
 -- the pins of a page are its frame's
 pub pins_shown : (y : Spaced) (tasks : Map ℕ Task) (m : Mapped) (r : Mappers) (p : Page) (f : ℕ) → spaced tasks m r ≡ y → get page_cmp y.place p ≡ Some f → pins_here y p ≡ pins_of r f

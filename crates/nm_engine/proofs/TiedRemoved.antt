@@ -17,8 +17,8 @@ use Rattle.nm_types.specs.declared.area.Area.{Area}
 use Rattle.nm_types.specs.declared.sight.Sight.{Sight}
 use Rattle.nm_types.specs.declared.sight.Sight.TheVariants.{Sees}
 use Rattle.nm_types.specs.Map.{Map, get, without, with_values, page_cmp}
-use Rattle.nm_types.specs.State.{Process, State, Placed, area_over, page_shown, page_at}
-use Rattle.nm_runs.specs.Seen.{pins_of as pins_at}
+use Rattle.nm_types.specs.State.{Process, Placed, area_over, page_shown, page_at}
+use Rattle.nm_types.proofs.Cases.{true_false, none_some, some_is}
 use Rattle.nm_tables.specs.declared.entry.Entry.{Entry}
 use Rattle.nm_tables.specs.declared.entry.Entry.TheVariants.{Zero, Frame, Held}
 use Rattle.nm_areas.specs.Mapped.{Mapped}
@@ -30,21 +30,12 @@ use Rattle.nm_engine.specs.Tables.{blind_between}
 use Rattle.nm_engine.specs.Tasked.{Task, entry_at, names, cleared_between, cleared}
 use Rattle.nm_engine.specs.Spaced.{Spaced, spaced, process_of, sight_of, pins_in, without_range}
 use Rattle.nm_engine.specs.Tied.{IsTied, IsCleared, has_spot, is_between}
-use Rattle.nm_engine.proofs.Maps.{equal, agree, get-values, exact_page, page_cmp_total, with_values-without}
-use Rattle.nm_engine.proofs.Keys.{sorted-without, All-get}
+use Rattle.nm_types.proofs.Maps.{equal, agree, get-values, exact_page, page_cmp_total, with_values-without}
+use Rattle.nm_types.proofs.Keys.{sorted-without, All-get}
 use Rattle.nm_engine.proofs.Allocated.{area_covers}
 use Rattle.nm_engine.proofs.Released.{Listed}
 use Rattle.nm_engine.proofs.Remapped.{TableInOrder}
 use Rattle.nm_engine.proofs.TiedCleared.{out, out_not, between_parts, sorted_kept, get_kept, one_cleared, and_true, keys-cleared, tables-cleared, entry_cleared}
-
-true_false : true ≡ false → ⊥
-true_false e = cc
-
-none_some : {V : Type 0} {v : V} → None ≡ Some v → ⊥
-none_some e = cc
-
-some_is : {V : Type 0} {v w : V} → Some v ≡ Some w → v ≡ w
-some_is e = cc
 
 -- ---- places of pages
 
@@ -154,20 +145,12 @@ none_gone test pid first end (a ∷ areas) p h m =
       | false ↦ λ k m. none_gone test pid first end areas p parts.1 m
     ] parts.0 m
 
--- a machine with these areas and pins
-some_state : Map (ℕ × ℕ) Area → Map Page ℕ → State
-some_state areas pins =
-    record { layout = record { sizes = []; distances = [] }; processes = []; areas = areas; segments = []; next_segment = 0; place = []; bytes = []; pins = pins; free = []; online = []; moved = 0; failed = 0 }
-
 -- a page that is let go has no pins
-pub unpinned_pages : (y : Spaced) (tasks : Map ℕ Task) (m : Mapped) (r : Mappers) (pid first end : ℕ) → spaced tasks m r ≡ y
-    → ((s : State) → s.areas ≡ y.areas → s.pins ≡ y.pins → shows_pinned s pid first end ≡ false)
+pub unpinned_pages : (y : Spaced) (tasks : Map ℕ Task) (m : Mapped) (r : Mappers) (pid first end : ℕ) → spaced tasks m r ≡ y → shows_pinned y.areas y.pins pid first end ≡ false
     → (p : Page) (f : ℕ) → Listed p (pages_gone m.areas pid first end) → get page_cmp m.place p ≡ Some f → pins_of r f ≡ 0
-unfolding some_state
 unpinned_pages y tasks m r pid first end is h p f listed found =
-    let s = some_state m.areas (pins_in r m.place) in
-    let free = none_gone (λ p. nat_lt 0 (pins_at s p)) pid first end m.areas p (h s (ap (λ (y : Spaced). y.areas) is) (ap (λ (y : Spaced). y.pins) is)) listed in
-    let pins : pins_at s p ≡ pins_of r f = ap (λ o. unwrap_or o 0) (get-values exact_page (λ p f. pins_of r f) m.place p ∙ ap (option_map (λ f. pins_of r f)) found) in
+    let free = none_gone (λ p. nat_lt 0 (unwrap_or (get page_cmp (pins_in r m.place) p) 0)) pid first end m.areas p (ap (λ (y : Spaced). shows_pinned y.areas y.pins pid first end) is ∙ h) listed in
+    let pins : unwrap_or (get page_cmp (pins_in r m.place) p) 0 ≡ pins_of r f = ap (λ o. unwrap_or o 0) (get-values exact_page (λ p f. pins_of r f) m.place p ∙ ap (option_map (λ f. pins_of r f)) found) in
     let none = ltb-false 0 (pins_of r f) (ap (nat_lt 0) (sym pins) ∙ free) in
     omega (arith, none)
 

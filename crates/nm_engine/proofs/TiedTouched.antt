@@ -18,6 +18,7 @@ use Rattle.nm_types.specs.declared.area.Area.{Area}
 use Rattle.nm_types.specs.declared.sight.Sight.TheVariants.{ZeroPage, Sees}
 use Rattle.nm_types.specs.Map.{Map, get, set, replace, with_values, page_cmp, spot_cmp}
 use Rattle.nm_types.specs.State.{Process, page_at}
+use Rattle.nm_types.proofs.Cases.{some_none, some_is}
 use Rattle.nm_runs.specs.Seen.{sight_in}
 use Rattle.nm_tables.specs.declared.entry.Entry.{Entry}
 use Rattle.nm_tables.specs.declared.entry.Entry.TheVariants.{Zero, Frame, Held}
@@ -28,16 +29,10 @@ use Rattle.nm_engine.specs.Tables.{seeing}
 use Rattle.nm_engine.specs.Tasked.{Task, entry_at, entry_in, names, with_entry}
 use Rattle.nm_engine.specs.Spaced.{Spaced, spaced, process_of, sight_of, page_here, pins_in, with_seen}
 use Rattle.nm_engine.specs.Tied.{IsTied, has_spot}
-use Rattle.nm_engine.proofs.Maps.{equal, get-set, get-replace, get-values, page_cmp_total, exact_page, spot_cmp_total, with_values-set, with_values-replace, without-set}
-use Rattle.nm_engine.proofs.Keys.{keys-replace, All-replace, All-get, sorted-set}
+use Rattle.nm_types.proofs.Maps.{equal, get-set, get-replace, get-values, page_cmp_total, exact_page, spot_cmp_total, with_values-set, with_values-replace, without-set}
+use Rattle.nm_types.proofs.Keys.{keys-replace, All-replace, All-get, sorted-set}
 use Rattle.nm_engine.proofs.Remapped.{is_mapped, same_spot, exact_spot, TableInOrder}
 use Rattle.nm_engine.proofs.TiedMoved.{IsSpare, get_or-set, place_after, place_other}
-
-some_is : {V : Type 0} {v w : V} → Some v ≡ Some w → v ≡ w
-some_is e = cc
-
-some_none : {V : Type 0} {w : V} → Some w ≡ None → ⊥
-some_none e = cc
 
 frame_held : {f g : ℕ} → Some (Frame f) ≡ Some (Held g) → ⊥
 frame_held e = cc

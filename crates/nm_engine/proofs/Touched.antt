@@ -1,8 +1,8 @@
 -- Reads and writes keep a machine sound.
-use Rattle.nm_engine.proofs.Maps.{page_cmp_total, exact_page, equal, get-set}
+use Rattle.nm_types.proofs.Maps.{page_cmp_total, exact_page, equal, get-set}
 use Rattle.nm_engine.specs.Memory.{mem, byte_of}
 use Rattle.std.proofs.Common.{◌≡◌, ℕ, ◌+◌, ◌/◌, ◌%◌, ◌≤◌, List, [], ◌∷◌, Bool, true, false, ◌||◌, cond, refl, sym, ap, subst, ◌∙◌, length, length-append, length-take, length-drop, arith, zero, suc}
-use Rattle.std.specs.Prelude.{Option, Some, None, IsSome, Result, Ok, Err, ◌==◌, nat_lt, if◌then◌else◌, slice_index, replicate}
+use Rattle.std.specs.Prelude.{slice_index_or, Option, Some, None, IsSome, Result, Ok, Err, ◌==◌, nat_lt, if◌then◌else◌, slice_index, replicate}
 use Rattle.std.specs.Option.{unwrap_or, option_map}
 use Rattle.std.specs.Ordering.{nat_cmp, is_eq}
 use Rattle.std.proofs.lemmas.Bool.{or_right, ltb-false}
@@ -13,19 +13,16 @@ use Rattle.nm_types.specs.Map.{get, replace, page_cmp, set}
 use Rattle.nm_types.specs.declared.sight.Sight.{Sight}
 use Rattle.nm_types.specs.declared.sight.Sight.TheVariants.{ZeroPage, Sees}
 use Rattle.nm_types.specs.State.{Process, State, Placed, free_list, area_over, page_at}
+use Rattle.nm_types.proofs.Cases.{some_is}
 use Rattle.nm_runs.specs.Seen.{sight_in, sight_at}
 use Rattle.nm_policy.specs.Order.{first_touch_order}
-use Rattle.nm_engine.specs.Touch.{Spot, shown_at, spot_over, spot_of, first_free, allocated, filled, joined, is_shared, touched_entry, touched, touch, with_sight, Access, Read, Write, read_after, overwrite, with_bytes, write_after, access, with_page, read}
+use Rattle.nm_areas.specs.Lines.{is_shared}
+use Rattle.nm_frames.specs.Store.{overwrite}
+use Rattle.nm_engine.specs.Touch.{Spot, shown_at, spot_over, spot_of, first_free, allocated, filled, joined, touched_entry, touched, touch, with_sight, Access, Read, Write, read_after, with_bytes, write_after, access, with_page, read}
 use Rattle.nm_engine.specs.Sound.{IsSoundAmid}
-use Rattle.nm_engine.proofs.Keys.{keys-replace, All-replace, All-get, some_from_keys}
+use Rattle.nm_types.proofs.Keys.{keys-replace, All-replace, All-get, some_from_keys}
 use Rattle.nm_engine.proofs.Sights.{IsSpot, page_at_spot, with_sight_sound}
 use Rattle.nm_engine.proofs.Allocated.{placed_sound, placed_front}
-
-true_false : true ≡ false → ⊥
-true_false e = cc
-
-some_is : {V : Type 0} {v w : V} → Some v ≡ Some w → v ≡ w
-some_is e = cc
 
 -- a page of zeros shows what was shown before
 zero_byte : (n i : ℕ) → slice_index (replicate n 0) i ≡ 0
@@ -64,12 +61,12 @@ StaysSound s l (Err e) = Unit {0}
 StaysSound s l (Ok t) = IsSoundAmid t l × ((q a : ℕ) → mem t q a ≡ mem s q a)
 
 -- the node that is found has a free frame
-pub has_front : (s : State) (nodes : List ℕ) (node : ℕ) → first_free s nodes ≡ Some node → (length (free_list s node) == 0) ≡ false
-has_front s [] node h = cc
-has_front s (n ∷ nodes) node h =
-    elim (length (free_list s n) == 0) as (λ b. (length (free_list s n) == 0) ≡ b → cond b (first_free s nodes) (Some n) ≡ Some node → (length (free_list s node) == 0) ≡ false) [
-      | true ↦ λ b h. has_front s nodes node h
-      | false ↦ λ b h. let is : n ≡ node = cc in subst (λ k. (length (free_list s k) == 0) ≡ false) is b
+pub has_front : (free : List (List ℕ)) (nodes : List ℕ) (node : ℕ) → first_free free nodes ≡ Some node → (length (slice_index_or free node []) == 0) ≡ false
+has_front free [] node h = cc
+has_front free (n ∷ nodes) node h =
+    elim (length (slice_index_or free n []) == 0) as (λ b. (length (slice_index_or free n []) == 0) ≡ b → cond b (first_free free nodes) (Some n) ≡ Some node → (length (slice_index_or free node []) == 0) ≡ false) [
+      | true ↦ λ b h. has_front free nodes node h
+      | false ↦ λ b h. subst (λ k. (length (slice_index_or free k []) == 0) ≡ false) (some_is h) b
     ] refl h
 
 module _ (s : State) (l : List ℕ) (at : Spot) (h : IsSoundAmid s l) (i : IsSpot s at) (unseen : (p : Page) → sight_at s at.pid at.vpn ≡ Some (Sees p) → ⊥) where
@@ -81,10 +78,10 @@ module _ (s : State) (l : List ℕ) (at : Spot) (h : IsSoundAmid s l) (i : IsSpo
   filled_sound : get page_cmp s.place (shown_at at) ≡ None → StaysSound s l (filled s at)
   filled_sound unplaced =
       let order = first_touch_order s.layout s.online at.process.home at.process.allowed at.area.1.policy (shown_at at).index in
-      allocated_sound (first_free s order) unplaced (λ node. has_front s order node)
+      allocated_sound (first_free s.free order) unplaced (λ node. has_front s.free order node)
 
   -- a private page that is not seen here has no place
-  pub private_unplaced : is_shared s (shown_at at) ≡ false → get page_cmp s.place (shown_at at) ≡ None
+  pub private_unplaced : is_shared s.segments (shown_at at).segment ≡ false → get page_cmp s.place (shown_at at) ≡ None
   private_unplaced private =
       elim (get page_cmp s.place (shown_at at)) as (λ o. get page_cmp s.place (shown_at at) ≡ o → o ≡ None) [
         | None ↦ λ e. refl
@@ -103,7 +100,7 @@ module _ (s : State) (l : List ℕ) (at : Spot) (h : IsSoundAmid s l) (i : IsSpo
   absent_sound : (writes : Bool) → StaysSound s l (touched_entry s at writes None)
   unfolding StaysSound
   absent_sound writes =
-      elim (is_shared s (shown_at at)) as (λ b. is_shared s (shown_at at) ≡ b → StaysSound s l (if b then joined s at (get page_cmp s.place (shown_at at)) else (if writes then filled s at else Ok (with_sight s at ZeroPage)))) [
+      elim (is_shared s.segments (shown_at at).segment) as (λ b. is_shared s.segments (shown_at at).segment ≡ b → StaysSound s l (if b then joined s at (get page_cmp s.place (shown_at at)) else (if writes then filled s at else Ok (with_sight s at ZeroPage)))) [
         | true ↦ λ b. joined_sound (get page_cmp s.place (shown_at at)) refl
         | false ↦ λ b. elim writes as (λ w. StaysSound s l (if w then filled s at else Ok (with_sight s at ZeroPage))) [
           | true ↦ filled_sound (private_unplaced b)
@@ -111,7 +108,7 @@ module _ (s : State) (l : List ℕ) (at : Spot) (h : IsSoundAmid s l) (i : IsSpo
         ]
       ] refl
 
-  zero_sound : (writes : Bool) → is_shared s (shown_at at) ≡ false → StaysSound s l (touched_entry s at writes (Some ZeroPage))
+  zero_sound : (writes : Bool) → is_shared s.segments (shown_at at).segment ≡ false → StaysSound s l (touched_entry s at writes (Some ZeroPage))
   unfolding StaysSound
   zero_sound writes private =
       elim writes as (λ w. StaysSound s l (if w then filled s at else Ok s)) [ true ↦ filled_sound (private_unplaced private) | false ↦ (h, λ q a. refl) ]
@@ -131,7 +128,7 @@ entry_sound s l at writes None h i e = absent_sound s l at h i (λ p k. none_pag
 entry_sound s l at writes (Some ZeroPage) h i e =
     let zero = h.zeros at.pid at.vpn e in
     let same : Some zero.0 ≡ Some (shown_at at) = sym zero.1 ∙ page_at_spot s at i in
-    zero_sound s l at h i (λ p k. zero_page p (sym e ∙ k)) writes (subst (λ p. is_shared s p ≡ false) (some_is same) zero.2)
+    zero_sound s l at h i (λ p k. zero_page p (sym e ∙ k)) writes (subst (λ p. is_shared s.segments p.segment ≡ false) (some_is same) zero.2)
 entry_sound s l at writes (Some (Sees p)) h i e = (h, λ q a. refl)
 
 over_sound : (s : State) (l : List ℕ) (pid v : ℕ) (process : Process) (writes : Bool) (o : Option Placed) → IsSoundAmid s l → get nat_cmp s.processes pid ≡ Some process → area_over s.areas pid v ≡ o
@@ -172,9 +169,9 @@ seen_bytes s l p (Some b) h e some = All-get page_cmp (λ b. length b ≡ 4096) 
 rewritten_sound : (s : State) (l : List ℕ) (p : Page) (new : List ℕ) → IsSoundAmid s l → length new ≡ 4096 → IsSoundAmid (record s { bytes = replace page_cmp s.bytes p new }) l
 rewritten_sound s l p new h whole =
     record {
-      order = record { processes = h.order.processes; sees = h.order.sees; areas = h.order.areas; place = h.order.place };
+      order = record { processes = h.order.processes; sees = h.order.sees; areas = h.order.areas; segments = h.order.segments; place = h.order.place };
       apart = h.apart;
-      frames = record { lists = h.frames.lists; once = h.frames.once; own = h.frames.own };
+      frames = h.frames;
       shown = h.shown;
       zeros = h.zeros;
       covered = h.covered;
@@ -188,6 +185,8 @@ rewritten_sound s l p new h whole =
       areas = h.areas;
       numbers = h.numbers;
       disjoint = h.disjoint;
+      online = h.online;
+      few = h.few;
     }
 
 pub bytes_sound : (s : State) (l : List ℕ) (pid v i : ℕ) (new : List ℕ) (o : Option Sight) → IsSoundAmid s l → sight_at s pid v ≡ o → i + length new ≤ 4096 → IsSoundAmid (with_bytes s o i new) l

@@ -13,24 +13,27 @@ use Rattle.nm_types.specs.declared.sight.Sight.TheVariants.{ZeroPage, Sees}
 use Rattle.nm_types.specs.declared.errno.Errno.TheVariants.{Einval}
 use Rattle.nm_types.specs.Layout.{frame_count}
 use Rattle.nm_types.specs.Map.{Map, get, set, replace, page_cmp}
-use Rattle.nm_types.specs.State.{Process, State, Placed, covers, area_over, free_list, page_of}
+use Rattle.nm_types.specs.State.{Process, State, Placed, covers, area_over, page_of}
 use Rattle.nm_runs.specs.Seen.{sight_in, sight_at}
 use Rattle.nm_policy.specs.Order.{first_touch_order}
 use Rattle.nm_engine.specs.declared.touching.Touching.{Touching}
 use Rattle.nm_engine.specs.declared.process.ProcessInfo.{ProcessInfo}
 use Rattle.nm_engine.specs.Tables.{info_of, seeing}
-use Rattle.nm_engine.specs.Touch.{Spot, spot, spot_of, spot_over, shown_at, first_free, allocated, filled, with_sight, with_bytes, touched_entry, touched, touch, is_shared}
-use Rattle.nm_engine.specs.Stocked.{Stocked, IsStocked, free_of, stock_page}
+use Rattle.nm_areas.specs.Lines.{is_shared}
+use Rattle.nm_engine.specs.Touch.{Spot, spot, spot_of, spot_over, shown_at, first_free, allocated, filled, with_sight, with_bytes, touched_entry, touched, touch}
+use Rattle.nm_engine.specs.Stocked.{Stocked}
+use Rattle.nm_engine.proofs.Shelved.{IsStocked, free_of, stock_page}
 use Rattle.nm_areas.specs.Table.{Table}
 use Rattle.nm_engine.specs.Parts.{shown}
 use Rattle.nm_engine.specs.Amid.{Amid, IsKept, spot_at, IsTouched}
 use Rattle.nm_engine.specs.Seeing.{frame_of, frame_seen}
 use Rattle.nm_engine.specs.Sound.{times, IsSoundAmid}
-use Rattle.nm_frames.specs.Store.{bytes_of, overwrite as overwritten}
+use Rattle.nm_frames.specs.Store.{bytes_of, overwrite}
 use Rattle.nm_engine.proofs.Stocks.{counted_below}
 use Rattle.nm_engine.proofs.Once.{counted_place}
-use Rattle.nm_engine.proofs.Maps.{page_cmp_total, get-set}
+use Rattle.nm_types.proofs.Maps.{page_cmp_total, get-set}
 use Rattle.std.specs.Cmp.{tied_itself}
+use Rattle.nm_types.proofs.Cases.{some_is}
 use Rattle.nm_engine.proofs.Sights.{IsSpot, page_at_spot, Fits, with_sight_sound, sight_here}
 use Rattle.nm_engine.proofs.Allocated.{placed_sound, placed_front}
 use Rattle.nm_engine.proofs.Touched.{has_front, private_unplaced, bytes_sound}
@@ -56,9 +59,6 @@ none_sees e q k = cc
 pub zero_sees : {o : Option Sight} → o ≡ Some ZeroPage → (q : Page) → o ≡ Some (Sees q) → ⊥
 zero_sees e q k = cc
 
-pub some_is : {V : Type 0} {v w : V} → Some v ≡ Some w → v ≡ w
-some_is e = cc
-
 -- a node that has a free frame is one of the machine's
 pub short_list : (free : List (List ℕ)) (node : ℕ) → 0 < length (slice_index_or free node []) → node < length free
 short_list [] node h = absurd (omega (arith, h))
@@ -73,8 +73,8 @@ pub no_front : (frames : List ℕ) → slice_get frames 0 ≡ None → 0 < lengt
 no_front [] h some = omega (arith, some)
 no_front (f ∷ frames) h some = cc
 
-pub found_free : (s : State) (order : List ℕ) (node : ℕ) → first_free s order ≡ Some node → 0 < length (free_list s node)
-found_free s order node h = some_length _ (has_front s order node h)
+pub found_free : (free : List (List ℕ)) (order : List ℕ) (node : ℕ) → first_free free order ≡ Some node → 0 < length (slice_index_or free node [])
+found_free free order node h = some_length _ (has_front free order node h)
 
 module _ {c : ℕ} (tasks : Map ℕ Process) (m : Table) (x : Stocked) (online : List ℕ) (moved failed : ℕ) (l : List ℕ) (t : Touching) (p : Process) (a : Placed)
     (kept : IsKept (shown tasks m x online moved failed) l c) (touched : IsTouched (shown tasks m x online moved failed) t p a) where
@@ -115,19 +115,19 @@ module _ {c : ℕ} (tasks : Map ℕ Process) (m : Table) (x : Stocked) (online :
       })
 
   -- and that is what the definition says
-  pub filled_is : (node : ℕ) → first_free (shown tasks m x online moved failed) (first_touch_order x.layout online t.info.home t.info.allowed t.policy t.page.index) ≡ Some node
+  pub filled_is : (node : ℕ) → first_free x.free (first_touch_order x.layout online t.info.home t.info.allowed t.policy t.page.index) ≡ Some node
       → filled (shown tasks m x online moved failed) (spot_at t p a)
       ≡ Ok (with_sight (placed_front (shown tasks m x online moved failed) node (free_of x node) (shown_at (spot_at t p a))) (spot_at t p a) (Sees (shown_at (spot_at t p a))))
   filled_is node found =
       let order : first_touch_order x.layout online p.home p.allowed a.1.policy (page_of a t.vpn).index ≡ first_touch_order x.layout online t.info.home t.info.allowed t.policy t.page.index =
       λ i. first_touch_order x.layout online (touched.info i).home (touched.info i).allowed (touched.policy i) (touched.page i).index in
-      ap (allocated (shown tasks m x online moved failed) (spot_at t p a)) (ap (first_free (shown tasks m x online moved failed)) order ∙ found)
+      ap (allocated (shown tasks m x online moved failed) (spot_at t p a)) (ap (first_free x.free) order ∙ found)
 
   -- a private page that the process does not see has no frame
-  pub private_here : is_shared (shown tasks m x online moved failed) t.page ≡ false → is_shared (shown tasks m x online moved failed) (shown_at (spot_at t p a)) ≡ false
-  private_here private = ap (is_shared (shown tasks m x online moved failed)) touched.page ∙ private
+  pub private_here : is_shared m.segments t.page.segment ≡ false → is_shared m.segments (shown_at (spot_at t p a)).segment ≡ false
+  private_here private = ap (λ (q : Page). is_shared m.segments q.segment) touched.page ∙ private
 
-  pub private_unplaced_here : ((q : Page) → sight_at (shown tasks m x online moved failed) t.pid t.vpn ≡ Some (Sees q) → ⊥) → is_shared (shown tasks m x online moved failed) t.page ≡ false
+  pub private_unplaced_here : ((q : Page) → sight_at (shown tasks m x online moved failed) t.pid t.vpn ≡ Some (Sees q) → ⊥) → is_shared m.segments t.page.segment ≡ false
       → get page_cmp x.place t.page ≡ None
   private_unplaced_here unseen private =
       ap (get page_cmp x.place) (sym touched.page)
@@ -138,7 +138,7 @@ module _ {c : ℕ} (tasks : Map ℕ Process) (m : Table) (x : Stocked) (online :
   zero_unplaced sees =
       let zero = kept.sound.zeros t.pid t.vpn sees in
       let same : zero.0 ≡ shown_at (spot_at t p a) = some_is (sym zero.1 ∙ page_at_spot (shown tasks m x online moved failed) (spot_at t p a) (spot_there (shown tasks m x online moved failed) t p a touched)) in
-      private_unplaced_here (zero_sees sees) (ap (is_shared (shown tasks m x online moved failed)) (sym touched.page ∙ sym same) ∙ zero.2)
+      private_unplaced_here (zero_sees sees) (ap (λ (q : Page). is_shared m.segments q.segment) (sym touched.page ∙ sym same) ∙ zero.2)
 
 pub get_set_same : (places : Map Page ℕ) (page : Page) (frame : ℕ) → get page_cmp (set page_cmp places page frame) page ≡ Some frame
 get_set_same places page frame =
@@ -199,7 +199,7 @@ touch_is s t pid address len writes at e h = ap (touched s writes) e ∙ h
 
 -- bytes that are written into the frame of the page that is seen
 module _ {c : ℕ} (tasks : Map ℕ Process) (m : Table) (x : Stocked) (online : List ℕ) (moved failed : ℕ) (l : List ℕ) (pid address f : ℕ) (new : List ℕ) (after : Stocked) (kept : IsKept (shown tasks m x online moved failed) l c) (stocked : IsStocked x)
-    (seen : frame_seen (shown tasks m x online moved failed) pid (address / 4096) ≡ Some f) (is : after ≡ record x { frames = slice_set x.frames f (Some (overwritten (bytes_of x.frames f) (address % 4096) new)) }) where
+    (seen : frame_seen (shown tasks m x online moved failed) pid (address / 4096) ≡ Some f) (is : after ≡ record x { frames = slice_set x.frames f (Some (overwrite (bytes_of x.frames f) (address % 4096) new)) }) where
   pub written_is : shown tasks m after online moved failed
       ≡ with_bytes (shown tasks m x online moved failed) (sight_at (shown tasks m x online moved failed) pid (address / 4096)) (address % 4096) new
   written_is =

@@ -15,11 +15,13 @@ use Rattle.nm_types.specs.State.{Process, State, Placed, free_list, area_over, p
 use Rattle.nm_runs.specs.Seen.{sight_in, sight_at}
 use Rattle.nm_policy.specs.Order.{first_touch_order}
 use Rattle.nm_engine.specs.Memory.{mem, byte_of}
-use Rattle.nm_engine.specs.Touch.{Spot, Done, shown_at, spot_over, spot_of, first_free, allocated, filled, joined, is_shared, touched_entry, touched, touch, with_page, without_front, overwrite, with_bytes, write_after}
+use Rattle.nm_areas.specs.Lines.{is_shared}
+use Rattle.nm_frames.specs.Store.{overwrite}
+use Rattle.nm_engine.specs.Touch.{Spot, Done, shown_at, spot_over, spot_of, first_free, allocated, filled, joined, touched_entry, touched, touch, with_page, without_front, with_bytes, write_after}
 use Rattle.nm_engine.specs.Sound.{IsSoundAmid}
 use Rattle.nm_engine.specs.Laws.{is_one_page, is_within, WritingIsExact}
-use Rattle.nm_engine.proofs.Keys.{some_from_keys}
-use Rattle.nm_engine.proofs.Maps.{page_cmp_total, exact_page, equal, get-replace}
+use Rattle.nm_types.proofs.Keys.{some_from_keys}
+use Rattle.nm_types.proofs.Maps.{page_cmp_total, exact_page, equal, get-replace}
 use Rattle.nm_engine.proofs.Sights.{IsSpot, sight_here}
 use Rattle.nm_engine.proofs.Touched.{StaysSound, touch_sound, seen_bytes, process_fits}
 
@@ -39,7 +41,7 @@ module _ (s : State) (at : Spot) (i : IsSpot s at) where
       (refl, (shown_at at, sight_here placed at (Sees (shown_at at)) (record { process = i.process; area = i.area })))
 
   filled_reaches : Reaches s at.pid at.vpn (filled s at)
-  filled_reaches = allocated_reaches (first_free s (first_touch_order s.layout s.online at.process.home at.process.allowed at.area.1.policy (shown_at at).index))
+  filled_reaches = allocated_reaches (first_free s.free (first_touch_order s.layout s.online at.process.home at.process.allowed at.area.1.policy (shown_at at).index))
 
   joined_reaches : (o : Option ℕ) → Reaches s at.pid at.vpn (joined s at o)
   unfolding Reaches
@@ -49,7 +51,7 @@ module _ (s : State) (at : Spot) (i : IsSpot s at) where
   entry_reaches : (o : Option Sight) → sight_at s at.pid at.vpn ≡ o → Reaches s at.pid at.vpn (touched_entry s at true o)
   unfolding Reaches
   entry_reaches None e =
-      elim (is_shared s (shown_at at)) as (λ b. Reaches s at.pid at.vpn (if b then joined s at (get page_cmp s.place (shown_at at)) else filled s at)) [
+      elim (is_shared s.segments (shown_at at).segment) as (λ b. Reaches s at.pid at.vpn (if b then joined s at (get page_cmp s.place (shown_at at)) else filled s at)) [
         | true ↦ joined_reaches (get page_cmp s.place (shown_at at))
         | false ↦ filled_reaches
       ]

@@ -13,6 +13,12 @@ Makes (Ok value) old new refusal after = (refusal ≡ None) × (new ≡ after)
 Makes (Err (error.Refused e)) old new refusal after = (refusal ≡ Some e) × (new ≡ old)
 Makes (Err error.HostMemory) old new refusal after = new ≡ old
 
+-- a call that finds no memory on the host is not one that is refused: it asks for memory last
+abbrev pub AsksLast : {T : Type 0} → Result T MachineError → Option Errno → Type 0
+AsksLast (Ok value) refusal = Unit {0}
+AsksLast (Err (error.Refused e)) refusal = Unit {0}
+AsksLast (Err error.HostMemory) refusal = refusal ≡ None
+
 -- a call that changes things and takes no memory: it does so, or is refused for this error and changes nothing
 abbrev pub Alters : {T : Type 0} → Result T Errno → State → State → Option Errno → State → Type 0
 Alters (Ok value) old new refusal after = (refusal ≡ None) × (new ≡ after)

@@ -1,12 +1,10 @@
 -- What the calls that change processes, areas and pins make of a state, where they are not refused.
-use Rattle.std.specs.Prelude.{ℕ, suc, ◌+◌, ◌-◌, ◌/◌, ◌^◌, ◌==◌, Bool, List, [], ◌∷◌, Option, Some, None, if◌then◌else◌}
+use Rattle.std.specs.Prelude.{ℕ, ◌+◌, ◌-◌, ◌/◌, ◌^◌, ◌==◌, Bool, List, [], Option, Some, None, if◌then◌else◌}
 use Rattle.std.specs.Ordering.{nat_cmp}
-use Rattle.std.specs.List.{list_any, filter, flat_map, fold}
+use Rattle.std.specs.List.{fold}
 use Rattle.nm_types.specs.declared.page.Page.{Page}
-use Rattle.nm_types.specs.declared.area.Policy.TheVariants.{Default}
-use Rattle.nm_types.specs.declared.area.Area.{Area}
 use Rattle.nm_types.specs.Nodes.{up_from}
-use Rattle.nm_types.specs.Map.{get, set, replace, without, with_values, page_cmp, spot_cmp}
+use Rattle.nm_types.specs.Map.{get, set, replace, without, with_values, page_cmp}
 use Rattle.nm_types.specs.Layout.{Layout, node_count}
 use Rattle.nm_types.specs.declared.sight.Sight.{Sight}
 use Rattle.nm_types.specs.declared.sight.Sight.TheVariants.{ZeroPage, Sees}
@@ -15,12 +13,11 @@ use Rattle.nm_runs.specs.Seen.{sight_at, pins_of}
 -- handed on: pages that areas show, and parts of areas
 pub use Rattle.nm_areas.specs.Parts.{pages_from, pages_between, before, behind, parts_outside, covers_page, is_covered}
 pub use Rattle.nm_engine.specs.Tables.{blind_between}
+use Rattle.nm_areas.specs.Mapped.{Mapped}
+use Rattle.nm_areas.specs.Effect.{attached, inserted}
+use Rattle.nm_areas.specs.Removed.{areas_left, segments_left, pages_gone}
+use Rattle.nm_nodes.specs.Pool.{all_frames}
 use Rattle.nm_engine.specs.Run.{with_free}
-
--- each node's frames, upwards, where the first has this number
-abbrev pub all_frames : ℕ → List ℕ → List (List ℕ)
-all_frames first [] = []
-all_frames first (size ∷ sizes) = up_from first size ∷ all_frames (first + size) sizes
 
 -- a machine without processes: every node is online, and every frame is free
 abbrev pub new_machine : Layout → State
@@ -46,20 +43,22 @@ spawn s pid uid home allowed privileged =
     let process : Process = record { uid = uid; privileged = privileged; home = home; allowed = allowed; sees = [] } in
     record s { processes = set nat_cmp s.processes pid process }
 
+-- its areas and segments, and the frames of its pages
+abbrev pub areas_of : State → Mapped
+areas_of s = record { areas = s.areas; segments = s.segments; next = s.next_segment; place = s.place }
+
+-- the state with other areas and segments
+abbrev pub with_areas_of : State → Mapped → State
+with_areas_of s m = record s { areas = m.areas; segments = m.segments; next_segment = m.next }
+
 -- an area over a stretch of a segment
 abbrev pub attach : State → ℕ → ℕ → ℕ → ℕ → ℕ → State
 attach s pid address segment offset pages =
-    let area : Area = record { pages = pages; policy = Default; page = record { segment = segment; index = offset } } in
-    record s { areas = set spot_cmp s.areas (pid, address / 4096) area }
+    with_areas_of s (attached (areas_of s) pid address segment offset pages)
 
 -- a new segment, and an area over all of it
 abbrev pub map_new : State → ℕ → ℕ → ℕ → Bool → State
-map_new s pid address pages shared =
-    let numbered = record s {
-      segments = set nat_cmp s.segments s.next_segment (record { pages = pages; shared = shared });
-      next_segment = suc s.next_segment;
-    } in
-    attach numbered pid address s.next_segment 0 pages
+map_new s pid address pages shared = with_areas_of s (inserted (areas_of s) pid address pages shared)
 
 -- what is seen has another number of pins, if it is a page
 abbrev pub with_pins : State → Option Sight → (ℕ → ℕ) → State
@@ -93,11 +92,10 @@ released s p = if is_covered s.areas p then s else released_from s p (get page_c
 -- by page upwards, what no area covers any more loses its frame
 abbrev pub dropped : State → ℕ → ℕ → ℕ → State
 dropped s pid first end =
-    let areas = flat_map (parts_outside pid first end) s.areas in
-    let pages = flat_map (pages_between first end) (filter (λ a. a.0.0 == pid) s.areas) in
+    let areas = areas_left s.areas pid first end in
     let blind = with_values (λ q process. if q == pid then blind_between first end process else process) s.processes in
-    let segments = filter (λ e. list_any (λ a. a.1.page.segment == e.0) areas) s.segments in
-    fold released (record s { processes = blind; areas = areas; segments = segments }) pages
+    let left = record s { processes = blind; areas = areas; segments = segments_left s.segments areas } in
+    fold released left (pages_gone s.areas pid first end)
 
 -- so many pages from an address on are let go
 abbrev pub unmap : State → ℕ → ℕ → ℕ → State

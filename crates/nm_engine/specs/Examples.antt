@@ -1,14 +1,11 @@
 -- The machines and processes of the worked examples.
-use Rattle.std.specs.Prelude.{ℕ, ◌/◌, ℤ, Bool, true, false, List, [], ◌∷◌, map, Option, Some, None}
-use Rattle.nm_types.specs.Map.{get, page_cmp}
+use Rattle.std.specs.Prelude.{ℕ, ◌/◌, ℤ, Bool, true, false, List, [], ◌∷◌, map, Option}
 use Rattle.nm_types.specs.Layout.{Layout}
-use Rattle.nm_types.specs.declared.sight.Sight.{Sight}
-use Rattle.nm_types.specs.declared.sight.Sight.TheVariants.{ZeroPage, Sees}
 use Rattle.nm_types.specs.State.{State}
 use Rattle.nm_runs.specs.declared.Wanted.TheVariants.{At as Spot}
-use Rattle.nm_runs.specs.Seen.{sight_at}
 use Rattle.nm_runs.specs.Cut.{Request}
 use Rattle.nm_engine.specs.Touch.{read, write}
+use Rattle.nm_engine.specs.Seeing.{frame_seen}
 use Rattle.nm_engine.specs.Run.{Ran}
 use Rattle.nm_engine.specs.Batch.{answer_of}
 use Rattle.nm_engine.specs.Effect.{new_machine, spawn, map_new, attach}
@@ -102,15 +99,9 @@ requests all addresses target =
 abbrev pub to : List ℕ → ℕ → List Request
 to addresses target = requests false addresses target
 
--- the frame of what is seen, if it is a page
-abbrev pub frame_of : State → Option Sight → Option ℕ
-frame_of s None = None
-frame_of s (Some ZeroPage) = None
-frame_of s (Some (Sees p)) = get page_cmp s.place p
-
 -- the frame of the page that a process sees at an address
 abbrev pub frame_at : State → ℕ → ℕ → Option ℕ
-frame_at s pid address = frame_of s (sight_at s pid (address / 4096))
+frame_at s pid address = frame_seen s pid (address / 4096)
 
 -- what is told of a batch: the answer and the statuses, then of the state the free lists and the totals
 pub record Told : Type 0 where

@@ -1,5 +1,6 @@
 -- What holds of every state, run and request.
-use Rattle.std.specs.Prelude.{◌≡◌, ℕ, ◌+◌, ◌-◌, ◌/◌, ◌%◌, nat_le, nat_lt, Bool, true, false, ◌&&◌, List, [], map, length, drop, slice_index, slice_set, Option, Some, None, if◌then◌else◌}
+use Rattle.std.specs.Prelude.{◌≡◌, ◌≤◌, ℕ, ◌+◌, ◌-◌, ◌/◌, ◌%◌, nat_le, nat_lt, Bool, true, false, ◌&&◌, List, [], map, length}
+use Rattle.std.specs.Prelude.{drop, slice_index, slice_set, Option, Some, None, if◌then◌else◌}
 use Rattle.std.specs.List.{AllByRecursion, fold}
 use Rattle.std.specs.List.Sorted.{IsStrictlySortedBy}
 use Rattle.std.specs.Map.{keys_of}
@@ -11,6 +12,8 @@ use Rattle.nm_types.specs.declared.area.Policy.{Policy}
 use Rattle.nm_types.specs.State.{State, page_at, free_list}
 use Rattle.nm_runs.specs.declared.Wanted.{Wanted}
 use Rattle.nm_runs.specs.declared.Wanted.TheVariants.{At as Spot, Whole}
+use Rattle.nm_types.specs.declared.seen.Seen.TheVariants.{At}
+use Rattle.nm_runs.specs.Seen.{look}
 use Rattle.nm_runs.specs.Cut.{Request}
 use Rattle.nm_runs.specs.Status.{status_or_move, class_of}
 use Rattle.nm_plan.specs.declared.Taken.{Taken}
@@ -19,16 +22,27 @@ use Rattle.nm_engine.specs.Memory.{mem}
 use Rattle.nm_engine.specs.Touch.{Access, Done, read, write, access}
 use Rattle.nm_engine.specs.Run.{Progress, each, with_all_free, run}
 use Rattle.nm_engine.specs.Batch.{batch}
+use Rattle.nm_engine.specs.Audited.{audited}
 use Rattle.nm_engine.specs.Effect.{new_machine, spawn, map_new, attach, pin, unpin, unmap, exit}
-use Rattle.nm_engine.specs.Refused.{spawn_refusal, map_refusal, attach_refusal}
+use Rattle.nm_engine.specs.Refused.{spawn_refusal, map_refusal, attach_refusal, pin_refusal}
 use Rattle.nm_engine.specs.Policing.{set_policy}
 use Rattle.nm_engine.specs.Sound.{OwnsItsFree, IsSoundAmid, IsSound}
+
+-- on a sound machine each frame is in one place
+abbrev pub SoundIsAudited : Type 0
+SoundIsAudited = (s : State) → IsSound s → audited s ≡ true
 
 -- a look that counts the processes tells what is to be done with a request
 abbrev pub LooksSuffice : Type 0
 LooksSuffice =
     (s : State) (target : ℕ) (w : Wanted) →
     IsStrictlySortedBy nat_cmp (keys_of s.processes) → class_of s target w ≡ status_or_move s target w
+
+-- a look counts no more processes than may be alive
+abbrev pub LooksAreBounded : Type 0
+LooksAreBounded =
+    (s : State) (pid v : ℕ) (p : Page) (frame processes : ℕ) (pinned : Bool) →
+    IsSound s → look s pid v ≡ At p frame processes pinned → processes ≤ 1024
 
 -- deciding requests changes no byte that a process has at an address
 abbrev pub DecidingKeepsMemory : Type 0
@@ -103,7 +117,7 @@ pub record Agrees (s : State) (target : ℕ) (p : Progress) (d : Decisions) : Ty
 abbrev pub PlanIsOneByOne : Type 0
 PlanIsOneByOne =
     (s : State) (target : ℕ) (all : Bool) (ws : List Wanted) →
-    IsStrictlySortedBy nat_cmp (keys_of s.processes) → OwnsItsFree s target →
+    IsStrictlySortedBy nat_cmp (keys_of s.processes) → OwnsItsFree s.layout s.free target →
     AllByRecursion (λ w. moves_all w ≡ all) ws →
     Agrees s target (each s target ws) (decide (map (status_or_move s target) ws) [] (free_list s target) target)
 
@@ -148,7 +162,11 @@ AttachIsSound =
 
 -- .. and pins
 abbrev pub PinIsSound : Type 0
-PinIsSound = (s : State) (pid address : ℕ) → IsSound s → IsSound (pin s pid address) × IsSound (unpin s pid address)
+PinIsSound = (s : State) (pid address : ℕ) → IsSound s → pin_refusal s pid address ≡ None → IsSound (pin s pid address)
+
+-- .. which never are too few to be taken off
+abbrev pub UnpinIsSound : Type 0
+UnpinIsSound = (s : State) (pid address : ℕ) → IsSound s → IsSound (unpin s pid address)
 
 -- .. and another policy of a range
 abbrev pub PolicyIsSound : Type 0

@@ -1,6 +1,6 @@
 -- A run of requests for one target node, one after another.
-use Rattle.std.specs.Prelude.{ℕ, ◌+◌, ◌-◌, ◌^◌, min, ℤ, pos, ◌||◌, List, [], ◌∷◌, ◌++◌, map, length, count_by, slice_set}
-use Rattle.std.specs.List.{fold}
+use Rattle.std.specs.Prelude.{◌≡◌, ◌⊎◌, Bool, ℕ, ◌+◌, ◌-◌, ◌^◌, min, ℤ, pos, ◌||◌, List, [], ◌∷◌, ◌++◌, map, length, count_by, slice_set}
+use Rattle.std.specs.List.{fold, AllByRecursion}
 use Rattle.std.specs.Ordering.{int_eq}
 use Rattle.nm_types.specs.declared.errno.Errno.TheVariants.{Enomem, Ebusy}
 use Rattle.nm_types.specs.declared.page.Page.{Page}
@@ -10,6 +10,7 @@ use Rattle.nm_types.specs.State.{State, free_list}
 use Rattle.nm_runs.specs.declared.Class.{Class}
 use Rattle.nm_runs.specs.declared.Class.TheVariants.{Status, Move}
 use Rattle.nm_runs.specs.declared.Wanted.{Wanted}
+use Rattle.nm_runs.specs.declared.Wanted.TheVariants.{At as Spot, Whole}
 use Rattle.nm_runs.specs.Status.{code, status_or_move}
 use Rattle.nm_plan.specs.declared.Taken.{Taken}
 use Rattle.nm_engine.specs.Touch.{Access, Answer}
@@ -79,6 +80,20 @@ added total n = min (total + n) (2 ^ 64 - 1)
 -- the totals with so many more
 abbrev pub counted : State → ℕ → ℕ → State
 counted s moved failed = record s { moved = added s.moved moved; failed = added s.failed failed }
+
+-- a request by address, which moves a page that other processes see too, or does not
+abbrev pub IsByAddress : Bool → Wanted → Type 0
+IsByAddress all (Spot pid v b) = b ≡ all
+IsByAddress all (Whole page) = ⊥
+
+-- a request by page
+abbrev pub IsByPage : Wanted → Type 0
+IsByPage (Spot pid v all) = ⊥
+IsByPage (Whole page) = Unit {0}
+
+-- all requests of a run are by address and have one `all`, or all are by page
+abbrev pub HasOneAll : List Wanted → Type 0
+HasOneAll ws = ((all : Bool) × AllByRecursion (IsByAddress all) ws) ⊎ AllByRecursion IsByPage ws
 
 -- what a run or a batch makes of a state
 pub record Ran : Type 0 where

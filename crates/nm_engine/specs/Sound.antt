@@ -1,18 +1,20 @@
 -- What holds of every state between two calls.
-use Rattle.std.specs.Prelude.{◌≡◌, ℕ, ◌+◌, ◌^◌, ◌≤◌, ◌<◌, nat_lt, ◌==◌, cond, false, List, [], length, count_by, Some, IsSome, IsTrue}
+use Rattle.std.specs.Prelude.{◌≡◌, ℕ, ◌+◌, ◌^◌, ◌≤◌, ◌<◌, nat_lt, ◌==◌, cond, false, List, [], length, count_by}
+use Rattle.std.specs.Prelude.{slice_index_or, Option, Some, None, IsSome, IsTrue}
 use Rattle.std.specs.List.{sum_by, AllByRecursion}
 use Rattle.std.specs.List.Sorted.{IsStrictlySortedBy}
 use Rattle.std.specs.Map.{keys_of, values_of}
 use Rattle.std.specs.Ordering.{nat_cmp}
 use Rattle.nm_types.specs.declared.page.Page.{Page}
-use Rattle.nm_types.specs.Map.{get, page_cmp, spot_cmp}
-use Rattle.nm_types.specs.Layout.{node_count, frame_count, node_of}
+use Rattle.nm_types.specs.declared.area.Segment.{Segment}
+use Rattle.nm_types.specs.Map.{Map, get, page_cmp, spot_cmp}
+use Rattle.nm_types.specs.Layout.{Layout, node_count, frame_count, node_of}
 use Rattle.nm_types.specs.declared.sight.Sight.TheVariants.{ZeroPage, Sees}
-use Rattle.nm_types.specs.State.{State, Placed, page_at, free_list}
+use Rattle.nm_types.specs.State.{Process, State, Placed, page_at}
 use Rattle.nm_runs.specs.Seen.{sight_at}
--- handed on: no two areas of a process are over one page number
-pub use Rattle.nm_areas.specs.Mapped.{AreasAreApart}
-use Rattle.nm_engine.specs.Touch.{is_shared}
+-- handed on: no two areas of a process are over one page number, and a private page is shown at one page number alone
+pub use Rattle.nm_areas.specs.Mapped.{AreasAreApart, PrivateIsOnce}
+use Rattle.nm_areas.specs.Lines.{is_shared}
 use Rattle.nm_engine.specs.Effect.{is_covered}
 
 -- the maps have their keys in order
@@ -20,30 +22,31 @@ pub record IsInOrder (s : State) : Type 0 where
   pub processes : IsStrictlySortedBy nat_cmp (keys_of s.processes)
   pub sees : AllByRecursion (λ e. IsStrictlySortedBy nat_cmp (keys_of e.1.sees)) s.processes
   pub areas : IsStrictlySortedBy spot_cmp (keys_of s.areas)
+  pub segments : IsStrictlySortedBy nat_cmp (keys_of s.segments)
   pub place : IsStrictlySortedBy page_cmp (keys_of s.place)
 
 -- no frame is the place of two pages
-abbrev pub PlacesAreApart : State → Type 0
-PlacesAreApart s =
-    (p q : Page) (frame : ℕ) → get page_cmp s.place p ≡ Some frame → get page_cmp s.place q ≡ Some frame → p ≡ q
+abbrev pub PlacesAreApart : Map Page ℕ → Type 0
+PlacesAreApart place =
+    (p q : Page) (frame : ℕ) → get page_cmp place p ≡ Some frame → get page_cmp place q ≡ Some frame → p ≡ q
 
 -- how often a frame stands in a list
 abbrev pub times : ℕ → List ℕ → ℕ
 times frame frames = count_by (λ f. f == frame) frames
 
 -- how often it is the place of a page, is free, or was left by a run that has not ended
-abbrev pub holders : State → List ℕ → ℕ → ℕ
-holders s left frame = times frame (values_of s.place) + sum_by (times frame) s.free + times frame left
+abbrev pub holders : Map Page ℕ → List (List ℕ) → List ℕ → ℕ → ℕ
+holders place free left frame = times frame (values_of place) + sum_by (times frame) free + times frame left
 
 -- the free frames of a node are its own
-abbrev pub OwnsItsFree : State → ℕ → Type 0
-OwnsItsFree s node = AllByRecursion (λ frame. node_of s.layout frame ≡ node) (free_list s node)
+abbrev pub OwnsItsFree : Layout → List (List ℕ) → ℕ → Type 0
+OwnsItsFree g free node = AllByRecursion (λ frame. node_of g frame ≡ node) (slice_index_or free node [])
 
 -- each frame of the machine is in one of these places, once, and a free one stands in its own node's list
-pub record FramesAreOnce (s : State) (left : List ℕ) : Type 0 where
-  pub lists : length s.free ≡ node_count s.layout
-  pub once : (frame : ℕ) → holders s left frame ≡ cond (nat_lt frame (frame_count s.layout)) 1 0
-  pub own : (node : ℕ) → OwnsItsFree s node
+pub record FramesAreOnce (g : Layout) (place : Map Page ℕ) (free : List (List ℕ)) (left : List ℕ) : Type 0 where
+  pub lists : length free ≡ node_count g
+  pub once : (frame : ℕ) → holders place free left frame ≡ cond (nat_lt frame (frame_count g)) 1 0
+  pub own : (node : ℕ) → OwnsItsFree g free node
 
 -- a page that a process sees is shown to it there, and has a frame
 abbrev pub SeesWhatIsShown : State → Type 0
@@ -55,58 +58,70 @@ SeesWhatIsShown s =
 abbrev pub ZeroIsPrivate : State → Type 0
 ZeroIsPrivate s =
     (pid v : ℕ) →
-    sight_at s pid v ≡ Some ZeroPage → (p : Page) × (page_at s.areas pid v ≡ Some p) × (is_shared s p ≡ false)
+    sight_at s pid v ≡ Some ZeroPage → (p : Page) × (page_at s.areas pid v ≡ Some p) × (is_shared s.segments p.segment ≡ false)
 
 -- a page with a frame is covered by an area
 abbrev pub PlacedIsCovered : State → Type 0
 PlacedIsCovered s = (p : Page) → IsSome (get page_cmp s.place p) → IsTrue (is_covered s.areas p)
 
 -- the pages with a frame, and no others, have bytes, 4,096 each ..
-pub record PlacedHasBytes (s : State) : Type 0 where
-  pub same_pages : keys_of s.bytes ≡ keys_of s.place
-  pub whole : AllByRecursion (λ e. length e.1 ≡ 4096) s.bytes
+pub record PlacedHasBytes (place : Map Page ℕ) (bytes : Map Page (List ℕ)) : Type 0 where
+  pub same_pages : keys_of bytes ≡ keys_of place
+  pub whole : AllByRecursion (λ e. length e.1 ≡ 4096) bytes
 
--- .. and a number of pins, which may be 0
-abbrev pub PlacedHasPins : State → Type 0
-PlacedHasPins s = keys_of s.pins ≡ keys_of s.place
+-- .. and a number of pins, which may be 0 and is at most 65,535
+pub record PlacedHasPins (place pins : Map Page ℕ) : Type 0 where
+  pub same_pages : keys_of pins ≡ keys_of place
+  pub few : AllByRecursion (λ e. e.1 ≤ 65535) pins
 
 -- a private page with a frame is seen
 abbrev pub PrivateIsSeen : State → Type 0
 PrivateIsSeen s =
-    (p : Page) → IsSome (get page_cmp s.place p) → is_shared s p ≡ false →
+    (p : Page) → IsSome (get page_cmp s.place p) → is_shared s.segments p.segment ≡ false →
     (pid : ℕ) × (v : ℕ) × (sight_at s pid v ≡ Some (Sees p))
 
--- a private page is shown at one page number alone
-abbrev pub PrivateIsOnce : State → Type 0
-PrivateIsOnce s =
-    (pid v q w : ℕ) (p : Page) →
-    page_at s.areas pid v ≡ Some p → page_at s.areas q w ≡ Some p → is_shared s p ≡ false → (pid ≡ q) × (v ≡ w)
+-- a segment is there, and has at least so many pages
+abbrev pub HasPages : Option Segment → ℕ → Type 0
+HasPages None pages = ⊥
+HasPages (Some segment) pages = pages ≤ segment.pages
 
--- an area has a page and ends below 2^47, and its process and its segment are there ..
+-- an area has a page and ends below 2^47, its process is there, and so is its segment, with all pages that it shows
 abbrev pub IsWhole : State → Placed → Type 0
 IsWhole s a =
     (0 < a.1.pages) × (a.0.1 + a.1.pages ≤ 2 ^ 35) × IsSome (get nat_cmp s.processes a.0.0)
-    × IsSome (get nat_cmp s.segments a.1.page.segment)
+    × HasPages (get nat_cmp s.segments a.1.page.segment) (a.1.page.index + a.1.pages)
 
--- .. and the next segment's number is new
-abbrev pub SegmentsAreNumbered : State → Type 0
-SegmentsAreNumbered s = (n : ℕ) → IsSome (get nat_cmp s.segments n) → n < s.next_segment
+-- the next segment's number is new, and at most 65,536 segments were made
+pub record SegmentsAreNumbered (segments : Map ℕ Segment) (next : ℕ) : Type 0 where
+  pub below : (n : ℕ) → IsSome (get nat_cmp segments n) → n < next
+  pub few : next ≤ 65536
+
+-- the nodes online are nodes of the machine, each below the next
+pub record AreNodes (g : Layout) (nodes : List ℕ) : Type 0 where
+  pub upwards : IsStrictlySortedBy nat_cmp nodes
+  pub below : AllByRecursion (λ node. node < node_count g) nodes
+
+-- at most 1,024 processes are alive
+abbrev pub ProcessesAreFew : Map ℕ Process → Type 0
+ProcessesAreFew processes = length processes ≤ 1024
 
 -- sound, when a run that has not ended has left these frames
 pub record IsSoundAmid (s : State) (left : List ℕ) : Type 0 where
   pub order : IsInOrder s
-  pub apart : PlacesAreApart s
-  pub frames : FramesAreOnce s left
+  pub apart : PlacesAreApart s.place
+  pub frames : FramesAreOnce s.layout s.place s.free left
   pub shown : SeesWhatIsShown s
   pub zeros : ZeroIsPrivate s
   pub covered : PlacedIsCovered s
-  pub bytes : PlacedHasBytes s
-  pub pins : PlacedHasPins s
+  pub bytes : PlacedHasBytes s.place s.bytes
+  pub pins : PlacedHasPins s.place s.pins
   pub seen : PrivateIsSeen s
-  pub once : PrivateIsOnce s
+  pub once : PrivateIsOnce s.areas s.segments
   pub areas : AllByRecursion (IsWhole s) s.areas
-  pub numbers : SegmentsAreNumbered s
+  pub numbers : SegmentsAreNumbered s.segments s.next_segment
   pub disjoint : AreasAreApart s.areas
+  pub online : AreNodes s.layout s.online
+  pub few : ProcessesAreFew s.processes
 
 -- sound, as every state is between two calls
 abbrev pub IsSound : State → Type 0

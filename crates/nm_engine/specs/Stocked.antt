@@ -1,16 +1,12 @@
 -- The frames of a machine: which pages they hold, which are free, and what bytes are in them.
-use Rattle.std.specs.Prelude.{◌≡◌, ℕ, zero, suc, ◌+◌, ◌<◌, false, sum, List, [], ◌∷◌, ◌++◌, length, drop, replicate, slice_index, slice_index_or, slice_set, Some}
+use Rattle.std.specs.Prelude.{◌≡◌, ℕ, zero, suc, ◌+◌, ◌<◌, false, sum, List, [], ◌∷◌, length, slice_index, slice_index_or}
 use Rattle.std.specs.List.{fold}
-use Rattle.std.specs.List.Sorted.{IsStrictlySortedBy}
-use Rattle.std.specs.Map.{keys_of}
 use Rattle.nm_types.specs.declared.page.Page.{Page}
-use Rattle.nm_types.specs.Map.{Map, page_cmp, set}
+use Rattle.nm_types.specs.Map.{Map}
 use Rattle.nm_types.specs.Layout.{Layout, node_count, frame_count, owner}
 use Rattle.nm_types.specs.Nodes.{is_in}
-use Rattle.nm_types.specs.State.{State}
-use Rattle.nm_frames.specs.Store.{Store, IsHome, bytes_of}
+use Rattle.nm_frames.specs.Store.{Store, IsHome}
 use Rattle.nm_nodes.specs.Pool.{Pool, list_of, appended}
-use Rattle.nm_engine.specs.Sound.{FramesAreOnce}
 
 -- frames by themselves
 pub record Shelf : Type 0 where
@@ -50,56 +46,6 @@ pub record Stocked : Type 0 where
   pub vacated : List ℕ
   pub room : ℕ
 
--- a state with these frames and nothing else
-abbrev pub frames_alone : Layout → Map Page ℕ → List (List ℕ) → State
-frames_alone g place free =
-    record {
-      layout = g;
-      processes = [];
-      areas = [];
-      segments = [];
-      next_segment = 0;
-      place = place;
-      bytes = [];
-      pins = [];
-      free = free;
-      online = [];
-      moved = 0;
-      failed = 0;
-    }
-
--- each frame is free, vacated or the place of one page, and its bytes are home
-pub record IsStocked (x : Stocked) : Type 0 where
-  pub in_order : IsStrictlySortedBy page_cmp (keys_of x.place)
-  pub once : FramesAreOnce (frames_alone x.layout x.place x.free) x.vacated
-  pub buffers : length x.frames ≡ frame_count x.layout
-  pub home : (frame : ℕ) → frame < frame_count x.layout → IsHome x.frames frame
-
-abbrev pub free_of : Stocked → ℕ → List ℕ
-free_of x node = slice_index_or x.free node []
-
--- a page gets the front frame of a node, with zeros in it
-abbrev pub stock_page : Stocked → Page → ℕ → Stocked
-stock_page x page node =
-    let frame = slice_index (free_of x node) 0 in
-    record x {
-      place = set page_cmp x.place page frame;
-      pins = set page_cmp x.pins page 0;
-      frames = slice_set x.frames frame (Some (replicate 4096 0));
-      free = slice_set x.free node (drop 1 (free_of x node));
-    }
-
--- a page goes from a frame to the front frame of a node, with its bytes
-abbrev pub restock_page : Stocked → Page → ℕ → ℕ → Stocked
-restock_page x page from node =
-    let frame = slice_index (free_of x node) 0 in
-    record x {
-      place = set page_cmp x.place page frame;
-      frames = slice_set x.frames frame (Some (bytes_of x.frames from));
-      free = slice_set x.free node (drop 1 (free_of x node));
-      vacated = x.vacated ++ from ∷ [];
-    }
-
 -- one frame after another goes to the end of its own node's list
 abbrev pub with_freed : Pool → List ℕ → Pool
 with_freed p frames = fold appended p frames
@@ -107,13 +53,10 @@ with_freed p frames = fold appended p frames
 -- each of these frames, in their order, is one of the nodes' and not free before it is freed
 abbrev pub CanFree : Pool → List ℕ → Type 0
 CanFree p [] = Unit {0}
-CanFree p (frame ∷ frames) = (frame < sum p.sizes) × (is_in (list_of p (owner p.sizes frame)) frame ≡ false) × CanFree (appended p frame) frames
+CanFree p (frame ∷ frames) =
+    (frame < sum p.sizes) × (is_in (list_of p (owner p.sizes frame)) frame ≡ false) × CanFree (appended p frame) frames
 
 -- the vacated frames are free
-abbrev pub free_all : Stocked → Stocked
-free_all x = record x { free = (with_freed (record { sizes = x.layout.sizes; lists = x.free }) x.vacated).lists; vacated = [] }
-
--- the same of frames by themselves
 abbrev pub all_freed : Shelf → Shelf
 all_freed k = record k { free = (with_freed (pool_of k) k.vacated).lists; vacated = [] }
 

@@ -26,7 +26,9 @@ pub record IsTied (tasks : Map ℕ Task) (m : Mapped) (r : Mappers) : Type 0 whe
   -- the mappers of a frame are exactly the entries that name it
   pub mappers : (f pid v : ℕ) → has_spot (mappers_of r f) (pid, v) ≡ names f (entry_at tasks pid v)
   -- an entry names the frame of the page that is shown there
-  pub shows : (f pid v : ℕ) → names f (entry_at tasks pid v) ≡ true → (p : Page) × (page_at m.areas pid v ≡ Some p) × (get page_cmp m.place p ≡ Some f)
+  pub shows :
+      (f pid v : ℕ) → names f (entry_at tasks pid v) ≡ true →
+      (p : Page) × (page_at m.areas pid v ≡ Some p) × (get page_cmp m.place p ≡ Some f)
   -- no frame has two pages
   pub apart : (p q : Page) (f : ℕ) → get page_cmp m.place p ≡ Some f → get page_cmp m.place q ≡ Some f → p ≡ q
   -- a frame without a page has no pins
@@ -42,6 +44,9 @@ is_between pid first end spot = (spot.0 == pid) && (nat_le first spot.1 && nat_l
 
 -- the mappers that were entries of a process in a range are none any more, and the pins stay
 pub record IsCleared (r t : Mappers) (pid first end : ℕ) (tasks : Map ℕ Task) : Type 0 where
-  pub spots : (f : ℕ) (spot : ℕ × ℕ) → has_spot (mappers_of t f) spot ≡ (has_spot (mappers_of r f) spot && not (is_between pid first end spot && names f (entry_at tasks spot.0 spot.1)))
+  pub spots :
+      (f : ℕ) (spot : ℕ × ℕ) →
+      has_spot (mappers_of t f) spot
+      ≡ (has_spot (mappers_of r f) spot && not (is_between pid first end spot && names f (entry_at tasks spot.0 spot.1)))
   pub frames : length t.spots ≡ length r.spots
   pub pins : t.pins ≡ r.pins

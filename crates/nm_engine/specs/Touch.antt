@@ -1,6 +1,8 @@
 -- Reads and writes.
-use Rattle.std.specs.Prelude.{ℕ, ◌+◌, ◌/◌, ◌%◌, ◌==◌, nat_lt, ◌||◌, Bool, true, false, List, [], ◌∷◌, ◌++◌, length, take, drop, replicate, slice_index, slice_set, Option, Some, None, Result, Ok, Err, if◌then◌else◌}
-use Rattle.std.specs.Option.{unwrap_or, option_map}
+use Rattle.std.specs.Prelude.{ℕ, ◌+◌, ◌/◌, ◌%◌, ◌==◌, nat_lt, ◌||◌, Bool, true, false, List, [], ◌∷◌, length, drop}
+use Rattle.std.specs.Prelude.{replicate, slice_index, slice_index_or, slice_set, Option, Some, None, Result, Ok, Err}
+use Rattle.std.specs.Prelude.{if◌then◌else◌}
+use Rattle.std.specs.Option.{unwrap_or}
 use Rattle.std.specs.Ordering.{nat_cmp}
 use Rattle.nm_types.specs.declared.page.Page.{Page}
 use Rattle.nm_types.specs.declared.errno.Errno.{Errno}
@@ -11,6 +13,8 @@ use Rattle.nm_types.specs.declared.sight.Sight.TheVariants.{ZeroPage, Sees}
 use Rattle.nm_types.specs.State.{Process, State, Placed, area_over, page_of, free_list}
 use Rattle.nm_policy.specs.Order.{first_touch_order}
 use Rattle.nm_runs.specs.Seen.{sight_at}
+use Rattle.nm_areas.specs.Lines.{is_shared}
+use Rattle.nm_frames.specs.Store.{overwrite}
 use Rattle.nm_engine.specs.Memory.{mem_range}
 
 -- a process, and its area over a page number
@@ -40,6 +44,15 @@ spot_of s (Some process) pid address len =
 abbrev pub spot : State → ℕ → ℕ → ℕ → Result Spot Errno
 spot s pid address len = spot_of s (get nat_cmp s.processes pid) pid address len
 
+-- the error, if there is one
+abbrev pub error_in : {X : Type 0} → Result X Errno → Option Errno
+error_in (Ok x) = None
+error_in (Err e) = Some e
+
+-- the refusals that a read or a write of so many bytes comes to before it looks for a frame: all but the want of one
+abbrev pub spot_refusal : State → ℕ → ℕ → ℕ → Option Errno
+spot_refusal s pid address len = error_in (spot s pid address len)
+
 -- the process sees this there from now on
 abbrev pub with_sight : State → Spot → Sight → State
 with_sight s at sight =
@@ -59,10 +72,10 @@ with_page s page frame =
 abbrev pub without_front : State → ℕ → State
 without_front s node = record s { free = slice_set s.free node (drop 1 (free_list s node)) }
 
--- the first of these nodes that has a free frame
-abbrev pub first_free : State → List ℕ → Option ℕ
-first_free s [] = None
-first_free s (node ∷ nodes) = if length (free_list s node) == 0 then first_free s nodes else Some node
+-- the first of these nodes that has a frame in its list of free ones
+abbrev pub first_free : List (List ℕ) → List ℕ → Option ℕ
+first_free free [] = None
+first_free free (node ∷ nodes) = if length (slice_index_or free node []) == 0 then first_free free nodes else Some node
 
 -- the page takes the front frame of the node, and the process sees it
 abbrev pub allocated : State → Spot → Option ℕ → Result State Errno
@@ -76,23 +89,19 @@ abbrev pub filled : State → Spot → Result State Errno
 filled s at =
     let process = at.process in
     let order = first_touch_order s.layout s.online process.home process.allowed at.area.1.policy (shown_at at).index in
-    allocated s at (first_free s order)
+    allocated s at (first_free s.free order)
 
 -- a page that others may show has a frame already, or gets one
 abbrev pub joined : State → Spot → Option ℕ → Result State Errno
 joined s at (Some frame) = Ok (with_sight s at (Sees (shown_at at)))
 joined s at None = filled s at
 
--- whether the page is of a shared segment
-abbrev pub is_shared : State → Page → Bool
-is_shared s p = unwrap_or (option_map (λ segment. segment.shared) (get nat_cmp s.segments p.segment)) false
-
 -- an entry that shows a page is used; the page of zeros serves reads of private pages
 abbrev pub touched_entry : State → Spot → Bool → Option Sight → Result State Errno
 touched_entry s at writes (Some (Sees page)) = Ok s
 touched_entry s at writes (Some ZeroPage) = if writes then filled s at else Ok s
 touched_entry s at writes None =
-    if is_shared s (shown_at at) then joined s at (get page_cmp s.place (shown_at at))
+    if is_shared s.segments (shown_at at).segment then joined s at (get page_cmp s.place (shown_at at))
     else (if writes then filled s at else Ok (with_sight s at ZeroPage))
 
 -- the entry there is touched, if nothing is refused
@@ -129,10 +138,6 @@ read_after s pid address len (Ok t) = record { state = t; answer = Bytes (mem_ra
 -- the bytes there
 abbrev pub read : State → ℕ → ℕ → ℕ → Answered
 read s pid address len = read_after s pid address len (touch s pid address len false)
-
--- the list with these in the place of as many from an index on
-abbrev pub overwrite : List ℕ → ℕ → List ℕ → List ℕ
-overwrite old i new = take i old ++ new ++ drop (i + length new) old
 
 -- the page that is seen has these bytes from a place in it on
 abbrev pub with_bytes : State → Option Sight → ℕ → List ℕ → State

@@ -1,6 +1,6 @@
 //! The calls that change processes and areas, and those that tell what there is.
 
-ghost use Rattle.std.specs.Prelude.{◌≡◌, ◌≤◌, [], nat_le, option_map, IfOk};
+ghost use Rattle.std.specs.Prelude.{◌≡◌, ◌≤◌, [], true, nat_le, option_map, IfOk};
 ghost use Rattle.std.specs.List.{list_any};
 ghost use Rattle.std.specs.Ordering.{nat_cmp};
 ghost use Rattle.nm_types.specs.Map.{get};
@@ -15,7 +15,7 @@ ghost use Rattle.nm_engine.specs.Entries.{entries_of};
 ghost use Rattle.nm_engine.specs.Audited.{audited};
 ghost use Rattle.nm_engine.specs.Sound.{IsSound};
 ghost use Rattle.nm_engine.specs.Amid.{with_state};
-ghost use Rattle.nm_engine.specs.Does.{Makes, Tells};
+ghost use Rattle.nm_engine.specs.Does.{Makes, Tells, AsksLast};
 
 use crate::machine::Totals;
 use crate::machine_error::MachineError;
@@ -68,6 +68,7 @@ impl<A: Allocator + Copy> Parts<A> {
     pub(crate) fn totals(&self) -> Totals
         ensures moved { result.moved ≡ self.now.state.moved }
         ensures failed { result.failed ≡ self.now.state.failed }
+        ensures sound { self.now.left ≡ [] → IsSound self.now.state }
     {
         self.totals
     }
@@ -76,6 +77,7 @@ impl<A: Allocator + Copy> Parts<A> {
     pub(crate) fn spawn(&mut self, pid: Pid, info: ProcessInfo) -> Result<(), MachineError>
         requires { self.old.left ≡ [] }
         ensures done { Makes result self.old.state self.new.state (spawn_refusal self.old.state pid info.home info.allowed) (spawn self.old.state pid info.uid info.home info.allowed info.privileged) }
+        ensures memory { AsksLast result (spawn_refusal self.old.state pid info.home info.allowed) }
         ensures same { self.new ≡ with_state self.old self.new.state }
     {
         let count = self.stock.node_count();
@@ -104,6 +106,7 @@ impl<A: Allocator + Copy> Parts<A> {
     ) -> Result<u32, MachineError>
         requires { self.old.left ≡ [] }
         ensures done { Makes result self.old.state self.new.state (map_refusal self.old.state pid addr pages) (map_new self.old.state pid addr pages shared) }
+        ensures memory { AsksLast result (map_refusal self.old.state pid addr pages) }
         ensures number { IfOk result (λ number. number ≡ self.old.state.next_segment) }
         ensures same { self.new ≡ with_state self.old self.new.state }
     {
@@ -124,6 +127,7 @@ impl<A: Allocator + Copy> Parts<A> {
     ) -> Result<(), MachineError>
         requires { self.old.left ≡ [] }
         ensures done { Makes result self.old.state self.new.state (attach_refusal self.old.state pid addr segment offset pages) (attach self.old.state pid addr segment offset pages) }
+        ensures memory { AsksLast result (attach_refusal self.old.state pid addr segment offset pages) }
         ensures same { self.new ≡ with_state self.old self.new.state }
     {
         if self.spaces.info(pid).is_none() {
@@ -142,6 +146,7 @@ impl<A: Allocator + Copy> Parts<A> {
     ) -> Result<(), MachineError>
         requires { self.old.left ≡ [] }
         ensures done { Makes result self.old.state self.new.state (policy_refusal self.old.state pid addr len) (set_policy self.old.state pid addr len policy) }
+        ensures memory { AsksLast result (policy_refusal self.old.state pid addr len) }
         ensures same { self.new ≡ with_state self.old self.new.state }
     {
         if self.spaces.info(pid).is_none() {
@@ -152,7 +157,8 @@ impl<A: Allocator + Copy> Parts<A> {
 
     /// The free frames of a node, the front first.
     pub(crate) fn free_list(&self, node: NodeId) -> Result<Vec<FrameId, A>, MachineError>
-        ensures { Tells result (list_refusal self.now.state node) (λ frames. frames.items ≡ free_list self.now.state node) }
+        ensures told { Tells result (list_refusal self.now.state node) (λ frames. frames.items ≡ free_list self.now.state node) }
+        ensures memory { AsksLast result (list_refusal self.now.state node) }
     {
         if node.index() >= self.stock.node_count() {
             return Err(MachineError::Refused(Errno::Einval));
@@ -162,7 +168,8 @@ impl<A: Allocator + Copy> Parts<A> {
 
     /// What the process has at the page numbers that it has touched, upwards.
     pub(crate) fn entries(&self, pid: Pid) -> Result<Vec<(Vpn, Entry), A>, MachineError>
-        ensures { Tells result (entries_refusal self.now.state pid) (λ entries. entries.items ≡ entries_of self.now.state pid) }
+        ensures told { Tells result (entries_refusal self.now.state pid) (λ entries. entries.items ≡ entries_of self.now.state pid) }
+        ensures memory { AsksLast result (entries_refusal self.now.state pid) }
     {
         match self.spaces.entries(pid)? {
             Some(entries) => Ok(entries),
@@ -172,7 +179,8 @@ impl<A: Allocator + Copy> Parts<A> {
 
     /// Whether each frame stands once, in its own node's list or as the place of a page.
     pub(crate) fn audit(&self) -> Result<bool, AllocError>
-        ensures { IfOk result (λ b. b ≡ audited self.now.state) }
+        ensures told { IfOk result (λ b. b ≡ audited self.now.state) }
+        ensures sound { self.now.left ≡ [] → IfOk result (λ b. b ≡ true) }
     {
         let places = self.spaces.places()?;
         let once = self.stock.audit(self.alloc, places.as_slice())?;

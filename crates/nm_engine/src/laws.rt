@@ -1,6 +1,6 @@
 //! Laws over the definitions alone, and worked examples.
 
-ghost use Rattle.nm_engine.specs.Laws.{DecidingKeepsMemory, FreeingKeepsMemory, BatchKeepsMemory, ReadingKeepsMemory, WritingIsExact, PolicyKeepsMemory, LooksSuffice, PlanIsOneByOne, AccessIsSound, RunIsSound, BatchIsSound, NewIsSound, SpawnIsSound, MapIsSound, AttachIsSound, PinIsSound, PolicyIsSound, UnmapIsSound, ExitIsSound};
+ghost use Rattle.nm_engine.specs.Laws.{DecidingKeepsMemory, FreeingKeepsMemory, BatchKeepsMemory, ReadingKeepsMemory, WritingIsExact, PolicyKeepsMemory, LooksSuffice, LooksAreBounded, SoundIsAudited, PlanIsOneByOne, AccessIsSound, RunIsSound, BatchIsSound, NewIsSound, SpawnIsSound, MapIsSound, AttachIsSound, PinIsSound, UnpinIsSound, PolicyIsSound, UnmapIsSound, ExitIsSound};
 ghost use Rattle.nm_engine.specs.Starts.{StartsAreSound};
 ghost use Rattle.nm_engine.specs.Moving.{ThreePagesMove, MovedPageReads, EmptyBatchDoesNothing, OnePageTwiceMovesOnce, ShortageStopsTwoOfFour, LaterRunTakesFrameOfEarlier, EarlierRunFindsNone, PageGoesAndComesHome};
 ghost use Rattle.nm_engine.specs.Sharing.{TwoAddressesAreOneProcess, SharedPageStays, SharedPageIsOnTarget, SharedPageMovesForBoth};
@@ -23,14 +23,20 @@ pub fn writes_are_exact()
 {}
 
 /// A look at a page number of a process, which counts the processes that see the page, tells what is to be done with a
-/// request.
+/// request, and the number is at most that of the processes that may be alive.
 pub fn looks_suffice()
-    ensures { LooksSuffice }
+    ensures told { LooksSuffice }
+    ensures bounded { LooksAreBounded }
 {}
 
 /// To class the requests of a run at its start and then decide is to decide one after another.
 pub fn plan_is_one_by_one()
     ensures { PlanIsOneByOne }
+{}
+
+/// An audit of a sound machine finds each frame in one place.
+pub fn sound_is_audited()
+    ensures { SoundIsAudited }
 {}
 
 /// Reads and writes, runs with their accesses in flight, and batches keep a machine sound.
@@ -47,6 +53,7 @@ pub fn calls_keep_soundness()
     ensures map { MapIsSound }
     ensures attach { AttachIsSound }
     ensures pin { PinIsSound }
+    ensures unpin { UnpinIsSound }
     ensures policies { PolicyIsSound }
     ensures unmap { UnmapIsSound }
     ensures exit { ExitIsSound }

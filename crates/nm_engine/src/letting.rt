@@ -10,7 +10,7 @@ ghost use Rattle.nm_engine.specs.Refused.{is_range, is_unknown, pins_refusal, pi
 ghost use Rattle.nm_engine.specs.Effect.{pin, unpin, dropped, unmap, exit};
 ghost use Rattle.nm_engine.specs.Stocked.{pool_of, CanFree, with_freed};
 ghost use Rattle.nm_engine.specs.Amid.{with_state};
-ghost use Rattle.nm_engine.specs.Does.{Makes, Alters};
+ghost use Rattle.nm_engine.specs.Does.{Makes, Alters, AsksLast};
 
 use crate::machine_error::MachineError;
 use crate::parts::Parts;
@@ -81,6 +81,7 @@ impl<A: Allocator + Copy> Parts<A> {
     pub(crate) fn unmap(&mut self, pid: Pid, addr: u64, pages: u64) -> Result<(), MachineError>
         requires { self.old.left ≡ [] }
         ensures done { Makes result self.old.state self.new.state (unmap_refusal self.old.state pid addr pages) (unmap self.old.state pid addr pages) }
+        ensures memory { AsksLast result (unmap_refusal self.old.state pid addr pages) }
         ensures same { self.new ≡ with_state self.old self.new.state }
     {
         if self.spaces.info(pid).is_none() {
@@ -102,6 +103,7 @@ impl<A: Allocator + Copy> Parts<A> {
     pub(crate) fn exit(&mut self, pid: Pid) -> Result<(), MachineError>
         requires { self.old.left ≡ [] }
         ensures done { Makes result self.old.state self.new.state (exit_refusal self.old.state pid) (exit self.old.state pid) }
+        ensures memory { AsksLast result (exit_refusal self.old.state pid) }
         ensures same { self.new ≡ with_state self.old self.new.state }
     {
         if self.spaces.info(pid).is_none() {
@@ -124,7 +126,7 @@ impl<A: Allocator + Copy> Parts<A> {
         requires left { self.old.left ≡ [] }
         requires known { is_unknown self.old.state pid ≡ false }
         requires range { is_range addr pages ≡ true }
-        requires unpinned { shows_pinned self.old.state pid (addr / 4096) (addr / 4096 + pages) ≡ false }
+        requires unpinned { shows_pinned self.old.state.areas self.old.state.pins pid (addr / 4096) (addr / 4096 + pages) ≡ false }
         ensures done { Makes result self.old.state self.new.state None (dropped self.old.state pid (addr / 4096) (addr / 4096 + pages)) }
         ensures same { self.new ≡ with_state self.old self.new.state }
     {

@@ -1,14 +1,14 @@
 //! The machine.
 
-ghost use Rattle.std.specs.Prelude.{◌≡◌, ◌<◌, ◌≤◌, [], false, IfOk, OnOk, OnErr, option_map, None};
+ghost use Rattle.std.specs.Prelude.{◌≡◌, ◌<◌, ◌≤◌, [], true, false, length, IfOk, OnOk, OnErr, option_map, None};
 ghost use Rattle.std.specs.Ordering.{nat_cmp};
 ghost use Rattle.nm_types.specs.Map.{get};
 ghost use Rattle.nm_types.specs.Layout.{node_count};
 ghost use Rattle.nm_types.specs.Nodes.{is_in};
 ghost use Rattle.nm_types.specs.State.{free_list};
 ghost use Rattle.nm_engine.specs.Tables.{info_of};
-ghost use Rattle.nm_engine.specs.Touch.{Bytes, Done, read, write};
-ghost use Rattle.nm_engine.specs.Run.{run};
+ghost use Rattle.nm_engine.specs.Touch.{Bytes, Done, read, write, spot_refusal};
+ghost use Rattle.nm_engine.specs.Run.{run, HasOneAll};
 ghost use Rattle.nm_engine.specs.Effect.{new_machine, spawn, map_new, attach, pin, unpin, unmap, exit};
 ghost use Rattle.nm_engine.specs.Refused.{spawn_refusal, map_refusal, attach_refusal, pin_refusal, unpin_refusal, unmap_refusal, exit_refusal, list_refusal, entries_refusal};
 ghost use Rattle.nm_engine.specs.Policing.{policy_refusal, set_policy};
@@ -16,7 +16,7 @@ ghost use Rattle.nm_engine.specs.Entries.{entries_of};
 ghost use Rattle.nm_engine.specs.Audited.{audited};
 ghost use Rattle.nm_engine.specs.Asking.{node_status};
 ghost use Rattle.nm_engine.specs.Sound.{IsSound};
-ghost use Rattle.nm_engine.specs.Does.{Makes, Alters, Tells, Accesses};
+ghost use Rattle.nm_engine.specs.Does.{Makes, Alters, Tells, Accesses, AsksLast};
 
 use crate::machine_error::MachineError;
 use crate::parts::Parts;
@@ -90,10 +90,11 @@ impl<A: Allocator + Copy + Send + Sync> Machine<A> {
         self.parts.process(pid)
     }
 
-    /// How many pages moved and how many requests failed so far.
+    /// How many pages moved and how many requests failed so far. Between two calls a machine is sound.
     pub fn totals(&self) -> Totals
         ensures moved { result.moved ≡ self.now.moved }
         ensures failed { result.failed ≡ self.now.failed }
+        ensures sound { IsSound self.now }
     {
         self.parts.totals()
     }
@@ -109,7 +110,8 @@ impl<A: Allocator + Copy + Send + Sync> Machine<A> {
         allowed: NodeMask,
         privileged: bool,
     ) -> Result<(), MachineError>
-        ensures { Makes result self.old self.new (spawn_refusal self.old pid home allowed) (spawn self.old pid uid home allowed privileged) }
+        ensures done { Makes result self.old self.new (spawn_refusal self.old pid home allowed) (spawn self.old pid uid home allowed privileged) }
+        ensures memory { AsksLast result (spawn_refusal self.old pid home allowed) }
     {
         let info = ProcessInfo {
             uid,
@@ -132,6 +134,7 @@ impl<A: Allocator + Copy + Send + Sync> Machine<A> {
         shared: bool,
     ) -> Result<u32, MachineError>
         ensures done { Makes result self.old self.new (map_refusal self.old pid addr pages) (map_new self.old pid addr pages shared) }
+        ensures memory { AsksLast result (map_refusal self.old pid addr pages) }
         ensures number { IfOk result (λ number. number ≡ self.old.next_segment) }
     {
         self.parts.map(pid, addr, pages, shared)
@@ -148,7 +151,8 @@ impl<A: Allocator + Copy + Send + Sync> Machine<A> {
         offset: u64,
         pages: u64,
     ) -> Result<(), MachineError>
-        ensures { Makes result self.old self.new (attach_refusal self.old pid addr segment offset pages) (attach self.old pid addr segment offset pages) }
+        ensures done { Makes result self.old self.new (attach_refusal self.old pid addr segment offset pages) (attach self.old pid addr segment offset pages) }
+        ensures memory { AsksLast result (attach_refusal self.old pid addr segment offset pages) }
     {
         self.parts.attach(pid, addr, segment, offset, pages)
     }
@@ -175,7 +179,8 @@ impl<A: Allocator + Copy + Send + Sync> Machine<A> {
     /// address, a page at its lowest. ESRCH without such a process; EINVAL for an address that is no multiple of 4,096,
     /// no page, or an end beyond 2^47; EBUSY where an area shows a pinned page there.
     pub fn unmap(&mut self, pid: Pid, addr: u64, pages: u64) -> Result<(), MachineError>
-        ensures { Makes result self.old self.new (unmap_refusal self.old pid addr pages) (unmap self.old pid addr pages) }
+        ensures done { Makes result self.old self.new (unmap_refusal self.old pid addr pages) (unmap self.old pid addr pages) }
+        ensures memory { AsksLast result (unmap_refusal self.old pid addr pages) }
     {
         self.parts.unmap(pid, addr, pages)
     }
@@ -183,7 +188,8 @@ impl<A: Allocator + Copy + Send + Sync> Machine<A> {
     /// A process lets go all that it has, as by one `unmap`, and is no more. Its pid may come again. ESRCH without such a
     /// process; EBUSY where one of its areas shows a pinned page.
     pub fn exit(&mut self, pid: Pid) -> Result<(), MachineError>
-        ensures { Makes result self.old self.new (exit_refusal self.old pid) (exit self.old pid) }
+        ensures done { Makes result self.old self.new (exit_refusal self.old pid) (exit self.old pid) }
+        ensures memory { AsksLast result (exit_refusal self.old pid) }
     {
         self.parts.exit(pid)
     }
@@ -199,7 +205,8 @@ impl<A: Allocator + Copy + Send + Sync> Machine<A> {
         len: u64,
         policy: Policy,
     ) -> Result<(), MachineError>
-        ensures { Makes result self.old self.new (policy_refusal self.old pid addr len) (set_policy self.old pid addr len policy) }
+        ensures done { Makes result self.old self.new (policy_refusal self.old pid addr len) (set_policy self.old pid addr len policy) }
+        ensures memory { AsksLast result (policy_refusal self.old pid addr len) }
     {
         self.parts.set_policy(pid, addr, len, policy)
     }
@@ -208,7 +215,8 @@ impl<A: Allocator + Copy + Send + Sync> Machine<A> {
     /// EINVAL for no byte, or bytes past the page's end; EFAULT without an area there; ENOMEM where shared memory wants a
     /// frame and no node that may give one has any.
     pub fn read(&mut self, pid: Pid, addr: u64, len: u64) -> Result<Vec<u8, A>, MachineError>
-        ensures { Accesses result (λ bytes. Bytes bytes.items) self.old self.new (read self.old pid addr len) }
+        ensures answer { Accesses result (λ bytes. Bytes bytes.items) self.old self.new (read self.old pid addr len) }
+        ensures memory { AsksLast result (spot_refusal self.old pid addr len) }
     {
         self.parts.read(pid, addr, len)
     }
@@ -216,7 +224,8 @@ impl<A: Allocator + Copy + Send + Sync> Machine<A> {
     /// Writes 1 to 4,096 bytes inside one page. ESRCH, EINVAL and EFAULT as for `read`; ENOMEM where the page has no frame
     /// yet and no node that may give one has any. A refused write changes nothing.
     pub fn write(&mut self, pid: Pid, addr: u64, bytes: &[u8]) -> Result<(), MachineError>
-        ensures { Accesses result (λ done. Done) self.old self.new (write self.old pid addr bytes.now) }
+        ensures answer { Accesses result (λ done. Done) self.old self.new (write self.old pid addr bytes.now) }
+        ensures memory { AsksLast result (spot_refusal self.old pid addr (length bytes.now)) }
     {
         self.parts.write(pid, addr, bytes)
     }
@@ -226,10 +235,12 @@ impl<A: Allocator + Copy + Send + Sync> Machine<A> {
     /// (ENOENT) where nothing was touched; -13 (EACCES) where another process sees the page and the request does not ask
     /// for all; -16 (EBUSY) for a pinned page; -12 (ENOMEM) where the target has no free frame. A page takes the front of the
     /// target's free frames. The frames that pages leave become free at the run's end, in the order of the moves. The
-    /// totals count the moves, and the requests with -16 or -12. An error is want of memory, and means that the machine is
-    /// as it was.
+    /// totals count the moves, and the requests with -16 or -12. The requests are all by address, with one `all`, or all by
+    /// page: then their classes at the run's start are those that they have one after another. An error is want of memory,
+    /// and means that the machine is as it was.
     pub fn run_flight(&mut self, requests: &Run<A>) -> Result<Vec<i32, A>, AllocError>
-        requires { requests.now.target < node_count self.old.layout }
+        requires target { requests.now.target < node_count self.old.layout }
+        requires alike { HasOneAll requests.now.wanted.items }
         ensures statuses { IfOk result (λ statuses. statuses.items ≡ (run self.old requests.now.target requests.now.wanted.items []).statuses) }
         ensures state { OnOk result (self.new ≡ (run self.old requests.now.target requests.now.wanted.items []).state) }
         ensures err { OnErr result (self.new ≡ self.old) }
@@ -245,14 +256,16 @@ impl<A: Allocator + Copy + Send + Sync> Machine<A> {
 
     /// The free frames of a node, the front first. EINVAL where there is no such node.
     pub fn free_list(&self, node: NodeId) -> Result<Vec<FrameId, A>, MachineError>
-        ensures { Tells result (list_refusal self.now node) (λ frames. frames.items ≡ free_list self.now node) }
+        ensures told { Tells result (list_refusal self.now node) (λ frames. frames.items ≡ free_list self.now node) }
+        ensures memory { AsksLast result (list_refusal self.now node) }
     {
         self.parts.free_list(node)
     }
 
     /// What the process has at the page numbers that it has touched, upwards. ESRCH without such a process.
     pub fn entries(&self, pid: Pid) -> Result<Vec<(Vpn, Entry), A>, MachineError>
-        ensures { Tells result (entries_refusal self.now pid) (λ entries. entries.items ≡ entries_of self.now pid) }
+        ensures told { Tells result (entries_refusal self.now pid) (λ entries. entries.items ≡ entries_of self.now pid) }
+        ensures memory { AsksLast result (entries_refusal self.now pid) }
     {
         self.parts.entries(pid)
     }
@@ -266,9 +279,10 @@ impl<A: Allocator + Copy + Send + Sync> Machine<A> {
     }
 
     /// Whether each frame of the machine stands exactly once in its own node's list of free frames, or is the place of
-    /// exactly one page, and not both. An error is want of memory.
+    /// exactly one page, and not both: true, since a machine is sound. An error is want of memory.
     pub fn audit(&self) -> Result<bool, AllocError>
-        ensures { IfOk result (λ b. b ≡ audited self.now) }
+        ensures told { IfOk result (λ b. b ≡ audited self.now) }
+        ensures sound { IfOk result (λ b. b ≡ true) }
     {
         self.parts.audit()
     }

@@ -1,12 +1,12 @@
 //! Areas of address spaces that come, split and go.
 
-ghost use Rattle.std.specs.Prelude.{ℕ, true, false, ◌≡◌, ◌<◌, ◌≤◌, ◌+◌, ◌/◌, [], length, Some, IfOk, OnOk, OnErr};
+ghost use Rattle.std.specs.Prelude.{ℕ, true, false, ◌≡◌, ◌<◌, ◌≤◌, ◌+◌, ◌/◌, [], length, None, Some, Err, IfOk, OnOk, OnErr};
 ghost use Rattle.std.specs.List.{AllByRecursion};
 ghost use Rattle.std.specs.Map.{keys_of};
 ghost use Rattle.std.specs.Ordering.{nat_cmp};
 ghost use Rattle.std.specs.List.Sorted.{IsStrictlySortedBy};
 ghost use Rattle.nm_types.specs.Map.{get, without};
-ghost use Rattle.nm_types.specs.State.{Process, State};
+ghost use Rattle.nm_types.specs.State.{Process};
 ghost use Rattle.nm_areas.specs.Does.{Makes};
 ghost use Rattle.nm_areas.specs.Effect.{inserted, attached, with_policy};
 ghost use Rattle.nm_areas.specs.Refused.{insert_refusal, attach_refusal, policy_refusal, remove_refusal};
@@ -34,6 +34,7 @@ impl<A: Allocator + Copy> Spaces<A> {
         shared: bool,
     ) -> Result<u32, AreaError>
         ensures done { Makes result (mapped_of self.old) (mapped_of self.new) (insert_refusal (mapped_of self.old) pid addr pages) (inserted (mapped_of self.old) pid addr pages shared) }
+        ensures memory { result ≡ Err AreaError.HostMemory → insert_refusal (mapped_of self.old) pid addr pages ≡ None }
         ensures number { IfOk result (λ number. number ≡ self.old.next) }
         ensures same { self.new ≡ with_mapped self.old (mapped_of self.new) }
     {
@@ -50,6 +51,7 @@ impl<A: Allocator + Copy> Spaces<A> {
         pages: u64,
     ) -> Result<(), AreaError>
         ensures done { Makes result (mapped_of self.old) (mapped_of self.new) (attach_refusal (mapped_of self.old) pid addr segment offset pages) (attached (mapped_of self.old) pid addr segment offset pages) }
+        ensures memory { result ≡ Err AreaError.HostMemory → attach_refusal (mapped_of self.old) pid addr segment offset pages ≡ None }
         ensures same { self.new ≡ with_mapped self.old (mapped_of self.new) }
     {
         self.areas.attach(pid, addr, segment, offset, pages)
@@ -64,6 +66,7 @@ impl<A: Allocator + Copy> Spaces<A> {
         policy: Policy,
     ) -> Result<(), AreaError>
         ensures done { Makes result (mapped_of self.old) (mapped_of self.new) (policy_refusal (mapped_of self.old) pid addr len) (with_policy (mapped_of self.old) pid addr len policy) }
+        ensures memory { result ≡ Err AreaError.HostMemory → policy_refusal (mapped_of self.old) pid addr len ≡ None }
         ensures same { self.new ≡ with_mapped self.old (mapped_of self.new) }
     {
         self.areas.split_policy(pid, addr, len, policy)
@@ -72,7 +75,7 @@ impl<A: Allocator + Copy> Spaces<A> {
     /// Whether an area of a process shows a pinned page from one page number up to another.
     pub(crate) fn has_pinned(&self, pid: Pid, first: Vpn, end: Vpn) -> bool
         requires { first ≤ end }
-        ensures { (s : State) → s.areas ≡ self.now.areas → s.pins ≡ self.now.pins → result ≡ shows_pinned s pid first end }
+        ensures { result ≡ shows_pinned self.now.areas self.now.pins pid first end }
     {
         let mut at = first.number();
         while let Some((vpn, frame)) = self.areas.frame_from(pid, Vpn::new(at), end) {
@@ -92,7 +95,7 @@ impl<A: Allocator + Copy> Spaces<A> {
         addr: u64,
         pages: u64,
     ) -> Result<Vec<(Page, FrameId), A>, AreaError>
-        requires unpinned { (s : State) → s.areas ≡ self.old.areas → s.pins ≡ self.old.pins → shows_pinned s pid (addr / 4096) (addr / 4096 + pages) ≡ false }
+        requires unpinned { shows_pinned self.old.areas self.old.pins pid (addr / 4096) (addr / 4096 + pages) ≡ false }
         ensures done { Makes result (mapped_of self.old) (mapped_of self.new) (remove_refusal addr pages) (removed (mapped_of self.old) pid (addr / 4096) (addr / 4096 + pages)) }
         ensures ok { OnOk result (self.new ≡ without_range self.old pid (addr / 4096) (addr / 4096 + pages)) }
         ensures freed { IfOk result (λ freed. freed.items ≡ frames_lost (mapped_of self.old) pid (addr / 4096) (addr / 4096 + pages)) }

@@ -112,7 +112,8 @@ impl<A: Allocator + Copy> Spaces<A> {
 
     /// What stands in the page table of a process, upwards, or None where there is no such process.
     pub(crate) fn entries(&self, pid: Pid) -> Result<Option<Vec<(Vpn, Entry), A>>, AllocError>
-        ensures { IfOk result (λ all. option_map (λ entries. entries.items) all ≡ option_map (λ (p : Process). with_values (λ v sight. entry_of self.now.place sight) p.sees) (get nat_cmp self.now.processes pid)) }
+        ensures entries { IfOk result (λ all. option_map (λ entries. entries.items) all ≡ option_map (λ (p : Process). with_values (λ v sight. entry_of self.now.place sight) p.sees) (get nat_cmp self.now.processes pid)) }
+        ensures memory { OnErr result (IsSome (get nat_cmp self.now.processes pid)) }
     {
         self.tasks.entries(pid)
     }

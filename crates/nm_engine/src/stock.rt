@@ -5,7 +5,7 @@ ghost use Rattle.nm_types.specs.Layout.{node_count, frame_count, node_of};
 ghost use Rattle.nm_nodes.specs.Pool.{list_of, appended};
 ghost use Rattle.nm_frames.specs.Store.{IsHome, bytes_of, overwrite};
 ghost use Rattle.nm_engine.specs.Audited.{is_audited, numbered};
-ghost use Rattle.nm_engine.specs.Effect.{all_frames};
+ghost use Rattle.nm_nodes.specs.Pool.{all_frames};
 ghost use Rattle.nm_engine.specs.Stocked.{IsShelf, free_on, pool_of, all_freed, CanFree, with_freed, stretch_of};
 
 use crate::audit;

@@ -74,7 +74,8 @@ impl<A: Allocator + Copy> Tasks<A> {
 
     /// All that stands in the table of a process, by page number.
     pub(crate) fn entries(&self, pid: Pid) -> Result<Option<Vec<(Vpn, Entry), A>>, AllocError>
-        ensures { IfOk result (λ all. option_map (λ entries. entries.items) all ≡ option_map task_table (get nat_cmp self.now pid)) }
+        ensures entries { IfOk result (λ all. option_map (λ entries. entries.items) all ≡ option_map task_table (get nat_cmp self.now pid)) }
+        ensures memory { OnErr result (IsSome (get nat_cmp self.now pid)) }
     {
         match self.tasks.get(&pid) {
             Some(task) => Ok(Some(task.table.entries()?)),

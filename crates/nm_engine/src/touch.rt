@@ -1,16 +1,16 @@
 //! Reads and writes.
 
-ghost use Rattle.std.specs.Prelude.{◌≡◌, ◌+◌, ◌/◌, ◌%◌, ◌≤◌, ◌++◌, true, replicate, vec_len, vec_capacity, Ok, Err, Some, None, IfOk, IfErr, IfNone, IsSome};
+ghost use Rattle.std.specs.Prelude.{◌≡◌, ◌+◌, ◌/◌, ◌%◌, ◌≤◌, ◌++◌, true, length, replicate, vec_len, vec_capacity, Ok, Err, Some, None, IfOk, IfErr, IfNone, IsSome};
 ghost use Rattle.std.specs.Ordering.{nat_cmp};
 ghost use Rattle.nm_types.specs.declared.page.Page.{Page};
 ghost use Rattle.nm_types.specs.declared.sight.Sight.TheVariants.{Sees, ZeroPage};
 ghost use Rattle.nm_types.specs.Map.{get, page_cmp};
-ghost use Rattle.nm_types.specs.State.{Process, State, Placed};
+ghost use Rattle.nm_types.specs.State.{Process, Placed};
 ghost use Rattle.nm_runs.specs.Seen.{sight_at};
 ghost use Rattle.nm_policy.specs.Order.{first_touch_order};
-ghost use Rattle.nm_engine.specs.Touch.{Bytes, Done, shown_at, spot, first_free, filled, joined, touched_entry, read, write};
+ghost use Rattle.nm_engine.specs.Touch.{Bytes, Done, shown_at, spot, first_free, filled, joined, touched_entry, read, write, spot_refusal};
 ghost use Rattle.nm_engine.specs.Amid.{spot_at, IsTouched, with_state};
-ghost use Rattle.nm_engine.specs.Does.{Touches, Accesses};
+ghost use Rattle.nm_engine.specs.Does.{AsksLast, Touches, Accesses};
 ghost use Rattle.nm_engine.specs.Seeing.{frame_seen};
 
 use crate::machine_error::MachineError;
@@ -26,6 +26,7 @@ impl<A: Allocator + Copy> Parts<A> {
     /// Reads bytes inside one page of a process.
     pub(crate) fn read(&mut self, pid: Pid, addr: u64, len: u64) -> Result<Vec<u8, A>, MachineError>
         ensures answer { Accesses result (λ bytes. Bytes bytes.items) self.old.state self.new.state (read self.old.state pid addr len) }
+        ensures memory { AsksLast result (spot_refusal self.old.state pid addr len) }
         ensures same { self.new ≡ with_state self.old self.new.state }
     {
         let touching = match self.touching(pid, addr, len) {
@@ -46,6 +47,7 @@ impl<A: Allocator + Copy> Parts<A> {
     /// Writes bytes inside one page of a process.
     pub(crate) fn write(&mut self, pid: Pid, addr: u64, bytes: &[u8]) -> Result<(), MachineError>
         ensures answer { Accesses result (λ done. Done) self.old.state self.new.state (write self.old.state pid addr bytes.now) }
+        ensures memory { AsksLast result (spot_refusal self.old.state pid addr (length bytes.now)) }
         ensures same { self.new ≡ with_state self.old self.new.state }
     {
         let touching = match self.touching(pid, addr, bytes.len() as u64) {
@@ -168,7 +170,7 @@ impl<A: Allocator + Copy> Parts<A> {
         policy: Policy,
         index: u64,
     ) -> Result<Option<NodeId>, AllocError>
-        ensures { IfOk result (λ found. found ≡ first_free self.now.state (first_touch_order self.now.state.layout self.now.state.online info.home info.allowed policy index)) }
+        ensures { IfOk result (λ found. found ≡ first_free self.now.state.free (first_touch_order self.now.state.layout self.now.state.online info.home info.allowed policy index)) }
     {
         let ProcessInfo { home, allowed, .. } = info;
         let order = first_touch_order(
@@ -186,7 +188,7 @@ impl<A: Allocator + Copy> Parts<A> {
 
 /// The first of these nodes that has a free frame.
 fn first_free<A: Allocator + Copy>(stock: &Stock<A>, order: &[NodeId]) -> Option<NodeId>
-    ensures { (s : State) → s.free ≡ stock.now.free → result ≡ first_free s order.now }
+    ensures { result ≡ first_free stock.now.free order.now }
 {
     for node in order {
         if stock.free_count(*node) > 0 {

@@ -1,6 +1,7 @@
 -- `refuses` at a call: what it is handed, and what its caller then has. Assumes `Logic`.
 use Rattle.std.proofs.Common.{◌≡◌, ℕ, Bool, List, [], ◌∷◌, refl, ap}
 use seplogic.Ra.Ura.{Ura}
+use mir.Syntax.{Args, a_type, dnil, dcons}
 use mir.Val.{Val, vbool, vptr}
 use base.Logic.{SProp, ent, sep, ex, guard, id⊢}
 use base.Fml.{Lft, Share, ftrue, fsep, flft}
@@ -11,15 +12,26 @@ use contract.Monad.{Fun}
 use types.Kit.{‵, ◌⊛◌, some, later, ◌$◌, ◌∵◌, !, qed, move, keep, use1, split, join, pick, fjoin, feq_i, feq_l, check, show, await, updating, now as at_once, done}
 use denote.RattleType.{RattleType}
 use denote.Memory.{hidden_shr}
-use denote.Builtin.{bool}
+use denote.Builtin.{bool, RefOf}
+use denote.Param.{bounded, param}
+use denote.Signature.{Slot, plain}
 use denote.Steps.{nothing, only}
 use denote.Triple.Statement.{Contract}
 use denote.Triple.Spec.{triple_of}
+use Rattle.std.proofs.alloc.Calls.{Al}
+use Rattle.nm_refusing.specs.contracts.Refusing as wrapper
 use Rattle.std.specs.contracts.sync.atomic.AtomicU64 as AT
 use Rattle.nm_refusing.specs.contracts.refuses as RF
 
 abbrev Calls : RattleType
 Calls = AT.the_row
+
+-- the allocator, as its methods are passed it
+abbrev pub args : Al → Args
+args Z = bounded (a_type ∷ []) (Z.row, tt) (dcons Z.d (dcons Z.drops dnil))
+
+abbrev pub self : Al → Slot 2
+self Z = RefOf (0 ∷ []) tt (plain (λ _. wrapper.the_row (param 0 Z.row))) (λ _. tt)
 
 module _ {M : Type 1} {𝓤 : Ura M} (𝓛 : Logic 𝓤) (at_mem : Memory → SProp 𝓤) (run : Routine → Fun 𝓤) where
   abbrev pub Refuses : Contract 𝓤

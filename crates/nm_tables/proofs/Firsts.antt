@@ -1,6 +1,6 @@
 -- The first entry at a number or past it.
-use Rattle.std.proofs.Common.{◌≡◌, ℕ, ◌≤◌, ◌<◌, List, [], ◌∷◌, true, false, refl, sym, ap, subst, ◌∙◌, arith}
-use Rattle.std.specs.Prelude.{Some, None, IsSome, Option, IfNone}
+use Rattle.std.proofs.Common.{◌≡◌, ℕ, ◌≤◌, ◌<◌, List, [], ◌∷◌, false, refl, sym, ap, subst, ◌∙◌, arith}
+use Rattle.std.specs.Prelude.{Some, None, IsSome}
 use Rattle.std.specs.BTreeMap.{BTreeMap}
 use Rattle.std.specs.BTreeMap.Range.{IsRangeOf}
 use Rattle.std.specs.declared.ops.Bound.TheVariants.{Included, Unbounded}
@@ -8,14 +8,8 @@ use Rattle.std.specs.Ordering.{nat_cmp, is_gt}
 use Rattle.std.specs.Cmp.{nat_cmp_is, ranked}
 use Rattle.std.specs.declared.cmp.Ordering.TheVariants.{Less, Equal, Greater}
 use Rattle.nm_types.specs.Map.{get}
+use Rattle.nm_types.proofs.Cases.{true_false}
 use Rattle.nm_tables.specs.declared.entry.Entry.{Entry}
-
-true_false : true ≡ false → ⊥
-true_false e = cc
-
-pub none_always : {T P : Type 0} (o : Option T) → P → IfNone o P
-none_always None p = p
-none_always (Some x) p = tt
 
 up_to : (a b : ℕ) → a ≤ b → is_gt (nat_cmp a b) ≡ false
 up_to a b l =

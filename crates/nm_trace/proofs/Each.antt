@@ -4,8 +4,8 @@ use Rattle.std.proofs.lemmas.List.{append-nil, drop_all}
 use Rattle.serde_json.specs.Data.{Data}
 use Rattle.serde_json.specs.View.{view, items_view}
 use Rattle.serde_json.specs.declared.value.Value.{Value}
-use Rattle.nm_trace.specs.declared.step.StepError.{StepError}
-use Rattle.nm_trace.specs.declared.step.StepError.TheVariants.{Bad, Memory}
+use Rattle.nm_trace.specs.declared.step_error.StepError.{StepError}
+use Rattle.nm_trace.specs.declared.step_error.StepError.TheVariants.{Bad, Memory}
 use Rattle.nm_calls.specs.Calls.{Call}
 use Rattle.nm_trace.specs.Form.{◌>>=◌, each, step_of}
 use Rattle.nm_trace.specs.Faults.{first_bad}

@@ -2,9 +2,8 @@
 use Rattle.std.proofs.Common.{◌≡◌, ℕ, ◌≤◌, List, [], ◌++◌, length, take, Option, Some, None, IfSome, IfErr, Result, Ok, Err, ◌⊎◌, refl, sym, ap, ◌∙◌, subst, append_assoc, inl, inr, arith}
 use Rattle.std.proofs.lemmas.List.{append-nil}
 use Rattle.std.specs.Io.KnownBytes.{Appends}
-use Rattle.nm_types.specs.State.{State}
+use Rattle.nm_calls.specs.Systems.{SystemState, system_with}
 use Rattle.nm_calls.specs.Calls.{Call}
-use Rattle.nm_calls.specs.Outcome.{new_machine}
 use Rattle.nm_trace.specs.declared.playing.Summary.{Summary}
 use Rattle.nm_trace.specs.declared.trace_error.TraceError.{TraceError}
 use Rattle.nm_trace.specs.declared.trace_error.TraceError.TheVariants.{NotJson, BadMachine, BadStep, ReadFault, WriteFault, HostMemory}
@@ -25,12 +24,12 @@ runs_if trace plan old new (Err WriteFault) t p = (plan, t, p)
 runs_if trace plan old new (Err (HostMemory k)) t p = inr (plan, t, p)
 
 -- what was played of the bytes
-pub runs : (bytes : List ℕ) (plan : Plan) (s t : State) (calls : List Call) (old new : Option (List ℕ)) (result : Result Summary TraceError) → trace_of bytes ≡ Ok plan → s ≡ new_machine plan.layout → calls ≡ plan.calls → Plays s calls t old new result → Runs (trace_of bytes) old new result
+pub runs : (bytes : List ℕ) (plan : Plan) (s t : SystemState) (calls : List Call) (old new : Option (List ℕ)) (result : Result Summary TraceError) → trace_of bytes ≡ Ok plan → s ≡ system_with plan.layout plan.run_limit → calls ≡ plan.calls → Plays s calls t old new result → Runs (trace_of bytes) old new result
 runs bytes plan s t calls old new result is start same p =
-    runs_if (trace_of bytes) plan old new result is (t, subst (λ (cs : List Call). Plays (new_machine plan.layout) cs t old new result) same (subst (λ (u : State). Plays u calls t old new result) start p))
+    runs_if (trace_of bytes) plan old new result is (t, subst (λ (cs : List Call). Plays (system_with plan.layout plan.run_limit) cs t old new result) same (subst (λ (u : SystemState). Plays u calls t old new result) start p))
 
 -- nothing is written where no step was completed
-pub silent : (s t : State) (calls : List Call) (old new : Option (List ℕ)) (result : Result Summary TraceError) → Plays s calls t old new result → IfErr result (λ e. IsSilent e old new)
+pub silent : (s t : SystemState) (calls : List Call) (old new : Option (List ℕ)) (result : Result Summary TraceError) → Plays s calls t old new result → IfErr result (λ e. IsSilent e old new)
 silent s t calls old new (Ok summary) p = tt
 silent s t calls old new (Err NotJson) p = absurd p
 silent s t calls old new (Err BadMachine) p = absurd p
@@ -49,7 +48,7 @@ nothing (Err e) old new a = a
 ends_early : (trace : Result Plan TraceError) (plan : Plan) (old new : Option (List ℕ)) → trace ≡ Ok plan → AppendsFront old new (report_of plan) → WritesFront trace old new
 ends_early trace plan old new t a = rw t a
 
-pub front_played : (s t : State) (calls : List Call) (old new : Option (List ℕ)) (result : Result Summary TraceError) → Plays s calls t old new result → AppendsFront old new (report_from 0 s calls)
+pub front_played : (s t : SystemState) (calls : List Call) (old new : Option (List ℕ)) (result : Result Summary TraceError) → Plays s calls t old new result → AppendsFront old new (report_from 0 s calls)
 front_played s t calls old new (Ok summary) p = (report_from 0 s calls, [], append-nil (report_from 0 s calls), p.2)
 front_played s t calls old new (Err NotJson) p = absurd p
 front_played s t calls old new (Err BadMachine) p = absurd p
@@ -70,14 +69,14 @@ front_played s t calls old new (Err (HostMemory k)) p =
 
 -- what a run wrote is a front of the report
 pub front : (trace : Result Plan TraceError) (old new : Option (List ℕ)) (result : Result Summary TraceError) → Runs trace old new result → IfErr result (λ e. IsSilent e old new) → WritesFront trace old new
-front trace old new (Ok summary) r q = ends_early trace r.0 old new r.1 (front_played (new_machine r.0.layout) r.2.0 r.0.calls old new (Ok summary) r.2.1)
+front trace old new (Ok summary) r q = ends_early trace r.0 old new r.1 (front_played (system_with r.0.layout r.0.run_limit) r.2.0 r.0.calls old new (Ok summary) r.2.1)
 front trace old new (Err NotJson) r q = nothing trace old new q
 front trace old new (Err BadMachine) r q = nothing trace old new q
 front trace old new (Err (BadStep k)) r q = nothing trace old new q
 front trace old new (Err ReadFault) r q = nothing trace old new q
-front trace old new (Err WriteFault) r q = ends_early trace r.0 old new r.1 (front_played (new_machine r.0.layout) r.2.0 r.0.calls old new (Err WriteFault) r.2.1)
+front trace old new (Err WriteFault) r q = ends_early trace r.0 old new r.1 (front_played (system_with r.0.layout r.0.run_limit) r.2.0 r.0.calls old new (Err WriteFault) r.2.1)
 front trace old new (Err (HostMemory k)) (inl z) q = nothing trace old new (q z)
-front trace old new (Err (HostMemory k)) (inr r) q = ends_early trace r.0 old new r.1 (front_played (new_machine r.0.layout) r.2.0 r.0.calls old new (Err (HostMemory k)) r.2.1)
+front trace old new (Err (HostMemory k)) (inr r) q = ends_early trace r.0 old new r.1 (front_played (system_with r.0.layout r.0.run_limit) r.2.0 r.0.calls old new (Err (HostMemory k)) r.2.1)
 
 -- ---- the bytes that were read
 

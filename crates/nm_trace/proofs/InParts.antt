@@ -5,37 +5,37 @@ use Rattle.std.proofs.lemmas.Option.{slice_get_within, get_or_from_slice_get}
 use Rattle.std.proofs.Math.ListN.{get_or-map}
 use Rattle.std.specs.Prelude.{slice_get}
 use Rattle.std.specs.Io.KnownBytes.{Appends}
-use Rattle.nm_types.specs.State.{State}
+use Rattle.nm_calls.specs.Systems.{SystemState}
 use Rattle.nm_calls.specs.Calls.{Call}
 use Rattle.nm_calls.specs.Outcome.{Outcome, outcome}
-use Rattle.nm_trace.specs.Report.{line_of, report_from, state_after}
+use Rattle.nm_trace.specs.Report.{text_of, report_from, state_after}
 use Rattle.nm_trace.specs.Played.{BreaksOff}
 use Rattle.nm_trace.proofs.Known.{appends_more}
 
-pub report_append : (k : ℕ) (s : State) (xs ys : List Call) → report_from k s (xs ++ ys) ≡ report_from k s xs ++ report_from (k + length xs) (state_after s xs) ys
+pub report_append : (k : ℕ) (s : SystemState) (xs ys : List Call) → report_from k s (xs ++ ys) ≡ report_from k s xs ++ report_from (k + length xs) (state_after s xs) ys
 report_append k s [] ys = let e : k ≡ k + 0 = omega arith in ap (λ (j : ℕ). report_from j s ys) e
 report_append k s (x ∷ xs) ys =
     let o : Outcome = outcome s x in
     let e : (k + 1) + length xs ≡ k + suc (length xs) = omega arith in
-    rw (report_append (k + 1) o.state xs ys, e) (sym (append_assoc (line_of k x o.answer) (report_from (k + 1) o.state xs) (report_from (k + suc (length xs)) (state_after o.state xs) ys)))
+    rw (report_append (k + 1) o.system xs ys, e) (sym (append_assoc (text_of k x o.answer) (report_from (k + 1) o.system xs) (report_from (k + suc (length xs)) (state_after o.system xs) ys)))
 
-pub after_append : (s : State) (xs ys : List Call) → state_after s (xs ++ ys) ≡ state_after (state_after s xs) ys
+pub after_append : (s : SystemState) (xs ys : List Call) → state_after s (xs ++ ys) ≡ state_after (state_after s xs) ys
 after_append s [] ys = refl
-after_append s (x ∷ xs) ys = after_append (outcome s x).state xs ys
+after_append s (x ∷ xs) ys = after_append (outcome s x).system xs ys
 
-module _ (s : State) (calls : List Call) (k : ℕ) (call : Call) (lt : k < length calls) (is : call ≡ get_or calls k call) where
+module _ (s : SystemState) (calls : List Call) (k : ℕ) (call : Call) (lt : k < length calls) (is : call ≡ get_or calls k call) where
   next : take (k + 1) calls ≡ take k calls ++ call ∷ []
   next = take_more calls k call lt ∙ ap (λ (x : Call). take k calls ++ x ∷ []) (sym is)
 
-  before : State
+  before : SystemState
   before = state_after s (take k calls)
 
-  pub state_more : state_after s (take (k + 1) calls) ≡ (outcome (state_after s (take k calls)) call).state
+  pub state_more : state_after s (take (k + 1) calls) ≡ (outcome (state_after s (take k calls)) call).system
   state_more = ap (state_after s) next ∙ after_append s (take k calls) (call ∷ [])
 
-  pub report_more : report_from 0 s (take (k + 1) calls) ≡ report_from 0 s (take k calls) ++ line_of k call (outcome (state_after s (take k calls)) call).answer
+  pub report_more : report_from 0 s (take (k + 1) calls) ≡ report_from 0 s (take k calls) ++ text_of k call (outcome (state_after s (take k calls)) call).answer
   report_more =
-      let line : ℕ → List ℕ = λ (j : ℕ). line_of j call (outcome (state_after s (take k calls)) call).answer in
+      let line : ℕ → List ℕ = λ (j : ℕ). text_of j call (outcome (state_after s (take k calls)) call).answer in
       let len : 0 + length (take k calls) ≡ k = omega (arith, length-take k calls, lt) in
       ap (report_from 0 s) next
       ∙ (report_append 0 s (take k calls) (call ∷ [])
@@ -43,23 +43,23 @@ module _ (s : State) (calls : List Call) (k : ℕ) (call : Call) (lt : k < lengt
       ∙ ap (λ (j : ℕ). report_from 0 s (take k calls) ++ line j) len))
 
   -- the report so far and the next line
-  pub written_more : (a b c : Option (List ℕ)) (line : List ℕ) → line ≡ line_of k call (outcome (state_after s (take k calls)) call).answer → Appends a b (report_from 0 s (take k calls)) → Appends b c line → Appends a c (report_from 0 s (take (k + 1) calls))
+  pub written_more : (a b c : Option (List ℕ)) (line : List ℕ) → line ≡ text_of k call (outcome (state_after s (take k calls)) call).answer → Appends a b (report_from 0 s (take k calls)) → Appends b c line → Appends a c (report_from 0 s (take (k + 1) calls))
   written_more a b c line e p q =
       let text = report_from 0 s (take k calls) in
       let is : text ++ line ≡ report_from 0 s (take (k + 1) calls) = ap (λ (ls : List ℕ). text ++ ls) e ∙ sym report_more in
       subst (λ (ls : List ℕ). Appends a c ls) is (appends_more a b c text line p q)
 
 -- the report up to a call, its line, and what follows
-pub report_upto : (s : State) (calls : List Call) (k : ℕ) (call : Call) → slice_get calls k ≡ Some call → (rest : List ℕ) × (report_from 0 s (take k calls) ++ (line_of k call (outcome (state_after s (take k calls)) call).answer ++ rest) ≡ report_from 0 s calls)
+pub report_upto : (s : SystemState) (calls : List Call) (k : ℕ) (call : Call) → slice_get calls k ≡ Some call → (rest : List ℕ) × (report_from 0 s (take k calls) ++ (text_of k call (outcome (state_after s (take k calls)) call).answer ++ rest) ≡ report_from 0 s calls)
 report_upto s calls k call h =
     let lt : k < length calls = slice_get_within calls k call h in
     let cons : drop k calls ≡ call ∷ drop (suc k) calls = drop-cons calls k call lt ∙ ap (λ (w : Call). w ∷ drop (suc k) calls) (get_or_from_slice_get calls k call call h) in
     let parts : take k calls ++ call ∷ drop (suc k) calls ≡ calls = ap (λ (l : List Call). take k calls ++ l) (sym cons) ∙ take-append-drop k calls in
-    let before : State = state_after s (take k calls) in
+    let before : SystemState = state_after s (take k calls) in
     let text : List ℕ = report_from 0 s (take k calls) in
-    let rest : ℕ → List ℕ = λ (j : ℕ). line_of j call (outcome before call).answer ++ report_from (j + 1) (outcome before call).state (drop (suc k) calls) in
+    let rest : ℕ → List ℕ = λ (j : ℕ). text_of j call (outcome before call).answer ++ report_from (j + 1) (outcome before call).system (drop (suc k) calls) in
     let len : k ≡ 0 + length (take k calls) = omega (arith, length-take k calls, lt) in
-    (report_from (k + 1) (outcome before call).state (drop (suc k) calls), ap (λ (j : ℕ). text ++ rest j) len ∙ (sym (report_append 0 s (take k calls) (call ∷ drop (suc k) calls)) ∙ ap (report_from 0 s) parts))
+    (report_from (k + 1) (outcome before call).system (drop (suc k) calls), ap (λ (j : ℕ). text ++ rest j) len ∙ (sym (report_append 0 s (take k calls) (call ∷ drop (suc k) calls)) ∙ ap (report_from 0 s) parts))
 
 -- the report so far, and a line that breaks off
 pub broken_off : (a b c : Option (List ℕ)) (text line whole : List ℕ) → line ≡ whole → Appends a b text → BreaksOff b c [] line → BreaksOff a c text whole

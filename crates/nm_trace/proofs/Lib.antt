@@ -1,5 +1,5 @@
 pub mod Each
-pub mod Text
+pub mod Utf8
 pub mod Texts
 pub mod Known
 pub mod InParts

@@ -8,13 +8,14 @@ use Rattle.nm_types.specs.Layout.{Layout}
 use Rattle.nm_calls.specs.Calls.{Call}
 use Rattle.nm_trace.specs.declared.trace_error.TraceError.{TraceError}
 use Rattle.nm_trace.specs.declared.trace_error.TraceError.TheVariants.{NotJson, BadMachine, BadStep, ReadFault, WriteFault, HostMemory}
-use Rattle.nm_trace.specs.declared.step.StepError.{StepError}
-use Rattle.nm_trace.specs.declared.step.StepError.TheVariants.{Bad, Memory}
+use Rattle.nm_trace.specs.declared.step_error.StepError.{StepError}
+use Rattle.nm_trace.specs.declared.step_error.StepError.TheVariants.{Bad, Memory}
 use Rattle.nm_trace.specs.Form as form
 
--- a trace: its machine, and what its steps ask
+-- a trace: its machine, how many entries a run has at most, and what its steps ask
 pub record Plan : Type 0 where
   pub layout : Layout
+  pub run_limit : ℕ
   pub calls : List Call
 
 infixl 10 ◌>>=◌
@@ -25,10 +26,6 @@ abbrev pub ◌>>=◌ : {A B : Type 0} → Result A TraceError → (A → Result 
 -- the value that bytes are as JSON
 abbrev pub value_of : List ℕ → Option Data
 value_of bytes = if is_utf8 bytes then read bytes else None
-
--- the steps' values, where the version is 1
-unfoldable pub listed : Data → Option Items
-listed d = form.◌>>=◌ (form.number_at (codes "version") d) (λ v. if v == 1 then form.items_at (codes "steps") d else None)
 
 -- the place of the first item that is no step
 abbrev pub first_bad : Items → ℕ
@@ -41,9 +38,10 @@ calls_of ds = ok_or (form.each form.step_of ds) (BadStep (first_bad ds))
 unfoldable pub plan_of : Data → Result Plan TraceError
 plan_of d = do
   layout ← ok_or (form.machine_of d) BadMachine
-  ds ← ok_or (listed d) BadMachine
+  limit ← ok_or (form.limit_of d) BadMachine
+  ds ← ok_or (form.items_at (codes "steps") d) BadMachine
   calls ← calls_of ds
-  Ok (record { layout = layout; calls = calls })
+  Ok (record { layout = layout; run_limit = limit; calls = calls })
 
 unfoldable pub trace_of : List ℕ → Result Plan TraceError
 trace_of bytes = do

@@ -10,6 +10,7 @@ use Rattle.serde_json.specs.Find.{get, as_number, as_u64, as_bool, as_str, as_ar
 use Rattle.nm_types.specs.Layout.{Layout}
 use Rattle.nm_types.specs.Refusal.{refusal}
 use Rattle.nm_types.specs.declared.geometry.GeometryError.{GeometryError}
+use Rattle.nm_calls.specs.Systems.{default_limit}
 use Rattle.nm_calls.specs.Calls.{Call, Spawn, MapPages, Attach, Unmap, Exit, Pin, Unpin, ReadBytes, WriteBytes, MovePages, Query, FreeList, Pagemap}
 
 infixl 10 ◌>>=◌
@@ -108,6 +109,23 @@ machine_of d = do
   rows ← items_at (codes "distance") m
   distances ← each row_of rows
   unless_refused (refusal (record { sizes = sizes; distances = distances })) (record { sizes = sizes; distances = distances })
+
+-- ---- the limit on runs
+
+-- a number from 1 to the greatest limit
+abbrev pub as_limit : ℕ → Option ℕ
+as_limit n = if nat_le 1 n && nat_le n default_limit then Some n else None
+
+-- how many entries a run has at most: version 1 has the greatest limit, whatever it says, and version 2 must say one
+abbrev pub limit_in : ℕ → Data → Option ℕ
+limit_in version d =
+    if version == 1 then Some default_limit
+    else (if version == 2 then option_and_then as_limit (number_at (codes "run_limit") d) else None)
+
+unfoldable pub limit_of : Data → Option ℕ
+limit_of d = do
+  version ← number_at (codes "version") d
+  limit_in version d
 
 -- ---- the kinds of step
 

@@ -23,6 +23,7 @@ FirstBadIsLeast =
 abbrev pub three_pages : Plan
 three_pages = record {
   layout = record { sizes = 4 ∷ 4 ∷ []; distances = (10 ∷ 20 ∷ []) ∷ (20 ∷ 10 ∷ []) ∷ [] };
+  run_limit = 16384;
   calls =
       Spawn 1 100 0 (0 ∷ 1 ∷ []) false
       ∷ MapPages 1 65536 3 false

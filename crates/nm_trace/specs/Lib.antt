@@ -1,7 +1,7 @@
 pub mod Form
 pub mod Gives
 pub mod Faults
+pub mod Plans
 pub mod Report
-pub mod Answers
 pub mod Played
 pub mod Laws

@@ -1,43 +1,39 @@
 -- What a play makes and leaves written, and what a run from bytes does.
-use Rattle.std.specs.Prelude.{◌≡◌, ◌⊎◌, ℕ, ◌-◌, ◌≤◌, ◌<◌, List, [], ◌++◌, length, take, slice_get, Option, Some, Result, Ok, Err}
+use Rattle.std.specs.Prelude.{◌≡◌, ◌⊎◌, ℕ, ◌<◌, Bool, List, [], ◌++◌, length, take, slice_get, Option, Some, Result, Ok, Err}
 use Rattle.std.specs.Io.KnownBytes.{Appends}
-use Rattle.nm_types.specs.State.{State}
+use Rattle.nm_calls.specs.Systems.{SystemState, system_with}
 use Rattle.nm_calls.specs.Calls.{Call, Answer}
-use Rattle.nm_calls.specs.Outcome.{new_machine, outcome, runs_of, after_runs}
+use Rattle.nm_calls.specs.Outcome.{outcome}
+use Rattle.nm_calls.specs.Does.{HostLeaves}
 use Rattle.nm_trace.specs.declared.playing.Summary.{Summary}
 use Rattle.nm_trace.specs.declared.trace_error.TraceError.{TraceError}
 use Rattle.nm_trace.specs.declared.trace_error.TraceError.TheVariants.{NotJson, BadMachine, BadStep, ReadFault, WriteFault, HostMemory}
 use Rattle.nm_trace.specs.Faults.{Plan}
-use Rattle.nm_trace.specs.Report.{line_of, report_from, state_after}
+use Rattle.nm_trace.specs.Report.{text_of, report_from, state_after}
 
 -- known bytes grow by a front of the text
 abbrev pub AppendsFront : Option (List ℕ) → Option (List ℕ) → List ℕ → Type 0
 AppendsFront old new text = (front : List ℕ) × (rest : List ℕ) × (front ++ rest ≡ text) × Appends old new front
 
--- known bytes grow by a text and a front of a line that is not all of it
+-- known bytes grow by a text and a front of the next step's lines that is not all of them
 abbrev pub BreaksOff : Option (List ℕ) → Option (List ℕ) → List ℕ → List ℕ → Type 0
-BreaksOff old new text line =
-    (front : List ℕ) × (rest : List ℕ) × (front ++ rest ≡ line) × (0 < length rest) × Appends old new (text ++ front)
+BreaksOff old new text lines =
+    (front : List ℕ) × (rest : List ℕ) × (front ++ rest ≡ lines) × (0 < length rest) × Appends old new (text ++ front)
 
--- a call that finds no memory on the host has made its first runs, of which the last is none
-abbrev pub StopsIn : State → Call → State → Type 0
-StopsIn s call t = (runs : ℕ) × (runs ≤ length (runs_of s call) - 1) × (t ≡ after_runs s call runs)
+-- a call that finds no memory on the host has made some first ones of its runs
+abbrev pub StopsIn : SystemState → Call → SystemState → Type 0
+StopsIn s call t = (runs : ℕ) × (policy_set : Bool) × HostLeaves s call runs policy_set t
 
--- what a call answers, or it finds no memory on the host
-abbrev pub Answers : {T E : Type 0} → (T → Answer) → Result T E → State → State → Call → Type 0
-Answers view (Ok answer) old new call = ((outcome old call).answer ≡ view answer) × (new ≡ (outcome old call).state)
-Answers view (Err e) old new call = StopsIn old call new
+-- a call is made and its lines are there; or it stopped, or was made and its lines found no memory
+abbrev pub Tells : {T E : Type 0} → (T → List ℕ) → ℕ → Result T E → SystemState → SystemState → Call → Type 0
+Tells view k (Ok text) old new call =
+    (view text ≡ text_of k call (outcome old call).answer) × (new ≡ (outcome old call).system)
+Tells view k (Err e) old new call = StopsIn old call new ⊎ (new ≡ (outcome old call).system)
 
--- a call is made and its line is there; or it stopped, or was made and its line found no memory
-abbrev pub Lines : {T E : Type 0} → (T → List ℕ) → ℕ → Result T E → State → State → Call → Type 0
-Lines view k (Ok line) old new call =
-    (view line ≡ line_of k call (outcome old call).answer) × (new ≡ (outcome old call).state)
-Lines view k (Err e) old new call = StopsIn old call new ⊎ (new ≡ (outcome old call).state)
-
--- A play makes every call and writes the report on them. Where the writer fails in the line of step k, that step is the
--- last that was made, and the report breaks off inside its line. Where the host has no memory for step k, the report on
--- the steps before it stands, and step k may have been made in part, or whole without its line.
-abbrev pub Plays : State → List Call → State → Option (List ℕ) → Option (List ℕ) → Result Summary TraceError → Type 0
+-- A play makes every call and writes the report on them. Where the writer fails in the lines of step k, that step is the
+-- last that was made, and the report breaks off inside its lines. Where the host has no memory for step k, the report on
+-- the steps before it stands, and step k may have been made in part, or whole without its lines.
+abbrev pub Plays : SystemState → List Call → SystemState → Option (List ℕ) → Option (List ℕ) → Result Summary TraceError → Type 0
 Plays s calls t old new (Ok summary) =
     (summary.steps ≡ length calls) × (t ≡ state_after s calls) × Appends old new (report_from 0 s calls)
 Plays s calls t old new (Err NotJson) = ⊥
@@ -46,20 +42,20 @@ Plays s calls t old new (Err (BadStep k)) = ⊥
 Plays s calls t old new (Err ReadFault) = ⊥
 Plays s calls t old new (Err WriteFault) =
     (k : ℕ) × (call : Call) × (slice_get calls k ≡ Some call)
-    × (t ≡ (outcome (state_after s (take k calls)) call).state)
-    × BreaksOff old new (report_from 0 s (take k calls)) (line_of k call (outcome (state_after s (take k calls)) call).answer)
+    × (t ≡ (outcome (state_after s (take k calls)) call).system)
+    × BreaksOff old new (report_from 0 s (take k calls)) (text_of k call (outcome (state_after s (take k calls)) call).answer)
 Plays s calls t old new (Err (HostMemory k)) =
     (call : Call) × (slice_get calls k ≡ Some call)
-    × (StopsIn (state_after s (take k calls)) call t ⊎ (t ≡ (outcome (state_after s (take k calls)) call).state))
+    × (StopsIn (state_after s (take k calls)) call t ⊎ (t ≡ (outcome (state_after s (take k calls)) call).system))
     × Appends old new (report_from 0 s (take k calls))
 
 -- the report on a trace: on its steps, from a new machine on
 abbrev pub report_of : Plan → List ℕ
-report_of plan = report_from 0 (new_machine plan.layout) plan.calls
+report_of plan = report_from 0 (system_with plan.layout plan.run_limit) plan.calls
 
 -- a play of a trace on a new machine, whatever state it leaves
 abbrev pub PlaysNew : Plan → Option (List ℕ) → Option (List ℕ) → Result Summary TraceError → Type 0
-PlaysNew plan old new result = (t : State) × Plays (new_machine plan.layout) plan.calls t old new result
+PlaysNew plan old new result = (t : SystemState) × Plays (system_with plan.layout plan.run_limit) plan.calls t old new result
 
 -- what a run from a trace's bytes does: its fault is the first of the bytes, or it plays the trace
 abbrev pub Runs : Result Plan TraceError → Option (List ℕ) → Option (List ℕ) → Result Summary TraceError → Type 0

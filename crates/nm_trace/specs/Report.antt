@@ -4,7 +4,7 @@ use Rattle.std.specs.Fmt.{signed_decimal, digits}
 use Rattle.std.specs.List.{flat_map}
 use Rattle.hex.specs.Hex.{encode_lower}
 use Rattle.nm_types.specs.Names.{name_of}
-use Rattle.nm_types.specs.State.{State}
+use Rattle.nm_calls.specs.Systems.{SystemState}
 use Rattle.nm_calls.specs.Calls.{Call, Spawn, MapPages, Attach, Unmap, Exit, Pin, Unpin, ReadBytes, WriteBytes, MovePages, Query, FreeList, Pagemap, Answer, Refusal, Done, Held, NewSegment, TheBytes, Statuses, Frames, Entries}
 use Rattle.nm_calls.specs.Outcome.{Outcome, outcome}
 
@@ -58,18 +58,18 @@ answer_text (Statuses failed statuses) = decimal failed ++ codes ":" ++ signed_l
 answer_text (Frames frames) = decimal (length frames) ++ codes ":" ++ listed frames
 answer_text (Entries entries) = decimal (length entries) ++ codes ":" ++ flat_map entry_text entries
 
--- the line of step k
-unfoldable pub line_of : ℕ → Call → Answer → List ℕ
-line_of k call answer = decimal k ++ codes " " ++ word_of call ++ codes " " ++ answer_text answer ++ codes "\n"
+-- the lines of step k: one, as each call answers one thing
+unfoldable pub text_of : ℕ → Call → Answer → List ℕ
+text_of k call answer = decimal k ++ codes " " ++ word_of call ++ codes " " ++ answer_text answer ++ codes "\n"
 
--- the report on calls that are made one after another from a state on: a line for each, with numbers from k on
-abbrev pub report_from : ℕ → State → List Call → List ℕ
+-- the report on calls that are made one after another from a state on: the lines of each, with numbers from k on
+abbrev pub report_from : ℕ → SystemState → List Call → List ℕ
 report_from k s [] = []
 report_from k s (call ∷ calls) =
     let o : Outcome = outcome s call in
-    line_of k call o.answer ++ report_from (k + 1) o.state calls
+    text_of k call o.answer ++ report_from (k + 1) o.system calls
 
 -- the state after these calls
-abbrev pub state_after : State → List Call → State
+abbrev pub state_after : SystemState → List Call → SystemState
 state_after s [] = s
-state_after s (call ∷ calls) = state_after (outcome s call).state calls
+state_after s (call ∷ calls) = state_after (outcome s call).system calls

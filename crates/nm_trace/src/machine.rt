@@ -1,19 +1,21 @@
 //! The machine of a trace.
 
-ghost use Rattle.std.specs.Prelude.{◌^◌, map};
+ghost use Rattle.std.specs.Prelude.{◌≡◌, ◌^◌, map, IfErr};
 ghost use Rattle.serde_json.specs.View.{view, items_view};
 ghost use Rattle.nm_trace.specs.Form as form;
+ghost use Rattle.nm_trace.specs.declared.step_error.StepError.TheVariants.{Bad};
 ghost use Rattle.nm_trace.specs.Gives.{Gives};
 
 use crate::fields::{list, smalls};
-use crate::step::StepError;
+use crate::step_error::StepError;
 use nm_types::Geometry;
 use serde_json::Value;
 use std::alloc::Allocator;
 
 /// A distance, which is below 256.
 fn distance_value(value: &Value) -> Result<u8, StepError>
-    ensures { Gives (λ n. n) result (form.number_below (2 ^ 8) (view value.now)) }
+    ensures value { Gives (λ n. n) result (form.number_below (2 ^ 8) (view value.now)) }
+    ensures bad { IfErr result (λ e. e ≡ Bad) }
 {
     let number = value.as_u64().ok_or(StepError::Bad)?;
     u8::try_from(number).map_err(|_| StepError::Bad)

@@ -1,16 +1,15 @@
 //! Plays a trace and writes its report.
 
-ghost use Rattle.std.specs.Prelude.{◌≡◌, [], OnOk, OnErr, IfErr, map};
+ghost use Rattle.std.specs.Prelude.{◌≡◌, [], OnOk, OnErr, IfErr, map, string_bytes};
 ghost use Rattle.std.specs.Io.KnownBytes.{Appends};
-ghost use Rattle.nm_trace.specs.Gives.{call_of};
-ghost use Rattle.nm_trace.specs.Played.{BreaksOff, Plays};
+ghost use Rattle.nm_calls.specs.Views.{call_of};
+ghost use Rattle.nm_trace.specs.Played.{BreaksOff, Plays, Tells};
 
-use crate::lines::step_line;
-use crate::reading::Trace;
-use crate::step::Step;
+use crate::text::{refusal_text, text_of};
+use crate::trace::Trace;
 use crate::trace_error::TraceError;
-use nm_calls::System;
-use std::alloc::Allocator;
+use nm_calls::{Call, CallError, System};
+use std::alloc::{AllocError, Allocator};
 use std::io::Write;
 
 /// How many steps were made.
@@ -20,15 +19,15 @@ pub struct Summary {
     pub steps: usize,
 }
 
-/// Writes a line whole, or a front of it and a fault: the writer failed, or took no byte.
-fn write_line<W: Write>(writer: &mut W, line: &[u8]) -> Result<(), TraceError>
-    ensures whole { OnOk result (Appends (W.contents writer.old) (W.contents writer.new) line.now) }
-    ensures broken { OnErr result (BreaksOff (W.contents writer.old) (W.contents writer.new) [] line.now) }
+/// Writes lines whole, or a front of them and a fault: the writer failed, or took no byte.
+fn write_lines<W: Write>(writer: &mut W, lines: &[u8]) -> Result<(), TraceError>
+    ensures whole { OnOk result (Appends (W.contents writer.old) (W.contents writer.new) lines.now) }
+    ensures broken { OnErr result (BreaksOff (W.contents writer.old) (W.contents writer.new) [] lines.now) }
     ensures fault { IfErr result (λ e. e ≡ TraceError.WriteFault) }
 {
     let mut at = 0;
-    while at < line.len() {
-        let (_, rest) = line.split_at(at);
+    while at < lines.len() {
+        let (_, rest) = lines.split_at(at);
         match writer.write(rest) {
             Ok(0) => return Err(TraceError::WriteFault),
             Ok(count) => at += count,
@@ -38,39 +37,56 @@ fn write_line<W: Write>(writer: &mut W, line: &[u8]) -> Result<(), TraceError>
     Ok(())
 }
 
-/// Makes steps, from step 0 on, and writes the line of each when it ends.
-pub(crate) fn play_steps<A: Allocator + Copy + Send + Sync, W: Write>(
+/// Makes the call of step k, and gives its lines, also where it is refused. An error means that the call, or its lines,
+/// found no memory on the host.
+fn make_step<A: Allocator + Copy + Send + Sync>(
     alloc: A,
     system: &mut System<A>,
-    steps: &[Step<A>],
+    k: usize,
+    call: &Call<A>,
+) -> Result<String<A>, AllocError>
+    ensures { Tells string_bytes k result system.old system.new (call_of call.now) }
+{
+    match system.call(call) {
+        Ok(answer) => text_of(alloc, k, call, &answer),
+        Err(CallError::Refused(errno)) => refusal_text(alloc, k, call, errno),
+        Err(CallError::HostMemory { .. }) => Err(AllocError),
+    }
+}
+
+/// Makes calls, from step 0 on, and writes the lines of each when it ends.
+pub(crate) fn play_calls<A: Allocator + Copy + Send + Sync, W: Write>(
+    alloc: A,
+    system: &mut System<A>,
+    calls: &[Call<A>],
     writer: &mut W,
 ) -> Result<Summary, TraceError>
-    ensures { Plays system.old (map call_of steps.now) system.new (W.contents writer.old) (W.contents writer.new) result }
+    ensures { Plays system.old (map call_of calls.now) system.new (W.contents writer.old) (W.contents writer.new) result }
 {
-    for (k, step) in steps.iter().enumerate() {
-        let Ok(line) = step_line(alloc, system, k, step) else {
+    for (k, call) in calls.iter().enumerate() {
+        let Ok(text) = make_step(alloc, system, k, call) else {
             return Err(TraceError::HostMemory(k));
         };
-        let Ok(()) = write_line(writer, line.as_bytes()) else {
+        let Ok(()) = write_lines(writer, text.as_bytes()) else {
             return Err(TraceError::WriteFault);
         };
     }
-    Ok(Summary { steps: steps.len() })
+    Ok(Summary { steps: calls.len() })
 }
 
-/// Makes the steps of a trace on a system, and writes the report on them: a line for each step, when it ends. Answers
-/// how many steps there were.
+/// Makes the calls of a trace on a system that has the trace's limit on runs, and writes the report on them: the lines of each step, when it ends. Answers how many steps there were.
 ///
-/// `WriteFault` where the writer failed or took no byte: the report breaks off inside the line of the last step that was
+/// `WriteFault` where the writer failed or took no byte: the report breaks off inside the lines of the last step that was
 /// made. `HostMemory(k)` where the host refused memory in step k: the lines of the steps before it were written, and step
-/// k was made as far as its call says, or whole and without its line.
+/// k was made as far as its call says, or whole and without its lines.
 pub fn play<A: Allocator + Copy + Send + Sync, W: Write>(
     alloc: A,
     system: &mut System<A>,
     trace: &Trace<A>,
     writer: &mut W,
 ) -> Result<Summary, TraceError>
-    ensures { Plays system.old trace.now.calls system.new (W.contents writer.old) (W.contents writer.new) result }
+    requires limit { system.old.run_limit ≡ trace.now.run_limit }
+    ensures { Plays system.old (map call_of trace.now.calls.items) system.new (W.contents writer.old) (W.contents writer.new) result }
 {
-    play_steps(alloc, system, trace.steps.as_slice(), writer)
+    play_calls(alloc, system, trace.calls.as_slice(), writer)
 }

@@ -1,84 +1,84 @@
 //! Bytes to a trace.
 
-ghost use Rattle.std.specs.Prelude.{map, ◌≡◌, [], ◌∷◌, ◌++◌, OnOk, IfErr};
+ghost use Rattle.std.specs.Prelude.{map, ◌≡◌, ◌<◌, ◌≤◌, [], ◌∷◌, ◌++◌, IfOk, OnOk, IfErr, codes};
+ghost use Rattle.nm_calls.specs.Systems.{default_limit};
+ghost use Rattle.nm_calls.specs.Views.{call_of};
 ghost use Rattle.std.specs.Option.{ok_or};
 ghost use Rattle.serde_json.specs.View.{view, items_view};
 ghost use Rattle.nm_trace.specs.Form as form;
 ghost use Rattle.nm_trace.specs.Faults as faults;
 ghost use Rattle.nm_trace.specs.Faults.{Gives};
+ghost use Rattle.nm_trace.specs.Plans.{plan_in};
 ghost use Rattle.nm_trace.specs.declared.trace_error.TraceError.TheVariants.{NotJson, BadMachine};
+ghost use Rattle.nm_trace.specs.declared.step_error.StepError.TheVariants.{Bad};
 ghost use Rattle.nm_trace.specs.Gives as of_step;
 
 use crate::fields::{list, number};
 use crate::machine::machine_of;
-use crate::step::{Step, StepError};
-use crate::steps::step_of;
+use crate::parsing::step_of;
+use crate::step_error::StepError;
+use crate::trace::Trace;
 use crate::trace_error::TraceError;
+use nm_calls::Call;
 use nm_types::Geometry;
+use nm_types::limits::MAX_BATCH;
 use serde_json::Value;
 use std::alloc::{Allocator, Global};
-use std::marker::Model;
 
-/// A machine, and the steps that are made on it. Contracts see its layout and what its steps ask.
-#[derive(Debug, Drop)]
-pub struct Trace<A: Allocator + Copy + Send + Sync> {
-    pub(crate) geometry: Geometry<A>,
-    pub(crate) steps: Vec<Step<A>, A>,
-}
-
-impl<A: Allocator + Copy + Send + Sync> Model for Trace<A> {
-    ghost use Rattle.std.specs.Prelude.{map};
-    ghost use Rattle.nm_trace.specs.Faults.{Plan};
-
-    ghost Value = { Plan };
-
-    ghost use Rattle.nm_trace.specs.Gives.{call_of};
-
-    ghost view = { λ t. record { layout = t.geometry; calls = map call_of t.steps.items } };
-}
-
-/// The values of the steps, where the version is 1.
-#[tactic(auto, unfolding(crate::specs::Faults::listed))]
-fn listed(value: &Value) -> Result<&Vec<Value>, StepError>
-    ensures { of_step.Gives (λ v. items_view v.now.items) result (faults.listed (view value.now)) }
+/// How many entries a run has at most: 16,384 in version 1, whatever it says of it, and what version 2 says.
+#[tactic(auto, unfolding(crate::specs::Form::limit_of))]
+fn limit_of(value: &Value) -> Result<usize, StepError>
+    ensures limit { of_step.Gives (λ n. n) result (form.limit_of (view value.now)) }
+    ensures bad { IfErr result (λ e. e ≡ Bad) }
+    ensures some { IfOk result (λ n. 0 < n) }
+    ensures within { IfOk result (λ n. n ≤ default_limit) }
 {
-    if number(value, "version")? != 1 {
+    let version = number(value, "version")?;
+    if version == 1 {
+        return Ok(MAX_BATCH);
+    }
+    if version != 2 {
         return Err(StepError::Bad);
     }
-    list(value, "steps")
+    let limit = number(value, "run_limit")?;
+    if limit >= 1 && limit <= MAX_BATCH as u64 {
+        Ok(limit as usize)
+    } else {
+        Err(StepError::Bad)
+    }
 }
 
-/// Puts a step at the end of a list.
+/// Puts a call at the end of a list.
 fn put<A: Allocator + Copy + Send + Sync>(
-    steps: &mut Vec<Step<A>, A>,
-    step: Step<A>,
+    calls: &mut Vec<Call<A>, A>,
+    call: Call<A>,
 ) -> Result<(), TraceError>
-    ensures put { OnOk result (steps.new.items ≡ steps.old.items ++ step ∷ []) }
+    ensures put { OnOk result (calls.new.items ≡ calls.old.items ++ call ∷ []) }
     ensures fault { IfErr result (λ e. e ≡ TraceError.HostMemory 0) }
 {
-    match steps.push(step) {
+    match calls.push(call) {
         Ok(()) => Ok(()),
         Err(_) => Err(TraceError::HostMemory(0)),
     }
 }
 
-/// The steps of a list, or the first fault.
-fn steps_of<A: Allocator + Copy + Send + Sync>(
+/// The calls that the steps of a list ask for, or the first fault.
+fn calls_of<A: Allocator + Copy + Send + Sync>(
     alloc: A,
     values: &[Value],
-) -> Result<Vec<Step<A>, A>, TraceError>
-    ensures { Gives (λ v. map of_step.call_of v.items) result (faults.calls_of (items_view values.now)) }
+) -> Result<Vec<Call<A>, A>, TraceError>
+    ensures { Gives (λ v. map call_of v.items) result (faults.calls_of (items_view values.now)) }
 {
-    let mut steps = Vec::new(alloc);
+    let mut calls = Vec::new(alloc);
     for (k, value) in values.iter().enumerate() {
-        let step = match step_of(alloc, value) {
-            Ok(step) => step,
+        let call = match step_of(alloc, value) {
+            Ok(call) => call,
             Err(StepError::Bad) => return Err(TraceError::BadStep(k)),
             Err(StepError::Memory) => return Err(TraceError::HostMemory(0)),
         };
-        put(&mut steps, step)?;
+        put(&mut calls, call)?;
     }
-    Ok(steps)
+    Ok(calls)
 }
 
 /// A fault of the machine.
@@ -98,11 +98,25 @@ fn geometry_of<A: Allocator + Copy>(alloc: A, value: &Value) -> Result<Geometry<
     machine_of(alloc, value).map_err(bad_machine)
 }
 
+/// The limit on runs of a trace, or its fault.
+fn run_limit_of(value: &Value) -> Result<usize, TraceError>
+    ensures limit { Gives (λ n. n) result (ok_or (form.limit_of (view value.now)) BadMachine) }
+    ensures bad { IfErr result (λ e. e ≡ BadMachine) }
+    ensures some { IfOk result (λ n. 0 < n) }
+    ensures within { IfOk result (λ n. n ≤ default_limit) }
+{
+    match limit_of(value) {
+        Ok(limit) => Ok(limit),
+        Err(error) => Err(bad_machine(error)),
+    }
+}
+
 /// The values of the steps of a trace, or the fault of a top that has none.
 fn values_of(value: &Value) -> Result<&Vec<Value>, TraceError>
-    ensures { Gives (λ v. items_view v.now.items) result (ok_or (faults.listed (view value.now)) BadMachine) }
+    ensures values { Gives (λ v. items_view v.now.items) result (ok_or (form.items_at (codes "steps") (view value.now)) BadMachine) }
+    ensures bad { IfErr result (λ e. e ≡ BadMachine) }
 {
-    listed(value).map_err(bad_machine)
+    list(value, "steps").map_err(bad_machine)
 }
 
 /// The trace that a value is, or the first fault.
@@ -111,12 +125,17 @@ fn trace_of<A: Allocator + Copy + Send + Sync>(
     alloc: A,
     value: &Value,
 ) -> Result<Trace<A>, TraceError>
-    ensures { Gives (λ t. t) result (faults.plan_of (view value.now)) }
+    ensures { Gives plan_in result (faults.plan_of (view value.now)) }
 {
     let geometry = geometry_of(alloc, value)?;
+    let run_limit = run_limit_of(value)?;
     let values = values_of(value)?;
-    let steps = steps_of(alloc, values.as_slice())?;
-    Ok(Trace { geometry, steps })
+    let calls = calls_of(alloc, values.as_slice())?;
+    Ok(Trace {
+        geometry,
+        run_limit,
+        calls,
+    })
 }
 
 /// The value that bytes are as JSON.
@@ -146,7 +165,7 @@ pub fn read_trace<A: Allocator + Copy + Send + Sync>(
     heap: Global,
     bytes: &[u8],
 ) -> Result<Trace<A>, TraceError>
-    ensures { Gives (λ t. t) result (faults.trace_of bytes.now) }
+    ensures { Gives plan_in result (faults.trace_of bytes.now) }
 {
     let value = value_of(heap, bytes)?;
     trace_of(alloc, &value)

@@ -4,8 +4,9 @@ ghost use Rattle.std.specs.Prelude.{◌≡◌, ◌⊎◌, ◌≤◌, length, IfO
 ghost use Rattle.nm_trace.specs.Faults.{OfSomeBytes, trace_of, trace_limit};
 ghost use Rattle.nm_trace.specs.Played.{Runs, IsSilent, WritesFront};
 
-use crate::playing::{Summary, play_steps};
-use crate::reading::{Trace, read_trace};
+use crate::playing::{Summary, play_calls};
+use crate::reading::read_trace;
+use crate::trace::Trace;
 use crate::trace_error::TraceError;
 use nm_calls::System;
 use std::alloc::{Allocator, Global};
@@ -52,11 +53,15 @@ fn run_bytes<A: Allocator + Copy + Send + Sync, W: Write>(
     ensures silent { IfErr result (λ e. IsSilent e (W.contents writer.old) (W.contents writer.new)) }
 {
     let trace = read_trace(alloc, heap, bytes)?;
-    let Trace { geometry, steps } = trace;
-    let Ok(mut system) = System::new(alloc, geometry) else {
+    let Trace {
+        geometry,
+        run_limit,
+        calls,
+    } = trace;
+    let Ok(mut system) = System::with_run_limit(alloc, geometry, run_limit) else {
         return Err(TraceError::HostMemory(0));
     };
-    play_steps(alloc, &mut system, steps.as_slice(), writer)
+    play_calls(alloc, &mut system, calls.as_slice(), writer)
 }
 
 /// Reads a trace to its end, checks it whole, plays it on a new system and writes the report. The system, the bytes and

@@ -1,3 +1,6 @@
+pub mod Cases
+pub mod Maps
+pub mod Keys
 pub mod Members
 pub mod Layouts
 pub mod Lowest

@@ -7,7 +7,7 @@ ghost use Rattle.nm_types.specs.Refusal.{refusal, Opens};
 
 use crate::limits::{MAX_FRAMES, MAX_NODES};
 use crate::numbers::{FrameId, NodeId};
-use std::alloc::Allocator;
+use std::alloc::{AllocError, Allocator};
 use std::marker::Model;
 use thiserror::Error;
 
@@ -49,6 +49,18 @@ impl<A: Allocator + Copy> Model for Geometry<A> {
     ghost view = { λ g. record { sizes = g.sizes.items; distances = map (λ row. row.items) g.distances.items } };
 
     ghost invariant = { λ g. IsMachine (record { sizes = g.sizes.items; distances = map (λ row. row.items) g.distances.items }) };
+}
+
+/// A clone is the same layout in memory of its own; it is refused where the host has no memory.
+impl<A: Allocator + Copy> Clone for Geometry<A> {
+    ghost is_clone = { λ g h. h ≡ g };
+
+    fn clone(&self) -> Result<Geometry<A>, AllocError> {
+        Ok(Geometry {
+            sizes: self.sizes.clone()?,
+            distances: self.distances.clone()?,
+        })
+    }
 }
 
 /// Whether a distance is one of a node to another: 10 to itself, at least 11 else.

@@ -1,5 +1,7 @@
 -- Exit statuses.
 use Rattle.std.specs.Prelude.{◌≡◌, ◌⊎◌, ℕ, List, Option, Result, Ok}
+use Rattle.std.specs.declared.io.ErrorKind.{ErrorKind}
+use Rattle.std.specs.declared.io.ErrorKind.TheVariants.{OutOfMemory}
 use Rattle.nm_trace.specs.declared.trace_error.TraceError.{TraceError}
 use Rattle.nm_trace.specs.declared.trace_error.TraceError.TheVariants.{NotJson, BadMachine, BadStep, ReadFault, WriteFault, HostMemory}
 use Rattle.nm_trace.specs.Faults.{Plan}
@@ -14,6 +16,11 @@ status_of (BadStep k) = 2
 status_of (HostMemory k) = 3
 status_of ReadFault = 4
 status_of WriteFault = 4
+
+-- the exit status where the program's words could not be had
+abbrev pub words_status : ErrorKind → ℕ
+words_status OutOfMemory = 3
+words_status kind = 2
 
 -- 0 after a whole report, 2 for bad input, 3 for a refusal of the host, 4 for a fault of a stream
 abbrev pub IsStatus : ℕ → Type 0

@@ -5,18 +5,17 @@
 mod tests;
 mod words;
 
-pub use nm_calls::System;
-pub use nm_trace::{play, read_trace, run_trace};
-use std::alloc::AllocError;
-use std::io::Write;
+use std::io::ErrorKind;
 use std::process::ExitCode;
 pub use words::run_words;
 
 fn main(rt: HostRuntime) -> ExitCode {
     let alloc = rt.alloc();
     let words = match std::env::args(&rt) {
-        Ok(words) => words.collect::<Vec<String>>(alloc),
-        Err(_) => Err(AllocError),
+        Ok(words) => words
+            .collect::<Vec<String>>(alloc)
+            .map_err(|_| ErrorKind::OutOfMemory),
+        Err(error) => Err(error.kind()),
     };
     let status = match words {
         Ok(words) => run_words(
@@ -27,10 +26,7 @@ fn main(rt: HostRuntime) -> ExitCode {
             &mut rt.stdout(),
             &mut rt.stderr(),
         ),
-        Err(_) => {
-            let _ = writeln!(rt.stderr(), "numatrace: host memory refused after 0 steps");
-            words::HOST_REFUSAL
-        }
+        Err(kind) => words::unread_words(kind, &mut rt.stderr()),
     };
     ExitCode::from(status)
 }

@@ -1,4 +1,4 @@
-use crate::words::run_words;
+use crate::words::{run_words, unread_words};
 use nm_refusing::Refusing;
 use std::alloc::{AllocError, Global};
 use std::io;
@@ -195,6 +195,19 @@ fn refuses_one_process_too_many(rt: HostRuntime) -> Result<(), Fail> {
             .as_slice()
             .ends_with(b"\n1023 spawn ok\n1024 spawn error ENOMEM\n")
     );
+    Ok(())
+}
+
+/// A word that is not UTF-8 is a wrong word, and only want of memory is told as such.
+#[test]
+fn tells_why_words_are_unread(rt: HostRuntime) -> Result<(), Fail> {
+    let alloc = rt.alloc();
+    let mut err = Vec::new(alloc);
+    assert_eq!(rt; unread_words(ErrorKind::InvalidData, &mut err), 2u8);
+    assert_eq!(rt; err.as_slice(), b"numatrace: a word is not UTF-8\n");
+    let mut err = Vec::new(alloc);
+    assert_eq!(rt; unread_words(ErrorKind::OutOfMemory, &mut err), 3u8);
+    assert_eq!(rt; err.as_slice(), b"numatrace: host memory refused after 0 steps\n");
     Ok(())
 }
 

@@ -3,12 +3,13 @@
 ghost use Rattle.std.specs.Prelude.{◌≡◌, []};
 ghost use Rattle.std.specs.Io.KnownBytes.{Appends};
 ghost use Rattle.nm_trace.specs.Faults.{OfSomeBytes};
-ghost use Rattle.numatrace.specs.Status.{status_of, IsStatus, Leaves};
+ghost use Rattle.numatrace.specs.Status.{status_of, words_status, IsStatus, Leaves};
 
 use clap::error::ErrorKind;
 use clap::{Command, Error};
 use nm_trace::{TraceError, run_trace};
 use std::alloc::{Allocator, Global};
+use std::io;
 use std::io::{Read, Write};
 
 /// The status after a whole report.
@@ -18,7 +19,7 @@ const DONE: u8 = 0;
 const BAD_INPUT: u8 = 2;
 
 /// The status where the host refused memory.
-pub(crate) const HOST_REFUSAL: u8 = 3;
+const HOST_REFUSAL: u8 = 3;
 
 /// The status where a reader or a writer failed.
 const STREAM_FAULT: u8 = 4;
@@ -39,6 +40,19 @@ fn status_of(fault: TraceError) -> u8
         TraceError::HostMemory(_) => HOST_REFUSAL,
         TraceError::ReadFault | TraceError::WriteFault => STREAM_FAULT,
     }
+}
+
+/// Tells why the program's words could not be had, and answers the exit status: 3 where the host refused memory, and 2
+/// for any other cause, as a word that is not UTF-8.
+pub(crate) fn unread_words<E: Write>(kind: io::ErrorKind, err: &mut E) -> u8
+    ensures { result ≡ words_status kind }
+{
+    if matches!(kind, io::ErrorKind::OutOfMemory) {
+        let _ = writeln!(err, "numatrace: host memory refused after 0 steps");
+        return HOST_REFUSAL;
+    }
+    let _ = writeln!(err, "numatrace: a word is not UTF-8");
+    BAD_INPUT
 }
 
 /// Runs the program: reads the words, then the trace from the reader, and writes the report to `out`. Answers the exit

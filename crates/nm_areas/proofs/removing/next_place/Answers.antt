@@ -1,6 +1,6 @@
 use Rattle.std.proofs.Common.{arith, inr, ℕ}
 use Rattle.nm_types.specs.declared.page.Page.{Page}
-use Rattle.nm_areas.proofs.Painted.{none_always}
+use Rattle.nm_types.proofs.Cases.{none_always}
 use Rattle.nm_areas.proofs.Framed.{no_place_at_all, no_place_before, past_segment}
 use Rattle.nm_areas.proofs.removing.next_place.Goals as goal
 use Rattle.nm_areas.proofs.removing.next_place.Goals.{else-page-segment-via-then-page-segment+else-page-past, else-page-segment-via-else-page-segment}

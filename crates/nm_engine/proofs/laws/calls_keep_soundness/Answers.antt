@@ -1,6 +1,6 @@
 use Rattle.std.proofs.Common.{[]}
 use Rattle.nm_engine.proofs.New.{new_sound}
-use Rattle.nm_engine.proofs.Called.{spawn_sound, map_sound, attach_sound, pin_sound}
+use Rattle.nm_engine.proofs.Called.{spawn_sound, map_sound, attach_sound, pin_sound, unpin_sound}
 use Rattle.nm_engine.proofs.Dropped.{unmap_sound, exit_sound}
 use Rattle.nm_engine.proofs.Policed.{policy_sound}
 use Rattle.nm_engine.proofs.laws.calls_keep_soundness.Goals as goal
@@ -19,6 +19,9 @@ returns-clause-attach c = attach_sound
 
 pub returns-clause-pin : goal.returns-clause-pin
 returns-clause-pin c = pin_sound
+
+pub returns-clause-unpin : goal.returns-clause-unpin
+returns-clause-unpin c = unpin_sound
 
 pub returns-clause-unmap : goal.returns-clause-unmap
 returns-clause-unmap c = unmap_sound

@@ -1,5 +1,5 @@
 use Rattle.std.proofs.Common.{IsTrue, false, rules, refl}
-use Rattle.nm_trace.proofs.Text.{value_is, value_none}
+use Rattle.nm_trace.proofs.Utf8.{value_is, value_none}
 use Rattle.nm_trace.proofs.reading.value_of.Goals as goal
 
 pub returns-in-Ok : goal.returns-in-Ok

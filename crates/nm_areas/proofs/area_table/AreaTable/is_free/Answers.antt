@@ -1,13 +1,11 @@
 use Rattle.std.proofs.Common.{◌≡◌, ◌≤◌, ◌+◌, ◌^◌, not, Bool, true, false, nat_eq, ap, sym, ◌∙◌, refl, arith}
 use Rattle.std.specs.Prelude.{nat_le}
 use Rattle.nm_types.specs.State.{Placed}
+use Rattle.nm_types.proofs.Cases.{true_false}
 use Rattle.nm_areas.specs.Table.{Table}
 use Rattle.nm_areas.specs.Mapped.{EndsLow}
 use Rattle.nm_areas.proofs.Overs.{free_other, free_own, free_none, last_has}
 use Rattle.nm_areas.proofs.area_table.AreaTable.is_free.Goals as goal
-
-true_false : true ≡ false → ⊥
-true_false e = cc
 
 false_from_not : (r b : Bool) → r ≡ not b → r ≡ true → b ≡ false
 false_from_not r true e h = absurd (true_false (sym h ∙ e))

@@ -1,13 +1,11 @@
-use Rattle.std.proofs.Common.{◌≡◌, option_map, true, false, nat_eq, ap, sym, ◌∙◌, arith, eq-eqb}
+use Rattle.std.proofs.Common.{◌≡◌, option_map, true, nat_eq, ap, sym, ◌∙◌, arith, eq-eqb}
 use Rattle.nm_types.specs.State.{Placed}
+use Rattle.nm_types.proofs.Cases.{true_false}
 use Rattle.nm_areas.specs.Table.{Table}
 use Rattle.nm_areas.proofs.Apart.{covers_parts}
 use Rattle.nm_areas.proofs.Overs.{over_it, over_not, over_none}
 use Rattle.nm_areas.proofs.area_table.AreaTable.over.Goals as goal
 use Rattle.nm_areas.proofs.area_table.AreaTable.over.Goals.{else-eq-via-then-eq+else-within-area, else-eq-via-else-eq}
-
-true_false : true ≡ false → ⊥
-true_false e = cc
 
 pub returns-in_err-owner : goal.returns-in_err-owner
 returns-in_err-owner g c =

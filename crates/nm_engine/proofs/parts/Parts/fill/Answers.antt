@@ -19,13 +19,13 @@ use Rattle.nm_engine.proofs.parts.Parts.fill.Goals as goal
 
 pub front-requires : goal.front-requires
 front-requires g c =
-    let found = inside _ _ _ _ c.self.view_is (λ s. first_free s (first_touch_order s.layout s.online c.args.t.info.home c.args.t.info.allowed c.args.t.policy c.args.t.page.index) ≡ Some c.in-Some.node) (sym c.in_ok-node.ensures ∙ c.in-Some.is) in
-    subst (λ n. c.in-Some.node < n) c.self.invariant.sound.frames.lists (short_list c.self.inside.stock.free c.in-Some.node (found_free (shown_by c.self.inside.spaces c.self.inside.stock c.self.inside.online c.self.inside.totals.moved c.self.inside.totals.failed) _ c.in-Some.node found))
+    let found = inside _ _ _ _ c.self.view_is (λ s. first_free s.free (first_touch_order s.layout s.online c.args.t.info.home c.args.t.info.allowed c.args.t.policy c.args.t.page.index) ≡ Some c.in-Some.node) (sym c.in_ok-node.ensures ∙ c.in-Some.is) in
+    subst (λ n. c.in-Some.node < n) c.self.invariant.sound.frames.lists (short_list c.self.inside.stock.free c.in-Some.node (found_free c.self.inside.stock.free _ c.in-Some.node found))
 
 pub unreachable-requires : goal.unreachable-requires
 unreachable-requires g c =
-    let found = inside _ _ _ _ c.self.view_is (λ s. first_free s (first_touch_order s.layout s.online c.args.t.info.home c.args.t.info.allowed c.args.t.policy c.args.t.page.index) ≡ Some c.in-Some.node) (sym c.in_ok-node.ensures ∙ c.in-Some.is) in
-    no_front (free_on c.self.inside.stock c.in-Some.node) (sym c.front.ensures.front ∙ c.in_default-front.is) (found_free (shown_by c.self.inside.spaces c.self.inside.stock c.self.inside.online c.self.inside.totals.moved c.self.inside.totals.failed) _ c.in-Some.node found)
+    let found = inside _ _ _ _ c.self.view_is (λ s. first_free s.free (first_touch_order s.layout s.online c.args.t.info.home c.args.t.info.allowed c.args.t.policy c.args.t.page.index) ≡ Some c.in-Some.node) (sym c.in_ok-node.ensures ∙ c.in-Some.is) in
+    no_front (free_on c.self.inside.stock c.in-Some.node) (sym c.front.ensures.front ∙ c.in_default-front.is) (found_free c.self.inside.stock.free _ c.in-Some.node found)
 
 pub allocate-requires-clause-frame : goal.allocate-requires-clause-frame
 allocate-requires-clause-frame g c =
@@ -44,7 +44,7 @@ zero-requires g c =
 
 pub invariant_of-self-2 : goal.invariant_of-self-2
 invariant_of-self-2 g c =
-    let found = inside _ _ _ _ c.self.view_is (λ s. first_free s (first_touch_order s.layout s.online c.args.t.info.home c.args.t.info.allowed c.args.t.policy c.args.t.page.index) ≡ Some c.in-Some.node) (sym c.in_ok-node.ensures ∙ c.in-Some.is) in
+    let found = inside _ _ _ _ c.self.view_is (λ s. first_free s.free (first_touch_order s.layout s.online c.args.t.info.home c.args.t.info.allowed c.args.t.policy c.args.t.page.index) ≡ Some c.in-Some.node) (sym c.in_ok-node.ensures ∙ c.in-Some.is) in
     let front : slice_get (free_on c.self.inside.stock c.in-Some.node) 0 ≡ Some c.in-Some-front.frame = sym c.front.ensures.front ∙ c.in-Some-front.is in
     let touched = inside _ _ _ _ c.self.view_is (λ s. IsTouched s c.args.t c.requires.touched.0 c.requires.touched.1) c.requires.touched.2 in
     let unplaced = inside _ _ _ _ c.self.view_is (λ s. get page_cmp s.place c.args.t.page ≡ None) c.requires.unplaced in
@@ -55,11 +55,11 @@ invariant_of-self-2 g c =
     let vacated : c.zero.new.self.vacated ≡ c.self.inside.stock.vacated = ap (λ (k : Shelf). k.vacated) c.zero.ensures ∙ ap (λ (k : Shelf). k.vacated) c.take_front.ensures.rest in
     subst (λ l. IsKept (shown_by c.allocate.new.self c.zero.new.self c.self.inside.online c.self.inside.totals.moved c.self.inside.totals.failed) l c.allocate.new.self.frames) (sym vacated)
     (subst (λ (z : Spaced). IsKept (shown z.processes (table_of z) (stocked c.allocate.new.self c.zero.new.self) c.self.inside.online c.self.inside.totals.moved c.self.inside.totals.failed) c.self.inside.stock.vacated z.frames) (sym is)
-    (filled_kept c.self.inside.spaces.processes (table_of c.self.inside.spaces) (stocked c.self.inside.spaces c.self.inside.stock) c.self.inside.online c.self.inside.totals.moved c.self.inside.totals.failed _ c.args.t c.requires.touched.0 c.requires.touched.1 c.self.invariant touched c.in-Some.node (with_new_page c.self.inside.spaces c.args.t.pid c.requires.touched.0 c.args.t.vpn c.args.t.page c.in-Some-front.frame).processes (stocked c.allocate.new.self c.zero.new.self) whole refl to unplaced (found_free (shown_by c.self.inside.spaces c.self.inside.stock c.self.inside.online c.self.inside.totals.moved c.self.inside.totals.failed) _ c.in-Some.node found) unseen))
+    (filled_kept c.self.inside.spaces.processes (table_of c.self.inside.spaces) (stocked c.self.inside.spaces c.self.inside.stock) c.self.inside.online c.self.inside.totals.moved c.self.inside.totals.failed _ c.args.t c.requires.touched.0 c.requires.touched.1 c.self.invariant touched c.in-Some.node (with_new_page c.self.inside.spaces c.args.t.pid c.requires.touched.0 c.args.t.vpn c.args.t.page c.in-Some-front.frame).processes (stocked c.allocate.new.self c.zero.new.self) whole refl to unplaced (found_free c.self.inside.stock.free _ c.in-Some.node found) unseen))
 
 pub returns-clause-touches : goal.returns-clause-touches
 returns-clause-touches g c p a known =
-    let found = inside _ _ _ _ c.self.view_is (λ s. first_free s (first_touch_order s.layout s.online c.args.t.info.home c.args.t.info.allowed c.args.t.policy c.args.t.page.index) ≡ Some c.in-Some.node) (sym c.in_ok-node.ensures ∙ c.in-Some.is) in
+    let found = inside _ _ _ _ c.self.view_is (λ s. first_free s.free (first_touch_order s.layout s.online c.args.t.info.home c.args.t.info.allowed c.args.t.policy c.args.t.page.index) ≡ Some c.in-Some.node) (sym c.in_ok-node.ensures ∙ c.in-Some.is) in
     let front : slice_get (free_on c.self.inside.stock c.in-Some.node) 0 ≡ Some c.in-Some-front.frame = sym c.front.ensures.front ∙ c.in-Some-front.is in
     let touched = inside _ _ _ _ c.self.view_is (λ s. IsTouched s c.args.t p a) known in
     let unplaced = inside _ _ _ _ c.self.view_is (λ s. get page_cmp s.place c.args.t.page ≡ None) c.requires.unplaced in
@@ -69,7 +69,7 @@ returns-clause-touches g c p a known =
     ap (λ (y : Amid). filled y.state (spot_at c.args.t p a)) (sym c.self.view_is)
     ∙ filled_is c.self.inside.spaces.processes (table_of c.self.inside.spaces) (stocked c.self.inside.spaces c.self.inside.stock) c.self.inside.online c.self.inside.totals.moved c.self.inside.totals.failed _ c.args.t p a c.self.invariant touched c.in-Some.node found
     ∙ ap Ok (sym (ap (λ (z : Spaced). shown z.processes (table_of z) (stocked c.allocate.new.self c.zero.new.self) c.self.inside.online c.self.inside.totals.moved c.self.inside.totals.failed) is
-    ∙ filled_shows c.self.inside.spaces.processes (table_of c.self.inside.spaces) (stocked c.self.inside.spaces c.self.inside.stock) c.self.inside.online c.self.inside.totals.moved c.self.inside.totals.failed _ c.args.t p a c.self.invariant touched c.in-Some.node (with_new_page c.self.inside.spaces c.args.t.pid p c.args.t.vpn c.args.t.page c.in-Some-front.frame).processes (stocked c.allocate.new.self c.zero.new.self) whole refl to unplaced (found_free (shown_by c.self.inside.spaces c.self.inside.stock c.self.inside.online c.self.inside.totals.moved c.self.inside.totals.failed) _ c.in-Some.node found)))
+    ∙ filled_shows c.self.inside.spaces.processes (table_of c.self.inside.spaces) (stocked c.self.inside.spaces c.self.inside.stock) c.self.inside.online c.self.inside.totals.moved c.self.inside.totals.failed _ c.args.t p a c.self.invariant touched c.in-Some.node (with_new_page c.self.inside.spaces c.args.t.pid p c.args.t.vpn c.args.t.page c.in-Some-front.frame).processes (stocked c.allocate.new.self c.zero.new.self) whole refl to unplaced (found_free c.self.inside.stock.free _ c.in-Some.node found)))
 
 pub returns-clause-frame : goal.returns-clause-frame
 returns-clause-frame g c =

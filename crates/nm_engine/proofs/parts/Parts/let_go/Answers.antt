@@ -25,6 +25,6 @@ returns-clause-done g c =
     let i = c.self.inside in (
       refl,
       gone_shows i.spaces i.stock i.online i.totals.moved i.totals.failed c.args.pid (c.args.addr / 4096) (c.args.addr / 4096 + c.args.pages) c.remove.new.self c.free_each.new.stock _
-          c.self.invariant.sound.pins c.in_ok-freed.ensures.ok (c.as_slice.ensures.value ∙ c.in_ok-freed.ensures.freed) c.free_each.ensures
+          c.self.invariant.sound.pins.same_pages c.in_ok-freed.ensures.ok (c.as_slice.ensures.value ∙ c.in_ok-freed.ensures.freed) c.free_each.ensures
           ∙ ap (λ (a : Amid). dropped a.state c.args.pid (c.args.addr / 4096) (c.args.addr / 4096 + c.args.pages)) c.self.view_is,
     )

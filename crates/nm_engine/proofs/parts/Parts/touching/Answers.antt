@@ -1,10 +1,11 @@
 use Rattle.std.proofs.Common.{◌≡◌, ◌+◌, ◌-◌, ◌∙◌, sym, ap, subst, Ok, arith}
 use Rattle.nm_types.specs.State.{Process, Placed}
+use Rattle.nm_types.proofs.Cases.{some_is}
 use Rattle.nm_engine.specs.Amid.{IsTouched, spot_at}
 use Rattle.nm_engine.specs.Parts.{shown}
 use Rattle.nm_engine.specs.declared.touching.Touching.{Touching}
 use Rattle.nm_engine.specs.Touch.{spot}
-use Rattle.nm_engine.proofs.Touches.{outside, some_is, touched_there}
+use Rattle.nm_engine.proofs.Touches.{outside, touched_there}
 use Rattle.nm_engine.specs.Spaced.{table_of}
 use Rattle.nm_engine.specs.Parts.{stocked}
 use Rattle.nm_engine.proofs.parts.Parts.touching.Goals as goal

@@ -11,10 +11,10 @@ pub pins-requires : goal.pins-requires
 pins-requires g c = c.self.invariant.in_range _ _ c.in-Some.ensures.some.4
 
 pub returns-then-pins-gt0 : goal.returns-then-pins-gt0
-returns-then-pins-gt0 g c s areas pins =
+returns-then-pins-gt0 g c =
     let x = c.self.inside in
     let there = c.in-Some.ensures.some in
-    sym (one_there c.args.self.now x.tasks x.areas x.rmap c.self.view_is s c.args.pid c.args.first c.args.end _ there.0 _ areas pins (omega (arith, c.loop-vpn.invariant.low, c.new.ensures, there.1)) there.2 there.3 there.4
+    sym (one_there c.args.self.now x.tasks x.areas x.rmap c.self.view_is c.args.pid c.args.first c.args.end _ there.0 _ (omega (arith, c.loop-vpn.invariant.low, c.new.ensures, there.1)) there.2 there.3 there.4
     (subst (λ n. 0 < n) c.pins.ensures.pins c.if-pins-gt0.true))
 
 pub loop-vpn-smaller : goal.loop-vpn-smaller
@@ -33,7 +33,7 @@ loop-vpn-preserved g c =
     }
 
 pub returns : goal.returns
-returns g c s areas pins =
+returns g c =
     let x = c.self.inside in
-    sym (none_at_all c.args.self.now x.tasks x.areas x.rmap c.self.view_is s c.args.pid c.args.first c.loop-vpn.at c.new.result c.args.end areas pins c.new.ensures c.in_default.ensures.kept.apart
+    sym (none_at_all c.args.self.now x.tasks x.areas x.rmap c.self.view_is c.args.pid c.args.first c.loop-vpn.at c.new.result c.args.end c.new.ensures c.in_default.ensures.kept.apart
     c.loop-vpn.invariant.none c.in_default.ensures.none)

@@ -8,7 +8,7 @@ use Rattle.nm_rmap.specs.Mappers.{Mappers, mappers_of, carried}
 use Rattle.nm_engine.specs.Tasked.{Task, IsThere, remapped}
 use Rattle.nm_engine.specs.Spaced.{spaced, with_moved}
 use Rattle.nm_engine.specs.Tied.{IsTied}
-use Rattle.nm_engine.proofs.Maps.{page_cmp_total, exact_page, replace_is_set}
+use Rattle.nm_types.proofs.Maps.{page_cmp_total, exact_page, replace_is_set}
 use Rattle.nm_engine.proofs.Remapped.{mappers_there}
 use Rattle.nm_engine.proofs.TiedMoved.{placed_in, spare_in, spare_without, move_tied, move_shows}
 use Rattle.nm_engine.proofs.spaces.Spaces.move_page.Given.{Over}

@@ -3,7 +3,7 @@ use Rattle.std.specs.Map.{keys_of}
 use Rattle.std.specs.List.Sorted.{IsStrictlySortedBy}
 use Rattle.std.specs.Ordering.{nat_cmp}
 use Rattle.nm_engine.proofs.Tabled.{without_same}
-use Rattle.nm_engine.proofs.Keys.{sorted-without}
+use Rattle.nm_types.proofs.Keys.{sorted-without}
 use Rattle.nm_engine.proofs.tasks.Tasks.remove.Goals as goal
 
 pub returns-clause-ordered : goal.returns-clause-ordered

@@ -1,8 +1,9 @@
 use Rattle.std.proofs.Common.{ℕ, ap, sym, ◌∙◌}
 use Rattle.std.specs.Ordering.{nat_cmp}
 use Rattle.nm_types.specs.Map.{get, Map}
+use Rattle.nm_types.proofs.Cases.{none_always}
 use Rattle.nm_tables.specs.declared.entry.Entry.{Entry}
-use Rattle.nm_tables.proofs.Firsts.{none_always, none_at_all, none_before}
+use Rattle.nm_tables.proofs.Firsts.{none_at_all, none_before}
 use Rattle.nm_tables.proofs.table.PageTable.first_from.Goals as goal
 
 pub returns-in_err-vpn-clause-none : goal.returns-in_err-vpn-clause-none

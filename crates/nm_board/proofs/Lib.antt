@@ -1,0 +1,9 @@
+pub mod Counts
+pub mod Sums
+pub mod Kept
+pub mod Stepping
+pub mod Hands
+pub mod Filled
+pub mod Full
+pub mod Callers
+pub mod Staged

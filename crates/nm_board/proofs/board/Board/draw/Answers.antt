@@ -1,0 +1,35 @@
+use Rattle.std.proofs.Common.{◌<◌, ◌∷◌, length, sym, ap, ◌∙◌, arith, None}
+use lib.ListN.{get_elem?}
+use Rattle.atomic_table.specs.Table.{rest}
+use Rattle.nm_board.specs.Steps.{Mine}
+use Rattle.nm_board.proofs.Counts.{get_of}
+use Rattle.nm_board.proofs.Stepping.{draws}
+use Rattle.nm_board.proofs.Hands.{drew, same_value, fits_drew, own_is}
+use Rattle.nm_board.proofs.board.Board.draw.Goals as goal
+
+pub fetch_add-ticket-requires : goal.fetch_add-ticket-requires
+fetch_add-ticket-requires g c =
+    let f = c.hand.invariant in
+    let own = own_is _ _ _ _ _ c.hand.inside.seat.me _ _ c.hand.view_is c.requires.own c.self.view_is in (
+      own.0,
+      omega (arith, c.self.invariant.words),
+      draws _ _ _ _ (omega (arith, f.shares_are, f.some_share)) (f.past_is ∙ (ap (λ h. h.past_end) c.hand.view_is ∙ c.requires.open)),
+    )
+
+pub invariant_of-hand-2 : goal.invariant_of-hand-2
+invariant_of-hand-2 g c =
+    let own = own_is _ _ _ _ _ c.hand.inside.seat.me _ _ c.hand.view_is c.requires.own c.self.view_is in
+    let lt : c.fetch_add-ticket.result < length c.hand.inside.seat.me.0.jobs = omega (arith, ap length own.1, c.self.invariant.slots, c.slot_count.ensures, c.if-ticket-slot_count.false) in
+    let took = c.fetch_add-ticket.ensures.2.below lt in
+    fits_drew _ _ _ _ _ _ c.hand.invariant (ap (λ h. h.past_end) c.hand.view_is ∙ c.requires.open) took.above
+    (c.take_out.ensures.seat.2 ∙ ap (λ (z : Mine _). (z.0, (c.fetch_add-ticket.result, None) ∷ rest z.1)) took.now)
+
+pub returns-clause-job : goal.returns-clause-job
+returns-clause-job g c =
+    let own = own_is _ _ _ _ _ c.hand.inside.seat.me _ _ c.hand.view_is c.requires.own c.self.view_is in
+    let lt : c.fetch_add-ticket.result < length c.hand.inside.seat.me.0.jobs = omega (arith, ap length own.1, c.self.invariant.slots, c.slot_count.ensures, c.if-ticket-slot_count.false) in
+    let took = c.fetch_add-ticket.ensures.2.below lt in
+    let now = c.take_out.ensures.seat.2 ∙ ap (λ (z : Mine _). (z.0, (c.fetch_add-ticket.result, None) ∷ rest z.1)) took.now in
+    let is = same_value _ _ _ _ _ _ (ap (λ (z : Mine _). z.1) took.now) c.take_out.ensures.job in
+    let number = c.self.invariant.in_order c.fetch_add-ticket.result took.job (get_of c.self.inside.table.shared.key.value.items c.fetch_add-ticket.result took.job (ap (λ l. get_elem? l c.fetch_add-ticket.result) (sym own.1) ∙ took.laid)) in
+    rw is (drew c.args.hand.now _ _ _ _ _ _ took.job c.fetch_add-ticket.result None c.hand.view_is (c.take_out.ensures.seat.0 ∙ c.fetch_add-ticket.ensures.0) number took.laid now took.above)

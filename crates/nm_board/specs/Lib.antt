@@ -1,0 +1,5 @@
+pub mod Tickets
+pub mod Rule
+pub mod Steps
+pub mod Shown
+pub mod Stages

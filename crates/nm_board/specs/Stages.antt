@@ -1,0 +1,93 @@
+-- The words and the hands of a board show how far each job is.
+use Rattle.std.specs.Prelude.{◌≡◌, ◌≢◌, ℕ, ◌+◌, ◌<◌, ◌≤◌, Bool, List, [], ◌∷◌, ◌++◌, length, slice_index, slice_set, Option}
+use mathlib.Core.Option.{some}
+use lib.ListN.{get_elem?}
+use Rattle.atomic_table.specs.Table.{State, Step, rest}
+use Rattle.nm_frames.specs.declared.job.CopyJob.{CopyJob}
+use Rattle.nm_board.specs.declared.view.View.{View}
+use Rattle.nm_board.specs.Tickets.{times}
+use Rattle.nm_board.specs.Rule.{total, IsKept, spent_view}
+use Rattle.nm_board.specs.Steps.{Mine, Draws, Gives, less, part, both}
+use Rattle.nm_board.specs.Shown.{Fits}
+
+-- a job lies on the board, a hand has it, or it was given back
+pub data Stage : Type 0 where
+  Laid : Stage
+  InHand : (hand : ℕ) → Stage
+  Given : Stage
+
+-- a board at one moment: its words, its slots and what its hands know
+abbrev pub Moment : Type 0 → Type 0
+Moment A = State (Option (CopyJob A)) (View A)
+
+-- the draws so far, and the tickets given back so far
+abbrev pub next_of : {A : Type 0} → Moment A → ℕ
+next_of s = slice_index s.words 0
+
+abbrev pub given_of : {A : Type 0} → Moment A → ℕ
+given_of s = slice_index s.words 1
+
+-- what a board shows of the job of ticket t: it lies where no draw has come so far; a hand has it that drew it and has
+-- not given it back; it is given where some hand gave it back
+abbrev pub IsAt : {A : Type 0} → Moment A → ℕ → Stage → Type 0
+IsAt s t Laid = next_of s ≤ t
+IsAt {A} s t (InHand hand) = (v : View A) × (get_elem? s.views hand ≡ some v) × (0 < times t v.drawn) × (times t v.done ≡ 0)
+IsAt s t Given = 0 < total (λ v. times t v.done) s.views
+
+-- at each moment each job is at one stage and at no other
+abbrev pub EachIsAtOneStage : Type 0 → Type 0
+EachIsAtOneStage A = (jobs : List (CopyJob A)) (s : Moment A) → IsKept jobs s → (t : ℕ) → t < length jobs
+    → (stage : Stage) × IsAt s t stage × ((other : Stage) → IsAt s t other → other ≡ stage)
+
+-- the job of ticket t goes from one stage to another, and every other job stays where it is
+pub record Turns {A : Type 0} (old new : Moment A) (t : ℕ) (from to : Stage) : Type 0 where
+  pub was : IsAt old t from
+  pub is : IsAt new t to
+  pub others : (u : ℕ) (stage : Stage) → u ≢ t → IsAt old u stage → IsAt new u stage
+
+-- each of the jobs stays where it is
+abbrev pub Stays : {A : Type 0} → List (CopyJob A) → Moment A → Moment A → Type 0
+Stays jobs old new = (t : ℕ) (stage : Stage) → t < length jobs → IsAt old t stage → IsAt new t stage
+
+-- a hand steps: a word becomes this number, the hand knows what it knows after the step, and nothing else changes
+pub record Moves {A : Type 0} (jobs : List (CopyJob A)) (hand word number : ℕ) (old new : Moment A) (me now : Mine A) : Type 0 where
+  pub kept : IsKept jobs old
+  pub shares : ℕ
+  pub past : Bool
+  pub fits : Fits me shares past
+  pub mine : get_elem? old.views hand ≡ some me.0
+  pub words : new.words ≡ slice_set old.words word number
+  pub views : new.views ≡ slice_set old.views hand now.0
+
+-- a draw takes the first job that lies into the hand
+abbrev pub DrawTakesTheFirst : Type 0 → Type 0
+DrawTakesTheFirst A = (jobs : List (CopyJob A)) (hand : ℕ) (old new : Moment A) (me now : Mine A) (s : Step (Option (CopyJob A)))
+    → Moves jobs hand 0 (next_of old + 1) old new me now → Draws s me (next_of old) now → next_of old < length jobs
+    → Turns old new (next_of old) Laid (InHand hand) × ((t : ℕ) → IsAt old t Laid → next_of old ≤ t)
+
+-- where no job is left, it takes none
+abbrev pub LateDrawTakesNone : Type 0 → Type 0
+LateDrawTakesNone A = (jobs : List (CopyJob A)) (hand : ℕ) (old new : Moment A) (me now : Mine A) (s : Step (Option (CopyJob A)))
+    → Moves jobs hand 0 (next_of old + 1) old new me now → Draws s me (next_of old) now → length jobs ≤ next_of old
+    → Stays jobs old new
+
+-- a hand gives back the job that it took last
+abbrev pub GiveReturnsTheLast : Type 0 → Type 0
+GiveReturnsTheLast A = (jobs : List (CopyJob A)) (hand t : ℕ) (job : Option (CopyJob A)) (old new : Moment A) (me now : Mine A)
+    → (s : Step (Option (CopyJob A)))
+    → Moves jobs hand 1 (given_of old + 1) old new me now → Gives s me (given_of old) now → me.1 ≡ (t, job) ∷ rest me.1
+    → Turns old new t (InHand hand) Given
+
+-- a split changes no job's stage
+abbrev pub SplitChangesNone : Type 0 → Type 0
+SplitChangesNone A = (jobs : List (CopyJob A)) (hand n : ℕ) (old new : Moment A) (v : View A)
+    → get_elem? old.views hand ≡ some v → new.words ≡ old.words → new.views ≡ slice_set old.views hand (less n v) ++ part n v ∷ []
+    → Stays jobs old new
+
+-- nor does a join of two hands that have given back all that they drew
+abbrev pub JoinChangesNone : Type 0 → Type 0
+JoinChangesNone A = (jobs : List (CopyJob A)) (hand other : ℕ) (old new : Moment A) (v w : View A)
+    → get_elem? old.views hand ≡ some v → get_elem? old.views other ≡ some w → other ≢ hand
+    → ((t : ℕ) → times t v.drawn ≡ times t v.done) → ((t : ℕ) → times t w.drawn ≡ times t w.done)
+    → new.words ≡ old.words → new.views ≡ slice_set (slice_set old.views hand (both v w)) other spent_view
+    → Stays jobs old new

@@ -1,0 +1,20 @@
+-- Jobs and their tickets.
+use Rattle.std.specs.Prelude.{◌≡◌, ℕ, ◌+◌, ◌==◌, nat_lt, if◌then◌else◌, List, [], ◌∷◌, slice_get, Some}
+use Rattle.nm_frames.specs.declared.job.CopyJob.{CopyJob}
+
+-- the jobs stand in the order of their tickets, 0 first
+abbrev pub InTicketOrder : {A : Type 0} → List (CopyJob A) → Type 0
+InTicketOrder {A} jobs = (t : ℕ) (job : CopyJob A) → slice_get jobs t ≡ Some job → job.ticket ≡ t
+
+-- 1 where the two are one ticket, else 0
+abbrev pub hit : ℕ → ℕ → ℕ
+hit t u = if t == u then 1 else 0
+
+-- how often a ticket stands in a list
+abbrev pub times : ℕ → List ℕ → ℕ
+times t [] = 0
+times t (u ∷ us) = hit t u + times t us
+
+-- 1 for a ticket below n, else 0
+abbrev pub once_below : ℕ → ℕ → ℕ
+once_below t n = if nat_lt t n then 1 else 0

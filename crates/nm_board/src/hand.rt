@@ -1,0 +1,72 @@
+//! The hands that draw from a board.
+
+ghost use Rattle.std.specs.Prelude.{◌≡◌, ◌<◌, ◌≤◌, [], true};
+ghost use Rattle.nm_board.specs.Shown.{without, split_off, joined, HasEach, HasNoneTwice};
+
+use crate::board::{Board, GIVEN};
+use crate::plays::{Both, Looking, Slot};
+use crate::seats::cut;
+use crate::view::View;
+use atomic_table::Seat;
+use std::alloc::Allocator;
+use std::marker::{Brand, Model};
+
+/// The right to draw from a board, with some of its 64 shares. Contracts see its board, its shares, whether it is past
+/// the end, the tickets that it drew, those that it gave back, and those that are out with it.
+#[derive(Drop)]
+pub struct Hand<A: Allocator + Copy> {
+    pub(crate) seat: Seat<Slot<A>, View<A>>,
+    pub(crate) shares: u64,
+    pub(crate) past_end: bool,
+}
+
+impl<A: Allocator + Copy> Model for Hand<A> {
+    ghost use Rattle.nm_board.specs.Shown.{Holding, Fits, shown};
+
+    ghost Value = { Holding A };
+
+    ghost view = { λ h. shown h.seat.table_id h.seat.me h.shares h.past_end };
+
+    ghost invariant = { λ h. Fits h.seat.me h.shares h.past_end };
+}
+
+impl<A: Allocator + Copy> Hand<A> {
+    /// Splits off a new hand with so many of this one's shares. Each keeps at least one. The new one has drawn nothing,
+    /// and is past the end where this one is.
+    pub fn split(&mut self, board: &Board<A>, shares: u64) -> Hand<A>
+        requires own { self.old.board ≡ board.now }
+        requires some { 0 < shares }
+        requires fewer { shares < self.old.shares }
+        ensures left { self.new ≡ without self.old shares }
+        ensures new { result ≡ split_off self.old shares }
+    {
+        let past_end = self.past_end;
+        let seat = cut::<Brand, A>(&board.table.shared, &mut self.seat, shares);
+        self.shares -= shares;
+        Hand {
+            seat,
+            shares,
+            past_end,
+        }
+    }
+
+    /// Takes in another hand, its shares and its tickets. Both have given back all that they drew. A hand that so has
+    /// all shares, and of which a part was past the end, has drawn each ticket once.
+    pub fn join(&mut self, board: &Board<A>, other: Hand<A>)
+        requires own { (self.old.board ≡ board.now) × (other.board ≡ board.now) }
+        requires given { (self.old.out ≡ []) × (other.out ≡ []) }
+        ensures both { self.new ≡ joined self.old other }
+        ensures once { HasNoneTwice self.new }
+        ensures each { self.new.past_end ≡ true → self.new.shares ≡ 64 → HasEach self.new }
+    {
+        let Hand {
+            seat,
+            shares,
+            past_end,
+        } = other;
+        board.table.shared.join_seat::<Both>(&mut self.seat, seat);
+        board.table.shared.load::<Looking>(&mut self.seat, GIVEN);
+        self.shares += shares;
+        self.past_end |= past_end;
+    }
+}

@@ -1,0 +1,5 @@
+use Rattle.nm_calls.proofs.Refusals.{refusals_change_nothing}
+use Rattle.nm_calls.proofs.laws.refusals_change_nothing.Goals as goal
+
+pub returns : goal.returns
+returns c = refusals_change_nothing

@@ -1,0 +1,47 @@
+-- Who may act on the pages of a process.
+use Rattle.std.specs.Prelude.{ℕ, nat_le, ◌/◌, ◌%◌, ◌==◌, Bool, not, ◌&&◌, ◌||◌, List, [], ◌∷◌, Option, Some, None, if◌then◌else◌}
+use Rattle.std.specs.Option.{option_map}
+use Rattle.std.specs.Ordering.{nat_cmp}
+use Rattle.nm_types.specs.declared.errno.Errno.{Errno}
+use Rattle.nm_types.specs.declared.errno.Errno.TheVariants.{Eperm, Esrch, Einval}
+use Rattle.nm_types.specs.Map.{get}
+use Rattle.nm_types.specs.State.{State}
+use Rattle.nm_runs.specs.Targets.{earlier}
+use Rattle.nm_engine.specs.declared.ProcessInfo.{ProcessInfo}
+use Rattle.nm_engine.specs.Refused.{first_error}
+use Rattle.nm_engine.specs.Tables.{info_of}
+
+-- whether flags have a bit other than those of MPOL_MF_MOVE and MPOL_MF_MOVE_ALL, which are 2 and 4
+abbrev pub has_other_flags : ℕ → Bool
+has_other_flags flags = nat_le 8 flags || (flags % 2 == 1)
+
+-- whether MPOL_MF_MOVE_ALL is among flags; without it they act as MPOL_MF_MOVE
+abbrev pub moves_all : ℕ → Bool
+moves_all flags = flags / 4 % 2 == 1
+
+-- pid 0 is the caller
+abbrev pub owner_of : ℕ → ℕ → ℕ
+owner_of caller pid = if pid == 0 then caller else pid
+
+-- a flag that is unknown; MPOL_MF_MOVE_ALL without privilege
+abbrev pub flags_refusal : Bool → ℕ → Option Errno
+flags_refusal privileged flags =
+    first_error ((has_other_flags flags, Einval) ∷ (moves_all flags && not privileged, Eperm) ∷ [])
+
+-- no such process; one of another user, for a caller without privilege
+abbrev pub right_refusal : ProcessInfo → Option ProcessInfo → Option Errno
+right_refusal caller None = Some Esrch
+right_refusal caller (Some owner) = if (caller.uid == owner.uid) || caller.privileged then None else Some Eperm
+
+-- no such caller; then the flags; then the right to act on the process
+abbrev pub asking_refusal : Option ProcessInfo → Option ProcessInfo → ℕ → Option Errno
+asking_refusal None owner flags = Some Esrch
+asking_refusal (Some caller) owner flags = earlier (flags_refusal caller.privileged flags) (right_refusal caller owner)
+
+-- what is fixed of a process, if it is there
+abbrev pub info_at : State → ℕ → Option ProcessInfo
+info_at s pid = option_map info_of (get nat_cmp s.processes pid)
+
+-- the refusal of a look at the pages of a process
+abbrev pub query_refusal : State → ℕ → ℕ → ℕ → Option Errno
+query_refusal s caller pid flags = asking_refusal (info_at s caller) (info_at s (owner_of caller pid)) flags

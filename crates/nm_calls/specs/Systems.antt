@@ -1,0 +1,26 @@
+-- What a system is, as its calls see it.
+use Rattle.std.specs.Prelude.{ℕ}
+use Rattle.nm_types.specs.Layout.{Layout}
+use Rattle.nm_types.specs.State.{State}
+use Rattle.nm_engine.specs.Effect.{new_machine}
+
+-- the state of its machine, and how many entries a run has at most
+pub record SystemState : Type 0 where
+  pub state : State
+  pub run_limit : ℕ
+
+-- how many entries a run has at most where nothing is said: as many as a batch
+abbrev pub default_limit : ℕ
+default_limit = 16384
+
+-- a new machine of these nodes, with this limit
+abbrev pub system_with : Layout → ℕ → SystemState
+system_with layout limit = record { state = new_machine layout; run_limit = limit }
+
+-- .. and where nothing is said of runs
+abbrev pub new_system : Layout → SystemState
+new_system layout = system_with layout default_limit
+
+-- the system in another state
+abbrev pub in_state : SystemState → State → SystemState
+in_state y s = record { state = s; run_limit = y.run_limit }

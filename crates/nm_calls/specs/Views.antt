@@ -1,0 +1,33 @@
+-- Calls and their answers, without where they lie in memory.
+use Rattle.nm_calls.specs.declared.call.Call as values
+use Rattle.nm_calls.specs.declared.call.Call.TheVariants as call
+use Rattle.nm_calls.specs.declared.answer.Answer as values_of_answers
+use Rattle.nm_calls.specs.declared.answer.Answer.TheVariants as answer
+use Rattle.nm_calls.specs.Calls.{Call, Spawn, MapPages, Attach, Unmap, Exit, Pin, Unpin, ReadBytes, WriteBytes, MovePages, Query, FreeList, Pagemap, Answer, Done, NewSegment, TheBytes, Statuses, Frames, Entries}
+use Rattle.nm_calls.specs.Entries.{entries_mapped}
+
+-- what a call asks
+abbrev pub call_of : {A : Type 0} → values.Call A → Call
+call_of (call.Spawn process) = Spawn process.pid process.uid process.home process.allowed process.privileged
+call_of (call.Map area) = MapPages area.pid area.addr area.pages area.shared
+call_of (call.Attach area) = Attach area.pid area.addr area.segment area.offset area.pages
+call_of (call.Unmap pid addr pages) = Unmap pid addr pages
+call_of (call.Exit pid) = Exit pid
+call_of (call.Pin pid addr) = Pin pid addr
+call_of (call.Unpin pid addr) = Unpin pid addr
+call_of (call.Read pid addr len) = ReadBytes pid addr len
+call_of (call.Write pid addr bytes) = WriteBytes pid addr bytes.items
+call_of (call.MovePages request) =
+    MovePages request.caller request.pid request.batch.pages.items request.batch.nodes.items request.flags
+call_of (call.Query question) = Query question.caller question.pid question.pages.items question.flags
+call_of (call.FreeList node) = FreeList node
+call_of (call.Pagemap pid) = Pagemap pid
+
+-- what a call answers
+abbrev pub answer_of : {A : Type 0} → values_of_answers.Answer A → Answer
+answer_of answer.Done = Done
+answer_of (answer.Segment segment) = NewSegment segment
+answer_of (answer.Bytes bytes) = TheBytes bytes.items
+answer_of (answer.Statuses moved) = Statuses moved.failed moved.statuses.items
+answer_of (answer.Frames frames) = Frames frames.items
+answer_of (answer.Entries entries) = Entries (entries_mapped entries.items)

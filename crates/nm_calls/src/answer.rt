@@ -1,0 +1,39 @@
+//! What calls answer.
+
+use nm_types::{FrameId, Vpn};
+use std::alloc::Allocator;
+
+/// What a batch answers.
+#[derive(Debug, Drop)]
+pub struct Moved<A: Allocator + Copy + Send + Sync> {
+    /// How many entries failed, for a pin or for want of a free frame: those with status -16 or -12.
+    pub failed: usize,
+    /// The status of each entry: the node where its page is, or an error's number with a minus sign.
+    pub statuses: Vec<i32, A>,
+}
+
+/// An entry of a process, at a page number.
+#[derive(Clone, Copy, Debug, PartialEq, Eq)]
+pub struct Mapped {
+    /// The page number.
+    pub vpn: Vpn,
+    /// The frame, or None for the page of zeros.
+    pub frame: Option<FrameId>,
+}
+
+/// What a call that is not refused answers.
+#[derive(Debug, Drop)]
+pub enum Answer<A: Allocator + Copy + Send + Sync> {
+    /// Nothing to be told.
+    Done,
+    /// The number of a new segment.
+    Segment(u32),
+    /// The bytes that were read.
+    Bytes(Vec<u8, A>),
+    /// The statuses of a batch, or of pages that are looked at, where none failed.
+    Statuses(Moved<A>),
+    /// Frames, the front first.
+    Frames(Vec<FrameId, A>),
+    /// The entries of a process, by address.
+    Entries(Vec<Mapped, A>),
+}

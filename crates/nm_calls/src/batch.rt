@@ -1,0 +1,137 @@
+//! A batch of pages to be moved: whether they may go there, and its runs, one after another.
+
+ghost use Rattle.std.specs.Prelude.{◌≡◌, ℕ, ◌<◌, ◌≤◌, ◌/◌, ◌&&◌, nat_lt, [], All, EachIndex, IfOk, OnOk, length, slice_index, vec_capacity};
+ghost use Rattle.std.specs.List.{sum_by};
+ghost use Rattle.nm_types.specs.Layout.{node_count};
+ghost use Rattle.nm_types.specs.Nodes.{is_in};
+ghost use Rattle.nm_runs.specs.declared.Wanted.TheVariants.{At};
+ghost use Rattle.nm_runs.specs.Cut.{stretches_of};
+ghost use Rattle.nm_runs.specs.Limit.{cut_within};
+ghost use Rattle.nm_runs.specs.Targets.{first_refusal, Checks};
+ghost use Rattle.nm_engine.specs.Run.{failures, HasOneAll};
+ghost use Rattle.nm_calls.specs.Batch.{requests_of};
+ghost use Rattle.nm_calls.specs.Does.{Moves};
+
+use crate::answer::Moved;
+use crate::call_error::CallError;
+use nm_engine::Machine;
+use nm_runs::{Request, Run, Wanted, check_batch, cut_within};
+use nm_types::{Errno, NodeId, NodeMask, Pid, Vpn};
+use std::alloc::{AllocError, Allocator};
+
+/// The nodes of the machine that are online.
+fn online_nodes<A: Allocator + Copy + Send + Sync>(machine: &Machine<A>) -> NodeMask
+    ensures { (node : ℕ) → is_in result node ≡ (nat_lt node (node_count (machine.now.layout)) && is_in machine.now.online node) }
+{
+    let mut nodes = NodeMask::new();
+    for number in 0..machine.node_count() {
+        let node = NodeId::new(number as u32);
+        if machine.is_online(node) {
+            nodes.insert(node);
+        }
+    }
+    nodes
+}
+
+/// Whether the pages of a process that may use the allowed nodes may go to these nodes; else the refusal of the first
+/// entry that is refused: ENODEV where there is no such node or it is offline, and then EACCES where it is not allowed.
+pub(crate) fn check_targets<A: Allocator + Copy + Send + Sync>(
+    machine: &Machine<A>,
+    allowed: NodeMask,
+    nodes: &[u32],
+) -> Result<(), Errno>
+    ensures nodes { OnOk result (EachIndex nodes.now (λ k. slice_index nodes.now k < node_count (machine.now.layout))) }
+    ensures exact { Checks result (first_refusal (node_count (machine.now.layout)) machine.now.online allowed nodes.now) }
+{
+    check_batch(machine.node_count(), online_nodes(machine), allowed, nodes)
+}
+
+/// The request for the page of a process at an address.
+fn request_of(pid: Pid, all: bool, address: u64, node: u32) -> Request
+    ensures { result ≡ record { target = node; wanted = At pid (address / 4096) all } }
+{
+    let vpn = Vpn::of_address(address);
+    Request {
+        target: NodeId::new(node),
+        wanted: Wanted::At { pid, vpn, all },
+    }
+}
+
+/// The requests of a process at some addresses, each with the node at its place.
+fn requests_of<A: Allocator + Copy + Send + Sync>(
+    alloc: A,
+    pid: Pid,
+    all: bool,
+    pages: &[u64],
+    nodes: &[u32],
+) -> Result<Vec<Request, A>, AllocError>
+    ensures { IfOk result (λ requests. requests.items ≡ requests_of pid all pages.now nodes.now) }
+{
+    pages
+        .iter()
+        .zip(nodes)
+        .map(|(address, node)| request_of(pid, all, *address, *node))
+        .collect(alloc)
+}
+
+/// How many entries failed.
+fn failures(statuses: &[i32]) -> usize
+    ensures { result ≡ failures statuses.now }
+{
+    statuses
+        .iter()
+        .filter(|status| **status == -16 || **status == -12)
+        .count()
+}
+
+/// Makes runs one after another, and puts the statuses into a list that has room for them. An error means that the host
+/// refused memory after so many runs.
+fn move_runs<A: Allocator + Copy + Send + Sync>(
+    machine: &mut Machine<A>,
+    runs: &[Run<A>],
+    mut statuses: Vec<i32, A>,
+) -> Result<Moved<A>, CallError>
+    requires targets { All (λ run. run.target < node_count machine.old.layout) runs.now }
+    requires alike { All (λ run. HasOneAll run.wanted.items) runs.now }
+    requires empty { statuses.items ≡ [] }
+    requires room { sum_by (λ run. length run.wanted.items) runs.now ≤ vec_capacity statuses }
+    ensures { Moves result machine.old machine.new (stretches_of runs.now) }
+{
+    for (k, run) in runs.iter().enumerate() {
+        let Ok(answered) = machine.run_flight(run) else {
+            return Err(CallError::HostMemory {
+                runs: k,
+                policy_set: false,
+            });
+        };
+        statuses.extend_from_slice(answered.as_slice()).unwrap();
+    }
+    Ok(Moved {
+        failed: failures(statuses.as_slice()),
+        statuses,
+    })
+}
+
+/// Moves the pages of a batch, run after run, none of more entries than the limit. All that is asked for is made ready
+/// before the first run starts: what could be known before is not refused in the middle. An error means that the host
+/// refused memory after so many runs.
+#[tactic(auto, using(crate::proofs::Trails::first_state))]
+pub(crate) fn move_batch<A: Allocator + Copy + Send + Sync>(
+    alloc: A,
+    machine: &mut Machine<A>,
+    pid: Pid,
+    all: bool,
+    pages: &[u64],
+    nodes: &[u32],
+    limit: usize,
+) -> Result<Moved<A>, CallError>
+    requires some { 0 < limit }
+    requires nodes { EachIndex nodes.now (λ k. slice_index nodes.now k < node_count machine.old.layout) }
+    requires paired { length pages.now ≡ length nodes.now }
+    ensures { Moves result machine.old machine.new (cut_within limit (requests_of pid all pages.now nodes.now)) }
+{
+    let requests = requests_of(alloc, pid, all, pages, nodes)?;
+    let runs = cut_within(alloc, requests.as_slice(), limit)?;
+    let statuses = Vec::with_capacity(alloc, pages.len())?;
+    move_runs(machine, runs.as_slice(), statuses)
+}

@@ -1,0 +1,140 @@
+//! The calls of a system, as values.
+
+ghost use Rattle.std.specs.Prelude.{◌≡◌, length};
+
+use nm_types::{NodeId, NodeMask, Pid};
+use std::alloc::Allocator;
+
+/// What a new process is.
+#[derive(Clone, Copy, Debug, PartialEq, Eq)]
+pub struct NewProcess {
+    /// Its number.
+    pub pid: Pid,
+    /// Its user.
+    pub uid: u32,
+    /// The node where its memory is placed at first.
+    pub home: NodeId,
+    /// The nodes that it may use.
+    pub allowed: NodeMask,
+    /// Whether it may act on the processes of others, as CAP_SYS_NICE lets it.
+    pub privileged: bool,
+}
+
+/// An area over a new segment.
+#[derive(Clone, Copy, Debug, PartialEq, Eq)]
+pub struct NewArea {
+    /// Whose area it is.
+    pub pid: Pid,
+    /// The address at which it begins, in bytes.
+    pub addr: u64,
+    /// How many pages it has, and its segment.
+    pub pages: u64,
+    /// Whether other processes may attach the segment.
+    pub shared: bool,
+}
+
+/// An area over a stretch of a shared segment.
+#[derive(Clone, Copy, Debug, PartialEq, Eq)]
+pub struct Attachment {
+    /// Whose area it is.
+    pub pid: Pid,
+    /// The address at which it begins, in bytes.
+    pub addr: u64,
+    /// The segment's number.
+    pub segment: u64,
+    /// The page of the segment that it shows first.
+    pub offset: u64,
+    /// How many pages it has.
+    pub pages: u64,
+}
+
+/// Pages by an address in each, and for each the node that it is to move to: as many.
+#[derive(Debug, Drop)]
+pub struct Batch<A: Allocator + Copy + Send + Sync> {
+    /// An address in each page.
+    pub pages: Vec<u64, A>,
+    /// The target of each page, which need not be a node of the machine.
+    pub nodes: Vec<u32, A>,
+    pub ghost paired: { length pages.items ≡ length nodes.items },
+}
+
+/// Pages that are to move.
+#[derive(Debug, Drop)]
+pub struct MoveRequest<A: Allocator + Copy + Send + Sync> {
+    /// Who calls.
+    pub caller: Pid,
+    /// Whose addresses are named: 0 is the caller.
+    pub pid: Pid,
+    /// The pages and their targets.
+    pub batch: Batch<A>,
+    /// The flags by their bits: MPOL_MF_MOVE is 2, MPOL_MF_MOVE_ALL is 4.
+    pub flags: u32,
+}
+
+/// Pages that are looked at.
+#[derive(Debug, Drop)]
+pub struct Question<A: Allocator + Copy + Send + Sync> {
+    /// Who calls.
+    pub caller: Pid,
+    /// Whose addresses are named: 0 is the caller.
+    pub pid: Pid,
+    /// An address in each page.
+    pub pages: Vec<u64, A>,
+    /// The flags by their bits, as for pages that are to move.
+    pub flags: u32,
+}
+
+/// A call of a system, with its arguments: `System::call` makes it.
+#[derive(Debug, Drop)]
+pub enum Call<A: Allocator + Copy + Send + Sync> {
+    /// Makes a process.
+    Spawn(NewProcess),
+    /// Makes an area over a new segment.
+    Map(NewArea),
+    /// Makes an area over a stretch of a shared segment.
+    Attach(Attachment),
+    /// Lets go so many pages from an address on.
+    Unmap {
+        pid: Pid,
+        addr: u64,
+        pages: u64,
+    },
+    /// Ends a process.
+    Exit {
+        pid: Pid,
+    },
+    /// Pins the page at an address once more.
+    Pin {
+        pid: Pid,
+        addr: u64,
+    },
+    /// Takes one pin off the page at an address.
+    Unpin {
+        pid: Pid,
+        addr: u64,
+    },
+    /// Reads so many bytes at an address.
+    Read {
+        pid: Pid,
+        addr: u64,
+        len: u64,
+    },
+    /// Writes bytes at an address.
+    Write {
+        pid: Pid,
+        addr: u64,
+        bytes: Vec<u8, A>,
+    },
+    /// Moves pages, as `move_pages(2)`.
+    MovePages(MoveRequest<A>),
+    /// Asks where pages are, as `move_pages(2)` without nodes.
+    Query(Question<A>),
+    /// Asks for the free frames of a node.
+    FreeList {
+        node: NodeId,
+    },
+    /// Asks for the entries of a process.
+    Pagemap {
+        pid: Pid,
+    },
+}

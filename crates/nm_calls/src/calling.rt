@@ -1,0 +1,143 @@
+//! Calls that are given as values.
+
+ghost use Rattle.nm_calls.specs.Calls as calls;
+ghost use Rattle.nm_calls.specs.Does.{Does};
+ghost use Rattle.nm_calls.specs.Views.{call_of, answer_of};
+
+use crate::answer::{Answer, Moved};
+use crate::call::{Attachment, Batch, Call, MoveRequest, NewArea, NewProcess, Question};
+use crate::call_error::CallError;
+use crate::system::System;
+use std::alloc::Allocator;
+
+/// Makes a process.
+fn spawn<A: Allocator + Copy + Send + Sync>(
+    system: &mut System<A>,
+    process: &NewProcess,
+) -> Result<Answer<A>, CallError>
+    ensures { Does answer_of result system.old system.new
+        (calls.Spawn process.now.pid process.now.uid process.now.home process.now.allowed process.now.privileged) }
+{
+    let NewProcess {
+        pid,
+        uid,
+        home,
+        allowed,
+        privileged,
+    } = process;
+    system.spawn(*pid, *uid, *home, *allowed, *privileged)?;
+    Ok(Answer::Done)
+}
+
+/// Makes an area over a new segment.
+fn map<A: Allocator + Copy + Send + Sync>(
+    system: &mut System<A>,
+    area: &NewArea,
+) -> Result<u32, CallError>
+    ensures { Does calls.NewSegment result system.old system.new
+        (calls.MapPages area.now.pid area.now.addr area.now.pages area.now.shared) }
+{
+    let NewArea {
+        pid,
+        addr,
+        pages,
+        shared,
+    } = area;
+    system.map(*pid, *addr, *pages, *shared)
+}
+
+/// Makes an area over a stretch of a shared segment.
+fn attach<A: Allocator + Copy + Send + Sync>(
+    system: &mut System<A>,
+    area: &Attachment,
+) -> Result<Answer<A>, CallError>
+    ensures { Does answer_of result system.old system.new
+        (calls.Attach area.now.pid area.now.addr area.now.segment area.now.offset area.now.pages) }
+{
+    let Attachment {
+        pid,
+        addr,
+        segment,
+        offset,
+        pages,
+    } = area;
+    system.attach(*pid, *addr, *segment, *offset, *pages)?;
+    Ok(Answer::Done)
+}
+
+/// Moves pages.
+fn move_pages<A: Allocator + Copy + Send + Sync>(
+    system: &mut System<A>,
+    request: &MoveRequest<A>,
+) -> Result<Moved<A>, CallError>
+    ensures { Does (λ moved. calls.Statuses moved.failed moved.statuses.items) result system.old system.new
+        (calls.MovePages request.now.caller request.now.pid request.now.batch.pages.items request.now.batch.nodes.items request.now.flags) }
+{
+    let MoveRequest {
+        caller,
+        pid,
+        batch,
+        flags,
+    } = request;
+    let Batch { pages, nodes } = batch;
+    system.move_pages(*caller, *pid, pages.as_slice(), nodes.as_slice(), *flags)
+}
+
+/// Asks where pages are.
+fn query<A: Allocator + Copy + Send + Sync>(
+    system: &System<A>,
+    question: &Question<A>,
+) -> Result<Moved<A>, CallError>
+    ensures { Does (λ moved. calls.Statuses moved.failed moved.statuses.items) result system.now system.now
+        (calls.Query question.now.caller question.now.pid question.now.pages.items question.now.flags) }
+{
+    let Question {
+        caller,
+        pid,
+        pages,
+        flags,
+    } = question;
+    Ok(Moved {
+        failed: 0,
+        statuses: system.query(*caller, *pid, pages.as_slice(), *flags)?,
+    })
+}
+
+impl<A: Allocator + Copy + Send + Sync> System<A> {
+    /// Makes a call that is given as a value. Its refusals, and what a host without memory leaves, are those of the method
+    /// of its name.
+    pub fn call(&mut self, call: &Call<A>) -> Result<Answer<A>, CallError>
+        ensures { Does answer_of result self.old self.new (call_of call.now) }
+    {
+        match call {
+            Call::Spawn(process) => spawn(self, process),
+            Call::Map(area) => Ok(Answer::Segment(map(self, area)?)),
+            Call::Attach(area) => attach(self, area),
+            Call::Unmap { pid, addr, pages } => {
+                self.unmap(*pid, *addr, *pages)?;
+                Ok(Answer::Done)
+            }
+            Call::Exit { pid } => {
+                self.exit(*pid)?;
+                Ok(Answer::Done)
+            }
+            Call::Pin { pid, addr } => {
+                self.pin(*pid, *addr)?;
+                Ok(Answer::Done)
+            }
+            Call::Unpin { pid, addr } => {
+                self.unpin(*pid, *addr)?;
+                Ok(Answer::Done)
+            }
+            Call::Read { pid, addr, len } => Ok(Answer::Bytes(self.read(*pid, *addr, *len)?)),
+            Call::Write { pid, addr, bytes } => {
+                self.write(*pid, *addr, bytes.as_slice())?;
+                Ok(Answer::Done)
+            }
+            Call::MovePages(request) => Ok(Answer::Statuses(move_pages(self, request)?)),
+            Call::Query(question) => Ok(Answer::Statuses(query(self, question)?)),
+            Call::FreeList { node } => Ok(Answer::Frames(self.free_list(*node)?)),
+            Call::Pagemap { pid } => Ok(Answer::Entries(self.pagemap(*pid)?)),
+        }
+    }
+}

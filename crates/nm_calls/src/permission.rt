@@ -1,0 +1,82 @@
+//! Who may act on the pages of a process.
+
+ghost use Rattle.std.specs.Prelude.{◌≡◌, IfOk, Some};
+ghost use Rattle.nm_runs.specs.Targets.{Checks};
+ghost use Rattle.nm_calls.specs.Permission.{flags_refusal, moves_all, owner_of, query_refusal};
+ghost use Rattle.nm_calls.specs.Batch.{allowed_at};
+
+use nm_engine::{Machine, ProcessInfo};
+use nm_types::{Errno, MoveFlags, NodeMask, Pid};
+use std::alloc::Allocator;
+
+/// What a caller may do with the pages of a process.
+#[derive(Clone, Copy, Debug)]
+pub(crate) struct Permit {
+    /// The process.
+    pub(crate) pid: Pid,
+    /// The nodes that it may use.
+    pub(crate) allowed: NodeMask,
+    /// Whether pages move though other processes see them.
+    pub(crate) all: bool,
+}
+
+/// Whether the flags ask for pages that other processes see as well: EINVAL for a flag that is unknown, and then EPERM
+/// where they do so without privilege.
+fn asks_all(flags: u32, privileged: bool) -> Result<bool, Errno>
+    ensures exact { Checks result (flags_refusal privileged flags) }
+    ensures all { IfOk result (λ all. all ≡ moves_all flags) }
+{
+    let known = MoveFlags::from_bits(flags).ok_or(Errno::Einval)?;
+    if known.is_strict() {
+        return Err(Errno::Einval);
+    }
+    let all = known.moves_all();
+    if all && !privileged {
+        return Err(Errno::Eperm);
+    }
+    Ok(all)
+}
+
+/// Whose pages a call names, where pid 0 is the caller.
+fn owner_of(caller: Pid, pid: Pid) -> Pid
+    ensures { result ≡ owner_of caller pid }
+{
+    if pid.number() == 0 { caller } else { pid }
+}
+
+/// What a caller may do with the pages of a process, where pid 0 is the caller. ESRCH (no such caller); EINVAL (a flag
+/// that is unknown); EPERM (MPOL_MF_MOVE_ALL without privilege); ESRCH (no such process); EPERM (a process of another user
+/// without privilege).
+pub(crate) fn permit_of<A: Allocator + Copy + Send + Sync>(
+    machine: &Machine<A>,
+    caller: Pid,
+    pid: Pid,
+    flags: u32,
+) -> Result<Permit, Errno>
+    ensures exact { Checks result (query_refusal machine.now caller pid flags) }
+    ensures pid { IfOk result (λ permit. permit.pid ≡ owner_of caller pid) }
+    ensures all { IfOk result (λ permit. permit.all ≡ moves_all flags) }
+    ensures allowed { IfOk result (λ permit. allowed_at machine.now (owner_of caller pid) ≡ Some permit.allowed) }
+{
+    let Some(asking) = machine.process(caller) else {
+        return Err(Errno::Esrch);
+    };
+    let ProcessInfo {
+        uid,
+        privileged,
+        ..
+    } = asking;
+    let all = asks_all(flags, privileged)?;
+    let owner = owner_of(caller, pid);
+    let Some(asked) = machine.process(owner) else {
+        return Err(Errno::Esrch);
+    };
+    if uid != asked.uid && !privileged {
+        return Err(Errno::Eperm);
+    }
+    Ok(Permit {
+        pid: owner,
+        allowed: asked.allowed,
+        all,
+    })
+}

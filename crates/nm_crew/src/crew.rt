@@ -1,0 +1,276 @@
+//! Copying by a crew of workers.
+
+ghost use Rattle.std.specs.Prelude.{◌≡◌, ◌+◌, ◌<◌, ◌≤◌, [], map, true, false, vec_len, length};
+ghost use Rattle.std.specs.Thread.{IsSync, IsSend};
+ghost use Rattle.nm_frames.specs.Job.{copied};
+ghost use Rattle.nm_board.specs.Tickets.{InTicketOrder};
+ghost use Rattle.nm_board.specs.Shown.{all_shares};
+ghost use Rattle.nm_crew.specs.Named.{named};
+ghost use Rattle.nm_crew.specs.Hands.{IsReady, IsOver};
+
+use crate::gate::Gate;
+use crate::room::Room;
+use crate::starts::{Plainly, Starts};
+use crate::worker::{Worker, work_off};
+use nm_board::{Board, Hand};
+use nm_frames::CopyJob;
+use std::alloc::Allocator;
+use std::marker::{Brand, PhantomData};
+use std::sync::Wait;
+use std::thread;
+use std::thread::{Scope, Threads};
+
+/// Copies the jobs with so many workers and calls `work` beside them. The caller is worker 0: it starts the others,
+/// calls `work`, and then copies with them. Every job comes back, copied, in the order of its ticket, with the answer
+/// of `work`; where the host has no memory for it or starts no thread, those workers copy that there are.
+pub fn copy_while<
+    A: Allocator + Copy + Send + Sync,
+    R: Threads + Wait + Sync,
+    G: Gate + Sync,
+    T,
+    W: FnOnce() -> T,
+>(
+    rt: &R,
+    alloc: A,
+    jobs: Vec<CopyJob<A>, A>,
+    workers: usize,
+    gate: &G,
+    work: W,
+) -> (Vec<CopyJob<A>, A>, T)
+    requires tickets { InTicketOrder jobs.items }
+    requires workers { (0 < workers) × (workers ≤ 64) }
+    requires work { W.pre work }
+    ensures jobs { result.0.items ≡ map copied jobs.items }
+    ensures work { W.post work result.1 }
+{
+    copy_with(rt, alloc, jobs, workers, &Plainly, gate, work)
+}
+
+/// The same, with threads that are started as `starts` says.
+pub(crate) fn copy_with<
+    A: Allocator + Copy + Send + Sync,
+    R: Threads + Wait + Sync,
+    S: Starts,
+    G: Gate + Sync,
+    T,
+    W: FnOnce() -> T,
+>(
+    rt: &R,
+    alloc: A,
+    jobs: Vec<CopyJob<A>, A>,
+    workers: usize,
+    starts: &S,
+    gate: &G,
+    work: W,
+) -> (Vec<CopyJob<A>, A>, T)
+    requires tickets { InTicketOrder jobs.items }
+    requires workers { (0 < workers) × (workers ≤ 64) }
+    requires work { W.pre work }
+    ensures jobs { result.0.items ≡ map copied jobs.items }
+    ensures work { W.post work result.1 }
+{
+    let others = others(gate, jobs.len(), workers);
+    if others == 0 {
+        return copy_alone(jobs, gate, work);
+    }
+    match Board::lay(alloc, jobs) {
+        Ok((board, hand)) => copy_by::<A, Brand, R, S, G, T, W>(
+            rt, alloc, board, hand, others, starts, gate, work,
+        ),
+        Err(jobs) => copy_alone(jobs, gate, work),
+    }
+}
+
+/// How many workers there are beside the caller: none where the gate says that it is not worth it, and never more than
+/// jobs.
+fn others<G: Gate>(gate: &G, jobs: usize, workers: usize) -> usize
+    requires { 0 < workers }
+    ensures workers { result < workers }
+    ensures jobs { result ≤ jobs }
+{
+    if jobs < gate.worth_from() {
+        0
+    } else {
+        (workers - 1).min(jobs)
+    }
+}
+
+/// Calls `work` and copies the jobs, all by the caller.
+fn copy_alone<A: Allocator + Copy, G: Gate, T, W: FnOnce() -> T>(
+    mut jobs: Vec<CopyJob<A>, A>,
+    gate: &G,
+    work: W,
+) -> (Vec<CopyJob<A>, A>, T)
+    requires { W.pre work }
+    ensures jobs { result.0.items ≡ map copied jobs.items }
+    ensures work { W.post work result.1 }
+{
+    let answer = work();
+    copy_each(jobs.as_mut_slice(), gate);
+    (jobs, answer)
+}
+
+/// Copies each job in turn.
+fn copy_each<A: Allocator + Copy, G: Gate>(jobs: &mut [CopyJob<A>], gate: &G)
+    ensures { jobs.new ≡ map copied jobs.old }
+{
+    for job in jobs {
+        gate.pass(0, job.ticket);
+        job.copy();
+    }
+}
+
+/// Copies the jobs of a board with so many workers beside the caller.
+fn copy_by<
+    A: Allocator + Copy + Send + Sync,
+    B: Room + Send + Sync,
+    R: Threads + Wait + Sync,
+    S: Starts,
+    G: Gate + Sync,
+    T,
+    W: FnOnce() -> T,
+>(
+    rt: &R,
+    alloc: A,
+    board: Board<A>,
+    mut own: Hand<A>,
+    others: usize,
+    starts: &S,
+    gate: &G,
+    work: W,
+) -> (Vec<CopyJob<A>, A>, T)
+    requires room { named board ≡ B.board }
+    requires own { own ≡ all_shares board }
+    requires others { others < 64 }
+    requires work { W.pre work }
+    ensures jobs { result.0.items ≡ map copied board.jobs }
+    ensures work { W.post work result.1 }
+{
+    let workers = hire::<A, B>(alloc, &board, &mut own, others);
+    let (mut own, answer, workers) = work_beside(rt, &board, workers, own, starts, gate, work);
+    gather(&board, &mut own, workers);
+    match board.clear(own) {
+        Ok(jobs) => (jobs, answer),
+        Err(_) => unreachable!(),
+    }
+}
+
+/// As many workers as were asked for, each with a share of the hand, or none where there is no memory for their list.
+fn hire<A: Allocator + Copy, B: Room>(
+    alloc: A,
+    board: &Board<A>,
+    own: &mut Hand<A>,
+    others: usize,
+) -> Vec<Worker<A, B>, A>
+    requires room { named board.now ≡ B.board }
+    requires ready { IsReady board.now own.old }
+    requires others { others < own.old.shares }
+    ensures ready { IsReady board.now own.new }
+    ensures shares { own.new.shares + vec_len result ≡ own.old.shares }
+{
+    let mut workers = Vec::new(alloc);
+    if workers.reserve(others).is_err() {
+        return workers;
+    }
+    for _ in 0..others {
+        let worker = hired(board, own);
+        workers.push_reserved(worker);
+    }
+    workers
+}
+
+/// A worker with one share of the hand.
+fn hired<A: Allocator + Copy, B: Room>(board: &Board<A>, own: &mut Hand<A>) -> Worker<A, B>
+    requires room { named board.now ≡ B.board }
+    requires ready { IsReady board.now own.old }
+    requires shares { 1 < own.old.shares }
+    ensures ready { IsReady board.now own.new }
+    ensures shares { own.new.shares + 1 ≡ own.old.shares }
+{
+    Worker {
+        hand: own.split(board, 1),
+        room: PhantomData,
+    }
+}
+
+/// Lends each worker to a thread of its own, calls `work`, works as worker 0, and waits for them.
+fn work_beside<
+    'x,
+    A: Allocator + Copy + Send + Sync,
+    B: Room + Send + Sync,
+    G: Gate + Sync,
+    T,
+    W: FnOnce() -> T,
+>(
+    rt: &(impl Threads + Wait + Sync),
+    board: &'x Board<A>,
+    mut workers: Vec<Worker<A, B>, A>,
+    own: Hand<A>,
+    starts: &impl Starts,
+    gate: &'x G,
+    work: W,
+) -> (Hand<A>, T, Vec<Worker<A, B>, A>)
+    requires room { named board.now ≡ B.board }
+    requires ready { IsReady board.now own }
+    requires work { W.pre work }
+    ensures over { IsOver board.now own.shares result.0 }
+    ensures work { W.post work result.1 }
+    ensures workers { vec_len result.2 ≡ vec_len workers }
+{
+    let all = workers.as_mut_slice();
+    let (own, answer) = thread::scope(
+        thread::scope_env(),
+        rt,
+        |scope| -> (Hand<A>, T)
+            requires { (named board.now ≡ B.board) × IsReady board.now own × W.pre work × IsSync G.row × IsSync B.row × IsSend B.row × IsSync A.row × IsSend A.row }
+            ensures { IsOver board.entry.now own.shares result.0 × W.post work result.1 }
+        {
+            start_each(scope, all, board, starts, gate);
+            let answer = work();
+            let mut own = own;
+            work_off(board, &mut own, gate, 0);
+            (own, answer)
+        },
+    );
+    (own, answer, workers)
+}
+
+/// Starts a thread for each worker. Where the host starts none, the others do what that worker would have done.
+fn start_each<'s, E, A: Allocator + Copy + Send + Sync, B: Room + Send + Sync, G: Gate + Sync>(
+    scope: &Scope<'s, E>,
+    workers: &'s mut [Worker<A, B>],
+    board: &'s Board<A>,
+    starts: &impl Starts,
+    gate: &'s G,
+)
+    requires { named board.now ≡ B.board }
+{
+    let mut number = 1;
+    for worker in workers {
+        let mine = number;
+        let started = starts.builder(mine).spawn_scoped(
+            scope,
+            move ||
+                requires { named board.now ≡ B.board }
+            { worker.run(board, gate, mine) },
+        );
+        drop(started);
+        number = mine.wrapping_add(1);
+    }
+}
+
+/// Joins all workers' hands into one.
+fn gather<A: Allocator + Copy, B: Room>(
+    board: &Board<A>,
+    own: &mut Hand<A>,
+    mut workers: Vec<Worker<A, B>, A>,
+)
+    requires room { named board.now ≡ B.board }
+    requires over { IsOver board.now own.old.shares own.old }
+    ensures { IsOver board.now (own.old.shares + vec_len workers) own.new }
+{
+    while let Some(worker) = workers.pop() {
+        let Worker { hand, .. } = worker;
+        own.join(board, hand);
+    }
+}

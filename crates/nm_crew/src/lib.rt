@@ -1,0 +1,14 @@
+//! Workers that copy jobs while the caller works. Each draws the next job from a board, so whoever is quick copies more,
+//! and every job comes back copied, in order, however many workers there are.
+#![tactic(auto)]
+
+mod crew;
+mod gate;
+mod room;
+mod starts;
+#[cfg(test)]
+mod tests;
+mod worker;
+
+pub use crew::copy_while;
+pub use gate::{Gate, OpenGate};

@@ -1,0 +1,16 @@
+//! A name for one board, which the workers' type has.
+
+use std::marker::Brand;
+
+/// Names one board.
+pub(crate) trait Room {
+    ghost use Rattle.nm_board.specs.Shown.{Laying};
+
+    ghost board: { Laying (Unit {0}) };
+}
+
+impl Room for Brand {
+    ghost use Rattle.nm_crew.specs.Named.{no_board};
+
+    ghost board = { no_board };
+}

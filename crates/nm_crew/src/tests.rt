@@ -1,0 +1,290 @@
+ghost use Rattle.std.specs.Prelude.{◌≡◌, IfOk};
+ghost use Rattle.nm_board.specs.Tickets.{InTicketOrder};
+
+use crate::crew::copy_with;
+use crate::starts::Starts;
+use crate::{Gate, OpenGate, copy_while};
+use nm_frames::{CopyJob, FrameStore};
+use nm_refusing::Refusing;
+use nm_types::FrameId;
+use std::alloc::{AllocError, Allocator, Global};
+use std::sync::atomic::{AtomicBool, AtomicU64, Ordering};
+use std::test::Fail;
+use std::thread::{Builder, yield_now};
+
+/// A job whose source begins with a byte.
+fn job<A: Allocator + Copy>(alloc: A, ticket: u64, byte: u8) -> Result<CopyJob<A>, AllocError>
+    ensures { IfOk result (λ job. job.ticket ≡ ticket) }
+{
+    let mut store = FrameStore::new(alloc, 2)?;
+    let first = FrameId::new(0);
+    store.write(first, 0, [byte].as_slice());
+    Ok(CopyJob {
+        source: store.take_out(first),
+        target: store.take_out(FrameId::new(1)),
+        ticket,
+    })
+}
+
+/// Jobs whose sources begin with 1, 2 and so on.
+fn jobs<A: Allocator + Copy>(alloc: A, count: u8) -> Result<Vec<CopyJob<A>, A>, AllocError>
+    ensures { IfOk result (λ jobs. InTicketOrder jobs.items) }
+{
+    let mut jobs = Vec::with_capacity(alloc, count as usize)?;
+    for ticket in 0..count {
+        let job = job(alloc, ticket as u64, ticket.wrapping_add(1))?;
+        jobs.push_reserved(job);
+    }
+    Ok(jobs)
+}
+
+/// Whether these are so many of the jobs of `jobs`, copied and in order.
+fn are_copied<A: Allocator + Copy>(jobs: &[CopyJob<A>], count: usize) -> bool {
+    let mut next = 0u8;
+    for job in jobs {
+        let byte = next.wrapping_add(1);
+        if job.ticket != next as u64
+            || job.source.bytes()[0] != byte
+            || job.target.bytes()[0] != byte
+        {
+            return false;
+        }
+        next = byte;
+    }
+    jobs.len() == count
+}
+
+/// Lets each worker through at once, and lets others start from the first job on.
+#[derive(Drop)]
+struct Through;
+
+impl Gate for Through {
+    fn pass(&self, _worker: usize, _ticket: u64) {}
+}
+
+/// How often workers 0 and 1 came to a gate, and whether one of them waited there in vain.
+#[derive(Drop)]
+struct Calls {
+    zero: AtomicU64,
+    one: AtomicU64,
+    missed: AtomicBool,
+}
+
+impl Calls {
+    fn new() -> Calls {
+        Calls {
+            zero: AtomicU64::new(0),
+            one: AtomicU64::new(0),
+            missed: AtomicBool::new(false),
+        }
+    }
+
+    /// Counts a call of a worker, and says how many it made before.
+    fn count(&self, worker: usize) -> u64 {
+        if worker == 0 {
+            self.zero.fetch_add(1, Ordering::SeqCst)
+        } else {
+            self.one.fetch_add(1, Ordering::SeqCst)
+        }
+    }
+
+    /// Waits until so many calls were counted, for at most 2^24 turns.
+    fn hold(&self, calls: &AtomicU64, least: u64) {
+        for _ in 0..1u64 << 24 {
+            if calls.load(Ordering::SeqCst) >= least {
+                return;
+            }
+            yield_now();
+        }
+        self.missed.store(true, Ordering::SeqCst);
+    }
+
+    /// Whether both came and none waited in vain.
+    fn met(&self) -> bool {
+        self.zero.load(Ordering::SeqCst) > 0
+            && self.one.load(Ordering::SeqCst) > 0
+            && !self.missed.load(Ordering::SeqCst)
+    }
+}
+
+/// Holds each worker until both have called.
+#[derive(Drop)]
+struct Meeting(Calls);
+
+impl Gate for Meeting {
+    fn pass(&self, worker: usize, _ticket: u64) {
+        self.0.count(worker);
+        self.0.hold(&self.0.zero, 1);
+        self.0.hold(&self.0.one, 1);
+    }
+}
+
+/// Two workers meet at the gate: no body that copies on one thread gets both there.
+#[test]
+fn two_workers_meet(rt: HostRuntime) -> Result<(), Fail> {
+    let gate = Meeting(Calls::new());
+    let (jobs, answer) = copy_while(&rt, rt.alloc(), jobs(rt.alloc(), 2)?, 2, &gate, || 7);
+    assert!(rt; gate.0.met() && answer == 7 && are_copied(jobs.as_slice(), 2));
+    Ok(())
+}
+
+/// Holds worker 1's first call until `work` came, which counts as worker 0.
+#[derive(Drop)]
+struct BesideWork(Calls);
+
+impl Gate for BesideWork {
+    fn pass(&self, worker: usize, _ticket: u64) {
+        if worker == 1 && self.0.count(worker) == 0 {
+            self.0.hold(&self.0.zero, 1);
+        }
+    }
+}
+
+/// `work` and worker 1 hold for each other: no body that runs `work` before the starts or after the joins gets them
+/// together.
+#[test]
+fn work_runs_beside_the_workers(rt: HostRuntime) -> Result<(), Fail> {
+    let gate = BesideWork(Calls::new());
+    let (jobs, answer) = copy_while(&rt, rt.alloc(), jobs(rt.alloc(), 2)?, 2, &gate, || {
+        gate.0.count(0);
+        gate.0.hold(&gate.0.one, 1);
+        7
+    });
+    assert!(rt; gate.0.met() && answer == 7 && are_copied(jobs.as_slice(), 2));
+    Ok(())
+}
+
+/// Holds worker 0's first call until worker 1 has called it, and worker 1's first until worker 0 has called it three
+/// times.
+#[derive(Drop)]
+struct Uneven(Calls);
+
+impl Gate for Uneven {
+    fn pass(&self, worker: usize, _ticket: u64) {
+        if self.0.count(worker) > 0 {
+            return;
+        }
+        if worker == 0 {
+            self.0.hold(&self.0.one, 1);
+        } else {
+            self.0.hold(&self.0.zero, 3);
+        }
+    }
+}
+
+/// Of four jobs one worker copies three while the other holds one: fixed shares never meet so.
+#[test]
+fn shares_are_not_fixed(rt: HostRuntime) -> Result<(), Fail> {
+    let gate = Uneven(Calls::new());
+    let (jobs, answer) = copy_while(&rt, rt.alloc(), jobs(rt.alloc(), 4)?, 2, &gate, || 7);
+    assert!(rt; gate.0.met() && answer == 7 && are_copied(jobs.as_slice(), 4));
+    assert!(rt; gate.0.zero.load(Ordering::SeqCst) == 3 && gate.0.one.load(Ordering::SeqCst) == 1);
+    Ok(())
+}
+
+/// Three jobs with 64 workers, and none.
+#[test]
+fn more_workers_than_jobs(rt: HostRuntime) -> Result<(), Fail> {
+    let (three, answer) = copy_while(&rt, rt.alloc(), jobs(rt.alloc(), 3)?, 64, &Through, || 7);
+    assert!(rt; answer == 7 && are_copied(three.as_slice(), 3));
+    let (three, answer) = copy_while(&rt, rt.alloc(), jobs(rt.alloc(), 3)?, 64, &OpenGate, || 7);
+    assert!(rt; answer == 7 && are_copied(three.as_slice(), 3));
+    let (none, answer) = copy_while(&rt, rt.alloc(), jobs(rt.alloc(), 0)?, 64, &Through, || 7);
+    assert!(rt; answer == 7 && none.is_empty());
+    Ok(())
+}
+
+/// The lists are the same whatever the number of workers.
+#[test]
+fn a_hundred_jobs(rt: HostRuntime) -> Result<(), Fail> {
+    for workers in [1, 2, 3, 64] {
+        let (jobs, answer) = copy_while(
+            &rt,
+            rt.alloc(),
+            jobs(rt.alloc(), 100)?,
+            workers,
+            &OpenGate,
+            || workers,
+        );
+        assert!(rt;
+            answer == workers && are_copied(jobs.as_slice(), 100),
+            "with {workers} workers"
+        );
+    }
+    Ok(())
+}
+
+/// Has the host refuse the thread of one worker, or of all where it is worker 0.
+#[derive(Drop)]
+struct Refused(usize);
+
+impl Starts for Refused {
+    fn builder(&self, worker: usize) -> Builder {
+        if self.0 == worker || self.0 == 0 {
+            Builder::new().stack_size(usize::MAX)
+        } else {
+            Builder::new()
+        }
+    }
+}
+
+/// Notes which workers came, a bit for each.
+#[derive(Drop)]
+struct Seen(AtomicU64);
+
+impl Gate for Seen {
+    fn pass(&self, worker: usize, _ticket: u64) {
+        if worker < 64 {
+            self.0.fetch_or(1 << worker, Ordering::SeqCst);
+        }
+    }
+}
+
+/// Where a thread is not started, each in turn and then all of them, the others copy its jobs.
+#[test]
+fn refused_threads(rt: HostRuntime) -> Result<(), Fail> {
+    for refused in [1, 2, 3, 0] {
+        let gate = Seen(AtomicU64::new(0));
+        let starts = Refused(refused);
+        let (jobs, answer) = copy_with(
+            &rt,
+            rt.alloc(),
+            jobs(rt.alloc(), 8)?,
+            4,
+            &starts,
+            &gate,
+            || 7,
+        );
+        assert!(rt;
+            answer == 7 && are_copied(jobs.as_slice(), 8),
+            "without {refused}"
+        );
+        let seen = gate.0.load(Ordering::SeqCst);
+        assert!(rt;
+            if refused == 0 {
+                seen == 1
+            } else {
+                seen & (1 << refused) == 0
+            },
+            "without {refused}"
+        );
+    }
+    Ok(())
+}
+
+/// Where memory is refused, each allocation in turn, all jobs come back copied.
+#[test]
+fn refused_memory(rt: HostRuntime) -> Result<(), Fail> {
+    let heap = Refusing::new(rt.alloc());
+    for number in 1..5u64 {
+        let jobs = jobs(&heap, 3)?;
+        heap.refuse(number);
+        let (jobs, answer) = copy_while(&rt, &heap, jobs, 2, &Through, || 7);
+        heap.refuse(0);
+        assert!(rt;
+            answer == 7 && are_copied(jobs.as_slice(), 3),
+            "without allocation {number}"
+        );
+    }
+    Ok(())
+}

@@ -1,0 +1,13 @@
+use Rattle.std.proofs.Common.{◌≡◌, ◌+◌, drop, map}
+use Rattle.serde_json.specs.View.{items_view}
+use Rattle.nm_trace.specs.Form.{each, step_of}
+use Rattle.nm_trace.specs.Faults.{first_bad}
+use Rattle.nm_calls.specs.Views.{call_of}
+use Rattle.nm_trace.proofs.Each.{with_front}
+use Rattle.nm_trace.proofs.reading.calls_of.Given as goal
+
+abbrev pub invariant-loop-k : goal.invariant-loop-k
+invariant-loop-k g l = record {
+  read : with_front (map call_of l.calls.items) (each step_of (items_view (drop l.k l.values))) ≡ each step_of (items_view l.values);
+  place : l.k + first_bad (items_view (drop l.k l.values)) ≡ first_bad (items_view l.values);
+}

@@ -1,0 +1,211 @@
+//! Steps as JSON has them: the call that each asks for.
+
+ghost use Rattle.serde_json.specs.View.{view};
+ghost use Rattle.nm_trace.specs.Form as form;
+ghost use Rattle.nm_calls.specs.Views.{call_of};
+ghost use Rattle.nm_trace.specs.Gives.{Gives};
+
+use crate::fields::{flag, hex, number, numbers, set, small, smalls, text};
+use crate::step_error::StepError;
+use nm_calls::{Attachment, Batch, Call, MoveRequest, NewArea, NewProcess, Question};
+use nm_types::limits::MAX_BATCH;
+use nm_types::{NodeId, Pid};
+use serde_json::Value;
+use std::alloc::Allocator;
+
+#[tactic(auto, unfolding(crate::specs::Form::spawn_of))]
+fn spawn<A: Allocator + Copy + Send + Sync>(value: &Value) -> Result<Call<A>, StepError>
+    ensures { Gives call_of result (form.spawn_of (view value.now)) }
+{
+    Ok(Call::Spawn(NewProcess {
+        pid: Pid::new(small(value, "pid")?),
+        uid: small(value, "uid")?,
+        home: NodeId::new(small(value, "home")?),
+        allowed: set(value, "allowed")?,
+        privileged: flag(value, "privileged")?,
+    }))
+}
+
+#[tactic(auto, unfolding(crate::specs::Form::map_of))]
+fn map<A: Allocator + Copy + Send + Sync>(value: &Value) -> Result<Call<A>, StepError>
+    ensures { Gives call_of result (form.map_of (view value.now)) }
+{
+    Ok(Call::Map(NewArea {
+        pid: Pid::new(small(value, "pid")?),
+        addr: number(value, "addr")?,
+        pages: number(value, "pages")?,
+        shared: flag(value, "shared")?,
+    }))
+}
+
+#[tactic(auto, unfolding(crate::specs::Form::attach_of))]
+fn attach<A: Allocator + Copy + Send + Sync>(value: &Value) -> Result<Call<A>, StepError>
+    ensures { Gives call_of result (form.attach_of (view value.now)) }
+{
+    Ok(Call::Attach(Attachment {
+        pid: Pid::new(small(value, "pid")?),
+        addr: number(value, "addr")?,
+        segment: number(value, "segment")?,
+        offset: number(value, "offset")?,
+        pages: number(value, "pages")?,
+    }))
+}
+
+#[tactic(auto, unfolding(crate::specs::Form::unmap_of))]
+fn unmap<A: Allocator + Copy + Send + Sync>(value: &Value) -> Result<Call<A>, StepError>
+    ensures { Gives call_of result (form.unmap_of (view value.now)) }
+{
+    Ok(Call::Unmap {
+        pid: Pid::new(small(value, "pid")?),
+        addr: number(value, "addr")?,
+        pages: number(value, "pages")?,
+    })
+}
+
+#[tactic(auto, unfolding(crate::specs::Form::exit_of))]
+fn exit<A: Allocator + Copy + Send + Sync>(value: &Value) -> Result<Call<A>, StepError>
+    ensures { Gives call_of result (form.exit_of (view value.now)) }
+{
+    Ok(Call::Exit {
+        pid: Pid::new(small(value, "pid")?),
+    })
+}
+
+#[tactic(auto, unfolding(crate::specs::Form::pin_of))]
+fn pin<A: Allocator + Copy + Send + Sync>(value: &Value) -> Result<Call<A>, StepError>
+    ensures { Gives call_of result (form.pin_of (view value.now)) }
+{
+    Ok(Call::Pin {
+        pid: Pid::new(small(value, "pid")?),
+        addr: number(value, "addr")?,
+    })
+}
+
+#[tactic(auto, unfolding(crate::specs::Form::unpin_of))]
+fn unpin<A: Allocator + Copy + Send + Sync>(value: &Value) -> Result<Call<A>, StepError>
+    ensures { Gives call_of result (form.unpin_of (view value.now)) }
+{
+    Ok(Call::Unpin {
+        pid: Pid::new(small(value, "pid")?),
+        addr: number(value, "addr")?,
+    })
+}
+
+#[tactic(auto, unfolding(crate::specs::Form::read_of))]
+fn read<A: Allocator + Copy + Send + Sync>(value: &Value) -> Result<Call<A>, StepError>
+    ensures { Gives call_of result (form.read_of (view value.now)) }
+{
+    Ok(Call::Read {
+        pid: Pid::new(small(value, "pid")?),
+        addr: number(value, "addr")?,
+        len: number(value, "len")?,
+    })
+}
+
+#[tactic(auto, unfolding(crate::specs::Form::write_of))]
+fn write<A: Allocator + Copy + Send + Sync>(alloc: A, value: &Value) -> Result<Call<A>, StepError>
+    ensures { Gives call_of result (form.write_of (view value.now)) }
+{
+    Ok(Call::Write {
+        pid: Pid::new(small(value, "pid")?),
+        addr: number(value, "addr")?,
+        bytes: hex(alloc, value, "data")?,
+    })
+}
+
+#[tactic(auto, unfolding(crate::specs::Form::move_pages_of))]
+fn move_pages<A: Allocator + Copy + Send + Sync>(
+    alloc: A,
+    value: &Value,
+) -> Result<Call<A>, StepError>
+    ensures { Gives call_of result (form.move_pages_of (view value.now)) }
+{
+    let caller = small(value, "caller")?;
+    let pid = small(value, "pid")?;
+    let pages = numbers(alloc, value, "pages")?;
+    let nodes = smalls(alloc, value, "nodes")?;
+    let flags = small(value, "flags")?;
+    if pages.len() > MAX_BATCH || pages.len() != nodes.len() {
+        return Err(StepError::Bad);
+    }
+    Ok(Call::MovePages(MoveRequest {
+        caller: Pid::new(caller),
+        pid: Pid::new(pid),
+        batch: Batch { pages, nodes },
+        flags,
+    }))
+}
+
+#[tactic(auto, unfolding(crate::specs::Form::query_of))]
+fn query<A: Allocator + Copy + Send + Sync>(alloc: A, value: &Value) -> Result<Call<A>, StepError>
+    ensures { Gives call_of result (form.query_of (view value.now)) }
+{
+    let caller = small(value, "caller")?;
+    let pid = small(value, "pid")?;
+    let pages = numbers(alloc, value, "pages")?;
+    let flags = small(value, "flags")?;
+    if pages.len() > MAX_BATCH {
+        return Err(StepError::Bad);
+    }
+    Ok(Call::Query(Question {
+        caller: Pid::new(caller),
+        pid: Pid::new(pid),
+        pages,
+        flags,
+    }))
+}
+
+#[tactic(auto, unfolding(crate::specs::Form::free_of))]
+fn free<A: Allocator + Copy + Send + Sync>(value: &Value) -> Result<Call<A>, StepError>
+    ensures { Gives call_of result (form.free_of (view value.now)) }
+{
+    Ok(Call::FreeList {
+        node: NodeId::new(small(value, "node")?),
+    })
+}
+
+#[tactic(auto, unfolding(crate::specs::Form::pagemap_of))]
+fn pagemap<A: Allocator + Copy + Send + Sync>(value: &Value) -> Result<Call<A>, StepError>
+    ensures { Gives call_of result (form.pagemap_of (view value.now)) }
+{
+    Ok(Call::Pagemap {
+        pid: Pid::new(small(value, "pid")?),
+    })
+}
+
+#[tactic(auto, unfolding(crate::specs::Form::named))]
+fn named<A: Allocator + Copy + Send + Sync>(
+    alloc: A,
+    op: &str,
+    value: &Value,
+) -> Result<Call<A>, StepError>
+    ensures { Gives call_of result (form.named op.now (view value.now)) }
+{
+    match op {
+        "spawn" => spawn(value),
+        "map" => map(value),
+        "attach" => attach(value),
+        "unmap" => unmap(value),
+        "exit" => exit(value),
+        "pin" => pin(value),
+        "unpin" => unpin(value),
+        "read" => read(value),
+        "write" => write(alloc, value),
+        "move_pages" => move_pages(alloc, value),
+        "query" => query(alloc, value),
+        "free" => free(value),
+        "pagemap" => pagemap(value),
+        _ => Err(StepError::Bad),
+    }
+}
+
+/// The call that a step asks for.
+#[tactic(auto, unfolding(crate::specs::Form::step_of))]
+pub(crate) fn step_of<A: Allocator + Copy + Send + Sync>(
+    alloc: A,
+    value: &Value,
+) -> Result<Call<A>, StepError>
+    ensures { Gives call_of result (form.step_of (view value.now)) }
+{
+    named(alloc, text(value, "op")?, value)
+}

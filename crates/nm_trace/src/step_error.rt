@@ -1,0 +1,31 @@
+//! Why a value is no step.
+
+ghost use Rattle.std.specs.Prelude.{◌≡◌};
+ghost use Rattle.nm_trace.specs.declared.step_error.StepError.TheVariants.{Memory};
+
+use std::alloc::{AllocError, AllocFailed};
+
+/// Why there is no step.
+#[derive(Clone, Copy, Debug, PartialEq, Eq)]
+pub enum StepError {
+    /// The value has not the form of a step.
+    Bad,
+    /// The host refused memory.
+    Memory,
+}
+
+impl From<AllocError> for StepError {
+    ghost from_gives = { λ _ e. e ≡ Memory };
+
+    fn from(_e: AllocError) -> StepError {
+        StepError::Memory
+    }
+}
+
+impl<T: Drop> From<AllocFailed<T>> for StepError {
+    ghost from_gives = { λ _ e. e ≡ Memory };
+
+    fn from(_e: AllocFailed<T>) -> StepError {
+        StepError::Memory
+    }
+}

@@ -1,0 +1,183 @@
+//! What calls answer, as lines of the report.
+
+ghost use Rattle.std.specs.Prelude.{◌≡◌, ◌++◌, ◌∷◌, OnOk, IfOk, string_bytes, map, decimal, codes};
+ghost use Rattle.std.specs.List.{flat_map};
+ghost use Rattle.nm_types.specs.Names.{name_of};
+ghost use Rattle.nm_calls.specs.Calls.{Refusal};
+ghost use Rattle.nm_calls.specs.Views.{call_of, answer_of};
+ghost use Rattle.nm_trace.specs.Report.{word_of, listed, signed_listed, address_text, entry_text, answer_text, text_of};
+
+use nm_calls::{Answer, Call, Mapped};
+use nm_types::{Errno, FrameId, Vpn};
+use std::alloc::{AllocError, Allocator};
+
+/// The word that names a call.
+fn word<A: Allocator + Copy + Send + Sync>(call: &Call<A>) -> &'static str
+    ensures { result.now ≡ word_of (call_of call.now) }
+{
+    match call {
+        Call::Spawn(_) => "spawn",
+        Call::Map(_) => "map",
+        Call::Attach(_) => "attach",
+        Call::Unmap { .. } => "unmap",
+        Call::Exit { .. } => "exit",
+        Call::Pin { .. } => "pin",
+        Call::Unpin { .. } => "unpin",
+        Call::Read { .. } => "read",
+        Call::Write { .. } => "write",
+        Call::MovePages(_) => "move_pages",
+        Call::Query(_) => "query",
+        Call::FreeList { .. } => "free",
+        Call::Pagemap { .. } => "pagemap",
+    }
+}
+
+/// Puts each frame after a space.
+fn push_frames<A: Allocator>(line: &mut String<A>, frames: &[FrameId]) -> Result<(), AllocError>
+    ensures { OnOk result (string_bytes line.new ≡ string_bytes line.old ++ listed frames.now) }
+{
+    let mut buffer = itoa::Buffer::new();
+    for frame in frames {
+        line.push_str(" ")?;
+        line.push_str(buffer.format(frame.number()))?;
+    }
+    Ok(())
+}
+
+/// Puts each status after a space.
+fn push_statuses<A: Allocator>(line: &mut String<A>, statuses: &[i32]) -> Result<(), AllocError>
+    ensures { OnOk result (string_bytes line.new ≡ string_bytes line.old ++ signed_listed statuses.now) }
+{
+    let mut buffer = itoa::Buffer::new();
+    for status in statuses {
+        line.push_str(" ")?;
+        line.push_str(buffer.format(*status))?;
+    }
+    Ok(())
+}
+
+/// Puts the address at which a page begins.
+#[tactic(auto, using(crate::proofs::Texts::padded_by_zeros))]
+fn push_address<A: Allocator>(line: &mut String<A>, vpn: Vpn) -> Result<(), AllocError>
+    ensures { OnOk result (string_bytes line.new ≡ string_bytes line.old ++ address_text vpn) }
+{
+    let number = vpn.number();
+    write!(line, "{number:05x}000")
+}
+
+/// Puts an entry after a space.
+fn push_entry<A: Allocator>(line: &mut String<A>, entry: Mapped) -> Result<(), AllocError>
+    ensures { OnOk result (string_bytes line.new ≡ string_bytes line.old ++ entry_text (entry.vpn, entry.frame)) }
+{
+    line.push_str(" ")?;
+    push_address(line, entry.vpn)?;
+    line.push_str("=")?;
+    match entry.frame {
+        None => line.push_str("zero"),
+        Some(frame) => {
+            let mut buffer = itoa::Buffer::new();
+            line.push_str(buffer.format(frame.number()))
+        }
+    }
+}
+
+/// Puts each entry after a space.
+fn push_entries<A: Allocator>(line: &mut String<A>, entries: &[Mapped]) -> Result<(), AllocError>
+    ensures { OnOk result (string_bytes line.new ≡ string_bytes line.old
+        ++ flat_map entry_text (map (λ e. (e.vpn, e.frame)) entries.now)) }
+{
+    for entry in entries {
+        push_entry(line, *entry)?;
+    }
+    Ok(())
+}
+
+/// Puts a number and a colon.
+fn push_count<A: Allocator>(line: &mut String<A>, count: usize) -> Result<(), AllocError>
+    ensures { OnOk result (string_bytes line.new ≡ string_bytes line.old ++ (decimal count ++ codes ":")) }
+{
+    let mut buffer = itoa::Buffer::new();
+    line.push_str(buffer.format(count))?;
+    line.push_str(":")
+}
+
+/// Puts an answer.
+#[tactic(auto, unfolding(crate::specs::Report::answer_text))]
+fn push_answer<A: Allocator + Copy + Send + Sync>(
+    alloc: A,
+    line: &mut String<A>,
+    answer: &Answer<A>,
+) -> Result<(), AllocError>
+    ensures { OnOk result (string_bytes line.new ≡ string_bytes line.old ++ answer_text (answer_of answer.now)) }
+{
+    match answer {
+        Answer::Done => line.push_str("ok"),
+        Answer::Segment(segment) => {
+            let mut buffer = itoa::Buffer::new();
+            line.push_str("segment=")?;
+            line.push_str(buffer.format(*segment))
+        }
+        Answer::Bytes(bytes) => line.push_str(hex::encode(alloc, bytes.as_slice())?.as_str()),
+        Answer::Statuses(moved) => {
+            push_count(line, moved.failed)?;
+            push_statuses(line, moved.statuses.as_slice())
+        }
+        Answer::Frames(frames) => {
+            push_count(line, frames.len())?;
+            push_frames(line, frames.as_slice())
+        }
+        Answer::Entries(entries) => {
+            push_count(line, entries.len())?;
+            push_entries(line, entries.as_slice())
+        }
+    }
+}
+
+/// The front of a step's line: its number and its word, each with a space behind it.
+fn front_of<A: Allocator + Copy + Send + Sync>(
+    alloc: A,
+    k: usize,
+    call: &Call<A>,
+) -> Result<String<A>, AllocError>
+    ensures { IfOk result (λ line. string_bytes line ≡ decimal k ++ codes " " ++ word_of (call_of call.now) ++ codes " ") }
+{
+    let mut buffer = itoa::Buffer::new();
+    let mut line = String::from_str(alloc, buffer.format(k))?;
+    line.push_str(" ")?;
+    line.push_str(word(call))?;
+    line.push_str(" ")?;
+    Ok(line)
+}
+
+/// The lines of step k, whose call answered.
+#[tactic(auto, unfolding(crate::specs::Report::text_of))]
+pub(crate) fn text_of<A: Allocator + Copy + Send + Sync>(
+    alloc: A,
+    k: usize,
+    call: &Call<A>,
+    answer: &Answer<A>,
+) -> Result<String<A>, AllocError>
+    ensures { IfOk result (λ text. string_bytes text ≡ text_of k (call_of call.now) (answer_of answer.now)) }
+{
+    let mut line = front_of(alloc, k, call)?;
+    push_answer(alloc, &mut line, answer)?;
+    line.push_str("\n")?;
+    Ok(line)
+}
+
+/// The line of step k, whose call was refused.
+#[tactic(auto, unfolding(crate::specs::Report::text_of, crate::specs::Report::answer_text))]
+pub(crate) fn refusal_text<A: Allocator + Copy + Send + Sync>(
+    alloc: A,
+    k: usize,
+    call: &Call<A>,
+    errno: Errno,
+) -> Result<String<A>, AllocError>
+    ensures { IfOk result (λ text. string_bytes text ≡ text_of k (call_of call.now) (Refusal errno)) }
+{
+    let mut line = front_of(alloc, k, call)?;
+    line.push_str("error ")?;
+    line.push_str(errno.name())?;
+    line.push_str("\n")?;
+    Ok(line)
+}

@@ -1,0 +1,21 @@
+//! Traces in memory.
+
+ghost use Rattle.std.specs.Prelude.{◌<◌, ◌≤◌};
+ghost use Rattle.nm_calls.specs.Systems.{default_limit};
+
+use nm_calls::Call;
+use nm_types::Geometry;
+use std::alloc::Allocator;
+
+/// A machine, and the calls that are made on it, step by step.
+#[derive(Debug, Drop)]
+pub struct Trace<A: Allocator + Copy + Send + Sync> {
+    /// The nodes, their frames and distances.
+    pub geometry: Geometry<A>,
+    /// How many entries a run has at most: 1 to 16,384, which is no limit, as no batch is longer.
+    pub run_limit: usize,
+    /// The calls of the steps, step 0 first.
+    pub calls: Vec<Call<A>, A>,
+    pub ghost some: { 0 < run_limit },
+    pub ghost within: { run_limit ≤ default_limit },
+}

@@ -1,0 +1,45 @@
+#!/usr/bin/env python3
+"""Whether each edit of tests/edits can be applied to the sources as they stand: every text that it replaces stands once in
+its file. So an edit that the gate leaves out is mended with the code that it speaks of. Prints those that cannot, and
+then ends with status 1."""
+import glob
+import os
+import sys
+
+os.chdir(os.path.join(os.path.dirname(os.path.abspath(__file__)), ".."))
+
+
+def fault(path, crate):
+    """Says why an edit cannot be applied to the files of its crate, or gives None."""
+    texts, file, old = {}, None, None
+    with open(path, encoding="utf-8") as edit:
+        lines = edit.read().split("\n")
+    for line in lines:
+        if line.startswith("file: "):
+            file = line[len("file: "):].strip()
+        elif line.startswith("old: "):
+            old = line[len("old: "):]
+        elif line.startswith("new:"):
+            if file is None or old is None:
+                return "a 'new:' line stands before any 'file:' or 'old:' line"
+            if file not in texts:
+                try:
+                    with open(os.path.join("crates", crate, file), encoding="utf-8") as source:
+                        texts[file] = source.read()
+                except OSError:
+                    return f"there is no file {file}"
+            found = texts[file].count(old)
+            if found != 1:
+                return f"an 'old:' text stands in {file} {found} times, and not once"
+            texts[file] = texts[file].replace(old, line[len("new:"):].removeprefix(" "))
+            old = None
+    return None if texts else "it changes nothing"
+
+
+bad = 0
+for path in sorted(glob.glob("tests/edits/*/*.edit")):
+    why = fault(path, path.split(os.sep)[2])
+    if why:
+        print(f"{path}: {why}")
+        bad = 1
+sys.exit(bad)

@@ -1,0 +1,102 @@
+#!/usr/bin/env python3
+"""Lists every public definition of the specifications, each with its file and the comment above it: docs/DEFINITIONS_ALL.md.
+
+Without a word it writes the list. With --check it writes nothing, and ends with status 1 where the list is not that of the
+sources, or where docs/DEFINITIONS.md names a definition that is not in the file that it says, or more than 45."""
+import os
+import re
+import sys
+
+ROOT = os.path.dirname(os.path.dirname(os.path.abspath(__file__)))
+LIST = os.path.join(ROOT, "docs/DEFINITIONS_ALL.md")
+PAGE = os.path.join(ROOT, "docs/DEFINITIONS.md")
+DEFINES = re.compile(r"^(?:(?:abbrev|unfoldable|opaque) )?pub (?:(?:record|data) )?([^\s({:]+)")
+HEAD = """# All definitions
+
+Every public definition of the specifications, by crate and file, with the sentence that stands above it. `tools/definitions.py` writes this list; `docs/DEFINITIONS.md` has the few that one reads first.
+"""
+
+
+def crates():
+    """The crates in the order of crates.txt, lowest first."""
+    with open(os.path.join(ROOT, "crates.txt"), encoding="utf-8") as file:
+        lines = [line.split("#")[0] for line in file]
+    return [line.split(":")[0].split()[0] for line in lines if ":" in line]
+
+
+def definitions(path):
+    """The names that a file defines for others, each with the comment in front of it."""
+    found, said = [], []
+    with open(path, encoding="utf-8") as file:
+        for line in file.read().split("\n"):
+            if line.startswith("-- ----"):
+                said = []
+            elif line.startswith("--"):
+                said.append(line[2:].strip())
+            elif not line.strip():
+                said = []
+            elif not line.startswith("infix"):
+                name = DEFINES.match(line)
+                if name and not line.startswith(("pub use", "pub mod")):
+                    found.append((name[1], " ".join(said)))
+                said = []
+    return found
+
+
+def sentence(text):
+    """A comment as a sentence."""
+    text = text.strip()
+    if not text:
+        return ""
+    text = text[0].upper() + text[1:]
+    return text if text.endswith((".", ":")) else text + "."
+
+
+def listed():
+    """The text of the list, and for each file the names that it defines."""
+    text, names = [HEAD], {}
+    for crate in crates():
+        folder = os.path.join(ROOT, "crates", crate, "specs")
+        if not os.path.isdir(folder):
+            continue
+        rows = []
+        for at, folders, files in os.walk(folder):
+            folders.sort()
+            for file in sorted(files):
+                path = os.path.join(at, file)
+                short = os.path.relpath(path, os.path.join(ROOT, "crates"))
+                found = definitions(path) if file.endswith(".antt") else []
+                names[short] = {name for name, _ in found}
+                rows += [f"| `{name}` | `{short}` | {sentence(said)} |" for name, said in found]
+        if rows:
+            text += [f"## {crate}\n", "| Name | File | What it says |\n|---|---|---|"] + rows + [""]
+    return "\n".join(text), names
+
+
+def faults(text, names):
+    """What is wrong of the two pages."""
+    with open(LIST, encoding="utf-8") as file:
+        if file.read() != text:
+            yield "docs/DEFINITIONS_ALL.md is not the list of the sources: tools/definitions.py writes it"
+    with open(PAGE, encoding="utf-8") as file:
+        rows = re.findall(r"^\| `([^`]+)` \| `([^`]+)` \|", file.read(), re.M)
+    if len(rows) > 45:
+        yield f"docs/DEFINITIONS.md lists {len(rows)} definitions, and at most 45 are to be read first"
+    for name, path in rows:
+        if name not in names.get(path, ()):
+            yield f"docs/DEFINITIONS.md: there is no {name} in {path}"
+
+
+def main():
+    text, names = listed()
+    if sys.argv[1:] == ["--check"]:
+        said = list(faults(text, names))
+        print("\n".join(said), end="\n" if said else "")
+        return 1 if said else 0
+    with open(LIST, "w", encoding="utf-8") as file:
+        file.write(text)
+    return 0
+
+
+if __name__ == "__main__":
+    sys.exit(main())
