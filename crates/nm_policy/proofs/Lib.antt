@@ -1,3 +1,4 @@
 pub mod Far
 pub mod Paired
 pub mod Sorted
+pub mod Turned

@@ -4,10 +4,12 @@
 mod first_touch;
 pub mod laws;
 mod pairing;
+mod targets;
 #[cfg(test)]
 mod tests;
 mod zones;
 
 pub use first_touch::{first_touch_order, follows};
 pub use pairing::{Pair, pairs};
+pub use targets::{Sent, Stray, mbind_targets};
 pub use zones::zonelist;

@@ -1,5 +1,5 @@
-use crate::{first_touch_order, follows, laws, pairs, zonelist};
-use nm_types::{Geometry, NodeId, NodeMask, Policy};
+use crate::{Stray, first_touch_order, follows, laws, mbind_targets, pairs, zonelist};
+use nm_types::{Geometry, NodeId, NodeMask, Page, Policy, Vpn};
 use std::alloc::Global;
 use std::process::Abort;
 use std::test::Fail;
@@ -124,10 +124,40 @@ fn pairs_in_order(rt: HostRuntime) -> Result<(), Fail> {
 }
 
 #[test]
+fn pages_take_turns(rt: HostRuntime) -> Result<(), Fail> {
+    let alloc = rt.alloc();
+    let pages: Vec<Stray> = (0..4u64)
+        .map(|index| Stray {
+            vpn: Vpn::new(16 + index),
+            page: Page { segment: 0, index },
+        })
+        .collect(alloc)?;
+    for (nodes, want) in [
+        (
+            [0u32, 2].as_slice(),
+            [(16u64, 0u32), (18, 0), (17, 2), (19, 2)].as_slice(),
+        ),
+        (&[1], &[(16, 1), (17, 1), (18, 1), (19, 1)]),
+        (&[], &[]),
+    ] {
+        let targets = mbind_targets(alloc, set_of(&rt, nodes), pages.as_slice())?;
+        let numbers: Vec<(u64, u32)> = targets
+            .iter()
+            .map(|sent| (sent.vpn.number(), sent.to.number()))
+            .collect(alloc)?;
+        assert!(rt; numbers.as_slice() == want, "on {nodes:?}");
+    }
+    Ok(())
+}
+
+#[test]
 fn laws_are_called() {
     laws::each_set_has_one_order();
     laws::zonelist_rows();
     laws::first_touch_rows();
     laws::each_set_is_paired_in_order();
     laws::pair_rows();
+    laws::all_pages_take_turns();
+    laws::one_node_takes_all();
+    laws::turn_rows();
 }

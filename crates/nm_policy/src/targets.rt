@@ -1,0 +1,97 @@
+//! Where the pages of one pass of `mbind(2)` go.
+
+ghost use Rattle.std.specs.Prelude.{◌≡◌, ◌<◌, ◌==◌, ◌++◌, map, length, IfOk, OnOk};
+ghost use Rattle.nm_policy.specs.Turns.{sent, sent_to, by_turns};
+
+use nm_types::{NodeId, NodeMask, Page, Vpn};
+use std::alloc::{AllocError, Allocator};
+
+/// A page that is not where a policy wants it.
+#[derive(Clone, Copy, Debug, PartialEq, Eq)]
+pub struct Stray {
+    /// A page number at which a process sees it.
+    pub vpn: Vpn,
+    /// The page.
+    pub page: Page,
+}
+
+/// A page that is to go to a node.
+#[derive(Clone, Copy, Debug, PartialEq, Eq)]
+pub struct Sent {
+    /// A page number at which a process sees it.
+    pub vpn: Vpn,
+    /// The node.
+    pub to: NodeId,
+}
+
+/// The nodes of a set, upwards.
+fn nodes_of<A: Allocator + Copy>(alloc: A, set: NodeMask) -> Result<Vec<NodeId, A>, AllocError>
+    ensures { IfOk result (λ nodes. nodes.items ≡ set) }
+{
+    let mut nodes = Vec::with_capacity(alloc, set.len())?;
+    let mut rest = set;
+    while let Some(node) = rest.take_first() {
+        nodes.push(node)?;
+    }
+    Ok(nodes)
+}
+
+/// The pages of a list, in its order, each with the node whose turn it is.
+fn dealt<A: Allocator + Copy>(
+    alloc: A,
+    nodes: &[NodeId],
+    pages: &[Stray],
+) -> Result<Vec<Sent, A>, AllocError>
+    requires { 0 < length nodes.now }
+    ensures { IfOk result (λ dealt. dealt.items ≡ map (sent nodes.now) pages.now) }
+{
+    let count = nodes.len() as u64;
+    let mut dealt = Vec::with_capacity(alloc, pages.len())?;
+    for stray in pages {
+        let turn = stray.page.index % count;
+        dealt.push(Sent {
+            vpn: stray.vpn,
+            to: nodes[turn as usize],
+        })?;
+    }
+    Ok(dealt)
+}
+
+/// Puts what goes to a node behind a list.
+fn append_for<A: Allocator + Copy>(
+    node: NodeId,
+    dealt: &[Sent],
+    targets: &mut Vec<Sent, A>,
+) -> Result<(), AllocError>
+    ensures { OnOk result (targets.new.items ≡ targets.old.items ++ sent_to dealt.now node) }
+{
+    for sent in dealt {
+        if sent.to == node {
+            targets.push(*sent)?;
+        }
+    }
+    Ok(())
+}
+
+/// To which node of a set each page of a list goes, and in which order they go: the nodes take turns upwards by the page's
+/// index in its segment, as MPOL_INTERLEAVE wants it, and the pages go by node and then in the order of the list. A set
+/// of one node takes all pages in the order of the list, as MPOL_PREFERRED and each pass of MPOL_BIND want it. No page
+/// goes anywhere where the set is empty. An error is want of memory.
+pub fn mbind_targets<A: Allocator + Copy>(
+    alloc: A,
+    nodes: NodeMask,
+    pages: &[Stray],
+) -> Result<Vec<Sent, A>, AllocError>
+    ensures { IfOk result (λ targets. targets.items ≡ by_turns nodes pages.now) }
+{
+    let mut targets = Vec::with_capacity(alloc, pages.len())?;
+    if nodes.is_empty() {
+        return Ok(targets);
+    }
+    let order = nodes_of(alloc, nodes)?;
+    let dealt = dealt(alloc, order.as_slice(), pages)?;
+    for node in &order {
+        append_for(*node, dealt.as_slice(), &mut targets)?;
+    }
+    Ok(targets)
+}
