@@ -1,5 +1,5 @@
 -- What holds of faults and reports, and a worked report.
-use Rattle.std.specs.Prelude.{◌≡◌, ℕ, zero, suc, ◌<◌, [], ◌∷◌, Option, Some, None, IsSome, codes, false}
+use Rattle.std.specs.Prelude.{◌≡◌, ℕ, zero, suc, ◌<◌, [], ◌∷◌, ◌++◌, Option, Some, None, IsSome, codes, false}
 use Rattle.serde_json.specs.Data.{Data, Items, no_items, item}
 use Rattle.nm_calls.specs.Calls.{Spawn, MapPages, ReadBytes, WriteBytes, MovePages, FreeList, Pagemap}
 use Rattle.nm_trace.specs.Form.{each, step_of}
@@ -41,4 +41,6 @@ three_pages = record {
 -- the report on them
 abbrev pub ThreePagesReport : Type 0
 ThreePagesReport =
-    report_of three_pages ≡ codes "0 spawn ok\n1 map segment=0\n2 write ok\n3 write ok\n4 write ok\n5 move_pages 0: 1 1 1\n6 free 4: 3 0 1 2\n7 free 1: 7\n8 pagemap 3: 00010000=4 00011000=5 00012000=6\n9 read 6200\n"
+    report_of three_pages ≡
+    codes "0 spawn ok\n1 map segment=0\n2 write ok\n3 write ok\n4 write ok\n5 move_pages 0: 1 1 1\n"
+    ++ codes "6 free 4: 3 0 1 2\n7 free 1: 7\n8 pagemap 3: 00010000=4 00011000=5 00012000=6\n9 read 6200\n"

@@ -14,13 +14,18 @@ mod-more bits n = let e : n + 1 ≡ 1 + n = omega arith in ap (λ k. bits % 2 ^ 
 
 -- the bits from n on, so many, and those below
 mask_of-members_from : (bits n k : ℕ) → mask_of (members_from bits n k) + bits % 2 ^ n ≡ bits % 2 ^ (n + k)
-mask_of-members_from bits n zero = let e : n + 0 ≡ n = omega arith in let z : 0 + bits % 2 ^ n ≡ bits % 2 ^ n = omega arith in z ∙ sym (ap (λ k. bits % 2 ^ k) e)
+mask_of-members_from bits n zero =
+    let e : n + 0 ≡ n = omega arith in
+    let z : 0 + bits % 2 ^ n ≡ bits % 2 ^ n = omega arith in
+    z ∙ sym (ap (λ k. bits % 2 ^ k) e)
 mask_of-members_from bits n (suc k) =
     let ih = mask_of-members_from bits (n + 1) k in
     let more = mod-more bits n in
     let e : (n + 1) + k ≡ n + suc k = omega arith in
     let at : bits % 2 ^ ((n + 1) + k) ≡ bits % 2 ^ (n + suc k) = ap (λ j. bits % 2 ^ j) e in
-    elim (bit_at bits n == 1) as (λ b. (bit_at bits n == 1) ≡ b → mask_of (if b then n ∷ members_from bits (n + 1) k else members_from bits (n + 1) k) + bits % 2 ^ n ≡ bits % 2 ^ (n + suc k)) [
+    let rest = members_from bits (n + 1) k in
+    elim (bit_at bits n == 1) as (λ b. (bit_at bits n == 1) ≡ b
+        → mask_of (if b then n ∷ rest else rest) + bits % 2 ^ n ≡ bits % 2 ^ (n + suc k)) [
       | true ↦ λ h.
           let one : bit_at bits n ≡ 1 = eqb-true _ _ h in
           let shown : bit_at bits n * 2 ^ n ≡ 2 ^ n = ap (λ x. x * 2 ^ n) one ∙ omega arith in
