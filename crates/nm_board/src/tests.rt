@@ -81,6 +81,36 @@ fn two_jobs(rt: HostRuntime) -> Result<(), Fail> {
     Ok(())
 }
 
+/// A hand of 32 shares is split off: each ticket is drawn by one of the two hands. When both have given back and are
+/// joined, the hand has all 64 shares and is past the end, as the other was.
+#[test]
+fn two_hands(rt: HostRuntime) -> Result<(), Fail> {
+    let Ok((board, mut hand)) = Board::lay(rt.alloc(), jobs(rt.alloc(), 2)?) else {
+        panic!(rt; "no memory")
+    };
+    let mut other = hand.split(&board, 32);
+    assert!(rt; hand.shares() == 32 && other.shares() == 32);
+    let Some(mut first) = board.draw(&mut other) else {
+        panic!(rt; "no first job")
+    };
+    let Some(mut second) = board.draw(&mut hand) else {
+        panic!(rt; "no second job")
+    };
+    assert!(rt; first.ticket == 0 && second.ticket == 1);
+    second.copy();
+    board.give(&mut hand, second);
+    first.copy();
+    board.give(&mut other, first);
+    assert!(rt; board.draw(&mut other).is_none() && !hand.past_end());
+    hand.join(&board, other);
+    assert!(rt; hand.shares() == 64 && hand.past_end());
+    let Ok(jobs) = board.clear(hand) else {
+        panic!(rt; "short")
+    };
+    assert!(rt; jobs.len() == 2 && are_jobs(jobs.as_slice(), true));
+    Ok(())
+}
+
 /// The first draw of a board without jobs answers none, and the board gives none back.
 #[test]
 fn no_jobs(rt: HostRuntime) -> Result<(), Fail> {
