@@ -1,20 +1,13 @@
 //! Batches whose memory is refused, and the totals, which no step of a trace tells.
 
-use crate::traces::{Heap, two_nodes};
+use crate::machine::both_nodes;
+use crate::traces::{Heap, layout, two_nodes};
 use nm_calls::{CallError, Moved, System};
 use nm_engine::Totals;
 use nm_refusing::Refusing;
-use nm_types::{NodeId, NodeMask, Pid};
+use nm_types::{NodeId, Pid};
 use std::alloc::AllocError;
 use std::test::Fail;
-
-/// The nodes 0 and 1.
-fn both_nodes() -> NodeMask {
-    let mut nodes = NodeMask::new();
-    nodes.insert(NodeId::new(0));
-    nodes.insert(NodeId::new(1));
-    nodes
-}
 
 /// Makes a process of a user and a home of its own, with so many pages from 0x10000 on, and writes each of them.
 fn begin(system: &mut System<Heap<'_>>, pid: Pid, home: u32, pages: u64) -> Result<(), CallError> {
@@ -110,6 +103,49 @@ fn refused_batches_tell_their_runs(rt: HostRuntime) -> Result<(), Fail> {
         }
     }
     assert!(rt; before_the_first && before_the_second && whole);
+    Ok(())
+}
+
+/// Two nodes of four frames, process 1 with three pages on node 0, and runs of at most one entry.
+fn one_by_one(heap: Heap<'_>) -> Result<System<Heap<'_>>, CallError> {
+    let geometry = layout(heap)?;
+    let mut system = System::with_run_limit(heap, geometry, 1)?;
+    begin(&mut system, Pid::new(1), 0, 3)?;
+    Ok(system)
+}
+
+/// Moves the first two pages to node 1, while the allocation of this number is refused.
+fn move_two(heap: Heap<'_>, number: u64) -> Result<Attempt, CallError> {
+    let mut system = one_by_one(heap)?;
+    let pages = [0x10000u64, 0x11000];
+    heap.refuse(number);
+    let runs = runs_made(system.move_pages(Pid::new(1), Pid::new(0), &pages, &[1u32; 2], 2));
+    let met = heap.asked_since(number) >= number;
+    heap.refuse(0);
+    let frame = first_frame(&system)?;
+    Ok(Attempt { met, runs, frame })
+}
+
+/// Under a limit of one entry, two entries for one node are two runs, and a refusal of memory tells how many were made.
+#[test]
+fn limited_batches_tell_their_runs(rt: HostRuntime) -> Result<(), Fail> {
+    let heap = Refusing::new(rt.alloc());
+    let mut between = false;
+    let mut whole = false;
+    for number in 1..1000u64 {
+        let tried = move_two(&heap, number)?;
+        let there = if tried.runs == Some(0) { 0u32 } else { 4 };
+        assert!(rt;
+            tried.frame == Some(there),
+            "allocation {number}: {tried:?}"
+        );
+        between |= tried.runs == Some(1);
+        if !tried.met {
+            whole = tried.runs.is_none();
+            break;
+        }
+    }
+    assert!(rt; between && whole);
     Ok(())
 }
 

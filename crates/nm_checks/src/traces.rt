@@ -1,9 +1,10 @@
-//! Traces whose memory is refused.
+//! Traces whose memory is refused, and a trace that a program makes itself.
 
-use nm_calls::System;
+use crate::machine::both_nodes;
+use nm_calls::{Call, NewProcess, System};
 use nm_refusing::Refusing;
-use nm_trace::{Summary, TraceError, play, read_trace, run_trace};
-use nm_types::Geometry;
+use nm_trace::{Summary, Trace, TraceError, play, read_trace, run_trace};
+use nm_types::{Geometry, NodeId, Pid};
 use std::alloc::{AllocError, Global};
 use std::test::Fail;
 
@@ -79,23 +80,30 @@ fn refused_runs_write_a_front(rt: HostRuntime) -> Result<(), Fail> {
     Ok(())
 }
 
-/// A system of two nodes of four frames, at distance 20.
-pub(crate) fn two_nodes(heap: Heap<'_>) -> Result<System<Heap<'_>>, AllocError> {
+/// Two nodes of four frames, at distance 20.
+pub(crate) fn layout(heap: Heap<'_>) -> Result<Geometry<Heap<'_>>, AllocError> {
     let near = vec![in heap; 10u8, 20u8]?;
     let far = vec![in heap; 20u8, 10u8]?;
     match Geometry::new(vec![in heap; 4u32, 4u32]?, vec![in heap; near, far]?) {
-        Ok(geometry) => System::new(heap, geometry),
+        Ok(geometry) => Ok(geometry),
         Err(_) => Err(AllocError),
     }
+}
+
+/// A system of such nodes.
+pub(crate) fn two_nodes(heap: Heap<'_>) -> Result<System<Heap<'_>>, AllocError> {
+    let geometry = layout(heap)?;
+    System::new(heap, geometry)
 }
 
 /// Plays the trace on a new system while the allocation of this number is refused. Gives whether it came to that
 /// allocation, and whether what it answered and wrote is fine and the system sound.
 fn play_refused(heap: Heap<'_>, global: Global, number: u64) -> Result<(bool, bool), AllocError> {
-    let mut system = two_nodes(heap)?;
     let Ok(trace) = read_trace(heap, global, TRACE.as_bytes()) else {
         return Err(AllocError);
     };
+    let geometry = trace.geometry.clone()?;
+    let mut system = System::with_run_limit(heap, geometry, trace.run_limit)?;
     let mut written = Vec::new(global);
     heap.refuse(number);
     let played = play(heap, &mut system, &trace, &mut written);
@@ -103,6 +111,51 @@ fn play_refused(heap: Heap<'_>, global: Global, number: u64) -> Result<(bool, bo
     heap.refuse(0);
     let sound = system.audit()?;
     Ok((met, sound && is_fine(played, written.as_slice())))
+}
+
+/// A new process, and a read of one that is not there, as a trace that no bytes were read for.
+fn own_trace(heap: Heap<'_>) -> Result<Trace<Heap<'_>>, AllocError> {
+    let spawn = Call::Spawn(NewProcess {
+        pid: Pid::new(1),
+        uid: 100,
+        home: NodeId::new(0),
+        allowed: both_nodes(),
+        privileged: false,
+    });
+    let read = Call::Read {
+        pid: Pid::new(2),
+        addr: 0x10000,
+        len: 1,
+    };
+    Ok(Trace {
+        geometry: layout(heap)?,
+        run_limit: 16_384,
+        calls: vec![in heap; spawn, read]?,
+    })
+}
+
+/// Plays that trace on a system that is made for it, and gives the report.
+fn own_report(heap: Heap<'_>, global: Global) -> Result<Vec<u8>, AllocError> {
+    let trace = own_trace(heap)?;
+    let geometry = trace.geometry.clone()?;
+    let mut system = System::with_run_limit(heap, geometry, trace.run_limit)?;
+    let mut written = Vec::new(global);
+    match play(heap, &mut system, &trace, &mut written) {
+        Ok(_) => Ok(written),
+        Err(_) => Err(AllocError),
+    }
+}
+
+/// A program plays calls of its own as it plays those of a trace that was read.
+#[test]
+fn own_calls_are_played(rt: HostRuntime) -> Result<(), Fail> {
+    let heap = Refusing::new(rt.alloc());
+    let written = own_report(&heap, rt.alloc())?;
+    assert_eq!(rt;
+        written.as_slice(),
+        b"0 spawn ok\n1 read error ESRCH\n".as_slice()
+    );
+    Ok(())
 }
 
 /// Each allocation of a play is refused in turn.

@@ -204,12 +204,15 @@ fn tells_why_words_are_unread(rt: HostRuntime) -> Result<(), Fail> {
     let alloc = rt.alloc();
     let mut err = Vec::new(alloc);
     assert_eq!(rt; unread_words(ErrorKind::InvalidData, &mut err), 2u8);
-    assert_eq!(rt; err.as_slice(), b"numatrace: a word is not UTF-8\n");
+    assert_eq!(rt;
+        err.as_slice(),
+        b"numatrace: a word is not UTF-8\n".as_slice()
+    );
     let mut err = Vec::new(alloc);
     assert_eq!(rt; unread_words(ErrorKind::OutOfMemory, &mut err), 3u8);
     assert_eq!(rt;
         err.as_slice(),
-        b"numatrace: host memory refused after 0 steps\n"
+        b"numatrace: host memory refused after 0 steps\n".as_slice()
     );
     Ok(())
 }
