@@ -8,7 +8,8 @@ couples old new = map {B = ℕ × ℕ} (λ p. (p.from, p.to)) (pairs old new)
 
 pub record PairRows : Type 0 where
   -- nodes 3, 4 and 5 keep their pages and are never left, so the last comes first
-  pub eight_to_three : couples (0 ∷ 1 ∷ 2 ∷ 3 ∷ 4 ∷ 5 ∷ 6 ∷ 7 ∷ []) (3 ∷ 4 ∷ 5 ∷ []) ≡ (7, 4) ∷ (6, 3) ∷ (2, 5) ∷ (1, 4) ∷ (0, 3) ∷ []
+  pub eight_to_three : couples (0 ∷ 1 ∷ 2 ∷ 3 ∷ 4 ∷ 5 ∷ 6 ∷ 7 ∷ []) (3 ∷ 4 ∷ 5 ∷ [])
+      ≡ (7, 4) ∷ (6, 3) ∷ (2, 5) ∷ (1, 4) ∷ (0, 3) ∷ []
   -- node 1 is left before pages come to it
   pub two_in_a_chain : couples (0 ∷ 1 ∷ []) (1 ∷ 2 ∷ []) ≡ (1, 2) ∷ (0, 1) ∷ []
   pub three_in_a_chain : couples (0 ∷ 1 ∷ 2 ∷ []) (1 ∷ 2 ∷ 3 ∷ []) ≡ (2, 3) ∷ (1, 2) ∷ (0, 1) ∷ []

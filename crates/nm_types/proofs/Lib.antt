@@ -4,3 +4,4 @@ pub mod Keys
 pub mod Members
 pub mod Layouts
 pub mod Lowest
+pub mod Together

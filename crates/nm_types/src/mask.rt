@@ -1,6 +1,7 @@
 //! Sets of nodes.
 
 ghost use Rattle.std.specs.Prelude.{◌≡◌, ◌<◌, ◌↔◌, [], IsTrue, drop, length, slice_get};
+ghost use Rattle.std.specs.List.{filter, list_all};
 ghost use Rattle.std.specs.Ordering.{nat_cmp};
 ghost use Rattle.std.specs.BTreeSet.{insert_key};
 ghost use Rattle.nm_types.specs.Nodes.{is_in, without_node, IsNodeSet};
@@ -51,6 +52,22 @@ impl NodeMask {
         ensures { result ≡ is_in self node }
     {
         node.number() < 64 && (self.bits >> node.number()) & 1 == 1
+    }
+
+    /// The nodes that are in both sets.
+    pub fn intersection(self, other: Self) -> Self
+        ensures { result ≡ filter (is_in other) self }
+    {
+        NodeMask {
+            bits: self.bits & other.bits,
+        }
+    }
+
+    /// Whether each of its nodes is in another set.
+    pub fn is_subset(self, other: Self) -> bool
+        ensures { result ≡ list_all (is_in other) self }
+    {
+        self.intersection(other) == self
     }
 
     /// Puts a node below 64 in it.

@@ -181,6 +181,25 @@ fn masks_in_order(rt: HostRuntime) {
 }
 
 #[test]
+fn masks_together(rt: HostRuntime) {
+    let mut low = NodeMask::new();
+    let mut high = NodeMask::new();
+    for node in [0, 1, 63] {
+        low.insert(NodeId::new(node));
+    }
+    for node in [1, 62, 63] {
+        high.insert(NodeId::new(node));
+    }
+    let mut both = low.intersection(high);
+    assert!(rt; both.is_subset(low) && both.is_subset(high));
+    assert!(rt; !low.is_subset(high) && !high.is_subset(low));
+    assert_eq!(rt; both.take_first(), Some(NodeId::new(1)));
+    assert_eq!(rt; both.take_first(), Some(NodeId::new(63)));
+    assert!(rt; both.is_empty() && both.is_subset(low));
+    assert!(rt; !low.is_subset(both));
+}
+
+#[test]
 fn flags_by_their_bits(rt: HostRuntime) -> Result<(), Fail> {
     for bits in 0..8u32 {
         let flags = MoveFlags::from_bits(bits).ok_or("known bits")?;
