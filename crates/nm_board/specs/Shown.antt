@@ -65,6 +65,10 @@ module _ {A : Type 0} where
   abbrev pub HasEach : Holding A → Type 0
   HasEach hand = (t : ℕ) → times t hand.drawn ≡ once_below t (length hand.board.jobs)
 
+  -- each ticket that the hand drew it gave back, or it is out with it
+  abbrev pub OutIsTheRest : Holding A → Type 0
+  OutIsTheRest hand = (t : ℕ) → times t hand.drawn ≡ times t hand.done + times t hand.out
+
   -- no ticket stands twice among those that the hand drew
   abbrev pub HasNoneTwice : Holding A → Type 0
   HasNoneTwice hand = (t : ℕ) → times t hand.drawn ≤ 1

@@ -23,7 +23,7 @@ pub(crate) const NEXT: usize = 0;
 pub(crate) const GIVEN: usize = 1;
 
 /// How many shares there are of a board, which its hands have together.
-pub const SHARES: u64 = 64;
+pub(crate) const SHARES: u64 = 64;
 
 /// Copying jobs that lie ready for threads. Contracts see the list of the jobs as they were laid, and which board it
 /// is.

@@ -245,17 +245,15 @@ fn start_each<'s, E, A: Allocator + Copy + Send + Sync, B: Room + Send + Sync, G
 )
     requires { named board.now ≡ B.board }
 {
-    let mut number = 1;
-    for worker in workers {
-        let mine = number;
-        let started = starts.builder(mine).spawn_scoped(
+    for (index, worker) in workers.iter_mut().enumerate() {
+        let number = index + 1;
+        let started = starts.builder(number).spawn_scoped(
             scope,
             move ||
                 requires { named board.now ≡ B.board }
-            { worker.run(board, gate, mine) },
+            { worker.run(board, gate, number) },
         );
         drop(started);
-        number = mine.wrapping_add(1);
     }
 }
 

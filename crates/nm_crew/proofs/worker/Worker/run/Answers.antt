@@ -1,4 +1,4 @@
-use Rattle.std.proofs.Common.{◌≡◌, sym, ◌∙◌}
+use Rattle.std.proofs.Common.{sym, ◌∙◌}
 use Rattle.nm_crew.proofs.Naming.{same_board}
 use Rattle.nm_crew.proofs.worker.Worker.run.Goals as goal
 
