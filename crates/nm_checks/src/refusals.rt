@@ -1,3 +1,7 @@
+ghost use Rattle.std.specs.Prelude.{◌≡◌, [], ◌∷◌, false, IfOk};
+ghost use Rattle.nm_runs.specs.declared.Wanted.TheVariants.{At};
+ghost use Rattle.nm_engine.specs.Run.{HasOneAll};
+
 use crate::machine::{Heap, both_nodes, two_nodes};
 use nm_engine::{Entry, Machine, MachineError, Totals};
 use nm_refusing::Refusing;
@@ -84,7 +88,9 @@ const SHARING: [Call; 12] = [
 ];
 
 /// The page of process 1 at a page number.
-fn page_at(number: u64) -> Wanted {
+fn page_at(number: u64) -> Wanted
+    ensures { result ≡ At 1 number false }
+{
     Wanted::At {
         pid: Pid::new(1),
         vpn: Vpn::new(number),
@@ -93,12 +99,16 @@ fn page_at(number: u64) -> Wanted {
 }
 
 /// Pages 16 to 18 of process 1.
-fn three_pages(heap: Heap<'_>) -> Result<Vec<Wanted, Heap<'_>>, AllocError> {
-    (16..19u64).map(page_at).collect(heap)
+fn three_pages(heap: Heap<'_>) -> Result<Vec<Wanted, Heap<'_>>, AllocError>
+    ensures { IfOk result (λ pages. pages.items ≡ At 1 16 false ∷ At 1 17 false ∷ At 1 18 false ∷ []) }
+{
+    Ok(vec![in heap; page_at(16), page_at(17), page_at(18)]?)
 }
 
 /// Pages 16 to 18 of process 1 to node 1.
-fn to_the_other_node(heap: Heap<'_>) -> Result<Run<Heap<'_>>, AllocError> {
+fn to_the_other_node(heap: Heap<'_>) -> Result<Run<Heap<'_>>, AllocError>
+    ensures { IfOk result (λ run. HasOneAll run.wanted.items) }
+{
     Ok(Run {
         target: NodeId::new(1),
         wanted: three_pages(heap)?,
@@ -117,7 +127,9 @@ fn perform<'a>(
     machine: &mut Machine<Heap<'a>>,
     run: &Run<Heap<'a>>,
     call: Call,
-) -> Result<(), MachineError> {
+) -> Result<(), MachineError>
+    requires { HasOneAll run.now.wanted.items }
+{
     let one = Pid::new(1);
     match call {
         Call::Spawn(pid) => machine.spawn(Pid::new(pid), 100, NodeId::new(0), both_nodes(), false),
@@ -197,7 +209,9 @@ fn attempt<'a>(
     run: &Run<Heap<'a>>,
     call: Call,
     number: u64,
-) -> (bool, Result<(), MachineError>) {
+) -> (bool, Result<(), MachineError>)
+    requires { HasOneAll run.now.wanted.items }
+{
     heap.refuse(number);
     let answer = perform(machine, run, call);
     let met = heap.asked_since(number) >= number;
@@ -224,7 +238,9 @@ fn refuse_each<'a>(
     machine: &mut Machine<Heap<'a>>,
     run: &Run<Heap<'a>>,
     call: Call,
-) -> Result<u64, MachineError> {
+) -> Result<u64, MachineError>
+    requires { HasOneAll run.now.wanted.items }
+{
     let before = take_picture(heap, machine)?;
     for number in 1..1000u64 {
         let (met, answer) = attempt(heap, machine, run, call, number);
@@ -247,7 +263,9 @@ fn refuse_all<'a>(
     machine: &mut Machine<Heap<'a>>,
     run: &Run<Heap<'a>>,
     calls: &[Call],
-) -> Result<u64, MachineError> {
+) -> Result<u64, MachineError>
+    requires { HasOneAll run.now.wanted.items }
+{
     let mut refused = 0u64;
     for call in calls {
         let more = refuse_each(rt, heap, machine, run, *call)?;

@@ -25,7 +25,7 @@ mask_of-members_from bits n (suc k) =
     let at : bits % 2 ^ ((n + 1) + k) ≡ bits % 2 ^ (n + suc k) = ap (λ j. bits % 2 ^ j) e in
     let rest = members_from bits (n + 1) k in
     elim (bit_at bits n == 1) as (λ b. (bit_at bits n == 1) ≡ b
-        → mask_of (if b then n ∷ rest else rest) + bits % 2 ^ n ≡ bits % 2 ^ (n + suc k)) [
+    → mask_of (if b then n ∷ rest else rest) + bits % 2 ^ n ≡ bits % 2 ^ (n + suc k)) [
       | true ↦ λ h.
           let one : bit_at bits n ≡ 1 = eqb-true _ _ h in
           let shown : bit_at bits n * 2 ^ n ≡ 2 ^ n = ap (λ x. x * 2 ^ n) one ∙ omega arith in
