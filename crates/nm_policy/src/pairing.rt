@@ -61,10 +61,12 @@ fn next_pair(pairs: &[Pair], remaining: NodeMask) -> Option<Pair>
 
 /// Which nodes' pages go where when pages move from the nodes of `old` to those of `new`, in the order in which they go,
 /// as in `migrate_pages(2)`. Each node of `old` is paired with one of `new`, which take turns upwards. A node keeps its
-/// pages, and has no pair, if it is its own target, or if the sets differ in size and it is in `new`. Time after time
-/// comes the lowest pair whose target is not still to be left, else the highest pair; so a chain of nodes is emptied
-/// from its end. Nodes that keep their pages are never left. No pair where one of the sets is empty. An error is want of
-/// memory.
+/// pages, and has no pair, if it is its own target, or if the sets differ in size and it is in `new`.
+///
+/// At first every node of `old` is still to be left, also one that keeps its pages. Of the pairs that remain, by source
+/// upwards, the first whose target is not still to be left comes next, or the last pair where there is none; then its
+/// source is left. So a chain of nodes is emptied from its end. There is no pair where one of the sets is empty. An error
+/// is want of memory.
 pub fn pairs<A: Allocator + Copy>(
     alloc: A,
     old: NodeMask,
