@@ -6,11 +6,11 @@ PAGE = 4096
 BASE = 65536
 
 
-def trace(nodes, steps):
+def trace(nodes, steps, version='"version":1'):
     """A trace on nodes of so many frames each, all at distance 20, with process 1 on node 0."""
     count = len(nodes)
     rows = [[10 if row == column else 20 for column in range(count)] for row in range(count)]
-    head = '{"version":1,"machine":{"nodes":%s,"distance":%s},"steps":[\n' % (nodes, rows)
+    head = '{%s,"machine":{"nodes":%s,"distance":%s},"steps":[\n' % (version, nodes, rows)
     return head + ",\n".join([spawn(1, list(range(count)))] + steps) + "]}\n"
 
 
@@ -84,6 +84,29 @@ def one_page(size):
     for number in range(size):
         steps.append(move_to([BASE] * 16384, 1 - number % 2))
     return trace([4, 4], steps)
+
+
+def limited(size, limit):
+    """So many batches of 16,384 entries, of which every two name one page, in runs of at most so many entries."""
+    pages = [BASE + PAGE * (entry // 2) for entry in range(16384)]
+    steps = [map_step(BASE, 8192)] + [write(BASE + PAGE * page) for page in range(8192)]
+    steps += [move_to(pages, 1 - number % 2) for number in range(size)]
+    return trace([8192, 8192], steps, '"version":2,"run_limit":%d' % limit)
+
+
+def runs_of_one(size):
+    """So many batches of 8,192 pages, each named twice, in runs of one entry."""
+    return limited(size, 1)
+
+
+def runs_of_two(size):
+    """The same in runs of two entries."""
+    return limited(size, 2)
+
+
+def runs_of_all(size):
+    """The same in one run a batch."""
+    return limited(size, 16384)
 
 
 def long_batches(size):
@@ -230,6 +253,9 @@ def spawns(size):
 KINDS = {
     small_steps: 25,
     to_and_fro: 4,
+    runs_of_one: 4,
+    runs_of_two: 4,
+    runs_of_all: 4,
     one_page: 8,
     long_batches: 2,
     sparse_touches: 16,

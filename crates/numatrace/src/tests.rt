@@ -218,10 +218,27 @@ fn tells_why_words_are_unread(rt: HostRuntime) -> Result<(), Fail> {
 }
 
 /// The trace with one place changed, and what is told of it.
-const FAULTS: [(&str, &str, &str); 33] = [
+const FAULTS: [(&str, &str, &str); 38] = [
     ("[[10,20],[20,10]]", "[[10,10],[20,10]]", "bad machine"),
     ("\"nodes\":[4,4]", "\"nodes\":[4,0]", "bad machine"),
+    ("\"version\":1", "\"version\":0", "bad machine"),
+    ("\"version\":1", "\"version\":3", "bad machine"),
     ("\"version\":1", "\"version\":2", "bad machine"),
+    (
+        "\"version\":1",
+        "\"version\":2,\"run_limit\":0",
+        "bad machine",
+    ),
+    (
+        "\"version\":1",
+        "\"version\":2,\"run_limit\":16385",
+        "bad machine",
+    ),
+    (
+        "\"version\":1",
+        "\"version\":2,\"run_limit\":\"1\"",
+        "bad machine",
+    ),
     ("\"version\":1", "\"version\":1.0", "bad machine"),
     ("\"version\":1", "\"version\":1e0", "bad machine"),
     ("\"version\":1", "\"version\":\"1\"", "bad machine"),
@@ -306,8 +323,10 @@ fn is_fault(ran: &Ran, text: &str) -> bool {
 }
 
 /// The trace with one place changed, which changes nothing.
-const SAME: [(&str, &str); 6] = [
+const SAME: [(&str, &str); 8] = [
     ("\"version\":1", "\"version\":2,\"version\":1"),
+    ("\"version\":1", "\"version\":2,\"run_limit\":1"),
+    ("\"version\":1", "\"version\":2,\"run_limit\":16384"),
     (
         "\"version\":1",
         "\"version\":1,\"run_limit\":\"none\",\"note\":[{}]",
