@@ -11,8 +11,8 @@ use Rattle.nm_types.specs.State.{page_at}
 use Rattle.nm_tables.specs.declared.entry.Entry.TheVariants.{Held}
 use Rattle.nm_areas.specs.Mapped.{Mapped}
 use Rattle.nm_rmap.specs.Mappers.{Mappers, mappers_of, pins_of}
-use Rattle.nm_engine.specs.Tasked.{Task}
-use Rattle.nm_engine.specs.Tasked.{entry_at, names}
+use Rattle.nm_engine.specs.ProcessTable.{Task}
+use Rattle.nm_engine.specs.ProcessTable.{entry_at, names}
 
 -- whether a page number of a process is among these
 abbrev pub has_spot : List (ℕ × ℕ) → ℕ × ℕ → Bool
