@@ -77,7 +77,7 @@ spaces_view tasks m r =
       next = m.next;
       place = m.place;
       pins = pins_in r m.place;
-      frames = length r.spots;
+      frames = length r.mappings;
     }
 
 -- so many frames and nothing else

@@ -68,7 +68,7 @@ replaced tasks e spot = replaced_in tasks (get nat_cmp tasks spot.0) spot.0 spot
 
 -- the entries at all these page numbers name this frame
 abbrev pub remapped : Map ℕ Task → List (ℕ × ℕ) → ℕ → Map ℕ Task
-remapped tasks spots frame = fold (λ ts spot. replaced ts (Frame frame) spot) tasks spots
+remapped tasks mappings frame = fold (λ ts spot. replaced ts (Frame frame) spot) tasks mappings
 
 -- a table without the entries from one page number up to another
 abbrev pub cleared_between : ℕ → ℕ → Task → Task

@@ -238,7 +238,7 @@ impl<A: Allocator + Copy> AddressSpaces<A> {
         requires spare { (q : Page) → get page_cmp self.old.place q ≡ Some to → ⊥ }
         ensures { self.new ≡ with_moved self.old page to }
     {
-        remap(&mut self.tasks, self.rmap.spots(from), to);
+        remap(&mut self.tasks, self.rmap.mappings(from), to);
         self.rmap.carry(from, to);
         self.areas.move_page(page, to);
     }
@@ -269,13 +269,13 @@ impl<A: Allocator + Copy> AddressSpaces<A> {
 /// Each of these entries names this frame from now on.
 fn remap<A: Allocator + Copy>(
     tasks: &mut ProcessTable<A>,
-    spots: &BTreeSet<(Pid, Vpn), A>,
+    mappings: &BTreeSet<(Pid, Vpn), A>,
     frame: FrameId,
 )
-    requires { AllByRecursion (IsThere tasks.old) spots.now.keys }
-    ensures { tasks.new ≡ remapped tasks.old spots.now.keys frame }
+    requires { AllByRecursion (IsThere tasks.old) mappings.now.keys }
+    ensures { tasks.new ≡ remapped tasks.old mappings.now.keys frame }
 {
-    for (pid, vpn) in spots.iter() {
+    for (pid, vpn) in mappings.iter() {
         tasks.replace(*pid, *vpn, Entry::Frame(frame));
     }
 }

@@ -30,7 +30,7 @@ use Rattle.nm_types.proofs.Keys.{some_from_keys, sorted-without, few-without, as
 use Rattle.nm_areas.proofs.Apart.{covers_parts, covers_from, all_then}
 use Rattle.nm_engine.proofs.Soundness.Allocated.{shows_within, area_covers}
 use Rattle.nm_areas.proofs.Parted.{Among, All-among, all_from_among, among_over, over_among, among_flat, flat_among, IsPart, part_of, part_covers, part_page, part_there, any_among, among_any}
-use Rattle.nm_areas.proofs.Split.{flat_apart, flat_sorted}
+use Rattle.nm_areas.proofs.Halves.{flat_apart, flat_sorted}
 use Rattle.nm_engine.proofs.Soundness.Called.{other_processes}
 use Rattle.nm_engine.proofs.Soundness.Released.{Listed, Pending, all_released}
 

@@ -26,7 +26,7 @@ use Rattle.nm_areas.proofs.Shown.{split_shows, painted_shows}
 use Rattle.nm_areas.proofs.Policed.{paint, any_policy, all_painted, apart_painted}
 use Rattle.nm_areas.proofs.Repoliced.{split_apart, split_sorted, all_repoliced}
 use Rattle.nm_areas.specs.Mapped.{IsSomePages}
-use Rattle.nm_areas.specs.Policing.{split_at}
+use Rattle.nm_areas.specs.Policy.{split_at}
 
 -- areas that show what the areas of a state show
 record IsAlike (s : State) (areas : Map (ℕ × ℕ) Area) : Type 0 where

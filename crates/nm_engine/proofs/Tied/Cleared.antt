@@ -355,7 +355,7 @@ less_false false c = refl
 -- the mappers without the one that an entry was
 pub record IsWithout (r t : Mappers) (spot : ℕ × ℕ) (o : Option Entry) : Type 0 where
   pub less : IsLess r t spot o
-  pub frames : length t.spots ≡ length r.spots
+  pub frames : length t.mappings ≡ length r.mappings
   pub pins : t.pins ≡ r.pins
 
 pub less_zero : (r t : Mappers) (spot : ℕ × ℕ) (e : Entry) → e ≡ Zero → t ≡ r → IsWithout r t spot (Some e)
@@ -363,11 +363,11 @@ less_zero r t spot e entry is =
     subst (λ e. IsWithout r t spot (Some e)) (sym entry)
     (subst (λ t. IsWithout r t spot (Some Zero)) (sym is) (record { less = λ g s. less_false (has_spot (mappers_of r g) s) (same_spot s spot); frames = refl; pins = refl }))
 
-less_by : (r : Mappers) (f : ℕ) (spot : ℕ × ℕ) → f < length r.spots → IsStrictlySortedBy spot_cmp (mappers_of r f) → (g : ℕ) (s : ℕ × ℕ)
+less_by : (r : Mappers) (f : ℕ) (spot : ℕ × ℕ) → f < length r.mappings → IsStrictlySortedBy spot_cmp (mappers_of r f) → (g : ℕ) (s : ℕ × ℕ)
     → has_spot (mappers_of (dropped r f spot) g) s ≡ (has_spot (mappers_of r g) s && not (same_spot s spot && (f == g)))
 less_by r f spot below sorted g s =
     let l = remove_key (is_at (spot_cmp spot)) (mappers_of r f) in
-    ap (λ l. has_spot l s) (get_or-set r.spots f g l [] below)
+    ap (λ l. has_spot l s) (get_or-set r.mappings f g l [] below)
     ∙ elim (g == f) as (λ b. (g == f) ≡ b → has_spot (cond b l (mappers_of r g)) s ≡ (has_spot (mappers_of r g) s && not (same_spot s spot && (f == g)))) [
       | true ↦ λ b.
           let is : g ≡ f = eqb-true g f b in
@@ -380,24 +380,24 @@ less_by r f spot below sorted g s =
           ∙ ap (λ c. has_spot (mappers_of r g) s && not (same_spot s spot && c)) (sym (false_from_ne_true (f == g) (λ h. eqb-false g f b (sym (eqb-true f g h)))))
     ] refl
 
-dropped_less : (r : Mappers) (f : ℕ) (spot : ℕ × ℕ) (o : Option Entry) → ((g : ℕ) → names g o ≡ (f == g)) → f < length r.spots → IsStrictlySortedBy spot_cmp (mappers_of r f) → IsWithout r (dropped r f spot) spot o
+dropped_less : (r : Mappers) (f : ℕ) (spot : ℕ × ℕ) (o : Option Entry) → ((g : ℕ) → names g o ≡ (f == g)) → f < length r.mappings → IsStrictlySortedBy spot_cmp (mappers_of r f) → IsWithout r (dropped r f spot) spot o
 dropped_less r f spot o is below sorted = record {
   less = λ g s. less_by r f spot below sorted g s ∙ ap (λ c. has_spot (mappers_of r g) s && not (same_spot s spot && c)) (sym (is g));
-  frames = length-set r.spots f _;
+  frames = length-set r.mappings f _;
   pins = refl;
 }
 
-pub less_frame : (r t : Mappers) (f : ℕ) (spot : ℕ × ℕ) (e : Entry) → e ≡ Frame f → f < length r.spots → IsStrictlySortedBy spot_cmp (mappers_of r f) → t ≡ dropped r f spot → IsWithout r t spot (Some e)
+pub less_frame : (r t : Mappers) (f : ℕ) (spot : ℕ × ℕ) (e : Entry) → e ≡ Frame f → f < length r.mappings → IsStrictlySortedBy spot_cmp (mappers_of r f) → t ≡ dropped r f spot → IsWithout r t spot (Some e)
 less_frame r t f spot e entry below sorted is =
     subst (λ e. IsWithout r t spot (Some e)) (sym entry) (subst (λ t. IsWithout r t spot (Some (Frame f))) (sym is) (dropped_less r f spot (Some (Frame f)) (λ g. refl) below sorted))
 
-pub less_held : (r t : Mappers) (f : ℕ) (spot : ℕ × ℕ) (e : Entry) → e ≡ Held f → f < length r.spots → IsStrictlySortedBy spot_cmp (mappers_of r f) → t ≡ dropped r f spot → IsWithout r t spot (Some e)
+pub less_held : (r t : Mappers) (f : ℕ) (spot : ℕ × ℕ) (e : Entry) → e ≡ Held f → f < length r.mappings → IsStrictlySortedBy spot_cmp (mappers_of r f) → t ≡ dropped r f spot → IsWithout r t spot (Some e)
 less_held r t f spot e entry below sorted is =
     subst (λ e. IsWithout r t spot (Some e)) (sym entry) (subst (λ t. IsWithout r t spot (Some (Held f))) (sym is) (dropped_less r f spot (Some (Held f)) (λ g. refl) below sorted))
 
 pub mappers_none : (r : Mappers) (pid a : ℕ) (ts : Map ℕ Task) → IsCleared r r pid a a ts
 mappers_none r pid a ts = record {
-  spots = λ g s. and_true (has_spot (mappers_of r g) s) ∙ ap (λ c. has_spot (mappers_of r g) s && not (c && names g (entry_at ts s.0 s.1)))
+  mappings = λ g s. and_true (has_spot (mappers_of r g) s) ∙ ap (λ c. has_spot (mappers_of r g) s && not (c && names g (entry_at ts s.0 s.1)))
       (sym (false_from_ne_true (is_between pid a a s) (λ h. let parts = between_parts pid a a s.0 s.1 h in let low = parts.1 in let high = parts.2 in omega (arith, low, high))));
   frames = refl;
   pins = refl;
@@ -433,12 +433,12 @@ between_step ts pid a at v g s low high none other =
 
 -- the mapper that an entry was goes
 pub mappers_step : (r t u : Mappers) (pid a at v : ℕ) (ts : Map ℕ Task) (o : Option Entry) → IsCleared r t pid a at ts → a ≤ at → at ≤ v → ((w : ℕ) → at ≤ w → w < v → entry_at ts pid w ≡ None)
-    → entry_at ts pid v ≡ o → IsLess t u (pid, v) o → length u.spots ≡ length t.spots → u.pins ≡ t.pins → IsCleared r u pid a (v + 1) ts
+    → entry_at ts pid v ≡ o → IsLess t u (pid, v) o → length u.mappings ≡ length t.mappings → u.pins ≡ t.pins → IsCleared r u pid a (v + 1) ts
 mappers_step r t u pid a at v ts o h low high none found less frames pins = record {
-  spots = λ g s.
+  mappings = λ g s.
       let had = has_spot (mappers_of r g) s in
       let named = names g (entry_at ts s.0 s.1) in
-      less g s ∙ ap (λ c. c && not (same_spot s (pid, v) && names g o)) (h.spots g s)
+      less g s ∙ ap (λ c. c && not (same_spot s (pid, v) && names g o)) (h.mappings g s)
       ∙ elim (same_spot s (pid, v)) as (λ b. same_spot s (pid, v) ≡ b → ((had && not (is_between pid a at s && named)) && not (b && names g o)) ≡ (had && not (is_between pid a (v + 1) s && named))) [
         | true ↦ λ b.
             let is : s ≡ (pid, v) = exact_spot s (pid, v) b in
@@ -479,7 +479,7 @@ between_end ts pid a at end g s up none =
 -- none is left
 pub mappers_end : (r t : Mappers) (pid a at end : ℕ) (ts : Map ℕ Task) → IsCleared r t pid a at ts → at ≤ a + (end - a) → ((w : ℕ) → at ≤ w → w < end → entry_at ts pid w ≡ None) → IsCleared r t pid a end ts
 mappers_end r t pid a at end ts h up none = record {
-  spots = λ g s. h.spots g s ∙ ap (λ c. has_spot (mappers_of r g) s && not c) (between_end ts pid a at end g s up none);
+  mappings = λ g s. h.mappings g s ∙ ap (λ c. has_spot (mappers_of r g) s && not c) (between_end ts pid a at end g s up none);
   frames = h.frames;
   pins = h.pins;
 }
@@ -511,7 +511,7 @@ module _ (ts now : Map ℕ Task) (r t : Mappers) (pid a at end : ℕ) (k : IsCle
   )
 
   -- a frame that an entry names is one of the map
-  pub names_below : (v f : ℕ) (e : Entry) → ((f v : ℕ) → names f (entry_at ts pid v) ≡ true → f < length r.spots) → at ≤ v → entry_at now pid v ≡ Some e → names f (Some e) ≡ true → f < length t.spots
+  pub names_below : (v f : ℕ) (e : Entry) → ((f v : ℕ) → names f (entry_at ts pid v) ≡ true → f < length r.mappings) → at ≤ v → entry_at now pid v ≡ Some e → names f (Some e) ≡ true → f < length t.mappings
   names_below v f e frames low found name = subst (λ n. f < n) (sym k.rmap.frames) (frames f v (ap (names f) (was v (Some e) low found) ∙ name))
 
   -- one entry goes, and the mapper that it was

@@ -82,20 +82,20 @@ module _ {V : Type 0} where
       ] h
 
 -- a process of mappers has one of them
-pid_found : (spots : List (ℕ × ℕ)) (q : ℕ) → is_member (eq_by_cmp nat_cmp) (pids spots) q ≡ true → (v : ℕ) × (has_spot spots (q, v) ≡ true)
+pid_found : (mappings : List (ℕ × ℕ)) (q : ℕ) → is_member (eq_by_cmp nat_cmp) (pids mappings) q ≡ true → (v : ℕ) × (has_spot mappings (q, v) ≡ true)
 pid_found [] q h = absurd (false_true h)
-pid_found (s ∷ spots) q h =
-    elim (is_eq (nat_cmp q s.0)) as (λ b. is_eq (nat_cmp q s.0) ≡ b → (b || is_member (eq_by_cmp nat_cmp) (pids spots) q) ≡ true → (v : ℕ) × (has_spot (s ∷ spots) (q, v) ≡ true)) [
+pid_found (s ∷ mappings) q h =
+    elim (is_eq (nat_cmp q s.0)) as (λ b. is_eq (nat_cmp q s.0) ≡ b → (b || is_member (eq_by_cmp nat_cmp) (pids mappings) q) ≡ true → (v : ℕ) × (has_spot (s ∷ mappings) (q, v) ≡ true)) [
       | true ↦ λ b h. (s.1, or_left _ _ (ap (λ k. is_at (spot_cmp (k, s.1)) s) (exact_unsigned q s.0 (equal _ b)) ∙ ap is_eq (tied_itself spot_cmp_total s)))
-      | false ↦ λ b h. let later = pid_found spots q h in (later.0, or_right _ _ later.1)
+      | false ↦ λ b h. let later = pid_found mappings q h in (later.0, or_right _ _ later.1)
     ] refl h
 
-pid_from : (spots : List (ℕ × ℕ)) (q v : ℕ) → has_spot spots (q, v) ≡ true → is_member (eq_by_cmp nat_cmp) (pids spots) q ≡ true
+pid_from : (mappings : List (ℕ × ℕ)) (q v : ℕ) → has_spot mappings (q, v) ≡ true → is_member (eq_by_cmp nat_cmp) (pids mappings) q ≡ true
 pid_from [] q v h = h
-pid_from (s ∷ spots) q v h =
-    elim (same_spot (q, v) s) as (λ b. same_spot (q, v) s ≡ b → (b || has_spot spots (q, v)) ≡ true → is_member (eq_by_cmp nat_cmp) (pids (s ∷ spots)) q ≡ true) [
+pid_from (s ∷ mappings) q v h =
+    elim (same_spot (q, v) s) as (λ b. same_spot (q, v) s ≡ b → (b || has_spot mappings (q, v)) ≡ true → is_member (eq_by_cmp nat_cmp) (pids (s ∷ mappings)) q ≡ true) [
       | true ↦ λ b h. or_left _ _ (ap (λ (s : ℕ × ℕ). is_eq (nat_cmp q s.0)) (sym (exact_spot (q, v) s b)) ∙ ap is_eq (tied_itself nat_cmp_total q))
-      | false ↦ λ b h. or_right _ _ (pid_from spots q v h)
+      | false ↦ λ b h. or_right _ _ (pid_from mappings q v h)
     ] refl h
 
 unmap_some : {A B : Type 0} (f : A → B) (o : Option A) (b : B) → option_map f o ≡ Some b → (a : A) × (o ≡ Some a) × (f a ≡ b)

@@ -24,7 +24,7 @@ use Rattle.nm_areas.specs.declared.area_error.AreaError.{AreaError}
 use Rattle.nm_areas.specs.declared.area_error.AreaError.TheVariants as error
 use Rattle.nm_areas.specs.Does.{Makes}
 use Rattle.nm_areas.specs.Effect.{over_with, with_policy}
-use Rattle.nm_areas.specs.Policing.{pages_of, repoliced}
+use Rattle.nm_areas.specs.Policy.{pages_of, repoliced}
 use Rattle.nm_areas.specs.Mapped.{Mapped}
 use Rattle.nm_areas.specs.Refused.{first_error, is_range, is_room, is_stretch, insert_refusal, attach_refusal, policy_refusal, overlaps}
 use Rattle.nm_rmap.specs.Mappers.{Mappers}
@@ -86,7 +86,7 @@ module _ (tasks : Map ℕ Task) (m n : Mapped) (r : Mappers) (t : IsTied tasks m
     next = n.next;
     place = k.place i;
     pins = pins_in r (k.place i);
-    frames = length r.spots;
+    frames = length r.mappings;
   }
 
   pub still_shows_at : (y : SpacesView) → spaces_view tasks m r ≡ y → spaces_view tasks n r ≡ with_mapped y (mapped_of (spaces_view tasks n r))

@@ -27,7 +27,7 @@ frame_held e = cc
 -- a frame that no page has
 pub record IsSpare (m : Mapped) (r : Mappers) (f : ℕ) : Type 0 where
   pub place : (q : Page) → get page_cmp m.place q ≡ Some f → ⊥
-  pub frame : f < length r.spots
+  pub frame : f < length r.mappings
 
 names_one : (f g : ℕ) (o : Option Entry) → names f o ≡ true → names g o ≡ true → f ≡ g
 names_one f g None h k = cc
@@ -100,13 +100,13 @@ module _ (tasks : Map ℕ Task) (m : Mapped) (r : Mappers) (p : Page) (from to :
       entry_at-remapped tasks (mappers_of r from) to (pid, v) (mappers_mapped tasks (mappers_of r from) from (t.mappers from))
       ∙ ap (λ b. cond b (Some (Frame to)) (entry_at tasks pid v)) (t.mappers from pid v)
 
-  pub below : from < length r.spots
+  pub below : from < length r.mappings
   below = t.in_range p from placed
 
   mappers_after : (f : ℕ) → mappers_of (carried r from to) f ≡ cond (f == from) [] (cond (f == to) (mappers_of r from) (mappers_of r f))
   mappers_after f =
-      get_or-set (slice_set r.spots to (mappers_of r from)) from f [] [] (omega (arith, below, length-set r.spots to (mappers_of r from)))
-      ∙ ap (cond (f == from) []) (get_or-set r.spots to f (mappers_of r from) [] spare.frame)
+      get_or-set (slice_set r.mappings to (mappers_of r from)) from f [] [] (omega (arith, below, length-set r.mappings to (mappers_of r from)))
+      ∙ ap (cond (f == from) []) (get_or-set r.mappings to f (mappers_of r from) [] spare.frame)
 
   pins_after : (f : ℕ) → pins_of (carried r from to) f ≡ cond (f == from) 0 (cond (f == to) (pins_of r from) (pins_of r f))
   pins_after f =
@@ -151,14 +151,14 @@ module _ (tasks : Map ℕ Task) (m : Mapped) (r : Mappers) (p : Page) (from to :
         ] refl
       ] refl
 
-  frames_after : length (carried r from to).spots ≡ length r.spots
-  frames_after = length-set (slice_set r.spots to (mappers_of r from)) from [] ∙ length-set r.spots to (mappers_of r from)
+  frames_after : length (carried r from to).mappings ≡ length r.mappings
+  frames_after = length-set (slice_set r.mappings to (mappers_of r from)) from [] ∙ length-set r.mappings to (mappers_of r from)
 
-  in_range_after : (q : Page) (f : ℕ) → get page_cmp (set page_cmp m.place p to) q ≡ Some f → f < length (carried r from to).spots
+  in_range_after : (q : Page) (f : ℕ) → get page_cmp (set page_cmp m.place p to) q ≡ Some f → f < length (carried r from to).mappings
   in_range_after q f h =
       subst (λ n. f < n) (sym frames_after)
-      (elim (place_after m.place p q to f h) as (λ _. f < length r.spots) [
-        | inl a ↦ subst (λ g. g < length r.spots) (sym a.1) spare.frame
+      (elim (place_after m.place p q to f h) as (λ _. f < length r.mappings) [
+        | inl a ↦ subst (λ g. g < length r.mappings) (sym a.1) spare.frame
         | inr a ↦ t.in_range q f a.1
       ])
 

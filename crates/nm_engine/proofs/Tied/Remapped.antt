@@ -82,44 +82,44 @@ there_stays : (tasks : Map ℕ Task) (e : Entry) (s q : ℕ × ℕ) → IsThere 
 there_stays tasks e s q h k = subst IsSome (sym (entry_at-replaced tasks e s q h)) (elim (same_spot q s) as (λ b. IsSome (cond b (Some e) (entry_at tasks q.0 q.1))) [ true ↦ refl | false ↦ k ])
 
 -- entries that are there stay there
-pub all_there_stay : (tasks : Map ℕ Task) (e : Entry) (s : ℕ × ℕ) (spots : List (ℕ × ℕ)) → IsThere tasks s → AllByRecursion (IsThere tasks) spots → AllByRecursion (IsThere (replaced tasks e s)) spots
+pub all_there_stay : (tasks : Map ℕ Task) (e : Entry) (s : ℕ × ℕ) (mappings : List (ℕ × ℕ)) → IsThere tasks s → AllByRecursion (IsThere tasks) mappings → AllByRecursion (IsThere (replaced tasks e s)) mappings
 all_there_stay tasks e s [] h k = tt
-all_there_stay tasks e s (q ∷ spots) h k = (there_stays tasks e s q h k.0, all_there_stay tasks e s spots h k.1)
+all_there_stay tasks e s (q ∷ mappings) h k = (there_stays tasks e s q h k.0, all_there_stay tasks e s mappings h k.1)
 
 -- the entries at these places name frames
 abbrev pub AllMapped : Map ℕ Task → List (ℕ × ℕ) → Type 0
-AllMapped tasks spots = AllByRecursion (λ q. is_mapped (entry_at tasks q.0 q.1) ≡ true) spots
+AllMapped tasks mappings = AllByRecursion (λ q. is_mapped (entry_at tasks q.0 q.1) ≡ true) mappings
 
 mapped_stays : (tasks : Map ℕ Task) (s q : ℕ × ℕ) (to : ℕ) → is_mapped (entry_at tasks s.0 s.1) ≡ true → is_mapped (entry_at tasks q.0 q.1) ≡ true → is_mapped (entry_at (replaced tasks (Frame to) s) q.0 q.1) ≡ true
 mapped_stays tasks s q to h k =
     ap is_mapped (entry_at-replaced tasks (Frame to) s q (there _ h)) ∙ elim (same_spot q s) as (λ b. is_mapped (cond b (Some (Frame to)) (entry_at tasks q.0 q.1)) ≡ true) [ true ↦ refl | false ↦ k ]
 
-all_stay : (tasks : Map ℕ Task) (s : ℕ × ℕ) (to : ℕ) (spots : List (ℕ × ℕ)) → is_mapped (entry_at tasks s.0 s.1) ≡ true → AllMapped tasks spots → AllMapped (replaced tasks (Frame to) s) spots
+all_stay : (tasks : Map ℕ Task) (s : ℕ × ℕ) (to : ℕ) (mappings : List (ℕ × ℕ)) → is_mapped (entry_at tasks s.0 s.1) ≡ true → AllMapped tasks mappings → AllMapped (replaced tasks (Frame to) s) mappings
 all_stay tasks s to [] h k = tt
-all_stay tasks s to (q ∷ spots) h k = (mapped_stays tasks s q to h k.0, all_stay tasks s to spots h k.1)
+all_stay tasks s to (q ∷ mappings) h k = (mapped_stays tasks s q to h k.0, all_stay tasks s to mappings h k.1)
 
 -- what processes see stays
-pub remapped_shows : (areas : Map (ℕ × ℕ) Area) (tasks : Map ℕ Task) (spots : List (ℕ × ℕ)) (to : ℕ) → AllMapped tasks spots → with_values (process_of areas) (remapped tasks spots to) ≡ with_values (process_of areas) tasks
+pub remapped_shows : (areas : Map (ℕ × ℕ) Area) (tasks : Map ℕ Task) (mappings : List (ℕ × ℕ)) (to : ℕ) → AllMapped tasks mappings → with_values (process_of areas) (remapped tasks mappings to) ≡ with_values (process_of areas) tasks
 remapped_shows areas tasks [] to h = refl
-remapped_shows areas tasks (s ∷ spots) to h = remapped_shows areas (replaced tasks (Frame to) s) spots to (all_stay tasks s to spots h.0 h.1) ∙ replaced_shows areas tasks s to h.0
+remapped_shows areas tasks (s ∷ mappings) to h = remapped_shows areas (replaced tasks (Frame to) s) mappings to (all_stay tasks s to mappings h.0 h.1) ∙ replaced_shows areas tasks s to h.0
 
 -- what is found after the entries at some places name another frame
-pub entry_at-remapped : (tasks : Map ℕ Task) (spots : List (ℕ × ℕ)) (to : ℕ) (q : ℕ × ℕ) → AllMapped tasks spots
-    → entry_at (remapped tasks spots to) q.0 q.1 ≡ cond (has_spot spots q) (Some (Frame to)) (entry_at tasks q.0 q.1)
+pub entry_at-remapped : (tasks : Map ℕ Task) (mappings : List (ℕ × ℕ)) (to : ℕ) (q : ℕ × ℕ) → AllMapped tasks mappings
+    → entry_at (remapped tasks mappings to) q.0 q.1 ≡ cond (has_spot mappings q) (Some (Frame to)) (entry_at tasks q.0 q.1)
 entry_at-remapped tasks [] to q h = refl
-entry_at-remapped tasks (s ∷ spots) to q h =
-    entry_at-remapped (replaced tasks (Frame to) s) spots to q (all_stay tasks s to spots h.0 h.1)
-    ∙ ap (cond (has_spot spots q) (Some (Frame to))) (entry_at-replaced tasks (Frame to) s q (there _ h.0))
-    ∙ elim (same_spot q s) as (λ a. cond (has_spot spots q) (Some (Frame to)) (cond a (Some (Frame to)) (entry_at tasks q.0 q.1)) ≡ cond (a || has_spot spots q) (Some (Frame to)) (entry_at tasks q.0 q.1)) [
-      | true ↦ elim (has_spot spots q) as (λ b. cond b (Some (Frame to)) (Some (Frame to)) ≡ Some (Frame to)) [ true ↦ refl | false ↦ refl ]
+entry_at-remapped tasks (s ∷ mappings) to q h =
+    entry_at-remapped (replaced tasks (Frame to) s) mappings to q (all_stay tasks s to mappings h.0 h.1)
+    ∙ ap (cond (has_spot mappings q) (Some (Frame to))) (entry_at-replaced tasks (Frame to) s q (there _ h.0))
+    ∙ elim (same_spot q s) as (λ a. cond (has_spot mappings q) (Some (Frame to)) (cond a (Some (Frame to)) (entry_at tasks q.0 q.1)) ≡ cond (a || has_spot mappings q) (Some (Frame to)) (entry_at tasks q.0 q.1)) [
+      | true ↦ elim (has_spot mappings q) as (λ b. cond b (Some (Frame to)) (Some (Frame to)) ≡ Some (Frame to)) [ true ↦ refl | false ↦ refl ]
       | false ↦ refl
     ]
 
 -- what holds at the places that a list has holds of all in it
-all_from_has : (P : ℕ × ℕ → Type 0) (spots : List (ℕ × ℕ)) → ((q : ℕ × ℕ) → has_spot spots q ≡ true → P q) → AllByRecursion P spots
+all_from_has : (P : ℕ × ℕ → Type 0) (mappings : List (ℕ × ℕ)) → ((q : ℕ × ℕ) → has_spot mappings q ≡ true → P q) → AllByRecursion P mappings
 all_from_has P [] h = tt
-all_from_has P (s ∷ spots) h =
-    (h s (or_left _ _ (ap is_eq (tied_itself spot_cmp_total s))), all_from_has P spots (λ q k. h q (or_right _ _ k)))
+all_from_has P (s ∷ mappings) h =
+    (h s (or_left _ _ (ap is_eq (tied_itself spot_cmp_total s))), all_from_has P mappings (λ q k. h q (or_right _ _ k)))
 
 pub mapped_from_names : (f : ℕ) (o : Option Entry) → names f o ≡ true → is_mapped o ≡ true
 mapped_from_names f None h = h
@@ -128,20 +128,20 @@ mapped_from_names f (Some (Frame g)) h = refl
 mapped_from_names f (Some (Held g)) h = refl
 
 -- the mappers of a frame name one
-pub mappers_mapped : (tasks : Map ℕ Task) (spots : List (ℕ × ℕ)) (f : ℕ) → ((pid v : ℕ) → has_spot spots (pid, v) ≡ names f (entry_at tasks pid v)) → AllMapped tasks spots
-mappers_mapped tasks spots f h = all_from_has (λ q. is_mapped (entry_at tasks q.0 q.1) ≡ true) spots (λ q k. mapped_from_names f _ (sym (h q.0 q.1) ∙ k))
+pub mappers_mapped : (tasks : Map ℕ Task) (mappings : List (ℕ × ℕ)) (f : ℕ) → ((pid v : ℕ) → has_spot mappings (pid, v) ≡ names f (entry_at tasks pid v)) → AllMapped tasks mappings
+mappers_mapped tasks mappings f h = all_from_has (λ q. is_mapped (entry_at tasks q.0 q.1) ≡ true) mappings (λ q k. mapped_from_names f _ (sym (h q.0 q.1) ∙ k))
 
 -- the mappers of a frame are entries
-pub mappers_there : (tasks : Map ℕ Task) (spots : List (ℕ × ℕ)) (f : ℕ) → ((pid v : ℕ) → has_spot spots (pid, v) ≡ names f (entry_at tasks pid v)) → AllByRecursion (IsThere tasks) spots
-mappers_there tasks spots f h = all_from_has (IsThere tasks) spots (λ q k. there _ (mapped_from_names f _ (sym (h q.0 q.1) ∙ k)))
+pub mappers_there : (tasks : Map ℕ Task) (mappings : List (ℕ × ℕ)) (f : ℕ) → ((pid v : ℕ) → has_spot mappings (pid, v) ≡ names f (entry_at tasks pid v)) → AllByRecursion (IsThere tasks) mappings
+mappers_there tasks mappings f h = all_from_has (IsThere tasks) mappings (λ q k. there _ (mapped_from_names f _ (sym (h q.0 q.1) ∙ k)))
 
 keys-replaced_in : (tasks : Map ℕ Task) (o : Option Task) (p v : ℕ) (e : Entry) → keys_of (replaced_in tasks o p v e) ≡ keys_of tasks
 keys-replaced_in tasks None p v e = refl
 keys-replaced_in tasks (Some t) p v e = keys-replace nat_cmp tasks p (with_other_entry t v e)
 
-pub keys-remapped : (tasks : Map ℕ Task) (spots : List (ℕ × ℕ)) (to : ℕ) → keys_of (remapped tasks spots to) ≡ keys_of tasks
+pub keys-remapped : (tasks : Map ℕ Task) (mappings : List (ℕ × ℕ)) (to : ℕ) → keys_of (remapped tasks mappings to) ≡ keys_of tasks
 keys-remapped tasks [] to = refl
-keys-remapped tasks (s ∷ spots) to = keys-remapped (replaced tasks (Frame to) s) spots to ∙ keys-replaced_in tasks (get nat_cmp tasks s.0) s.0 s.1 (Frame to)
+keys-remapped tasks (s ∷ mappings) to = keys-remapped (replaced tasks (Frame to) s) mappings to ∙ keys-replaced_in tasks (get nat_cmp tasks s.0) s.0 s.1 (Frame to)
 
 -- every table has its page numbers in order
 abbrev pub TablesInOrder : Map ℕ Task → Type 0
@@ -156,7 +156,7 @@ order-replaced_in tasks (Some t) p v e g h =
     All-replace nat_cmp TableInOrder tasks p (with_other_entry t v e) h
     (subst (IsStrictlySortedBy nat_cmp) (sym (keys-replace nat_cmp t.table v e)) (All-get nat_cmp TableInOrder tasks p t h g))
 
-pub order-remapped : (tasks : Map ℕ Task) (spots : List (ℕ × ℕ)) (to : ℕ) → TablesInOrder tasks → TablesInOrder (remapped tasks spots to)
+pub order-remapped : (tasks : Map ℕ Task) (mappings : List (ℕ × ℕ)) (to : ℕ) → TablesInOrder tasks → TablesInOrder (remapped tasks mappings to)
 order-remapped tasks [] to h = h
-order-remapped tasks (s ∷ spots) to h =
-    order-remapped (replaced tasks (Frame to) s) spots to (order-replaced_in tasks (get nat_cmp tasks s.0) s.0 s.1 (Frame to) refl h)
+order-remapped tasks (s ∷ mappings) to h =
+    order-remapped (replaced tasks (Frame to) s) mappings to (order-replaced_in tasks (get nat_cmp tasks s.0) s.0 s.1 (Frame to) refl h)

@@ -223,7 +223,7 @@ module _ (tasks : Map ℕ Task) (m : Mapped) (r u : Mappers) (pid first end : �
     segments = segments_left m.segments left;
     next = m.next;
     place = kept;
-    pins = (ap (λ pins. pins_in (record { spots = u.spots; pins = pins }) kept) gone.pins ∙ values_left left (λ p f. pins_of r f) listed m.place) i;
+    pins = (ap (λ pins. pins_in (record { mappings = u.mappings; pins = pins }) kept) gone.pins ∙ values_left left (λ p f. pins_of r f) listed m.place) i;
     frames = gone.frames i;
   }
 
@@ -231,7 +231,7 @@ module _ (tasks : Map ℕ Task) (m : Mapped) (r u : Mappers) (pid first end : �
   mapped_left f q v =
       let o = entry_at tasks q v in
       let own = is_between pid first end (q, v) in
-      gone.spots f (q, v) ∙ ap (λ b. b && not (own && names f o)) (t.mappers f q v)
+      gone.mappings f (q, v) ∙ ap (λ b. b && not (own && names f o)) (t.mappers f q v)
       ∙ elim own as (λ b. (names f o && not (b && names f o)) ≡ names f (cond b None o)) [ true ↦ both_not (names f o) | false ↦ sym (and_true (names f o)) ]
       ∙ sym (ap (names f) (entry_cleared tasks pid first end q v))
 
@@ -256,7 +256,7 @@ module _ (tasks : Map ℕ Task) (m : Mapped) (r u : Mappers) (pid first end : �
 
   pinned_left : ((p : Page) (f : ℕ) → Listed p listed → get page_cmp m.place p ≡ Some f → pins_of r f ≡ 0) → (f : ℕ) → ((p : Page) → get page_cmp kept p ≡ Some f → ⊥) → pins_of u f ≡ 0
   pinned_left free f h =
-      ap (λ pins. pins_of (record { spots = u.spots; pins = pins }) f) gone.pins
+      ap (λ pins. pins_of (record { mappings = u.mappings; pins = pins }) f) gone.pins
       ∙ elim (pins_of r f == 0) as (λ b. (pins_of r f == 0) ≡ b → pins_of r f ≡ 0) [
         | true ↦ λ b. eqb-true (pins_of r f) 0 b
         | false ↦ λ b. t.pinned f (λ p k.

@@ -110,14 +110,14 @@ remove-insert (x ∷ l) s h =
     ] refl h
 
 -- a mapper that was added goes again
-pub dropped_again : (r : Mappers) (f : ℕ) (s : ℕ × ℕ) → f < length r.spots → has_spot (mappers_of r f) s ≡ false → dropped (added r f s) f s ≡ r
+pub dropped_again : (r : Mappers) (f : ℕ) (s : ℕ × ℕ) → f < length r.mappings → has_spot (mappers_of r f) s ≡ false → dropped (added r f s) f s ≡ r
 dropped_again r f s below none =
     let more = with_spot (mappers_of r f) s in
-    ap (λ l. record r { spots = l })
-    (ap (λ l. slice_set (slice_set r.spots f more) f (without_spot l s)) (get_or-set_same r.spots f more [] below)
-    ∙ ap (slice_set (slice_set r.spots f more) f) (remove-insert (mappers_of r f) s none)
-    ∙ set-set r.spots f more (mappers_of r f)
-    ∙ set-get_or r.spots f [])
+    ap (λ l. record r { mappings = l })
+    (ap (λ l. slice_set (slice_set r.mappings f more) f (without_spot l s)) (get_or-set_same r.mappings f more [] below)
+    ∙ ap (slice_set (slice_set r.mappings f more) f) (remove-insert (mappers_of r f) s none)
+    ∙ set-set r.mappings f more (mappers_of r f)
+    ∙ set-get_or r.mappings f [])
 
 -- a table whose entry is set is a process whose sight is set
 set_entry_shows : (areas : Map (ℕ × ℕ) Area) (tasks : Map ℕ Task) (pid : ℕ) (t : Task) (v : ℕ) (e : Entry)
@@ -186,7 +186,7 @@ module _ (tasks : Map ℕ Task) (m : Mapped) (r : Mappers) (pid : ℕ) (t : Task
 
   -- a page that has a frame is seen
   module _ (p : Page) (f : ℕ) (at : page_at m.areas pid v ≡ Some p) (placed : get page_cmp m.place p ≡ Some f) where
-    below : f < length r.spots
+    below : f < length r.mappings
     below = h.in_range p f placed
 
     entry_after : (q w : ℕ) → entry_at (replace nat_cmp tasks pid (with_entry t v (Frame f))) q w ≡ cond (same_spot (q, w) (pid, v)) (Some (Frame f)) (entry_at tasks q w)
@@ -196,7 +196,7 @@ module _ (tasks : Map ℕ Task) (m : Mapped) (r : Mappers) (pid : ℕ) (t : Task
     mapped_after g q w =
         let o = entry_at tasks q w in
         let more = with_spot (mappers_of r f) (pid, v) in
-        ap (λ l. has_spot l (q, w)) (get_or-set r.spots f g more [] below)
+        ap (λ l. has_spot l (q, w)) (get_or-set r.mappings f g more [] below)
         ∙ elim (g == f) as (λ c. (g == f) ≡ c → has_spot (cond c more (mappers_of r g)) (q, w) ≡ names g (cond (same_spot (q, w) (pid, v)) (Some (Frame f)) o)) [
           | true ↦ λ c.
               has-insert (mappers_of r f) (pid, v) (q, w) ∙ ap (λ b. same_spot (q, w) (pid, v) || b) (h.mappers f q w)
@@ -221,8 +221,8 @@ module _ (tasks : Map ℕ Task) (m : Mapped) (r : Mappers) (pid : ℕ) (t : Task
           | false ↦ λ b n. h.shows g q w n
         ] refl (sym (ap (names g) (entry_after q w)) ∙ k)
 
-    frames_after : length (added r f (pid, v)).spots ≡ length r.spots
-    frames_after = length-set r.spots f (with_spot (mappers_of r f) (pid, v))
+    frames_after : length (added r f (pid, v)).mappings ≡ length r.mappings
+    frames_after = length-set r.mappings f (with_spot (mappers_of r f) (pid, v))
 
     pub page_tied : IsTied (replace nat_cmp tasks pid (with_entry t v (Frame f))) m (added r f (pid, v))
     page_tied = record {
@@ -264,10 +264,10 @@ module _ (tasks : Map ℕ Task) (m : Mapped) (r : Mappers) (p : Page) (f : ℕ) 
         | inr a ↦ elim (place_after m.place p s f g b) as (λ _. q ≡ s) [ inl b ↦ absurd (spare.place q (a.1 ∙ ap Some b.1)) | inr b ↦ h.apart q s g a.1 b.1 ]
       ]
 
-  in_range_placed : (q : Page) (g : ℕ) → get page_cmp (set page_cmp m.place p f) q ≡ Some g → g < length r.spots
+  in_range_placed : (q : Page) (g : ℕ) → get page_cmp (set page_cmp m.place p f) q ≡ Some g → g < length r.mappings
   in_range_placed q g k =
-      elim (place_after m.place p q f g k) as (λ _. g < length r.spots) [
-        | inl a ↦ subst (λ k. k < length r.spots) (sym a.1) spare.frame
+      elim (place_after m.place p q f g k) as (λ _. g < length r.mappings) [
+        | inl a ↦ subst (λ k. k < length r.mappings) (sym a.1) spare.frame
         | inr a ↦ h.in_range q g a.1
       ]
 
@@ -292,7 +292,7 @@ module _ (tasks : Map ℕ Task) (m : Mapped) (r : Mappers) (p : Page) (f : ℕ) 
 
 -- a mapper that was added where no page was seen goes again
 pub mapper_undone : (y : SpacesView) (tasks : Map ℕ Task) (m : Mapped) (r : Mappers) (pid v f : ℕ) → spaces_view tasks m r ≡ y → IsTied tasks m r → IsSome (get nat_cmp y.processes pid)
-    → ((q : Page) → sight_in (get nat_cmp y.processes pid) v ≡ Some (Sees q) → ⊥) → f < length r.spots → dropped (added r f (pid, v)) f (pid, v) ≡ r
+    → ((q : Page) → sight_in (get nat_cmp y.processes pid) v ≡ Some (Sees q) → ⊥) → f < length r.mappings → dropped (added r f (pid, v)) f (pid, v) ≡ r
 mapper_undone y tasks m r pid v f is h known unseen below =
     let t = task_at y tasks m r pid is known in
     dropped_again r f (pid, v) below (no_mapper tasks m r pid t.0 v h t.1 (unmapped_at y tasks m r pid v is unseen) f)

@@ -125,7 +125,7 @@ fn clear_between<A: Allocator + Copy>(
     first: Vpn,
     end: Vpn,
 )
-    requires frames { (f v : ℕ) → names f (entry_at tasks.old pid v) ≡ true → f < length rmap.old.spots }
+    requires frames { (f v : ℕ) → names f (entry_at tasks.old pid v) ≡ true → f < length rmap.old.mappings }
     requires pids { IsStrictlySortedBy nat_cmp (keys_of tasks.old) }
     requires tables { AllByRecursion (λ e. IsStrictlySortedBy nat_cmp (keys_of e.1.table)) tasks.old }
     ensures tasks { tasks.new ≡ cleared tasks.old pid first end }

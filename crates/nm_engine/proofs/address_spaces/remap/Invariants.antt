@@ -8,5 +8,5 @@ abbrev pub invariant-loop-pid : goal.invariant-loop-pid
 invariant-loop-pid g l =
     record {
       there : AllByRecursion (IsThere l.tasks) l.pid-iterator;
-      made : remapped l.tasks l.pid-iterator l.frame ≡ remapped l.initial.tasks l.spots.keys l.frame;
+      made : remapped l.tasks l.pid-iterator l.frame ≡ remapped l.initial.tasks l.mappings.keys l.frame;
     }

@@ -16,7 +16,7 @@ use Rattle.nm_engine.proofs.address_spaces.AddressSpaces.move_page.Goals as goal
 
 pub remap-requires : goal.remap-requires
 remap-requires g c =
-    subst (AllByRecursion (IsThere c.self.inside.tasks)) (sym c.spots.ensures.all)
+    subst (AllByRecursion (IsThere c.self.inside.tasks)) (sym c.mappings.ensures.all)
     (mappers_there c.self.inside.tasks (mappers_of c.self.inside.rmap c.args.from) c.args.from (c.self.invariant.mappers c.args.from))
 
 pub carry-requires-clause-unused : goal.carry-requires-clause-unused
@@ -29,7 +29,7 @@ carry-requires-clause-unused g c =
     }
 
 tasks_after : (g : Over) (c : goal.After-move_page g) → c.remap.new.tasks ≡ remapped c.self.inside.tasks (mappers_of c.self.inside.rmap c.args.from) c.args.to
-tasks_after g c = c.remap.ensures ∙ ap (λ l. remapped c.self.inside.tasks l c.args.to) c.spots.ensures.all
+tasks_after g c = c.remap.ensures ∙ ap (λ l. remapped c.self.inside.tasks l c.args.to) c.mappings.ensures.all
 
 areas_after : (g : Over) (c : goal.After-move_page g) → c.move_page.new.self ≡ with_frame c.self.inside.areas c.args.page c.args.to
 areas_after g c =

@@ -13,12 +13,12 @@ use std::marker::Model;
 /// Page numbers of processes, with the number of these processes. Contracts see the list of them, by pid and then by
 /// page number.
 #[derive(Drop)]
-pub(crate) struct Spots<A: Allocator + Copy> {
+pub(crate) struct Mappings<A: Allocator + Copy> {
     processes: usize,
     tree: BTreeSet<(Pid, Vpn), A>,
 }
 
-impl<A: Allocator + Copy> Model for Spots<A> {
+impl<A: Allocator + Copy> Model for Mappings<A> {
     ghost use Rattle.std.specs.Prelude.{◌≡◌, ℕ, List};
     ghost use Rattle.std.specs.List.Sorted.{IsStrictlySortedBy};
     ghost use Rattle.nm_types.specs.Map.{spot_cmp};
@@ -31,12 +31,12 @@ impl<A: Allocator + Copy> Model for Spots<A> {
     ghost invariant = { λ s. (s.processes ≡ process_count s.tree.keys) × IsStrictlySortedBy spot_cmp s.tree.keys };
 }
 
-impl<A: Allocator + Copy> Spots<A> {
+impl<A: Allocator + Copy> Mappings<A> {
     /// None.
     pub(crate) fn new(alloc: A) -> Self
         ensures { result ≡ [] }
     {
-        Spots {
+        Mappings {
             processes: 0,
             tree: BTreeSet::new(alloc),
         }
@@ -71,7 +71,7 @@ impl<A: Allocator + Copy> Spots<A> {
 
     /// A list of them, in order.
     pub(crate) fn list(&self, alloc: A) -> Result<Vec<(Pid, Vpn), A>, AllocError>
-        ensures all { IfOk result (λ spots. spots.items ≡ self.now) }
+        ensures all { IfOk result (λ mappings. mappings.items ≡ self.now) }
         ensures ordered { IsStrictlySortedBy spot_cmp self.now }
     {
         self.tree.iter().copied().collect(alloc)

@@ -1,6 +1,6 @@
 use Rattle.std.proofs.Common.{◌∙◌, sym, arith}
 use Rattle.nm_rmap.proofs.Counting.{inserted_new, inserted_known, few_processes}
-use Rattle.nm_rmap.proofs.spots.Spots.insert.Goals as goal
+use Rattle.nm_rmap.proofs.mappings.Mappings.insert.Goals as goal
 
 pub prove-unreachable-requires : goal.prove-unreachable-requires
 prove-unreachable-requires g c = omega (arith, c.if-prove.true, c.self.invariant.0, few_processes c.self.inside.tree.keys, c.len-len.ensures.len)

@@ -1,7 +1,7 @@
 use Rattle.std.proofs.Common.{List, sym, ap, ◌∙◌}
 use Rattle.nm_rmap.specs.Mappers.{Spot}
 use Rattle.nm_rmap.proofs.Counting.{starts_with, range_tells}
-use Rattle.nm_rmap.proofs.spots.has_process.Goals as goal
+use Rattle.nm_rmap.proofs.mappings.has_process.Goals as goal
 
 pub returns-in-Some : goal.returns-in-Some
 returns-in-Some g c =

@@ -1,7 +1,7 @@
 use Rattle.std.proofs.Common.{◌-◌, ◌≡◌, ◌≤◌}
 use Rattle.nm_types.specs.Map.{with_values}
-use Rattle.nm_areas.specs.Policing.{painted}
-use Rattle.nm_areas.proofs.policing.paint.Given as goal
+use Rattle.nm_areas.specs.Policy.{painted}
+use Rattle.nm_areas.proofs.policy.paint.Given as goal
 
 abbrev pub invariant-loop-start : goal.invariant-loop-start
 invariant-loop-start g l = record {

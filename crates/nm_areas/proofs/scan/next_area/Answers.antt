@@ -2,8 +2,8 @@ use Rattle.std.proofs.Common.{arith, inr}
 use Rattle.nm_types.specs.State.{Placed}
 use Rattle.nm_types.proofs.Cases.{none_always}
 use Rattle.nm_areas.proofs.Painted.{none_at_all, none_before, past_first, past_other}
-use Rattle.nm_areas.proofs.policing.next_area.Goals as goal
-use Rattle.nm_areas.proofs.policing.next_area.Goals.{else-eq-via-then-eq+else-number, else-eq-via-else-eq}
+use Rattle.nm_areas.proofs.scan.next_area.Goals as goal
+use Rattle.nm_areas.proofs.scan.next_area.Goals.{else-eq-via-then-eq+else-number, else-eq-via-else-eq}
 
 pub returns-in_err-owner-clause-none : goal.returns-in_err-owner-clause-none
 returns-in_err-owner-clause-none g c =

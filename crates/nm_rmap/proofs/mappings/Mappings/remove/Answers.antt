@@ -1,6 +1,6 @@
 use Rattle.std.proofs.Common.{◌∙◌, sym, arith}
 use Rattle.nm_rmap.proofs.Counting.{removed_last, removed_known}
-use Rattle.nm_rmap.proofs.spots.Spots.remove.Goals as goal
+use Rattle.nm_rmap.proofs.mappings.Mappings.remove.Goals as goal
 
 pub overflow_sub-self : goal.overflow_sub-self
 overflow_sub-self g c =

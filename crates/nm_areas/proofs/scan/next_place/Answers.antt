@@ -2,8 +2,8 @@ use Rattle.std.proofs.Common.{arith, inr, ℕ}
 use Rattle.nm_types.specs.declared.page.Page.{Page}
 use Rattle.nm_types.proofs.Cases.{none_always}
 use Rattle.nm_areas.proofs.Framed.{no_place_at_all, no_place_before, past_segment}
-use Rattle.nm_areas.proofs.removing.next_place.Goals as goal
-use Rattle.nm_areas.proofs.removing.next_place.Goals.{else-page-segment-via-then-page-segment+else-page-past, else-page-segment-via-else-page-segment}
+use Rattle.nm_areas.proofs.scan.next_place.Goals as goal
+use Rattle.nm_areas.proofs.scan.next_place.Goals.{else-page-segment-via-then-page-segment+else-page-past, else-page-segment-via-else-page-segment}
 
 pub returns-in_err-page-clause-none : goal.returns-in_err-page-clause-none
 returns-in_err-page-clause-none g c =

@@ -2,7 +2,7 @@ use Rattle.std.proofs.Common.{◌≡◌, length}
 use Rattle.std.specs.List.{list_any}
 use Rattle.nm_areas.specs.Removed.{covers_beside}
 use Rattle.nm_areas.proofs.Scanned.{scan}
-use Rattle.nm_areas.proofs.removing.is_covered.Given as goal
+use Rattle.nm_areas.proofs.scan.is_covered.Given as goal
 
 abbrev pub invariant-loop-segment : goal.invariant-loop-segment
 invariant-loop-segment g l =

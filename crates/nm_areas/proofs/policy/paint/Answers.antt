@@ -1,8 +1,8 @@
 use Rattle.std.proofs.Common.{◌≡◌, ℕ, ◌+◌, ap, sym, subst, ◌∙◌, arith}
 use Rattle.nm_types.specs.Map.{with_values, replace, spot_cmp}
-use Rattle.nm_areas.specs.Policing.{painted}
+use Rattle.nm_areas.specs.Policy.{painted}
 use Rattle.nm_areas.proofs.Painted.{paint_none, paint_next, paint_end}
-use Rattle.nm_areas.proofs.policing.paint.Goals as goal
+use Rattle.nm_areas.proofs.policy.paint.Goals as goal
 
 pub loop-start-init : goal.loop-start-init
 loop-start-init g c = record {

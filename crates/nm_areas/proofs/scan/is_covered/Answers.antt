@@ -1,6 +1,6 @@
 use Rattle.nm_areas.specs.Removed.{covers_beside}
 use Rattle.nm_areas.proofs.Scanned.{scan_tells, beside_own}
-use Rattle.nm_areas.proofs.removing.is_covered.Goals as goal
+use Rattle.nm_areas.proofs.scan.is_covered.Goals as goal
 
 pub loop-segment-init : goal.loop-segment-init
 loop-segment-init g c =
