@@ -1,6 +1,6 @@
 //! A look at one page number of a process.
 
-use crate::numbers::FrameId;
+use crate::numbers::{FrameId, Pid, Vpn};
 use crate::page::Page;
 
 /// What is seen at a page number of a process.
@@ -23,4 +23,17 @@ pub enum Seen {
         /// Whether the page has a pin.
         pinned: bool,
     },
+}
+
+/// What can be looked at, page number by page number, and looks the same each time.
+pub trait PageView {
+    ghost use Rattle.std.specs.Prelude.{◌≡◌, ℕ};
+    ghost use Rattle.nm_types.specs.declared.seen.Seen.{Seen};
+
+    /// What is seen at each page number of each process.
+    ghost seen_at: { Self → ℕ → ℕ → Seen };
+
+    /// What is seen at a page number of a process. It takes no memory.
+    fn seen(&self, pid: Pid, vpn: Vpn) -> Seen
+        ensures { result ≡ seen_at self.now pid vpn };
 }
