@@ -25,15 +25,23 @@ pub enum Seen {
     },
 }
 
-/// What can be looked at, page number by page number, and looks the same each time.
+/// What can be looked at, page number by page number and page by page. A look changes nothing and takes no memory.
 pub trait PageView {
     ghost use Rattle.std.specs.Prelude.{◌≡◌, ℕ};
+    ghost use Rattle.nm_types.specs.declared.page.Page.{Page};
     ghost use Rattle.nm_types.specs.declared.seen.Seen.{Seen};
 
     /// What is seen at each page number of each process.
     ghost seen_at: { Self → ℕ → ℕ → Seen };
 
-    /// What is seen at a page number of a process. It takes no memory.
+    /// What is seen of each page, whoever sees it.
+    ghost placed_at: { Self → Page → Seen };
+
+    /// What is seen at a page number of a process.
     fn seen(&self, pid: Pid, vpn: Vpn) -> Seen
         ensures { result ≡ seen_at self.now pid vpn };
+
+    /// What is seen of a page, whoever sees it. Absent where it has no frame.
+    fn placed(&self, page: Page) -> Seen
+        ensures { result ≡ placed_at self.now page };
 }
