@@ -24,5 +24,5 @@ pub use geometry::{Geometry, GeometryError};
 pub use mask::NodeMask;
 pub use numbers::{FrameId, NodeId, Pid, Vpn};
 pub use page::Page;
-pub use seen::Seen;
+pub use seen::{PageView, Seen};
 pub use sight::Sight;

@@ -1,6 +1,6 @@
 //! A look at one page number of a process.
 
-use crate::numbers::FrameId;
+use crate::numbers::{FrameId, Pid, Vpn};
 use crate::page::Page;
 
 /// What is seen at a page number of a process.
@@ -23,4 +23,25 @@ pub enum Seen {
         /// Whether the page has a pin.
         pinned: bool,
     },
+}
+
+/// What can be looked at, page number by page number and page by page. A look changes nothing and takes no memory.
+pub trait PageView {
+    ghost use Rattle.std.specs.Prelude.{◌≡◌, ℕ};
+    ghost use Rattle.nm_types.specs.declared.page.Page.{Page};
+    ghost use Rattle.nm_types.specs.declared.seen.Seen.{Seen};
+
+    /// What is seen at each page number of each process.
+    ghost seen_at: { Self → ℕ → ℕ → Seen };
+
+    /// What is seen of each page, whoever sees it.
+    ghost placed_at: { Self → Page → Seen };
+
+    /// What is seen at a page number of a process.
+    fn seen(&self, pid: Pid, vpn: Vpn) -> Seen
+        ensures { result ≡ seen_at self.now pid vpn };
+
+    /// What is seen of a page, whoever sees it. Absent where it has no frame.
+    fn placed(&self, page: Page) -> Seen
+        ensures { result ≡ placed_at self.now page };
 }
