@@ -102,14 +102,15 @@ impl<A: Allocator + Copy> AddressSpaces<A> {
         })
     }
 
-    /// What a process sees at a page number.
-    pub(crate) fn sight(&self, pid: Pid, vpn: Vpn) -> Option<Sight>
+    /// What a process sees at a page number where an area shows this page.
+    pub(crate) fn sight(&self, pid: Pid, vpn: Vpn, page: Page) -> Option<Sight>
+        requires { page_at self.now.areas pid vpn ≡ Some page }
         ensures { result ≡ sight_in (get nat_cmp self.now.processes pid) vpn }
     {
         match self.tasks.entry(pid, vpn)? {
             Entry::Zero => Some(Sight::ZeroPage),
-            Entry::Frame(_) => Some(Sight::Sees(self.page_at(pid, vpn)?)),
-            Entry::Held(_) => Some(Sight::Sees(self.page_at(pid, vpn)?)),
+            Entry::Frame(_) => Some(Sight::Sees(page)),
+            Entry::Held(_) => Some(Sight::Sees(page)),
         }
     }
 
