@@ -16,10 +16,9 @@ ghost use Rattle.nm_engine.specs.Seeing.{frame_seen};
 use crate::frames::Frames;
 use crate::inner::Inner;
 use crate::inner::resolved::Resolved;
-use crate::machine_error::MachineError;
 use crate::process::ProcessInfo;
 use nm_policy::first_touch_order;
-use nm_types::{Errno, FrameId, NodeId, Page, Pid, Policy, Sight, Vpn};
+use nm_types::{Errno, FrameId, MachineError, NodeId, Page, Pid, Policy, Sight, Vpn};
 use std::alloc::{AllocError, Allocator};
 
 impl<A: Allocator + Copy> Inner<A> {
