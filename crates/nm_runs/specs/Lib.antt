@@ -1,5 +1,6 @@
 pub mod Seen
 pub mod Status
+pub mod Shown
 pub mod Cut
 pub mod Limit
 pub mod LimitRows
