@@ -1,4 +1,4 @@
-use crate::{Plan, Taken, plan};
+use crate::{Plan, Taken, laws, plan};
 use nm_runs::Class;
 use nm_types::{FrameId, NodeId, Page};
 use std::alloc::{AllocError, Global};
@@ -68,5 +68,13 @@ fn no_free_frame_and_no_request(rt: HostRuntime) -> Result<(), Fail> {
     let none = to_second_node(alloc, no_classes.as_slice(), [FrameId::new(6)].as_slice())?;
     assert_eq!(rt; none.shortage(), None);
     assert!(rt; none.into_statuses().is_empty());
+    Ok(())
+}
+
+#[test]
+fn laws_are_called(_rt: HostRuntime) -> Result<(), Fail> {
+    laws::kth_page_takes_kth_frame();
+    laws::statuses_go_by_page();
+    laws::none_is_free_again();
     Ok(())
 }
