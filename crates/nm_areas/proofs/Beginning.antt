@@ -10,7 +10,7 @@ use Rattle.nm_types.specs.State.{Placed, covers, area_over}
 use Rattle.nm_types.proofs.Cases.{true_false, some_is}
 use Rattle.nm_areas.specs.Mapped.{AreasAreApart, IsSomePages}
 use Rattle.nm_areas.specs.Parts.{parts_outside}
-use Rattle.nm_areas.specs.Policing.{split_at}
+use Rattle.nm_areas.specs.Policy.{split_at}
 use Rattle.nm_areas.specs.Refused.{overlaps}
 use Rattle.nm_types.proofs.Maps.{spot_cmp_total, get-set}
 use Rattle.nm_areas.proofs.Apart.{covers_from}

@@ -18,12 +18,12 @@ use Rattle.nm_types.proofs.Cases.{true_false, none_some, some_is}
 use Rattle.nm_areas.specs.Parts.{before, behind, parts_outside}
 use Rattle.nm_areas.specs.Mapped.{AreasAreApart}
 use Rattle.nm_areas.specs.Mapped.{IsSomePages}
-use Rattle.nm_areas.specs.Policing.{split_at}
+use Rattle.nm_areas.specs.Policy.{split_at}
 use Rattle.nm_areas.specs.Table.{with_areas}
 use Rattle.nm_types.proofs.Maps.{spot_cmp_total}
 use Rattle.nm_areas.proofs.Apart.{behind_last, covers_parts, covers_from}
 use Rattle.nm_areas.proofs.Parted.{Among, All-among, all_from_among, among_over, over_among}
-use Rattle.nm_areas.proofs.Split.{less_to, less_from, among_keys}
+use Rattle.nm_areas.proofs.Halves.{less_to, less_from, among_keys}
 use Rattle.nm_areas.proofs.Overs.{spot_same, spot_behind}
 use Rattle.nm_areas.specs.Table.{Table}
 

@@ -17,11 +17,11 @@ use Rattle.nm_types.specs.State.{Placed}
 use Rattle.nm_areas.specs.Table.{Table, with_areas}
 use Rattle.nm_areas.specs.Mapped.{Mapped, mapped, IsSomePages, EndsLow, HasIndices, shows_segment, AllShown, IsMapped}
 use Rattle.nm_areas.specs.Parts.{pages_from, pages_between, before, behind, parts_outside, is_covered}
-use Rattle.nm_areas.specs.Policing.{inside, repoliced, split_at, painted}
+use Rattle.nm_areas.specs.Policy.{inside, repoliced, split_at, painted}
 use Rattle.nm_areas.specs.Removed.{areas_left, segments_left, pages_gone, place_left, all_lost, removed, frames_lost, begins_in, is_own, others, without_own, pages_of_area, pages_of_own}
 use Rattle.nm_types.proofs.Keys.{sorted-without}
 use Rattle.nm_areas.proofs.Parted.{All-among, all_from_among, among_flat, IsPart, part_of}
-use Rattle.nm_areas.proofs.Split.{flat_apart, flat_sorted}
+use Rattle.nm_areas.proofs.Halves.{flat_apart, flat_sorted}
 use Rattle.nm_areas.proofs.Repoliced.{split_some, all_repoliced}
 use Rattle.nm_areas.proofs.Policed.{fine_split, fine_here, shown_split, all_shown}
 use Rattle.nm_areas.proofs.Private.{once_left}

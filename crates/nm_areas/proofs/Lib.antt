@@ -1,6 +1,6 @@
 pub mod Apart
 pub mod Parted
-pub mod Split
+pub mod Halves
 pub mod Overs
 pub mod Painted
 pub mod Indexed

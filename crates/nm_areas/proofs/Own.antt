@@ -20,7 +20,7 @@ use Rattle.nm_areas.specs.Removed.{is_own}
 use Rattle.nm_areas.specs.declared.lines.Line.{Line}
 use Rattle.nm_types.proofs.Maps.{equal, spot_cmp_total}
 use Rattle.nm_areas.proofs.Parted.{Among, All-among}
-use Rattle.nm_areas.proofs.Split.{less_to, among_keys}
+use Rattle.nm_areas.proofs.Halves.{less_to, among_keys}
 use Rattle.nm_areas.proofs.Overs.{get_among, get_not_none}
 use Rattle.nm_areas.proofs.Painted.{exact_spot}
 

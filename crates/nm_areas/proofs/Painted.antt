@@ -17,7 +17,7 @@ use Rattle.nm_types.specs.declared.area.Area.{Area}
 use Rattle.nm_types.specs.Map.{Map, get, set, replace, with_values, spot_cmp}
 use Rattle.nm_types.specs.State.{Placed}
 use Rattle.nm_types.proofs.Cases.{true_false, some_none}
-use Rattle.nm_areas.specs.Policing.{painted}
+use Rattle.nm_areas.specs.Policy.{painted}
 use Rattle.nm_types.proofs.Maps.{spot_cmp_total, get-values, agree, set_agree, set_same, replace_is_set}
 use Rattle.nm_areas.proofs.Overs.{up_to, from_up_to, spot_behind, spot_same}
 

@@ -14,7 +14,7 @@ use Rattle.nm_types.specs.State.{Placed, covers}
 use Rattle.nm_areas.specs.Table.{Table, with_areas}
 use Rattle.nm_areas.specs.Mapped.{mapped, AreasAreApart, IsSomePages, EndsLow, HasIndices, shows_segment, AllShown, PrivateIsOnce, IsMapped}
 use Rattle.nm_areas.specs.Parts.{parts_outside}
-use Rattle.nm_areas.specs.Policing.{repoliced, split_at, painted}
+use Rattle.nm_areas.specs.Policy.{repoliced, split_at, painted}
 use Rattle.nm_areas.proofs.Apart.{covers_from}
 use Rattle.nm_areas.proofs.Parted.{All-among, flat_among, part_of, part_there, any_among, among_any}
 use Rattle.nm_areas.proofs.Painted.{keys_painted}

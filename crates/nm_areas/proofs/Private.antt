@@ -17,7 +17,7 @@ use Rattle.nm_areas.specs.Lines.{is_shared}
 use Rattle.nm_areas.specs.Table.{Table, with_areas}
 use Rattle.nm_areas.specs.Mapped.{mapped, AreasAreApart, IsSomePages, shows_segment, PrivateIsOnce, IsMapped}
 use Rattle.nm_areas.specs.Parts.{covers_page, is_covered}
-use Rattle.nm_areas.specs.Policing.{split_at}
+use Rattle.nm_areas.specs.Policy.{split_at}
 use Rattle.nm_areas.specs.Refused.{is_stretch}
 use Rattle.nm_areas.specs.Removed.{areas_left, segments_left, begins_in, is_own, others, page_in}
 use Rattle.nm_types.proofs.Maps.{equal, get-set}

@@ -15,10 +15,10 @@ use Rattle.nm_areas.specs.Parts.{before, behind, parts_outside}
 use Rattle.nm_areas.specs.Mapped.{AreasAreApart}
 use Rattle.nm_areas.specs.Mapped.{IsSomePages}
 use Rattle.nm_areas.specs.Mapped.{HasIndices}
-use Rattle.nm_areas.specs.Policing.{inside, repoliced, is_mapped, split_at, painted}
+use Rattle.nm_areas.specs.Policy.{inside, repoliced, is_mapped, split_at, painted}
 use Rattle.nm_areas.proofs.Apart.{behind_last, covers_from}
 use Rattle.nm_areas.proofs.Parted.{Among, All-among, all_from_among, among_flat, over_among, IsPart, part_of}
-use Rattle.nm_areas.proofs.Split.{flat_apart, flat_sorted}
+use Rattle.nm_areas.proofs.Halves.{flat_apart, flat_sorted}
 use Rattle.nm_areas.proofs.Cut.{front_of, rest_of, shorter, later, same_placed, one, before_none, before_some, behind_none, behind_some, cut_other, cut_low, cut_high, cut_mid, over_facts}
 
 -- ---- what holds of all areas holds when one is split

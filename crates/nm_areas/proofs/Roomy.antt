@@ -16,11 +16,11 @@ use Rattle.nm_types.proofs.Cases.{true_false}
 use Rattle.nm_areas.specs.Table.{Table, with_areas}
 use Rattle.nm_areas.specs.Mapped.{mapped, AreasAreApart, IsSomePages, IsMapped}
 use Rattle.nm_areas.specs.Parts.{pages_from, pages_between}
-use Rattle.nm_areas.specs.Policing.{split_at}
+use Rattle.nm_areas.specs.Policy.{split_at}
 use Rattle.nm_areas.specs.Removed.{pages_gone, pages_of_area, pages_of_own}
 use Rattle.nm_areas.proofs.Apart.{behind_last, covers_from}
 use Rattle.nm_areas.proofs.Parted.{All-among, all_from_among}
-use Rattle.nm_areas.proofs.Split.{less_to, among_keys}
+use Rattle.nm_areas.proofs.Halves.{less_to, among_keys}
 use Rattle.nm_areas.proofs.Own.{NoneBegins}
 use Rattle.nm_areas.proofs.Lost.{own_pages_next}
 use Rattle.nm_areas.proofs.Letting.{cut_own}

@@ -14,11 +14,11 @@ use Rattle.nm_areas.specs.Mapped.{AreasAreApart, IsSomePages, mapped, IsMapped}
 use Rattle.nm_areas.specs.Effect.{over_with}
 use Rattle.nm_areas.specs.Refused.{overlaps}
 use Rattle.nm_areas.specs.Parts.{parts_outside}
-use Rattle.nm_areas.specs.Policing.{repoliced, split_at, painted}
+use Rattle.nm_areas.specs.Policy.{repoliced, split_at, painted}
 use Rattle.nm_areas.specs.Removed.{areas_left, begins_in}
 use Rattle.nm_areas.proofs.Apart.{all_from_none, area_over-set, covers_parts}
 use Rattle.nm_areas.proofs.Parted.{All-among, among_over, over_among, among_flat, flat_among, part_of, part_covers, part_page, part_there}
-use Rattle.nm_areas.proofs.Split.{flat_apart}
+use Rattle.nm_areas.proofs.Halves.{flat_apart}
 use Rattle.nm_areas.proofs.Repoliced.{split_some, split_apart, all_repoliced}
 
 -- ---- without a range

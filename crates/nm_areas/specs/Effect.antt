@@ -9,7 +9,7 @@ use Rattle.nm_types.specs.declared.area.Area.{Area}
 use Rattle.nm_types.specs.State.{Placed, covers, area_over}
 use Rattle.nm_types.specs.Map.{Map, set, replace, without, page_cmp, spot_cmp}
 use Rattle.nm_areas.specs.Mapped.{Mapped}
-use Rattle.nm_areas.specs.Policing.{pages_of, repoliced}
+use Rattle.nm_areas.specs.Policy.{pages_of, repoliced}
 
 -- no area, no segment, and no page with a frame
 abbrev pub no_areas : Mapped

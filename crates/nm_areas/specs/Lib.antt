@@ -2,7 +2,7 @@ pub mod Table
 pub mod Index
 pub mod Mapped
 pub mod Parts
-pub mod Policing
+pub mod Policy
 pub mod Refused
 pub mod Effect
 pub mod Does

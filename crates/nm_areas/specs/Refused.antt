@@ -10,7 +10,7 @@ use Rattle.nm_types.specs.declared.errno.Errno.TheVariants.{Enomem, Efault, Einv
 use Rattle.nm_types.specs.Map.{Map, get}
 use Rattle.nm_types.specs.State.{Placed}
 use Rattle.nm_areas.specs.Mapped.{Mapped}
-use Rattle.nm_areas.specs.Policing.{pages_of, is_mapped}
+use Rattle.nm_areas.specs.Policy.{pages_of, is_mapped}
 
 -- the first of these errors whose condition holds
 abbrev pub first_error : List (Bool × Errno) → Option Errno

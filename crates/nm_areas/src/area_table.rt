@@ -14,7 +14,7 @@ ghost use Rattle.nm_areas.specs.Refused.{overlaps, is_stretch};
 ghost use Rattle.nm_areas.specs.Table.{with_areas};
 
 use crate::lines::is_shared;
-use crate::policing::{next_area, put};
+use crate::scan::{next_area, put};
 use nm_types::{Area, Page, Pid, Policy, Segment, Vpn};
 use std::alloc::{AllocError, Allocator};
 use std::collections::{BTreeMap, BTreeSet};

@@ -6,10 +6,12 @@ mod area_table;
 mod areas;
 mod lines;
 mod places;
-mod policing;
-mod removing;
+mod policy;
+mod scan;
+mod split;
 #[cfg(test)]
 mod tests;
+mod unmap;
 
 pub use area_error::AreaError;
 pub use areas::Areas;

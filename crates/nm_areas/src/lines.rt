@@ -6,7 +6,7 @@ ghost use Rattle.nm_areas.specs.Lines.{is_shared, line_of, lines_of};
 ghost use Rattle.nm_areas.specs.Mapped.{EndsLow, IsSomePages};
 
 use crate::areas::Areas;
-use crate::policing::next_area;
+use crate::scan::next_area;
 use nm_types::limits::PAGE_NUMBERS;
 use nm_types::{Area, Page, Pid, Policy, Segment, Vpn};
 use std::alloc::{AllocError, Allocator};

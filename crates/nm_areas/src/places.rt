@@ -11,7 +11,7 @@ ghost use Rattle.nm_areas.specs.Mapped.{IsMapped, mapped};
 
 use crate::area_table::AreaTable;
 use crate::areas::Areas;
-use crate::removing::next_place;
+use crate::scan::next_place;
 use nm_types::{Area, FrameId, Page, Pid, Vpn};
 use std::alloc::{AllocError, Allocator};
 use std::collections::BTreeMap;

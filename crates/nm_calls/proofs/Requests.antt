@@ -11,7 +11,7 @@ use Rattle.nm_runs.specs.Cut.{Request, Stretch, all_to, joined, size_of, stretch
 use Rattle.nm_runs.specs.Limit.{cut_within}
 use Rattle.nm_runs.proofs.Pieces.{each_limit_cuts}
 use Rattle.nm_engine.specs.Run.{IsByAddress, HasOneAll}
-use Rattle.nm_engine.proofs.Alike.{each_has_one_all}
+use Rattle.nm_engine.proofs.OneByOne.Alike.{each_has_one_all}
 use Rattle.nm_calls.specs.Batch.{requests_of}
 
 -- what holds of each request of a run

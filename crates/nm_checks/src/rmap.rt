@@ -32,7 +32,7 @@ fn refuse_maps(heap: Heap<'_>) -> bool {
 
 /// Whether the mappers of the fifth frame are these.
 fn has(map: &ReverseMap<Heap<'_>>, mappers: &[(Pid, Vpn)]) -> Result<bool, AllocError>
-    requires { length map.now.spots ≡ 8 }
+    requires { length map.now.mappings ≡ 8 }
 {
     let now = map.mappers(fifth())?;
     Ok(now.as_slice() == mappers)
@@ -40,8 +40,8 @@ fn has(map: &ReverseMap<Heap<'_>>, mappers: &[(Pid, Vpn)]) -> Result<bool, Alloc
 
 /// Adds a mapper to the fifth frame. Tells whether there was memory for it.
 fn try_add(map: &mut ReverseMap<Heap<'_>>, pid: Pid, vpn: Vpn) -> bool
-    requires { length map.old.spots ≡ 8 }
-    ensures { length map.new.spots ≡ 8 }
+    requires { length map.old.mappings ≡ 8 }
+    ensures { length map.new.mappings ≡ 8 }
 {
     match map.add(fifth(), pid, vpn) {
         Ok(()) => true,
@@ -57,8 +57,8 @@ fn refuse_add<'a>(
     pid: Pid,
     vpn: Vpn,
 ) -> Result<u64, AllocError>
-    requires { length map.old.spots ≡ 8 }
-    ensures { length map.new.spots ≡ 8 }
+    requires { length map.old.mappings ≡ 8 }
+    ensures { length map.new.mappings ≡ 8 }
 {
     let before = map.mappers(fifth())?;
     for number in 1..100u64 {
@@ -78,8 +78,8 @@ fn refuse_add<'a>(
 
 /// Adds 40 mappers, of two processes in turn. Gives how many refusals there were.
 fn refuse_adds<'a>(heap: Heap<'a>, map: &mut ReverseMap<Heap<'a>>) -> Result<u64, AllocError>
-    requires { length map.old.spots ≡ 8 }
-    ensures { length map.new.spots ≡ 8 }
+    requires { length map.old.mappings ≡ 8 }
+    ensures { length map.new.mappings ≡ 8 }
 {
     let mut refused = 0u64;
     for page in 0..20u64 {
@@ -93,7 +93,7 @@ fn refuse_adds<'a>(heap: Heap<'a>, map: &mut ReverseMap<Heap<'a>>) -> Result<u64
 /// Whether the fifth frame's mappers are these or are not given, when each allocation of that is refused in turn, and
 /// in the end are given.
 fn refuse_mappers(heap: Heap<'_>, map: &ReverseMap<Heap<'_>>, mappers: &[(Pid, Vpn)]) -> bool
-    requires { length map.now.spots ≡ 8 }
+    requires { length map.now.mappings ≡ 8 }
 {
     for number in 1..100u64 {
         heap.refuse(number);

@@ -1,4 +1,10 @@
 -- The machines and processes of the worked examples.
+pub mod Moving
+pub mod Sharing
+pub mod Letting
+pub mod Deciding
+pub mod Setting
+pub mod Starts
 use Rattle.std.specs.Prelude.{ℕ, ◌/◌, ℤ, Bool, true, false, List, [], ◌∷◌, map, Option}
 use Rattle.nm_types.specs.Layout.{Layout}
 use Rattle.nm_types.specs.State.{State}

@@ -26,7 +26,7 @@ use Rattle.nm_engine.specs.Audited.{audited}
 use Rattle.nm_engine.specs.Effect.{new_machine, spawn, map_new, attach, pin, unpin, unmap, exit}
 use Rattle.nm_engine.specs.Refused.{spawn_refusal, map_refusal, attach_refusal, pin_refusal}
 use Rattle.nm_engine.specs.Policing.{set_policy}
-use Rattle.nm_engine.specs.Sound.{OwnsItsFree, IsSoundAmid, IsSound}
+use Rattle.nm_engine.specs.Sound.{OwnsItsFree, IsSoundMidRun, IsSound}
 
 -- on a sound machine each frame is in one place
 abbrev pub SoundIsAudited : Type 0
@@ -65,7 +65,7 @@ BatchKeepsMemory =
 abbrev pub ReadingKeepsMemory : Type 0
 ReadingKeepsMemory =
     (s : State) (left : List ℕ) (pid address len q at : ℕ) →
-    IsSoundAmid s left → mem (read s pid address len).state q at ≡ mem s q at
+    IsSoundMidRun s left → mem (read s pid address len).state q at ≡ mem s q at
 
 -- whether two addresses show one page
 abbrev pub is_one_page : Option Page → Option Page → Bool
@@ -81,7 +81,7 @@ is_within first count at = nat_le first at && nat_lt at (first + count)
 abbrev pub WritingIsExact : Type 0
 WritingIsExact =
     (s : State) (left : List ℕ) (pid address : ℕ) (new : List ℕ) (q at : ℕ) →
-    IsSoundAmid s left → (write s pid address new).answer ≡ Done →
+    IsSoundMidRun s left → (write s pid address new).answer ≡ Done →
     let here = is_one_page (page_at s.areas pid (address / 4096)) (page_at s.areas q (at / 4096)) in
     let hit = here && is_within (address % 4096) (length new) (at % 4096) in
     mem (write s pid address new).state q at ≡ (if hit then Some (slice_index new (at % 4096 - address % 4096)) else mem s q at)
@@ -123,7 +123,7 @@ PlanIsOneByOne =
 
 -- reads and writes keep a machine sound, also while a run that has left these frames has not ended ..
 abbrev pub AccessIsSound : Type 0
-AccessIsSound = (s : State) (left : List ℕ) (a : Access) → IsSoundAmid s left → IsSoundAmid (access s a).state left
+AccessIsSound = (s : State) (left : List ℕ) (a : Access) → IsSoundMidRun s left → IsSoundMidRun (access s a).state left
 
 -- .. and so does a run, with accesses in flight ..
 abbrev pub RunIsSound : Type 0

@@ -5,7 +5,7 @@ use Rattle.nm_types.specs.declared.errno.Errno.{Errno}
 use Rattle.nm_types.specs.declared.errno.Errno.TheVariants.{Esrch}
 use Rattle.nm_types.specs.State.{State}
 -- handed on: the policy of a range of areas
-pub use Rattle.nm_areas.specs.Policing.{pages_of, inside, repoliced, is_mapped}
+pub use Rattle.nm_areas.specs.Policy.{pages_of, inside, repoliced, is_mapped}
 use Rattle.nm_areas.specs.Effect.{with_policy}
 use Rattle.nm_areas.specs.Refused as areas
 use Rattle.nm_engine.specs.Effect.{areas_of, with_areas_of}

@@ -106,7 +106,7 @@ abbrev pub ProcessesAreFew : Map ℕ Process → Type 0
 ProcessesAreFew processes = length processes ≤ 1024
 
 -- sound, when a run that has not ended has left these frames
-pub record IsSoundAmid (s : State) (left : List ℕ) : Type 0 where
+pub record IsSoundMidRun (s : State) (left : List ℕ) : Type 0 where
   pub order : IsInOrder s
   pub apart : PlacesAreApart s.place
   pub frames : FramesAreOnce s.layout s.place s.free left
@@ -125,4 +125,4 @@ pub record IsSoundAmid (s : State) (left : List ℕ) : Type 0 where
 
 -- sound, as every state is between two calls
 abbrev pub IsSound : State → Type 0
-IsSound s = IsSoundAmid s []
+IsSound s = IsSoundMidRun s []

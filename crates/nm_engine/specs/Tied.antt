@@ -11,12 +11,12 @@ use Rattle.nm_types.specs.State.{page_at}
 use Rattle.nm_tables.specs.declared.entry.Entry.TheVariants.{Held}
 use Rattle.nm_areas.specs.Mapped.{Mapped}
 use Rattle.nm_rmap.specs.Mappers.{Mappers, mappers_of, pins_of}
-use Rattle.nm_engine.specs.Tasked.{Task}
-use Rattle.nm_engine.specs.Tasked.{entry_at, names}
+use Rattle.nm_engine.specs.ProcessTable.{Task}
+use Rattle.nm_engine.specs.ProcessTable.{entry_at, names}
 
 -- whether a page number of a process is among these
 abbrev pub has_spot : List (ℕ × ℕ) → ℕ × ℕ → Bool
-has_spot spots spot = list_any (is_at (spot_cmp spot)) spots
+has_spot mappings spot = list_any (is_at (spot_cmp spot)) mappings
 
 pub record IsTied (tasks : Map ℕ Task) (m : Mapped) (r : Mappers) : Type 0 where
   -- the maps have their keys in order
@@ -33,8 +33,8 @@ pub record IsTied (tasks : Map ℕ Task) (m : Mapped) (r : Mappers) : Type 0 whe
   pub apart : (p q : Page) (f : ℕ) → get page_cmp m.place p ≡ Some f → get page_cmp m.place q ≡ Some f → p ≡ q
   -- a frame without a page has no pins
   pub pinned : (f : ℕ) → ((p : Page) → get page_cmp m.place p ≡ Some f → ⊥) → pins_of r f ≡ 0
-  pub in_range : (p : Page) (f : ℕ) → get page_cmp m.place p ≡ Some f → f < length r.spots
-  pub as_many : length r.pins ≡ length r.spots
+  pub in_range : (p : Page) (f : ℕ) → get page_cmp m.place p ≡ Some f → f < length r.mappings
+  pub as_many : length r.pins ≡ length r.mappings
   -- no page is on its way
   pub settled : (f pid v : ℕ) → entry_at tasks pid v ≡ Some (Held f) → ⊥
 
@@ -44,9 +44,9 @@ is_between pid first end spot = (spot.0 == pid) && (nat_le first spot.1 && nat_l
 
 -- the mappers that were entries of a process in a range are none any more, and the pins stay
 pub record IsCleared (r t : Mappers) (pid first end : ℕ) (tasks : Map ℕ Task) : Type 0 where
-  pub spots :
+  pub mappings :
       (f : ℕ) (spot : ℕ × ℕ) →
       has_spot (mappers_of t f) spot
       ≡ (has_spot (mappers_of r f) spot && not (is_between pid first end spot && names f (entry_at tasks spot.0 spot.1)))
-  pub frames : length t.spots ≡ length r.spots
+  pub frames : length t.mappings ≡ length r.mappings
   pub pins : t.pins ≡ r.pins

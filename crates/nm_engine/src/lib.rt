@@ -1,22 +1,15 @@
 //! The machine: processes, areas and pages over nodes of frames, and the moving of pages from one node to another.
 #![tactic(auto)]
 
-mod asking;
+mod address_spaces;
 mod audit;
-mod calls;
+mod frames;
+mod inner;
 pub mod laws;
-mod letting;
 mod machine;
 mod machine_error;
-mod mapping;
-mod moving;
-mod parts;
 mod process;
-mod spaces;
-mod stock;
-mod tasks;
-mod touch;
-mod touching;
+mod process_table;
 
 pub use machine::{Machine, Totals};
 pub use machine_error::MachineError;

@@ -18,8 +18,8 @@ ghost use Rattle.nm_engine.specs.Asking.{node_status};
 ghost use Rattle.nm_engine.specs.Sound.{IsSound};
 ghost use Rattle.nm_engine.specs.Does.{Makes, Alters, Tells, Accesses, AsksLast};
 
+use crate::inner::Inner;
 use crate::machine_error::MachineError;
-use crate::parts::Parts;
 use crate::process::ProcessInfo;
 use nm_runs::Run;
 use nm_tables::Entry;
@@ -40,7 +40,7 @@ pub struct Totals {
 /// Processes, areas and pages over nodes of frames. Contracts see it as a `State` of the definitions, which is sound.
 #[derive(Drop)]
 pub struct Machine<A: Allocator + Copy + Send + Sync> {
-    parts: Parts<A>,
+    inner: Inner<A>,
     alloc: A,
 }
 
@@ -50,9 +50,9 @@ impl<A: Allocator + Copy + Send + Sync> Model for Machine<A> {
 
     ghost Value = { State };
 
-    ghost view = { λ m. m.parts.state };
+    ghost view = { λ m. m.inner.state };
 
-    ghost invariant = { λ m. m.parts.left ≡ [] };
+    ghost invariant = { λ m. m.inner.left ≡ [] };
 }
 
 impl<A: Allocator + Copy + Send + Sync> Machine<A> {
@@ -62,7 +62,7 @@ impl<A: Allocator + Copy + Send + Sync> Machine<A> {
         ensures { IfOk result (λ machine. machine ≡ new_machine geometry) }
     {
         Ok(Machine {
-            parts: Parts::new(alloc, geometry)?,
+            inner: Inner::new(alloc, geometry)?,
             alloc,
         })
     }
@@ -73,21 +73,21 @@ impl<A: Allocator + Copy + Send + Sync> Machine<A> {
         ensures few { result ≤ 64 }
         ensures sound { IsSound self.now }
     {
-        self.parts.node_count()
+        self.inner.node_count()
     }
 
     /// Whether there is such a node, and it is online.
     pub fn is_online(&self, node: NodeId) -> bool
         ensures { result ≡ is_in self.now.online node }
     {
-        self.parts.is_online(node)
+        self.inner.is_online(node)
     }
 
     /// What `spawn` fixed of a process, or None where there is none of this pid.
     pub fn process(&self, pid: Pid) -> Option<ProcessInfo>
         ensures { result ≡ option_map info_of (get nat_cmp self.now.processes pid) }
     {
-        self.parts.process(pid)
+        self.inner.process(pid)
     }
 
     /// How many pages moved and how many requests failed so far. Between two calls a machine is sound.
@@ -96,7 +96,7 @@ impl<A: Allocator + Copy + Send + Sync> Machine<A> {
         ensures failed { result.failed ≡ self.now.failed }
         ensures sound { IsSound self.now }
     {
-        self.parts.totals()
+        self.inner.totals()
     }
 
     /// Adds a process. EINVAL for a pid that is 0 or alive, a home that is no node of the machine, or a set of allowed
@@ -119,7 +119,7 @@ impl<A: Allocator + Copy + Send + Sync> Machine<A> {
             home,
             allowed,
         };
-        self.parts.spawn(pid, info)
+        self.inner.spawn(pid, info)
     }
 
     /// Makes a segment of so many pages, private or shared, and an area of the process over all of it, with the default
@@ -137,7 +137,7 @@ impl<A: Allocator + Copy + Send + Sync> Machine<A> {
         ensures memory { AsksLast result (map_refusal self.old pid addr pages) }
         ensures number { IfOk result (λ number. number ≡ self.old.next_segment) }
     {
-        self.parts.map(pid, addr, pages, shared)
+        self.inner.map(pid, addr, pages, shared)
     }
 
     /// Makes an area of the process over so many pages of a shared segment, from an offset on that is counted in pages,
@@ -154,7 +154,7 @@ impl<A: Allocator + Copy + Send + Sync> Machine<A> {
         ensures done { Makes result self.old self.new (attach_refusal self.old pid addr segment offset pages) (attach self.old pid addr segment offset pages) }
         ensures memory { AsksLast result (attach_refusal self.old pid addr segment offset pages) }
     {
-        self.parts.attach(pid, addr, segment, offset, pages)
+        self.inner.attach(pid, addr, segment, offset, pages)
     }
 
     /// Pins the page that a process sees at an address once more: it does not move until it is unpinned as often. ESRCH
@@ -163,7 +163,7 @@ impl<A: Allocator + Copy + Send + Sync> Machine<A> {
     pub fn pin(&mut self, pid: Pid, addr: u64) -> Result<(), Errno>
         ensures { Alters result self.old self.new (pin_refusal self.old pid addr) (pin self.old pid addr) }
     {
-        self.parts.pin(pid, addr)
+        self.inner.pin(pid, addr)
     }
 
     /// Takes one pin off the page that a process sees at an address, whoever pinned it. ESRCH, EFAULT and ENOENT as for
@@ -171,7 +171,7 @@ impl<A: Allocator + Copy + Send + Sync> Machine<A> {
     pub fn unpin(&mut self, pid: Pid, addr: u64) -> Result<(), Errno>
         ensures { Alters result self.old self.new (unpin_refusal self.old pid addr) (unpin self.old pid addr) }
     {
-        self.parts.unpin(pid, addr)
+        self.inner.unpin(pid, addr)
     }
 
     /// A process lets go so many pages from an address on, where it may have holes: what it sees there, and its areas'
@@ -182,7 +182,7 @@ impl<A: Allocator + Copy + Send + Sync> Machine<A> {
         ensures done { Makes result self.old self.new (unmap_refusal self.old pid addr pages) (unmap self.old pid addr pages) }
         ensures memory { AsksLast result (unmap_refusal self.old pid addr pages) }
     {
-        self.parts.unmap(pid, addr, pages)
+        self.inner.unmap(pid, addr, pages)
     }
 
     /// A process lets go all that it has, as by one `unmap`, and is no more. Its pid may come again. ESRCH without such a
@@ -191,7 +191,7 @@ impl<A: Allocator + Copy + Send + Sync> Machine<A> {
         ensures done { Makes result self.old self.new (exit_refusal self.old pid) (exit self.old pid) }
         ensures memory { AsksLast result (exit_refusal self.old pid) }
     {
-        self.parts.exit(pid)
+        self.inner.exit(pid)
     }
 
     /// Sets where the new pages of `len` bytes from an address on are placed, rounded up to whole pages, as `mbind(2)`
@@ -208,7 +208,7 @@ impl<A: Allocator + Copy + Send + Sync> Machine<A> {
         ensures done { Makes result self.old self.new (policy_refusal self.old pid addr len) (set_policy self.old pid addr len policy) }
         ensures memory { AsksLast result (policy_refusal self.old pid addr len) }
     {
-        self.parts.set_policy(pid, addr, len, policy)
+        self.inner.set_policy(pid, addr, len, policy)
     }
 
     /// Reads 1 to 4,096 bytes inside one page. Memory that nobody wrote reads as zeros. ESRCH without such a process;
@@ -218,7 +218,7 @@ impl<A: Allocator + Copy + Send + Sync> Machine<A> {
         ensures answer { Accesses result (λ bytes. Bytes bytes.items) self.old self.new (read self.old pid addr len) }
         ensures memory { AsksLast result (spot_refusal self.old pid addr len) }
     {
-        self.parts.read(pid, addr, len)
+        self.inner.read(pid, addr, len)
     }
 
     /// Writes 1 to 4,096 bytes inside one page. ESRCH, EINVAL and EFAULT as for `read`; ENOMEM where the page has no frame
@@ -227,7 +227,7 @@ impl<A: Allocator + Copy + Send + Sync> Machine<A> {
         ensures answer { Accesses result (λ done. Done) self.old self.new (write self.old pid addr bytes.now) }
         ensures memory { AsksLast result (spot_refusal self.old pid addr (length bytes.now)) }
     {
-        self.parts.write(pid, addr, bytes)
+        self.inner.write(pid, addr, bytes)
     }
 
     /// Decides the requests of a run one after another, and gives a status for each: the target's number where the page
@@ -247,10 +247,10 @@ impl<A: Allocator + Copy + Send + Sync> Machine<A> {
     {
         let count = requests.wanted.len();
         let mut statuses = Vec::with_capacity(self.alloc, count)?;
-        self.parts.reserve(count)?;
-        self.parts
+        self.inner.reserve(count)?;
+        self.inner
             .decide_each(requests.target, requests.wanted.as_slice(), &mut statuses);
-        self.parts.end_run(statuses.as_slice());
+        self.inner.end_run(statuses.as_slice());
         Ok(statuses)
     }
 
@@ -259,7 +259,7 @@ impl<A: Allocator + Copy + Send + Sync> Machine<A> {
         ensures told { Tells result (list_refusal self.now node) (λ frames. frames.items ≡ free_list self.now node) }
         ensures memory { AsksLast result (list_refusal self.now node) }
     {
-        self.parts.free_list(node)
+        self.inner.free_list(node)
     }
 
     /// What the process has at the page numbers that it has touched, upwards. ESRCH without such a process.
@@ -267,7 +267,7 @@ impl<A: Allocator + Copy + Send + Sync> Machine<A> {
         ensures told { Tells result (entries_refusal self.now pid) (λ entries. entries.items ≡ entries_of self.now pid) }
         ensures memory { AsksLast result (entries_refusal self.now pid) }
     {
-        self.parts.entries(pid)
+        self.inner.entries(pid)
     }
 
     /// Where the page is that a process sees at a page number: its node's number, or an error's number with a minus sign:
@@ -275,7 +275,7 @@ impl<A: Allocator + Copy + Send + Sync> Machine<A> {
     pub fn node_status(&self, pid: Pid, vpn: Vpn) -> i32
         ensures { result ≡ node_status self.now pid vpn }
     {
-        self.parts.node_status(pid, vpn)
+        self.inner.node_status(pid, vpn)
     }
 
     /// Whether each frame of the machine stands exactly once in its own node's list of free frames, or is the place of
@@ -284,6 +284,6 @@ impl<A: Allocator + Copy + Send + Sync> Machine<A> {
         ensures told { IfOk result (λ b. b ≡ audited self.now) }
         ensures sound { IfOk result (λ b. b ≡ true) }
     {
-        self.parts.audit()
+        self.inner.audit()
     }
 }

@@ -26,7 +26,7 @@ pub(crate) struct Task<A: Allocator + Copy> {
 }
 
 impl<A: Allocator + Copy> Model for Task<A> {
-    ghost use Rattle.nm_engine.specs.Tasked.{Task};
+    ghost use Rattle.nm_engine.specs.ProcessTable.{Task};
 
     ghost Value = { Task };
 

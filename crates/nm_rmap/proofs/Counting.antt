@@ -1,4 +1,4 @@
--- How many processes there are, as spots come and go.
+-- How many processes there are, as mappings come and go.
 use Rattle.std.proofs.Common.{◌≡◌, ℕ, zero, suc, ◌<◌, ◌≤◌, Bool, true, false, cond, ◌&&◌, ◌||◌, List, [], ◌∷◌, length, nat_eq, refl, sym, subst, ap, ◌∙◌, arith, eq-eqb, ⊎_elim}
 use Rattle.std.specs.Ordering.{nat_cmp, ordering_then, match_ordering, is_eq, is_gt, is_le}
 use Rattle.std.specs.declared.cmp.Ordering.{Ordering}
@@ -74,7 +74,7 @@ once_is_twice false c = refl
 
 -- ---- a spot comes
 
-has_with : (spots : List Spot) (s : Spot) (q : ℕ) → has_process (with_spot spots s) q ≡ (nat_eq q s.0 || has_process spots q)
+has_with : (mappings : List Spot) (s : Spot) (q : ℕ) → has_process (with_spot mappings s) q ≡ (nat_eq q s.0 || has_process mappings q)
 has_with [] s q = refl
 has_with (x ∷ xs) s q =
     elim (spot_cmp s x) as (λ r. spot_cmp s x ≡ r → has_process (match_ordering r (s ∷ x ∷ xs) (x ∷ xs) (x ∷ with_spot xs s)) q ≡ (nat_eq q s.0 || (nat_eq q x.0 || has_process xs q))) [
@@ -83,7 +83,7 @@ has_with (x ∷ xs) s q =
       | Greater ↦ λ r. ap (λ b. nat_eq q x.0 || b) (has_with xs s q) ∙ either_first (nat_eq q x.0) (nat_eq q s.0) (has_process xs q)
     ] refl
 
-count_with : (spots : List Spot) (s : Spot) → process_count (with_spot spots s) ≡ distinct (s.0 ∷ pids spots)
+count_with : (mappings : List Spot) (s : Spot) → process_count (with_spot mappings s) ≡ distinct (s.0 ∷ pids mappings)
 count_with [] s = refl
 count_with (x ∷ xs) s =
     elim (spot_cmp s x) as (λ r. spot_cmp s x ≡ r → process_count (match_ordering r (s ∷ x ∷ xs) (x ∷ xs) (x ∷ with_spot xs s)) ≡ distinct (s.0 ∷ x.0 ∷ pids xs)) [
@@ -95,19 +95,19 @@ count_with (x ∷ xs) s =
     ] refl
 
 -- where it is known whether its process was there
-module _ (spots now : List Spot) (s : Spot) (known : Bool) (is : now ≡ with_spot spots s) (tells : known ≡ has_process spots s.0) where
-  inserted : process_count now ≡ cond known (process_count spots) (suc (process_count spots))
-  inserted = ap process_count is ∙ count_with spots s ∙ one_more s.0 (pids spots) ∙ ap (λ b. cond b (process_count spots) (suc (process_count spots))) (sym tells)
+module _ (mappings now : List Spot) (s : Spot) (known : Bool) (is : now ≡ with_spot mappings s) (tells : known ≡ has_process mappings s.0) where
+  inserted : process_count now ≡ cond known (process_count mappings) (suc (process_count mappings))
+  inserted = ap process_count is ∙ count_with mappings s ∙ one_more s.0 (pids mappings) ∙ ap (λ b. cond b (process_count mappings) (suc (process_count mappings))) (sym tells)
 
-  pub inserted_new : known ≡ false → process_count now ≡ suc (process_count spots)
-  inserted_new not_there = inserted ∙ ap (λ b. cond b (process_count spots) (suc (process_count spots))) not_there
+  pub inserted_new : known ≡ false → process_count now ≡ suc (process_count mappings)
+  inserted_new not_there = inserted ∙ ap (λ b. cond b (process_count mappings) (suc (process_count mappings))) not_there
 
-  pub inserted_known : known ≡ true → process_count now ≡ process_count spots
-  inserted_known there_is = inserted ∙ ap (λ b. cond b (process_count spots) (suc (process_count spots))) there_is
+  pub inserted_known : known ≡ true → process_count now ≡ process_count mappings
+  inserted_known there_is = inserted ∙ ap (λ b. cond b (process_count mappings) (suc (process_count mappings))) there_is
 
 -- ---- a spot goes
 
-has_without : (spots : List Spot) (s : Spot) (q : ℕ) → list_any (is_at (spot_cmp s)) spots ≡ true → has_process spots q ≡ (nat_eq q s.0 || has_process (without_spot spots s) q)
+has_without : (mappings : List Spot) (s : Spot) (q : ℕ) → list_any (is_at (spot_cmp s)) mappings ≡ true → has_process mappings q ≡ (nat_eq q s.0 || has_process (without_spot mappings s) q)
 has_without [] s q h = absurd (false≢true h)
 has_without (x ∷ xs) s q h =
     elim (is_eq (spot_cmp s x)) as (λ b. is_eq (spot_cmp s x) ≡ b → (b || list_any (is_at (spot_cmp s)) xs) ≡ true → (nat_eq q x.0 || has_process xs q) ≡ (nat_eq q s.0 || has_process (cond b xs (x ∷ without_spot xs s)) q)) [
@@ -115,7 +115,7 @@ has_without (x ∷ xs) s q h =
       | false ↦ λ r h. ap (λ b. nat_eq q x.0 || b) (has_without xs s q h) ∙ either_first (nat_eq q x.0) (nat_eq q s.0) (has_process (without_spot xs s) q)
     ] refl h
 
-count_without : (spots : List Spot) (s : Spot) → list_any (is_at (spot_cmp s)) spots ≡ true → process_count spots ≡ distinct (s.0 ∷ pids (without_spot spots s))
+count_without : (mappings : List Spot) (s : Spot) → list_any (is_at (spot_cmp s)) mappings ≡ true → process_count mappings ≡ distinct (s.0 ∷ pids (without_spot mappings s))
 count_without [] s h = absurd (false≢true h)
 count_without (x ∷ xs) s h =
     elim (is_eq (spot_cmp s x)) as (λ b. is_eq (spot_cmp s x) ≡ b → (b || list_any (is_at (spot_cmp s)) xs) ≡ true → distinct (x.0 ∷ pids xs) ≡ distinct (s.0 ∷ pids (cond b xs (x ∷ without_spot xs s)))) [
@@ -124,16 +124,16 @@ count_without (x ∷ xs) s h =
     ] refl h
 
 -- where it is known whether its process is still there
-module _ (spots now : List Spot) (s : Spot) (known : Bool) (there : list_any (is_at (spot_cmp s)) spots ≡ true) (is : now ≡ without_spot spots s) (tells : known ≡ has_process now s.0) where
-  removed : process_count spots ≡ cond known (process_count now) (suc (process_count now))
+module _ (mappings now : List Spot) (s : Spot) (known : Bool) (there : list_any (is_at (spot_cmp s)) mappings ≡ true) (is : now ≡ without_spot mappings s) (tells : known ≡ has_process now s.0) where
+  removed : process_count mappings ≡ cond known (process_count now) (suc (process_count now))
   removed =
-      count_without spots s there ∙ ap (λ (ss : List Spot). distinct (s.0 ∷ pids ss)) (sym is) ∙ one_more s.0 (pids now)
+      count_without mappings s there ∙ ap (λ (ss : List Spot). distinct (s.0 ∷ pids ss)) (sym is) ∙ one_more s.0 (pids now)
       ∙ ap (λ b. cond b (process_count now) (suc (process_count now))) (sym tells)
 
-  pub removed_last : known ≡ false → process_count spots ≡ suc (process_count now)
+  pub removed_last : known ≡ false → process_count mappings ≡ suc (process_count now)
   removed_last not_there = removed ∙ ap (λ b. cond b (process_count now) (suc (process_count now))) not_there
 
-  pub removed_known : known ≡ true → process_count spots ≡ process_count now
+  pub removed_known : known ≡ true → process_count mappings ≡ process_count now
   removed_known there_is = removed ∙ ap (λ b. cond b (process_count now) (suc (process_count now))) there_is
 
 -- ---- the first spot from a process on
@@ -141,10 +141,10 @@ module _ (spots now : List Spot) (s : Spot) (known : Bool) (there : list_any (is
 abbrev from_process : ℕ → Spot → Bool
 from_process pid spot = is_le (spot_cmp (pid, 0) spot) && true
 
--- whether the first of the spots is of the process
+-- whether the first of the mappings is of the process
 abbrev pub starts_with : List Spot → ℕ → Bool
 starts_with [] pid = false
-starts_with (spot ∷ spots) pid = nat_eq spot.0 pid
+starts_with (spot ∷ mappings) pid = nat_eq spot.0 pid
 
 first_decides : (r s : Ordering) → ordering_then r s ≡ Less → is_gt r ≡ false
 first_decides Less s h = refl
@@ -161,7 +161,7 @@ later : (spot : Spot) (rest : List Spot) → AllByRecursion (λ y. spot_cmp spot
 later spot [] h = tt
 later spot (y ∷ rest) h = (le_from_not_gt spot.0 y.0 (first_decides (nat_cmp spot.0 y.0) (nat_cmp spot.1 y.1) h.0), later spot rest h.1)
 
--- a process below those of all spots is not among them
+-- a process below those of all mappings is not among them
 not_among : (pid q : ℕ) (rest : List Spot) → pid < q → AllByRecursion (λ y. q ≤ y.0) rest → has_process rest pid ≡ false
 not_among pid q [] lt h = refl
 not_among pid q (y ∷ rest) lt h =
@@ -184,7 +184,7 @@ first_is pid x xs low after =
     let below : pid < x.0 = omega (arith, low, apart) in
     ap (λ b. b || has_process xs pid) is.0 ∙ not_among pid x.0 xs below after ∙ sym (ne_eqb x.0 pid (λ e. omega (arith, e, below)))) (eqb_tells pid x.0)
 
-first_tells : (pid : ℕ) (spots : List Spot) → IsStrictlySortedBy spot_cmp spots → has_process spots pid ≡ starts_with (filter (from_process pid) spots) pid
+first_tells : (pid : ℕ) (mappings : List Spot) → IsStrictlySortedBy spot_cmp mappings → has_process mappings pid ≡ starts_with (filter (from_process pid) mappings) pid
 first_tells pid [] sorted = refl
 first_tells pid (x ∷ xs) sorted =
     elim (from_process pid x) as (λ b. from_process pid x ≡ b → (nat_eq pid x.0 || has_process xs pid) ≡ starts_with (cond b (x ∷ filter (from_process pid) xs) (filter (from_process pid) xs)) pid) [
@@ -193,11 +193,11 @@ first_tells pid (x ∷ xs) sorted =
     ] refl
 
 -- by what a range gives
-pub range_tells : (pid start : ℕ) (spots found : List Spot) → found ≡ filter (range_contains spot_cmp (Included (pid, start)) Unbounded) spots → start ≡ 0 → IsStrictlySortedBy spot_cmp spots
-    → has_process spots pid ≡ starts_with found pid
-range_tells pid start spots found is at sorted =
-    first_tells pid spots sorted ∙ ap (λ (ss : List Spot). starts_with ss pid) (sym (is ∙ ap (λ (n : ℕ). filter (range_contains spot_cmp (Included (pid, n)) Unbounded) spots) at))
+pub range_tells : (pid start : ℕ) (mappings found : List Spot) → found ≡ filter (range_contains spot_cmp (Included (pid, start)) Unbounded) mappings → start ≡ 0 → IsStrictlySortedBy spot_cmp mappings
+    → has_process mappings pid ≡ starts_with found pid
+range_tells pid start mappings found is at sorted =
+    first_tells pid mappings sorted ∙ ap (λ (ss : List Spot). starts_with ss pid) (sym (is ∙ ap (λ (n : ℕ). filter (range_contains spot_cmp (Included (pid, n)) Unbounded) mappings) at))
 
--- there are no more processes than spots
-pub few_processes : (spots : List Spot) → process_count spots ≤ length spots
-few_processes spots = omega (arith, distinct_count-le nat_eq (pids spots), length-map spots (λ (spot : Spot). spot.0))
+-- there are no more processes than mappings
+pub few_processes : (mappings : List Spot) → process_count mappings ≤ length mappings
+few_processes mappings = omega (arith, distinct_count-le nat_eq (pids mappings), length-map mappings (λ (spot : Spot). spot.0))

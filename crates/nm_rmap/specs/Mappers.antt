@@ -9,39 +9,39 @@ use Rattle.nm_types.specs.Map.{spot_cmp}
 abbrev pub Spot : Type 0
 Spot = ℕ × ℕ
 
--- the spots with one more, at its place in the order; one that is there stays
+-- the mappings with one more, at its place in the order; one that is there stays
 abbrev pub with_spot : List Spot → Spot → List Spot
-with_spot spots spot = insert_key spot_cmp spots spot
+with_spot mappings spot = insert_key spot_cmp mappings spot
 
--- the spots without one
+-- the mappings without one
 abbrev pub without_spot : List Spot → Spot → List Spot
-without_spot spots spot = remove_key (is_at (spot_cmp spot)) spots
+without_spot mappings spot = remove_key (is_at (spot_cmp spot)) mappings
 
--- the processes of the spots
+-- the processes of the mappings
 abbrev pub pids : List Spot → List ℕ
-pids spots = map (λ spot. spot.0) spots
+pids mappings = map (λ spot. spot.0) mappings
 
--- whether a process has one of the spots
+-- whether a process has one of the mappings
 abbrev pub has_process : List Spot → ℕ → Bool
-has_process spots pid = is_member nat_eq (pids spots) pid
+has_process mappings pid = is_member nat_eq (pids mappings) pid
 
--- how many processes have a page number among the spots
+-- how many processes have a page number among the mappings
 abbrev pub process_count : List Spot → ℕ
-process_count spots = distinct_count nat_eq (pids spots)
+process_count mappings = distinct_count nat_eq (pids mappings)
 
 pub record Mappers : Type 0 where
   -- for each frame the page numbers that name it, by pid and then by page number
-  pub spots : List (List Spot)
+  pub mappings : List (List Spot)
   -- how often each frame is pinned
   pub pins : List ℕ
 
 -- so many frames that nobody names or pins
 abbrev pub new_map : ℕ → Mappers
-new_map frames = record { spots = replicate frames []; pins = replicate frames 0 }
+new_map frames = record { mappings = replicate frames []; pins = replicate frames 0 }
 
 -- the page numbers that name a frame
 abbrev pub mappers_of : Mappers → ℕ → List Spot
-mappers_of m frame = slice_index_or m.spots frame []
+mappers_of m frame = slice_index_or m.mappings frame []
 
 -- how often a frame is pinned
 abbrev pub pins_of : Mappers → ℕ → ℕ
@@ -49,7 +49,7 @@ pins_of m frame = slice_index_or m.pins frame 0
 
 -- the map with other mappers of a frame
 abbrev pub with_mappers : Mappers → ℕ → List Spot → Mappers
-with_mappers m frame spots = record { spots = slice_set m.spots frame spots; pins = m.pins }
+with_mappers m frame mappings = record { mappings = slice_set m.mappings frame mappings; pins = m.pins }
 
 -- the map with one more mapper of a frame
 abbrev pub added : Mappers → ℕ → Spot → Mappers
@@ -61,7 +61,7 @@ dropped m frame spot = with_mappers m frame (without_spot (mappers_of m frame) s
 
 -- the map with another number of pins of a frame
 abbrev pub with_pins : Mappers → ℕ → ℕ → Mappers
-with_pins m frame pins = record { spots = m.spots; pins = slice_set m.pins frame pins }
+with_pins m frame pins = record { mappings = m.mappings; pins = slice_set m.pins frame pins }
 
 -- what names and pins one frame names and pins another in its place
 abbrev pub carried : Mappers → ℕ → ℕ → Mappers

@@ -2,8 +2,8 @@
 #![tactic(auto)]
 
 pub mod laws;
+mod mappings;
 mod reverse_map;
-mod spots;
 #[cfg(test)]
 mod tests;
 

@@ -6,7 +6,7 @@ ghost use Rattle.nm_types.specs.declared.errno.Errno.TheVariants.{Ebusy, Einval}
 ghost use Rattle.nm_types.specs.Map.{spot_cmp};
 ghost use Rattle.nm_rmap.specs.Mappers.{IsUnused, new_map, mappers_of, pins_of, with_pins, added, dropped, carried, process_count};
 
-use crate::spots::Spots;
+use crate::mappings::Mappings;
 use nm_types::limits::MAX_PINS;
 use nm_types::{Errno, FrameId, Pid, Vpn};
 use std::alloc::{AllocError, Allocator};
@@ -18,7 +18,7 @@ use std::marker::Model;
 #[derive(Drop)]
 pub struct ReverseMap<A: Allocator + Copy> {
     alloc: A,
-    spots: Vec<Spots<A>, A>,
+    mappings: Vec<Mappings<A>, A>,
     pins: Vec<u32, A>,
 }
 
@@ -28,9 +28,9 @@ impl<A: Allocator + Copy> Model for ReverseMap<A> {
 
     ghost Value = { Mappers };
 
-    ghost view = { λ m. record { spots = m.spots.items; pins = m.pins.items } };
+    ghost view = { λ m. record { mappings = m.mappings.items; pins = m.pins.items } };
 
-    ghost invariant = { λ m. length m.pins.items ≡ length m.spots.items };
+    ghost invariant = { λ m. length m.pins.items ≡ length m.mappings.items };
 }
 
 impl<A: Allocator + Copy> ReverseMap<A> {
@@ -38,76 +38,80 @@ impl<A: Allocator + Copy> ReverseMap<A> {
     pub fn new(alloc: A, frames: usize) -> Result<Self, AllocError>
         ensures { IfOk result (λ map. map ≡ new_map frames) }
     {
-        let mut spots = Vec::with_capacity(alloc, frames)?;
+        let mut mappings = Vec::with_capacity(alloc, frames)?;
         let mut pins = Vec::with_capacity(alloc, frames)?;
         for _ in 0..frames {
-            spots.push(Spots::new(alloc))?;
+            mappings.push(Mappings::new(alloc))?;
             pins.push(0)?;
         }
-        Ok(ReverseMap { alloc, spots, pins })
+        Ok(ReverseMap {
+            alloc,
+            mappings,
+            pins,
+        })
     }
 
     /// Makes a page number of a process a mapper of a frame. One that is a mapper of it stays so. An error is want of
     /// memory, and means that nothing has changed.
     pub fn add(&mut self, frame: FrameId, pid: Pid, vpn: Vpn) -> Result<(), AllocError>
-        requires { frame < length self.old.spots }
+        requires { frame < length self.old.mappings }
         ensures ok { OnOk result (self.new ≡ added self.old frame (pid, vpn)) }
         ensures err { OnErr result (self.new ≡ self.old) }
     {
-        self.spots[frame.index()].insert(pid, vpn)
+        self.mappings[frame.index()].insert(pid, vpn)
     }
 
     /// Makes a page number of a process no mapper of a frame, if it is one. It takes no memory.
     pub fn drop_one(&mut self, frame: FrameId, pid: Pid, vpn: Vpn)
-        requires { frame < length self.old.spots }
+        requires { frame < length self.old.mappings }
         ensures dropped { self.new ≡ dropped self.old frame (pid, vpn) }
         ensures ordered { IsStrictlySortedBy spot_cmp (mappers_of self.old frame) }
     {
-        self.spots[frame.index()].remove(pid, vpn);
+        self.mappings[frame.index()].remove(pid, vpn);
     }
 
     /// The mappers of a frame, by pid and then by page number. An error is want of memory.
     pub fn mappers(&self, frame: FrameId) -> Result<Vec<(Pid, Vpn), A>, AllocError>
-        requires { frame < length self.now.spots }
-        ensures all { IfOk result (λ spots. spots.items ≡ mappers_of self.now frame) }
+        requires { frame < length self.now.mappings }
+        ensures all { IfOk result (λ mappings. mappings.items ≡ mappers_of self.now frame) }
         ensures ordered { IsStrictlySortedBy spot_cmp (mappers_of self.now frame) }
     {
-        self.spots[frame.index()].list(self.alloc)
+        self.mappings[frame.index()].list(self.alloc)
     }
 
     /// The mappers of a frame, by pid and then by page number, as they stand. It takes no memory.
-    pub fn spots(&self, frame: FrameId) -> &BTreeSet<(Pid, Vpn), A>
-        requires { frame < length self.now.spots }
+    pub fn mappings(&self, frame: FrameId) -> &BTreeSet<(Pid, Vpn), A>
+        requires { frame < length self.now.mappings }
         ensures all { result.now.keys ≡ mappers_of self.now frame }
         ensures ordered { IsStrictlySortedBy spot_cmp (mappers_of self.now frame) }
     {
-        self.spots[frame.index()].tree()
+        self.mappings[frame.index()].tree()
     }
 
     /// How many processes have a page number that names a frame. Two page numbers of a process count once. It takes no
     /// memory.
     pub fn processes(&self, frame: FrameId) -> usize
-        requires { frame < length self.now.spots }
+        requires { frame < length self.now.mappings }
         ensures { result ≡ process_count (mappers_of self.now frame) }
     {
-        self.spots[frame.index()].process_count()
+        self.mappings[frame.index()].process_count()
     }
 
     /// Gives the mappers and the pins of one frame to another, which has neither. It takes no memory.
     pub fn carry(&mut self, from: FrameId, to: FrameId)
-        requires from_in_range { from < length self.old.spots }
-        requires to_in_range { to < length self.old.spots }
+        requires from_in_range { from < length self.old.mappings }
+        requires to_in_range { to < length self.old.mappings }
         requires apart { from ≡ to → ⊥ }
         requires unused { IsUnused self.old to }
         ensures { self.new ≡ carried self.old from to }
     {
-        self.spots.swap(from.index(), to.index());
+        self.mappings.swap(from.index(), to.index());
         self.pins.swap(from.index(), to.index());
     }
 
     /// Pins a frame once more. EBUSY where it has 65,535 pins, and then nothing has changed. It takes no memory.
     pub fn pin(&mut self, frame: FrameId) -> Result<(), Errno>
-        requires { frame < length self.old.spots }
+        requires { frame < length self.old.mappings }
         ensures room { OnOk result (pins_of self.old frame < 65535) }
         ensures ok { OnOk result (self.new ≡ with_pins self.old frame (pins_of self.old frame + 1)) }
         ensures full { IfErr result (λ error. (error ≡ Ebusy) × (65535 ≤ pins_of self.old frame)) }
@@ -123,7 +127,7 @@ impl<A: Allocator + Copy> ReverseMap<A> {
 
     /// Takes one pin off a frame. EINVAL where it has none, and then nothing has changed. It takes no memory.
     pub fn unpin(&mut self, frame: FrameId) -> Result<(), Errno>
-        requires { frame < length self.old.spots }
+        requires { frame < length self.old.mappings }
         ensures pinned { OnOk result (0 < pins_of self.old frame) }
         ensures ok { OnOk result (self.new ≡ with_pins self.old frame (pins_of self.old frame - 1)) }
         ensures none { IfErr result (λ error. (error ≡ Einval) × (pins_of self.old frame ≡ 0)) }
@@ -139,9 +143,9 @@ impl<A: Allocator + Copy> ReverseMap<A> {
 
     /// How often a frame is pinned. It takes no memory.
     pub fn pins(&self, frame: FrameId) -> u32
-        requires { frame < length self.now.spots }
+        requires { frame < length self.now.mappings }
         ensures pins { result ≡ pins_of self.now frame }
-        ensures as_many { length self.now.pins ≡ length self.now.spots }
+        ensures as_many { length self.now.pins ≡ length self.now.mappings }
     {
         self.pins[frame.index()]
     }

@@ -13,7 +13,7 @@ fn add_to_first<A: Allocator + Copy>(
     pid: u32,
     vpn: u64,
 ) -> Result<(), AllocError>
-    requires { 0 < length map.old.spots }
+    requires { 0 < length map.old.mappings }
     ensures { OnOk result (map.new ≡ added map.old 0 (pid, vpn)) }
 {
     map.add(FrameId::new(0), Pid::new(pid), Vpn::new(vpn))
@@ -32,7 +32,7 @@ fn three_mappers<A: Allocator + Copy>(alloc: A) -> Result<ReverseMap<A>, AllocEr
 
 /// Whether the mappers of a frame are those three, in order.
 fn has_three<A: Allocator + Copy>(map: &ReverseMap<A>, frame: FrameId) -> Result<bool, AllocError>
-    requires { frame < length map.now.spots }
+    requires { frame < length map.now.mappings }
 {
     let three = [
         (Pid::new(1), Vpn::new(16)),
@@ -44,10 +44,10 @@ fn has_three<A: Allocator + Copy>(map: &ReverseMap<A>, frame: FrameId) -> Result
 
 /// The page numbers of the mappers of a frame as they come, two digits each.
 fn digits_of_spots<A: Allocator + Copy>(map: &ReverseMap<A>, frame: FrameId) -> u64
-    requires { frame < length map.now.spots }
+    requires { frame < length map.now.mappings }
 {
     let mut sum = 0u64;
-    for (_, vpn) in map.spots(frame).iter() {
+    for (_, vpn) in map.mappings(frame).iter() {
         sum = sum.wrapping_mul(100).wrapping_add(vpn.number());
     }
     sum
@@ -72,8 +72,8 @@ fn mappers_are_counted_and_carried(rt: HostRuntime) -> Result<(), Fail> {
 
 /// Pins a frame so many times. Tells whether none was refused.
 fn pin_often<A: Allocator + Copy>(map: &mut ReverseMap<A>, frame: FrameId, times: u32) -> bool
-    requires { frame < length map.old.spots }
-    ensures { map.new.spots ≡ map.old.spots }
+    requires { frame < length map.old.mappings }
+    ensures { map.new.mappings ≡ map.old.mappings }
 {
     for _ in 0..times {
         if map.pin(frame).is_err() {

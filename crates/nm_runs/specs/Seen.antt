@@ -7,7 +7,8 @@ use Rattle.std.specs.Ordering.{nat_cmp}
 use Rattle.nm_types.specs.declared.page.Page.{Page}
 use Rattle.nm_types.specs.declared.seen.Seen.{Seen}
 use Rattle.nm_types.specs.declared.seen.Seen.TheVariants.{NoArea, Absent, Zero, At}
-use Rattle.nm_types.specs.Map.{page_cmp, same_page, get}
+use Rattle.nm_types.specs.declared.area.Area.{Area}
+use Rattle.nm_types.specs.Map.{Map, page_cmp, same_page, get}
 use Rattle.nm_types.specs.declared.sight.Sight.{Sight}
 use Rattle.nm_types.specs.declared.sight.Sight.TheVariants.{ZeroPage, Sees}
 use Rattle.nm_types.specs.State.{Process, State, page_at}
@@ -30,34 +31,58 @@ is_sight_of p (Sees q) = same_page p q
 abbrev pub sees_page : Page → Process → Bool
 sees_page p process = list_any (λ e. is_sight_of p e.1) process.sees
 
+-- of these processes those that see a page, each once
+abbrev pub users_in : Map ℕ Process → Page → List ℕ
+users_in processes p = keys_of (filter (λ e. sees_page p e.1) processes)
+
 -- the processes that see a page, each once
 abbrev pub users : State → Page → List ℕ
-users s p = keys_of (filter (λ e. sees_page p e.1) s.processes)
+users s p = users_in s.processes p
+
+-- how often a page is pinned, by the pins of all pages
+abbrev pub pins_in : Map Page ℕ → Page → ℕ
+pins_in pins p = unwrap_or (get page_cmp pins p) 0
 
 -- how often a page is pinned
 abbrev pub pins_of : State → Page → ℕ
-pins_of s p = unwrap_or (get page_cmp s.pins p) 0
+pins_of s p = pins_in s.pins p
 
 -- whether a page has a pin
 abbrev pub is_pinned : State → Page → Bool
 is_pinned s p = nat_lt 0 (pins_of s p)
 
 -- a look at a page that has this place
+abbrev pub look_at_place : Map ℕ Process → Map Page ℕ → Page → Option ℕ → Seen
+look_at_place processes pins p None = Absent
+look_at_place processes pins p (Some frame) = At p frame (length (users_in processes p)) (nat_lt 0 (pins_in pins p))
+
+-- the same in a state
 abbrev pub look_at_page : State → Page → Option ℕ → Seen
-look_at_page s p None = Absent
-look_at_page s p (Some frame) = At p frame (length (users s p)) (is_pinned s p)
+look_at_page s p place = look_at_place s.processes s.pins p place
+
+-- a look at what is seen, by the places and pins of pages
+abbrev pub look_by_sight : Map ℕ Process → Map Page ℕ → Map Page ℕ → Option Sight → Seen
+look_by_sight processes place pins None = Absent
+look_by_sight processes place pins (Some ZeroPage) = Zero
+look_by_sight processes place pins (Some (Sees p)) = look_at_place processes pins p (get page_cmp place p)
 
 -- a look at what is seen
 abbrev pub look_at_sight : State → Option Sight → Seen
-look_at_sight s None = Absent
-look_at_sight s (Some ZeroPage) = Zero
-look_at_sight s (Some (Sees p)) = look_at_page s p (get page_cmp s.place p)
+look_at_sight s sight = look_by_sight s.processes s.place s.pins sight
 
 -- a look at what is seen where this page is shown
+abbrev pub look_behind : Map ℕ Process → Map Page ℕ → Map Page ℕ → Option Page → Option Sight → Seen
+look_behind processes place pins None sight = NoArea
+look_behind processes place pins (Some shown) sight = look_by_sight processes place pins sight
+
+-- the same in a state
 abbrev pub look_under : State → Option Page → Option Sight → Seen
-look_under s None sight = NoArea
-look_under s (Some shown) sight = look_at_sight s sight
+look_under s shown sight = look_behind s.processes s.place s.pins shown sight
+
+-- a look at a page number of a process, by the processes, the areas, and the places and pins of pages
+abbrev pub look_in : Map ℕ Process → Map (ℕ × ℕ) Area → Map Page ℕ → Map Page ℕ → ℕ → ℕ → Seen
+look_in processes areas place pins pid v = look_behind processes place pins (page_at areas pid v) (sight_in (get nat_cmp processes pid) v)
 
 -- a look at a page number of a process
 abbrev pub look : State → ℕ → ℕ → Seen
-look s pid v = look_under s (page_at s.areas pid v) (sight_at s pid v)
+look s pid v = look_in s.processes s.areas s.place s.pins pid v

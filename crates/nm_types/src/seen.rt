@@ -19,7 +19,7 @@ pub enum Seen {
         /// The frame in which it stands.
         frame: FrameId,
         /// How many processes see the page. Two addresses of one process count once.
-        processes: u32,
+        processes: usize,
         /// Whether the page has a pin.
         pinned: bool,
     },

@@ -1,8 +1,8 @@
 use Rattle.std.proofs.Common.{[]}
-use Rattle.nm_engine.proofs.New.{new_sound}
-use Rattle.nm_engine.proofs.Called.{spawn_sound, map_sound, attach_sound, pin_sound, unpin_sound}
-use Rattle.nm_engine.proofs.Dropped.{unmap_sound, exit_sound}
-use Rattle.nm_engine.proofs.Policed.{policy_sound}
+use Rattle.nm_engine.proofs.Soundness.New.{new_sound}
+use Rattle.nm_engine.proofs.Soundness.Called.{spawn_sound, map_sound, attach_sound, pin_sound, unpin_sound}
+use Rattle.nm_engine.proofs.Soundness.Dropped.{unmap_sound, exit_sound}
+use Rattle.nm_engine.proofs.Soundness.Policed.{policy_sound}
 use Rattle.nm_engine.proofs.laws.calls_keep_soundness.Goals as goal
 
 pub returns-clause-new : goal.returns-clause-new

@@ -1,4 +1,4 @@
-use Rattle.nm_engine.proofs.Looks.{looks_suffice, looks_are_bounded}
+use Rattle.nm_engine.proofs.OneByOne.Looks.{looks_suffice, looks_are_bounded}
 use Rattle.nm_engine.proofs.laws.looks_suffice.Goals as goal
 
 pub returns-clause-told : goal.returns-clause-told

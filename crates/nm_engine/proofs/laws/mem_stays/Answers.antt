@@ -1,7 +1,7 @@
 use Rattle.std.proofs.Common.{[]}
-use Rattle.nm_engine.proofs.Memory.{each_keeps, frees_keep, batch_keeps}
-use Rattle.nm_engine.proofs.Touched.{reading_keeps}
-use Rattle.nm_engine.proofs.Policed.{policy_shows, policy_keeps}
+use Rattle.nm_engine.proofs.OneByOne.Memory.{each_keeps, frees_keep, batch_keeps}
+use Rattle.nm_engine.proofs.Soundness.Touched.{reading_keeps}
+use Rattle.nm_engine.proofs.Soundness.Policed.{policy_shows, policy_keeps}
 use Rattle.nm_engine.proofs.laws.mem_stays.Goals as goal
 
 pub returns-clause-decided : goal.returns-clause-decided

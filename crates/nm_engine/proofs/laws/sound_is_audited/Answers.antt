@@ -1,4 +1,4 @@
-use Rattle.nm_engine.proofs.Sounded.{sound_is_audited}
+use Rattle.nm_engine.proofs.Soundness.Sounded.{sound_is_audited}
 use Rattle.nm_engine.proofs.laws.sound_is_audited.Goals as goal
 
 pub returns : goal.returns

@@ -1,5 +1,5 @@
-use Rattle.nm_engine.proofs.Touched.{access_sound}
-use Rattle.nm_engine.proofs.Ran.{run_sound, batch_sound}
+use Rattle.nm_engine.proofs.Soundness.Touched.{access_sound}
+use Rattle.nm_engine.proofs.Soundness.Ran.{run_sound, batch_sound}
 use Rattle.nm_engine.proofs.laws.soundness_stays.Goals as goal
 
 pub returns-clause-accesses : goal.returns-clause-accesses

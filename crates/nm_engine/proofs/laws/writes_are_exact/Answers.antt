@@ -1,4 +1,4 @@
-use Rattle.nm_engine.proofs.Written.{writing_is_exact}
+use Rattle.nm_engine.proofs.Seen.Written.{writing_is_exact}
 use Rattle.nm_engine.proofs.laws.writes_are_exact.Goals as goal
 
 pub returns : goal.returns

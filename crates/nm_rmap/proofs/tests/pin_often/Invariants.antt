@@ -2,4 +2,4 @@ use Rattle.std.proofs.Common.{◌≡◌}
 use Rattle.nm_rmap.proofs.tests.pin_often.Given as goal
 
 abbrev pub invariant-loop : goal.invariant-loop
-invariant-loop g l = l.map.spots ≡ l.initial.map.spots
+invariant-loop g l = l.map.mappings ≡ l.initial.map.mappings

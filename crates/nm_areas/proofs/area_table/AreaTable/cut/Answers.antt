@@ -7,7 +7,7 @@ use Rattle.nm_areas.specs.Mapped.{AreasAreApart}
 use Rattle.nm_areas.specs.Mapped.{IsSomePages}
 use Rattle.nm_areas.specs.Mapped.{HasIndices}
 use Rattle.nm_areas.specs.Table.{Table}
-use Rattle.nm_areas.specs.Policing.{split_at}
+use Rattle.nm_areas.specs.Policy.{split_at}
 use Rattle.nm_areas.specs.Table.{with_areas}
 use Rattle.nm_areas.proofs.Beginning.{same_back}
 use Rattle.nm_areas.proofs.Cut.{undone}

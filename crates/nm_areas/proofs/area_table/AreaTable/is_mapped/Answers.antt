@@ -1,6 +1,6 @@
 use Rattle.std.proofs.Common.{◌+◌, ◌-◌, ◌∙◌, ap, arith, sym}
 use Rattle.nm_areas.specs.Mapped.{EndsLow}
-use Rattle.nm_areas.specs.Policing.{is_mapped}
+use Rattle.nm_areas.specs.Policy.{is_mapped}
 use Rattle.nm_areas.proofs.Parted.{All-among}
 use Rattle.nm_areas.proofs.Cut.{over_facts}
 use Rattle.nm_areas.proofs.Repoliced.{mapped_next}

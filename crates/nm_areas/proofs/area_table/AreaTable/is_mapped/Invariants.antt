@@ -1,5 +1,5 @@
 use Rattle.std.proofs.Common.{◌-◌, ◌≡◌}
-use Rattle.nm_areas.specs.Policing.{is_mapped}
+use Rattle.nm_areas.specs.Policy.{is_mapped}
 use Rattle.nm_areas.proofs.area_table.AreaTable.is_mapped.Given as goal
 
 abbrev pub invariant-loop-at : goal.invariant-loop-at

@@ -2,7 +2,7 @@ use Rattle.std.proofs.Common.{◌≡◌, ◌+◌, ◌∙◌, ap, arith, ℕ}
 use Rattle.std.specs.List.{flat_map}
 use Rattle.nm_types.specs.Map.{with_values}
 use Rattle.nm_areas.specs.Table.{Table}
-use Rattle.nm_areas.specs.Policing.{repoliced, painted}
+use Rattle.nm_areas.specs.Policy.{repoliced, painted}
 use Rattle.nm_areas.specs.Table.{with_areas}
 use Rattle.nm_areas.proofs.Cut.{areas_alone}
 use Rattle.nm_areas.proofs.Indexed.{paint_index}

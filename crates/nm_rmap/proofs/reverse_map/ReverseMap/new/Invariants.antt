@@ -3,6 +3,6 @@ use Rattle.nm_rmap.proofs.reverse_map.ReverseMap.new.Given as goal
 
 abbrev pub invariant-loop : goal.invariant-loop
 invariant-loop g l = record {
-  spots : l.spots.items ≡ replicate l.counter [];
+  mappings : l.mappings.items ≡ replicate l.counter [];
   pins : l.pins.items ≡ replicate l.counter 0;
 }

@@ -1,0 +1,142 @@
+//! The policy of a range of page numbers of a process, as `mbind(2)` sets it.
+
+ghost use Rattle.std.specs.List.{AllByRecursion, flat_map};
+ghost use Rattle.std.specs.List.Sorted.{IsStrictlySortedBy};
+ghost use Rattle.std.specs.Map.{keys_of};
+ghost use Rattle.std.specs.Prelude.{IfNone, IfSome, None, OnErr, OnOk, Some, false, true, ℕ, ◌%◌, ◌*◌, ◌+◌, ◌/◌, ◌<◌, ◌^◌, ◌≡◌, ◌≤◌};
+ghost use Rattle.nm_areas.specs.Does.{Makes};
+ghost use Rattle.nm_areas.specs.Effect.{with_policy};
+ghost use Rattle.nm_areas.specs.Mapped.{AreasAreApart, EndsLow, HasIndices, IsSomePages};
+ghost use Rattle.nm_areas.specs.Policy.{is_mapped, pages_of, painted, repoliced};
+ghost use Rattle.nm_areas.specs.Refused.{policy_refusal};
+ghost use Rattle.nm_areas.specs.Removed.{others};
+ghost use Rattle.nm_areas.specs.Table.{with_areas};
+ghost use Rattle.nm_types.specs.Map.{spot_cmp, with_values};
+ghost use Rattle.nm_types.specs.State.{page_at};
+
+use crate::area_error::AreaError;
+use crate::area_table::AreaTable;
+use crate::areas::Areas;
+use crate::scan::{next_area, put};
+use nm_types::{Area, Errno, Pid, Policy, Vpn};
+use std::alloc::{AllocError, Allocator};
+use std::collections::BTreeMap;
+
+impl<A: Allocator + Copy> Areas<A> {
+    /// Sets the policy of the whole pages of `len` bytes from an address on, and of no others: the areas of the process
+    /// are split at both ends, and those between have the policy. Areas are never merged.
+    ///
+    /// EINVAL: the address is not a page's, or the pages end past 2^64 - 1. Then EFAULT: one of the pages has no area.
+    /// No byte is no page, and then nothing is split. Memory is asked for only where the call is not refused, and there is
+    /// a byte.
+    pub fn split_policy(
+        &mut self,
+        pid: Pid,
+        addr: u64,
+        len: u64,
+        policy: Policy,
+    ) -> Result<(), AreaError>
+        ensures done { Makes result self.old self.new (policy_refusal self.old pid addr len) (with_policy self.old pid addr len policy) }
+        ensures memory { result ≡ Err AreaError.HostMemory → (policy_refusal self.old pid addr len ≡ None) × (0 < len) }
+        ensures pages { (q v : ℕ) → page_at self.new.areas q v ≡ page_at self.old.areas q v }
+    {
+        let Some((first, count)) = whole_pages(addr, len) else {
+            return Err(AreaError::Refused(Errno::Einval));
+        };
+        if !self.table.is_mapped(pid, first, count) {
+            return Err(AreaError::Refused(Errno::Efault));
+        }
+        if len > 0 {
+            self.table.set_policy(pid, first, count, policy)?;
+        }
+        Ok(())
+    }
+}
+
+impl<A: Allocator + Copy> AreaTable<A> {
+    /// Whether an area of the process is over each of so many pages from a page number on.
+    pub(crate) fn is_mapped(&self, pid: Pid, first: Vpn, count: u64) -> bool
+        requires apart { AreasAreApart self.now.areas }
+        requires whole { AllByRecursion IsSomePages self.now.areas }
+        requires low { AllByRecursion EndsLow self.now.areas }
+        requires end { first + count < 2 ^ 64 }
+        ensures { result ≡ is_mapped self.now.areas pid first count }
+    {
+        let end = first.number() + count;
+        let mut at = first.number();
+        while at < end {
+            let Some((start, area)) = self.over(pid, Vpn::new(at)) else {
+                return false;
+            };
+            at = start.number() + area.pages;
+        }
+        true
+    }
+
+    /// Splits the areas of the process at both ends of one or more pages from a page number on, and sets the policy of
+    /// those between. An error means that no area has changed.
+    pub(crate) fn set_policy(
+        &mut self,
+        pid: Pid,
+        first: Vpn,
+        count: u64,
+        policy: Policy,
+    ) -> Result<(), AllocError>
+        requires apart { AreasAreApart self.old.areas }
+        requires whole { AllByRecursion IsSomePages self.old.areas }
+        requires indices { AllByRecursion HasIndices self.old.areas }
+        requires ordered { IsStrictlySortedBy spot_cmp (keys_of self.old.areas) }
+        requires some { 0 < count }
+        requires end { first + count < 2 ^ 64 }
+        ensures ok { OnOk result (self.new ≡ with_areas self.old (flat_map (repoliced pid first (first + count) policy) self.old.areas)) }
+        ensures err { OnErr result (self.new ≡ self.old) }
+    {
+        let end = Vpn::new(first.number() + count);
+        self.cut(pid, first, end)?;
+        paint(&mut self.areas, pid, first, end, &policy);
+        Ok(())
+    }
+}
+
+/// The first page number and the count of the whole pages of `len` bytes from an address on, where it is a page's address
+/// and they end below 2^64.
+fn whole_pages(addr: u64, len: u64) -> Option<(Vpn, u64)>
+    ensures some { IfSome result (λ r. (r.0 ≡ addr / 4096) × (r.1 ≡ pages_of len) × (addr % 4096 ≡ 0) × (addr + 4096 * pages_of len < 2 ^ 64)) }
+    ensures none { IfNone result (addr % 4096 ≡ 0 → 2 ^ 64 ≤ addr + 4096 * pages_of len) }
+{
+    let count = len / 4096 + if len % 4096 == 0 { 0 } else { 1 };
+    if addr % 4096 == 0 && count <= (u64::MAX - addr) / 4096 {
+        Some((Vpn::of_address(addr), count))
+    } else {
+        None
+    }
+}
+
+/// Sets the policy of the areas of a process that begin from one page number up to another.
+fn paint<A: Allocator + Copy>(
+    areas: &mut BTreeMap<(Pid, Vpn), Area, A>,
+    pid: Pid,
+    first: Vpn,
+    end: Vpn,
+    policy: &Policy,
+)
+    requires { first ≤ end }
+    ensures { areas.new.entries ≡ with_values (painted pid first end policy.now) areas.old.entries }
+{
+    let mut at = first.number();
+    while let Some((start, area)) = next_area(areas, pid, Vpn::new(at), end) {
+        put(areas, (pid, start), policed(area, *policy));
+        at = start.number() + 1;
+    }
+}
+
+/// An area with another policy.
+fn policed(area: Area, policy: Policy) -> Area
+    ensures { result ≡ record area { policy = policy } }
+{
+    Area {
+        pages: area.pages,
+        policy,
+        page: area.page,
+    }
+}

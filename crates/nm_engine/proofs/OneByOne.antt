@@ -1,0 +1,5 @@
+pub mod Alike
+pub mod Looks
+pub mod Memory
+pub mod Placed
+pub mod Planned

@@ -1,0 +1,85 @@
+-- The bytes that a process has in one page.
+use Rattle.std.proofs.Common.{◌≡◌, ℕ, zero, suc, ◌+◌, ◌*◌, ◌/◌, ◌%◌, ◌<◌, ◌≤◌, List, [], ◌∷◌, refl, sym, ap, subst, ◌∙◌, arith}
+use Rattle.std.specs.Prelude.{Option, Some, None, IsSome, slice_index, replicate}
+use Rattle.std.specs.Option.{unwrap_or, option_map}
+use Rattle.std.proofs.lemmas.Nat.{div-mul-add, mod-mul-add}
+use Rattle.nm_types.specs.declared.page.Page.{Page}
+use Rattle.nm_types.specs.declared.sight.Sight.TheVariants.{ZeroPage}
+use Rattle.nm_types.specs.Map.{Map, get, page_cmp}
+use Rattle.nm_types.specs.State.{Process, State, page_at}
+use Rattle.nm_frames.specs.Store.{bytes_of}
+use Rattle.nm_runs.specs.Seen.{sight_at}
+use Rattle.nm_engine.specs.Memory.{byte_of, mem, mem_range}
+use Rattle.nm_engine.specs.Frames.{PagedFrames, stretch_of}
+use Rattle.nm_areas.specs.Table.{Table}
+use Rattle.nm_engine.specs.Shown.{shown}
+use Rattle.nm_engine.specs.Seeing.{frame_seen}
+use Rattle.nm_engine.specs.Sound.{IsSoundMidRun}
+use Rattle.nm_types.proofs.Maps.{exact_page, get-values}
+use Rattle.nm_engine.proofs.Together.Touches.{page_of_frame, zero_sees}
+
+module _ (s : State) (pid v : ℕ) (p : Page) (at : page_at s.areas pid v ≡ Some p) where
+  mem_here : (i : ℕ) → i < 4096 → mem s pid (v * 4096 + i) ≡ Some (byte_of s p (get page_cmp s.place p) i)
+  mem_here i lt =
+      let d = div-mul-add v 4096 i lt in
+      let r = mod-mul-add v 4096 i lt in
+      (λ j. option_map (λ q. byte_of s q (get page_cmp s.place q) (r j)) (page_at s.areas pid (d j)))
+      ∙ ap (option_map (λ q. byte_of s q (get page_cmp s.place q) i)) at
+
+  -- those that its frame has
+  range_here : (bytes : List ℕ) → ((i : ℕ) → byte_of s p (get page_cmp s.place p) i ≡ slice_index bytes i) → (i len : ℕ) → i + len ≤ 4096 → mem_range s pid (v * 4096 + i) len ≡ stretch_of bytes i len
+  range_here bytes same i zero fits = refl
+  range_here bytes same i (suc len) fits =
+      let next : v * 4096 + i + 1 ≡ v * 4096 + (i + 1) = omega arith in
+      ap (λ o. unwrap_or o 0 ∷ mem_range s pid (v * 4096 + i + 1) len) (mem_here i (omega (arith, fits)))
+      ∙ ap (λ b. b ∷ mem_range s pid (v * 4096 + i + 1) len) (same i)
+      ∙ ap (λ a. slice_index bytes i ∷ mem_range s pid a len) next
+      ∙ ap (λ xs. slice_index bytes i ∷ xs) (range_here bytes same (i + 1) len (omega (arith, fits)))
+
+  -- zeros where it has no frame
+  zeros_here : get page_cmp s.place p ≡ None → (i len : ℕ) → i + len ≤ 4096 → mem_range s pid (v * 4096 + i) len ≡ replicate len 0
+  zeros_here unplaced i zero fits = refl
+  zeros_here unplaced i (suc len) fits =
+      let next : v * 4096 + i + 1 ≡ v * 4096 + (i + 1) = omega arith in
+      ap (λ o. unwrap_or o 0 ∷ mem_range s pid (v * 4096 + i + 1) len) (mem_here i (omega (arith, fits)))
+      ∙ ap (λ o. byte_of s p o i ∷ mem_range s pid (v * 4096 + i + 1) len) unplaced
+      ∙ ap (λ a. 0 ∷ mem_range s pid a len) next
+      ∙ ap (λ xs. 0 ∷ xs) (zeros_here unplaced (i + 1) len (omega (arith, fits)))
+
+parted : (address : ℕ) → address ≡ address / 4096 * 4096 + address % 4096
+parted address = omega arith
+
+-- where the page of zeros is seen, the page that is shown has no frame
+zero_has_none : (s : State) (l : List ℕ) (pid v : ℕ) → IsSoundMidRun s l → sight_at s pid v ≡ Some ZeroPage → (p : Page) × (page_at s.areas pid v ≡ Some p) × (get page_cmp s.place p ≡ None)
+zero_has_none s l pid v h e =
+    let zero = h.zeros pid v e in (
+      zero.0,
+      zero.1,
+      elim (get page_cmp s.place zero.0) as (λ o. get page_cmp s.place zero.0 ≡ o → o ≡ None) [
+        | None ↦ λ k. refl
+        | Some frame ↦ λ k.
+            let seen = h.seen zero.0 (subst (λ (o : Option ℕ). IsSome o) (sym k) refl) zero.2 in
+            let there = h.shown seen.0 seen.1 zero.0 seen.2 in
+            let same = h.once seen.0 seen.1 pid v zero.0 there.0 zero.1 zero.2 in
+            absurd (zero_sees e zero.0 ((λ j. sight_at s (sym same.0 j) (sym same.1 j)) ∙ seen.2))
+      ] refl,
+    )
+
+-- what a process reads at an address inside a page
+module _ (tasks : Map ℕ Process) (m : Table) (x : PagedFrames) (online : List ℕ) (moved failed : ℕ) (l : List ℕ) (h : IsSoundMidRun (shown tasks m x online moved failed) l) (pid address len : ℕ) (fits : address % 4096 + len ≤ 4096) where
+  pub reads_frame : (f : ℕ) → frame_seen (shown tasks m x online moved failed) pid (address / 4096) ≡ Some f
+      → mem_range (shown tasks m x online moved failed) pid address len ≡ stretch_of (bytes_of x.frames f) (address % 4096) len
+  reads_frame f seen =
+      let page = page_of_frame x.place (sight_at (shown tasks m x online moved failed) pid (address / 4096)) f seen in
+      let at = (h.shown pid (address / 4096) page.0 page.1).0 in
+      let bytes : get page_cmp (shown tasks m x online moved failed).bytes page.0 ≡ Some (bytes_of x.frames f) =
+      get-values exact_page (λ q g. bytes_of x.frames g) x.place page.0 ∙ ap (option_map (bytes_of x.frames)) page.2 in
+      ap (λ a. mem_range (shown tasks m x online moved failed) pid a len) (parted address)
+      ∙ range_here (shown tasks m x online moved failed) pid (address / 4096) page.0 at (bytes_of x.frames f)
+      (λ i. ap (λ o. byte_of (shown tasks m x online moved failed) page.0 o i) page.2 ∙ ap (λ o. slice_index (unwrap_or o []) i) bytes) (address % 4096) len fits
+
+  pub reads_zeros : sight_at (shown tasks m x online moved failed) pid (address / 4096) ≡ Some ZeroPage → mem_range (shown tasks m x online moved failed) pid address len ≡ replicate len 0
+  reads_zeros seen =
+      let page = zero_has_none (shown tasks m x online moved failed) l pid (address / 4096) h seen in
+      ap (λ a. mem_range (shown tasks m x online moved failed) pid a len) (parted address)
+      ∙ zeros_here (shown tasks m x online moved failed) pid (address / 4096) page.0 page.1 page.2 (address % 4096) len fits

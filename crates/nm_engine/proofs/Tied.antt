@@ -1,0 +1,10 @@
+pub mod Cleared
+pub mod Mapped
+pub mod Moved
+pub mod New
+pub mod Pinned
+pub mod Removed
+pub mod Touched
+pub mod Remapped
+pub mod Tabled
+pub mod Counted

@@ -1,0 +1,13 @@
+pub mod Asked
+pub mod Audits
+pub mod Busy
+pub mod Found
+pub mod Joint
+pub mod Kept
+pub mod Paces
+pub mod Pinned
+pub mod Remade
+pub mod Paged
+pub mod Shows
+pub mod Free
+pub mod Touches

@@ -1,0 +1,187 @@
+-- What holds of a machine's frames, and what stays so.
+use Rattle.std.proofs.Common.{◌≡◌, ℕ, suc, zero, ◌+◌, ◌<◌, ◌≤◌, ◌≢◌, Bool, true, false, cond, List, [], ◌∷◌, ◌++◌, length, refl, sym, ap, subst, ◌∙◌, arith, length-set, eq-eqb, IsSome, ◌||◌}
+use Rattle.std.specs.Prelude.{Option, Some, None, nat_lt, ◌==◌, sum, drop, replicate, slice_get, slice_index, slice_index_or, slice_set}
+use Rattle.std.specs.Option.{unwrap_or}
+use Rattle.std.specs.List.{sum_by}
+use Rattle.std.specs.Map.{values_of}
+use Rattle.std.proofs.lemmas.Bool.{ltb-true}
+use Rattle.std.proofs.lemmas.List.{get_or-replicate, length-replicate, set_comm, set-set, set-get_or}
+use Rattle.std.proofs.lemmas.List.Sums.{sum_by-cons}
+use Rattle.nm_types.specs.declared.page.Page.{Page}
+use Rattle.nm_types.specs.Map.{Map, get, page_cmp}
+use Rattle.nm_types.specs.Layout.{Layout, frame_count, owner}
+use Rattle.nm_types.specs.Nodes.{is_in}
+use Rattle.nm_frames.specs.Store.{Store, IsHome, bytes_of}
+use Rattle.nm_nodes.specs.Pool as pool
+use Rattle.nm_engine.specs.Sound.{times, FramesAreOnce, IsSoundMidRun}
+use Rattle.nm_engine.specs.AddressSpaces.{SpacesView}
+use Rattle.nm_engine.specs.Shown.{paged_frames, shown_by}
+use Rattle.nm_engine.specs.Frames.{FramesView, IsWhole, PagedFrames, with_freed, CanFree, pool_of}
+use Rattle.nm_engine.proofs.Together.Paged.{IsStocked, free_of}
+use Rattle.nm_engine.proofs.Soundness.Frames.{here, times_cons, frame_freed, left_below}
+use Rattle.nm_engine.proofs.Soundness.Once.{counted_place}
+use Rattle.nm_engine.proofs.Soundness.New.{new_frames}
+use Rattle.nm_nodes.specs.Pool.{all_frames}
+
+-- the front of a list
+pub front_is : (xs : List ℕ) (f : ℕ) → slice_get xs 0 ≡ Some f → xs ≡ f ∷ drop 1 xs
+front_is [] f e = cc
+front_is (x ∷ xs) f e = let same : x ≡ f = cc in ap (λ y. y ∷ xs) same
+
+pub index_front : (xs : List ℕ) (f : ℕ) → slice_get xs 0 ≡ Some f → slice_index xs 0 ≡ f
+index_front [] f e = cc
+index_front (x ∷ xs) f e = cc
+
+-- a frame that stands somewhere is one of the machine's
+pub counted_below : (a b c f n : ℕ) → a + b + c ≡ cond (nat_lt f n) 1 0 → 1 ≤ a + b + c → f < n
+counted_below a b c f n e some =
+    elim (nat_lt f n) as (λ t. nat_lt f n ≡ t → a + b + c ≡ cond t 1 0 → f < n) [
+      | true ↦ λ t k. ltb-true f n t
+      | false ↦ λ t k. absurd (omega (arith, k, some))
+    ] refl e
+
+counted_once : (a b c : ℕ) (t : Bool) → a + b + c ≡ cond t 1 0 → a + b + c ≤ 1
+counted_once a b c true e = omega (arith, e)
+counted_once a b c false e = omega (arith, e)
+
+-- a list's front is counted among the free frames
+counted_front : (free : List (List ℕ)) (node f : ℕ) → slice_get (slice_index_or free node []) 0 ≡ Some f → 1 ≤ sum_by (times f) free
+counted_front [] node f e = cc
+counted_front (xs ∷ free) zero f e =
+    let whole : sum_by (times f) (xs ∷ free) ≡ times f xs + sum_by (times f) free = sum_by-cons (times f) xs free in
+    let here_it : times f xs ≡ here f f + times f (drop 1 xs) = ap (times f) (front_is xs f e) ∙ times_cons f f (drop 1 xs) in
+    let one : here f f ≡ 1 = ap (λ b. cond b 1 0) (eq-eqb f f refl) in
+    omega (arith, whole, here_it, one)
+counted_front (xs ∷ free) (suc node) f e =
+    let whole : sum_by (times f) (xs ∷ free) ≡ times f xs + sum_by (times f) free = sum_by-cons (times f) xs free in
+    let rest = counted_front free node f e in
+    omega (arith, whole, rest)
+
+pub place_below : (x : PagedFrames) (page : Page) (f : ℕ) → IsStocked x → get page_cmp x.place page ≡ Some f → f < frame_count x.layout
+place_below x page f h e =
+    counted_below (times f (values_of x.place)) (sum_by (times f) x.free) (times f x.vacated) f (frame_count x.layout) (h.once.once f)
+    (let some = counted_place x.place page f e in omega (arith, some))
+
+pub front_below : (x : PagedFrames) (node f : ℕ) → IsStocked x → slice_get (free_of x node) 0 ≡ Some f → f < frame_count x.layout
+front_below x node f h e =
+    counted_below (times f (values_of x.place)) (sum_by (times f) x.free) (times f x.vacated) f (frame_count x.layout) (h.once.once f)
+    (let some = counted_front x.free node f e in omega (arith, some))
+
+-- a page's frame is not free
+pub apart_from_front : (x : PagedFrames) (page : Page) (node from to : ℕ) → IsStocked x → get page_cmp x.place page ≡ Some from → slice_get (free_of x node) 0 ≡ Some to → from ≢ to
+apart_from_front x page node from to h placed front e =
+    let one = counted_place x.place page from placed in
+    let two = counted_front x.free node from (front ∙ ap Some (sym e)) in
+    let most = counted_once (times from (values_of x.place)) (sum_by (times from) x.free) (times from x.vacated) _ (h.once.once from) in
+    omega (arith, one, two, most)
+
+-- every frame is home after one got other bytes
+no : false ≡ true → ⊥
+no e = cc
+
+all_home : (n k : ℕ) (bytes : List ℕ) → k < n → IsHome (replicate n (Some bytes)) k
+all_home n k bytes lt =
+    record {
+      in_range = let len : length (replicate n (Some bytes)) ≡ n = length-replicate n (Some bytes) in omega (arith, len, lt);
+      here = subst (λ (o : Option (List ℕ)). IsSome o) (sym (get_or-replicate n k (Some bytes) None lt)) refl;
+    }
+
+-- the frames of a new machine, all of them home
+pub new_shelf : (g : Layout) (frames : Store) (free : List (List ℕ)) (vacated : List ℕ) (room n : ℕ) → n ≡ frame_count g → frames ≡ replicate n (Some (replicate 4096 0)) → free ≡ all_frames 0 g.sizes
+    → IsWhole (record { layout = g; frames = frames; free = free; vacated = vacated; room = room })
+new_shelf g frames free vacated room n count f l =
+    record {
+      lists = ap length l ∙ (new_frames g).lists;
+      buffers = ap length f ∙ (length-replicate n (Some (replicate 4096 0)) ∙ count);
+      home = λ k lt. subst (λ fs. IsHome fs k) (sym f) (all_home n k (replicate 4096 0) (omega (arith, lt, count)));
+    }
+
+-- as many lists after frames were freed
+pub lists_stay : (p : pool.Pool) (frames : List ℕ) → length (with_freed p frames).lists ≡ length p.lists
+lists_stay p [] = refl
+lists_stay p (frame ∷ frames) = lists_stay (pool.appended p frame) frames ∙ length-set p.lists (owner p.sizes frame) (slice_index_or p.lists (owner p.sizes frame) [] ++ frame ∷ [])
+
+pub sizes_stay : (p : pool.Pool) (frames : List ℕ) → (with_freed p frames).sizes ≡ p.sizes
+sizes_stay p [] = refl
+sizes_stay p (frame ∷ frames) = sizes_stay (pool.appended p frame) frames
+
+-- frames and the pages that are in them, each frame in one place
+pub stocked_is : (y : SpacesView) (k : FramesView) (online : List ℕ) (moved failed : ℕ) (left : List ℕ) → k.vacated ≡ left → IsSoundMidRun (shown_by y k online moved failed) left → IsWhole k → IsStocked (paged_frames y k)
+stocked_is y k online moved failed left is h shelf =
+    record { in_order = h.order.place; once = subst (FramesAreOnce k.layout y.place k.free) (sym is) h.frames; buffers = shelf.buffers; home = shelf.home }
+
+-- the frames that are left to be freed, from the first on
+pub record IsFreeing (g : Layout) (place : Map Page ℕ) (free : List (List ℕ)) (left : List ℕ) (frame : ℕ) : Type 0 where
+  pub in_machine : frame < sum g.sizes
+  pub taken : is_in (slice_index_or free (owner g.sizes frame) []) frame ≡ false
+  pub next : FramesAreOnce g place (slice_set free (owner g.sizes frame) (slice_index_or free (owner g.sizes frame) [] ++ frame ∷ [])) left
+
+not_in : (xs : List ℕ) (f : ℕ) → times f xs ≡ 0 → is_in xs f ≡ false
+not_in [] f e = refl
+not_in (x ∷ xs) f e =
+    elim (x == f) as (λ b. (x == f) ≡ b → (b || is_in xs f) ≡ false) [
+      | true ↦ λ h. let one : here f x ≡ 1 = ap (λ b. cond b 1 0) h in absurd (omega (arith, e, times_cons f x xs, one))
+      | false ↦ λ h. not_in xs f (omega (arith, e, times_cons f x xs))
+    ] refl
+
+pub part_of : (free : List (List ℕ)) (node f : ℕ) → times f (slice_index_or free node []) ≤ sum_by (times f) free
+part_of [] node f = omega arith
+part_of (xs ∷ free) zero f = let whole : sum_by (times f) (xs ∷ free) ≡ times f xs + sum_by (times f) free = sum_by-cons (times f) xs free in omega (arith, whole)
+part_of (xs ∷ free) (suc node) f =
+    let whole : sum_by (times f) (xs ∷ free) ≡ times f xs + sum_by (times f) free = sum_by-cons (times f) xs free in
+    let rest = part_of free node f in
+    omega (arith, whole, rest)
+
+pub freeing : (g : Layout) (place : Map Page ℕ) (free : List (List ℕ)) (left : List ℕ) (frame : ℕ) → FramesAreOnce g place free (frame ∷ left) → IsFreeing g place free left frame
+freeing g place free left frame h =
+    let most = counted_once (times frame (values_of place)) (sum_by (times frame) free) (times frame (frame ∷ left)) _ (h.once frame) in
+    let one : here frame frame ≡ 1 = ap (λ b. cond b 1 0) (eq-eqb frame frame refl) in
+    let part = part_of free (owner g.sizes frame) frame in
+    record {
+      in_machine = left_below g place free frame left h;
+      taken = not_in _ frame (omega (arith, most, one, part, times_cons frame frame left));
+      next = frame_freed g place free frame left h;
+    }
+
+-- the frames that a run left can be freed, and then every frame is free or a place
+pub record IsFreed (g : Layout) (place : Map Page ℕ) (p : pool.Pool) (left : List ℕ) : Type 0 where
+  pub can : CanFree p left
+  pub sizes : (with_freed p left).sizes ≡ g.sizes
+  pub once : FramesAreOnce g place (with_freed p left).lists []
+
+pub all_freed : (g : Layout) (place : Map Page ℕ) (p : pool.Pool) (left : List ℕ) → p.sizes ≡ g.sizes → FramesAreOnce g place p.lists left → IsFreed g place p left
+all_freed g place p [] e h = record { can = tt; sizes = e; once = h }
+all_freed g place p (frame ∷ left) e h =
+    let now = freeing g place p.lists left frame h in
+    let after = all_freed g place (pool.appended p frame) left e
+    (subst (λ sizes. FramesAreOnce g place (slice_set p.lists (owner sizes frame) (slice_index_or p.lists (owner sizes frame) [] ++ frame ∷ [])) left) (sym e) now.next) in
+    record {
+      can = (
+        subst (λ sizes. frame < sum sizes) (sym e) now.in_machine,
+        subst (λ sizes. is_in (slice_index_or p.lists (owner sizes frame) []) frame ≡ false) (sym e) now.taken,
+        after.can,
+      );
+      sizes = after.sizes;
+      once = after.once;
+    }
+
+-- a frame's bytes go out and come back, and another frame's with them
+pub copied_frame : (frames : Store) (from to : ℕ) (bytes : List ℕ) → from ≢ to → slice_index_or frames from None ≡ Some bytes
+    → slice_set (slice_set (slice_set (slice_set frames from None) to None) from (Some bytes)) to (Some bytes) ≡ slice_set frames to (Some bytes)
+copied_frame frames from to bytes apart is =
+    let home : slice_set frames from (Some bytes) ≡ frames = ap (λ o. slice_set frames from o) (sym is) ∙ set-get_or frames from None in
+    ap (λ fs. slice_set fs to (Some bytes))
+    (sym (set_comm (slice_set frames from None) from to (Some bytes) None apart) ∙ (ap (λ fs. slice_set fs to None) (set-set frames from None (Some bytes)) ∙ ap (λ fs. slice_set fs to None) home))
+    ∙ set-set frames to None (Some bytes)
+
+unwrapped : (o : Option (List ℕ)) → IsSome o → o ≡ Some (unwrap_or o [])
+unwrapped None h = cc
+unwrapped (Some x) h = refl
+
+pub home_bytes : (frames : Store) (frame : ℕ) → IsHome frames frame → slice_index_or frames frame None ≡ Some (bytes_of frames frame)
+home_bytes frames frame h = unwrapped (slice_index_or frames frame None) h.here
+
+-- the frames that a run left can be freed
+pub can_free : (y : SpacesView) (k : FramesView) (online : List ℕ) (moved failed : ℕ) → IsSoundMidRun (shown_by y k online moved failed) k.vacated → CanFree (pool_of k) k.vacated
+can_free y k online moved failed h =
+    (all_freed k.layout y.place (pool_of k) k.vacated refl h.frames).can

@@ -1,0 +1,145 @@
+-- What the pages of a run make of a machine's parts.
+use Rattle.std.proofs.Common.{◌≡◌, ℕ, suc, zero, ◌+◌, ◌-◌, ◌<◌, ◌≤◌, List, [], ◌∷◌, ◌++◌, length, drop, refl, sym, ap, subst, ◌∙◌, arith, append_assoc, length-append, ℤ}
+use Rattle.std.specs.Prelude.{Some, slice_get, slice_index, slice_index_or}
+use Rattle.std.proofs.Math.Seq.{drop-cons}
+use Rattle.nm_types.specs.declared.page.Page.{Page}
+use Rattle.nm_types.specs.Map.{Map, get, page_cmp}
+use Rattle.nm_types.specs.Layout.{frame_count}
+use Rattle.nm_types.specs.State.{Process, State, free_list}
+use Rattle.nm_runs.specs.declared.Class.{Class}
+use Rattle.nm_runs.specs.declared.Class.TheVariants.{Status, Move}
+use Rattle.nm_runs.specs.declared.Wanted.{Wanted}
+use Rattle.nm_runs.specs.Status.{status_or_move}
+use Rattle.nm_engine.specs.Run.{moved_page, decided, one, each, left, failures, with_all_free, added, counted}
+use Rattle.nm_engine.specs.Frames.{PagedFrames, stretch_of}
+use Rattle.nm_engine.proofs.Together.Paged.{IsStocked, free_of, restock_page, free_all}
+use Rattle.nm_areas.specs.Table.{Table}
+use Rattle.nm_engine.specs.Shown.{shown}
+use Rattle.nm_engine.specs.Sound.{IsSoundMidRun}
+use Rattle.nm_engine.specs.MidRun.{IsKept}
+use Rattle.nm_engine.proofs.Soundness.Frames.{left-append}
+use Rattle.nm_engine.proofs.Soundness.Moved.{decided_sound, freed_sound, counted_sound}
+use Rattle.nm_engine.proofs.Together.Shows.{restocked_shows, freed_shows}
+
+-- the bytes from one place up to another
+pub stretch_step : (bytes : List ℕ) (k end : ℕ) → k < end → stretch_of bytes k (end - k) ≡ slice_index bytes k ∷ stretch_of bytes (k + 1) (end - (k + 1))
+stretch_step bytes k end lt =
+    let n : end - k ≡ suc (end - (k + 1)) = omega (arith, lt) in
+    ap (λ n. stretch_of bytes k n) n
+
+-- an item and those behind it
+drop_from : {A : Type 0} (xs : List A) (k : ℕ) (x : A) → slice_get xs k ≡ Some x → drop k xs ≡ x ∷ drop (suc k) xs
+drop_from [] zero x e = cc
+drop_from [] (suc k) x e = cc
+drop_from (y ∷ xs) zero x e = let same : y ≡ x = cc in ap (λ z. z ∷ xs) same
+drop_from (y ∷ xs) (suc k) x e = drop_from xs k x e
+
+pub got_drop : {A : Type 0} (xs : List A) (k : ℕ) (x : A) → slice_get xs k ≡ Some x → drop k xs ≡ x ∷ drop (k + 1) xs
+got_drop xs k x e =
+    let n : suc k ≡ k + 1 = omega arith in
+    drop_from xs k x e ∙ ap (λ n. x ∷ drop n xs) n
+
+pub drop_item : {A : Type 0} (xs : List A) (k : ℕ) (x : A) → k < length xs → x ≡ slice_index_or xs k x → drop k xs ≡ x ∷ drop (k + 1) xs
+drop_item xs k x lt is =
+    let n : suc k ≡ k + 1 = omega arith in
+    drop-cons xs k x lt ∙ ap (λ y. y ∷ drop (suc k) xs) (sym is) ∙ ap (λ n. x ∷ drop n xs) n
+
+front_there : (xs : List ℕ) → 0 < length xs → xs ≡ slice_index xs 0 ∷ drop 1 xs
+front_there [] some = absurd (omega (arith, some))
+front_there (x ∷ xs) some = refl
+
+pub some_front : (xs : List ℕ) (x : ℕ) → slice_get xs 0 ≡ Some x → 0 < length xs
+some_front [] x e = cc
+some_front (y ∷ xs) x e = omega arith
+
+-- the frame that a page leaves
+pub move_left : (s : State) (page : Page) (from target : ℕ) → 0 < length (free_list s target) → from ∷ [] ≡ left (decided s target (Move page from)).taken
+move_left s page from target some = sym (ap (λ fs. left (moved_page s target page from fs).taken) (front_there (free_list s target) some))
+
+module _ (tasks : Map ℕ Process) (m : Table) (x : PagedFrames) (online : List ℕ) (moved failed : ℕ) where
+  -- a run's end
+  pub end_shows : (y : PagedFrames) (n k total failures : ℕ) → y ≡ free_all x → total ≡ added moved n → failures ≡ added failed k
+      → shown tasks m y online total failures ≡ counted (with_all_free (shown tasks m x online moved failed) x.vacated) n k
+  end_shows y n k total failures freed t f =
+      let s = with_all_free (shown tasks m x online moved failed) x.vacated in
+      let same : shown tasks m (free_all x) online moved failed ≡ s = freed_shows tasks m x online moved failed in
+      ap (λ y. shown tasks m y online total failures) freed
+      ∙ ap (λ (s : State). record s { moved = total; failed = failures }) same
+      ∙ ap (λ n. record s { moved = n; failed = failures }) (t ∙ ap (λ (s : State). added s.moved n) same)
+      ∙ ap (λ k. record s { moved = added s.moved n; failed = k }) (f ∙ ap (λ (s : State). added s.failed k) same)
+
+  pub end_kept : {c : ℕ} (y : PagedFrames) (n k total failures : ℕ) → y ≡ free_all x → total ≡ added moved n → failures ≡ added failed k
+      → IsKept (shown tasks m x online moved failed) x.vacated c → IsKept (shown tasks m y online total failures) y.vacated c
+  end_kept y n k total failures freed t f h =
+      let s = shown tasks m x online moved failed in
+      record {
+        sound = subst (λ l. IsSoundMidRun (shown tasks m y online total failures) l) (sym (ap (λ (y : PagedFrames). y.vacated) freed))
+            (subst (λ s. IsSoundMidRun s []) (sym (end_shows y n k total failures freed t f)) (counted_sound (with_all_free s x.vacated) [] n k (freed_sound x.vacated s h.sound)));
+        as_many = h.as_many ∙ sym (ap (λ (y : PagedFrames). frame_count y.layout) freed);
+      }
+
+  -- a page that moves
+  pub move_shows : (y : PagedFrames) (page : Page) (from target : ℕ) → IsStocked x → get page_cmp x.place page ≡ Some from → 0 < length (free_of x target) → y ≡ restock_page x page from target
+      → shown tasks m y online moved failed ≡ (decided (shown tasks m x online moved failed) target (Move page from)).state
+  move_shows y page from target h placed some is =
+      let front = front_there (free_of x target) some in
+      ap (λ y. shown tasks m y online moved failed) is
+      ∙ restocked_shows tasks m x online moved failed h page from target (slice_index (free_of x target) 0) (drop 1 (free_of x target)) placed front
+      ∙ sym (ap (λ fs. (moved_page (shown tasks m x online moved failed) target page from fs).state) front)
+
+  pub move_kept : {c : ℕ} (y : PagedFrames) (page : Page) (from target : ℕ) → IsStocked x → get page_cmp x.place page ≡ Some from → 0 < length (free_of x target) → y ≡ restock_page x page from target
+      → IsKept (shown tasks m x online moved failed) x.vacated c → IsKept (shown tasks m y online moved failed) y.vacated c
+  move_kept y page from target paged_frames placed some is h =
+      let s = shown tasks m x online moved failed in
+      let left_now : x.vacated ++ left (decided s target (Move page from)).taken ≡ y.vacated =
+      ap (λ l. x.vacated ++ l) (sym (move_left s page from target some)) ∙ sym (ap (λ (y : PagedFrames). y.vacated) is) in
+      record {
+        sound = subst (λ t. IsSoundMidRun t y.vacated) (sym (move_shows y page from target paged_frames placed some is))
+            (subst (λ l. IsSoundMidRun (decided s target (Move page from)).state l) left_now (decided_sound s x.vacated target (Move page from) h.sound placed));
+        as_many = h.as_many ∙ sym (ap (λ (y : PagedFrames). frame_count y.layout) is);
+      }
+
+-- a request leaves the nodes as they are, and at most one frame
+page_layout : (s : State) (target : ℕ) (p : Page) (from : ℕ) (fs : List ℕ) → (moved_page s target p from fs).state.layout ≡ s.layout
+page_layout s target p from [] = refl
+page_layout s target p from (f ∷ fs) = refl
+
+pub decided_layout : (s : State) (target : ℕ) (c : Class) → (decided s target c).state.layout ≡ s.layout
+decided_layout s target (Status status) = refl
+decided_layout s target (Move p from) = page_layout s target p from (free_list s target)
+
+page_leaves : (s : State) (target : ℕ) (p : Page) (from : ℕ) (fs : List ℕ) → length (left (moved_page s target p from fs).taken) ≤ 1
+page_leaves s target p from [] = omega arith
+page_leaves s target p from (f ∷ fs) = omega arith
+
+pub decided_leaves : (s : State) (target : ℕ) (c : Class) → length (left (decided s target c).taken) ≤ 1
+decided_leaves s target (Status status) = omega arith
+decided_leaves s target (Move p from) = page_leaves s target p from (free_list s target)
+
+-- the first of several requests, and those behind it
+pub record Step (s : State) (l : List ℕ) (before : List ℤ) (target : ℕ) (ws rest : List Wanted) (t : State) (m : List ℕ) (told : List ℤ) : Type 0 where
+  pub state : (each t target rest).state ≡ (each s target ws).state
+  pub left : m ++ left (each t target rest).taken ≡ l ++ left (each s target ws).taken
+  pub statuses : told ++ (each t target rest).statuses ≡ before ++ (each s target ws).statuses
+  pub layout : t.layout ≡ s.layout
+  pub frames : length m ≤ length l + 1
+  pub one_less : length ws ≡ length rest + 1
+
+pub step : (s : State) (l : List ℕ) (before : List ℤ) (target : ℕ) (ws : List Wanted) (w : Wanted) (rest : List Wanted) (t : State) (m : List ℕ) (told : List ℤ) (status : ℤ) → ws ≡ w ∷ rest
+    → t ≡ (one s target w).state → m ≡ l ++ left (one s target w).taken → told ≡ before ++ status ∷ [] → status ≡ (one s target w).status → Step s l before target ws rest t m told
+step s l before target ws w rest t m told status first state kept pushed is =
+    let now = one s target w in
+    let later = each now.state target rest in
+    record {
+      state = ap (λ u. (each u target rest).state) state ∙ sym (ap (λ xs. (each s target xs).state) first);
+      left = ap (λ u. m ++ left (each u target rest).taken) state ∙ ap (λ xs. xs ++ left later.taken) kept ∙ append_assoc l (left now.taken) (left later.taken)
+          ∙ ap (λ xs. l ++ xs) (sym (left-append now.taken later.taken)) ∙ sym (ap (λ xs. l ++ left (each s target xs).taken) first);
+      statuses = ap (λ u. told ++ (each u target rest).statuses) state ∙ ap (λ xs. xs ++ later.statuses) pushed ∙ append_assoc before (status ∷ []) later.statuses
+          ∙ ap (λ x. before ++ x ∷ later.statuses) is ∙ sym (ap (λ xs. before ++ (each s target xs).statuses) first);
+      layout = ap (λ (u : State). u.layout) state ∙ decided_layout s target (status_or_move s target w);
+      frames =
+          let len : length m ≡ length l + length (left now.taken) = ap length kept ∙ length-append l (left now.taken) in
+          let most = decided_leaves s target (status_or_move s target w) in
+          omega (arith, len, most);
+      one_less = let n : length ws ≡ suc (length rest) = ap length first in omega (arith, n);
+    }

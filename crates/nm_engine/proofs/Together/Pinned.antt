@@ -1,0 +1,88 @@
+-- What pins make of a machine's parts, and which are refused.
+use Rattle.std.proofs.Common.{List, ◌≡◌, ℕ, ◌+◌, ◌-◌, ◌<◌, ◌≤◌, ◌/◌, Bool, false, sym, ap, subst, ◌∙◌, arith}
+use Rattle.std.specs.Prelude.{Some, None, Result, Ok, Err, OnOk, OnErr, IfErr, nat_le, ◌==◌, if◌then◌else◌}
+use Rattle.std.proofs.lemmas.Bool.{lt-leb, le-leb, ne_eqb, eq-eqb}
+use Rattle.nm_types.specs.declared.page.Page.{Page}
+use Rattle.nm_types.specs.declared.errno.Errno.{Errno}
+use Rattle.nm_types.specs.declared.errno.Errno.TheVariants.{Esrch, Ebusy, Einval}
+use Rattle.nm_types.specs.declared.sight.Sight.TheVariants.{Sees}
+use Rattle.nm_types.specs.Map.{get, replace, page_cmp}
+use Rattle.nm_types.specs.State.{State}
+use Rattle.nm_runs.specs.Seen.{sight_at, pins_of, look}
+use Rattle.nm_engine.specs.Effect.{with_pins, pin, unpin}
+use Rattle.nm_engine.specs.Refused.{is_unknown, pins_refusal, pin_refusal, unpin_refusal}
+use Rattle.nm_engine.specs.Does.{Alters}
+use Rattle.nm_engine.specs.AddressSpaces.{SpacesView, with_pins_of}
+use Rattle.nm_engine.specs.Frames.{FramesView}
+use Rattle.nm_engine.specs.Shown.{shown_by}
+use Rattle.nm_engine.specs.Sound.{IsSoundMidRun}
+use Rattle.nm_engine.specs.MidRun.{MidRun, IsKept}
+use Rattle.nm_engine.proofs.Soundness.Called.{repinned_sound, few_pins, look_there}
+use Rattle.nm_engine.proofs.Together.Touches.{inside, outside}
+
+module _ (y z : SpacesView) (k : FramesView) (online : List ℕ) (moved failed : ℕ) (page : Page) (n : ℕ) (kept : IsKept (shown_by y k online moved failed) k.vacated y.frames) where
+  -- another number of pins, or none
+  pub pinned_kept : (r : Result (Unit {0}) Errno) → OnOk r (n ≤ 65535) → OnOk r (z ≡ with_pins_of y page n) → OnErr r (z ≡ y) → IsKept (shown_by z k online moved failed) k.vacated z.frames
+  pinned_kept (Ok done) most ok err =
+      subst (λ (w : SpacesView). IsKept (shown_by w k online moved failed) k.vacated w.frames) (sym ok)
+      (record { sound = repinned_sound (shown_by y k online moved failed) k.vacated page n kept.sound most; as_many = kept.as_many })
+  pinned_kept (Err e) most ok err = subst (λ (w : SpacesView). IsKept (shown_by w k online moved failed) k.vacated w.frames) (sym err) kept
+
+-- one pin fewer
+pub one_fewer : (s : State) (l : List ℕ) (page : Page) → IsSoundMidRun s l → (r : Result (Unit {0}) Errno) → OnOk r (pins_of s page - 1 ≤ 65535)
+one_fewer s l page sound (Ok done) = let few = few_pins s l page sound in omega (arith, few)
+one_fewer s l page sound (Err e) = tt
+
+-- one pin more
+pub one_more : (n : ℕ) (r : Result (Unit {0}) Errno) → OnOk r (n < 65535) → OnOk r (n + 1 ≤ 65535)
+one_more n (Ok done) room = omega (arith, room)
+one_more n (Err e) room = tt
+
+pub ok_then : {P Q : Type 0} (r : Result (Unit {0}) Errno) → (P → Q) → OnOk r P → OnOk r Q
+ok_then (Ok done) f p = f p
+ok_then (Err e) f p = tt
+
+pub err_then : {P Q : Type 0} (r : Result (Unit {0}) Errno) → (P → Q) → OnErr r P → OnErr r Q
+err_then (Ok done) f p = tt
+err_then (Err e) f p = f p
+
+-- a page that a process sees at an address, told of the value and shown by the fields
+module _ (s : State) (l : List ℕ) (room : ℕ) (x : MidRun) (is : record { state = s; left = l; room = room } ≡ x) (pid address : ℕ) (page : Page) (frame : ℕ) (sound : IsSoundMidRun s l)
+    (known : is_unknown x.state pid ≡ false) (seen : sight_at x.state pid (address / 4096) ≡ Some (Sees page)) (placed : get page_cmp x.state.place page ≡ Some frame) where
+  seen_inside : sight_at s pid (address / 4096) ≡ Some (Sees page)
+  seen_inside = inside s l room x is (λ s. sight_at s pid (address / 4096) ≡ Some (Sees page)) seen
+
+  refusal_there : (is_bad : ℕ → Bool) (bad : Errno) → (if is_unknown s pid then Some Esrch else pins_refusal s is_bad bad (look s pid (address / 4096))) ≡ (if is_bad (pins_of s page) then Some bad else None)
+  refusal_there is_bad bad =
+      ap (λ b. if b then Some Esrch else pins_refusal s is_bad bad (look s pid (address / 4096))) (inside s l room x is (λ s. is_unknown s pid ≡ false) known)
+      ∙ ap (pins_refusal s is_bad bad) (look_there s l pid (address / 4096) page frame sound seen_inside (inside s l room x is (λ s. get page_cmp s.place page ≡ Some frame) placed))
+
+  pin_inside : (t : State) (r : Result (Unit {0}) Errno) → OnOk r (pins_of s page < 65535) → OnOk r (t ≡ record s { pins = replace page_cmp s.pins page (pins_of s page + 1) })
+      → IfErr r (λ e. (e ≡ Ebusy) × (65535 ≤ pins_of s page)) → OnErr r (t ≡ s) → Alters r s t (pin_refusal s pid address) (pin s pid address)
+  pin_inside t (Ok done) some ok full err = (
+    refusal_there (nat_le 65535) Ebusy ∙ ap (λ b. if b then Some Ebusy else None) (lt-leb 65535 (pins_of s page) some),
+    ok ∙ sym (ap (λ o. with_pins s o (λ n. n + 1)) seen_inside),
+  )
+  pin_inside t (Err e) some ok full err = (
+    refusal_there (nat_le 65535) Ebusy ∙ ap (λ b. if b then Some Ebusy else None) (le-leb 65535 (pins_of s page) full.1) ∙ ap Some (sym full.0),
+    err,
+  )
+
+  unpin_inside : (t : State) (r : Result (Unit {0}) Errno) → OnOk r (0 < pins_of s page) → OnOk r (t ≡ record s { pins = replace page_cmp s.pins page (pins_of s page - 1) })
+      → IfErr r (λ e. (e ≡ Einval) × (pins_of s page ≡ 0)) → OnErr r (t ≡ s) → Alters r s t (unpin_refusal s pid address) (unpin s pid address)
+  unpin_inside t (Ok done) some ok none err = (
+    refusal_there (λ n. n == 0) Einval ∙ ap (λ b. if b then Some Einval else None) (ne_eqb (pins_of s page) 0 (λ e. omega (arith, e, some))),
+    ok ∙ sym (ap (λ o. with_pins s o (λ n. n - 1)) seen_inside),
+  )
+  unpin_inside t (Err e) some ok none err = (
+    refusal_there (λ n. n == 0) Einval ∙ ap (λ b. if b then Some Einval else None) (eq-eqb (pins_of s page) 0 none.1) ∙ ap Some (sym none.0),
+    err,
+  )
+
+  pub pin_alters : (t : State) (r : Result (Unit {0}) Errno) → OnOk r (pins_of s page < 65535) → OnOk r (t ≡ record s { pins = replace page_cmp s.pins page (pins_of s page + 1) })
+      → IfErr r (λ e. (e ≡ Ebusy) × (65535 ≤ pins_of s page)) → OnErr r (t ≡ s) → Alters r x.state t (pin_refusal x.state pid address) (pin x.state pid address)
+  pin_alters t r some ok full err = outside s l room x is (λ s. Alters r s t (pin_refusal s pid address) (pin s pid address)) (pin_inside t r some ok full err)
+
+  pub unpin_alters : (t : State) (r : Result (Unit {0}) Errno) → OnOk r (0 < pins_of s page) → OnOk r (t ≡ record s { pins = replace page_cmp s.pins page (pins_of s page - 1) })
+      → IfErr r (λ e. (e ≡ Einval) × (pins_of s page ≡ 0)) → OnErr r (t ≡ s) → Alters r x.state t (unpin_refusal x.state pid address) (unpin x.state pid address)
+  unpin_alters t r some ok none err = outside s l room x is (λ s. Alters r s t (unpin_refusal s pid address) (unpin s pid address)) (unpin_inside t r some ok none err)

@@ -1,0 +1,48 @@
+-- What changes of areas alone make of a machine's parts.
+use Rattle.std.proofs.Common.{◌≡◌, ℕ, List, [], Bool, sym, ap, subst, ◌∙◌}
+use Rattle.std.specs.Prelude.{Option, None, Err}
+use Rattle.nm_types.specs.declared.errno.Errno.{Errno}
+use Rattle.nm_types.specs.declared.area.Policy.{Policy}
+use Rattle.nm_areas.specs.declared.area_error.AreaError.{AreaError}
+use Rattle.nm_areas.specs.declared.area_error.AreaError.TheVariants.{Refused, HostMemory}
+use Rattle.nm_areas.specs.Does.{Makes}
+use Rattle.nm_areas.specs.Effect.{inserted, attached, with_policy}
+use Rattle.nm_areas.specs.Mapped.{Mapped}
+use Rattle.nm_engine.specs.AddressSpaces.{SpacesView, mapped_of, table_of, with_mapped}
+use Rattle.nm_engine.specs.Frames.{FramesView}
+use Rattle.nm_engine.specs.Shown.{shown_by, paged_frames}
+use Rattle.nm_engine.specs.Refused.{map_refusal, attach_refusal}
+use Rattle.nm_engine.specs.Sound.{IsSound}
+use Rattle.nm_engine.specs.MidRun.{IsKept}
+use Rattle.nm_engine.proofs.Together.Kept.{kept_mapped}
+use Rattle.nm_engine.proofs.Soundness.Called.{map_sound, attach_sound}
+use Rattle.nm_engine.proofs.Soundness.Policed.{policy_sound}
+
+-- a call that did nothing changed no area
+pub nothing_made : (T : Type 0) (e : AreaError) (old new : Mapped) (refusal : Option Errno) (after : Mapped) → Makes {T = T} (Err e) old new refusal after → new ≡ old
+nothing_made T (Refused errno) old new refusal after h = h.1
+nothing_made T HostMemory old new refusal after h = h
+
+module _ (y z : SpacesView) (k : FramesView) (online : List ℕ) (moved failed : ℕ) (is : z ≡ with_mapped y (mapped_of z)) (kept : IsKept (shown_by y k online moved failed) k.vacated y.frames) where
+  pub kept_same : mapped_of z ≡ mapped_of y → IsKept (shown_by z k online moved failed) k.vacated z.frames
+  kept_same same = subst (λ (w : SpacesView). IsKept (shown_by w k online moved failed) k.vacated w.frames) (sym (is ∙ ap (with_mapped y) same)) kept
+
+  kept_after : (m : Mapped) → mapped_of z ≡ m → k.vacated ≡ [] → (IsSound (shown_by y k online moved failed) → IsSound (shown_by (with_mapped y m) k online moved failed)) → IsKept (shown_by z k online moved failed) k.vacated z.frames
+  kept_after m now none keeps =
+      subst (λ (w : SpacesView). IsKept (shown_by w k online moved failed) k.vacated w.frames) (sym (is ∙ ap (with_mapped y) now))
+      (kept_mapped y.processes (table_of y) (paged_frames y k) online moved failed (table_of (with_mapped y m)) none kept keeps)
+
+  pub kept_inserted : (pid address pages : ℕ) (shared : Bool) → k.vacated ≡ [] → map_refusal (shown_by y k online moved failed) pid address pages ≡ None
+      → mapped_of z ≡ inserted (mapped_of y) pid address pages shared → IsKept (shown_by z k online moved failed) k.vacated z.frames
+  kept_inserted pid address pages shared none fine now =
+      kept_after (inserted (mapped_of y) pid address pages shared) now none (λ sound. map_sound (shown_by y k online moved failed) pid address pages shared sound fine)
+
+  pub kept_attached : (pid address segment offset pages : ℕ) → k.vacated ≡ [] → attach_refusal (shown_by y k online moved failed) pid address segment offset pages ≡ None
+      → mapped_of z ≡ attached (mapped_of y) pid address segment offset pages → IsKept (shown_by z k online moved failed) k.vacated z.frames
+  kept_attached pid address segment offset pages none fine now =
+      kept_after (attached (mapped_of y) pid address segment offset pages) now none (λ sound. attach_sound (shown_by y k online moved failed) pid address segment offset pages sound fine)
+
+  pub kept_policed : (pid address len : ℕ) (policy : Policy) → mapped_of z ≡ with_policy (mapped_of y) pid address len policy → IsKept (shown_by z k online moved failed) k.vacated z.frames
+  kept_policed pid address len policy now =
+      subst (λ (w : SpacesView). IsKept (shown_by w k online moved failed) k.vacated w.frames) (sym (is ∙ ap (with_mapped y) now))
+      (record { sound = policy_sound (shown_by y k online moved failed) k.vacated pid address len policy kept.sound; as_many = kept.as_many })

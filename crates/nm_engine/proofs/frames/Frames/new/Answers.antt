@@ -1,0 +1,11 @@
+use Rattle.std.proofs.Common.{ap}
+use Rattle.nm_nodes.specs.Pool.{Pool}
+use Rattle.nm_engine.proofs.Together.Free.{new_shelf}
+use Rattle.nm_engine.proofs.frames.Frames.new.Goals as goal
+
+pub invariant_of-result : goal.invariant_of-result
+invariant_of-result g c = (
+  ap (λ (p : Pool). p.sizes) c.in_ok-nodes.ensures,
+  new_shelf c.args.geometry c.in_ok-frames.frames c.in_ok-nodes.nodes.lists c.new-3.result.items _ c.frame_count.result
+      c.frame_count.ensures c.in_ok-frames.ensures (ap (λ (p : Pool). p.lists) c.in_ok-nodes.ensures),
+)

@@ -1,0 +1,19 @@
+use Rattle.std.proofs.Common.{◌+◌, ◌-◌, ◌∷◌, ◌++◌, [], refl, ap, sym, ◌∙◌, arith, append_assoc}
+use Rattle.nm_frames.specs.Store.{bytes_of}
+use Rattle.nm_engine.specs.Frames.{stretch_of}
+use Rattle.nm_engine.proofs.Together.Paces.{stretch_step}
+use Rattle.nm_engine.proofs.frames.copy_bytes.Goals as goal
+
+pub loop-k-preserved : goal.loop-k-preserved
+loop-k-preserved g c =
+    let bytes = bytes_of c.args.frames.now c.args.frame in
+    let end = c.args.at + c.args.len in
+    let k = c.loop-k.k in
+    let rest = stretch_of bytes (k + 1) (end - (k + 1)) in
+    record {
+      copied = ap (λ xs. xs ++ rest) c.push_reserved.ensures.items ∙ append_assoc c.loop-k.bytes.items (c.byte.result ∷ []) rest
+          ∙ ap (λ b. c.loop-k.bytes.items ++ b ∷ rest) c.byte.ensures.value ∙ ap (λ xs. c.loop-k.bytes.items ++ xs) (sym (stretch_step bytes k end c.loop-k-test.true))
+          ∙ c.loop-k.invariant.copied;
+      end = refl;
+      room = omega (arith, c.loop-k.invariant.room, c.loop-k-test.true, c.push_reserved.ensures.len, c.push_reserved.ensures.capacity);
+    }

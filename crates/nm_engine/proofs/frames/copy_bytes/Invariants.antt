@@ -1,0 +1,11 @@
+use Rattle.std.proofs.Common.{◌≡◌, ◌+◌, ◌-◌, ◌≤◌, ◌++◌, vec_len, vec_capacity}
+use Rattle.nm_frames.specs.Store.{bytes_of}
+use Rattle.nm_engine.specs.Frames.{stretch_of}
+use Rattle.nm_engine.proofs.frames.copy_bytes.Given as goal
+
+abbrev pub invariant-loop-k : goal.invariant-loop-k
+invariant-loop-k g l = record {
+  copied : l.bytes.items ++ stretch_of (bytes_of l.frames l.frame) l.k (l.k-end - l.k) ≡ l.fn.bytes.items ++ stretch_of (bytes_of l.frames l.frame) l.at l.len;
+  end : l.k-end ≡ l.at + l.len;
+  room : vec_len l.bytes + (l.k-end - l.k) ≤ vec_capacity l.bytes;
+}

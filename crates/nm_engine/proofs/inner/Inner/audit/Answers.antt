@@ -1,0 +1,15 @@
+use Rattle.std.proofs.Common.{◌≡◌, [], ap, subst, ◌∙◌}
+use Rattle.nm_engine.specs.MidRun.{MidRun}
+use Rattle.nm_engine.specs.Audited.{is_audited, numbered}
+use Rattle.nm_engine.specs.Shown.{shown_by}
+use Rattle.nm_engine.specs.Sound.{IsSoundMidRun}
+use Rattle.nm_engine.proofs.Soundness.Sounded.{sound_is_audited}
+use Rattle.nm_engine.proofs.inner.Inner.audit.Goals as goal
+
+pub returns-clause-sound : goal.returns-clause-sound
+returns-clause-sound g c none =
+    let i = c.self.inside in
+    let s = shown_by i.spaces i.frames i.online i.totals.moved i.totals.failed in
+    let left : i.frames.vacated ≡ [] = ap (λ (a : MidRun). a.left) c.self.view_is ∙ none in
+    c.in_ok-once.ensures ∙ ap (is_audited s.layout (numbered 0 s.free)) (c.as_slice.ensures.value ∙ c.in_ok-places.ensures)
+    ∙ sound_is_audited s (subst (λ l. IsSoundMidRun s l) left c.self.invariant.sound)

@@ -1,0 +1,80 @@
+use Rattle.std.proofs.Common.{◌≡◌, ◌<◌, ◌∙◌, refl, sym, ap, subst, Some, None, Ok}
+use Rattle.std.specs.Prelude.{slice_get}
+use Rattle.std.specs.Ordering.{nat_cmp}
+use Rattle.nm_types.specs.declared.page.Page.{Page}
+use Rattle.nm_types.specs.declared.sight.Sight.TheVariants.{Sees}
+use Rattle.nm_types.specs.Map.{get, page_cmp}
+use Rattle.nm_runs.specs.Seen.{sight_in, sight_at}
+use Rattle.nm_policy.specs.Order.{first_touch_order}
+use Rattle.nm_engine.specs.Touch.{filled, first_free}
+use Rattle.nm_types.specs.Layout.{frame_count}
+use Rattle.nm_engine.specs.AddressSpaces.{SpacesView, table_of, with_new_page}
+use Rattle.nm_engine.specs.Frames.{FramesView, free_on}
+use Rattle.nm_engine.specs.Shown.{shown, shown_by, paged_frames}
+use Rattle.nm_engine.specs.MidRun.{MidRun, IsKept, IsResolved, spot_at}
+use Rattle.nm_engine.specs.Seeing.{frame_of}
+use Rattle.nm_engine.proofs.Together.Joint.{kept_stocked, front_spare, stocked_both}
+use Rattle.nm_engine.proofs.Together.Touches.{inside, found_free, no_front, short_list, sees_now, filled_shows, filled_kept, filled_is, get_set_same}
+use Rattle.nm_engine.proofs.inner.Inner.fill.Goals as goal
+
+pub front-requires : goal.front-requires
+front-requires g c =
+    let found = inside _ _ _ _ c.self.view_is (λ s. first_free s.free (first_touch_order s.layout s.online c.args.t.info.home c.args.t.info.allowed c.args.t.policy c.args.t.page.index) ≡ Some c.in-Some.node) (sym c.in_ok-node.ensures ∙ c.in-Some.is) in
+    subst (λ n. c.in-Some.node < n) c.self.invariant.sound.frames.lists (short_list c.self.inside.frames.free c.in-Some.node (found_free c.self.inside.frames.free _ c.in-Some.node found))
+
+pub unreachable-requires : goal.unreachable-requires
+unreachable-requires g c =
+    let found = inside _ _ _ _ c.self.view_is (λ s. first_free s.free (first_touch_order s.layout s.online c.args.t.info.home c.args.t.info.allowed c.args.t.policy c.args.t.page.index) ≡ Some c.in-Some.node) (sym c.in_ok-node.ensures ∙ c.in-Some.is) in
+    no_front (free_on c.self.inside.frames c.in-Some.node) (sym c.front.ensures.front ∙ c.in_default-front.is) (found_free c.self.inside.frames.free _ c.in-Some.node found)
+
+pub allocate-requires-clause-frame : goal.allocate-requires-clause-frame
+allocate-requires-clause-frame g c =
+    let front : slice_get (free_on c.self.inside.frames c.in-Some.node) 0 ≡ Some c.in-Some-front.frame = sym c.front.ensures.front ∙ c.in-Some-front.is in
+    (front_spare c.self.inside.spaces c.self.inside.frames c.self.inside.online c.self.inside.totals.moved c.self.inside.totals.failed c.self.invariant c.front.ensures.shelf c.in-Some.node c.in-Some-front.frame front).known
+
+pub allocate-requires-clause-spare : goal.allocate-requires-clause-spare
+allocate-requires-clause-spare g c =
+    let front : slice_get (free_on c.self.inside.frames c.in-Some.node) 0 ≡ Some c.in-Some-front.frame = sym c.front.ensures.front ∙ c.in-Some-front.is in
+    (front_spare c.self.inside.spaces c.self.inside.frames c.self.inside.online c.self.inside.totals.moved c.self.inside.totals.failed c.self.invariant c.front.ensures.shelf c.in-Some.node c.in-Some-front.frame front).place
+
+pub zero-requires : goal.zero-requires
+zero-requires g c =
+    let front : slice_get (free_on c.self.inside.frames c.in-Some.node) 0 ≡ Some c.in-Some-front.frame = sym c.front.ensures.front ∙ c.in-Some-front.is in
+    subst (λ (k : FramesView). c.in-Some-front.frame < frame_count k.layout) (sym c.take_front.ensures.rest) (front_spare c.self.inside.spaces c.self.inside.frames c.self.inside.online c.self.inside.totals.moved c.self.inside.totals.failed c.self.invariant c.front.ensures.shelf c.in-Some.node c.in-Some-front.frame front).below
+
+pub invariant_of-self-2 : goal.invariant_of-self-2
+invariant_of-self-2 g c =
+    let found = inside _ _ _ _ c.self.view_is (λ s. first_free s.free (first_touch_order s.layout s.online c.args.t.info.home c.args.t.info.allowed c.args.t.policy c.args.t.page.index) ≡ Some c.in-Some.node) (sym c.in_ok-node.ensures ∙ c.in-Some.is) in
+    let front : slice_get (free_on c.self.inside.frames c.in-Some.node) 0 ≡ Some c.in-Some-front.frame = sym c.front.ensures.front ∙ c.in-Some-front.is in
+    let touched = inside _ _ _ _ c.self.view_is (λ s. IsResolved s c.args.t c.requires.touched.0 c.requires.touched.1) c.requires.touched.2 in
+    let unplaced = inside _ _ _ _ c.self.view_is (λ s. get page_cmp s.place c.args.t.page ≡ None) c.requires.unplaced in
+    let unseen = inside _ _ _ _ c.self.view_is (λ s. (q : Page) → sight_at s c.args.t.pid c.args.t.vpn ≡ Some (Sees q) → ⊥) c.requires.unseen in
+    let is = c.in_ok-allocate.ensures.ok c.requires.touched.0 touched.known in
+    let to = stocked_both c.self.inside.spaces c.allocate.new.self c.self.inside.frames c.take_front.new.self c.zero.new.self c.args.t.pid c.args.t.vpn c.requires.touched.0 c.args.t.page c.in-Some.node c.in-Some-front.frame is c.take_front.ensures.rest c.zero.ensures front in
+    let whole = kept_stocked c.self.inside.spaces c.self.inside.frames c.self.inside.online c.self.inside.totals.moved c.self.inside.totals.failed c.self.invariant c.front.ensures.shelf in
+    let vacated : c.zero.new.self.vacated ≡ c.self.inside.frames.vacated = ap (λ (k : FramesView). k.vacated) c.zero.ensures ∙ ap (λ (k : FramesView). k.vacated) c.take_front.ensures.rest in
+    subst (λ l. IsKept (shown_by c.allocate.new.self c.zero.new.self c.self.inside.online c.self.inside.totals.moved c.self.inside.totals.failed) l c.allocate.new.self.frames) (sym vacated)
+    (subst (λ (z : SpacesView). IsKept (shown z.processes (table_of z) (paged_frames c.allocate.new.self c.zero.new.self) c.self.inside.online c.self.inside.totals.moved c.self.inside.totals.failed) c.self.inside.frames.vacated z.frames) (sym is)
+    (filled_kept c.self.inside.spaces.processes (table_of c.self.inside.spaces) (paged_frames c.self.inside.spaces c.self.inside.frames) c.self.inside.online c.self.inside.totals.moved c.self.inside.totals.failed _ c.args.t c.requires.touched.0 c.requires.touched.1 c.self.invariant touched c.in-Some.node (with_new_page c.self.inside.spaces c.args.t.pid c.requires.touched.0 c.args.t.vpn c.args.t.page c.in-Some-front.frame).processes (paged_frames c.allocate.new.self c.zero.new.self) whole refl to unplaced (found_free c.self.inside.frames.free _ c.in-Some.node found) unseen))
+
+pub returns-clause-touches : goal.returns-clause-touches
+returns-clause-touches g c p a known =
+    let found = inside _ _ _ _ c.self.view_is (λ s. first_free s.free (first_touch_order s.layout s.online c.args.t.info.home c.args.t.info.allowed c.args.t.policy c.args.t.page.index) ≡ Some c.in-Some.node) (sym c.in_ok-node.ensures ∙ c.in-Some.is) in
+    let front : slice_get (free_on c.self.inside.frames c.in-Some.node) 0 ≡ Some c.in-Some-front.frame = sym c.front.ensures.front ∙ c.in-Some-front.is in
+    let touched = inside _ _ _ _ c.self.view_is (λ s. IsResolved s c.args.t p a) known in
+    let unplaced = inside _ _ _ _ c.self.view_is (λ s. get page_cmp s.place c.args.t.page ≡ None) c.requires.unplaced in
+    let is = c.in_ok-allocate.ensures.ok p touched.known in
+    let to = stocked_both c.self.inside.spaces c.allocate.new.self c.self.inside.frames c.take_front.new.self c.zero.new.self c.args.t.pid c.args.t.vpn p c.args.t.page c.in-Some.node c.in-Some-front.frame is c.take_front.ensures.rest c.zero.ensures front in
+    let whole = kept_stocked c.self.inside.spaces c.self.inside.frames c.self.inside.online c.self.inside.totals.moved c.self.inside.totals.failed c.self.invariant c.front.ensures.shelf in
+    ap (λ (y : MidRun). filled y.state (spot_at c.args.t p a)) (sym c.self.view_is)
+    ∙ filled_is c.self.inside.spaces.processes (table_of c.self.inside.spaces) (paged_frames c.self.inside.spaces c.self.inside.frames) c.self.inside.online c.self.inside.totals.moved c.self.inside.totals.failed _ c.args.t p a c.self.invariant touched c.in-Some.node found
+    ∙ ap Ok (sym (ap (λ (z : SpacesView). shown z.processes (table_of z) (paged_frames c.allocate.new.self c.zero.new.self) c.self.inside.online c.self.inside.totals.moved c.self.inside.totals.failed) is
+    ∙ filled_shows c.self.inside.spaces.processes (table_of c.self.inside.spaces) (paged_frames c.self.inside.spaces c.self.inside.frames) c.self.inside.online c.self.inside.totals.moved c.self.inside.totals.failed _ c.args.t p a c.self.invariant touched c.in-Some.node (with_new_page c.self.inside.spaces c.args.t.pid p c.args.t.vpn c.args.t.page c.in-Some-front.frame).processes (paged_frames c.allocate.new.self c.zero.new.self) whole refl to unplaced (found_free c.self.inside.frames.free _ c.in-Some.node found)))
+
+pub returns-clause-frame : goal.returns-clause-frame
+returns-clause-frame g c =
+    let touched = inside _ _ _ _ c.self.view_is (λ s. IsResolved s c.args.t c.requires.touched.0 c.requires.touched.1) c.requires.touched.2 in
+    let is = c.in_ok-allocate.ensures.ok c.requires.touched.0 touched.known in
+    ap (λ (z : SpacesView). frame_of z.place (sight_in (get nat_cmp z.processes c.args.t.pid) c.args.t.vpn)) is
+    ∙ ap (frame_of (with_new_page c.self.inside.spaces c.args.t.pid c.requires.touched.0 c.args.t.vpn c.args.t.page c.in-Some-front.frame).place) (sees_now c.self.inside.spaces.processes (table_of c.self.inside.spaces) (paged_frames c.self.inside.spaces c.self.inside.frames) c.self.inside.online c.self.inside.totals.moved c.self.inside.totals.failed _ c.args.t c.requires.touched.0 c.requires.touched.1 c.self.invariant touched _ (with_new_page c.self.inside.spaces c.args.t.pid c.requires.touched.0 c.args.t.vpn c.args.t.page c.in-Some-front.frame).processes refl)
+    ∙ get_set_same c.self.inside.spaces.place c.args.t.page c.in-Some-front.frame

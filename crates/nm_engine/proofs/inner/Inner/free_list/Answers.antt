@@ -1,0 +1,36 @@
+use Rattle.std.proofs.Common.{◌≡◌, arith, ℕ, List, ap, subst, ◌∙◌}
+use Rattle.std.specs.Prelude.{Option, None, Result, Ok, Err}
+use Rattle.nm_types.specs.declared.errno.Errno.{Errno}
+use Rattle.nm_engine.specs.declared.machine_error.MachineError.{MachineError}
+use Rattle.nm_engine.specs.declared.machine_error.MachineError.TheVariants.{Refused, HostMemory}
+use Rattle.nm_engine.specs.Does.{AsksLast}
+use Rattle.nm_types.specs.State.{free_list}
+use Rattle.nm_engine.specs.Refused.{list_refusal}
+use Rattle.nm_engine.specs.MidRun.{MidRun}
+use Rattle.nm_engine.proofs.Together.Kept.{seen, list_fine}
+use Rattle.nm_engine.specs.AddressSpaces.{table_of}
+use Rattle.nm_engine.specs.Shown.{paged_frames}
+use Rattle.nm_engine.proofs.inner.Inner.free_list.Goals as goal
+
+pub returns-clause-told : goal.returns-clause-told
+returns-clause-told g c =
+    let fine : list_refusal c.args.self.now.state c.args.node ≡ None =
+    let i = c.self.inside in
+    subst (λ (a : MidRun). list_refusal a.state c.args.node ≡ None) c.self.view_is
+    (list_fine (seen i.spaces.processes (table_of i.spaces) (paged_frames i.spaces i.frames) i.online i.totals.moved i.totals.failed) c.args.node (omega (arith, c.if-index-node_count.false, c.index.ensures, c.node_count.ensures.count)))
+    in
+    let frames : List ℕ = c.in_ok-free_list.field-0.items in
+    (fine, c.in_ok-free_list.ensures ∙ ap (λ (a : MidRun). free_list a.state c.args.node) c.self.view_is)
+
+-- a call that is not refused may ask for memory
+may_ask : {T : Type 0} (r : Result T MachineError) (refusal : Option Errno) → refusal ≡ None → AsksLast r refusal
+may_ask (Ok value) refusal none = tt
+may_ask (Err (Refused e)) refusal none = tt
+may_ask (Err HostMemory) refusal none = none
+
+pub returns-in_err-free_list-clause-memory : goal.returns-in_err-free_list-clause-memory
+returns-in_err-free_list-clause-memory g c =
+    let i = c.self.inside in
+    may_ask c.from_residual.result (list_refusal c.args.self.now.state c.args.node)
+    (subst (λ (a : MidRun). list_refusal a.state c.args.node ≡ None) c.self.view_is
+    (list_fine (seen i.spaces.processes (table_of i.spaces) (paged_frames i.spaces i.frames) i.online i.totals.moved i.totals.failed) c.args.node (omega (arith, c.if-index-node_count.false, c.index.ensures, c.node_count.ensures.count))))

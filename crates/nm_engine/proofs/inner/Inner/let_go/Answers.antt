@@ -1,0 +1,30 @@
+use Rattle.std.proofs.Common.{◌≡◌, ◌+◌, ◌/◌, List, ℕ, [], refl, ap, sym, subst, ◌∙◌, arith}
+use Rattle.nm_types.specs.declared.page.Page.{Page}
+use Rattle.nm_engine.specs.Effect.{dropped}
+use Rattle.nm_engine.specs.Frames.{pool_of, CanFree}
+use Rattle.nm_engine.specs.MidRun.{MidRun}
+use Rattle.nm_engine.proofs.Soundness.Gone.{frames_of, can_go, gone_shows, gone_kept}
+use Rattle.nm_engine.proofs.inner.Inner.let_go.Goals as goal
+
+pub free_each-requires : goal.free_each-requires
+free_each-requires g c =
+    let i = c.self.inside in
+    let none : i.frames.vacated ≡ [] = ap (λ (a : MidRun). a.left) c.self.view_is ∙ c.requires.left in
+    subst (λ (fs : List (Page × ℕ)). CanFree (pool_of i.frames) (frames_of fs)) (sym (c.as_slice.ensures.value ∙ c.in_ok-freed.ensures.freed))
+    (can_go i.spaces i.frames i.online i.totals.moved i.totals.failed c.args.pid (c.args.addr / 4096) (c.args.addr / 4096 + c.args.pages) none c.self.invariant.sound)
+
+pub invariant_of-self-2 : goal.invariant_of-self-2
+invariant_of-self-2 g c =
+    let i = c.self.inside in
+    let none : i.frames.vacated ≡ [] = ap (λ (a : MidRun). a.left) c.self.view_is ∙ c.requires.left in
+    gone_kept i.spaces i.frames i.online i.totals.moved i.totals.failed c.args.pid (c.args.addr / 4096) (c.args.addr / 4096 + c.args.pages) c.remove.new.self c.free_each.new.frames _
+    (omega arith) none c.self.invariant c.in_ok-freed.ensures.ok (c.as_slice.ensures.value ∙ c.in_ok-freed.ensures.freed) c.free_each.ensures
+
+pub returns-clause-done : goal.returns-clause-done
+returns-clause-done g c =
+    let i = c.self.inside in (
+      refl,
+      gone_shows i.spaces i.frames i.online i.totals.moved i.totals.failed c.args.pid (c.args.addr / 4096) (c.args.addr / 4096 + c.args.pages) c.remove.new.self c.free_each.new.frames _
+          c.self.invariant.sound.pins.same_pages c.in_ok-freed.ensures.ok (c.as_slice.ensures.value ∙ c.in_ok-freed.ensures.freed) c.free_each.ensures
+          ∙ ap (λ (a : MidRun). dropped a.state c.args.pid (c.args.addr / 4096) (c.args.addr / 4096 + c.args.pages)) c.self.view_is,
+    )

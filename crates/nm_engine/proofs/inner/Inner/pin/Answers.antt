@@ -1,0 +1,19 @@
+use Rattle.std.proofs.Common.{ap}
+use Rattle.nm_engine.specs.Shown.{shown_by}
+use Rattle.nm_engine.specs.AddressSpaces.{SpacesView}
+use Rattle.nm_engine.proofs.Together.Pinned.{one_more, ok_then, err_then, pinned_kept, pin_alters}
+use Rattle.nm_engine.proofs.inner.Inner.pin.Goals as goal
+
+pub invariant_of-self : goal.invariant_of-self
+invariant_of-self g c =
+    let i = c.self.inside in
+    pinned_kept i.spaces c.pin.new.self i.frames i.online i.totals.moved i.totals.failed c.in_ok-page.page _ c.self.invariant c.pin.result
+    (one_more _ c.pin.result c.pin.ensures.room) c.pin.ensures.ok c.pin.ensures.err
+
+pub returns-clause-done : goal.returns-clause-done
+returns-clause-done g c =
+    let i = c.self.inside in
+    let to = λ (w : SpacesView). shown_by w i.frames i.online i.totals.moved i.totals.failed in
+    let page = c.in_ok-page in
+    pin_alters _ _ _ c.args.self.now c.self.view_is c.args.pid c.args.addr page.page page.frame c.self.invariant.sound page.ensures.known page.ensures.seen page.ensures.placed (to c.pin.new.self) c.pin.result
+    c.pin.ensures.room (ok_then c.pin.result (ap to) c.pin.ensures.ok) c.pin.ensures.full (err_then c.pin.result (ap to) c.pin.ensures.err)

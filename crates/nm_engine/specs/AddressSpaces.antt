@@ -1,0 +1,128 @@
+-- The address spaces of all processes: what processes see, the areas, and the frames and pins of pages.
+use Rattle.std.specs.Prelude.{ℕ, ◌==◌, [], if◌then◌else◌}
+use Rattle.std.specs.Option.{unwrap_or}
+use Rattle.std.specs.Ordering.{nat_cmp}
+use Rattle.std.specs.List.{fold}
+use Rattle.nm_types.specs.declared.page.Page.{Page}
+use Rattle.nm_types.specs.declared.area.Area.{Area}
+use Rattle.nm_types.specs.declared.area.Segment.{Segment}
+use Rattle.nm_types.specs.declared.sight.Sight.{Sight}
+use Rattle.nm_types.specs.declared.sight.Sight.TheVariants.{ZeroPage, Sees}
+use Rattle.nm_types.specs.Map.{Map, get, set, replace, with_values, page_cmp}
+use Rattle.nm_types.specs.State.{Process, page_at}
+use Rattle.nm_tables.specs.declared.entry.Entry.{Entry}
+use Rattle.nm_tables.specs.declared.entry.Entry.TheVariants.{Zero, Frame, Held}
+use Rattle.nm_areas.specs.Table.{Table}
+use Rattle.nm_areas.specs.Mapped.{Mapped}
+use Rattle.nm_areas.specs.Removed.{areas_left, segments_left, pages_gone, place_left}
+use Rattle.nm_rmap.specs.Mappers.{Mappers, pins_of}
+use Rattle.nm_engine.specs.ProcessTable.{Task}
+use Rattle.nm_engine.specs.Tables.{seeing, blind_between}
+use Rattle.std.specs.Prelude.{length}
+
+pub record SpacesView : Type 0 where
+  -- by pid
+  pub processes : Map ℕ Process
+  -- by pid and first page number
+  pub areas : Map (ℕ × ℕ) Area
+  pub segments : Map ℕ Segment
+  -- the number of the next segment
+  pub next : ℕ
+  -- of each page that has a frame: the frame, and how often it is pinned
+  pub place : Map Page ℕ
+  pub pins : Map Page ℕ
+  -- how many frames there are
+  pub frames : ℕ
+
+-- the areas and the segments
+abbrev pub table_of : SpacesView → Table
+table_of y = record { areas = y.areas; segments = y.segments; next = y.next }
+
+-- the areas, the segments, and the frames of pages
+abbrev pub mapped_of : SpacesView → Mapped
+mapped_of y = record { areas = y.areas; segments = y.segments; next = y.next; place = y.place }
+
+-- the page that an area of a process shows at a page number, and some page where no area is
+abbrev pub page_here : Map (ℕ × ℕ) Area → ℕ → ℕ → Page
+page_here areas pid v = unwrap_or (page_at areas pid v) (record { segment = 0; index = 0 })
+
+-- what a process sees at a page number by the entry there
+abbrev pub sight_of : Map (ℕ × ℕ) Area → ℕ → ℕ → Entry → Sight
+sight_of areas pid v Zero = ZeroPage
+sight_of areas pid v (Frame f) = Sees (page_here areas pid v)
+sight_of areas pid v (Held f) = Sees (page_here areas pid v)
+
+-- a process by its table
+abbrev pub process_of : Map (ℕ × ℕ) Area → ℕ → Task → Process
+process_of areas pid t =
+    record {
+      uid = t.info.uid;
+      privileged = t.info.privileged;
+      home = t.info.home;
+      allowed = t.info.allowed;
+      sees = with_values (sight_of areas pid) t.table;
+    }
+
+-- the pins of each page that has a frame
+abbrev pub pins_in : Mappers → Map Page ℕ → Map Page ℕ
+pins_in r place = with_values (λ page frame. pins_of r frame) place
+
+-- page tables, areas and the reverse map together
+abbrev pub spaces_view : Map ℕ Task → Mapped → Mappers → SpacesView
+spaces_view tasks m r =
+    record {
+      processes = with_values (process_of m.areas) tasks;
+      areas = m.areas;
+      segments = m.segments;
+      next = m.next;
+      place = m.place;
+      pins = pins_in r m.place;
+      frames = length r.mappings;
+    }
+
+-- so many frames and nothing else
+abbrev pub no_spaces : ℕ → SpacesView
+no_spaces frames =
+    record { processes = []; areas = []; segments = []; next = 0; place = []; pins = []; frames = frames }
+
+-- the areas and segments may change
+abbrev pub with_mapped : SpacesView → Mapped → SpacesView
+with_mapped y m = record y { areas = m.areas; segments = m.segments; next = m.next }
+
+-- a process sees this at a page number from now on
+abbrev pub with_seen : SpacesView → ℕ → Process → ℕ → Sight → SpacesView
+with_seen y pid p v sight = record y { processes = replace nat_cmp y.processes pid (seeing p v sight) }
+
+-- a page gets a frame, and a process sees it
+abbrev pub with_new_page : SpacesView → ℕ → Process → ℕ → Page → ℕ → SpacesView
+with_new_page y pid p v page frame =
+    record (with_seen y pid p v (Sees page)) {
+      place = set page_cmp y.place page frame;
+      pins = set page_cmp y.pins page 0;
+    }
+
+-- a page has another frame
+abbrev pub with_moved : SpacesView → Page → ℕ → SpacesView
+with_moved y page frame = record y { place = set page_cmp y.place page frame }
+
+-- how often a page is pinned
+abbrev pub pins_here : SpacesView → Page → ℕ
+pins_here y page = unwrap_or (get page_cmp y.pins page) 0
+
+-- a page has another number of pins
+abbrev pub with_pins_of : SpacesView → Page → ℕ → SpacesView
+with_pins_of y page pins = record y { pins = replace page_cmp y.pins page pins }
+
+-- a process no longer sees what it saw from one page number up to another, its areas' parts there are gone, and so are
+-- the frames and pins of pages that no area covers any more
+abbrev pub without_range : SpacesView → ℕ → ℕ → ℕ → SpacesView
+without_range y pid first end =
+    let areas = areas_left y.areas pid first end in
+    let gone = pages_gone y.areas pid first end in
+    record y {
+      processes = with_values (λ q p. if q == pid then blind_between first end p else p) y.processes;
+      areas = areas;
+      segments = segments_left y.segments areas;
+      place = fold (place_left areas) y.place gone;
+      pins = fold (place_left areas) y.pins gone;
+    }

@@ -1,0 +1,66 @@
+-- The frames of a machine: which pages they hold, which are free, and what bytes are in them.
+use Rattle.std.specs.Prelude.{◌≡◌, ℕ, zero, suc, ◌+◌, ◌<◌, false, sum, List, [], ◌∷◌, length, slice_index, slice_index_or}
+use Rattle.std.specs.List.{fold}
+use Rattle.nm_types.specs.declared.page.Page.{Page}
+use Rattle.nm_types.specs.Map.{Map}
+use Rattle.nm_types.specs.Layout.{Layout, node_count, frame_count, owner}
+use Rattle.nm_types.specs.Nodes.{is_in}
+use Rattle.nm_frames.specs.Store.{Store, IsHome}
+use Rattle.nm_nodes.specs.Pool.{Pool, list_of, appended}
+
+-- frames by themselves
+pub record FramesView : Type 0 where
+  pub layout : Layout
+  -- by frame its bytes
+  pub frames : Store
+  -- for each node its free frames, the front first
+  pub free : List (List ℕ)
+  -- the frames that the pages of a run have left, and how many there may be
+  pub vacated : List ℕ
+  pub room : ℕ
+
+-- a list for each node, and as many buffers as frames, all of them home
+pub record IsWhole (k : FramesView) : Type 0 where
+  pub lists : length k.free ≡ node_count k.layout
+  pub buffers : length k.frames ≡ frame_count k.layout
+  pub home : (frame : ℕ) → frame < frame_count k.layout → IsHome k.frames frame
+
+-- the free frames of a node
+abbrev pub free_on : FramesView → ℕ → List ℕ
+free_on k node = slice_index_or k.free node []
+
+-- the free frames of all nodes
+abbrev pub pool_of : FramesView → Pool
+pool_of k = record { sizes = k.layout.sizes; lists = k.free }
+
+-- frames, the pages that are in them, and how often each page is pinned
+pub record PagedFrames : Type 0 where
+  pub layout : Layout
+  pub place : Map Page ℕ
+  pub pins : Map Page ℕ
+  -- by frame its bytes
+  pub frames : Store
+  -- for each node its free frames, the front first
+  pub free : List (List ℕ)
+  -- the frames that the pages of a run have left, and how many there may be
+  pub vacated : List ℕ
+  pub room : ℕ
+
+-- one frame after another goes to the end of its own node's list
+abbrev pub with_freed : Pool → List ℕ → Pool
+with_freed p frames = fold appended p frames
+
+-- each of these frames, in their order, is one of the nodes' and not free before it is freed
+abbrev pub CanFree : Pool → List ℕ → Type 0
+CanFree p [] = Unit {0}
+CanFree p (frame ∷ frames) =
+    (frame < sum p.sizes) × (is_in (list_of p (owner p.sizes frame)) frame ≡ false) × CanFree (appended p frame) frames
+
+-- the vacated frames are free
+abbrev pub all_freed : FramesView → FramesView
+all_freed k = record k { free = (with_freed (pool_of k) k.vacated).lists; vacated = [] }
+
+-- so many of these bytes from a place on
+abbrev pub stretch_of : List ℕ → ℕ → ℕ → List ℕ
+stretch_of bytes at zero = []
+stretch_of bytes at (suc len) = slice_index bytes at ∷ stretch_of bytes (at + 1) len

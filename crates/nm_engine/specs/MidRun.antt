@@ -1,0 +1,37 @@
+-- What the parts of a machine are together, also while a run has not ended.
+use Rattle.std.specs.Prelude.{◌≡◌, ℕ, List, Some}
+use Rattle.std.specs.Ordering.{nat_cmp}
+use Rattle.nm_types.specs.Map.{get}
+use Rattle.nm_types.specs.State.{Process, State, Placed, area_over, page_of}
+use Rattle.nm_engine.specs.declared.inner.resolved.Resolved.{Resolved}
+use Rattle.nm_engine.specs.Tables.{info_of}
+use Rattle.nm_engine.specs.Touch.{Spot}
+use Rattle.nm_engine.specs.Sound.{IsSoundMidRun}
+use Rattle.nm_types.specs.Layout.{frame_count}
+
+-- a state, and the frames that the pages of a run have left, of which there may be so many
+pub record MidRun : Type 0 where
+  pub state : State
+  pub left : List ℕ
+  pub room : ℕ
+
+-- sound, and the reverse map has as many frames as the nodes
+pub record IsKept (s : State) (left : List ℕ) (frames : ℕ) : Type 0 where
+  pub sound : IsSoundMidRun s left
+  pub as_many : frames ≡ frame_count s.layout
+
+-- a touch of this process under this area
+abbrev pub spot_at : Resolved → Process → Placed → Spot
+spot_at t process area = record { pid = t.pid; process = process; area = area; vpn = t.vpn }
+
+-- the process is there, and the area, which shows the page
+pub record IsResolved (s : State) (t : Resolved) (process : Process) (area : Placed) : Type 0 where
+  pub known : get nat_cmp s.processes t.pid ≡ Some process
+  pub info : info_of process ≡ t.info
+  pub over : area_over s.areas t.pid t.vpn ≡ Some area
+  pub policy : area.1.policy ≡ t.policy
+  pub page : page_of area t.vpn ≡ t.page
+
+-- the state alone may change
+abbrev pub with_state : MidRun → State → MidRun
+with_state x s = record x { state = s }

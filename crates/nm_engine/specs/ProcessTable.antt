@@ -1,0 +1,79 @@
+-- The processes with their page tables.
+use Rattle.std.specs.Prelude.{ℕ, Bool, false, ◌==◌, nat_lt, nat_le, ◌||◌, if◌then◌else◌, List, [], Option, Some, None, IsSome}
+use Rattle.std.specs.List.{filter, fold}
+use Rattle.std.specs.Ordering.{nat_cmp}
+use Rattle.nm_types.specs.Map.{Map, get, set, replace, without, with_values}
+use Rattle.nm_tables.specs.declared.entry.Entry.{Entry}
+use Rattle.nm_tables.specs.declared.entry.Entry.TheVariants.{Zero, Frame, Held}
+use Rattle.nm_engine.specs.declared.process.ProcessInfo.{ProcessInfo}
+
+-- a process with its page table
+pub record Task : Type 0 where
+  pub info : ProcessInfo
+  -- by page number
+  pub table : Map ℕ Entry
+
+-- a process that has touched nothing
+abbrev pub new_task : ProcessInfo → Task
+new_task info = record { info = info; table = [] }
+
+-- what `spawn` fixed of it
+abbrev pub task_info : Task → ProcessInfo
+task_info t = t.info
+
+-- its page table
+abbrev pub task_table : Task → Map ℕ Entry
+task_table t = t.table
+
+-- the entry of a process at a page number, if it is there
+abbrev pub entry_in : Option Task → ℕ → Option Entry
+entry_in None v = None
+entry_in (Some t) v = get nat_cmp t.table v
+
+-- what stands in the table of a process at a page number
+abbrev pub entry_at : Map ℕ Task → ℕ → ℕ → Option Entry
+entry_at tasks pid v = entry_in (get nat_cmp tasks pid) v
+
+-- whether an entry names a frame
+abbrev pub names : ℕ → Option Entry → Bool
+names f None = false
+names f (Some Zero) = false
+names f (Some (Frame g)) = g == f
+names f (Some (Held g)) = g == f
+
+-- whether something stands at a page number of a process
+abbrev pub IsThere : Map ℕ Task → ℕ × ℕ → Type 0
+IsThere tasks spot = IsSome (entry_at tasks spot.0 spot.1)
+
+-- a table with this entry at a page number
+abbrev pub with_entry : Task → ℕ → Entry → Task
+with_entry t v e = record t { table = set nat_cmp t.table v e }
+
+-- a table with another entry at a page number that has one
+abbrev pub with_other_entry : Task → ℕ → Entry → Task
+with_other_entry t v e = record t { table = replace nat_cmp t.table v e }
+
+-- a table without an entry at a page number
+abbrev pub without_entry : Task → ℕ → Task
+without_entry t v = record t { table = without nat_cmp t.table v }
+
+-- another entry of a process, if it is there
+abbrev pub replaced_in : Map ℕ Task → Option Task → ℕ → ℕ → Entry → Map ℕ Task
+replaced_in tasks None pid v e = tasks
+replaced_in tasks (Some t) pid v e = replace nat_cmp tasks pid (with_other_entry t v e)
+
+-- another entry at a page number of a process
+abbrev pub replaced : Map ℕ Task → Entry → ℕ × ℕ → Map ℕ Task
+replaced tasks e spot = replaced_in tasks (get nat_cmp tasks spot.0) spot.0 spot.1 e
+
+-- the entries at all these page numbers name this frame
+abbrev pub remapped : Map ℕ Task → List (ℕ × ℕ) → ℕ → Map ℕ Task
+remapped tasks mappings frame = fold (λ ts spot. replaced ts (Frame frame) spot) tasks mappings
+
+-- a table without the entries from one page number up to another
+abbrev pub cleared_between : ℕ → ℕ → Task → Task
+cleared_between first end t = record t { table = filter (λ e. nat_lt e.0 first || nat_le end e.0) t.table }
+
+-- a process has nothing any more from one page number up to another
+abbrev pub cleared : Map ℕ Task → ℕ → ℕ → ℕ → Map ℕ Task
+cleared tasks pid first end = with_values (λ q t. if q == pid then cleared_between first end t else t) tasks

@@ -1,0 +1,48 @@
+-- What the parts of a machine show together.
+use Rattle.std.specs.Prelude.{ℕ, List}
+use Rattle.nm_types.specs.declared.page.Page.{Page}
+use Rattle.nm_types.specs.Map.{Map, with_values}
+use Rattle.nm_types.specs.State.{Process, State}
+use Rattle.nm_areas.specs.Table.{Table}
+use Rattle.nm_frames.specs.Store.{Store, bytes_of}
+use Rattle.nm_engine.specs.AddressSpaces.{SpacesView, table_of}
+use Rattle.nm_engine.specs.Frames.{FramesView, PagedFrames}
+
+-- the bytes of each page that has a frame
+abbrev pub bytes_in : Store → Map Page ℕ → Map Page (List ℕ)
+bytes_in frames place = with_values (λ page frame. bytes_of frames frame) place
+
+-- processes, areas and frames, the nodes that are online, and the totals are a state
+abbrev pub shown : Map ℕ Process → Table → PagedFrames → List ℕ → ℕ → ℕ → State
+shown processes areas paged online moved failed =
+    record {
+      layout = paged.layout;
+      processes = processes;
+      areas = areas.areas;
+      segments = areas.segments;
+      next_segment = areas.next;
+      place = paged.place;
+      bytes = bytes_in paged.frames paged.place;
+      pins = paged.pins;
+      free = paged.free;
+      online = online;
+      moved = moved;
+      failed = failed;
+    }
+
+-- the frames, with the pages that are in them
+abbrev pub paged_frames : SpacesView → FramesView → PagedFrames
+paged_frames y k =
+    record {
+      layout = k.layout;
+      place = y.place;
+      pins = y.pins;
+      frames = k.frames;
+      free = k.free;
+      vacated = k.vacated;
+      room = k.room;
+    }
+
+-- the address spaces and the frames are a state
+abbrev pub shown_by : SpacesView → FramesView → List ℕ → ℕ → ℕ → State
+shown_by y k online moved failed = shown y.processes (table_of y) (paged_frames y k) online moved failed

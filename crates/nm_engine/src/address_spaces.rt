@@ -1,0 +1,281 @@
+//! The address spaces of all processes: page tables, areas, and who names each frame.
+
+ghost use Rattle.std.specs.Prelude.{ℕ, ◌≡◌, ◌<◌, ◌≤◌, ◌+◌, ◌-◌, ◌/◌, ◌^◌, [], nat_lt, length, Some, None, IsSome, IfSome, IfOk, IfErr, OnOk, OnErr};
+ghost use Rattle.std.specs.Option.{option_map};
+ghost use Rattle.std.specs.List.{filter, AllByRecursion};
+ghost use Rattle.std.specs.Map.{keys_of, values_of};
+ghost use Rattle.std.specs.Ordering.{nat_cmp};
+ghost use Rattle.nm_types.specs.declared.page.Page.{Page};
+ghost use Rattle.nm_types.specs.declared.errno.Errno.TheVariants.{Ebusy, Einval};
+ghost use Rattle.nm_types.specs.declared.sight.Sight.TheVariants.{ZeroPage, Sees};
+ghost use Rattle.nm_types.specs.Map.{get, set, without, with_values, page_cmp};
+ghost use Rattle.nm_types.specs.State.{Process, Placed, State, area_over, page_at};
+ghost use Rattle.nm_areas.specs.Does.{Makes};
+ghost use Rattle.nm_areas.specs.Effect.{inserted, attached, with_policy};
+ghost use Rattle.nm_areas.specs.Refused.{insert_refusal, attach_refusal, policy_refusal, remove_refusal};
+ghost use Rattle.nm_areas.specs.Removed.{frames_lost};
+ghost use Rattle.nm_areas.specs.Lines.{is_shared};
+ghost use Rattle.nm_runs.specs.Seen.{sight_in, sees_page};
+ghost use Rattle.nm_engine.specs.Tables.{info_of, untouched};
+ghost use Rattle.nm_engine.specs.ProcessTable.{IsThere, remapped};
+ghost use Rattle.nm_engine.specs.Entries.{entry_of};
+ghost use Rattle.nm_engine.specs.Refused.{shows_pinned};
+ghost use Rattle.nm_engine.specs.AddressSpaces.{no_spaces, mapped_of, with_mapped, with_seen, with_new_page, with_moved, pins_here, with_pins_of, without_range};
+
+mod areas;
+
+use crate::process::ProcessInfo;
+use crate::process_table::ProcessTable;
+use nm_areas::Areas;
+use nm_rmap::ReverseMap;
+use nm_tables::Entry;
+use nm_types::{Area, Errno, FrameId, Page, Pid, Sight, Vpn};
+use std::alloc::{AllocError, Allocator};
+use std::collections::BTreeSet;
+use std::marker::Model;
+
+/// The page tables of all processes, the areas with the frames of pages, and for each frame the entries that name it
+/// and its pins. Contracts see what processes see, page by page.
+#[derive(Drop)]
+pub(crate) struct AddressSpaces<A: Allocator + Copy> {
+    pub(crate) tasks: ProcessTable<A>,
+    pub(crate) areas: Areas<A>,
+    pub(crate) rmap: ReverseMap<A>,
+}
+
+impl<A: Allocator + Copy> Model for AddressSpaces<A> {
+    ghost use Rattle.nm_engine.specs.AddressSpaces.{SpacesView, spaces_view};
+    ghost use Rattle.nm_engine.specs.Tied.{IsTied};
+
+    ghost Value = { SpacesView };
+
+    ghost view = { λ s. spaces_view s.tasks s.areas s.rmap };
+
+    ghost invariant = { λ s. IsTied s.tasks s.areas s.rmap };
+}
+
+impl<A: Allocator + Copy> AddressSpaces<A> {
+    /// No process, and so many frames without a page.
+    pub(crate) fn new(alloc: A, frames: usize) -> Result<Self, AllocError>
+        ensures { IfOk result (λ spaces. spaces ≡ no_spaces frames) }
+    {
+        Ok(AddressSpaces {
+            tasks: ProcessTable::new(alloc),
+            areas: Areas::new(alloc),
+            rmap: ReverseMap::new(alloc, frames)?,
+        })
+    }
+
+    /// How many processes there are.
+    pub(crate) fn len(&self) -> usize
+        ensures { result ≡ length self.now.processes }
+    {
+        self.tasks.len()
+    }
+
+    /// What `spawn` fixed of a process, or None where there is none of this pid.
+    pub(crate) fn info(&self, pid: Pid) -> Option<ProcessInfo>
+        ensures { result ≡ option_map info_of (get nat_cmp self.now.processes pid) }
+    {
+        self.tasks.info(pid)
+    }
+
+    /// The area of a process over a page number, with its first page number.
+    pub(crate) fn over(&self, pid: Pid, vpn: Vpn) -> Option<(Vpn, Area)>
+        ensures over { option_map {U = Placed} (λ found. ((pid, found.0), found.1)) result ≡ area_over self.now.areas pid vpn }
+        ensures first { IfSome result (λ a. a.0 ≤ vpn) }
+        ensures index { IfSome result (λ a. a.1.page.index + (vpn - a.0) < 2 ^ 64) }
+    {
+        self.areas.find(pid, vpn)
+    }
+
+    /// The page that an area of a process shows at a page number.
+    pub(crate) fn page_at(&self, pid: Pid, vpn: Vpn) -> Option<Page>
+        ensures { result ≡ page_at self.now.areas pid vpn }
+    {
+        let (first, area) = self.over(pid, vpn)?;
+        let Page { segment, index } = area.page;
+        Some(Page {
+            segment,
+            index: index + (vpn.number() - first.number()),
+        })
+    }
+
+    /// What a process sees at a page number.
+    pub(crate) fn sight(&self, pid: Pid, vpn: Vpn) -> Option<Sight>
+        ensures { result ≡ sight_in (get nat_cmp self.now.processes pid) vpn }
+    {
+        match self.tasks.entry(pid, vpn)? {
+            Entry::Zero => Some(Sight::ZeroPage),
+            Entry::Frame(_) => Some(Sight::Sees(self.page_at(pid, vpn)?)),
+            Entry::Held(_) => Some(Sight::Sees(self.page_at(pid, vpn)?)),
+        }
+    }
+
+    /// What stands in the page table of a process, upwards, or None where there is no such process.
+    pub(crate) fn entries(&self, pid: Pid) -> Result<Option<Vec<(Vpn, Entry), A>>, AllocError>
+        ensures entries { IfOk result (λ all. option_map (λ entries. entries.items) all ≡ option_map (λ (p : Process). with_values (λ v sight. entry_of self.now.place sight) p.sees) (get nat_cmp self.now.processes pid)) }
+        ensures memory { OnErr result (IsSome (get nat_cmp self.now.processes pid)) }
+    {
+        self.tasks.entries(pid)
+    }
+
+    /// The frame in which a page stands.
+    pub(crate) fn place(&self, page: Page) -> Option<FrameId>
+        ensures place { result ≡ get page_cmp self.now.place page }
+        ensures known { IfSome result (λ frame. frame < self.now.frames) }
+    {
+        self.areas.page_frame(page)
+    }
+
+    /// The frames of the pages that have one, in the order of the pages.
+    pub(crate) fn places(&self) -> Result<Vec<FrameId, A>, AllocError>
+        ensures { IfOk result (λ frames. frames.items ≡ values_of self.now.place) }
+    {
+        self.areas.frames()
+    }
+
+    /// Whether a segment is shared. One that is not there is not.
+    pub(crate) fn is_shared(&self, segment: u32) -> bool
+        ensures { result ≡ is_shared self.now.segments segment }
+    {
+        self.areas.is_shared(segment)
+    }
+
+    /// How many processes see the page of a frame. Two page numbers of a process count once.
+    pub(crate) fn users(&self, frame: FrameId) -> usize
+        requires { frame < self.now.frames }
+        ensures { (p : Page) → get page_cmp self.now.place p ≡ Some frame → result ≡ length (keys_of (filter (λ e. sees_page p e.1) self.now.processes)) }
+    {
+        self.rmap.processes(frame)
+    }
+
+    /// Whether the page of a frame is pinned.
+    pub(crate) fn is_pinned(&self, frame: FrameId) -> bool
+        requires { frame < self.now.frames }
+        ensures { (p : Page) → get page_cmp self.now.place p ≡ Some frame → result ≡ nat_lt 0 (pins_here self.now p) }
+    {
+        self.rmap.pins(frame) > 0
+    }
+
+    /// Adds a process that has touched nothing.
+    pub(crate) fn add(&mut self, pid: Pid, info: ProcessInfo) -> Result<(), AllocError>
+        requires { get nat_cmp self.old.processes pid ≡ None }
+        ensures ok { OnOk result (self.new ≡ record (self.old) { processes = set nat_cmp self.old.processes pid (untouched info) }) }
+        ensures err { OnErr result (self.new ≡ self.old) }
+    {
+        self.tasks.add(pid, info)
+    }
+
+    /// A process sees the page of zeros at a page number from now on.
+    pub(crate) fn see_zero(&mut self, pid: Pid, vpn: Vpn) -> Result<(), AllocError>
+        requires known { IsSome (get nat_cmp self.old.processes pid) }
+        requires unseen { (q : Page) → sight_in (get nat_cmp self.old.processes pid) vpn ≡ Some (Sees q) → ⊥ }
+        ensures ok { OnOk result ((p : Process) → get nat_cmp self.old.processes pid ≡ Some p → self.new ≡ with_seen self.old pid p vpn ZeroPage) }
+        ensures err { OnErr result (self.new ≡ self.old) }
+    {
+        self.tasks.set(pid, vpn, Entry::Zero)
+    }
+
+    /// A process sees a page that has a frame at a page number from now on.
+    pub(crate) fn see(
+        &mut self,
+        pid: Pid,
+        vpn: Vpn,
+        page: Page,
+        frame: FrameId,
+    ) -> Result<(), AllocError>
+        requires known { IsSome (get nat_cmp self.old.processes pid) }
+        requires unseen { (q : Page) → sight_in (get nat_cmp self.old.processes pid) vpn ≡ Some (Sees q) → ⊥ }
+        requires shown { page_at self.old.areas pid vpn ≡ Some page }
+        requires placed { get page_cmp self.old.place page ≡ Some frame }
+        ensures ok { OnOk result ((p : Process) → get nat_cmp self.old.processes pid ≡ Some p → self.new ≡ with_seen self.old pid p vpn (Sees page)) }
+        ensures err { OnErr result (self.new ≡ self.old) }
+    {
+        self.rmap.add(frame, pid, vpn)?;
+        if let Err(error) = self.tasks.set(pid, vpn, Entry::Frame(frame)) {
+            self.rmap.drop_one(frame, pid, vpn);
+            return Err(error);
+        }
+        Ok(())
+    }
+
+    /// A page gets a frame that no page has, and a process sees it at a page number.
+    pub(crate) fn allocate(
+        &mut self,
+        pid: Pid,
+        vpn: Vpn,
+        page: Page,
+        frame: FrameId,
+    ) -> Result<(), AllocError>
+        requires known { IsSome (get nat_cmp self.old.processes pid) }
+        requires unseen { (q : Page) → sight_in (get nat_cmp self.old.processes pid) vpn ≡ Some (Sees q) → ⊥ }
+        requires shown { page_at self.old.areas pid vpn ≡ Some page }
+        requires unplaced { get page_cmp self.old.place page ≡ None }
+        requires frame { frame < self.old.frames }
+        requires spare { (q : Page) → get page_cmp self.old.place q ≡ Some frame → ⊥ }
+        ensures ok { OnOk result ((p : Process) → get nat_cmp self.old.processes pid ≡ Some p → self.new ≡ with_new_page self.old pid p vpn page frame) }
+        ensures err { OnErr result (self.new ≡ self.old) }
+    {
+        self.areas.set_frame(page, frame)?;
+        if let Err(error) = self.rmap.add(frame, pid, vpn) {
+            self.areas.drop_frame(page);
+            return Err(error);
+        }
+        if let Err(error) = self.tasks.set(pid, vpn, Entry::Frame(frame)) {
+            self.rmap.drop_one(frame, pid, vpn);
+            self.areas.drop_frame(page);
+            return Err(error);
+        }
+        Ok(())
+    }
+
+    /// A page goes from a frame to one that no page has: every entry that named the one names the other, which has the
+    /// pins. It takes no memory.
+    pub(crate) fn move_page(&mut self, page: Page, from: FrameId, to: FrameId)
+        requires placed { get page_cmp self.old.place page ≡ Some from }
+        requires frame { to < self.old.frames }
+        requires spare { (q : Page) → get page_cmp self.old.place q ≡ Some to → ⊥ }
+        ensures { self.new ≡ with_moved self.old page to }
+    {
+        remap(&mut self.tasks, self.rmap.mappings(from), to);
+        self.rmap.carry(from, to);
+        self.areas.move_page(page, to);
+    }
+
+    /// Pins a page that has a frame once more. EBUSY where it has 65,535 pins, and then nothing has changed.
+    pub(crate) fn pin(&mut self, page: Page, frame: FrameId) -> Result<(), Errno>
+        requires { get page_cmp self.old.place page ≡ Some frame }
+        ensures room { OnOk result (pins_here self.old page < 65535) }
+        ensures ok { OnOk result (self.new ≡ with_pins_of self.old page (pins_here self.old page + 1)) }
+        ensures full { IfErr result (λ error. (error ≡ Ebusy) × (65535 ≤ pins_here self.old page)) }
+        ensures err { OnErr result (self.new ≡ self.old) }
+    {
+        self.rmap.pin(frame)
+    }
+
+    /// Takes one pin off a page that has a frame. EINVAL where it has none, and then nothing has changed.
+    pub(crate) fn unpin(&mut self, page: Page, frame: FrameId) -> Result<(), Errno>
+        requires { get page_cmp self.old.place page ≡ Some frame }
+        ensures pinned { OnOk result (0 < pins_here self.old page) }
+        ensures ok { OnOk result (self.new ≡ with_pins_of self.old page (pins_here self.old page - 1)) }
+        ensures none { IfErr result (λ error. (error ≡ Einval) × (pins_here self.old page ≡ 0)) }
+        ensures err { OnErr result (self.new ≡ self.old) }
+    {
+        self.rmap.unpin(frame)
+    }
+}
+
+/// Each of these entries names this frame from now on.
+fn remap<A: Allocator + Copy>(
+    tasks: &mut ProcessTable<A>,
+    mappings: &BTreeSet<(Pid, Vpn), A>,
+    frame: FrameId,
+)
+    requires { AllByRecursion (IsThere tasks.old) mappings.now.keys }
+    ensures { tasks.new ≡ remapped tasks.old mappings.now.keys frame }
+{
+    for (pid, vpn) in mappings.iter() {
+        tasks.replace(*pid, *vpn, Entry::Frame(frame));
+    }
+}

@@ -1,0 +1,147 @@
+//! Areas of address spaces that come, split and go.
+
+ghost use Rattle.std.specs.Prelude.{ℕ, true, false, ◌≡◌, ◌<◌, ◌≤◌, ◌+◌, ◌/◌, [], length, None, Some, Err, IfOk, OnOk, OnErr};
+ghost use Rattle.std.specs.List.{AllByRecursion};
+ghost use Rattle.std.specs.Map.{keys_of};
+ghost use Rattle.std.specs.Ordering.{nat_cmp};
+ghost use Rattle.std.specs.List.Sorted.{IsStrictlySortedBy};
+ghost use Rattle.nm_types.specs.Map.{get, without};
+ghost use Rattle.nm_types.specs.State.{Process};
+ghost use Rattle.nm_areas.specs.Does.{Makes};
+ghost use Rattle.nm_areas.specs.Effect.{inserted, attached, with_policy};
+ghost use Rattle.nm_areas.specs.Refused.{insert_refusal, attach_refusal, policy_refusal, remove_refusal};
+ghost use Rattle.nm_areas.specs.Removed.{removed, frames_lost};
+ghost use Rattle.nm_engine.specs.Refused.{shows_pinned};
+ghost use Rattle.nm_engine.specs.ProcessTable.{entry_at, names, cleared};
+ghost use Rattle.nm_engine.specs.Tied.{IsCleared};
+ghost use Rattle.nm_engine.specs.AddressSpaces.{mapped_of, with_mapped, without_range};
+
+use crate::address_spaces::AddressSpaces;
+use crate::process_table::ProcessTable;
+use nm_areas::AreaError;
+use nm_rmap::ReverseMap;
+use nm_tables::Entry;
+use nm_types::{FrameId, Page, Pid, Policy, Vpn};
+use std::alloc::Allocator;
+
+impl<A: Allocator + Copy> AddressSpaces<A> {
+    /// Makes the next segment and an area of the process over all of it. Gives the segment's number.
+    pub(crate) fn map(
+        &mut self,
+        pid: Pid,
+        addr: u64,
+        pages: u64,
+        shared: bool,
+    ) -> Result<u32, AreaError>
+        ensures done { Makes result (mapped_of self.old) (mapped_of self.new) (insert_refusal (mapped_of self.old) pid addr pages) (inserted (mapped_of self.old) pid addr pages shared) }
+        ensures memory { result ≡ Err AreaError.HostMemory → insert_refusal (mapped_of self.old) pid addr pages ≡ None }
+        ensures number { IfOk result (λ number. number ≡ self.old.next) }
+        ensures same { self.new ≡ with_mapped self.old (mapped_of self.new) }
+    {
+        self.areas.insert(pid, addr, pages, shared)
+    }
+
+    /// Makes an area of the process over a stretch of a shared segment.
+    pub(crate) fn attach(
+        &mut self,
+        pid: Pid,
+        addr: u64,
+        segment: u64,
+        offset: u64,
+        pages: u64,
+    ) -> Result<(), AreaError>
+        ensures done { Makes result (mapped_of self.old) (mapped_of self.new) (attach_refusal (mapped_of self.old) pid addr segment offset pages) (attached (mapped_of self.old) pid addr segment offset pages) }
+        ensures memory { result ≡ Err AreaError.HostMemory → attach_refusal (mapped_of self.old) pid addr segment offset pages ≡ None }
+        ensures same { self.new ≡ with_mapped self.old (mapped_of self.new) }
+    {
+        self.areas.attach(pid, addr, segment, offset, pages)
+    }
+
+    /// Sets the policy of the whole pages of a range of a process, and of no others.
+    pub(crate) fn set_policy(
+        &mut self,
+        pid: Pid,
+        addr: u64,
+        len: u64,
+        policy: Policy,
+    ) -> Result<(), AreaError>
+        ensures done { Makes result (mapped_of self.old) (mapped_of self.new) (policy_refusal (mapped_of self.old) pid addr len) (with_policy (mapped_of self.old) pid addr len policy) }
+        ensures memory { result ≡ Err AreaError.HostMemory → policy_refusal (mapped_of self.old) pid addr len ≡ None }
+        ensures same { self.new ≡ with_mapped self.old (mapped_of self.new) }
+    {
+        self.areas.split_policy(pid, addr, len, policy)
+    }
+
+    /// Whether an area of a process shows a pinned page from one page number up to another.
+    pub(crate) fn has_pinned(&self, pid: Pid, first: Vpn, end: Vpn) -> bool
+        requires { first ≤ end }
+        ensures { result ≡ shows_pinned self.now.areas self.now.pins pid first end }
+    {
+        let mut at = first.number();
+        while let Some((vpn, frame)) = self.areas.frame_from(pid, Vpn::new(at), end) {
+            if self.rmap.pins(frame) > 0 {
+                return true;
+            }
+            at = vpn.number() + 1;
+        }
+        false
+    }
+
+    /// A process lets go so many pages from an address on, of which none is pinned: what it sees there, and its areas'
+    /// parts there. Gives the pages that no area covers any more, with the frames that they had, by ascending address.
+    pub(crate) fn remove(
+        &mut self,
+        pid: Pid,
+        addr: u64,
+        pages: u64,
+    ) -> Result<Vec<(Page, FrameId), A>, AreaError>
+        requires unpinned { shows_pinned self.old.areas self.old.pins pid (addr / 4096) (addr / 4096 + pages) ≡ false }
+        ensures done { Makes result (mapped_of self.old) (mapped_of self.new) (remove_refusal addr pages) (removed (mapped_of self.old) pid (addr / 4096) (addr / 4096 + pages)) }
+        ensures ok { OnOk result (self.new ≡ without_range self.old pid (addr / 4096) (addr / 4096 + pages)) }
+        ensures freed { IfOk result (λ freed. freed.items ≡ frames_lost (mapped_of self.old) pid (addr / 4096) (addr / 4096 + pages)) }
+        ensures err { OnErr result (self.new ≡ self.old) }
+    {
+        let freed = self.areas.remove(pid, addr, pages)?;
+        let first = Vpn::of_address(addr);
+        let end = Vpn::new(first.number() + pages);
+        clear_between(&mut self.tasks, &mut self.rmap, pid, first, end);
+        Ok(freed)
+    }
+
+    /// Takes away a process that sees nothing.
+    pub(crate) fn remove_task(&mut self, pid: Pid)
+        requires { (p : Process) → get nat_cmp self.old.processes pid ≡ Some p → p.sees ≡ [] }
+        ensures { self.new ≡ record (self.old) { processes = without nat_cmp self.old.processes pid } }
+    {
+        self.tasks.remove(pid);
+    }
+}
+
+/// Takes away the entries of a process from one page number up to another, and with them the mappers that they are.
+fn clear_between<A: Allocator + Copy>(
+    tasks: &mut ProcessTable<A>,
+    rmap: &mut ReverseMap<A>,
+    pid: Pid,
+    first: Vpn,
+    end: Vpn,
+)
+    requires frames { (f v : ℕ) → names f (entry_at tasks.old pid v) ≡ true → f < length rmap.old.mappings }
+    requires pids { IsStrictlySortedBy nat_cmp (keys_of tasks.old) }
+    requires tables { AllByRecursion (λ e. IsStrictlySortedBy nat_cmp (keys_of e.1.table)) tasks.old }
+    ensures tasks { tasks.new ≡ cleared tasks.old pid first end }
+    ensures rmap { IsCleared rmap.old rmap.new pid first end tasks.old }
+{
+    let mut at = first.number();
+    while let Some((vpn, entry)) = tasks.first_from(pid, Vpn::new(at)) {
+        if vpn.number() >= end.number() {
+            return;
+        }
+        match entry {
+            Entry::Zero => {}
+            Entry::Frame(frame) => rmap.drop_one(frame, pid, vpn),
+            Entry::Held(frame) => rmap.drop_one(frame, pid, vpn),
+        }
+        tasks.clear(pid, vpn);
+        at = vpn.number() + 1;
+    }
+}

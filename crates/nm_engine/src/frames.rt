@@ -1,0 +1,282 @@
+//! The machine's frames: which are free, and what they hold.
+
+ghost use Rattle.std.specs.Prelude.{◌≡◌, ◌≢◌, ◌+◌, ◌<◌, ◌≤◌, [], ◌∷◌, ◌++◌, length, vec_capacity, vec_len, Some, IfOk, OnOk, replicate, drop, slice_get, slice_set};
+ghost use Rattle.nm_types.specs.Layout.{node_count, frame_count, node_of};
+ghost use Rattle.nm_nodes.specs.Pool.{list_of, appended};
+ghost use Rattle.nm_frames.specs.Store.{IsHome, bytes_of, overwrite};
+ghost use Rattle.nm_engine.specs.Audited.{is_audited, numbered};
+ghost use Rattle.nm_nodes.specs.Pool.{all_frames};
+ghost use Rattle.nm_engine.specs.Frames.{IsWhole, free_on, pool_of, all_freed, CanFree, with_freed, stretch_of};
+
+use crate::audit;
+use nm_frames::{CopyJob, FrameStore};
+use nm_nodes::NodePool;
+use nm_types::{FrameId, Geometry, NodeId};
+use std::alloc::{AllocError, Allocator};
+use std::marker::Model;
+
+/// The frames of all nodes with their bytes, the free ones by node, and those that a run's pages left and that become
+/// free at its end.
+#[derive(Drop)]
+pub(crate) struct Frames<A: Allocator + Copy> {
+    geometry: Geometry<A>,
+    frames: FrameStore<A>,
+    nodes: NodePool<A>,
+    vacated: Vec<FrameId, A>,
+}
+
+impl<A: Allocator + Copy> Model for Frames<A> {
+    ghost use Rattle.std.specs.Prelude.{◌≡◌, vec_capacity};
+    ghost use Rattle.nm_engine.specs.Frames.{FramesView, IsWhole};
+
+    ghost Value = { FramesView };
+
+    ghost view = { λ s. record {
+      layout = s.geometry;
+      frames = s.frames;
+      free = s.nodes.lists;
+      vacated = s.vacated.items;
+      room = vec_capacity s.vacated;
+    } };
+
+    ghost invariant = { λ s. (s.nodes.sizes ≡ s.geometry.sizes) × IsWhole (record {
+      layout = s.geometry;
+      frames = s.frames;
+      free = s.nodes.lists;
+      vacated = s.vacated.items;
+      room = vec_capacity s.vacated;
+    }) };
+}
+
+impl<A: Allocator + Copy> Frames<A> {
+    /// The frames of these nodes, all free.
+    pub(crate) fn new(alloc: A, geometry: Geometry<A>) -> Result<Self, AllocError>
+        ensures layout { IfOk result (λ s. s.layout ≡ geometry) }
+        ensures free { IfOk result (λ s. s.free ≡ all_frames 0 geometry.sizes) }
+        ensures vacated { IfOk result (λ s. s.vacated ≡ []) }
+        ensures shelf { IfOk result (λ s. IsWhole s) }
+    {
+        let frames = FrameStore::new(alloc, geometry.frame_count())?;
+        let nodes = NodePool::new(alloc, &geometry)?;
+        Ok(Frames {
+            geometry,
+            frames,
+            nodes,
+            vacated: Vec::new(alloc),
+        })
+    }
+
+    /// The nodes.
+    pub(crate) fn geometry(&self) -> &Geometry<A>
+        ensures { result.now ≡ self.now.layout }
+    {
+        &self.geometry
+    }
+
+    /// How many nodes there are: 1 to 64.
+    pub(crate) fn node_count(&self) -> usize
+        ensures count { result ≡ node_count self.now.layout }
+        ensures few { result ≤ 64 }
+    {
+        self.geometry.node_count()
+    }
+
+    /// The node that owns a frame.
+    pub(crate) fn node_of(&self, frame: FrameId) -> NodeId
+        requires { frame < frame_count self.now.layout }
+        ensures { result ≡ node_of self.now.layout frame }
+    {
+        self.geometry.node_of(frame)
+    }
+
+    /// How many free frames a node has, which are none where there is no such node.
+    pub(crate) fn free_count(&self, node: NodeId) -> usize
+        ensures { result ≡ length (free_on self.now node) }
+    {
+        if node.index() < self.node_count() {
+            self.nodes.free_count(node)
+        } else {
+            0
+        }
+    }
+
+    /// The free frames of a node, the front first.
+    pub(crate) fn free_list(&self, alloc: A, node: NodeId) -> Result<Vec<FrameId, A>, AllocError>
+        requires { node < node_count self.now.layout }
+        ensures { IfOk result (λ frames. frames.items ≡ free_on self.now node) }
+    {
+        list_of(alloc, &self.nodes, node)
+    }
+
+    /// The front of a node's free frames.
+    pub(crate) fn front(&self, node: NodeId) -> Option<FrameId>
+        requires { node < node_count self.now.layout }
+        ensures front { result ≡ slice_get (free_on self.now node) 0 }
+        ensures shelf { IsWhole self.now }
+    {
+        self.nodes.nth(node, 0)
+    }
+
+    /// Takes the front of a node's free frames.
+    pub(crate) fn take_front(&mut self, node: NodeId) -> Option<FrameId>
+        requires { node < node_count self.old.layout }
+        ensures front { result ≡ slice_get (free_on self.old node) 0 }
+        ensures rest { self.new ≡ record (self.old) { free = slice_set self.old.free node (drop 1 (free_on self.old node)) } }
+        ensures shelf { IsWhole self.old }
+    {
+        self.nodes.take_front(node)
+    }
+
+    /// Puts so many bytes of a frame from `at` on behind those of a list that has room for them.
+    pub(crate) fn read(&self, frame: FrameId, at: usize, len: usize, bytes: &mut Vec<u8, A>)
+        requires frame { frame < frame_count self.now.layout }
+        requires inside { at + len ≤ 4096 }
+        requires room { vec_len bytes.old + len ≤ vec_capacity bytes.old }
+        ensures { bytes.new.items ≡ bytes.old.items ++ stretch_of (bytes_of self.now.frames frame) at len }
+    {
+        copy_bytes(&self.frames, frame, at, len, bytes);
+    }
+
+    /// Puts bytes in place of those of a frame from `at` on.
+    pub(crate) fn write(&mut self, frame: FrameId, at: usize, bytes: &[u8])
+        requires frame { frame < frame_count self.old.layout }
+        requires inside { at + length bytes.now ≤ 4096 }
+        ensures written { self.new ≡ record (self.old) { frames = slice_set self.old.frames frame (Some (overwrite (bytes_of self.old.frames frame) at bytes.now)) } }
+        ensures shelf { IsWhole self.old }
+    {
+        self.frames.write(frame, at, bytes);
+    }
+
+    /// Puts zeros in place of all bytes of a frame.
+    pub(crate) fn zero(&mut self, frame: FrameId)
+        requires { frame < frame_count self.old.layout }
+        ensures { self.new ≡ record (self.old) { frames = slice_set self.old.frames frame (Some (replicate 4096 0)) } }
+    {
+        self.frames.zero(frame);
+    }
+
+    /// Makes the bytes of one frame those of another.
+    pub(crate) fn copy(&mut self, from: FrameId, to: FrameId)
+        requires from { from < frame_count self.old.layout }
+        requires to { to < frame_count self.old.layout }
+        requires apart { from ≢ to }
+        ensures { self.new ≡ record (self.old) { frames = slice_set self.old.frames to (Some (bytes_of self.old.frames from)) } }
+    {
+        copy_frame(&mut self.frames, from, to);
+    }
+
+    /// Makes room for so many frames that a run's pages may leave.
+    pub(crate) fn reserve(&mut self, count: usize) -> Result<(), AllocError>
+        ensures room { OnOk result (length self.new.vacated + count ≤ self.new.room) }
+        ensures same { self.new ≡ record (self.old) { room = self.new.room } }
+    {
+        self.vacated.reserve(count)
+    }
+
+    /// How many frames the pages of this run have left.
+    pub(crate) fn vacated_count(&self) -> usize
+        ensures { result ≡ length self.now.vacated }
+    {
+        self.vacated.len()
+    }
+
+    /// A page of this run has left a frame, which becomes free at the run's end.
+    pub(crate) fn vacate(&mut self, frame: FrameId)
+        requires { length self.old.vacated < self.old.room }
+        ensures { self.new ≡ record (self.old) { vacated = self.old.vacated ++ frame ∷ [] } }
+    {
+        self.vacated.push_reserved(frame);
+    }
+
+    /// The frames that the pages of this run have left become free, in their order, each at the end of its own node's
+    /// list.
+    pub(crate) fn free_vacated(&mut self)
+        requires { CanFree (pool_of self.old) self.old.vacated }
+        ensures { self.new ≡ all_freed self.old }
+    {
+        free_frames(&mut self.nodes, self.vacated.as_slice());
+        self.vacated.clear();
+    }
+
+    /// A frame becomes free, at the end of its own node's list.
+    pub(crate) fn free(&mut self, frame: FrameId)
+        requires { CanFree (pool_of self.old) (frame ∷ []) }
+        ensures { self.new ≡ record (self.old) { free = (appended (pool_of self.old) frame).lists } }
+    {
+        self.nodes.append(frame);
+    }
+
+    /// Whether each frame stands once, in its own node's list or among the places of pages.
+    pub(crate) fn audit(&self, alloc: A, places: &[FrameId]) -> Result<bool, AllocError>
+        ensures { IfOk result (λ b. b ≡ is_audited self.now.layout (numbered 0 self.now.free) places.now) }
+    {
+        let free = audit::free_frames(alloc, &self.nodes, self.node_count())?;
+        audit::is_each_once(alloc, &self.geometry, free.as_slice(), places)
+    }
+}
+
+/// Makes the bytes of one frame those of another.
+fn copy_frame<A: Allocator + Copy>(frames: &mut FrameStore<A>, from: FrameId, to: FrameId)
+    requires from { IsHome frames.old from }
+    requires to { IsHome frames.old to }
+    requires apart { from ≢ to }
+    ensures { frames.new ≡ slice_set frames.old to (Some (bytes_of frames.old from)) }
+{
+    let mut job = CopyJob {
+        source: frames.take_out(from),
+        target: frames.take_out(to),
+        ticket: 0,
+    };
+    job.copy();
+    let CopyJob { source, target, .. } = job;
+    frames.put_back(source);
+    frames.put_back(target);
+}
+
+/// Puts frames at the end of their own nodes' lists, one after another.
+fn free_frames<A: Allocator + Copy>(nodes: &mut NodePool<A>, frames: &[FrameId])
+    requires { CanFree nodes.old frames.now }
+    ensures { nodes.new ≡ with_freed nodes.old frames.now }
+{
+    for frame in frames {
+        nodes.append(*frame);
+    }
+}
+
+/// The free frames of a node, the front first.
+fn list_of<A: Allocator + Copy>(
+    alloc: A,
+    nodes: &NodePool<A>,
+    node: NodeId,
+) -> Result<Vec<FrameId, A>, AllocError>
+    requires { node < length nodes.now.lists }
+    ensures { IfOk result (λ frames. frames.items ≡ list_of nodes.now node) }
+{
+    let count = nodes.free_count(node);
+    let mut frames = Vec::with_capacity(alloc, count)?;
+    for k in 0..count {
+        let Some(frame) = nodes.nth(node, k) else {
+            unreachable!()
+        };
+        frames.push_reserved(frame);
+    }
+    Ok(frames)
+}
+
+/// Puts so many bytes of a frame from `at` on behind those of a list that has room for them.
+fn copy_bytes<A: Allocator + Copy>(
+    frames: &FrameStore<A>,
+    frame: FrameId,
+    at: usize,
+    len: usize,
+    bytes: &mut Vec<u8, A>,
+)
+    requires frame { IsHome frames.now frame }
+    requires inside { at + len ≤ 4096 }
+    requires room { vec_len bytes.old + len ≤ vec_capacity bytes.old }
+    ensures { bytes.new.items ≡ bytes.old.items ++ stretch_of (bytes_of frames.now frame) at len }
+{
+    for k in at..at + len {
+        bytes.push_reserved(frames.byte(frame, k));
+    }
+}

@@ -1,0 +1,141 @@
+//! Areas that come, split and go.
+
+ghost use Rattle.nm_engine.specs.Does.{AsksLast, Makes};
+ghost use Rattle.nm_engine.specs.Effect.{attach, dropped, map_new, unmap};
+ghost use Rattle.nm_engine.specs.Frames.{CanFree, pool_of, with_freed};
+ghost use Rattle.nm_engine.specs.MidRun.{with_state};
+ghost use Rattle.nm_engine.specs.Policing.{policy_refusal, set_policy};
+ghost use Rattle.nm_engine.specs.Refused.{attach_refusal, is_range, is_unknown, map_refusal, shows_pinned, unmap_refusal};
+ghost use Rattle.nm_types.specs.declared.errno.Errno.{Errno};
+ghost use Rattle.nm_types.specs.declared.errno.Errno.TheVariants.{Esrch};
+ghost use Rattle.std.specs.Prelude.{IfNone, IfOk, IfSome, Some, [], false, map, true, ◌+◌, ◌/◌, ◌<◌, ◌^◌, ◌≡◌, ◌≤◌};
+
+use crate::frames::Frames;
+use crate::inner::Inner;
+use crate::machine_error::MachineError;
+use nm_types::limits::PAGE_NUMBERS;
+use nm_types::{Errno, FrameId, Page, Pid, Policy, Vpn};
+use std::alloc::Allocator;
+
+/// The first page number of `pages` pages from an address on, where it is a page's address and they are at least one
+/// page and end below 2^47.
+fn stretch(addr: u64, pages: u64) -> Option<Vpn>
+    ensures some { IfSome result (λ first. (first ≡ addr / 4096) × (is_range addr pages ≡ true) × (0 < pages) × (first + pages ≤ 2 ^ 35)) }
+    ensures none { IfNone result (is_range addr pages ≡ false) }
+{
+    let first = Vpn::of_address(addr);
+    let end = first.number().checked_add(pages)?;
+    if addr % 4096 == 0 && pages > 0 && end <= PAGE_NUMBERS {
+        Some(first)
+    } else {
+        None
+    }
+}
+
+impl<A: Allocator + Copy> Inner<A> {
+    /// Makes a segment and an area of the process over all of it.
+    pub(crate) fn map(
+        &mut self,
+        pid: Pid,
+        addr: u64,
+        pages: u64,
+        shared: bool,
+    ) -> Result<u32, MachineError>
+        requires { self.old.left ≡ [] }
+        ensures done { Makes result self.old.state self.new.state (map_refusal self.old.state pid addr pages) (map_new self.old.state pid addr pages shared) }
+        ensures memory { AsksLast result (map_refusal self.old.state pid addr pages) }
+        ensures number { IfOk result (λ number. number ≡ self.old.state.next_segment) }
+        ensures same { self.new ≡ with_state self.old self.new.state }
+    {
+        if self.spaces.info(pid).is_none() {
+            return Err(MachineError::Refused(Errno::Esrch));
+        }
+        Ok(self.spaces.map(pid, addr, pages, shared)?)
+    }
+
+    /// Makes an area of the process over a stretch of a shared segment.
+    pub(crate) fn attach(
+        &mut self,
+        pid: Pid,
+        addr: u64,
+        segment: u64,
+        offset: u64,
+        pages: u64,
+    ) -> Result<(), MachineError>
+        requires { self.old.left ≡ [] }
+        ensures done { Makes result self.old.state self.new.state (attach_refusal self.old.state pid addr segment offset pages) (attach self.old.state pid addr segment offset pages) }
+        ensures memory { AsksLast result (attach_refusal self.old.state pid addr segment offset pages) }
+        ensures same { self.new ≡ with_state self.old self.new.state }
+    {
+        if self.spaces.info(pid).is_none() {
+            return Err(MachineError::Refused(Errno::Esrch));
+        }
+        Ok(self.spaces.attach(pid, addr, segment, offset, pages)?)
+    }
+
+    /// Sets the policy of the whole pages of a range of addresses of a process, and of no others.
+    pub(crate) fn set_policy(
+        &mut self,
+        pid: Pid,
+        addr: u64,
+        len: u64,
+        policy: Policy,
+    ) -> Result<(), MachineError>
+        requires { self.old.left ≡ [] }
+        ensures done { Makes result self.old.state self.new.state (policy_refusal self.old.state pid addr len) (set_policy self.old.state pid addr len policy) }
+        ensures memory { AsksLast result (policy_refusal self.old.state pid addr len) }
+        ensures same { self.new ≡ with_state self.old self.new.state }
+    {
+        if self.spaces.info(pid).is_none() {
+            return Err(MachineError::Refused(Errno::Esrch));
+        }
+        Ok(self.spaces.set_policy(pid, addr, len, policy)?)
+    }
+
+    /// A process lets go so many pages from an address on.
+    pub(crate) fn unmap(&mut self, pid: Pid, addr: u64, pages: u64) -> Result<(), MachineError>
+        requires { self.old.left ≡ [] }
+        ensures done { Makes result self.old.state self.new.state (unmap_refusal self.old.state pid addr pages) (unmap self.old.state pid addr pages) }
+        ensures memory { AsksLast result (unmap_refusal self.old.state pid addr pages) }
+        ensures same { self.new ≡ with_state self.old self.new.state }
+    {
+        if self.spaces.info(pid).is_none() {
+            return Err(MachineError::Refused(Errno::Esrch));
+        }
+        let Some(first) = stretch(addr, pages) else {
+            return Err(MachineError::Refused(Errno::Einval));
+        };
+        if self
+            .spaces
+            .has_pinned(pid, first, Vpn::new(first.number() + pages))
+        {
+            return Err(MachineError::Refused(Errno::Ebusy));
+        }
+        self.let_go(pid, addr, pages)
+    }
+
+    /// A process lets go so many pages from an address on, of which none is pinned. The frames of pages that no area
+    /// covers any more become free, by ascending address.
+    pub(crate) fn let_go(&mut self, pid: Pid, addr: u64, pages: u64) -> Result<(), MachineError>
+        requires left { self.old.left ≡ [] }
+        requires known { is_unknown self.old.state pid ≡ false }
+        requires range { is_range addr pages ≡ true }
+        requires unpinned { shows_pinned self.old.state.areas self.old.state.pins pid (addr / 4096) (addr / 4096 + pages) ≡ false }
+        ensures done { Makes result self.old.state self.new.state None (dropped self.old.state pid (addr / 4096) (addr / 4096 + pages)) }
+        ensures same { self.new ≡ with_state self.old self.new.state }
+    {
+        let freed = self.spaces.remove(pid, addr, pages)?;
+        free_each(&mut self.frames, freed.as_slice());
+        Ok(())
+    }
+}
+
+/// The frames of pages become free, in their order, each at the end of its own node's list.
+fn free_each<A: Allocator + Copy>(frames: &mut Frames<A>, freed: &[(Page, FrameId)])
+    requires { CanFree (pool_of frames.old) (map (λ f. f.1) freed.now) }
+    ensures { frames.new ≡ record (frames.old) { free = (with_freed (pool_of frames.old) (map (λ f. f.1) freed.now)).lists } }
+{
+    for (_, frame) in freed {
+        frames.free(*frame);
+    }
+}

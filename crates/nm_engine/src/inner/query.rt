@@ -1,0 +1,111 @@
+//! What there is, and where the page is that a process sees.
+
+ghost use Rattle.nm_engine.specs.Asking.{node_status};
+ghost use Rattle.nm_engine.specs.Audited.{audited};
+ghost use Rattle.nm_engine.specs.Does.{AsksLast, Tells};
+ghost use Rattle.nm_engine.specs.Effect.{spawn};
+ghost use Rattle.nm_engine.specs.Entries.{entries_of};
+ghost use Rattle.nm_engine.specs.Refused.{entries_refusal, list_refusal};
+ghost use Rattle.nm_engine.specs.Sound.{IsSound};
+ghost use Rattle.nm_engine.specs.Tables.{info_of};
+ghost use Rattle.nm_types.specs.Layout.{node_count};
+ghost use Rattle.nm_types.specs.Map.{get};
+ghost use Rattle.nm_types.specs.Nodes.{is_in};
+ghost use Rattle.nm_types.specs.State.{free_list};
+ghost use Rattle.nm_types.specs.declared.errno.Errno.{Errno};
+ghost use Rattle.nm_types.specs.declared.errno.Errno.TheVariants.{Esrch};
+ghost use Rattle.nm_types.specs.declared.sight.Sight.TheVariants.{Sees};
+ghost use Rattle.std.specs.Ordering.{nat_cmp};
+ghost use Rattle.std.specs.Prelude.{IfOk, Some, [], option_map, true, ◌+◌, ◌/◌, ◌<◌, ◌≡◌, ◌≤◌};
+
+use crate::inner::Inner;
+use crate::machine::Totals;
+use crate::machine_error::MachineError;
+use crate::process::ProcessInfo;
+use nm_tables::Entry;
+use nm_types::{Errno, FrameId, NodeId, Pid, Sight, Vpn};
+use std::alloc::{AllocError, Allocator};
+
+impl<A: Allocator + Copy> Inner<A> {
+    /// How many nodes there are: 1 to 64.
+    pub(crate) fn node_count(&self) -> usize
+        ensures count { result ≡ node_count self.now.state.layout }
+        ensures few { result ≤ 64 }
+        ensures sound { self.now.left ≡ [] → IsSound self.now.state }
+    {
+        self.frames.node_count()
+    }
+
+    /// Whether there is such a node, and it is online.
+    pub(crate) fn is_online(&self, node: NodeId) -> bool
+        ensures { result ≡ is_in self.now.state.online node }
+    {
+        self.online.contains(node)
+    }
+
+    /// What `spawn` fixed of a process.
+    pub(crate) fn process(&self, pid: Pid) -> Option<ProcessInfo>
+        ensures { result ≡ option_map info_of (get nat_cmp self.now.state.processes pid) }
+    {
+        self.spaces.info(pid)
+    }
+
+    /// The totals so far.
+    pub(crate) fn totals(&self) -> Totals
+        ensures moved { result.moved ≡ self.now.state.moved }
+        ensures failed { result.failed ≡ self.now.state.failed }
+        ensures sound { self.now.left ≡ [] → IsSound self.now.state }
+    {
+        self.totals
+    }
+
+    /// The free frames of a node, the front first.
+    pub(crate) fn free_list(&self, node: NodeId) -> Result<Vec<FrameId, A>, MachineError>
+        ensures told { Tells result (list_refusal self.now.state node) (λ frames. frames.items ≡ free_list self.now.state node) }
+        ensures memory { AsksLast result (list_refusal self.now.state node) }
+    {
+        if node.index() >= self.frames.node_count() {
+            return Err(MachineError::Refused(Errno::Einval));
+        }
+        Ok(self.frames.free_list(self.alloc, node)?)
+    }
+
+    /// What the process has at the page numbers that it has touched, upwards.
+    pub(crate) fn entries(&self, pid: Pid) -> Result<Vec<(Vpn, Entry), A>, MachineError>
+        ensures told { Tells result (entries_refusal self.now.state pid) (λ entries. entries.items ≡ entries_of self.now.state pid) }
+        ensures memory { AsksLast result (entries_refusal self.now.state pid) }
+    {
+        match self.spaces.entries(pid)? {
+            Some(entries) => Ok(entries),
+            None => Err(MachineError::Refused(Errno::Esrch)),
+        }
+    }
+
+    /// The node of the page that a process sees at a page number, or an error's number with a minus sign.
+    pub(crate) fn node_status(&self, pid: Pid, vpn: Vpn) -> i32
+        ensures { result ≡ node_status self.now.state pid vpn }
+    {
+        prove!(self.frames.node_count() <= 64);
+        if self.spaces.over(pid, vpn).is_none() {
+            return -Errno::Efault.number();
+        }
+        match self.spaces.sight(pid, vpn) {
+            None => -Errno::Enoent.number(),
+            Some(Sight::ZeroPage) => -Errno::Efault.number(),
+            Some(Sight::Sees(page)) => match self.spaces.place(page) {
+                None => -Errno::Enoent.number(),
+                Some(frame) => self.frames.geometry().node_of(frame).number() as i32,
+            },
+        }
+    }
+
+    /// Whether each frame stands once, in its own node's list or as the place of a page.
+    pub(crate) fn audit(&self) -> Result<bool, AllocError>
+        ensures told { IfOk result (λ b. b ≡ audited self.now.state) }
+        ensures sound { self.now.left ≡ [] → IfOk result (λ b. b ≡ true) }
+    {
+        let places = self.spaces.places()?;
+        let once = self.frames.audit(self.alloc, places.as_slice())?;
+        Ok(once)
+    }
+}

@@ -1,0 +1,15 @@
+//! Where bytes of a process stand.
+
+use crate::process::ProcessInfo;
+use nm_types::{Page, Pid, Policy, Vpn};
+
+/// Where bytes of a process stand: a process, one of its page numbers, and the page that the area over it shows there,
+/// with the area's policy.
+#[derive(Clone, Copy)]
+pub(crate) struct Resolved {
+    pub(crate) pid: Pid,
+    pub(crate) info: ProcessInfo,
+    pub(crate) vpn: Vpn,
+    pub(crate) page: Page,
+    pub(crate) policy: Policy,
+}

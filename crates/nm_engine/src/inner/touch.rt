@@ -1,0 +1,209 @@
+//! Reads and writes.
+
+ghost use Rattle.std.specs.Prelude.{◌≡◌, ◌+◌, ◌/◌, ◌%◌, ◌≤◌, ◌++◌, true, length, replicate, vec_len, vec_capacity, Ok, Err, Some, None, IfOk, IfErr, IfNone, IsSome};
+ghost use Rattle.std.specs.Ordering.{nat_cmp};
+ghost use Rattle.nm_types.specs.declared.page.Page.{Page};
+ghost use Rattle.nm_types.specs.declared.sight.Sight.TheVariants.{Sees, ZeroPage};
+ghost use Rattle.nm_types.specs.Map.{get, page_cmp};
+ghost use Rattle.nm_types.specs.State.{Process, Placed};
+ghost use Rattle.nm_runs.specs.Seen.{sight_at};
+ghost use Rattle.nm_policy.specs.Order.{first_touch_order};
+ghost use Rattle.nm_engine.specs.Touch.{Bytes, Done, shown_at, spot, first_free, filled, joined, touched_entry, read, write, spot_refusal};
+ghost use Rattle.nm_engine.specs.MidRun.{spot_at, IsResolved, with_state};
+ghost use Rattle.nm_engine.specs.Does.{AsksLast, Touches, Accesses};
+ghost use Rattle.nm_engine.specs.Seeing.{frame_seen};
+
+use crate::frames::Frames;
+use crate::inner::Inner;
+use crate::inner::resolved::Resolved;
+use crate::machine_error::MachineError;
+use crate::process::ProcessInfo;
+use nm_policy::first_touch_order;
+use nm_types::{Errno, FrameId, NodeId, Page, Pid, Policy, Sight, Vpn};
+use std::alloc::{AllocError, Allocator};
+
+impl<A: Allocator + Copy> Inner<A> {
+    /// Reads bytes inside one page of a process.
+    pub(crate) fn read(&mut self, pid: Pid, addr: u64, len: u64) -> Result<Vec<u8, A>, MachineError>
+        ensures answer { Accesses result (λ bytes. Bytes bytes.items) self.old.state self.new.state (read self.old.state pid addr len) }
+        ensures memory { AsksLast result (spot_refusal self.old.state pid addr len) }
+        ensures same { self.new ≡ with_state self.old self.new.state }
+    {
+        let resolved = match self.resolve(pid, addr, len) {
+            Ok(resolved) => resolved,
+            Err(errno) => return Err(MachineError::Refused(errno)),
+        };
+        let len = len as usize;
+        let mut bytes = Vec::with_capacity(self.alloc, len)?;
+        match self.touch(resolved, false)? {
+            Some(frame) => self
+                .frames
+                .read(frame, (addr % 4096) as usize, len, &mut bytes),
+            None => push_zeros(&mut bytes, len),
+        }
+        Ok(bytes)
+    }
+
+    /// Writes bytes inside one page of a process.
+    pub(crate) fn write(&mut self, pid: Pid, addr: u64, bytes: &[u8]) -> Result<(), MachineError>
+        ensures answer { Accesses result (λ done. Done) self.old.state self.new.state (write self.old.state pid addr bytes.now) }
+        ensures memory { AsksLast result (spot_refusal self.old.state pid addr (length bytes.now)) }
+        ensures same { self.new ≡ with_state self.old self.new.state }
+    {
+        let resolved = match self.resolve(pid, addr, bytes.len() as u64) {
+            Ok(resolved) => resolved,
+            Err(errno) => return Err(MachineError::Refused(errno)),
+        };
+        let Some(frame) = self.touch(resolved, true)? else {
+            unreachable!()
+        };
+        self.frames.write(frame, (addr % 4096) as usize, bytes);
+        Ok(())
+    }
+
+    /// Where so many bytes of a process stand, or the first refusal.
+    fn resolve(&self, pid: Pid, addr: u64, len: u64) -> Result<Resolved, Errno>
+        ensures ok { IfOk result (λ t. (p : Process) × (a : Placed) × (spot self.now.state pid addr len ≡ Ok (spot_at t p a)) × IsResolved self.now.state t p a) }
+        ensures pid { IfOk result (λ t. t.pid ≡ pid) }
+        ensures page { IfOk result (λ t. t.vpn ≡ addr / 4096) }
+        ensures inside { IfOk result (λ t. addr % 4096 + len ≤ 4096) }
+        ensures err { IfErr result (λ errno. spot self.now.state pid addr len ≡ Err errno) }
+    {
+        let Some(info) = self.spaces.info(pid) else {
+            return Err(Errno::Esrch);
+        };
+        if len == 0 || len > 4096 - addr % 4096 {
+            return Err(Errno::Einval);
+        }
+        let vpn = Vpn::of_address(addr);
+        let Some((first, area)) = self.spaces.over(pid, vpn) else {
+            return Err(Errno::Efault);
+        };
+        let Page { segment, index } = area.page;
+        let page = Page {
+            segment,
+            index: index + (vpn.number() - first.number()),
+        };
+        Ok(Resolved {
+            pid,
+            info,
+            vpn,
+            page,
+            policy: area.policy,
+        })
+    }
+
+    /// What a read or a write does before it comes to the bytes. Gives the frame of the page that the process then sees,
+    /// or None where it sees the page of zeros.
+    fn touch(&mut self, t: Resolved, writes: bool) -> Result<Option<FrameId>, MachineError>
+        requires { (p : Process) × (a : Placed) × IsResolved self.old.state t p a }
+        ensures touches { (p : Process) (a : Placed) → IsResolved self.old.state t p a → Touches result self.old.state self.new.state (touched_entry self.old.state (spot_at t p a) writes (get nat_cmp p.sees t.vpn)) }
+        ensures frame { IfOk result (λ frame. frame ≡ frame_seen self.new.state t.pid t.vpn) }
+        ensures some { IfOk result (λ frame. writes ≡ true → IsSome frame) }
+        ensures zeros { IfOk result (λ frame. IfNone frame (sight_at self.new.state t.pid t.vpn ≡ Some ZeroPage)) }
+        ensures same { self.new ≡ with_state self.old self.new.state }
+    {
+        match self.spaces.sight(t.pid, t.vpn) {
+            Some(Sight::Sees(page)) => Ok(self.spaces.place(page)),
+            Some(Sight::ZeroPage) => {
+                if writes {
+                    Ok(Some(self.fill(t)?))
+                } else {
+                    Ok(None)
+                }
+            }
+            None => {
+                if self.spaces.is_shared(t.page.segment) {
+                    Ok(Some(self.join(t)?))
+                } else if writes {
+                    Ok(Some(self.fill(t)?))
+                } else {
+                    self.spaces.see_zero(t.pid, t.vpn)?;
+                    Ok(None)
+                }
+            }
+        }
+    }
+
+    /// The process sees the page that is there, or gets one.
+    fn join(&mut self, t: Resolved) -> Result<FrameId, MachineError>
+        requires touched { (p : Process) × (a : Placed) × IsResolved self.old.state t p a }
+        requires unseen { sight_at self.old.state t.pid t.vpn ≡ None }
+        ensures touches { (p : Process) (a : Placed) → IsResolved self.old.state t p a → Touches result self.old.state self.new.state (joined self.old.state (spot_at t p a) (get page_cmp self.old.state.place t.page)) }
+        ensures frame { IfOk result (λ frame. frame_seen self.new.state t.pid t.vpn ≡ Some frame) }
+        ensures same { self.new ≡ with_state self.old self.new.state }
+    {
+        let page = t.page;
+        let Some(frame) = self.spaces.place(page) else {
+            return self.fill(t);
+        };
+        self.spaces.see(t.pid, t.vpn, page, frame)?;
+        Ok(frame)
+    }
+
+    /// The page takes the front frame of the first node in order that has one, and the process sees it.
+    fn fill(&mut self, t: Resolved) -> Result<FrameId, MachineError>
+        requires touched { (p : Process) × (a : Placed) × IsResolved self.old.state t p a }
+        requires unplaced { get page_cmp self.old.state.place t.page ≡ None }
+        requires unseen { (page : Page) → sight_at self.old.state t.pid t.vpn ≡ Some (Sees page) → ⊥ }
+        ensures touches { (p : Process) (a : Placed) → IsResolved self.old.state t p a → Touches result self.old.state self.new.state (filled self.old.state (spot_at t p a)) }
+        ensures frame { IfOk result (λ frame. frame_seen self.new.state t.pid t.vpn ≡ Some frame) }
+        ensures same { self.new ≡ with_state self.old self.new.state }
+    {
+        let page = t.page;
+        let Some(node) = self.first_node(t.info, t.policy, page.index)? else {
+            return Err(MachineError::Refused(Errno::Enomem));
+        };
+        let Some(frame) = self.frames.front(node) else {
+            unreachable!()
+        };
+        self.spaces.allocate(t.pid, t.vpn, page, frame)?;
+        self.frames.take_front(node);
+        self.frames.zero(frame);
+        Ok(frame)
+    }
+
+    /// The first node in the order for a new page that has a free frame.
+    fn first_node(
+        &self,
+        info: ProcessInfo,
+        policy: Policy,
+        index: u64,
+    ) -> Result<Option<NodeId>, AllocError>
+        ensures { IfOk result (λ found. found ≡ first_free self.now.state.free (first_touch_order self.now.state.layout self.now.state.online info.home info.allowed policy index)) }
+    {
+        let ProcessInfo { home, allowed, .. } = info;
+        let order = first_touch_order(
+            self.alloc,
+            self.frames.geometry(),
+            self.online,
+            home,
+            allowed,
+            policy,
+            index,
+        )?;
+        Ok(first_free(&self.frames, order.as_slice()))
+    }
+}
+
+/// The first of these nodes that has a free frame.
+fn first_free<A: Allocator + Copy>(frames: &Frames<A>, order: &[NodeId]) -> Option<NodeId>
+    ensures { result ≡ first_free frames.now.free order.now }
+{
+    for node in order {
+        if frames.free_count(*node) > 0 {
+            return Some(*node);
+        }
+    }
+    None
+}
+
+/// Puts so many zeros behind the bytes of a list that has room for them.
+fn push_zeros<A: Allocator + Copy>(bytes: &mut Vec<u8, A>, len: usize)
+    requires { vec_len bytes.old + len ≤ vec_capacity bytes.old }
+    ensures { bytes.new.items ≡ bytes.old.items ++ replicate len 0 }
+{
+    for _ in 0..len {
+        bytes.push_reserved(0);
+    }
+}

@@ -1,0 +1,151 @@
+//! The table of processes.
+
+ghost use Rattle.std.specs.Prelude.{ℕ, ◌≡◌, ◌≤◌, ◌<◌, [], length, Some, None, IsSome, IfSome, IfNone, IfOk, OnOk, OnErr};
+ghost use Rattle.std.specs.Option.{option_map};
+ghost use Rattle.std.specs.List.Sorted.{IsStrictlySortedBy};
+ghost use Rattle.std.specs.Map.{keys_of};
+ghost use Rattle.std.specs.Ordering.{nat_cmp};
+ghost use Rattle.nm_types.specs.Map.{get, set, replace, without};
+ghost use Rattle.nm_engine.specs.ProcessTable.{Task};
+ghost use Rattle.nm_engine.specs.ProcessTable.{new_task, task_info, task_table, entry_at, IsThere, with_entry, without_entry, replaced};
+
+use crate::process::{self, ProcessInfo};
+use indexmap::IndexMap;
+use nm_tables::{Entry, PageTable};
+use nm_types::{Pid, Vpn};
+use std::alloc::{AllocError, Allocator};
+use std::hash::{BuildHasherDefault, FoldHasher};
+use std::marker::Model;
+
+/// The processes by pid, in the order of the pids, each with its page table.
+#[derive(Drop)]
+pub(crate) struct ProcessTable<A: Allocator + Copy> {
+    tasks: IndexMap<Pid, process::Task<A>, BuildHasherDefault<FoldHasher>, A>,
+    alloc: A,
+}
+
+impl<A: Allocator + Copy> Model for ProcessTable<A> {
+    ghost use Rattle.std.specs.Prelude.{ℕ};
+    ghost use Rattle.std.specs.Ordering.{nat_cmp};
+    ghost use Rattle.std.specs.List.Sorted.{IsStrictlySortedBy};
+    ghost use Rattle.std.specs.Map.{keys_of};
+    ghost use Rattle.nm_types.specs.Map.{Map};
+    ghost use Rattle.nm_engine.specs.ProcessTable.{Task};
+
+    ghost Value = { Map ℕ Task };
+
+    ghost view = { λ t. t.tasks.entries };
+
+    ghost invariant = { λ t. IsStrictlySortedBy nat_cmp (keys_of t.tasks.entries) };
+}
+
+impl<A: Allocator + Copy> ProcessTable<A> {
+    /// No process.
+    pub(crate) fn new(alloc: A) -> Self
+        ensures { result ≡ [] }
+    {
+        ProcessTable {
+            tasks: IndexMap::new(alloc),
+            alloc,
+        }
+    }
+
+    /// How many processes there are.
+    pub(crate) fn len(&self) -> usize
+        ensures count { result ≡ length self.now }
+        ensures ordered { IsStrictlySortedBy nat_cmp (keys_of self.now) }
+    {
+        self.tasks.len()
+    }
+
+    /// What `spawn` fixed of a process, or None where there is none of this pid.
+    pub(crate) fn info(&self, pid: Pid) -> Option<ProcessInfo>
+        ensures { result ≡ option_map task_info (get nat_cmp self.now pid) }
+    {
+        self.tasks.get(&pid).map(|task| task.info)
+    }
+
+    /// What stands in the table of a process at a page number.
+    pub(crate) fn entry(&self, pid: Pid, vpn: Vpn) -> Option<Entry>
+        ensures { result ≡ entry_at self.now pid vpn }
+    {
+        self.tasks.get(&pid)?.table.get(vpn)
+    }
+
+    /// All that stands in the table of a process, by page number.
+    pub(crate) fn entries(&self, pid: Pid) -> Result<Option<Vec<(Vpn, Entry), A>>, AllocError>
+        ensures entries { IfOk result (λ all. option_map (λ entries. entries.items) all ≡ option_map task_table (get nat_cmp self.now pid)) }
+        ensures memory { OnErr result (IsSome (get nat_cmp self.now pid)) }
+    {
+        match self.tasks.get(&pid) {
+            Some(task) => Ok(Some(task.table.entries()?)),
+            None => Ok(None),
+        }
+    }
+
+    /// The first entry of a process at a page number or past it.
+    pub(crate) fn first_from(&self, pid: Pid, at: Vpn) -> Option<(Vpn, Entry)>
+        ensures some { IfSome result (λ e. (at ≤ e.0) × (entry_at self.now pid e.0 ≡ Some e.1)) }
+        ensures first { IfSome result (λ e. (v : ℕ) → at ≤ v → v < e.0 → entry_at self.now pid v ≡ None) }
+        ensures none { IfNone result ((v : ℕ) → at ≤ v → entry_at self.now pid v ≡ None) }
+    {
+        self.tasks.get(&pid)?.table.first_from(at)
+    }
+
+    /// Adds a process that has touched nothing.
+    pub(crate) fn add(&mut self, pid: Pid, info: ProcessInfo) -> Result<(), AllocError>
+        requires { get nat_cmp self.old pid ≡ None }
+        ensures ok { OnOk result (self.new ≡ set nat_cmp self.old pid (new_task info)) }
+        ensures err { OnErr result (self.new ≡ self.old) }
+        ensures ordered { IsStrictlySortedBy nat_cmp (keys_of self.new) }
+    {
+        let task = process::Task {
+            info,
+            table: PageTable::new(self.alloc),
+        };
+        self.tasks.insert_sorted(pid, task)?;
+        Ok(())
+    }
+
+    /// Puts an entry at a page number of a process.
+    pub(crate) fn set(&mut self, pid: Pid, vpn: Vpn, entry: Entry) -> Result<(), AllocError>
+        requires { IsSome (get nat_cmp self.old pid) }
+        ensures ok { OnOk result ((t : Task) → get nat_cmp self.old pid ≡ Some t → self.new ≡ replace nat_cmp self.old pid (with_entry t vpn entry)) }
+        ensures err { OnErr result (self.new ≡ self.old) }
+    {
+        let Some(task) = self.tasks.get_mut(&pid) else {
+            unreachable!()
+        };
+        task.table.set(vpn, entry)
+    }
+
+    /// Puts another entry at a page number of a process that has one. It takes no memory.
+    pub(crate) fn replace(&mut self, pid: Pid, vpn: Vpn, entry: Entry)
+        requires { IsThere self.old (pid, vpn) }
+        ensures { self.new ≡ replaced self.old entry (pid, vpn) }
+    {
+        let Some(task) = self.tasks.get_mut(&pid) else {
+            unreachable!()
+        };
+        task.table.replace(vpn, entry);
+    }
+
+    /// Takes away the entry at a page number of a process. It takes no memory.
+    pub(crate) fn clear(&mut self, pid: Pid, vpn: Vpn)
+        requires { IsSome (get nat_cmp self.old pid) }
+        ensures { (t : Task) → get nat_cmp self.old pid ≡ Some t → self.new ≡ replace nat_cmp self.old pid (without_entry t vpn) }
+    {
+        let Some(task) = self.tasks.get_mut(&pid) else {
+            unreachable!()
+        };
+        task.table.clear(vpn);
+    }
+
+    /// Takes away a process with its table. It takes no memory.
+    pub(crate) fn remove(&mut self, pid: Pid)
+        ensures gone { self.new ≡ without nat_cmp self.old pid }
+        ensures ordered { IsStrictlySortedBy nat_cmp (keys_of self.new) }
+    {
+        self.tasks.shift_remove(&pid);
+    }
+}
