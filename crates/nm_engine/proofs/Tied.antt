@@ -8,3 +8,4 @@ pub mod Touched
 pub mod Remapped
 pub mod Tabled
 pub mod Counted
+pub mod Looked

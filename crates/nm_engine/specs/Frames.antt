@@ -20,7 +20,7 @@ pub record FramesView : Type 0 where
   pub room : ℕ
 
 -- a list for each node, and as many buffers as frames, all of them home
-pub record IsWhole (k : FramesView) : Type 0 where
+pub record HasAllFrames (k : FramesView) : Type 0 where
   pub lists : length k.free ≡ node_count k.layout
   pub buffers : length k.frames ≡ frame_count k.layout
   pub home : (frame : ℕ) → frame < frame_count k.layout → IsHome k.frames frame

@@ -15,7 +15,8 @@ ghost use Rattle.nm_areas.specs.Effect.{inserted, attached, with_policy};
 ghost use Rattle.nm_areas.specs.Refused.{insert_refusal, attach_refusal, policy_refusal, remove_refusal};
 ghost use Rattle.nm_areas.specs.Removed.{frames_lost};
 ghost use Rattle.nm_areas.specs.Lines.{is_shared};
-ghost use Rattle.nm_runs.specs.Seen.{sight_in, sees_page};
+ghost use Rattle.nm_runs.specs.Seen.{sight_in, look_in, look_at_place};
+ghost use Rattle.nm_engine.specs.Seeing.{HasFrameBelow};
 ghost use Rattle.nm_engine.specs.Tables.{info_of, untouched};
 ghost use Rattle.nm_engine.specs.ProcessTable.{IsThere, remapped};
 ghost use Rattle.nm_engine.specs.Entries.{entry_of};
@@ -29,7 +30,7 @@ use crate::process_table::ProcessTable;
 use nm_areas::Areas;
 use nm_rmap::ReverseMap;
 use nm_tables::Entry;
-use nm_types::{Area, Errno, FrameId, Page, Pid, Sight, Vpn};
+use nm_types::{Area, Errno, FrameId, Page, Pid, Seen, Sight, Vpn};
 use std::alloc::{AllocError, Allocator};
 use std::collections::BTreeSet;
 use std::marker::Model;
@@ -101,14 +102,15 @@ impl<A: Allocator + Copy> AddressSpaces<A> {
         })
     }
 
-    /// What a process sees at a page number.
-    pub(crate) fn sight(&self, pid: Pid, vpn: Vpn) -> Option<Sight>
+    /// What a process sees at a page number where an area shows this page.
+    pub(crate) fn sight(&self, pid: Pid, vpn: Vpn, page: Page) -> Option<Sight>
+        requires { page_at self.now.areas pid vpn ≡ Some page }
         ensures { result ≡ sight_in (get nat_cmp self.now.processes pid) vpn }
     {
         match self.tasks.entry(pid, vpn)? {
             Entry::Zero => Some(Sight::ZeroPage),
-            Entry::Frame(_) => Some(Sight::Sees(self.page_at(pid, vpn)?)),
-            Entry::Held(_) => Some(Sight::Sees(self.page_at(pid, vpn)?)),
+            Entry::Frame(_) => Some(Sight::Sees(page)),
+            Entry::Held(_) => Some(Sight::Sees(page)),
         }
     }
 
@@ -142,20 +144,47 @@ impl<A: Allocator + Copy> AddressSpaces<A> {
         self.areas.is_shared(segment)
     }
 
-    /// How many processes see the page of a frame. Two page numbers of a process count once.
-    pub(crate) fn users(&self, frame: FrameId) -> usize
-        requires { frame < self.now.frames }
-        ensures { (p : Page) → get page_cmp self.now.place p ≡ Some frame → result ≡ length (keys_of (filter (λ e. sees_page p e.1) self.now.processes)) }
+    /// What is seen at a page number of a process. The area over it is looked up once.
+    pub(crate) fn look(&self, pid: Pid, vpn: Vpn) -> Seen
+        ensures look { result ≡ look_in self.now.processes self.now.areas self.now.place self.now.pins pid vpn }
+        ensures known { HasFrameBelow self.now.frames result }
     {
-        self.rmap.processes(frame)
+        let Some(page) = self.page_at(pid, vpn) else {
+            return Seen::NoArea;
+        };
+        match self.tasks.entry(pid, vpn) {
+            None => Seen::Absent,
+            Some(entry) => match entry {
+                Entry::Zero => Seen::Zero,
+                Entry::Frame(frame) => self.look_at(page, frame),
+                Entry::Held(frame) => self.look_at(page, frame),
+            },
+        }
     }
 
-    /// Whether the page of a frame is pinned.
-    pub(crate) fn is_pinned(&self, frame: FrameId) -> bool
-        requires { frame < self.now.frames }
-        ensures { (p : Page) → get page_cmp self.now.place p ≡ Some frame → result ≡ nat_lt 0 (pins_here self.now p) }
+    /// What is seen of a page, whoever sees it.
+    pub(crate) fn look_at_page(&self, page: Page) -> Seen
+        ensures look { result ≡ look_at_place self.now.processes self.now.pins page (get page_cmp self.now.place page) }
+        ensures known { HasFrameBelow self.now.frames result }
     {
-        self.rmap.pins(frame) > 0
+        match self.place(page) {
+            None => Seen::Absent,
+            Some(frame) => self.look_at(page, frame),
+        }
+    }
+
+    /// What is seen of a page that has a frame.
+    fn look_at(&self, page: Page, frame: FrameId) -> Seen
+        requires { get page_cmp self.now.place page ≡ Some frame }
+        ensures look { result ≡ look_at_place self.now.processes self.now.pins page (Some frame) }
+        ensures known { HasFrameBelow self.now.frames result }
+    {
+        Seen::At {
+            page,
+            frame,
+            processes: self.rmap.processes(frame),
+            pinned: self.rmap.pins(frame) > 0,
+        }
     }
 
     /// Adds a process that has touched nothing.

@@ -6,7 +6,7 @@ ghost use Rattle.nm_nodes.specs.Pool.{list_of, appended};
 ghost use Rattle.nm_frames.specs.Store.{IsHome, bytes_of, overwrite};
 ghost use Rattle.nm_engine.specs.Audited.{is_audited, numbered};
 ghost use Rattle.nm_nodes.specs.Pool.{all_frames};
-ghost use Rattle.nm_engine.specs.Frames.{IsWhole, free_on, pool_of, all_freed, CanFree, with_freed, stretch_of};
+ghost use Rattle.nm_engine.specs.Frames.{HasAllFrames, free_on, pool_of, all_freed, CanFree, with_freed, stretch_of};
 
 use crate::audit;
 use nm_frames::{CopyJob, FrameStore};
@@ -27,7 +27,7 @@ pub(crate) struct Frames<A: Allocator + Copy> {
 
 impl<A: Allocator + Copy> Model for Frames<A> {
     ghost use Rattle.std.specs.Prelude.{◌≡◌, vec_capacity};
-    ghost use Rattle.nm_engine.specs.Frames.{FramesView, IsWhole};
+    ghost use Rattle.nm_engine.specs.Frames.{FramesView, HasAllFrames};
 
     ghost Value = { FramesView };
 
@@ -39,7 +39,7 @@ impl<A: Allocator + Copy> Model for Frames<A> {
       room = vec_capacity s.vacated;
     } };
 
-    ghost invariant = { λ s. (s.nodes.sizes ≡ s.geometry.sizes) × IsWhole (record {
+    ghost invariant = { λ s. (s.nodes.sizes ≡ s.geometry.sizes) × HasAllFrames (record {
       layout = s.geometry;
       frames = s.frames;
       free = s.nodes.lists;
@@ -54,7 +54,7 @@ impl<A: Allocator + Copy> Frames<A> {
         ensures layout { IfOk result (λ s. s.layout ≡ geometry) }
         ensures free { IfOk result (λ s. s.free ≡ all_frames 0 geometry.sizes) }
         ensures vacated { IfOk result (λ s. s.vacated ≡ []) }
-        ensures shelf { IfOk result (λ s. IsWhole s) }
+        ensures shelf { IfOk result (λ s. HasAllFrames s) }
     {
         let frames = FrameStore::new(alloc, geometry.frame_count())?;
         let nodes = NodePool::new(alloc, &geometry)?;
@@ -84,7 +84,8 @@ impl<A: Allocator + Copy> Frames<A> {
     /// The node that owns a frame.
     pub(crate) fn node_of(&self, frame: FrameId) -> NodeId
         requires { frame < frame_count self.now.layout }
-        ensures { result ≡ node_of self.now.layout frame }
+        ensures node { result ≡ node_of self.now.layout frame }
+        ensures below { result < node_count self.now.layout }
     {
         self.geometry.node_of(frame)
     }
@@ -112,7 +113,7 @@ impl<A: Allocator + Copy> Frames<A> {
     pub(crate) fn front(&self, node: NodeId) -> Option<FrameId>
         requires { node < node_count self.now.layout }
         ensures front { result ≡ slice_get (free_on self.now node) 0 }
-        ensures shelf { IsWhole self.now }
+        ensures shelf { HasAllFrames self.now }
     {
         self.nodes.nth(node, 0)
     }
@@ -122,7 +123,7 @@ impl<A: Allocator + Copy> Frames<A> {
         requires { node < node_count self.old.layout }
         ensures front { result ≡ slice_get (free_on self.old node) 0 }
         ensures rest { self.new ≡ record (self.old) { free = slice_set self.old.free node (drop 1 (free_on self.old node)) } }
-        ensures shelf { IsWhole self.old }
+        ensures shelf { HasAllFrames self.old }
     {
         self.nodes.take_front(node)
     }
@@ -142,7 +143,7 @@ impl<A: Allocator + Copy> Frames<A> {
         requires frame { frame < frame_count self.old.layout }
         requires inside { at + length bytes.now ≤ 4096 }
         ensures written { self.new ≡ record (self.old) { frames = slice_set self.old.frames frame (Some (overwrite (bytes_of self.old.frames frame) at bytes.now)) } }
-        ensures shelf { IsWhole self.old }
+        ensures shelf { HasAllFrames self.old }
     {
         self.frames.write(frame, at, bytes);
     }

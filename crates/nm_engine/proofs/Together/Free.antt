@@ -16,7 +16,7 @@ use Rattle.nm_nodes.specs.Pool as pool
 use Rattle.nm_engine.specs.Sound.{times, FramesAreOnce, IsSoundMidRun}
 use Rattle.nm_engine.specs.AddressSpaces.{SpacesView}
 use Rattle.nm_engine.specs.Shown.{paged_frames, shown_by}
-use Rattle.nm_engine.specs.Frames.{FramesView, IsWhole, PagedFrames, with_freed, CanFree, pool_of}
+use Rattle.nm_engine.specs.Frames.{FramesView, HasAllFrames, PagedFrames, with_freed, CanFree, pool_of}
 use Rattle.nm_engine.proofs.Together.Paged.{IsStocked, free_of}
 use Rattle.nm_engine.proofs.Soundness.Frames.{here, times_cons, frame_freed, left_below}
 use Rattle.nm_engine.proofs.Soundness.Once.{counted_place}
@@ -88,7 +88,7 @@ all_home n k bytes lt =
 
 -- the frames of a new machine, all of them home
 pub new_shelf : (g : Layout) (frames : Store) (free : List (List ℕ)) (vacated : List ℕ) (room n : ℕ) → n ≡ frame_count g → frames ≡ replicate n (Some (replicate 4096 0)) → free ≡ all_frames 0 g.sizes
-    → IsWhole (record { layout = g; frames = frames; free = free; vacated = vacated; room = room })
+    → HasAllFrames (record { layout = g; frames = frames; free = free; vacated = vacated; room = room })
 new_shelf g frames free vacated room n count f l =
     record {
       lists = ap length l ∙ (new_frames g).lists;
@@ -106,7 +106,7 @@ sizes_stay p [] = refl
 sizes_stay p (frame ∷ frames) = sizes_stay (pool.appended p frame) frames
 
 -- frames and the pages that are in them, each frame in one place
-pub stocked_is : (y : SpacesView) (k : FramesView) (online : List ℕ) (moved failed : ℕ) (left : List ℕ) → k.vacated ≡ left → IsSoundMidRun (shown_by y k online moved failed) left → IsWhole k → IsStocked (paged_frames y k)
+pub stocked_is : (y : SpacesView) (k : FramesView) (online : List ℕ) (moved failed : ℕ) (left : List ℕ) → k.vacated ≡ left → IsSoundMidRun (shown_by y k online moved failed) left → HasAllFrames k → IsStocked (paged_frames y k)
 stocked_is y k online moved failed left is h shelf =
     record { in_order = h.order.place; once = subst (FramesAreOnce k.layout y.place k.free) (sym is) h.frames; buffers = shelf.buffers; home = shelf.home }
 

@@ -7,7 +7,7 @@ use Rattle.nm_types.specs.Layout.{frame_count}
 use Rattle.nm_types.specs.State.{Process}
 use Rattle.nm_frames.specs.Store.{bytes_of}
 use Rattle.nm_engine.specs.AddressSpaces.{SpacesView, with_moved, with_new_page}
-use Rattle.nm_engine.specs.Frames.{FramesView, IsWhole, free_on}
+use Rattle.nm_engine.specs.Frames.{FramesView, HasAllFrames, free_on}
 use Rattle.nm_engine.proofs.Together.Paged.{IsStocked, stock_page, restock_page}
 use Rattle.nm_engine.specs.Shown.{paged_frames, shown_by}
 use Rattle.nm_engine.specs.MidRun.{IsKept}
@@ -19,7 +19,7 @@ pub record IsSpare (y : SpacesView) (k : FramesView) (frame : ℕ) : Type 0 wher
   pub known : frame < y.frames
   pub place : (q : Page) → get page_cmp y.place q ≡ Some frame → ⊥
 
-module _ (y : SpacesView) (k : FramesView) (online : List ℕ) (moved failed : ℕ) (kept : IsKept (shown_by y k online moved failed) k.vacated y.frames) (shelf : IsWhole k) where
+module _ (y : SpacesView) (k : FramesView) (online : List ℕ) (moved failed : ℕ) (kept : IsKept (shown_by y k online moved failed) k.vacated y.frames) (shelf : HasAllFrames k) where
   pub kept_stocked : IsStocked (paged_frames y k)
   kept_stocked = stocked_is y k online moved failed k.vacated refl kept.sound shelf
 

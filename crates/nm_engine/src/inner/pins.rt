@@ -12,7 +12,7 @@ ghost use Rattle.nm_types.specs.declared.sight.Sight.TheVariants.{Sees};
 ghost use Rattle.std.specs.Prelude.{Bool, IfErr, IfOk, Some, false, if◌then◌else◌, ℕ, ◌+◌, ◌/◌, ◌<◌, ◌≡◌};
 
 use crate::inner::Inner;
-use nm_types::{Errno, FrameId, Page, Pid, Sight, Vpn};
+use nm_types::{Errno, FrameId, Page, Pid, Seen, Vpn};
 use std::alloc::Allocator;
 
 impl<A: Allocator + Copy> Inner<A> {
@@ -26,17 +26,10 @@ impl<A: Allocator + Copy> Inner<A> {
         if self.spaces.info(pid).is_none() {
             return Err(Errno::Esrch);
         }
-        let vpn = Vpn::of_address(addr);
-        if self.spaces.over(pid, vpn).is_none() {
-            return Err(Errno::Efault);
-        }
-        match self.spaces.sight(pid, vpn) {
-            None => Err(Errno::Enoent),
-            Some(Sight::ZeroPage) => Err(Errno::Efault),
-            Some(Sight::Sees(page)) => match self.spaces.place(page) {
-                Some(frame) => Ok((page, frame)),
-                None => Err(Errno::Enoent),
-            },
+        match self.spaces.look(pid, Vpn::of_address(addr)) {
+            Seen::NoArea | Seen::Zero => Err(Errno::Efault),
+            Seen::Absent => Err(Errno::Enoent),
+            Seen::At { page, frame, .. } => Ok((page, frame)),
         }
     }
 

@@ -23,7 +23,7 @@ use crate::machine::Totals;
 use crate::machine_error::MachineError;
 use crate::process::ProcessInfo;
 use nm_tables::Entry;
-use nm_types::{Errno, FrameId, NodeId, Pid, Sight, Vpn};
+use nm_types::{Errno, FrameId, NodeId, Pid, Seen, Vpn};
 use std::alloc::{AllocError, Allocator};
 
 impl<A: Allocator + Copy> Inner<A> {
@@ -86,16 +86,10 @@ impl<A: Allocator + Copy> Inner<A> {
         ensures { result ≡ node_status self.now.state pid vpn }
     {
         prove!(self.frames.node_count() <= 64);
-        if self.spaces.over(pid, vpn).is_none() {
-            return -Errno::Efault.number();
-        }
-        match self.spaces.sight(pid, vpn) {
-            None => -Errno::Enoent.number(),
-            Some(Sight::ZeroPage) => -Errno::Efault.number(),
-            Some(Sight::Sees(page)) => match self.spaces.place(page) {
-                None => -Errno::Enoent.number(),
-                Some(frame) => self.frames.geometry().node_of(frame).number() as i32,
-            },
+        match self.spaces.look(pid, vpn) {
+            Seen::NoArea | Seen::Zero => -Errno::Efault.number(),
+            Seen::Absent => -Errno::Enoent.number(),
+            Seen::At { frame, .. } => self.frames.node_of(frame).number() as i32,
         }
     }
 

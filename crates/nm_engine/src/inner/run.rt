@@ -1,20 +1,19 @@
 //! Runs: pages that move to one node, one after another.
 
-ghost use Rattle.std.specs.Prelude.{◌≡◌, ◌+◌, ◌<◌, ◌≤◌, [], ◌∷◌, ◌++◌, ◌&&◌, not, nat_lt, length, vec_len, vec_capacity, Some, OnOk};
+ghost use Rattle.std.specs.Prelude.{◌≡◌, ◌+◌, ◌<◌, ◌≤◌, [], ◌∷◌, ◌++◌, length, vec_len, vec_capacity, Some, OnOk};
 ghost use Rattle.std.specs.Bool.{OnTrue, OnFalse};
-ghost use Rattle.nm_types.specs.Layout.{node_count};
+ghost use Rattle.nm_types.specs.Layout.{node_count, frame_count};
 ghost use Rattle.nm_types.specs.Map.{get, page_cmp};
-ghost use Rattle.nm_runs.specs.declared.Wanted.TheVariants.{At};
 ghost use Rattle.nm_types.specs.State.{free_list};
 ghost use Rattle.nm_runs.specs.declared.Class.TheVariants.{Move};
-ghost use Rattle.nm_runs.specs.Seen.{users};
-ghost use Rattle.nm_runs.specs.Status.{page_status, status_or_move};
+ghost use Rattle.nm_runs.specs.Status.{class_of_look, status_or_move};
+ghost use Rattle.nm_engine.specs.Seeing.{HasFrameBelow};
 ghost use Rattle.nm_engine.specs.Run.{decided, one, each, left, with_all_free, failures, counted};
 
 use crate::inner::Inner;
 use crate::machine::Totals;
 use nm_runs::{Class, Wanted};
-use nm_types::{Errno, FrameId, NodeId, Page, Pid, Sight, Vpn};
+use nm_types::{Errno, FrameId, Geometry, NodeId, Page, Seen};
 use std::alloc::{AllocError, Allocator};
 
 impl<A: Allocator + Copy> Inner<A> {
@@ -89,51 +88,21 @@ impl<A: Allocator + Copy> Inner<A> {
         true
     }
 
-    /// What is to be done with a request.
+    /// What is to be done with a request, by a look at what it names.
     fn class_of(&self, target: NodeId, wanted: Wanted) -> Class
         requires { target < node_count self.now.state.layout }
         ensures class { result ≡ status_or_move self.now.state target wanted }
         ensures target { target < 64 }
     {
         prove!(self.frames.node_count() <= 64);
+        let geometry = self.frames.geometry();
         match wanted {
-            Wanted::At { pid, vpn, all } => self.class_seen(target, pid, vpn, all),
-            Wanted::Whole(page) => self.class_of_page(target, page, true),
-        }
-    }
-
-    /// What is to be done with the page that a process sees at a page number.
-    fn class_seen(&self, target: NodeId, pid: Pid, vpn: Vpn, all: bool) -> Class
-        requires { target < node_count self.now.state.layout }
-        ensures { result ≡ status_or_move self.now.state target (At pid vpn all) }
-    {
-        if self.spaces.over(pid, vpn).is_none() {
-            return Class::Status(-Errno::Efault.number());
-        }
-        match self.spaces.sight(pid, vpn) {
-            None => Class::Status(-Errno::Enoent.number()),
-            Some(Sight::ZeroPage) => Class::Status(-Errno::Efault.number()),
-            Some(Sight::Sees(page)) => self.class_of_page(target, page, all),
-        }
-    }
-
-    /// What is to be done with a page, which moves though several processes see it only if all are asked for.
-    fn class_of_page(&self, target: NodeId, page: Page, all: bool) -> Class
-        requires { target < node_count self.now.state.layout }
-        ensures { result ≡ page_status self.now.state target (nat_lt 1 (length (users self.now.state page)) && not all) page (get page_cmp self.now.state.place page) }
-    {
-        prove!(self.frames.node_count() <= 64);
-        let Some(from) = self.spaces.place(page) else {
-            return Class::Status(-Errno::Enoent.number());
-        };
-        if self.frames.node_of(from) == target {
-            Class::Status(target.number() as i32)
-        } else if self.spaces.users(from) > 1 && !all {
-            Class::Status(-Errno::Eacces.number())
-        } else if self.spaces.is_pinned(from) {
-            Class::Status(-Errno::Ebusy.number())
-        } else {
-            Class::Move { page, from }
+            Wanted::At { pid, vpn, all } => {
+                class_of_look(geometry, target, all, self.spaces.look(pid, vpn))
+            }
+            Wanted::Whole(page) => {
+                class_of_look(geometry, target, true, self.spaces.look_at_page(page))
+            }
         }
     }
 
@@ -153,6 +122,40 @@ impl<A: Allocator + Copy> Inner<A> {
             moved: before.saturating_add(moved),
             failed: failed_before.saturating_add(failed),
         };
+    }
+}
+
+/// What is to be done with what is seen: a page moves though several processes see it only if all are asked for.
+fn class_of_look<A: Allocator + Copy>(
+    geometry: &Geometry<A>,
+    target: NodeId,
+    all: bool,
+    seen: Seen,
+) -> Class
+    requires target { target < node_count geometry.now }
+    requires known { HasFrameBelow (frame_count geometry.now) seen }
+    ensures { result ≡ class_of_look geometry.now target all seen }
+{
+    prove!(geometry.node_count() <= 64);
+    match seen {
+        Seen::NoArea | Seen::Zero => Class::Status(-Errno::Efault.number()),
+        Seen::Absent => Class::Status(-Errno::Enoent.number()),
+        Seen::At {
+            page,
+            frame,
+            processes,
+            pinned,
+        } => {
+            if geometry.node_of(frame) == target {
+                Class::Status(target.number() as i32)
+            } else if processes > 1 && !all {
+                Class::Status(-Errno::Eacces.number())
+            } else if pinned {
+                Class::Status(-Errno::Ebusy.number())
+            } else {
+                Class::Move { page, from: frame }
+            }
+        }
     }
 }
 

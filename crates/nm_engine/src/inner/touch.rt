@@ -103,7 +103,7 @@ impl<A: Allocator + Copy> Inner<A> {
         ensures zeros { IfOk result (λ frame. IfNone frame (sight_at self.new.state t.pid t.vpn ≡ Some ZeroPage)) }
         ensures same { self.new ≡ with_state self.old self.new.state }
     {
-        match self.spaces.sight(t.pid, t.vpn) {
+        match self.spaces.sight(t.pid, t.vpn, t.page) {
             Some(Sight::Sees(page)) => Ok(self.spaces.place(page)),
             Some(Sight::ZeroPage) => {
                 if writes {

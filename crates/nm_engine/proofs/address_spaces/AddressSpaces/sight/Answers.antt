@@ -1,8 +1,7 @@
-use Rattle.std.proofs.Common.{refl, ap, sym, ◌∙◌, eq-eqb}
+use Rattle.std.proofs.Common.{ap, sym, ◌∙◌}
 use Rattle.std.specs.Prelude.{Some, None}
-use Rattle.nm_engine.specs.ProcessTable.{names}
 use Rattle.nm_engine.specs.AddressSpaces.{sight_of}
-use Rattle.nm_engine.proofs.Tied.New.{seen_here, seen_page, no_page}
+use Rattle.nm_engine.proofs.Tied.New.{seen_here, seen_page}
 use Rattle.nm_engine.proofs.address_spaces.AddressSpaces.sight.Goals as goal
 
 pub returns-in_err-entry : goal.returns-in_err-entry
@@ -16,28 +15,14 @@ returns-in-Zero g c =
     ap (λ e. Some (sight_of x.areas.areas c.args.pid c.args.vpn e)) (sym c.in-Zero.is)
     ∙ seen_here c.args.self.now x.tasks x.areas x.rmap c.args.pid c.args.vpn (Some c.in_ok-entry.field-0) c.self.view_is c.in_ok-entry.ensures
 
-pub returns-in_ok-page_at-in-Frame : goal.returns-in_ok-page_at-in-Frame
-returns-in_ok-page_at-in-Frame g c =
+pub returns-in-Frame : goal.returns-in-Frame
+returns-in-Frame g c =
     let x = c.self.inside in
-    seen_page c.args.self.now x.tasks x.areas x.rmap c.args.pid c.args.vpn c.in_ok-entry.field-0 c.in_ok-page_at-in-Frame.field-0 c.self.view_is c.in_ok-entry.ensures
-    (ap (sight_of x.areas.areas c.args.pid c.args.vpn) c.in-Frame.is) c.in_ok-page_at-in-Frame.ensures
+    seen_page c.args.self.now x.tasks x.areas x.rmap c.args.pid c.args.vpn c.in_ok-entry.field-0 c.args.page c.self.view_is c.in_ok-entry.ensures
+    (ap (sight_of x.areas.areas c.args.pid c.args.vpn) c.in-Frame.is) (sym c.requires)
 
-pub returns-in_ok-page_at-in-Held : goal.returns-in_ok-page_at-in-Held
-returns-in_ok-page_at-in-Held g c =
+pub returns-in-Held : goal.returns-in-Held
+returns-in-Held g c =
     let x = c.self.inside in
-    seen_page c.args.self.now x.tasks x.areas x.rmap c.args.pid c.args.vpn c.in_ok-entry.field-0 c.in_ok-page_at-in-Held.field-0 c.self.view_is c.in_ok-entry.ensures
-    (ap (sight_of x.areas.areas c.args.pid c.args.vpn) c.in-Held.is) c.in_ok-page_at-in-Held.ensures
-
-pub returns-in_err-page_at-in-Frame : goal.returns-in_err-page_at-in-Frame
-returns-in_err-page_at-in-Frame g c =
-    let x = c.self.inside in
-    let f = c.in-Frame.field-0 in
-    absurd (no_page c.args.self.now x.tasks x.areas x.rmap c.args.pid c.args.vpn f c.in_ok-entry.field-0 c.self.view_is c.self.invariant c.in_ok-entry.ensures
-    (ap (λ e. names f (Some e)) c.in-Frame.is ∙ eq-eqb f f refl) c.in_err-page_at-in-Frame.ensures)
-
-pub returns-in_err-page_at-in-Held : goal.returns-in_err-page_at-in-Held
-returns-in_err-page_at-in-Held g c =
-    let x = c.self.inside in
-    let f = c.in-Held.field-0 in
-    absurd (no_page c.args.self.now x.tasks x.areas x.rmap c.args.pid c.args.vpn f c.in_ok-entry.field-0 c.self.view_is c.self.invariant c.in_ok-entry.ensures
-    (ap (λ e. names f (Some e)) c.in-Held.is ∙ eq-eqb f f refl) c.in_err-page_at-in-Held.ensures)
+    seen_page c.args.self.now x.tasks x.areas x.rmap c.args.pid c.args.vpn c.in_ok-entry.field-0 c.args.page c.self.view_is c.in_ok-entry.ensures
+    (ap (sight_of x.areas.areas c.args.pid c.args.vpn) c.in-Held.is) (sym c.requires)
