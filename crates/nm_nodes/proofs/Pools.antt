@@ -1,5 +1,5 @@
 -- What a pool keeps as a list of it changes.
-use Rattle.std.proofs.Common.{◌≡◌, ℕ, suc, ◌+◌, ◌-◌, ◌<◌, ◌≤◌, ◌⊎◌, inl, inr, ⊎_elim, true, false, eqb, ◌||◌, List, [], ◌∷◌, ◌++◌, length, sum, drop, get_or, refl, sym, subst, ap, ◌∙◌, arith, zero-add}
+use Rattle.std.proofs.Common.{◌≡◌, ℕ, zero, suc, ◌+◌, ◌-◌, ◌<◌, ◌≤◌, ◌⊎◌, inl, inr, ⊎_elim, true, false, eqb, ◌||◌, List, [], ◌∷◌, ◌++◌, length, sum, drop, get_or, refl, sym, subst, ap, ◌∙◌, arith, zero-add}
 use Rattle.std.proofs.Math.ListN.{set}
 use Rattle.std.specs.List.{list_any, IsDistinct, AllByRecursion}
 use Rattle.std.proofs.lemmas.Bool.{eqb-true, cases_eq, or_cases, or_parts, or_right, false≢true}
@@ -49,6 +49,22 @@ pub IsPool-without_front : (p : Pool) (node : ℕ) → IsPool p → node < lengt
 IsPool-without_front p node is within =
     let ns = list_of p node in
     IsPool-with_list p node (drop 1 ns) is within (λ q h. is.in_machine node q (is_in-drop ns q h)) (λ q h. is.own node q (is_in-drop ns q h)) (distinct-drop ns (is.distinct node))
+
+-- the same of as many as one likes
+is_in-drop_many : (n : ℕ) (ns : List ℕ) (q : ℕ) → is_in (drop n ns) q ≡ true → is_in ns q ≡ true
+is_in-drop_many zero ns q h = h
+is_in-drop_many (suc n) [] q h = h
+is_in-drop_many (suc n) (m ∷ ns) q h = or_right (eqb m q) (is_in ns q) (is_in-drop_many n ns q h)
+
+distinct-drop_many : (n : ℕ) (ns : List ℕ) → IsDistinct eqb ns → IsDistinct eqb (drop n ns)
+distinct-drop_many zero ns d = d
+distinct-drop_many (suc n) [] d = d
+distinct-drop_many (suc n) (m ∷ ns) d = distinct-drop_many n ns (IsDistinct-tail eqb m ns d)
+
+pub IsPool-without_fronts : (p : Pool) (node n : ℕ) → IsPool p → node < length p.lists → IsPool (with_list p node (drop n (list_of p node)))
+IsPool-without_fronts p node n is within =
+    let ns = list_of p node in
+    IsPool-with_list p node (drop n ns) is within (λ q h. is.in_machine node q (is_in-drop_many n ns q h)) (λ q h. is.own node q (is_in-drop_many n ns q h)) (distinct-drop_many n ns (is.distinct node))
 
 -- the same in the order of std's test
 is_in-flipped : (ns : List ℕ) (q : ℕ) → is_in ns q ≡ list_any (eqb q) ns

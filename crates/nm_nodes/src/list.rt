@@ -1,6 +1,7 @@
 //! The free frames of one node.
 
-ghost use Rattle.std.specs.Prelude.{◌≡◌, ◌+◌, ◌<◌, ◌≤◌, ◌^◌, [], ◌∷◌, ◌++◌, length, drop, slice_get, IfOk};
+ghost use Rattle.std.specs.Prelude.{◌≡◌, ◌+◌, ◌<◌, ◌≤◌, ◌^◌, [], ◌∷◌, ◌++◌, length, take, drop, slice_get, vec_len, vec_capacity, IfOk};
+ghost use Rattle.std.specs.VecDeque.{deque_capacity};
 ghost use Rattle.nm_types.specs.Nodes.{up_from};
 
 use nm_types::FrameId;
@@ -69,11 +70,42 @@ impl<A: Allocator + Copy> FreeList<A> {
         self.frames.pop_front()
     }
 
+    /// Takes so many frames from the front, or all where there are fewer, and puts them in their order behind those of a
+    /// list that has room for them.
+    pub fn take_many(&mut self, count: usize, taken: &mut Vec<FrameId, A>)
+        requires { vec_len taken.old + count ≤ vec_capacity taken.old }
+        ensures taken { taken.new.items ≡ taken.old.items ++ take count self.old.1 }
+        ensures rest { self.new ≡ (self.old.0, drop count self.old.1) }
+        ensures room { vec_capacity taken.new ≡ vec_capacity taken.old }
+    {
+        take_front(&mut self.frames, count, taken);
+    }
+
     /// Puts a frame behind the others, where there is room.
     pub fn append(&mut self, frame: FrameId)
         requires { length self.old.1 < self.old.0 }
         ensures { self.new ≡ (self.old.0, self.old.1 ++ frame ∷ []) }
     {
         self.frames.push_back_reserved(frame);
+    }
+}
+
+/// Takes so many frames from the front of a queue, or all where there are fewer, into a list that has room for them.
+fn take_front<A: Allocator + Copy>(
+    frames: &mut VecDeque<FrameId, A>,
+    count: usize,
+    taken: &mut Vec<FrameId, A>,
+)
+    requires { vec_len taken.old + count ≤ vec_capacity taken.old }
+    ensures taken { taken.new.items ≡ taken.old.items ++ take count frames.old.items }
+    ensures rest { frames.new.items ≡ drop count frames.old.items }
+    ensures capacity { deque_capacity frames.new ≡ deque_capacity frames.old }
+    ensures room { vec_capacity taken.new ≡ vec_capacity taken.old }
+{
+    for _ in 0..count {
+        let Some(frame) = frames.pop_front() else {
+            return;
+        };
+        taken.push_reserved(frame);
     }
 }

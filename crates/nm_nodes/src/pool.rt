@@ -1,9 +1,9 @@
 //! The free frames of all nodes.
 
-ghost use Rattle.std.specs.Prelude.{◌≡◌, ◌<◌, false, length, sum, slice_get, IfOk};
+ghost use Rattle.std.specs.Prelude.{◌≡◌, ◌<◌, ◌≤◌, ◌+◌, ◌++◌, false, length, sum, take, drop, slice_get, vec_len, vec_capacity, IfOk};
 ghost use Rattle.nm_types.specs.Layout.{Layout, owner};
 ghost use Rattle.nm_types.specs.Nodes.{is_in};
-ghost use Rattle.nm_nodes.specs.Pool.{Pool, IsPool, list_of, new_pool, without_front, appended};
+ghost use Rattle.nm_nodes.specs.Pool.{Pool, IsPool, list_of, new_pool, with_list, without_front, appended};
 ghost use Rattle.nm_nodes.specs.Lists.{sizes_of};
 
 use crate::list::FreeList;
@@ -69,6 +69,18 @@ impl<A: Allocator + Copy> NodePool<A> {
         ensures rest { self.new ≡ without_front self.old node }
     {
         self.lists[node.index()].take_front()
+    }
+
+    /// Takes so many frames from the front of the list of a node of the machine, or all where there are fewer, and puts
+    /// them in their order behind those of a list that has room for them. It takes no memory.
+    pub fn take_many(&mut self, node: NodeId, count: usize, taken: &mut Vec<FrameId, A>)
+        requires node { node < length self.old.lists }
+        requires room { vec_len taken.old + count ≤ vec_capacity taken.old }
+        ensures taken { taken.new.items ≡ taken.old.items ++ take count (list_of self.old node) }
+        ensures rest { self.new ≡ with_list self.old node (drop count (list_of self.old node)) }
+        ensures room { vec_capacity taken.new ≡ vec_capacity taken.old }
+    {
+        self.lists[node.index()].take_many(count, taken);
     }
 
     /// Puts a frame of the machine that is not free at the end of its own node's list.

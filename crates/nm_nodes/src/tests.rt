@@ -26,3 +26,27 @@ fn frames_go_and_come(rt: HostRuntime) -> Result<(), Fail> {
     assert_eq!(rt; pool.free_count(second), 3usize);
     Ok(())
 }
+
+/// As many frames as asked for leave the front in their order, or all where there are fewer.
+#[test]
+fn fronts_are_taken_in_order(rt: HostRuntime) -> Result<(), Fail> {
+    let alloc = rt.alloc();
+    let geometry = Geometry::new(
+        vec![in alloc; 4u32]?,
+        vec![in alloc; vec![in alloc; 10u8]?]?,
+    )?;
+    let mut pool = NodePool::new(alloc, &geometry)?;
+    let node = NodeId::new(0);
+    let mut taken = Vec::with_capacity(alloc, 5)?;
+    pool.take_many(node, 3, &mut taken);
+    assert_eq!(rt;
+        taken.as_slice(),
+        [FrameId::new(0), FrameId::new(1), FrameId::new(2)].as_slice()
+    );
+    pool.append(FrameId::new(1));
+    pool.take_many(node, 2, &mut taken);
+    assert_eq!(rt; taken.get(3).copied(), Some(FrameId::new(3)));
+    assert_eq!(rt; taken.get(4).copied(), Some(FrameId::new(1)));
+    assert_eq!(rt; pool.free_count(node), 0usize);
+    Ok(())
+}

@@ -58,3 +58,15 @@ is_short (Move page from, status) = int_eq status (code Enomem)
 -- the place of the first page that found no free frame
 abbrev pub shortage : List Class → Decisions → Option ℕ
 shortage classes d = position is_short (zip classes d.statuses)
+
+-- what a plan tells: what becomes of the requests, and the place of the first page that found no free frame
+pub record Planned : Type 0 where
+  pub statuses : List ℤ
+  pub taken : List Taken
+  pub shortage : Option ℕ
+
+-- the plan for a run with these classes
+abbrev pub planned : List Class → List ℕ → ℕ → Planned
+planned classes front target =
+    let d = decide classes [] front target in
+    record { statuses = d.statuses; taken = d.taken; shortage = shortage classes d }

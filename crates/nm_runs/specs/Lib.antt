@@ -1,5 +1,7 @@
 pub mod Seen
 pub mod Status
+pub mod Shown
+pub mod ShownRows
 pub mod Cut
 pub mod Limit
 pub mod LimitRows

@@ -2,12 +2,14 @@
 #![tactic(auto)]
 
 mod check;
+mod classes;
 mod cutting;
 pub mod laws;
 #[cfg(test)]
 mod tests;
 
 pub use check::check_batch;
+pub use classes::{classify, classify_here};
 pub use cutting::{cut, cut_within, run_count};
 use nm_types::{FrameId, NodeId, Page, Pid, Vpn};
 use std::alloc::Allocator;

@@ -1,5 +1,7 @@
-use crate::{Request, Run, Wanted, check_batch, cut, cut_within, laws, run_count};
-use nm_types::{Errno, NodeId, NodeMask, Page};
+ghost use Rattle.std.specs.Prelude.{◌≡◌, IfOk};
+
+use crate::{Class, Request, Run, Wanted, check_batch, classify, cut, cut_within, laws, run_count};
+use nm_types::{Errno, FrameId, Geometry, NodeId, NodeMask, Page, PageView, Pid, Seen, Vpn};
 use std::alloc::{AllocError, Global};
 use std::process::Abort;
 use std::test::Fail;
@@ -130,5 +132,91 @@ fn checks(rt: HostRuntime) -> Result<(), Fail> {
     assert!(rt; check([1u32, 9].as_slice()).err() == Some(Errno::Eacces));
     assert!(rt; check([9u32, 1].as_slice()).err() == Some(Errno::Enodev));
     assert!(rt; check([3u32, 64].as_slice()).err() == Some(Errno::Eacces));
+    Ok(())
+}
+
+/// Four page numbers that every process sees alike, and no page by name.
+struct Row;
+
+impl PageView for Row {
+    ghost use Rattle.nm_types.specs.declared.seen.Seen.TheVariants.{Absent};
+    ghost use Rattle.nm_runs.specs.ShownRows.{row_seen};
+
+    ghost seen_at = { λ row pid v. row_seen v };
+
+    ghost placed_at = { λ row p. Absent };
+
+    fn seen(&self, _pid: Pid, vpn: Vpn) -> Seen {
+        match vpn.number() {
+            16 => Seen::Zero,
+            17 => Seen::Absent,
+            18 => Seen::At {
+                page: Page {
+                    segment: 0,
+                    index: 2,
+                },
+                frame: FrameId::new(0),
+                processes: 1,
+                pinned: true,
+            },
+            19 => Seen::At {
+                page: Page {
+                    segment: 0,
+                    index: 3,
+                },
+                frame: FrameId::new(1),
+                processes: 1,
+                pinned: false,
+            },
+            _ => Seen::NoArea,
+        }
+    }
+
+    fn placed(&self, _page: Page) -> Seen {
+        Seen::Absent
+    }
+}
+
+/// Requests for the second node, of a process at these page numbers.
+fn run_at(alloc: Global, numbers: &[u64]) -> Result<Run<Global>, AllocError>
+    ensures { IfOk result (λ run. run.target ≡ 1) }
+{
+    let wanted = numbers
+        .iter()
+        .map(|number| Wanted::At {
+            pid: Pid::new(1),
+            vpn: Vpn::new(*number),
+            all: false,
+        })
+        .collect(alloc)?;
+    Ok(Run {
+        target: NodeId::new(1),
+        wanted,
+    })
+}
+
+#[test]
+fn classes_by_a_view(rt: HostRuntime) -> Result<(), Fail> {
+    let alloc = rt.alloc();
+    let distances = vec![in alloc; vec![in alloc; 10u8, 20]?, vec![in alloc; 20u8, 10]?]?;
+    let geometry = Geometry::new(vec![in alloc; 4u32, 4]?, distances)?;
+    let mixed = run_at(alloc, [80u64, 16, 17, 18].as_slice())?;
+    let classes = classify(&rt, alloc, &geometry, &Row, &mixed)?;
+    let statuses = [
+        Class::Status(-14),
+        Class::Status(-14),
+        Class::Status(-2),
+        Class::Status(-16),
+    ];
+    assert!(rt; classes.as_slice() == statuses.as_slice());
+    let twice = run_at(alloc, [19u64, 19].as_slice())?;
+    let moves = classify(&rt, alloc, &geometry, &Row, &twice)?;
+    let page = Page {
+        segment: 0,
+        index: 3,
+    };
+    let from = FrameId::new(1);
+    let same = [Class::Move { page, from }, Class::Move { page, from }];
+    assert!(rt; moves.as_slice() == same.as_slice());
     Ok(())
 }

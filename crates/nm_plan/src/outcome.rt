@@ -1,0 +1,55 @@
+//! What a plan tells.
+
+ghost use Rattle.std.specs.Prelude.{◌≡◌};
+
+use crate::Taken;
+use std::alloc::Allocator;
+use std::marker::Model;
+
+/// Which page of a run takes which frame, and the status of each request. Contracts see both lists, and the place of
+/// the first request that found no free frame.
+#[derive(Debug, Drop)]
+pub struct Plan<A: Allocator + Copy> {
+    pub(crate) moves: Vec<Taken, A>,
+    pub(crate) statuses: Vec<i32, A>,
+    pub(crate) shortage: Option<usize>,
+}
+
+impl<A: Allocator + Copy> Model for Plan<A> {
+    ghost use Rattle.nm_plan.specs.Decide.{Planned};
+
+    ghost Value = { Planned };
+
+    ghost view = { λ p. record { statuses = p.statuses.items; taken = p.moves.items; shortage = p.shortage } };
+}
+
+impl<A: Allocator + Copy> Plan<A> {
+    /// The pages that move, in order, each once, with the frame that each leaves and the frame that it takes.
+    pub fn moves(&self) -> &[Taken]
+        ensures { result.now ≡ self.now.taken }
+    {
+        self.moves.as_slice()
+    }
+
+    /// The status of each request: the target's number, or an error's number with a minus sign.
+    pub fn statuses(&self) -> &[i32]
+        ensures { result.now ≡ self.now.statuses }
+    {
+        self.statuses.as_slice()
+    }
+
+    /// The place, from 0, of the first request whose page found no free frame, or None where each page found one.
+    pub fn shortage(&self) -> Option<usize>
+        ensures { result ≡ self.now.shortage }
+    {
+        self.shortage
+    }
+
+    /// The statuses alone.
+    pub fn into_statuses(self) -> Vec<i32, A>
+        ensures { result.items ≡ self.statuses }
+    {
+        let Plan { statuses, .. } = self;
+        statuses
+    }
+}

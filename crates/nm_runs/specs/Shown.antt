@@ -1,0 +1,27 @@
+-- The class of a request by a view of what it names.
+use Rattle.std.specs.Prelude.{ℕ, ◌<◌, true}
+use Rattle.nm_types.specs.declared.page.Page.{Page}
+use Rattle.nm_types.specs.declared.seen.Seen.{Seen}
+use Rattle.nm_types.specs.declared.seen.Seen.TheVariants.{NoArea, Absent, Zero, At}
+use Rattle.nm_types.specs.Layout.{Layout, frame_count}
+use Rattle.nm_runs.specs.declared.Class.{Class}
+use Rattle.nm_runs.specs.declared.Wanted.{Wanted}
+use Rattle.nm_runs.specs.declared.Wanted.TheVariants.{At as Spot, Whole}
+use Rattle.nm_runs.specs.Status.{class_of_look}
+
+-- where a frame is seen, it is below this number
+abbrev pub IsFrameBelow : ℕ → Seen → Type 0
+IsFrameBelow frames NoArea = Unit {0}
+IsFrameBelow frames Absent = Unit {0}
+IsFrameBelow frames Zero = Unit {0}
+IsFrameBelow frames (At page frame processes pinned) = frame < frames
+
+-- frames of the machine alone are seen, at page numbers and of pages
+pub record ShowsItsFrames (g : Layout) (seen_at : ℕ → ℕ → Seen) (placed_at : Page → Seen) : Type 0 where
+  pub seen : (pid v : ℕ) → IsFrameBelow (frame_count g) (seen_at pid v)
+  pub placed : (p : Page) → IsFrameBelow (frame_count g) (placed_at p)
+
+-- the class of a request where this is seen at page numbers and of pages
+abbrev pub class_shown : Layout → (ℕ → ℕ → Seen) → (Page → Seen) → ℕ → Wanted → Class
+class_shown g seen_at placed_at target (Spot pid v all) = class_of_look g target all (seen_at pid v)
+class_shown g seen_at placed_at target (Whole p) = class_of_look g target true (placed_at p)

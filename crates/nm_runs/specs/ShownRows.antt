@@ -1,0 +1,13 @@
+-- A worked example of a view.
+use Rattle.std.specs.Prelude.{ℕ, ◌==◌, true, false, if◌then◌else◌}
+use Rattle.nm_types.specs.declared.page.Page.{Page}
+use Rattle.nm_types.specs.declared.seen.Seen.{Seen}
+use Rattle.nm_types.specs.declared.seen.Seen.TheVariants.{NoArea, Absent, Zero, At}
+
+-- the page of zeros, then a page number that nobody touched, then a pinned page, and after them a page without a pin
+abbrev pub row_seen : ℕ → Seen
+row_seen v =
+    if v == 16 then Zero
+    else (if v == 17 then Absent
+    else (if v == 18 then At (record { segment = 0; index = 2 }) 0 1 true
+    else (if v == 19 then At (record { segment = 0; index = 3 }) 1 1 false else NoArea)))

@@ -1,0 +1,117 @@
+//! What is to be done with each request of a run, by a look at what it names.
+
+ghost use Rattle.std.specs.Prelude.{◌≡◌, ◌<◌, ◌^◌, map, IfOk};
+ghost use Rattle.nm_types.specs.Layout.{frame_count};
+ghost use Rattle.nm_runs.specs.Status.{class_of_look};
+ghost use Rattle.nm_runs.specs.Shown.{class_shown, IsFrameBelow, ShowsItsFrames};
+
+use crate::{Class, Run, Wanted};
+use nm_types::{Errno, Geometry, NodeId, PageView, Seen};
+use rayon::prelude::*;
+use std::alloc::{AllocError, Allocator};
+use std::thread::Threads;
+
+/// A thread looks at no fewer requests than this: a shorter run is not worth a thread's start.
+const PIECE: usize = 1024;
+
+/// What is to be done with a request for what is seen so, where a page that several processes see moves only if all are
+/// asked for.
+fn class_of_look<A: Allocator + Copy>(
+    geometry: &Geometry<A>,
+    target: NodeId,
+    all: bool,
+    seen: Seen,
+) -> Class
+    requires target { target < 2 ^ 31 }
+    requires frame { IsFrameBelow (frame_count geometry.now) seen }
+    ensures { result ≡ class_of_look geometry.now target all seen }
+{
+    match seen {
+        Seen::NoArea => Class::Status(-Errno::Efault.number()),
+        Seen::Absent => Class::Status(-Errno::Enoent.number()),
+        Seen::Zero => Class::Status(-Errno::Efault.number()),
+        Seen::At {
+            page,
+            frame,
+            processes,
+            pinned,
+        } => {
+            if geometry.node_of(frame) == target {
+                Class::Status(target.number() as i32)
+            } else if processes > 1 && !all {
+                Class::Status(-Errno::Eacces.number())
+            } else if pinned {
+                Class::Status(-Errno::Ebusy.number())
+            } else {
+                Class::Move { page, from: frame }
+            }
+        }
+    }
+}
+
+/// What is to be done with a request, by a look at what it names.
+fn class_of<A: Allocator + Copy, V: PageView>(
+    geometry: &Geometry<A>,
+    view: &V,
+    target: NodeId,
+    wanted: Wanted,
+) -> Class
+    requires target { target < 2 ^ 31 }
+    requires frames { ShowsItsFrames geometry.now (V.seen_at view.now) (V.placed_at view.now) }
+    ensures { result ≡ class_shown geometry.now (V.seen_at view.now) (V.placed_at view.now) target wanted }
+{
+    match wanted {
+        Wanted::At { pid, vpn, all } => class_of_look(geometry, target, all, view.seen(pid, vpn)),
+        Wanted::Whole(page) => class_of_look(geometry, target, true, view.placed(page)),
+    }
+}
+
+/// What is to be done with each request of a run, in its order, by a look at what it names; the view shows frames of
+/// the machine alone. It looks on the calling thread. An error means that the host refused memory.
+pub fn classify_here<A: Allocator + Copy, V: PageView>(
+    alloc: A,
+    geometry: &Geometry<A>,
+    view: &V,
+    run: &Run<A>,
+) -> Result<Vec<Class, A>, AllocError>
+    requires target { run.now.target < 2 ^ 31 }
+    requires frames { ShowsItsFrames geometry.now (V.seen_at view.now) (V.placed_at view.now) }
+    ensures { IfOk result (λ classes. classes.items ≡ map (class_shown geometry.now (V.seen_at view.now) (V.placed_at view.now) run.now.target) run.now.wanted.items) }
+{
+    let mut classes = Vec::with_capacity(alloc, run.wanted.len())?;
+    for wanted in &run.wanted {
+        classes.push_reserved(class_of(geometry, view, run.target, *wanted));
+    }
+    Ok(classes)
+}
+
+/// What is to be done with each request of a run, in its order, by a look at what it names; the view shows frames of
+/// the machine alone. Several threads look where the run is long. An error means that the host refused memory.
+pub fn classify<R: Threads + Sync, A: Allocator + Copy + Send + Sync, V: PageView + Sync>(
+    rt: &R,
+    alloc: A,
+    geometry: &Geometry<A>,
+    view: &V,
+    run: &Run<A>,
+) -> Result<Vec<Class, A>, AllocError>
+    requires target { run.now.target < 2 ^ 31 }
+    requires frames { ShowsItsFrames geometry.now (V.seen_at view.now) (V.placed_at view.now) }
+    ensures { IfOk result (λ classes. classes.items ≡ map (class_shown geometry.now (V.seen_at view.now) (V.placed_at view.now) run.now.target) run.now.wanted.items) }
+{
+    if run.wanted.len() < 2 * PIECE {
+        return classify_here(alloc, geometry, view, run);
+    }
+    let target = run.target;
+    run.wanted
+        .as_slice()
+        .par_iter()
+        .with_min_len(PIECE)
+        .map(
+            |wanted: &Wanted| -> Class
+                requires target { target < 2 ^ 31 }
+                requires frames { ShowsItsFrames geometry.now (V.seen_at view.now) (V.placed_at view.now) }
+                ensures { result ≡ class_shown geometry.entry.now (V.seen_at view.entry.now) (V.placed_at view.entry.now) target wanted.now }
+            { class_of(geometry, view, target, *wanted) },
+        )
+        .collect(rt, alloc)
+}
