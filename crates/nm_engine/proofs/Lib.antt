@@ -43,3 +43,4 @@ pub mod TiedRemoved
 pub mod Alike
 pub mod Sounded
 pub mod Shelved
+pub mod Walked

@@ -37,3 +37,5 @@ pub mod Audited
 pub mod Policing
 pub mod Setting
 pub mod Errors
+pub mod Sights
+pub mod Locating

@@ -6,6 +6,7 @@ mod audit;
 mod calls;
 pub mod laws;
 mod letting;
+mod locating;
 mod machine;
 mod machine_error;
 mod mapping;
@@ -18,7 +19,9 @@ mod tasks;
 mod touch;
 mod touching;
 
+pub use locating::Located;
 pub use machine::{Machine, Totals};
 pub use machine_error::MachineError;
+pub use nm_areas::Line;
 pub use nm_tables::Entry;
 pub use process::ProcessInfo;
