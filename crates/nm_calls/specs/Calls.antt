@@ -17,6 +17,7 @@ pub data Call : Type 0 where
   Query : (caller pid : ℕ) (pages : List ℕ) (flags : ℕ) → Call
   FreeList : (node : ℕ) → Call
   Pagemap : (pid : ℕ) → Call
+  Vmstat : Call
 
 -- the answers, by their kind
 pub data Answer : Type 0 where
@@ -32,3 +33,5 @@ pub data Answer : Type 0 where
   Frames : List ℕ → Answer
   -- page numbers and the frame at each, or none for the page of zeros
   Entries : List (ℕ × Option ℕ) → Answer
+  -- how many pages moved, and how many entries failed
+  TheTotals : (moved failed : ℕ) → Answer

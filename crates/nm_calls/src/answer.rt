@@ -1,5 +1,6 @@
 //! What calls answer.
 
+use nm_engine::Totals;
 use nm_types::{FrameId, Vpn};
 use std::alloc::Allocator;
 
@@ -36,4 +37,6 @@ pub enum Answer<A: Allocator + Copy + Send + Sync> {
     Frames(Vec<FrameId, A>),
     /// The entries of a process, by address.
     Entries(Vec<Mapped, A>),
+    /// How many pages moved and how many entries failed so far.
+    Totals(Totals),
 }

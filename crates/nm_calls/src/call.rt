@@ -137,4 +137,6 @@ pub enum Call<A: Allocator + Copy + Send + Sync> {
     Pagemap {
         pid: Pid,
     },
+    /// Asks how many pages moved and how many entries failed so far.
+    Vmstat,
 }

@@ -138,6 +138,7 @@ impl<A: Allocator + Copy + Send + Sync> System<A> {
             Call::Query(question) => Ok(Answer::Statuses(query(self, question)?)),
             Call::FreeList { node } => Ok(Answer::Frames(self.free_list(*node)?)),
             Call::Pagemap { pid } => Ok(Answer::Entries(self.pagemap(*pid)?)),
+            Call::Vmstat => Ok(Answer::Totals(self.vmstat())),
         }
     }
 }

@@ -13,4 +13,5 @@ mod system;
 pub use answer::{Answer, Mapped, Moved};
 pub use call::{Attachment, Batch, Call, MoveRequest, NewArea, NewProcess, Question};
 pub use call_error::CallError;
+pub use nm_engine::Totals;
 pub use system::System;

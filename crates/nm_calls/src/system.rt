@@ -3,10 +3,10 @@
 ghost use Rattle.std.specs.Prelude.{◌≡◌, ◌<◌, ◌≤◌, true, IfOk, length};
 ghost use Rattle.nm_engine.specs.Audited.{audited};
 ghost use Rattle.nm_engine.specs.Sound.{IsSound};
-ghost use Rattle.nm_calls.specs.Calls.{Spawn, MapPages, Attach, Unmap, Exit, Pin, Unpin, ReadBytes, WriteBytes, MovePages, Query, FreeList, Pagemap, Done, NewSegment, TheBytes, Statuses, Frames, Entries};
+ghost use Rattle.nm_calls.specs.Calls.{Spawn, MapPages, Attach, Unmap, Exit, Pin, Unpin, ReadBytes, WriteBytes, MovePages, Query, FreeList, Pagemap, Vmstat, Done, NewSegment, TheBytes, Statuses, Frames, Entries, TheTotals};
 ghost use Rattle.nm_calls.specs.Entries.{entries_mapped, entries_shown};
 ghost use Rattle.nm_calls.specs.Systems.{default_limit, new_system, system_with};
-ghost use Rattle.nm_calls.specs.Outcome.{statuses_of};
+ghost use Rattle.nm_calls.specs.Outcome.{statuses_of, outcome};
 ghost use Rattle.nm_calls.specs.Does.{Does, DoesOrRefuses};
 
 use crate::answer::{Mapped, Moved};
@@ -258,10 +258,12 @@ impl<A: Allocator + Copy + Send + Sync> System<A> {
 
     /// How many pages moved, and how many entries failed, so far: `pgmigrate_success` and `pgmigrate_fail` of
     /// `/proc/vmstat`. Each stays at 2^64 - 1 once it is there. Between two calls a system is sound.
+    #[tactic(auto, unfolding(crate::specs::Outcome::refused, crate::specs::Outcome::ended))]
     pub fn vmstat(&self) -> Totals
         ensures sound { IsSound self.now.state }
         ensures moved { result.moved ≡ self.now.state.moved }
         ensures failed { result.failed ≡ self.now.state.failed }
+        ensures told { outcome self.now Vmstat ≡ record { answer = TheTotals result.moved result.failed; system = self.now } }
     {
         self.machine.totals()
     }

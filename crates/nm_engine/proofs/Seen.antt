@@ -1,3 +1,4 @@
 pub mod Ranges
 pub mod Sights
 pub mod Written
+pub mod Walked

@@ -30,3 +30,5 @@ pub mod Does
 pub mod Entries
 pub mod Audited
 pub mod Policing
+pub mod Sights
+pub mod Locating

@@ -24,6 +24,7 @@ ghost use Rattle.nm_engine.specs.Refused.{shows_pinned};
 ghost use Rattle.nm_engine.specs.AddressSpaces.{no_spaces, mapped_of, with_mapped, with_seen, with_new_page, with_moved, pins_here, with_pins_of, without_range};
 
 mod areas;
+mod walk;
 
 use crate::process::ProcessInfo;
 use crate::process_table::ProcessTable;

@@ -6,6 +6,7 @@ ghost use Rattle.nm_types.specs.Nodes.{up_from};
 ghost use Rattle.nm_engine.specs.Effect.{new_machine};
 
 mod areas;
+mod locate;
 mod pins;
 mod process;
 mod query;

@@ -6,11 +6,14 @@ mod audit;
 mod frames;
 mod inner;
 pub mod laws;
+mod located;
 mod machine;
 mod process;
 mod process_table;
 
+pub use located::Located;
 pub use machine::{Machine, Totals};
+pub use nm_areas::Line;
 pub use nm_tables::Entry;
 pub use nm_types::MachineError;
 pub use process::ProcessInfo;

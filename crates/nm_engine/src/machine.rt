@@ -1,6 +1,6 @@
 //! The machine.
 
-ghost use Rattle.std.specs.Prelude.{◌≡◌, ◌<◌, ◌≤◌, [], true, false, length, IfOk, OnOk, OnErr, option_map, None};
+ghost use Rattle.std.specs.Prelude.{◌≡◌, ◌<◌, ◌≤◌, ◌+◌, [], ◌∷◌, true, false, length, IfOk, IfSome, IfNone, OnOk, OnErr, option_map, None};
 ghost use Rattle.std.specs.Ordering.{nat_cmp};
 ghost use Rattle.nm_types.specs.Map.{get};
 ghost use Rattle.nm_types.specs.Layout.{node_count};
@@ -12,17 +12,22 @@ ghost use Rattle.nm_engine.specs.Run.{run, HasOneAll};
 ghost use Rattle.nm_engine.specs.Effect.{new_machine, spawn, map_new, attach, pin, unpin, unmap, exit};
 ghost use Rattle.nm_engine.specs.Refused.{spawn_refusal, map_refusal, attach_refusal, pin_refusal, unpin_refusal, unmap_refusal, exit_refusal, list_refusal, entries_refusal};
 ghost use Rattle.nm_engine.specs.Policing.{policy_refusal, set_policy};
+ghost use Rattle.nm_areas.specs.Lines.{lines_of};
+ghost use Rattle.nm_runs.specs.Seen.{users};
 ghost use Rattle.nm_engine.specs.Entries.{entries_of};
+ghost use Rattle.nm_engine.specs.Locating.{located_between};
 ghost use Rattle.nm_engine.specs.Audited.{audited};
 ghost use Rattle.nm_engine.specs.Asking.{node_status};
 ghost use Rattle.nm_engine.specs.Sound.{IsSound};
 ghost use Rattle.nm_engine.specs.Does.{Makes, Alters, Tells, Accesses, AsksLast};
 
 use crate::inner::Inner;
+use crate::located::Located;
 use crate::process::ProcessInfo;
+use nm_areas::Line;
 use nm_runs::Run;
 use nm_tables::Entry;
-use nm_types::{Errno, FrameId, Geometry, MachineError, NodeId, NodeMask, Pid, Policy, Vpn};
+use nm_types::{Errno, FrameId, Geometry, MachineError, NodeId, NodeMask, Page, Pid, Policy, Vpn};
 use std::alloc::{AllocError, Allocator};
 use std::marker::Model;
 
@@ -80,6 +85,20 @@ impl<A: Allocator + Copy + Send + Sync> Machine<A> {
         ensures { result ≡ is_in self.now.online node }
     {
         self.inner.is_online(node)
+    }
+
+    /// The nodes of the machine, with their frames and distances.
+    pub fn geometry(&self) -> &Geometry<A>
+        ensures { result.now ≡ self.now.layout }
+    {
+        self.inner.geometry()
+    }
+
+    /// The nodes that are online.
+    pub fn online(&self) -> NodeMask
+        ensures { result ≡ self.now.online }
+    {
+        self.inner.online()
     }
 
     /// What `spawn` fixed of a process, or None where there is none of this pid.
@@ -267,6 +286,34 @@ impl<A: Allocator + Copy + Send + Sync> Machine<A> {
         ensures memory { AsksLast result (entries_refusal self.now pid) }
     {
         self.inner.entries(pid)
+    }
+
+    /// The areas of a process, by address. ESRCH without such a process.
+    pub fn lines(&self, pid: Pid) -> Result<Vec<Line, A>, MachineError>
+        ensures told { Tells result (entries_refusal self.now pid) (λ lines. lines.items ≡ lines_of self.now.segments self.now.areas pid) }
+        ensures memory { AsksLast result (entries_refusal self.now pid) }
+    {
+        self.inner.lines(pid)
+    }
+
+    /// The first page that a process sees at a page number from `first` up to, and without, `end`, with its node: no page
+    /// of zeros, and none where there is no such process. Whoever asks again from the page number behind it on comes to
+    /// all such pages, by page number, whatever the length of the range. It takes no memory.
+    pub fn page_from(&self, pid: Pid, first: Vpn, end: Vpn) -> Option<Located>
+        ensures some { IfSome result (λ e. located_between self.now pid first end ≡ e ∷ located_between self.now pid (e.vpn + 1) end) }
+        ensures none { IfNone result (located_between self.now pid first end ≡ []) }
+        ensures range { IfSome result (λ e. (first ≤ e.vpn) × (e.vpn < end)) }
+        ensures node { IfSome result (λ e. e.node < node_count self.now.layout) }
+    {
+        self.inner.page_from(pid, first, end)
+    }
+
+    /// How many processes see a page. Two addresses of a process count once, and a page without a frame is seen by none.
+    /// It takes no memory.
+    pub fn users(&self, page: Page) -> usize
+        ensures { result ≡ length (users self.now page) }
+    {
+        self.inner.users(page)
     }
 
     /// Where the page is that a process sees at a page number: its node's number, or an error's number with a minus sign:

@@ -5,7 +5,7 @@ use Rattle.std.specs.List.{flat_map}
 use Rattle.hex.specs.Hex.{encode_lower}
 use Rattle.nm_types.specs.Names.{name_of}
 use Rattle.nm_calls.specs.Systems.{SystemState}
-use Rattle.nm_calls.specs.Calls.{Call, Spawn, MapPages, Attach, Unmap, Exit, Pin, Unpin, ReadBytes, WriteBytes, MovePages, Query, FreeList, Pagemap, Answer, Refusal, Done, Held, NewSegment, TheBytes, Statuses, Frames, Entries}
+use Rattle.nm_calls.specs.Calls.{Call, Spawn, MapPages, Attach, Unmap, Exit, Pin, Unpin, ReadBytes, WriteBytes, MovePages, Query, FreeList, Pagemap, Vmstat, Answer, Refusal, Done, Held, NewSegment, TheBytes, Statuses, Frames, Entries, TheTotals}
 use Rattle.nm_calls.specs.Outcome.{Outcome, outcome}
 
 -- the word of a call
@@ -23,6 +23,7 @@ word_of (MovePages caller pid pages nodes flags) = codes "move_pages"
 word_of (Query caller pid pages flags) = codes "query"
 word_of (FreeList node) = codes "free"
 word_of (Pagemap pid) = codes "pagemap"
+word_of Vmstat = codes "vmstat"
 
 -- numbers, each after a space
 abbrev pub listed : List ℕ → List ℕ
@@ -47,6 +48,11 @@ frame_text (Some frame) = decimal frame
 abbrev pub entry_text : ℕ × Option ℕ → List ℕ
 entry_text e = codes " " ++ address_text e.0 ++ codes "=" ++ frame_text e.1
 
+-- the two totals by their names in /proc/vmstat
+abbrev pub totals_text : ℕ → ℕ → List ℕ
+totals_text moved failed =
+    (codes "pgmigrate_success " ++ decimal moved) ++ (codes " pgmigrate_fail " ++ decimal failed)
+
 -- an answer in words
 unfoldable pub answer_text : Answer → List ℕ
 answer_text (Refusal errno) = codes "error " ++ name_of errno
@@ -57,6 +63,7 @@ answer_text (TheBytes bytes) = encode_lower bytes
 answer_text (Statuses failed statuses) = decimal failed ++ codes ":" ++ signed_listed statuses
 answer_text (Frames frames) = decimal (length frames) ++ codes ":" ++ listed frames
 answer_text (Entries entries) = decimal (length entries) ++ codes ":" ++ flat_map entry_text entries
+answer_text (TheTotals moved failed) = totals_text moved failed
 
 -- the lines of step k: one, as each call answers one thing
 unfoldable pub text_of : ℕ → Call → Answer → List ℕ

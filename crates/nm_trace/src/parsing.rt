@@ -173,6 +173,13 @@ fn pagemap<A: Allocator + Copy + Send + Sync>(value: &Value) -> Result<Call<A>, 
     })
 }
 
+#[tactic(auto, unfolding(crate::specs::Form::vmstat_of))]
+fn vmstat<A: Allocator + Copy + Send + Sync>(value: &Value) -> Result<Call<A>, StepError>
+    ensures { Gives call_of result (form.vmstat_of (view value.now)) }
+{
+    Ok(Call::Vmstat)
+}
+
 #[tactic(auto, unfolding(crate::specs::Form::named))]
 fn named<A: Allocator + Copy + Send + Sync>(
     alloc: A,
@@ -195,6 +202,7 @@ fn named<A: Allocator + Copy + Send + Sync>(
         "query" => query(alloc, value),
         "free" => free(value),
         "pagemap" => pagemap(value),
+        "vmstat" => vmstat(value),
         _ => Err(StepError::Bad),
     }
 }

@@ -5,9 +5,9 @@ ghost use Rattle.std.specs.List.{flat_map};
 ghost use Rattle.nm_types.specs.Names.{name_of};
 ghost use Rattle.nm_calls.specs.Calls.{Refusal};
 ghost use Rattle.nm_calls.specs.Views.{call_of, answer_of};
-ghost use Rattle.nm_trace.specs.Report.{word_of, listed, signed_listed, address_text, entry_text, answer_text, text_of};
+ghost use Rattle.nm_trace.specs.Report.{word_of, listed, signed_listed, address_text, entry_text, totals_text, answer_text, text_of};
 
-use nm_calls::{Answer, Call, Mapped};
+use nm_calls::{Answer, Call, Mapped, Totals};
 use nm_types::{Errno, FrameId, Vpn};
 use std::alloc::{AllocError, Allocator};
 
@@ -29,6 +29,7 @@ fn word<A: Allocator + Copy + Send + Sync>(call: &Call<A>) -> &'static str
         Call::Query(_) => "query",
         Call::FreeList { .. } => "free",
         Call::Pagemap { .. } => "pagemap",
+        Call::Vmstat => "vmstat",
     }
 }
 
@@ -101,6 +102,27 @@ fn push_count<A: Allocator>(line: &mut String<A>, count: usize) -> Result<(), Al
     line.push_str(":")
 }
 
+/// Puts a word and a number.
+fn push_number<A: Allocator>(
+    line: &mut String<A>,
+    word: &str,
+    number: u64,
+) -> Result<(), AllocError>
+    ensures { OnOk result (string_bytes line.new ≡ string_bytes line.old ++ (word.now ++ decimal number)) }
+{
+    let mut buffer = itoa::Buffer::new();
+    line.push_str(word)?;
+    line.push_str(buffer.format(number))
+}
+
+/// Puts the two totals, each after its name.
+fn push_totals<A: Allocator>(line: &mut String<A>, totals: Totals) -> Result<(), AllocError>
+    ensures { OnOk result (string_bytes line.new ≡ string_bytes line.old ++ totals_text totals.moved totals.failed) }
+{
+    push_number(line, "pgmigrate_success ", totals.moved)?;
+    push_number(line, " pgmigrate_fail ", totals.failed)
+}
+
 /// Puts an answer.
 #[tactic(auto, unfolding(crate::specs::Report::answer_text))]
 fn push_answer<A: Allocator + Copy + Send + Sync>(
@@ -130,6 +152,7 @@ fn push_answer<A: Allocator + Copy + Send + Sync>(
             push_count(line, entries.len())?;
             push_entries(line, entries.as_slice())
         }
+        Answer::Totals(totals) => push_totals(line, *totals),
     }
 }
 

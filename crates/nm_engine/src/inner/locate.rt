@@ -1,0 +1,86 @@
+//! Where the pages are that a process sees.
+
+ghost use Rattle.std.specs.Prelude.{IfNone, IfSome, [], length, ◌+◌, ◌<◌, ◌∷◌, ◌≡◌, ◌≤◌};
+ghost use Rattle.nm_areas.specs.Lines.{lines_of};
+ghost use Rattle.nm_engine.specs.Does.{AsksLast, Tells};
+ghost use Rattle.nm_engine.specs.Locating.{located, located_between};
+ghost use Rattle.nm_engine.specs.Refused.{entries_refusal};
+ghost use Rattle.nm_runs.specs.Seen.{users};
+ghost use Rattle.nm_types.specs.Layout.{node_count};
+
+use crate::inner::Inner;
+use crate::located::Located;
+use nm_areas::Line;
+use nm_types::{Errno, Geometry, MachineError, NodeMask, Page, Pid, Seen, Sight, Vpn};
+use std::alloc::Allocator;
+
+impl<A: Allocator + Copy> Inner<A> {
+    /// The nodes.
+    pub(crate) fn geometry(&self) -> &Geometry<A>
+        ensures { result.now ≡ self.now.state.layout }
+    {
+        self.frames.geometry()
+    }
+
+    /// The nodes that are online.
+    pub(crate) fn online(&self) -> NodeMask
+        ensures { result ≡ self.now.state.online }
+    {
+        self.online
+    }
+
+    /// The areas of a process, by address.
+    pub(crate) fn lines(&self, pid: Pid) -> Result<Vec<Line, A>, MachineError>
+        ensures told { Tells result (entries_refusal self.now.state pid) (λ lines. lines.items ≡ lines_of self.now.state.segments self.now.state.areas pid) }
+        ensures memory { AsksLast result (entries_refusal self.now.state pid) }
+    {
+        if self.spaces.info(pid).is_none() {
+            return Err(MachineError::Refused(Errno::Esrch));
+        }
+        Ok(self.spaces.lines(pid)?)
+    }
+
+    /// How many processes see a page.
+    pub(crate) fn users(&self, page: Page) -> usize
+        ensures { result ≡ length (users self.now.state page) }
+    {
+        match self.spaces.look_at_page(page) {
+            Seen::At { processes, .. } => processes,
+            Seen::NoArea => 0,
+            Seen::Absent => 0,
+            Seen::Zero => 0,
+        }
+    }
+
+    /// The first page that a process sees from one page number up to another, with its node.
+    pub(crate) fn page_from(&self, pid: Pid, first: Vpn, end: Vpn) -> Option<Located>
+        ensures some { IfSome result (λ e. located_between self.now.state pid first end ≡ e ∷ located_between self.now.state pid (e.vpn + 1) end) }
+        ensures none { IfNone result (located_between self.now.state pid first end ≡ []) }
+        ensures range { IfSome result (λ e. (first ≤ e.vpn) × (e.vpn < end)) }
+        ensures node { IfSome result (λ e. e.node < node_count self.now.state.layout) }
+    {
+        let mut at = first.number();
+        while let Some((vpn, sight)) = self.spaces.sight_from(pid, Vpn::new(at), end) {
+            at = vpn.number() + 1;
+            if let Some(found) = self.locate(vpn, sight) {
+                return Some(found);
+            }
+        }
+        None
+    }
+
+    /// The page of what is seen at a page number, with its node.
+    fn locate(&self, vpn: Vpn, sight: Sight) -> Option<Located>
+        ensures some { IfSome result (λ e. located self.now.state.layout self.now.state.place vpn sight ≡ e ∷ []) }
+        ensures vpn { IfSome result (λ e. e.vpn ≡ vpn) }
+        ensures none { IfNone result (located self.now.state.layout self.now.state.place vpn sight ≡ []) }
+        ensures node { IfSome result (λ e. e.node < node_count self.now.state.layout) }
+    {
+        let Sight::Sees(page) = sight else {
+            return None;
+        };
+        let frame = self.spaces.place(page)?;
+        let node = self.frames.geometry().node_of(frame);
+        Some(Located { vpn, page, node })
+    }
+}

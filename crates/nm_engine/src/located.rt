@@ -1,0 +1,14 @@
+//! Pages with their nodes.
+
+use nm_types::{NodeId, Page, Vpn};
+
+/// A page that a process sees, and where it is.
+#[derive(Clone, Copy, Debug, PartialEq, Eq)]
+pub struct Located {
+    /// The page number at which the process sees it.
+    pub vpn: Vpn,
+    /// The page.
+    pub page: Page,
+    /// The node of its frame.
+    pub node: NodeId,
+}
