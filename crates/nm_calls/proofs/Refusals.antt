@@ -26,7 +26,7 @@ some_none : (e : Errno) → Some e ≡ None → ⊥
 some_none e h = true≢false (ap (λ (o : Option Errno). elim o [ Some d ↦ true | None ↦ false ]) h)
 
 -- an access that is not refused answers no refusal
-access_answers : (a : engine.Answer) → refusal_in a ≡ None → is_refusal (shown a) ≡ false
+access_answers : (a : engine.AccessAnswer) → refusal_in a ≡ None → is_refusal (shown a) ≡ false
 access_answers (engine.Bytes bytes) h = refl
 access_answers engine.Done h = refl
 access_answers engine.Held h = refl

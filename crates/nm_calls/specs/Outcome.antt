@@ -19,14 +19,14 @@ use Rattle.nm_calls.specs.Batch.{move_refusal, requests_of}
 use Rattle.nm_calls.specs.Systems.{SystemState, in_state}
 
 -- why an access is refused
-abbrev pub refusal_in : engine.Answer → Option Errno
+abbrev pub refusal_in : engine.AccessAnswer → Option Errno
 refusal_in (engine.Bytes bytes) = None
 refusal_in engine.Done = None
 refusal_in engine.Held = None
 refusal_in (engine.Refused e) = Some e
 
 -- the answer to an access
-abbrev pub shown : engine.Answer → Answer
+abbrev pub shown : engine.AccessAnswer → Answer
 shown (engine.Bytes bytes) = TheBytes bytes
 shown engine.Done = Done
 shown engine.Held = Held

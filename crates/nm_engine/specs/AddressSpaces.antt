@@ -15,7 +15,7 @@ use Rattle.nm_tables.specs.declared.entry.Entry.TheVariants.{Zero, Frame, Held}
 use Rattle.nm_areas.specs.Table.{Table}
 use Rattle.nm_areas.specs.Mapped.{Mapped}
 use Rattle.nm_areas.specs.Removed.{areas_left, segments_left, pages_gone, place_left}
-use Rattle.nm_rmap.specs.Mappers.{Mappers, pins_of}
+use Rattle.nm_rmap.specs.Mappers.{Mappers, frame_pins}
 use Rattle.nm_engine.specs.ProcessTable.{Task}
 use Rattle.nm_engine.specs.Tables.{seeing, blind_between}
 use Rattle.std.specs.Prelude.{length}
@@ -65,7 +65,7 @@ process_of areas pid t =
 
 -- the pins of each page that has a frame
 abbrev pub pins_in : Mappers → Map Page ℕ → Map Page ℕ
-pins_in r place = with_values (λ page frame. pins_of r frame) place
+pins_in r place = with_values (λ page frame. frame_pins r frame) place
 
 -- page tables, areas and the reverse map together
 abbrev pub spaces_view : Map ℕ Task → Mapped → Mappers → SpacesView

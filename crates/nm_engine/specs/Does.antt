@@ -5,11 +5,11 @@ use Rattle.nm_types.specs.State.{State}
 use Rattle.nm_types.specs.declared.machine_error.MachineError.{MachineError}
 use Rattle.nm_types.specs.declared.machine_error.MachineError.TheVariants as error
 pub use Rattle.nm_types.specs.Does.{Makes, AsksLast, Alters, Tells}
-use Rattle.nm_engine.specs.Touch.{Answer, Answered, Refused}
+use Rattle.nm_engine.specs.Touch.{AccessAnswer, Answered, Refused}
 
 -- a read or a write: what it answers and makes of the state is defined, or it finds no memory on the host and changes
 -- nothing
-abbrev pub Accesses : {T : Type 0} → Result T MachineError → (T → Answer) → State → State → Answered → Type 0
+abbrev pub Accesses : {T : Type 0} → Result T MachineError → (T → AccessAnswer) → State → State → Answered → Type 0
 Accesses (Ok value) shown old new a = (a.answer ≡ shown value) × (new ≡ a.state)
 Accesses (Err (error.Refused e)) shown old new a = (a.answer ≡ Refused e) × (new ≡ old)
 Accesses (Err error.HostMemory) shown old new a = new ≡ old

@@ -85,12 +85,12 @@ abbrev pub shared_page : State
 shared_page = wrote (map_new one_process 1 0x20000 1 true) 1 0x20000 0x61
 
 -- the same, and process 2 may touch it
-abbrev pub attached : State
-attached = attach (with_second shared_page) 2 0x20000 0 0 1
+abbrev pub attached_by_two : State
+attached_by_two = attach (with_second shared_page) 2 0x20000 0 0 1
 
 -- the same, and process 2 has read it
 abbrev pub seen_by_two : State
-seen_by_two = (read attached 2 0x20000 1).state
+seen_by_two = (read attached_by_two 2 0x20000 1).state
 
 -- five pages, four of them written
 abbrev pub four_of_five : State

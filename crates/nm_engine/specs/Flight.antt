@@ -5,7 +5,7 @@ use Rattle.nm_types.specs.declared.errno.Errno.{Errno}
 use Rattle.nm_types.specs.declared.page.Page.{Page}
 use Rattle.nm_types.specs.Map.{same_page}
 use Rattle.nm_types.specs.State.{State}
-use Rattle.nm_engine.specs.Touch.{Spot, shown_at, spot, Access, Read, Write, Answer, Held, Answered, access}
+use Rattle.nm_engine.specs.Touch.{Spot, shown_at, spot, Access, Read, Write, AccessAnswer, Held, Answered, access}
 
 -- where an access comes to its page, or its first refusal
 abbrev pub spot_of_access : State → Access → Result Spot Errno
@@ -24,7 +24,7 @@ in_flight s moved a = if is_held moved (spot_of_access s a) then record { state 
 -- what accesses make of a state, and their answers
 pub record AllAnswered : Type 0 where
   pub state : State
-  pub answers : List Answer
+  pub answers : List AccessAnswer
 
 -- one access after another
 abbrev pub all_in_flight : State → List Page → List Access → AllAnswered

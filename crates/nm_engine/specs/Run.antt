@@ -13,17 +13,17 @@ use Rattle.nm_runs.specs.declared.Wanted.{Wanted}
 use Rattle.nm_runs.specs.declared.Wanted.TheVariants.{At as Spot, Whole}
 use Rattle.nm_runs.specs.Status.{code, status_or_move}
 use Rattle.nm_plan.specs.declared.Taken.{Taken}
-use Rattle.nm_engine.specs.Touch.{Access, Answer}
+use Rattle.nm_engine.specs.Touch.{Access, AccessAnswer}
 use Rattle.nm_engine.specs.Flight.{all_in_flight}
 
 -- what a request makes of a state: its status, and the move if there is one
-pub record Outcome : Type 0 where
+pub record Decision : Type 0 where
   pub state : State
   pub status : ℤ
   pub taken : List Taken
 
 -- the page takes the front of the target's free list. The frame that it leaves is not free yet
-abbrev pub moved_page : State → ℕ → Page → ℕ → List ℕ → Outcome
+abbrev pub moved_page : State → ℕ → Page → ℕ → List ℕ → Decision
 moved_page s target page from [] = record { state = s; status = code Enomem; taken = [] }
 moved_page s target page from (frame ∷ rest) =
     record {
@@ -33,12 +33,12 @@ moved_page s target page from (frame ∷ rest) =
     }
 
 -- what is to be done is done
-abbrev pub decided : State → ℕ → Class → Outcome
+abbrev pub decided : State → ℕ → Class → Decision
 decided s target (Status status) = record { state = s; status = status; taken = [] }
 decided s target (Move page from) = moved_page s target page from (free_list s target)
 
 -- one request
-abbrev pub one : State → ℕ → Wanted → Outcome
+abbrev pub one : State → ℕ → Wanted → Decision
 one s target w = decided s target (status_or_move s target w)
 
 -- what requests make of a state: their statuses, and the moves
@@ -100,7 +100,7 @@ pub record Ran : Type 0 where
   pub state : State
   pub statuses : List ℤ
   -- for each run the answers to its accesses
-  pub answers : List (List Answer)
+  pub answers : List (List AccessAnswer)
 
 -- a run: the requests, the accesses in flight, then the frames that were left become free, then the totals
 abbrev pub run : State → ℕ → List Wanted → List Access → Ran

@@ -10,7 +10,7 @@ use Rattle.nm_types.specs.Map.{Map, get, page_cmp, spot_cmp}
 use Rattle.nm_types.specs.State.{page_at}
 use Rattle.nm_tables.specs.declared.entry.Entry.TheVariants.{Held}
 use Rattle.nm_areas.specs.Mapped.{Mapped}
-use Rattle.nm_rmap.specs.Mappers.{Mappers, mappers_of, pins_of}
+use Rattle.nm_rmap.specs.Mappers.{Mappers, mappers_of, frame_pins}
 use Rattle.nm_engine.specs.ProcessTable.{Task}
 use Rattle.nm_engine.specs.ProcessTable.{entry_at, names}
 
@@ -32,7 +32,7 @@ pub record IsTied (tasks : Map ℕ Task) (m : Mapped) (r : Mappers) : Type 0 whe
   -- no frame has two pages
   pub apart : (p q : Page) (f : ℕ) → get page_cmp m.place p ≡ Some f → get page_cmp m.place q ≡ Some f → p ≡ q
   -- a frame without a page has no pins
-  pub pinned : (f : ℕ) → ((p : Page) → get page_cmp m.place p ≡ Some f → ⊥) → pins_of r f ≡ 0
+  pub pinned : (f : ℕ) → ((p : Page) → get page_cmp m.place p ≡ Some f → ⊥) → frame_pins r f ≡ 0
   pub in_range : (p : Page) (f : ℕ) → get page_cmp m.place p ≡ Some f → f < length r.mappings
   pub as_many : length r.pins ≡ length r.mappings
   -- no page is on its way

@@ -119,16 +119,16 @@ pub data Access : Type 0 where
   Write : (pid address : ℕ) (bytes : List ℕ) → Access
 
 -- the answer to an access
-pub data Answer : Type 0 where
-  Bytes : (bytes : List ℕ) → Answer
-  Done : Answer
-  Held : Answer
-  Refused : (errno : Errno) → Answer
+pub data AccessAnswer : Type 0 where
+  Bytes : (bytes : List ℕ) → AccessAnswer
+  Done : AccessAnswer
+  Held : AccessAnswer
+  Refused : (errno : Errno) → AccessAnswer
 
 -- what an access makes of a state, and its answer
 pub record Answered : Type 0 where
   pub state : State
-  pub answer : Answer
+  pub answer : AccessAnswer
 
 -- the bytes after the touch, or its refusal
 abbrev pub read_after : State → ℕ → ℕ → ℕ → Result State Errno → Answered

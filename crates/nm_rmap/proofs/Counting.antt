@@ -17,7 +17,7 @@ use Rattle.std.proofs.lemmas.Map.Keys.{sorted_head, sorted_tail, le_from_not_gt}
 use Rattle.std.proofs.lemmas.Map.Lookups.{exact_unsigned, exact_pairs, CmpEqualImpliesEq}
 use Rattle.std.proofs.lemmas.Map.Made.{distinct_count-le}
 use Rattle.nm_types.specs.Map.{spot_cmp}
-use Rattle.nm_rmap.specs.Mappers.{Spot, with_spot, without_spot, pids, has_process, process_count}
+use Rattle.nm_rmap.specs.Mappers.{Mapper, with_spot, without_spot, pids, has_process, process_count}
 
 exact_spot : CmpEqualImpliesEq spot_cmp
 exact_spot = exact_pairs nat_cmp nat_cmp exact_unsigned exact_unsigned
@@ -74,28 +74,28 @@ once_is_twice false c = refl
 
 -- ---- a spot comes
 
-has_with : (mappings : List Spot) (s : Spot) (q : ℕ) → has_process (with_spot mappings s) q ≡ (nat_eq q s.0 || has_process mappings q)
+has_with : (mappings : List Mapper) (s : Mapper) (q : ℕ) → has_process (with_spot mappings s) q ≡ (nat_eq q s.0 || has_process mappings q)
 has_with [] s q = refl
 has_with (x ∷ xs) s q =
     elim (spot_cmp s x) as (λ r. spot_cmp s x ≡ r → has_process (match_ordering r (s ∷ x ∷ xs) (x ∷ xs) (x ∷ with_spot xs s)) q ≡ (nat_eq q s.0 || (nat_eq q x.0 || has_process xs q))) [
       | Less ↦ λ r. refl
-      | Equal ↦ λ r. once_is_twice (nat_eq q x.0) (has_process xs q) ∙ ap (λ (y : Spot). nat_eq q y.0 || (nat_eq q x.0 || has_process xs q)) (sym (exact_spot s x r))
+      | Equal ↦ λ r. once_is_twice (nat_eq q x.0) (has_process xs q) ∙ ap (λ (y : Mapper). nat_eq q y.0 || (nat_eq q x.0 || has_process xs q)) (sym (exact_spot s x r))
       | Greater ↦ λ r. ap (λ b. nat_eq q x.0 || b) (has_with xs s q) ∙ either_first (nat_eq q x.0) (nat_eq q s.0) (has_process xs q)
     ] refl
 
-count_with : (mappings : List Spot) (s : Spot) → process_count (with_spot mappings s) ≡ distinct (s.0 ∷ pids mappings)
+count_with : (mappings : List Mapper) (s : Mapper) → process_count (with_spot mappings s) ≡ distinct (s.0 ∷ pids mappings)
 count_with [] s = refl
 count_with (x ∷ xs) s =
     elim (spot_cmp s x) as (λ r. spot_cmp s x ≡ r → process_count (match_ordering r (s ∷ x ∷ xs) (x ∷ xs) (x ∷ with_spot xs s)) ≡ distinct (s.0 ∷ x.0 ∷ pids xs)) [
       | Less ↦ λ r. refl
       | Equal ↦ λ r.
-          let same : nat_eq s.0 x.0 ≡ true = eq-eqb s.0 x.0 (ap (λ (y : Spot). y.0) (exact_spot s x r)) in
+          let same : nat_eq s.0 x.0 ≡ true = eq-eqb s.0 x.0 (ap (λ (y : Mapper). y.0) (exact_spot s x r)) in
           sym (one_more s.0 (x.0 ∷ pids xs) ∙ ap (λ b. cond (b || has_process xs s.0) (distinct (x.0 ∷ pids xs)) (suc (distinct (x.0 ∷ pids xs)))) same)
       | Greater ↦ λ r. same_more x.0 (pids (with_spot xs s)) (s.0 ∷ pids xs) (has_with xs s x.0) (count_with xs s) ∙ swapped x.0 s.0 (pids xs)
     ] refl
 
 -- where it is known whether its process was there
-module _ (mappings now : List Spot) (s : Spot) (known : Bool) (is : now ≡ with_spot mappings s) (tells : known ≡ has_process mappings s.0) where
+module _ (mappings now : List Mapper) (s : Mapper) (known : Bool) (is : now ≡ with_spot mappings s) (tells : known ≡ has_process mappings s.0) where
   inserted : process_count now ≡ cond known (process_count mappings) (suc (process_count mappings))
   inserted = ap process_count is ∙ count_with mappings s ∙ one_more s.0 (pids mappings) ∙ ap (λ b. cond b (process_count mappings) (suc (process_count mappings))) (sym tells)
 
@@ -107,27 +107,27 @@ module _ (mappings now : List Spot) (s : Spot) (known : Bool) (is : now ≡ with
 
 -- ---- a spot goes
 
-has_without : (mappings : List Spot) (s : Spot) (q : ℕ) → list_any (is_at (spot_cmp s)) mappings ≡ true → has_process mappings q ≡ (nat_eq q s.0 || has_process (without_spot mappings s) q)
+has_without : (mappings : List Mapper) (s : Mapper) (q : ℕ) → list_any (is_at (spot_cmp s)) mappings ≡ true → has_process mappings q ≡ (nat_eq q s.0 || has_process (without_spot mappings s) q)
 has_without [] s q h = absurd (false≢true h)
 has_without (x ∷ xs) s q h =
     elim (is_eq (spot_cmp s x)) as (λ b. is_eq (spot_cmp s x) ≡ b → (b || list_any (is_at (spot_cmp s)) xs) ≡ true → (nat_eq q x.0 || has_process xs q) ≡ (nat_eq q s.0 || has_process (cond b xs (x ∷ without_spot xs s)) q)) [
-      | true ↦ λ r h. ap (λ (y : Spot). nat_eq q y.0 || has_process xs q) (sym (exact_spot s x (is_equal (spot_cmp s x) r)))
+      | true ↦ λ r h. ap (λ (y : Mapper). nat_eq q y.0 || has_process xs q) (sym (exact_spot s x (is_equal (spot_cmp s x) r)))
       | false ↦ λ r h. ap (λ b. nat_eq q x.0 || b) (has_without xs s q h) ∙ either_first (nat_eq q x.0) (nat_eq q s.0) (has_process (without_spot xs s) q)
     ] refl h
 
-count_without : (mappings : List Spot) (s : Spot) → list_any (is_at (spot_cmp s)) mappings ≡ true → process_count mappings ≡ distinct (s.0 ∷ pids (without_spot mappings s))
+count_without : (mappings : List Mapper) (s : Mapper) → list_any (is_at (spot_cmp s)) mappings ≡ true → process_count mappings ≡ distinct (s.0 ∷ pids (without_spot mappings s))
 count_without [] s h = absurd (false≢true h)
 count_without (x ∷ xs) s h =
     elim (is_eq (spot_cmp s x)) as (λ b. is_eq (spot_cmp s x) ≡ b → (b || list_any (is_at (spot_cmp s)) xs) ≡ true → distinct (x.0 ∷ pids xs) ≡ distinct (s.0 ∷ pids (cond b xs (x ∷ without_spot xs s)))) [
-      | true ↦ λ r h. ap (λ (y : Spot). distinct (y.0 ∷ pids xs)) (sym (exact_spot s x (is_equal (spot_cmp s x) r)))
+      | true ↦ λ r h. ap (λ (y : Mapper). distinct (y.0 ∷ pids xs)) (sym (exact_spot s x (is_equal (spot_cmp s x) r)))
       | false ↦ λ r h. same_more x.0 (pids xs) (s.0 ∷ pids (without_spot xs s)) (has_without xs s x.0 h) (count_without xs s h) ∙ swapped x.0 s.0 (pids (without_spot xs s))
     ] refl h
 
 -- where it is known whether its process is still there
-module _ (mappings now : List Spot) (s : Spot) (known : Bool) (there : list_any (is_at (spot_cmp s)) mappings ≡ true) (is : now ≡ without_spot mappings s) (tells : known ≡ has_process now s.0) where
+module _ (mappings now : List Mapper) (s : Mapper) (known : Bool) (there : list_any (is_at (spot_cmp s)) mappings ≡ true) (is : now ≡ without_spot mappings s) (tells : known ≡ has_process now s.0) where
   removed : process_count mappings ≡ cond known (process_count now) (suc (process_count now))
   removed =
-      count_without mappings s there ∙ ap (λ (ss : List Spot). distinct (s.0 ∷ pids ss)) (sym is) ∙ one_more s.0 (pids now)
+      count_without mappings s there ∙ ap (λ (ss : List Mapper). distinct (s.0 ∷ pids ss)) (sym is) ∙ one_more s.0 (pids now)
       ∙ ap (λ b. cond b (process_count now) (suc (process_count now))) (sym tells)
 
   pub removed_last : known ≡ false → process_count mappings ≡ suc (process_count now)
@@ -138,11 +138,11 @@ module _ (mappings now : List Spot) (s : Spot) (known : Bool) (there : list_any 
 
 -- ---- the first spot from a process on
 
-abbrev from_process : ℕ → Spot → Bool
+abbrev from_process : ℕ → Mapper → Bool
 from_process pid spot = is_le (spot_cmp (pid, 0) spot) && true
 
 -- whether the first of the mappings is of the process
-abbrev pub starts_with : List Spot → ℕ → Bool
+abbrev pub starts_with : List Mapper → ℕ → Bool
 starts_with [] pid = false
 starts_with (spot ∷ mappings) pid = nat_eq spot.0 pid
 
@@ -157,12 +157,12 @@ not_behind Equal s h = refl
 not_behind Greater s h = sym h
 
 -- no later spot is of an earlier process
-later : (spot : Spot) (rest : List Spot) → AllByRecursion (λ y. spot_cmp spot y ≡ Less) rest → AllByRecursion (λ y. spot.0 ≤ y.0) rest
+later : (spot : Mapper) (rest : List Mapper) → AllByRecursion (λ y. spot_cmp spot y ≡ Less) rest → AllByRecursion (λ y. spot.0 ≤ y.0) rest
 later spot [] h = tt
 later spot (y ∷ rest) h = (le_from_not_gt spot.0 y.0 (first_decides (nat_cmp spot.0 y.0) (nat_cmp spot.1 y.1) h.0), later spot rest h.1)
 
 -- a process below those of all mappings is not among them
-not_among : (pid q : ℕ) (rest : List Spot) → pid < q → AllByRecursion (λ y. q ≤ y.0) rest → has_process rest pid ≡ false
+not_among : (pid q : ℕ) (rest : List Mapper) → pid < q → AllByRecursion (λ y. q ≤ y.0) rest → has_process rest pid ≡ false
 not_among pid q [] lt h = refl
 not_among pid q (y ∷ rest) lt h =
     let below : pid < y.0 = omega (arith, h.0) in
@@ -173,10 +173,10 @@ at_least_zero : (n : ℕ) → (is_le (nat_cmp 0 n) && true) ≡ true
 at_least_zero zero = refl
 at_least_zero (suc n) = ap (λ r. is_le r && true) (sym (nat_cmp_is 0 (suc n) Less (omega arith)))
 
-own_spot : (pid : ℕ) (x : Spot) → pid ≡ x.0 → from_process pid x ≡ true
+own_spot : (pid : ℕ) (x : Mapper) → pid ≡ x.0 → from_process pid x ≡ true
 own_spot pid x e = ap (λ r. is_le (ordering_then r (nat_cmp 0 x.1)) && true) (sym (nat_cmp_is pid x.0 Equal e)) ∙ at_least_zero x.1
 
-first_is : (pid : ℕ) (x : Spot) (xs : List Spot) → pid ≤ x.0 → AllByRecursion (λ y. x.0 ≤ y.0) xs → (nat_eq pid x.0 || has_process xs pid) ≡ nat_eq x.0 pid
+first_is : (pid : ℕ) (x : Mapper) (xs : List Mapper) → pid ≤ x.0 → AllByRecursion (λ y. x.0 ≤ y.0) xs → (nat_eq pid x.0 || has_process xs pid) ≡ nat_eq x.0 pid
 first_is pid x xs low after =
     ⊎_elim (λ is. ap (λ b. b || has_process xs pid) is.0 ∙ sym (eq-eqb x.0 pid (sym is.1)))
     (λ is.
@@ -184,7 +184,7 @@ first_is pid x xs low after =
     let below : pid < x.0 = omega (arith, low, apart) in
     ap (λ b. b || has_process xs pid) is.0 ∙ not_among pid x.0 xs below after ∙ sym (ne_eqb x.0 pid (λ e. omega (arith, e, below)))) (eqb_tells pid x.0)
 
-first_tells : (pid : ℕ) (mappings : List Spot) → IsStrictlySortedBy spot_cmp mappings → has_process mappings pid ≡ starts_with (filter (from_process pid) mappings) pid
+first_tells : (pid : ℕ) (mappings : List Mapper) → IsStrictlySortedBy spot_cmp mappings → has_process mappings pid ≡ starts_with (filter (from_process pid) mappings) pid
 first_tells pid [] sorted = refl
 first_tells pid (x ∷ xs) sorted =
     elim (from_process pid x) as (λ b. from_process pid x ≡ b → (nat_eq pid x.0 || has_process xs pid) ≡ starts_with (cond b (x ∷ filter (from_process pid) xs) (filter (from_process pid) xs)) pid) [
@@ -193,11 +193,11 @@ first_tells pid (x ∷ xs) sorted =
     ] refl
 
 -- by what a range gives
-pub range_tells : (pid start : ℕ) (mappings found : List Spot) → found ≡ filter (range_contains spot_cmp (Included (pid, start)) Unbounded) mappings → start ≡ 0 → IsStrictlySortedBy spot_cmp mappings
+pub range_tells : (pid start : ℕ) (mappings found : List Mapper) → found ≡ filter (range_contains spot_cmp (Included (pid, start)) Unbounded) mappings → start ≡ 0 → IsStrictlySortedBy spot_cmp mappings
     → has_process mappings pid ≡ starts_with found pid
 range_tells pid start mappings found is at sorted =
-    first_tells pid mappings sorted ∙ ap (λ (ss : List Spot). starts_with ss pid) (sym (is ∙ ap (λ (n : ℕ). filter (range_contains spot_cmp (Included (pid, n)) Unbounded) mappings) at))
+    first_tells pid mappings sorted ∙ ap (λ (ss : List Mapper). starts_with ss pid) (sym (is ∙ ap (λ (n : ℕ). filter (range_contains spot_cmp (Included (pid, n)) Unbounded) mappings) at))
 
 -- there are no more processes than mappings
-pub few_processes : (mappings : List Spot) → process_count mappings ≤ length mappings
-few_processes mappings = omega (arith, distinct_count-le nat_eq (pids mappings), length-map mappings (λ (spot : Spot). spot.0))
+pub few_processes : (mappings : List Mapper) → process_count mappings ≤ length mappings
+few_processes mappings = omega (arith, distinct_count-le nat_eq (pids mappings), length-map mappings (λ (spot : Mapper). spot.0))

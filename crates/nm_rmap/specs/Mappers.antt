@@ -6,32 +6,32 @@ use Rattle.std.specs.Set.{remove_key, distinct_count, is_member}
 use Rattle.nm_types.specs.Map.{spot_cmp}
 
 -- a process and a page number of it
-abbrev pub Spot : Type 0
-Spot = ℕ × ℕ
+abbrev pub Mapper : Type 0
+Mapper = ℕ × ℕ
 
 -- the mappings with one more, at its place in the order; one that is there stays
-abbrev pub with_spot : List Spot → Spot → List Spot
+abbrev pub with_spot : List Mapper → Mapper → List Mapper
 with_spot mappings spot = insert_key spot_cmp mappings spot
 
 -- the mappings without one
-abbrev pub without_spot : List Spot → Spot → List Spot
+abbrev pub without_spot : List Mapper → Mapper → List Mapper
 without_spot mappings spot = remove_key (is_at (spot_cmp spot)) mappings
 
 -- the processes of the mappings
-abbrev pub pids : List Spot → List ℕ
+abbrev pub pids : List Mapper → List ℕ
 pids mappings = map (λ spot. spot.0) mappings
 
 -- whether a process has one of the mappings
-abbrev pub has_process : List Spot → ℕ → Bool
+abbrev pub has_process : List Mapper → ℕ → Bool
 has_process mappings pid = is_member nat_eq (pids mappings) pid
 
 -- how many processes have a page number among the mappings
-abbrev pub process_count : List Spot → ℕ
+abbrev pub process_count : List Mapper → ℕ
 process_count mappings = distinct_count nat_eq (pids mappings)
 
 pub record Mappers : Type 0 where
   -- for each frame the page numbers that name it, by pid and then by page number
-  pub mappings : List (List Spot)
+  pub mappings : List (List Mapper)
   -- how often each frame is pinned
   pub pins : List ℕ
 
@@ -40,24 +40,24 @@ abbrev pub new_map : ℕ → Mappers
 new_map frames = record { mappings = replicate frames []; pins = replicate frames 0 }
 
 -- the page numbers that name a frame
-abbrev pub mappers_of : Mappers → ℕ → List Spot
+abbrev pub mappers_of : Mappers → ℕ → List Mapper
 mappers_of m frame = slice_index_or m.mappings frame []
 
 -- how often a frame is pinned
-abbrev pub pins_of : Mappers → ℕ → ℕ
-pins_of m frame = slice_index_or m.pins frame 0
+abbrev pub frame_pins : Mappers → ℕ → ℕ
+frame_pins m frame = slice_index_or m.pins frame 0
 
 -- the map with other mappers of a frame
-abbrev pub with_mappers : Mappers → ℕ → List Spot → Mappers
+abbrev pub with_mappers : Mappers → ℕ → List Mapper → Mappers
 with_mappers m frame mappings = record { mappings = slice_set m.mappings frame mappings; pins = m.pins }
 
 -- the map with one more mapper of a frame
-abbrev pub added : Mappers → ℕ → Spot → Mappers
-added m frame spot = with_mappers m frame (with_spot (mappers_of m frame) spot)
+abbrev pub with_mapper : Mappers → ℕ → Mapper → Mappers
+with_mapper m frame spot = with_mappers m frame (with_spot (mappers_of m frame) spot)
 
 -- the map without one mapper of a frame
-abbrev pub dropped : Mappers → ℕ → Spot → Mappers
-dropped m frame spot = with_mappers m frame (without_spot (mappers_of m frame) spot)
+abbrev pub without_mapper : Mappers → ℕ → Mapper → Mappers
+without_mapper m frame spot = with_mappers m frame (without_spot (mappers_of m frame) spot)
 
 -- the map with another number of pins of a frame
 abbrev pub with_pins : Mappers → ℕ → ℕ → Mappers
@@ -65,9 +65,9 @@ with_pins m frame pins = record { mappings = m.mappings; pins = slice_set m.pins
 
 -- what names and pins one frame names and pins another in its place
 abbrev pub carried : Mappers → ℕ → ℕ → Mappers
-carried m from to = with_pins (with_mappers (with_pins (with_mappers m to (mappers_of m from)) to (pins_of m from)) from []) from 0
+carried m from to = with_pins (with_mappers (with_pins (with_mappers m to (mappers_of m from)) to (frame_pins m from)) from []) from 0
 
 -- nobody names or pins the frame
 pub record IsUnused (m : Mappers) (frame : ℕ) : Type 0 where
   pub mappers : mappers_of m frame ≡ []
-  pub pins : pins_of m frame ≡ 0
+  pub pins : frame_pins m frame ≡ 0

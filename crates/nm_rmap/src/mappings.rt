@@ -59,7 +59,7 @@ impl<A: Allocator + Copy> Mappings<A> {
 
     /// Takes one out, if it is there.
     pub(crate) fn remove(&mut self, pid: Pid, vpn: Vpn)
-        ensures dropped { self.new ≡ without_spot self.old (pid, vpn) }
+        ensures without_mapper { self.new ≡ without_spot self.old (pid, vpn) }
         ensures ordered { IsStrictlySortedBy spot_cmp self.old }
     {
         let there = self.tree.remove(&(pid, vpn));

@@ -4,7 +4,7 @@ ghost use Rattle.std.specs.Prelude.{◌≡◌, ◌<◌, ◌≤◌, ◌+◌, ◌-
 ghost use Rattle.std.specs.List.Sorted.{IsStrictlySortedBy};
 ghost use Rattle.nm_types.specs.declared.errno.Errno.TheVariants.{Ebusy, Einval};
 ghost use Rattle.nm_types.specs.Map.{spot_cmp};
-ghost use Rattle.nm_rmap.specs.Mappers.{IsUnused, new_map, mappers_of, pins_of, with_pins, added, dropped, carried, process_count};
+ghost use Rattle.nm_rmap.specs.Mappers.{IsUnused, new_map, mappers_of, frame_pins, with_pins, with_mapper, without_mapper, carried, process_count};
 
 use crate::mappings::Mappings;
 use nm_types::limits::MAX_PINS;
@@ -55,7 +55,7 @@ impl<A: Allocator + Copy> ReverseMap<A> {
     /// memory, and means that nothing has changed.
     pub fn add(&mut self, frame: FrameId, pid: Pid, vpn: Vpn) -> Result<(), AllocError>
         requires { frame < length self.old.mappings }
-        ensures ok { OnOk result (self.new ≡ added self.old frame (pid, vpn)) }
+        ensures ok { OnOk result (self.new ≡ with_mapper self.old frame (pid, vpn)) }
         ensures err { OnErr result (self.new ≡ self.old) }
     {
         self.mappings[frame.index()].insert(pid, vpn)
@@ -64,7 +64,7 @@ impl<A: Allocator + Copy> ReverseMap<A> {
     /// Makes a page number of a process no mapper of a frame, if it is one. It takes no memory.
     pub fn drop_one(&mut self, frame: FrameId, pid: Pid, vpn: Vpn)
         requires { frame < length self.old.mappings }
-        ensures dropped { self.new ≡ dropped self.old frame (pid, vpn) }
+        ensures dropped { self.new ≡ without_mapper self.old frame (pid, vpn) }
         ensures ordered { IsStrictlySortedBy spot_cmp (mappers_of self.old frame) }
     {
         self.mappings[frame.index()].remove(pid, vpn);
@@ -112,9 +112,9 @@ impl<A: Allocator + Copy> ReverseMap<A> {
     /// Pins a frame once more. EBUSY where it has 65,535 pins, and then nothing has changed. It takes no memory.
     pub fn pin(&mut self, frame: FrameId) -> Result<(), Errno>
         requires { frame < length self.old.mappings }
-        ensures room { OnOk result (pins_of self.old frame < 65535) }
-        ensures ok { OnOk result (self.new ≡ with_pins self.old frame (pins_of self.old frame + 1)) }
-        ensures full { IfErr result (λ error. (error ≡ Ebusy) × (65535 ≤ pins_of self.old frame)) }
+        ensures room { OnOk result (frame_pins self.old frame < 65535) }
+        ensures ok { OnOk result (self.new ≡ with_pins self.old frame (frame_pins self.old frame + 1)) }
+        ensures full { IfErr result (λ error. (error ≡ Ebusy) × (65535 ≤ frame_pins self.old frame)) }
         ensures err { OnErr result (self.new ≡ self.old) }
     {
         let pins = &mut self.pins[frame.index()];
@@ -128,9 +128,9 @@ impl<A: Allocator + Copy> ReverseMap<A> {
     /// Takes one pin off a frame. EINVAL where it has none, and then nothing has changed. It takes no memory.
     pub fn unpin(&mut self, frame: FrameId) -> Result<(), Errno>
         requires { frame < length self.old.mappings }
-        ensures pinned { OnOk result (0 < pins_of self.old frame) }
-        ensures ok { OnOk result (self.new ≡ with_pins self.old frame (pins_of self.old frame - 1)) }
-        ensures none { IfErr result (λ error. (error ≡ Einval) × (pins_of self.old frame ≡ 0)) }
+        ensures pinned { OnOk result (0 < frame_pins self.old frame) }
+        ensures ok { OnOk result (self.new ≡ with_pins self.old frame (frame_pins self.old frame - 1)) }
+        ensures none { IfErr result (λ error. (error ≡ Einval) × (frame_pins self.old frame ≡ 0)) }
         ensures err { OnErr result (self.new ≡ self.old) }
     {
         let pins = &mut self.pins[frame.index()];
@@ -144,7 +144,7 @@ impl<A: Allocator + Copy> ReverseMap<A> {
     /// How often a frame is pinned. It takes no memory.
     pub fn pins(&self, frame: FrameId) -> u32
         requires { frame < length self.now.mappings }
-        ensures pins { result ≡ pins_of self.now frame }
+        ensures pins { result ≡ frame_pins self.now frame }
         ensures as_many { length self.now.pins ≡ length self.now.mappings }
     {
         self.pins[frame.index()]

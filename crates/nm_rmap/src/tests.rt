@@ -1,5 +1,5 @@
 ghost use Rattle.std.specs.Prelude.{◌≡◌, ◌<◌, length, IfOk, OnOk};
-ghost use Rattle.nm_rmap.specs.Mappers.{added};
+ghost use Rattle.nm_rmap.specs.Mappers.{with_mapper};
 ghost use Rattle.nm_rmap.specs.Examples.{three_mappers};
 
 use crate::ReverseMap;
@@ -14,7 +14,7 @@ fn add_to_first<A: Allocator + Copy>(
     vpn: u64,
 ) -> Result<(), AllocError>
     requires { 0 < length map.old.mappings }
-    ensures { OnOk result (map.new ≡ added map.old 0 (pid, vpn)) }
+    ensures { OnOk result (map.new ≡ with_mapper map.old 0 (pid, vpn)) }
 {
     map.add(FrameId::new(0), Pid::new(pid), Vpn::new(vpn))
 }

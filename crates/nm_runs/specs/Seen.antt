@@ -40,12 +40,12 @@ abbrev pub users : State → Page → List ℕ
 users s p = users_in s.processes p
 
 -- how often a page is pinned, by the pins of all pages
-abbrev pub pins_in : Map Page ℕ → Page → ℕ
-pins_in pins p = unwrap_or (get page_cmp pins p) 0
+abbrev pub pins_among : Map Page ℕ → Page → ℕ
+pins_among pins p = unwrap_or (get page_cmp pins p) 0
 
 -- how often a page is pinned
 abbrev pub pins_of : State → Page → ℕ
-pins_of s p = pins_in s.pins p
+pins_of s p = pins_among s.pins p
 
 -- whether a page has a pin
 abbrev pub is_pinned : State → Page → Bool
@@ -54,7 +54,7 @@ is_pinned s p = nat_lt 0 (pins_of s p)
 -- a look at a page that has this place
 abbrev pub look_at_place : Map ℕ Process → Map Page ℕ → Page → Option ℕ → Seen
 look_at_place processes pins p None = Absent
-look_at_place processes pins p (Some frame) = At p frame (length (users_in processes p)) (nat_lt 0 (pins_in pins p))
+look_at_place processes pins p (Some frame) = At p frame (length (users_in processes p)) (nat_lt 0 (pins_among pins p))
 
 -- the same in a state
 abbrev pub look_at_page : State → Page → Option ℕ → Seen

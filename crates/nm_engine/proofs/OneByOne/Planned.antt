@@ -21,7 +21,7 @@ use Rattle.nm_runs.specs.Seen.{sight_at, users, is_pinned, look_at_page, look_un
 use Rattle.nm_runs.specs.Status.{code, status_or_move, class_of_look, class_of}
 use Rattle.nm_plan.specs.declared.Taken.{Taken}
 use Rattle.nm_plan.specs.Decide.{Choice, Decisions, has_moved, take_front, choose, decide}
-use Rattle.nm_engine.specs.Run.{Outcome, Progress, moved_page, decided, each}
+use Rattle.nm_engine.specs.Run.{Decision, Progress, moved_page, decided, each}
 use Rattle.nm_engine.specs.Sound.{OwnsItsFree}
 use Rattle.nm_engine.specs.Laws.{Agrees, moves_all, with_moves}
 use Rattle.nm_types.proofs.Maps.{page_cmp_total, exact_page, equal, get-set}
@@ -183,7 +183,7 @@ append-nil [] = refl
 append-nil (x ∷ xs) = ap (λ l. x ∷ l) (append-nil xs)
 
 -- one outcome, and then the requests that are left
-abbrev then_each : Outcome → ℕ → List Wanted → Progress
+abbrev then_each : Decision → ℕ → List Wanted → Progress
 then_each now target ws =
     let rest = each now.state target ws in
     record { state = rest.state; statuses = now.status ∷ rest.statuses; taken = now.taken ++ rest.taken }

@@ -4,7 +4,7 @@ use Rattle.nm_types.specs.State.{State}
 use Rattle.nm_engine.specs.Touch.{Read, Write}
 use Rattle.nm_engine.specs.Effect.{new_machine, map_new}
 use Rattle.nm_engine.specs.Sound.{IsSound}
-use Rattle.nm_engine.specs.Examples.{A, B, C, D, E, two_nodes, three_nodes, one_process, with_second, wrote, three_pages, two_addresses, six_pages, seven_pages, shared_page, attached, four_of_five, to}
+use Rattle.nm_engine.specs.Examples.{A, B, C, D, E, two_nodes, three_nodes, one_process, with_second, wrote, three_pages, two_addresses, six_pages, seven_pages, shared_page, attached_by_two, four_of_five, to}
 use Rattle.nm_engine.specs.Examples.Letting.{one_of_each}
 use Rattle.nm_engine.specs.Examples.Deciding.{on_two_of_three}
 use Rattle.nm_engine.specs.Examples.Starts.{StartsAreSound}
@@ -42,7 +42,7 @@ seven_pages_sound =
     let four = four_written (map_new one_process 1 A 7 false) (map_sound one_process 1 A 7 false one_sound refl) in
     wrote_sound _ 1 0x16000 0x67 (wrote_sound _ 1 0x15000 0x66 (wrote_sound _ 1 E 0x65 four))
 
-attached_sound : IsSound attached
+attached_sound : IsSound attached_by_two
 attached_sound =
     let shared : IsSound shared_page = wrote_sound _ 1 0x20000 0x61 (map_sound one_process 1 0x20000 1 true one_sound refl) in
     attach_sound (with_second shared_page) 2 0x20000 0 0 1 (spawn_sound shared_page 2 200 1 (0 ∷ 1 ∷ []) false shared refl) refl
@@ -60,4 +60,4 @@ one_of_each_sound = pin_sound _ 1 C (wrote_sound _ 1 C 0x61 (access_sound _ [] (
 
 pub starts_are_sound : StartsAreSound
 starts_are_sound =
-    (three_pages_sound, two_addresses_sound, six_pages_sound, seven_pages_sound, attached_sound, access_sound attached [] (Read 2 0x20000 1) attached_sound, four_of_five_sound, on_two_of_three_sound, one_of_each_sound)
+    (three_pages_sound, two_addresses_sound, six_pages_sound, seven_pages_sound, attached_sound, access_sound attached_by_two [] (Read 2 0x20000 1) attached_sound, four_of_five_sound, on_two_of_three_sound, one_of_each_sound)

@@ -22,7 +22,7 @@ use Rattle.nm_types.proofs.Cases.{true_false, none_some}
 use Rattle.nm_tables.specs.declared.entry.Entry.{Entry}
 use Rattle.nm_tables.specs.declared.entry.Entry.TheVariants.{Zero, Frame, Held}
 use Rattle.nm_areas.specs.Mapped.{Mapped}
-use Rattle.nm_rmap.specs.Mappers.{Mappers, mappers_of, dropped}
+use Rattle.nm_rmap.specs.Mappers.{Mappers, mappers_of, without_mapper}
 use Rattle.nm_engine.specs.ProcessTable.{Task, entry_at, entry_in, names, without_entry, cleared_between, cleared}
 use Rattle.nm_engine.specs.AddressSpaces.{SpacesView, spaces_view, process_of, sight_of}
 use Rattle.nm_engine.specs.Tied.{IsTied, IsCleared, has_spot, is_between}
@@ -364,7 +364,7 @@ less_zero r t spot e entry is =
     (subst (λ t. IsWithout r t spot (Some Zero)) (sym is) (record { less = λ g s. less_false (has_spot (mappers_of r g) s) (same_spot s spot); frames = refl; pins = refl }))
 
 less_by : (r : Mappers) (f : ℕ) (spot : ℕ × ℕ) → f < length r.mappings → IsStrictlySortedBy spot_cmp (mappers_of r f) → (g : ℕ) (s : ℕ × ℕ)
-    → has_spot (mappers_of (dropped r f spot) g) s ≡ (has_spot (mappers_of r g) s && not (same_spot s spot && (f == g)))
+    → has_spot (mappers_of (without_mapper r f spot) g) s ≡ (has_spot (mappers_of r g) s && not (same_spot s spot && (f == g)))
 less_by r f spot below sorted g s =
     let l = remove_key (is_at (spot_cmp spot)) (mappers_of r f) in
     ap (λ l. has_spot l s) (get_or-set r.mappings f g l [] below)
@@ -380,18 +380,18 @@ less_by r f spot below sorted g s =
           ∙ ap (λ c. has_spot (mappers_of r g) s && not (same_spot s spot && c)) (sym (false_from_ne_true (f == g) (λ h. eqb-false g f b (sym (eqb-true f g h)))))
     ] refl
 
-dropped_less : (r : Mappers) (f : ℕ) (spot : ℕ × ℕ) (o : Option Entry) → ((g : ℕ) → names g o ≡ (f == g)) → f < length r.mappings → IsStrictlySortedBy spot_cmp (mappers_of r f) → IsWithout r (dropped r f spot) spot o
+dropped_less : (r : Mappers) (f : ℕ) (spot : ℕ × ℕ) (o : Option Entry) → ((g : ℕ) → names g o ≡ (f == g)) → f < length r.mappings → IsStrictlySortedBy spot_cmp (mappers_of r f) → IsWithout r (without_mapper r f spot) spot o
 dropped_less r f spot o is below sorted = record {
   less = λ g s. less_by r f spot below sorted g s ∙ ap (λ c. has_spot (mappers_of r g) s && not (same_spot s spot && c)) (sym (is g));
   frames = length-set r.mappings f _;
   pins = refl;
 }
 
-pub less_frame : (r t : Mappers) (f : ℕ) (spot : ℕ × ℕ) (e : Entry) → e ≡ Frame f → f < length r.mappings → IsStrictlySortedBy spot_cmp (mappers_of r f) → t ≡ dropped r f spot → IsWithout r t spot (Some e)
+pub less_frame : (r t : Mappers) (f : ℕ) (spot : ℕ × ℕ) (e : Entry) → e ≡ Frame f → f < length r.mappings → IsStrictlySortedBy spot_cmp (mappers_of r f) → t ≡ without_mapper r f spot → IsWithout r t spot (Some e)
 less_frame r t f spot e entry below sorted is =
     subst (λ e. IsWithout r t spot (Some e)) (sym entry) (subst (λ t. IsWithout r t spot (Some (Frame f))) (sym is) (dropped_less r f spot (Some (Frame f)) (λ g. refl) below sorted))
 
-pub less_held : (r t : Mappers) (f : ℕ) (spot : ℕ × ℕ) (e : Entry) → e ≡ Held f → f < length r.mappings → IsStrictlySortedBy spot_cmp (mappers_of r f) → t ≡ dropped r f spot → IsWithout r t spot (Some e)
+pub less_held : (r t : Mappers) (f : ℕ) (spot : ℕ × ℕ) (e : Entry) → e ≡ Held f → f < length r.mappings → IsStrictlySortedBy spot_cmp (mappers_of r f) → t ≡ without_mapper r f spot → IsWithout r t spot (Some e)
 less_held r t f spot e entry below sorted is =
     subst (λ e. IsWithout r t spot (Some e)) (sym entry) (subst (λ t. IsWithout r t spot (Some (Held f))) (sym is) (dropped_less r f spot (Some (Held f)) (λ g. refl) below sorted))
 

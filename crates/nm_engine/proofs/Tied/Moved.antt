@@ -14,7 +14,7 @@ use Rattle.nm_tables.specs.declared.entry.Entry.{Entry}
 use Rattle.nm_tables.specs.declared.entry.Entry.TheVariants.{Zero, Frame, Held}
 use Rattle.nm_areas.specs.Mapped.{Mapped}
 use Rattle.nm_areas.specs.Effect.{with_frame}
-use Rattle.nm_rmap.specs.Mappers.{Mappers, mappers_of, pins_of, carried}
+use Rattle.nm_rmap.specs.Mappers.{Mappers, mappers_of, frame_pins, carried}
 use Rattle.nm_engine.specs.ProcessTable.{Task, entry_at, names, remapped}
 use Rattle.nm_engine.specs.AddressSpaces.{SpacesView, spaces_view, pins_in, with_moved}
 use Rattle.nm_engine.specs.Tied.{IsTied, has_spot}
@@ -108,10 +108,10 @@ module _ (tasks : Map ℕ Task) (m : Mapped) (r : Mappers) (p : Page) (from to :
       get_or-set (slice_set r.mappings to (mappers_of r from)) from f [] [] (omega (arith, below, length-set r.mappings to (mappers_of r from)))
       ∙ ap (cond (f == from) []) (get_or-set r.mappings to f (mappers_of r from) [] spare.frame)
 
-  pins_after : (f : ℕ) → pins_of (carried r from to) f ≡ cond (f == from) 0 (cond (f == to) (pins_of r from) (pins_of r f))
+  pins_after : (f : ℕ) → frame_pins (carried r from to) f ≡ cond (f == from) 0 (cond (f == to) (frame_pins r from) (frame_pins r f))
   pins_after f =
-      get_or-set (slice_set r.pins to (pins_of r from)) from f 0 0 (omega (arith, below, t.as_many, length-set r.pins to (pins_of r from)))
-      ∙ ap (cond (f == from) 0) (get_or-set r.pins to f (pins_of r from) 0 (omega (arith, spare.frame, t.as_many)))
+      get_or-set (slice_set r.pins to (frame_pins r from)) from f 0 0 (omega (arith, below, t.as_many, length-set r.pins to (frame_pins r from)))
+      ∙ ap (cond (f == from) 0) (get_or-set r.pins to f (frame_pins r from) 0 (omega (arith, spare.frame, t.as_many)))
 
   mapped_after : (f pid v : ℕ) → has_spot (mappers_of (carried r from to) f) (pid, v) ≡ names f (entry_at (remapped tasks (mappers_of r from) to) pid v)
   mapped_after f pid v =
@@ -140,12 +140,12 @@ module _ (tasks : Map ℕ Task) (m : Mapped) (r : Mappers) (p : Page) (from to :
         | inr a ↦ elim (place_after m.place p s to f k) as (λ _. q ≡ s) [ inl b ↦ absurd (spare.place q (a.1 ∙ ap Some b.1)) | inr b ↦ t.apart q s f a.1 b.1 ]
       ]
 
-  pinned_after : (f : ℕ) → ((q : Page) → get page_cmp (set page_cmp m.place p to) q ≡ Some f → ⊥) → pins_of (carried r from to) f ≡ 0
+  pinned_after : (f : ℕ) → ((q : Page) → get page_cmp (set page_cmp m.place p to) q ≡ Some f → ⊥) → frame_pins (carried r from to) f ≡ 0
   pinned_after f h =
       pins_after f
-      ∙ elim (f == from) as (λ b. (f == from) ≡ b → cond b 0 (cond (f == to) (pins_of r from) (pins_of r f)) ≡ 0) [
+      ∙ elim (f == from) as (λ b. (f == from) ≡ b → cond b 0 (cond (f == to) (frame_pins r from) (frame_pins r f)) ≡ 0) [
         | true ↦ λ b. refl
-        | false ↦ λ b. elim (f == to) as (λ c. (f == to) ≡ c → cond c (pins_of r from) (pins_of r f) ≡ 0) [
+        | false ↦ λ b. elim (f == to) as (λ c. (f == to) ≡ c → cond c (frame_pins r from) (frame_pins r f) ≡ 0) [
           | true ↦ λ c. absurd (h p (place_new m.place p to ∙ ap Some (sym (eqb-true f to c))))
           | false ↦ λ c. t.pinned f (λ q k. h q (place_other m.place p q to f (λ e. eqb-false f from b (some_is (sym k ∙ ap (get page_cmp m.place) e ∙ placed))) k))
         ] refl
@@ -180,14 +180,14 @@ module _ (tasks : Map ℕ Task) (m : Mapped) (r : Mappers) (p : Page) (from to :
     apart = apart_after;
     pinned = pinned_after;
     in_range = in_range_after;
-    as_many = length-set (slice_set r.pins to (pins_of r from)) from 0 ∙ length-set r.pins to (pins_of r from) ∙ t.as_many ∙ sym frames_after;
+    as_many = length-set (slice_set r.pins to (frame_pins r from)) from 0 ∙ length-set r.pins to (frame_pins r from) ∙ t.as_many ∙ sym frames_after;
     settled = settled_after;
   }
 
   pins_move : pins_in (carried r from to) (set page_cmp m.place p to) ≡ pins_in r m.place
   pins_move =
-      let pins = slice_set r.pins to (pins_of r from) in
-      with_values-moved page_cmp_total exact_page (pins_of (carried r from to)) (pins_of r) m.place p from to t.places placed
+      let pins = slice_set r.pins to (frame_pins r from) in
+      with_values-moved page_cmp_total exact_page (frame_pins (carried r from to)) (frame_pins r) m.place p from to t.places placed
       (get_or-set_other pins from to 0 0 (λ e. frames_apart (sym e)) ∙ get_or-set_same r.pins to _ 0 (omega (arith, spare.frame, t.as_many)))
       (λ q f found apart.
       get_or-set_other pins from f 0 0 (λ e. both_ways _ apart (ap is_eq (ap (λ r. page_cmp r p) (t.apart q p from (found ∙ ap Some e) placed) ∙ tied_itself page_cmp_total p)))

@@ -10,17 +10,17 @@ use Rattle.std.proofs.lemmas.List.{get_or-set_same, get_or-set_other}
 use Rattle.nm_types.specs.declared.page.Page.{Page}
 use Rattle.nm_types.specs.Map.{Map, get, set, replace, with_values, page_cmp}
 use Rattle.nm_areas.specs.Mapped.{Mapped}
-use Rattle.nm_rmap.specs.Mappers.{Mappers, pins_of, with_pins}
+use Rattle.nm_rmap.specs.Mappers.{Mappers, frame_pins, with_pins}
 use Rattle.nm_engine.specs.ProcessTable.{Task}
 use Rattle.nm_engine.specs.AddressSpaces.{SpacesView, spaces_view, pins_in, pins_here, with_pins_of}
 use Rattle.nm_engine.specs.Tied.{IsTied}
 use Rattle.nm_types.proofs.Maps.{keys-values, get-values, page_cmp_total, exact_page, with_values-set, set_agree, set_same, replace_is_set}
 
 -- the pins of a page are its frame's
-pub pins_shown : (y : SpacesView) (tasks : Map ℕ Task) (m : Mapped) (r : Mappers) (p : Page) (f : ℕ) → spaces_view tasks m r ≡ y → get page_cmp y.place p ≡ Some f → pins_here y p ≡ pins_of r f
+pub pins_shown : (y : SpacesView) (tasks : Map ℕ Task) (m : Mapped) (r : Mappers) (p : Page) (f : ℕ) → spaces_view tasks m r ≡ y → get page_cmp y.place p ≡ Some f → pins_here y p ≡ frame_pins r f
 pins_shown y tasks m r p f is h =
     ap (λ (y : SpacesView). pins_here y p) (sym is)
-    ∙ ap (λ o. unwrap_or o 0) (get-values exact_page (λ q g. pins_of r g) m.place p ∙ ap (option_map (pins_of r)) (ap (λ (y : SpacesView). get page_cmp y.place p) is ∙ h))
+    ∙ ap (λ o. unwrap_or o 0) (get-values exact_page (λ q g. frame_pins r g) m.place p ∙ ap (option_map (frame_pins r)) (ap (λ (y : SpacesView). get page_cmp y.place p) is ∙ h))
 
 module _ (tasks : Map ℕ Task) (m : Mapped) (r : Mappers) (p : Page) (f n : ℕ) (h : IsTied tasks m r) (placed : get page_cmp m.place p ≡ Some f) where
   in_pins : f < length r.pins
@@ -43,15 +43,15 @@ module _ (tasks : Map ℕ Task) (m : Mapped) (r : Mappers) (p : Page) (f n : ℕ
 
   pins_replaced : pins_in (with_pins r f n) m.place ≡ replace page_cmp (pins_in r m.place) p n
   pins_replaced =
-      let F : Page → ℕ → ℕ = λ q g. pins_of (with_pins r f n) g in
-      let G : Page → ℕ → ℕ = λ q g. pins_of r g in
+      let F : Page → ℕ → ℕ = λ q g. frame_pins (with_pins r f n) g in
+      let G : Page → ℕ → ℕ = λ q g. frame_pins r g in
       ap (with_values F) (sym (set_same page_cmp_total exact_page m.place p f h.places placed))
       ∙ with_values-set exact_page F m.place p f
       ∙ ap (set page_cmp (with_values F m.place) p) (get_or-set_same r.pins f n 0 in_pins)
       ∙ set_agree page_cmp_total exact_page F G m.place p n h.places
       (λ q g found apart. get_or-set_other r.pins f g n 0 (λ e. both_ways _ apart (ap is_eq (ap (λ s. page_cmp s p) (h.apart q p f (found ∙ ap Some e) placed) ∙ tied_itself page_cmp_total p))))
       ∙ sym (replace_is_set page_cmp_total exact_page (with_values G m.place) p n (subst (IsStrictlySortedBy page_cmp) (sym (keys-values G m.place)) h.places)
-      (subst IsSome (sym (get-values exact_page G m.place p ∙ ap (option_map (pins_of r)) placed)) refl))
+      (subst IsSome (sym (get-values exact_page G m.place p ∙ ap (option_map (frame_pins r)) placed)) refl))
 
   pub pins_shows : spaces_view tasks m (with_pins r f n) ≡ with_pins_of (spaces_view tasks m r) p n
   pins_shows = ap (λ pins. record (spaces_view tasks m r) { pins = pins }) pins_replaced

@@ -24,7 +24,7 @@ use Rattle.nm_tables.specs.declared.entry.Entry.TheVariants.{Zero, Frame, Held}
 use Rattle.nm_areas.specs.Mapped.{Mapped}
 use Rattle.nm_areas.specs.Parts.{pages_between, is_covered}
 use Rattle.nm_areas.specs.Removed.{areas_left, segments_left, pages_gone, place_left, removed, page_outside}
-use Rattle.nm_rmap.specs.Mappers.{Mappers, mappers_of, pins_of}
+use Rattle.nm_rmap.specs.Mappers.{Mappers, mappers_of, frame_pins}
 use Rattle.nm_engine.specs.Refused.{shows_pinned}
 use Rattle.nm_engine.specs.Tables.{blind_between}
 use Rattle.nm_engine.specs.ProcessTable.{Task, entry_at, names, cleared_between, cleared}
@@ -147,11 +147,11 @@ none_gone test pid first end (a ∷ areas) p h m =
 
 -- a page that is let go has no pins
 pub unpinned_pages : (y : SpacesView) (tasks : Map ℕ Task) (m : Mapped) (r : Mappers) (pid first end : ℕ) → spaces_view tasks m r ≡ y → shows_pinned y.areas y.pins pid first end ≡ false
-    → (p : Page) (f : ℕ) → Listed p (pages_gone m.areas pid first end) → get page_cmp m.place p ≡ Some f → pins_of r f ≡ 0
+    → (p : Page) (f : ℕ) → Listed p (pages_gone m.areas pid first end) → get page_cmp m.place p ≡ Some f → frame_pins r f ≡ 0
 unpinned_pages y tasks m r pid first end is h p f listed found =
     let free = none_gone (λ p. nat_lt 0 (unwrap_or (get page_cmp (pins_in r m.place) p) 0)) pid first end m.areas p (ap (λ (y : SpacesView). shows_pinned y.areas y.pins pid first end) is ∙ h) listed in
-    let pins : unwrap_or (get page_cmp (pins_in r m.place) p) 0 ≡ pins_of r f = ap (λ o. unwrap_or o 0) (get-values exact_page (λ p f. pins_of r f) m.place p ∙ ap (option_map (λ f. pins_of r f)) found) in
-    let none = ltb-false 0 (pins_of r f) (ap (nat_lt 0) (sym pins) ∙ free) in
+    let pins : unwrap_or (get page_cmp (pins_in r m.place) p) 0 ≡ frame_pins r f = ap (λ o. unwrap_or o 0) (get-values exact_page (λ p f. frame_pins r f) m.place p ∙ ap (option_map (λ f. frame_pins r f)) found) in
+    let none = ltb-false 0 (frame_pins r f) (ap (nat_lt 0) (sym pins) ∙ free) in
     omega (arith, none)
 
 -- ---- what is left
@@ -223,7 +223,7 @@ module _ (tasks : Map ℕ Task) (m : Mapped) (r u : Mappers) (pid first end : �
     segments = segments_left m.segments left;
     next = m.next;
     place = kept;
-    pins = (ap (λ pins. pins_in (record { mappings = u.mappings; pins = pins }) kept) gone.pins ∙ values_left left (λ p f. pins_of r f) listed m.place) i;
+    pins = (ap (λ pins. pins_in (record { mappings = u.mappings; pins = pins }) kept) gone.pins ∙ values_left left (λ p f. frame_pins r f) listed m.place) i;
     frames = gone.frames i;
   }
 
@@ -254,20 +254,20 @@ module _ (tasks : Map ℕ Task) (m : Mapped) (r u : Mappers) (pid first end : �
   had : (p : Page) (f : ℕ) → get page_cmp kept p ≡ Some f → get page_cmp m.place p ≡ Some f
   had p f h = places_had left listed m.place p f t.places h
 
-  pinned_left : ((p : Page) (f : ℕ) → Listed p listed → get page_cmp m.place p ≡ Some f → pins_of r f ≡ 0) → (f : ℕ) → ((p : Page) → get page_cmp kept p ≡ Some f → ⊥) → pins_of u f ≡ 0
+  pinned_left : ((p : Page) (f : ℕ) → Listed p listed → get page_cmp m.place p ≡ Some f → frame_pins r f ≡ 0) → (f : ℕ) → ((p : Page) → get page_cmp kept p ≡ Some f → ⊥) → frame_pins u f ≡ 0
   pinned_left free f h =
-      ap (λ pins. pins_of (record { mappings = u.mappings; pins = pins }) f) gone.pins
-      ∙ elim (pins_of r f == 0) as (λ b. (pins_of r f == 0) ≡ b → pins_of r f ≡ 0) [
-        | true ↦ λ b. eqb-true (pins_of r f) 0 b
+      ap (λ pins. frame_pins (record { mappings = u.mappings; pins = pins }) f) gone.pins
+      ∙ elim (frame_pins r f == 0) as (λ b. (frame_pins r f == 0) ≡ b → frame_pins r f ≡ 0) [
+        | true ↦ λ b. eqb-true (frame_pins r f) 0 b
         | false ↦ λ b. t.pinned f (λ p k.
             elim (get page_cmp kept p) as (λ o. get page_cmp kept p ≡ o → ⊥) [
-              | None ↦ λ o. eqb-false (pins_of r f) 0 b (free p f (places_lost left listed m.place p f t.places k o) k)
+              | None ↦ λ o. eqb-false (frame_pins r f) 0 b (free p f (places_lost left listed m.place p f t.places k o) k)
               | Some g ↦ λ o. h p (o ∙ sym (had p g o) ∙ k)
             ] refl)
       ] refl
 
   -- they stay tied
-  pub removed_tied : ((p : Page) (f : ℕ) → Listed p listed → get page_cmp m.place p ≡ Some f → pins_of r f ≡ 0) → IsTied (cleared tasks pid first end) (removed m pid first end) u
+  pub removed_tied : ((p : Page) (f : ℕ) → Listed p listed → get page_cmp m.place p ≡ Some f → frame_pins r f ≡ 0) → IsTied (cleared tasks pid first end) (removed m pid first end) u
   removed_tied free = record {
     pids = subst (IsStrictlySortedBy nat_cmp) (sym (keys-cleared tasks pid first end)) t.pids;
     tables = tables-cleared tasks pid first end t.tables;

@@ -24,7 +24,7 @@ use Rattle.nm_tables.specs.declared.entry.Entry.{Entry}
 use Rattle.nm_tables.specs.declared.entry.Entry.TheVariants.{Zero, Frame, Held}
 use Rattle.nm_areas.specs.Mapped.{Mapped}
 use Rattle.nm_areas.specs.Effect.{with_frame, without_frame}
-use Rattle.nm_rmap.specs.Mappers.{Mappers, mappers_of, pins_of, added, dropped, with_spot, without_spot}
+use Rattle.nm_rmap.specs.Mappers.{Mappers, mappers_of, frame_pins, with_mapper, without_mapper, with_spot, without_spot}
 use Rattle.nm_engine.specs.Tables.{seeing}
 use Rattle.nm_engine.specs.ProcessTable.{Task, entry_at, entry_in, names, with_entry}
 use Rattle.nm_engine.specs.AddressSpaces.{SpacesView, spaces_view, process_of, sight_of, page_here, pins_in, with_seen}
@@ -109,8 +109,8 @@ remove-insert (x ∷ l) s h =
       | Greater ↦ λ r k. ap (λ r. cond (is_eq r) (insert_key spot_cmp l s) (x ∷ remove_key (is_at (spot_cmp s)) (insert_key spot_cmp l s))) r ∙ ap (λ l. x ∷ l) (remove-insert l s k)
     ] refl h
 
--- a mapper that was added goes again
-pub dropped_again : (r : Mappers) (f : ℕ) (s : ℕ × ℕ) → f < length r.mappings → has_spot (mappers_of r f) s ≡ false → dropped (added r f s) f s ≡ r
+-- a mapper that was with_mapper goes again
+pub dropped_again : (r : Mappers) (f : ℕ) (s : ℕ × ℕ) → f < length r.mappings → has_spot (mappers_of r f) s ≡ false → without_mapper (with_mapper r f s) f s ≡ r
 dropped_again r f s below none =
     let more = with_spot (mappers_of r f) s in
     ap (λ l. record r { mappings = l })
@@ -192,7 +192,7 @@ module _ (tasks : Map ℕ Task) (m : Mapped) (r : Mappers) (pid : ℕ) (t : Task
     entry_after : (q w : ℕ) → entry_at (replace nat_cmp tasks pid (with_entry t v (Frame f))) q w ≡ cond (same_spot (q, w) (pid, v)) (Some (Frame f)) (entry_at tasks q w)
     entry_after q w = entry_at-set tasks pid t v (Frame f) q w task
 
-    mapped_after : (g q w : ℕ) → has_spot (mappers_of (added r f (pid, v)) g) (q, w) ≡ names g (entry_at (replace nat_cmp tasks pid (with_entry t v (Frame f))) q w)
+    mapped_after : (g q w : ℕ) → has_spot (mappers_of (with_mapper r f (pid, v)) g) (q, w) ≡ names g (entry_at (replace nat_cmp tasks pid (with_entry t v (Frame f))) q w)
     mapped_after g q w =
         let o = entry_at tasks q w in
         let more = with_spot (mappers_of r f) (pid, v) in
@@ -221,10 +221,10 @@ module _ (tasks : Map ℕ Task) (m : Mapped) (r : Mappers) (pid : ℕ) (t : Task
           | false ↦ λ b n. h.shows g q w n
         ] refl (sym (ap (names g) (entry_after q w)) ∙ k)
 
-    frames_after : length (added r f (pid, v)).mappings ≡ length r.mappings
+    frames_after : length (with_mapper r f (pid, v)).mappings ≡ length r.mappings
     frames_after = length-set r.mappings f (with_spot (mappers_of r f) (pid, v))
 
-    pub page_tied : IsTied (replace nat_cmp tasks pid (with_entry t v (Frame f))) m (added r f (pid, v))
+    pub page_tied : IsTied (replace nat_cmp tasks pid (with_entry t v (Frame f))) m (with_mapper r f (pid, v))
     page_tied = record {
       pids = pids_after (Frame f);
       tables = All-replace nat_cmp TableInOrder tasks pid (with_entry t v (Frame f)) h.tables (sorted-set nat_cmp nat_cmp_total t.table v (Frame f) (All-get nat_cmp TableInOrder tasks pid t h.tables task));
@@ -238,7 +238,7 @@ module _ (tasks : Map ℕ Task) (m : Mapped) (r : Mappers) (pid : ℕ) (t : Task
       settled = settled_after (Frame f) (λ g k. frame_held k);
     }
 
-    pub page_shows : spaces_view (replace nat_cmp tasks pid (with_entry t v (Frame f))) m (added r f (pid, v)) ≡ with_seen (spaces_view tasks m r) pid (process_of m.areas pid t) v (Sees p)
+    pub page_shows : spaces_view (replace nat_cmp tasks pid (with_entry t v (Frame f))) m (with_mapper r f (pid, v)) ≡ with_seen (spaces_view tasks m r) pid (process_of m.areas pid t) v (Sees p)
     page_shows = λ i. record {
       processes =
           (set_entry_shows m.areas tasks pid t v (Frame f)
@@ -288,11 +288,11 @@ module _ (tasks : Map ℕ Task) (m : Mapped) (r : Mappers) (p : Page) (f : ℕ) 
   pub place_shows : spaces_view tasks (with_frame m p f) r ≡ record (spaces_view tasks m r) { place = set page_cmp m.place p f; pins = set page_cmp (pins_in r m.place) p 0 }
   place_shows =
       ap (λ pins. record (spaces_view tasks m r) { place = set page_cmp m.place p f; pins = pins })
-      (with_values-set exact_page (λ q g. pins_of r g) m.place p f ∙ ap (set page_cmp (pins_in r m.place) p) (h.pinned f spare.place))
+      (with_values-set exact_page (λ q g. frame_pins r g) m.place p f ∙ ap (set page_cmp (pins_in r m.place) p) (h.pinned f spare.place))
 
--- a mapper that was added where no page was seen goes again
+-- a mapper that was with_mapper where no page was seen goes again
 pub mapper_undone : (y : SpacesView) (tasks : Map ℕ Task) (m : Mapped) (r : Mappers) (pid v f : ℕ) → spaces_view tasks m r ≡ y → IsTied tasks m r → IsSome (get nat_cmp y.processes pid)
-    → ((q : Page) → sight_in (get nat_cmp y.processes pid) v ≡ Some (Sees q) → ⊥) → f < length r.mappings → dropped (added r f (pid, v)) f (pid, v) ≡ r
+    → ((q : Page) → sight_in (get nat_cmp y.processes pid) v ≡ Some (Sees q) → ⊥) → f < length r.mappings → without_mapper (with_mapper r f (pid, v)) f (pid, v) ≡ r
 mapper_undone y tasks m r pid v f is h known unseen below =
     let t = task_at y tasks m r pid is known in
     dropped_again r f (pid, v) below (no_mapper tasks m r pid t.0 v h t.1 (unmapped_at y tasks m r pid v is unseen) f)

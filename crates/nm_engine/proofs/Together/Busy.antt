@@ -9,7 +9,7 @@ use Rattle.nm_types.specs.declared.area.Area.{Area}
 use Rattle.nm_types.specs.Map.{Map, get, page_cmp}
 use Rattle.nm_areas.specs.Mapped.{Mapped}
 use Rattle.nm_rmap.specs.Mappers.{Mappers}
-use Rattle.nm_rmap.specs.Mappers.{pins_of as pins_of_frame}
+use Rattle.nm_rmap.specs.Mappers.{frame_pins as pins_of_frame}
 use Rattle.nm_engine.specs.ProcessTable.{Task}
 use Rattle.nm_engine.specs.AddressSpaces.{SpacesView, spaces_view, pins_here}
 use Rattle.nm_types.specs.State.{Placed, area_over, page_of, page_shown, page_at}

@@ -8,7 +8,7 @@ use Rattle.nm_engine.specs.Run.{Ran}
 use Rattle.nm_engine.specs.Batch.{batch}
 use Rattle.nm_engine.specs.Effect.{pin, unpin, unmap, exit, map_new}
 use Rattle.nm_engine.specs.Refused.{pin_refusal, unpin_refusal, unmap_refusal, exit_refusal}
-use Rattle.nm_engine.specs.Examples.{A, B, C, D, E, three_pages, attached, four_of_five, to, frame_at, told, one_process, wrote}
+use Rattle.nm_engine.specs.Examples.{A, B, C, D, E, three_pages, attached_by_two, four_of_five, to, frame_at, told, one_process, wrote}
 
 -- while a page moves, a read of it is held, and others read and write; the frame that it leaves is not free yet
 abbrev pub while_one_moves : Ran
@@ -65,7 +65,7 @@ UnmappedPagesAreFree =
 
 -- a page lives as long as an area covers it, touched or not
 abbrev pub first_gone : State
-first_gone = exit attached 1
+first_gone = exit attached_by_two 1
 
 -- the second process has not touched the page when the first is gone
 abbrev pub LastAreaFreesThePage : Type 0

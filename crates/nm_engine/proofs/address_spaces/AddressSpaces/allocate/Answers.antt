@@ -6,7 +6,7 @@ use Rattle.nm_types.specs.Map.{Map, get, page_cmp}
 use Rattle.nm_types.specs.State.{page_at}
 use Rattle.nm_areas.specs.Mapped.{Mapped}
 use Rattle.nm_areas.specs.Effect.{with_frame, without_frame}
-use Rattle.nm_rmap.specs.Mappers.{Mappers, added, dropped}
+use Rattle.nm_rmap.specs.Mappers.{Mappers, with_mapper, without_mapper}
 use Rattle.nm_engine.specs.ProcessTable.{Task}
 use Rattle.nm_engine.specs.AddressSpaces.{SpacesView, spaces_view, process_of, with_seen, with_new_page}
 use Rattle.nm_engine.specs.Tied.{IsTied}
@@ -59,7 +59,7 @@ rmap_undone g c =
     let x = c.self.inside in
     let spare = spare_in c.args.self.now x.tasks x.areas x.rmap c.args.frame c.self.view_is c.requires.frame c.requires.spare in
     c.drop_one.ensures.dropped
-    ∙ ap (λ r. dropped r c.args.frame (c.args.pid, c.args.vpn)) c.in_default.ensures.ok
+    ∙ ap (λ r. without_mapper r c.args.frame (c.args.pid, c.args.vpn)) c.in_default.ensures.ok
     ∙ mapper_undone c.args.self.now x.tasks x.areas x.rmap c.args.pid c.args.vpn c.args.frame c.self.view_is c.self.invariant c.requires.known c.requires.unseen spare.frame
 
 pub invariant_of-self-in-Err-set : goal.invariant_of-self-in-Err-set
@@ -84,7 +84,7 @@ invariant_of-self-in_default-set g c =
     let m = with_frame x.areas c.args.page c.args.frame in
     subst (λ (m : Mapped). IsTied c.set.new.self m c.add.new.self) (sym c.in_ok-set_frame.ensures.ok)
     (subst (λ (r : Mappers). IsTied c.set.new.self m r) (sym c.in_default.ensures.ok)
-    (subst (λ (ts : Map ℕ Task). IsTied ts m (added x.rmap c.args.frame (c.args.pid, c.args.vpn))) (sym (c.in_default-set.ensures.ok t.0 t.1))
+    (subst (λ (ts : Map ℕ Task). IsTied ts m (with_mapper x.rmap c.args.frame (c.args.pid, c.args.vpn))) (sym (c.in_default-set.ensures.ok t.0 t.1))
     (page_tied x.tasks m x.rmap c.args.pid t.0 c.args.vpn (place_tied x.tasks x.areas x.rmap c.args.page c.args.frame c.self.invariant spare none) t.1 free c.args.page c.args.frame at
     (place_new x.areas.place c.args.page c.args.frame))))
 

@@ -3,7 +3,7 @@ use Rattle.std.specs.Prelude.{IsSome}
 use Rattle.nm_types.specs.declared.sight.Sight.TheVariants.{Sees}
 use Rattle.nm_types.specs.Map.{Map}
 use Rattle.nm_types.specs.State.{page_at}
-use Rattle.nm_rmap.specs.Mappers.{Mappers, added, dropped}
+use Rattle.nm_rmap.specs.Mappers.{Mappers, with_mapper, without_mapper}
 use Rattle.nm_engine.specs.ProcessTable.{Task}
 use Rattle.nm_engine.specs.AddressSpaces.{SpacesView, spaces_view, with_seen}
 use Rattle.nm_engine.specs.Tied.{IsTied}
@@ -23,7 +23,7 @@ rmap_undone g c =
     let x = c.self.inside in
     let placed = placed_in c.args.self.now x.tasks x.areas x.rmap c.args.page c.args.frame c.self.view_is c.requires.placed in
     c.drop_one.ensures.dropped
-    ∙ ap (λ r. dropped r c.args.frame (c.args.pid, c.args.vpn)) c.in_ok-add.ensures.ok
+    ∙ ap (λ r. without_mapper r c.args.frame (c.args.pid, c.args.vpn)) c.in_ok-add.ensures.ok
     ∙ mapper_undone c.args.self.now x.tasks x.areas x.rmap c.args.pid c.args.vpn c.args.frame c.self.view_is c.self.invariant c.requires.known c.requires.unseen (c.self.invariant.in_range c.args.page c.args.frame placed)
 
 pub invariant_of-self-in-Err : goal.invariant_of-self-in-Err
@@ -44,7 +44,7 @@ invariant_of-self-in_default g c =
     let at = ap (λ (y : SpacesView). page_at y.areas c.args.pid c.args.vpn) is ∙ c.requires.shown in
     let placed = placed_in y x.tasks x.areas x.rmap c.args.page c.args.frame is c.requires.placed in
     subst (λ (r : Mappers). IsTied c.set.new.self x.areas r) (sym c.in_ok-add.ensures.ok)
-    (subst (λ (ts : Map ℕ Task). IsTied ts x.areas (added x.rmap c.args.frame (c.args.pid, c.args.vpn))) (sym (c.in_default.ensures.ok t.0 t.1))
+    (subst (λ (ts : Map ℕ Task). IsTied ts x.areas (with_mapper x.rmap c.args.frame (c.args.pid, c.args.vpn))) (sym (c.in_default.ensures.ok t.0 t.1))
     (page_tied x.tasks x.areas x.rmap c.args.pid t.0 c.args.vpn c.self.invariant t.1 free c.args.page c.args.frame at placed))
 
 pub returns-clause-ok : goal.returns-clause-ok

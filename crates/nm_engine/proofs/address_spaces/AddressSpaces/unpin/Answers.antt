@@ -1,5 +1,5 @@
 use Rattle.std.proofs.Common.{◌≡◌, ◌<◌, ◌-◌, ap, sym, subst, ◌∙◌}
-use Rattle.nm_rmap.specs.Mappers.{Mappers, pins_of}
+use Rattle.nm_rmap.specs.Mappers.{Mappers, frame_pins}
 use Rattle.nm_engine.specs.AddressSpaces.{spaces_view, pins_here, with_pins_of}
 use Rattle.nm_engine.specs.Tied.{IsTied}
 use Rattle.nm_engine.proofs.Tied.Tabled.{on_ok, on_both, if_err}
@@ -13,12 +13,12 @@ invariant_of-self g c =
     let x = c.self.inside in
     let placed = placed_in c.args.self.now x.tasks x.areas x.rmap c.args.page c.args.frame c.self.view_is c.requires in
     on_both c.unpin.result
-    (λ is. subst (λ (r : Mappers). IsTied x.tasks x.areas r) (sym is) (pins_tied x.tasks x.areas x.rmap c.args.page c.args.frame (pins_of x.rmap c.args.frame - 1) c.self.invariant placed))
+    (λ is. subst (λ (r : Mappers). IsTied x.tasks x.areas r) (sym is) (pins_tied x.tasks x.areas x.rmap c.args.page c.args.frame (frame_pins x.rmap c.args.frame - 1) c.self.invariant placed))
     (λ is. subst (λ (r : Mappers). IsTied x.tasks x.areas r) (sym is) c.self.invariant)
     c.unpin.ensures.ok c.unpin.ensures.err
 
 -- the pins of the page are its frame's
-here : (g : Over) (c : goal.After-unpin g) → pins_of c.self.inside.rmap c.args.frame ≡ pins_here c.args.self.now c.args.page
+here : (g : Over) (c : goal.After-unpin g) → frame_pins c.self.inside.rmap c.args.frame ≡ pins_here c.args.self.now c.args.page
 here g c = let x = c.self.inside in sym (pins_shown c.args.self.now x.tasks x.areas x.rmap c.args.page c.args.frame c.self.view_is c.requires)
 
 pub returns-clause-pinned : goal.returns-clause-pinned
@@ -33,6 +33,6 @@ returns-clause-ok g c =
     let placed = placed_in c.args.self.now x.tasks x.areas x.rmap c.args.page c.args.frame c.self.view_is c.requires in
     on_ok c.unpin.result
     (λ is. ap (λ r. spaces_view x.tasks x.areas r) is
-    ∙ pins_shows x.tasks x.areas x.rmap c.args.page c.args.frame (pins_of x.rmap c.args.frame - 1) c.self.invariant placed
+    ∙ pins_shows x.tasks x.areas x.rmap c.args.page c.args.frame (frame_pins x.rmap c.args.frame - 1) c.self.invariant placed
     ∙ (λ i. with_pins_of (c.self.view_is i) c.args.page (here g c i - 1)))
     c.unpin.ensures.ok
