@@ -1,4 +1,5 @@
 pub mod Alike
+pub mod Carried
 pub mod Looks
 pub mod Memory
 pub mod Placed

@@ -1,8 +1,6 @@
 -- The frames that processes see.
-use Rattle.std.specs.Prelude.{ℕ, ◌<◌, Option, Some, None}
+use Rattle.std.specs.Prelude.{ℕ, Option, Some, None}
 use Rattle.nm_types.specs.declared.page.Page.{Page}
-use Rattle.nm_types.specs.declared.seen.Seen.{Seen}
-use Rattle.nm_types.specs.declared.seen.Seen.TheVariants.{NoArea, Absent, Zero, At}
 use Rattle.nm_types.specs.declared.sight.Sight.{Sight}
 use Rattle.nm_types.specs.declared.sight.Sight.TheVariants.{ZeroPage, Sees}
 use Rattle.nm_types.specs.Map.{Map, get, page_cmp}
@@ -18,10 +16,3 @@ frame_of place (Some (Sees p)) = get page_cmp place p
 -- the frame of what a process sees at a page number
 abbrev pub frame_seen : State → ℕ → ℕ → Option ℕ
 frame_seen s pid v = frame_of s.place (sight_at s pid v)
-
--- a look shows no frame but one below this number
-abbrev pub HasFrameBelow : ℕ → Seen → Type 0
-HasFrameBelow frames NoArea = Unit {0}
-HasFrameBelow frames Absent = Unit {0}
-HasFrameBelow frames Zero = Unit {0}
-HasFrameBelow frames (At p frame processes pinned) = frame < frames

@@ -16,7 +16,7 @@ ghost use Rattle.nm_areas.specs.Refused.{insert_refusal, attach_refusal, policy_
 ghost use Rattle.nm_areas.specs.Removed.{frames_lost};
 ghost use Rattle.nm_areas.specs.Lines.{is_shared};
 ghost use Rattle.nm_runs.specs.Seen.{sight_in, look_in, look_at_place};
-ghost use Rattle.nm_engine.specs.Seeing.{HasFrameBelow};
+ghost use Rattle.nm_runs.specs.Shown.{HasFrameBelow};
 ghost use Rattle.nm_engine.specs.Tables.{info_of, untouched};
 ghost use Rattle.nm_engine.specs.ProcessTable.{IsThere, remapped};
 ghost use Rattle.nm_engine.specs.Entries.{entry_of};
@@ -31,7 +31,7 @@ use crate::process_table::ProcessTable;
 use nm_areas::Areas;
 use nm_rmap::ReverseMap;
 use nm_tables::Entry;
-use nm_types::{Area, Errno, FrameId, Page, Pid, Seen, Sight, Vpn};
+use nm_types::{Area, Errno, FrameId, Page, PageView, Pid, Seen, Sight, Vpn};
 use std::alloc::{AllocError, Allocator};
 use std::collections::BTreeSet;
 use std::marker::Model;
@@ -293,6 +293,23 @@ impl<A: Allocator + Copy> AddressSpaces<A> {
         ensures err { OnErr result (self.new ≡ self.old) }
     {
         self.rmap.unpin(frame)
+    }
+}
+
+impl<A: Allocator + Copy> PageView for AddressSpaces<A> {
+    ghost use Rattle.nm_types.specs.Map.{get, page_cmp};
+    ghost use Rattle.nm_runs.specs.Seen.{look_in, look_at_place};
+
+    ghost seen_at = { λ y pid v. look_in y.processes y.areas y.place y.pins pid v };
+
+    ghost placed_at = { λ y p. look_at_place y.processes y.pins p (get page_cmp y.place p) };
+
+    fn seen(&self, pid: Pid, vpn: Vpn) -> Seen {
+        self.look(pid, vpn)
+    }
+
+    fn placed(&self, page: Page) -> Seen {
+        self.look_at_page(page)
     }
 }
 

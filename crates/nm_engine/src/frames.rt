@@ -1,6 +1,6 @@
 //! The machine's frames: which are free, and what they hold.
 
-ghost use Rattle.std.specs.Prelude.{◌≡◌, ◌≢◌, ◌+◌, ◌<◌, ◌≤◌, [], ◌∷◌, ◌++◌, length, vec_capacity, vec_len, Some, IfOk, OnOk, replicate, drop, slice_get, slice_set};
+ghost use Rattle.std.specs.Prelude.{◌≡◌, ◌≢◌, ◌+◌, ◌<◌, ◌≤◌, [], ◌∷◌, ◌++◌, length, vec_capacity, vec_len, Some, IfOk, OnOk, replicate, take, drop, slice_get, slice_set};
 ghost use Rattle.nm_types.specs.Layout.{node_count, frame_count, node_of};
 ghost use Rattle.nm_nodes.specs.Pool.{list_of, appended};
 ghost use Rattle.nm_frames.specs.Store.{IsHome, bytes_of, overwrite};
@@ -106,7 +106,21 @@ impl<A: Allocator + Copy> Frames<A> {
         requires { node < node_count self.now.layout }
         ensures { IfOk result (λ frames. frames.items ≡ free_on self.now node) }
     {
-        list_of(alloc, &self.nodes, node)
+        front_of(alloc, &self.nodes, node, self.nodes.free_count(node))
+    }
+
+    /// So many of the free frames of a node from the front on, or all where there are fewer.
+    pub(crate) fn free_front(
+        &self,
+        alloc: A,
+        node: NodeId,
+        count: usize,
+    ) -> Result<Vec<FrameId, A>, AllocError>
+        requires { node < node_count self.now.layout }
+        ensures { IfOk result (λ frames. frames.items ≡ take count (free_on self.now node)) }
+    {
+        let count = count.min(self.nodes.free_count(node));
+        front_of(alloc, &self.nodes, node, count)
     }
 
     /// The front of a node's free frames.
@@ -244,16 +258,17 @@ fn free_frames<A: Allocator + Copy>(nodes: &mut NodePool<A>, frames: &[FrameId])
     }
 }
 
-/// The free frames of a node, the front first.
-fn list_of<A: Allocator + Copy>(
+/// So many of the free frames of a node, from the front on.
+fn front_of<A: Allocator + Copy>(
     alloc: A,
     nodes: &NodePool<A>,
     node: NodeId,
+    count: usize,
 ) -> Result<Vec<FrameId, A>, AllocError>
-    requires { node < length nodes.now.lists }
-    ensures { IfOk result (λ frames. frames.items ≡ list_of nodes.now node) }
+    requires node { node < length nodes.now.lists }
+    requires count { count ≤ length (list_of nodes.now node) }
+    ensures { IfOk result (λ frames. frames.items ≡ take count (list_of nodes.now node)) }
 {
-    let count = nodes.free_count(node);
     let mut frames = Vec::with_capacity(alloc, count)?;
     for k in 0..count {
         let Some(frame) = nodes.nth(node, k) else {

@@ -263,13 +263,11 @@ impl<A: Allocator + Copy + Send + Sync> Machine<A> {
         ensures state { OnOk result (self.new ≡ (run self.old requests.now.target requests.now.wanted.items []).state) }
         ensures err { OnErr result (self.new ≡ self.old) }
     {
-        let count = requests.wanted.len();
-        let mut statuses = Vec::with_capacity(self.alloc, count)?;
-        self.inner.reserve(count)?;
-        self.inner
-            .decide_each(requests.target, requests.wanted.as_slice(), &mut statuses);
-        self.inner.end_run(statuses.as_slice());
-        Ok(statuses)
+        let plan = self.inner.plan(requests)?;
+        self.inner.reserve(plan.moves().len())?;
+        self.inner.carry_out(requests.target, plan.moves());
+        self.inner.end_run(plan.statuses());
+        Ok(plan.into_statuses())
     }
 
     /// The free frames of a node, the front first. EINVAL where there is no such node.

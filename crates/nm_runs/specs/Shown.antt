@@ -10,16 +10,16 @@ use Rattle.nm_runs.specs.declared.Wanted.TheVariants.{At as Spot, Whole}
 use Rattle.nm_runs.specs.Status.{class_of_look}
 
 -- where a frame is seen, it is below this number
-abbrev pub IsFrameBelow : ℕ → Seen → Type 0
-IsFrameBelow frames NoArea = Unit {0}
-IsFrameBelow frames Absent = Unit {0}
-IsFrameBelow frames Zero = Unit {0}
-IsFrameBelow frames (At page frame processes pinned) = frame < frames
+abbrev pub HasFrameBelow : ℕ → Seen → Type 0
+HasFrameBelow frames NoArea = Unit {0}
+HasFrameBelow frames Absent = Unit {0}
+HasFrameBelow frames Zero = Unit {0}
+HasFrameBelow frames (At page frame processes pinned) = frame < frames
 
 -- frames of the machine alone are seen, at page numbers and of pages
 pub record ShowsItsFrames (g : Layout) (seen_at : ℕ → ℕ → Seen) (placed_at : Page → Seen) : Type 0 where
-  pub seen : (pid v : ℕ) → IsFrameBelow (frame_count g) (seen_at pid v)
-  pub placed : (p : Page) → IsFrameBelow (frame_count g) (placed_at p)
+  pub seen : (pid v : ℕ) → HasFrameBelow (frame_count g) (seen_at pid v)
+  pub placed : (p : Page) → HasFrameBelow (frame_count g) (placed_at p)
 
 -- the class of a request where this is seen at page numbers and of pages
 abbrev pub class_shown : Layout → (ℕ → ℕ → Seen) → (Page → Seen) → ℕ → Wanted → Class

@@ -3,7 +3,7 @@
 ghost use Rattle.std.specs.Prelude.{◌≡◌, ◌<◌, ◌^◌, map, IfOk};
 ghost use Rattle.nm_types.specs.Layout.{frame_count};
 ghost use Rattle.nm_runs.specs.Status.{class_of_look};
-ghost use Rattle.nm_runs.specs.Shown.{class_shown, IsFrameBelow, ShowsItsFrames};
+ghost use Rattle.nm_runs.specs.Shown.{class_shown, HasFrameBelow, ShowsItsFrames};
 
 use crate::{Class, Run, Wanted};
 use nm_types::{Errno, Geometry, NodeId, PageView, Seen};
@@ -23,7 +23,7 @@ fn class_of_look<A: Allocator + Copy>(
     seen: Seen,
 ) -> Class
     requires target { target < 2 ^ 31 }
-    requires frame { IsFrameBelow (frame_count geometry.now) seen }
+    requires frame { HasFrameBelow (frame_count geometry.now) seen }
     ensures { result ≡ class_of_look geometry.now target all seen }
 {
     match seen {

@@ -1,19 +1,20 @@
 //! Runs: pages that move to one node, one after another.
 
-ghost use Rattle.std.specs.Prelude.{◌≡◌, ◌+◌, ◌<◌, ◌≤◌, [], ◌∷◌, ◌++◌, length, vec_len, vec_capacity, Some, OnOk};
+ghost use Rattle.std.specs.Prelude.{◌≡◌, ◌+◌, ◌<◌, ◌≤◌, [], ◌∷◌, ◌++◌, length, Some, IfOk, OnOk};
 ghost use Rattle.std.specs.Bool.{OnTrue, OnFalse};
-ghost use Rattle.nm_types.specs.Layout.{node_count, frame_count};
+ghost use Rattle.nm_types.specs.Layout.{node_count};
 ghost use Rattle.nm_types.specs.Map.{get, page_cmp};
 ghost use Rattle.nm_types.specs.State.{free_list};
 ghost use Rattle.nm_runs.specs.declared.Class.TheVariants.{Move};
-ghost use Rattle.nm_runs.specs.Status.{class_of_look, status_or_move};
-ghost use Rattle.nm_engine.specs.Seeing.{HasFrameBelow};
-ghost use Rattle.nm_engine.specs.Run.{decided, one, each, left, with_all_free, failures, counted};
+ghost use Rattle.nm_engine.specs.Laws.{with_moves};
+ghost use Rattle.nm_engine.specs.Moves.{CanMove, IsPlanOf};
+ghost use Rattle.nm_engine.specs.Run.{decided, left, HasOneAll, with_all_free, failures, counted};
 
 use crate::inner::Inner;
 use crate::machine::Totals;
-use nm_runs::{Class, Wanted};
-use nm_types::{Errno, FrameId, Geometry, NodeId, Page, Seen};
+use nm_plan::{Plan, Taken, plan};
+use nm_runs::{Run, classify_here};
+use nm_types::{Errno, FrameId, NodeId, Page};
 use std::alloc::{AllocError, Allocator};
 
 impl<A: Allocator + Copy> Inner<A> {
@@ -25,44 +26,29 @@ impl<A: Allocator + Copy> Inner<A> {
         self.frames.reserve(count)
     }
 
-    /// Decides the requests of a run one after another, and puts their statuses into a list that has room for them.
-    pub(crate) fn decide_each(
-        &mut self,
-        target: NodeId,
-        wanted: &[Wanted],
-        statuses: &mut Vec<i32, A>,
-    )
-        requires target { target < node_count self.old.state.layout }
-        requires room { length self.old.left + length wanted.now ≤ self.old.room }
-        requires statuses_fit { vec_len statuses.old + length wanted.now ≤ vec_capacity statuses.old }
-        ensures state { self.new.state ≡ (each self.old.state target wanted.now).state }
-        ensures left { self.new.left ≡ self.old.left ++ left (each self.old.state target wanted.now).taken }
-        ensures statuses { statuses.new.items ≡ statuses.old.items ++ (each self.old.state target wanted.now).statuses }
+    /// The plan of a run, by the classes that its requests have now.
+    pub(crate) fn plan(&self, requests: &Run<A>) -> Result<Plan<A>, AllocError>
+        requires target { requests.now.target < node_count self.now.state.layout }
+        requires alike { HasOneAll requests.now.wanted.items }
+        ensures { IfOk result (λ plan. IsPlanOf self.now.state requests.now.target requests.now.wanted.items plan) }
     {
-        for wanted in wanted {
-            let status = self.decide(target, *wanted);
-            statuses.push_reserved(status);
-        }
+        prove!(self.frames.node_count() <= 64);
+        let target = requests.target;
+        let classes = classify_here(self.alloc, self.frames.geometry(), &self.spaces, requests)?;
+        let front = self.frames.free_front(self.alloc, target, classes.len())?;
+        plan(self.alloc, classes.as_slice(), front.as_slice(), target)
     }
 
-    /// Decides one request.
-    fn decide(&mut self, target: NodeId, wanted: Wanted) -> i32
+    /// Makes moves to a node, in their order.
+    pub(crate) fn carry_out(&mut self, target: NodeId, moves: &[Taken])
         requires target { target < node_count self.old.state.layout }
-        requires room { length self.old.left < self.old.room }
-        ensures status { result ≡ (one self.old.state target wanted).status }
-        ensures state { self.new.state ≡ (one self.old.state target wanted).state }
-        ensures left { self.new.left ≡ self.old.left ++ left (one self.old.state target wanted).taken }
-        ensures room { self.new.room ≡ self.old.room }
+        requires room { length self.old.left + length moves.now ≤ self.old.room }
+        requires moves { CanMove self.old.state target moves.now }
+        ensures state { self.new.state ≡ with_moves self.old.state target moves.now }
+        ensures left { self.new.left ≡ self.old.left ++ left moves.now }
     {
-        match self.class_of(target, wanted) {
-            Class::Status(status) => status,
-            Class::Move { page, from } => {
-                if self.move_page(page, from, target) {
-                    target.number() as i32
-                } else {
-                    -Errno::Enomem.number()
-                }
-            }
+        for taken in moves {
+            self.move_page(taken.page, taken.from, target);
         }
     }
 
@@ -88,24 +74,6 @@ impl<A: Allocator + Copy> Inner<A> {
         true
     }
 
-    /// What is to be done with a request, by a look at what it names.
-    fn class_of(&self, target: NodeId, wanted: Wanted) -> Class
-        requires { target < node_count self.now.state.layout }
-        ensures class { result ≡ status_or_move self.now.state target wanted }
-        ensures target { target < 64 }
-    {
-        prove!(self.frames.node_count() <= 64);
-        let geometry = self.frames.geometry();
-        match wanted {
-            Wanted::At { pid, vpn, all } => {
-                class_of_look(geometry, target, all, self.spaces.look(pid, vpn))
-            }
-            Wanted::Whole(page) => {
-                class_of_look(geometry, target, true, self.spaces.look_at_page(page))
-            }
-        }
-    }
-
     /// The run ends: its moves and failures are counted, and the frames that its pages left become free.
     pub(crate) fn end_run(&mut self, statuses: &[i32])
         ensures state { self.new.state ≡ counted (with_all_free self.old.state self.old.left) (length self.old.left) (failures statuses.now) }
@@ -122,40 +90,6 @@ impl<A: Allocator + Copy> Inner<A> {
             moved: before.saturating_add(moved),
             failed: failed_before.saturating_add(failed),
         };
-    }
-}
-
-/// What is to be done with what is seen: a page moves though several processes see it only if all are asked for.
-fn class_of_look<A: Allocator + Copy>(
-    geometry: &Geometry<A>,
-    target: NodeId,
-    all: bool,
-    seen: Seen,
-) -> Class
-    requires target { target < node_count geometry.now }
-    requires known { HasFrameBelow (frame_count geometry.now) seen }
-    ensures { result ≡ class_of_look geometry.now target all seen }
-{
-    prove!(geometry.node_count() <= 64);
-    match seen {
-        Seen::NoArea | Seen::Zero => Class::Status(-Errno::Efault.number()),
-        Seen::Absent => Class::Status(-Errno::Enoent.number()),
-        Seen::At {
-            page,
-            frame,
-            processes,
-            pinned,
-        } => {
-            if geometry.node_of(frame) == target {
-                Class::Status(target.number() as i32)
-            } else if processes > 1 && !all {
-                Class::Status(-Errno::Eacces.number())
-            } else if pinned {
-                Class::Status(-Errno::Ebusy.number())
-            } else {
-                Class::Move { page, from: frame }
-            }
-        }
     }
 }
 

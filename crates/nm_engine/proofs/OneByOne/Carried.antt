@@ -1,0 +1,210 @@
+-- A run by its plan is a run one after another.
+use Rattle.std.proofs.Common.{◌≡◌, ℕ, zero, suc, ◌+◌, ◌<◌, ◌≤◌, Bool, true, false, List, [], ◌∷◌, ◌++◌, map, length, take, drop, refl, sym, ap, subst, ◌∙◌, arith, append_assoc, length-append, ⊎_elim}
+use Rattle.std.specs.Prelude.{Option, Some, None, ℤ, slice_get, slice_set, if◌then◌else◌, pos}
+use Rattle.std.specs.Bool.{OnTrue, OnFalse}
+use Rattle.std.specs.List.{AllByRecursion, sum_by}
+use Rattle.std.specs.List.Sorted.{IsStrictlySortedBy}
+use Rattle.std.specs.Map.{keys_of, values_of}
+use Rattle.std.specs.Ordering.{nat_cmp}
+use Rattle.nm_types.specs.declared.page.Page.{Page}
+use Rattle.nm_types.specs.declared.sight.Sight.{Sight}
+use Rattle.nm_types.specs.declared.sight.Sight.TheVariants.{ZeroPage, Sees}
+use Rattle.nm_types.specs.Layout.{frame_count}
+use Rattle.nm_types.specs.Map.{get, page_cmp}
+use Rattle.nm_types.specs.State.{State, free_list, page_at}
+use Rattle.nm_types.proofs.Cases.{none_some}
+use Rattle.nm_runs.specs.declared.Class.{Class}
+use Rattle.nm_runs.specs.declared.Class.TheVariants.{Status, Move}
+use Rattle.nm_runs.specs.declared.Wanted.{Wanted}
+use Rattle.nm_runs.specs.declared.Wanted.TheVariants.{At as Spot, Whole}
+use Rattle.nm_runs.specs.Seen.{sight_in, look_in, look_at_place, look_behind}
+use Rattle.nm_runs.specs.Shown.{class_shown, HasFrameBelow, ShowsItsFrames}
+use Rattle.nm_runs.specs.Status.{status_or_move}
+use Rattle.nm_plan.specs.declared.Taken.{Taken}
+use Rattle.nm_plan.specs.Decide.{Choice, Decisions, has_moved, take_front, decide, shortage, Planned, planned}
+use Rattle.nm_engine.specs.Run.{moved_page, decided, each, left, counted, with_all_free, failures, run, IsByAddress, IsByPage, HasOneAll}
+use Rattle.std.proofs.lemmas.List.{length-map}
+use Rattle.nm_engine.specs.Sound.{times, FramesAreOnce, OwnsItsFree}
+use Rattle.nm_engine.specs.Laws.{Agrees, moves_all, with_move, with_moves}
+use Rattle.nm_engine.specs.Moves.{CanMove, IsPlanOf}
+use Rattle.nm_engine.proofs.Soundness.Once.{counted_place}
+use Rattle.nm_engine.proofs.Together.Free.{counted_below, front_is}
+use Rattle.nm_engine.proofs.OneByOne.Looks.{looks_suffice}
+use Rattle.nm_engine.proofs.OneByOne.Planned.{plan_agrees}
+use Rattle.nm_engine.proofs.OneByOne.Placed.{ClassIsPlaced, status_placed}
+
+-- what can be done after a request
+abbrev Later : List Wanted → ℕ → Type 0
+Later ws target = (s : State) → CanMove s target (each s target ws).taken
+
+page_can : (s : State) (target : ℕ) (p : Page) (from : ℕ) (ws : List Wanted) → get page_cmp s.place p ≡ Some from → Later ws target → (front : List ℕ) → free_list s target ≡ front
+    → CanMove s target ((moved_page s target p from front).taken ++ (each (moved_page s target p from front).state target ws).taken)
+page_can s target p from ws placed later [] e = later s
+page_can s target p from ws placed later (frame ∷ rest) e =
+    let t : Taken = record { page = p; from = from; to = frame } in
+    let after = λ (fs : List ℕ). record (with_move target s t) { free = slice_set s.free target fs } in (
+      placed,
+      ap (λ (fs : List ℕ). slice_get fs 0) e,
+      subst (λ (fs : List ℕ). CanMove (after (drop 1 fs)) target (each (moved_page s target p from (frame ∷ rest)).state target ws).taken) (sym e) (later (moved_page s target p from (frame ∷ rest)).state),
+    )
+
+class_can : (s : State) (target : ℕ) (c : Class) (ws : List Wanted) → ClassIsPlaced s c → Later ws target → CanMove s target ((decided s target c).taken ++ (each (decided s target c).state target ws).taken)
+class_can s target (Status status) ws placed later = later s
+class_can s target (Move p from) ws placed later = page_can s target p from ws placed later (free_list s target) refl
+
+-- the moves of requests, one after another, can be made
+pub each_can : (ws : List Wanted) (target : ℕ) → Later ws target
+each_can [] target s = tt
+each_can (w ∷ ws) target s = class_can s target (status_or_move s target w) ws (status_placed s target w) (each_can ws target)
+
+-- as many frames as requests are enough
+after_few : Bool → Page → ℕ → List Class → List Taken → List ℕ → ℕ → Decisions
+after_few b page from classes moved front target =
+    let now : Choice = if b then record { status = pos target; taken = []; front = front } else take_front page from front target in
+    let rest = decide classes (moved ++ now.taken) now.front target in
+    record { statuses = now.status ∷ rest.statuses; taken = now.taken ++ rest.taken }
+
+abbrev FewSuffice : List Class → ℕ → Type 0
+FewSuffice classes target = (moved : List Taken) (front : List ℕ) (n : ℕ) → length classes ≤ n → decide classes moved (take n front) target ≡ decide classes moved front target
+
+new_few : (classes : List Class) (target : ℕ) → FewSuffice classes target → (page : Page) (from : ℕ) (moved : List Taken) (front : List ℕ) (n : ℕ) → length classes ≤ n
+    → after_few false page from classes moved (take (suc n) front) target ≡ after_few false page from classes moved front target
+unfolding after_few
+new_few classes target rest page from moved [] n enough = refl
+new_few classes target rest page from moved (x ∷ front) n enough =
+    let t : Taken = record { page = page; from = from; to = x } in
+    ap (λ (d : Decisions). record { statuses = pos target ∷ d.statuses; taken = t ∷ d.taken }) (rest (moved ++ t ∷ []) front n enough)
+
+pub few_suffice : (classes : List Class) (target : ℕ) → FewSuffice classes target
+unfolding after_few
+few_suffice [] target moved front n enough = refl
+few_suffice (Status status ∷ classes) target moved front n enough =
+    ap (λ (d : Decisions). record { statuses = status ∷ d.statuses; taken = d.taken }) (few_suffice classes target (moved ++ []) front n (omega (arith, enough)))
+few_suffice (Move page from ∷ classes) target moved front zero enough = absurd (omega (arith, enough))
+few_suffice (Move page from ∷ classes) target moved front (suc n) enough =
+    elim (has_moved moved page) as (λ b. after_few b page from classes moved (take (suc n) front) target ≡ after_few b page from classes moved front target) [
+      | true ↦ ap (λ (d : Decisions). record { statuses = pos target ∷ d.statuses; taken = d.taken }) (few_suffice classes target (moved ++ []) front (suc n) (omega (arith, enough)))
+      | false ↦ new_few classes target (few_suffice classes target) page from moved front n (omega (arith, enough))
+    ]
+
+-- a page that can move has moved
+pub page_moved : (s : State) (target : ℕ) (t : Taken) (b : Bool) (new : State) → slice_get (free_list s target) 0 ≡ Some t.to → OnTrue b (new ≡ (decided s target (Move t.page t.from)).state) → OnFalse b (free_list s target ≡ [])
+    → new ≡ with_move target s t
+page_moved s target t true new front is none =
+    is ∙ ap (λ (fs : List ℕ). (moved_page s target t.page t.from fs).state) (front_is (free_list s target) t.to front)
+page_moved s target t false new front is none = absurd (none_some (sym (ap (λ (fs : List ℕ). slice_get fs 0) none) ∙ front))
+
+pub page_left : (s : State) (target : ℕ) (t : Taken) (b : Bool) (old new : List ℕ) → slice_get (free_list s target) 0 ≡ Some t.to → OnTrue b (new ≡ old ++ t.from ∷ []) → OnFalse b (free_list s target ≡ [])
+    → new ≡ old ++ t.from ∷ []
+page_left s target t true old new front is none = is
+page_left s target t false old new front is none = absurd (none_some (sym (ap (λ (fs : List ℕ). slice_get fs 0) none) ∙ front))
+
+-- the class by the view of a state is its class
+pub class_by_view : (s : State) (target : ℕ) (w : Wanted) → IsStrictlySortedBy nat_cmp (keys_of s.processes)
+    → class_shown s.layout (λ pid v. look_in s.processes s.areas s.place s.pins pid v) (λ p. look_at_place s.processes s.pins p (get page_cmp s.place p)) target w ≡ status_or_move s target w
+class_by_view s target (Spot pid v all) order = looks_suffice s target (Spot pid v all) order
+class_by_view s target (Whole p) order = looks_suffice s target (Whole p) order
+
+pub classes_by_view : (s : State) (target : ℕ) (ws : List Wanted) → IsStrictlySortedBy nat_cmp (keys_of s.processes)
+    → map (class_shown s.layout (λ pid v. look_in s.processes s.areas s.place s.pins pid v) (λ p. look_at_place s.processes s.pins p (get page_cmp s.place p)) target) ws ≡ map (status_or_move s target) ws
+classes_by_view s target [] order = refl
+classes_by_view s target (w ∷ ws) order =
+    ap (λ c. c ∷ map (class_shown s.layout (λ pid v. look_in s.processes s.areas s.place s.pins pid v) (λ p. look_at_place s.processes s.pins p (get page_cmp s.place p)) target) ws) (class_by_view s target w order)
+    ∙ ap (λ cs. status_or_move s target w ∷ cs) (classes_by_view s target ws order)
+
+-- a sound machine's pages stand in its frames, and no others are seen
+placed_below : (s : State) (l : List ℕ) (p : Page) (f : ℕ) → FramesAreOnce s.layout s.place s.free l → get page_cmp s.place p ≡ Some f → f < frame_count s.layout
+placed_below s l p f h e =
+    counted_below (times f (values_of s.place)) (sum_by (times f) s.free) (times f l) f (frame_count s.layout) (h.once f) (let some = counted_place s.place p f e in omega (arith, some))
+
+look_below : (s : State) (l : List ℕ) (p : Page) (o : Option ℕ) → FramesAreOnce s.layout s.place s.free l → get page_cmp s.place p ≡ o → HasFrameBelow (frame_count s.layout) (look_at_place s.processes s.pins p o)
+look_below s l p None h e = tt
+look_below s l p (Some f) h e = placed_below s l p f h e
+
+sight_below : (s : State) (l : List ℕ) (o : Option Page) (x : Option Sight) → FramesAreOnce s.layout s.place s.free l → HasFrameBelow (frame_count s.layout) (look_behind s.processes s.place s.pins o x)
+sight_below s l None x h = tt
+sight_below s l (Some q) None h = tt
+sight_below s l (Some q) (Some ZeroPage) h = tt
+sight_below s l (Some q) (Some (Sees p)) h = look_below s l p (get page_cmp s.place p) h refl
+
+pub shows_its_frames : (s : State) (l : List ℕ) → FramesAreOnce s.layout s.place s.free l
+    → ShowsItsFrames s.layout (λ pid v. look_in s.processes s.areas s.place s.pins pid v) (λ p. look_at_place s.processes s.pins p (get page_cmp s.place p))
+shows_its_frames s l h = record {
+  seen = λ pid v. sight_below s l (page_at s.areas pid v) (sight_in (get nat_cmp s.processes pid) v) h;
+  placed = λ p. look_below s l p (get page_cmp s.place p) h refl;
+}
+
+-- the plan by the classes that a view gives, with as many free frames as requests at most
+pub planned_is : (s : State) (target n : ℕ) (classes : List Class) (front : List ℕ) (ws : List Wanted) → classes ≡ map (status_or_move s target) ws → front ≡ take n (free_list s target) → length classes ≤ n
+    → planned classes front target ≡ planned (map (status_or_move s target) ws) (free_list s target) target
+planned_is s target n classes front ws by at enough =
+    let told : List Class → Decisions → Planned = λ cs d. record { statuses = d.statuses; taken = d.taken; shortage = shortage cs d } in
+    ap (λ (fs : List ℕ). planned classes fs target) at
+    ∙ ap (told classes) (few_suffice classes target [] (free_list s target) n enough)
+    ∙ ap (λ (cs : List Class). planned cs (free_list s target) target) by
+
+-- what is left of moves after one of them
+pub record Moved (s : State) (l : List ℕ) (target : ℕ) (taken rest : List Taken) (t : State) (m : List ℕ) : Type 0 where
+  pub can : CanMove t target rest
+  pub state : with_moves t target rest ≡ with_moves s target taken
+  pub left : m ++ left rest ≡ l ++ left taken
+  pub layout : t.layout ≡ s.layout
+  pub frames : length m ≡ length l + 1
+  pub one_less : length taken ≡ length rest + 1
+
+pub one_moved : (s : State) (l : List ℕ) (target : ℕ) (taken : List Taken) (x : Taken) (rest : List Taken) (t : State) (m : List ℕ) → taken ≡ x ∷ rest → CanMove s target taken
+    → (slice_get (free_list s target) 0 ≡ Some x.to → t ≡ with_move target s x) → (slice_get (free_list s target) 0 ≡ Some x.to → m ≡ l ++ x.from ∷ []) → Moved s l target taken rest t m
+one_moved s l target taken x rest t m first can state kept =
+    let now = subst (CanMove s target) first can in
+    let is = state now.1 in
+    let kept_is = kept now.1 in
+    record {
+      can = subst (λ (u : State). CanMove u target rest) (sym is) now.2;
+      state = ap (λ (u : State). with_moves u target rest) is ∙ sym (ap (with_moves s target) first);
+      left = ap (λ xs. xs ++ left rest) kept_is ∙ append_assoc l (x.from ∷ []) (left rest) ∙ ap (λ xs. l ++ left xs) (sym first);
+      layout = ap (λ (u : State). u.layout) is;
+      frames = let len : length m ≡ length l + 1 = ap length kept_is ∙ length-append l (x.from ∷ []) in len;
+      one_less = let n : length taken ≡ suc (length rest) = ap length first in omega (arith, n);
+    }
+
+-- the page of a run's first move, and its place
+pub first_can : (s : State) (target : ℕ) (taken rest : List Taken) (x : Taken) → taken ≡ x ∷ rest → CanMove s target taken → get page_cmp s.place x.page ≡ Some x.from
+first_can s target taken rest x first can = (subst (CanMove s target) first can).0
+
+-- a run has one `all`
+by_address : (all : Bool) (ws : List Wanted) → AllByRecursion (IsByAddress all) ws → AllByRecursion (λ w. moves_all w ≡ all) ws
+by_address all [] h = tt
+by_address all (Spot pid v b ∷ ws) h = (h.0, by_address all ws h.1)
+by_address all (Whole p ∷ ws) h = absurd h.0
+
+by_page : (ws : List Wanted) → AllByRecursion IsByPage ws → AllByRecursion (λ w. moves_all w ≡ true) ws
+by_page [] h = tt
+by_page (Spot pid v b ∷ ws) h = absurd h.0
+by_page (Whole p ∷ ws) h = (refl, by_page ws h.1)
+
+one_all : (ws : List Wanted) → HasOneAll ws → (all : Bool) × AllByRecursion (λ w. moves_all w ≡ all) ws
+one_all ws h = ⊎_elim (λ a. (a.0, by_address a.0 ws a.1)) (λ p. (true, by_page ws p)) h
+
+-- the plan for requests tells what becomes of them one after another
+pub is_plan_of : (s : State) (target : ℕ) (ws : List Wanted) (p : Planned) → IsStrictlySortedBy nat_cmp (keys_of s.processes) → OwnsItsFree s.layout s.free target → HasOneAll ws
+    → p ≡ planned (map (status_or_move s target) ws) (free_list s target) target → IsPlanOf s target ws p
+is_plan_of s target ws p order own alike is =
+    let all = one_all ws alike in
+    let agrees = plan_agrees s target all.0 ws order own all.1 in
+    let both : Planned → Decisions = λ q. record { statuses = q.statuses; taken = q.taken } in
+    record {
+      planned = is;
+      agrees = subst (λ (q : Planned). Agrees s target (each s target ws) (both q)) (sym is) agrees;
+      can = subst (CanMove s target) (agrees.taken ∙ sym (ap (λ (q : Planned). q.taken) is)) (each_can ws target s);
+    }
+
+-- a run by its plan is the run
+pub run_by_plan : (s t : State) (target : ℕ) (ws : List Wanted) (p : Planned) (moves : List Taken) (l : List ℕ) (statuses : List ℤ) → IsPlanOf s target ws p → moves ≡ p.taken → statuses ≡ p.statuses
+    → t ≡ with_moves s target moves → l ≡ left moves → counted (with_all_free t l) (length l) (failures statuses) ≡ (run s target ws []).state
+run_by_plan s t target ws p moves l statuses h taken told state kept =
+    let now = each s target ws in
+    let same : moves ≡ now.taken = taken ∙ sym h.agrees.taken in
+    ap (λ (u : State). counted (with_all_free u l) (length l) (failures statuses)) (state ∙ ap (with_moves s target) taken ∙ sym h.agrees.state)
+    ∙ ap (λ (xs : List ℕ). counted (with_all_free now.state xs) (length xs) (failures statuses)) (kept ∙ ap (λ (ts : List Taken). left ts) same)
+    ∙ ap (λ n. counted (with_all_free now.state (left now.taken)) n (failures statuses)) (length-map now.taken (λ (t : Taken). t.from))
+    ∙ ap (λ (ss : List ℤ). counted (with_all_free now.state (left now.taken)) (length now.taken) (failures ss)) (told ∙ sym h.agrees.statuses)
