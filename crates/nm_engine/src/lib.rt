@@ -10,6 +10,7 @@ mod machine;
 mod machine_error;
 mod mapping;
 mod moving;
+mod nodes;
 mod parts;
 mod process;
 mod spaces;

@@ -76,6 +76,21 @@ impl<A: Allocator + Copy + Send + Sync> Machine<A> {
         self.parts.node_count()
     }
 
+    /// The nodes, and the frames that each owns.
+    pub fn geometry(&self) -> &Geometry<A>
+        ensures geometry { result.now ≡ self.now.layout }
+        ensures sound { IsSound self.now }
+    {
+        self.parts.geometry()
+    }
+
+    /// The nodes that are online.
+    pub fn online(&self) -> NodeMask
+        ensures { result ≡ self.now.online }
+    {
+        self.parts.online()
+    }
+
     /// Whether there is such a node, and it is online.
     pub fn is_online(&self, node: NodeId) -> bool
         ensures { result ≡ is_in self.now.online node }
