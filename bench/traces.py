@@ -55,6 +55,10 @@ def move_to(addresses, node):
     return move(addresses, [node] * len(addresses))
 
 
+def migrate(old, new):
+    return '{"op":"migrate_pages","caller":1,"pid":0,"old":%s,"new":%s}' % (list(old), list(new))
+
+
 def small_steps(size):
     """So many thousand steps on 16 pages: in turn a write of a byte, a read of a byte, a move of a page to and fro."""
     steps = [map_step(BASE, 16)]
@@ -76,6 +80,23 @@ def to_and_fro(size):
     for number in range(2 * size):
         steps.append(move_to(pages, 1 - number % 2))
     return trace([8192, 8192], steps)
+
+
+def migrations(size):
+    """So many pages, which fill half of 64 nodes, migrate to the other half and back 20 times."""
+    pages = [BASE + PAGE * page for page in range(size)]
+    steps = [map_step(BASE, size)] + [write(page) for page in pages]
+    for _ in range(20):
+        steps += [migrate(range(32), range(32, 64)), migrate(range(32, 64), range(32))]
+    return trace([size // 32] * 64, steps)
+
+
+def vain_migrations(size):
+    """So many pages fill 64 nodes, and 40 times all but the last node's are to go to the last, which has no room."""
+    pages = [BASE + PAGE * page for page in range(size)]
+    steps = [map_step(BASE, size)] + [write(page) for page in pages]
+    steps += [migrate(range(63), [63])] * 40
+    return trace([size // 64] * 64, steps)
 
 
 def one_page(size):
@@ -253,6 +274,8 @@ def spawns(size):
 KINDS = {
     small_steps: 25,
     to_and_fro: 4,
+    migrations: 1024,
+    vain_migrations: 2048,
     runs_of_one: 4,
     runs_of_two: 4,
     runs_of_all: 4,

@@ -4,4 +4,10 @@ pub mod Targets
 pub mod Requests
 pub mod Outcomes
 pub mod Trails
+pub mod Reach
+pub mod Firsts
+pub mod Turns
+pub mod Pages
+pub mod Lists
+pub mod Differ
 mod Refusals

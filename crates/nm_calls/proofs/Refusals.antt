@@ -6,7 +6,7 @@ use Rattle.nm_engine.specs.Touch as engine
 use Rattle.nm_engine.specs.Touch.{read, write}
 use Rattle.nm_engine.specs.Run.{Ran}
 use Rattle.nm_engine.specs.Batch.{runs_from}
-use Rattle.nm_calls.specs.Calls.{Call, Spawn, MapPages, Attach, Unmap, Exit, Pin, Unpin, ReadBytes, WriteBytes, MovePages, Query, FreeList, Pagemap, Vmstat, Answer, Refusal, Done, Held, NewSegment, TheBytes, Statuses, Frames, Entries, TheTotals}
+use Rattle.nm_calls.specs.Calls.{Call, Spawn, MapPages, Attach, Unmap, Exit, Pin, Unpin, ReadBytes, WriteBytes, MovePages, MigratePages, Query, FreeList, Pagemap, Vmstat, Answer, Refusal, Done, Held, NewSegment, TheBytes, Statuses, Failed, Frames, Entries, TheTotals}
 use Rattle.nm_calls.specs.Systems.{SystemState}
 use Rattle.nm_calls.specs.Outcome.{Outcome, refusal_in, shown, refused, runs_asked, ended, unless}
 use Rattle.nm_calls.specs.Laws.{RefusalsChangeNothing}
@@ -18,6 +18,7 @@ is_refusal Held = false
 is_refusal (NewSegment segment) = false
 is_refusal (TheBytes bytes) = false
 is_refusal (Statuses failed statuses) = false
+is_refusal (Failed failed) = false
 is_refusal (Frames frames) = false
 is_refusal (Entries entries) = false
 is_refusal (TheTotals moved failed) = false
@@ -45,6 +46,7 @@ call_answers y (Unpin pid addr) made h = refl
 call_answers y (ReadBytes pid addr len) made h = access_answers (read y.state pid addr len).answer h
 call_answers y (WriteBytes pid addr bytes) made h = access_answers (write y.state pid addr bytes).answer h
 call_answers y (MovePages caller pid pages nodes flags) made h = refl
+call_answers y (MigratePages caller pid old new) made h = refl
 call_answers y (Query caller pid pages flags) made h = refl
 call_answers y (FreeList node) made h = refl
 call_answers y (Pagemap pid) made h = refl

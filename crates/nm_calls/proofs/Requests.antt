@@ -37,13 +37,17 @@ pub of_runs : (Q : Request → Type 0) (limit : ℕ) (es : List Request) → 0 <
 of_runs Q limit es some h = each_run Q (cut_within limit es) (subst (AllByRecursion Q) (sym (each_limit_cuts limit es some).is.same) h)
 
 -- the node of a run is that of its first request
-target_below : (n target : ℕ) (wanted : List Wanted) → 0 < length wanted → AllByRecursion (λ e. e.target < n) (all_to target wanted) → target < n
-target_below n target [] some h = absurd (omega (arith, some))
-target_below n target (w ∷ ws) some h = h.0
+target_has : (P : ℕ → Type 0) (target : ℕ) (wanted : List Wanted) → 0 < length wanted → AllByRecursion (λ e. P e.target) (all_to target wanted) → P target
+target_has P target [] some h = absurd (omega (arith, some))
+target_has P target (w ∷ ws) some h = h.0
 
-all_below : (n : ℕ) (rs : List Stretch) → AllByRecursion (λ r. 0 < size_of r) rs → AllByRecursion (OfRun (λ e. e.target < n)) rs → AllByRecursion (λ r. r.target < n) rs
-all_below n [] some h = tt
-all_below n (r ∷ rs) some h = (target_below n r.target r.wanted some.0 h.0, all_below n rs some.1 h.1)
+all_have : (P : ℕ → Type 0) (rs : List Stretch) → AllByRecursion (λ r. 0 < size_of r) rs → AllByRecursion (OfRun (λ e. P e.target)) rs → AllByRecursion (λ r. P r.target) rs
+all_have P [] some h = tt
+all_have P (r ∷ rs) some h = (target_has P r.target r.wanted some.0 h.0, all_have P rs some.1 h.1)
+
+-- so what holds of the node of each request holds of that of each run
+pub cut_targets : (P : ℕ → Type 0) (limit : ℕ) (es : List Request) → 0 < limit → AllByRecursion (λ e. P e.target) es → AllByRecursion (λ r. P r.target) (cut_within limit es)
+cut_targets P limit es some h = all_have P (cut_within limit es) (each_limit_cuts limit es some).is.some (of_runs (λ e. P e.target) limit es some h)
 
 batch_below : (n pid : ℕ) (all : Bool) (ps ns : List ℕ) → ((k : ℕ) → k < length ns → slice_index ns k < n) → AllByRecursion (λ e. e.target < n) (requests_of pid all ps ns)
 batch_below n pid all [] ns h = tt
@@ -70,18 +74,24 @@ runs_entries {A = A} (run ∷ runs) =
     let first = sum_by-cons (λ (r : Run A). length r.wanted.items) run runs in
     omega (arith, parts, own, rest, first)
 
+-- the nodes to which the runs of requests go ..
+pub run_targets : {A : Type 0} (n limit : ℕ) (es : List Request) (runs : List (Run A)) → 0 < limit → stretches_of runs ≡ cut_within limit es → AllByRecursion (λ e. e.target < n) es → (k : ℕ) (d : Run A) → k < length runs → (slice_index_or runs k d).target < n
+run_targets n limit es runs some e h =
+    runs_below n runs (rw e (cut_targets (λ m. m < n) limit es some h))
+
+-- .. and how many requests they have
+pub run_entries : {A : Type 0} (limit : ℕ) (es : List Request) (runs : List (Run A)) → 0 < limit → stretches_of runs ≡ cut_within limit es → sum_by (λ (run : Run A). length run.wanted.items) runs ≡ length es
+run_entries limit es runs some e = runs_entries runs ∙ ap (λ rs. length (joined rs)) e ∙ ap length (each_limit_cuts limit es some).is.same
+
 -- the runs of a batch go to nodes that its entries name ..
 pub targets_below : {A : Type 0} (n limit pid : ℕ) (all : Bool) (ps ns : List ℕ) (runs : List (Run A)) → 0 < limit → stretches_of runs ≡ cut_within limit (requests_of pid all ps ns) → ((k : ℕ) → k < length ns → slice_index ns k < n) → (k : ℕ) (d : Run A) → k < length runs → (slice_index_or runs k d).target < n
 targets_below n limit pid all ps ns runs some e h =
-    let es = requests_of pid all ps ns in
-    runs_below n runs (rw e (all_below n (cut_within limit es) (each_limit_cuts limit es some).is.some (of_runs (λ e. e.target < n) limit es some (batch_below n pid all ps ns h))))
+    run_targets n limit (requests_of pid all ps ns) runs some e (batch_below n pid all ps ns h)
 
 -- .. and have no more entries than the batch has addresses
 pub entries_fit : {A : Type 0} (limit pid : ℕ) (all : Bool) (ps ns : List ℕ) (runs : List (Run A)) → 0 < limit → stretches_of runs ≡ cut_within limit (requests_of pid all ps ns) → sum_by (λ (run : Run A). length run.wanted.items) runs ≤ length ps
 entries_fit limit pid all ps ns runs some e =
-    let es = requests_of pid all ps ns in
-    let all_of : sum_by (λ run. length run.wanted.items) runs ≡ length es =
-    runs_entries runs ∙ ap (λ rs. length (joined rs)) e ∙ ap length (each_limit_cuts limit es some).is.same in
+    let all_of = run_entries limit (requests_of pid all ps ns) runs some e in
     let few = batch_length pid all ps ns in
     omega (arith, all_of, few)
 
@@ -99,8 +109,12 @@ all_alike : (all : Bool) (rs : List Stretch) → AllByRecursion (OfRun (λ e. Is
 all_alike all [] h = tt
 all_alike all (r ∷ rs) h = (inl (all, run_alike all r.target r.wanted h.0), all_alike all rs h.1)
 
+-- where requests have one `all`, each of their runs has it
+pub run_kinds : {A : Type 0} (limit : ℕ) (all : Bool) (es : List Request) (runs : List (Run A)) → 0 < limit → stretches_of runs ≡ cut_within limit es → AllByRecursion (λ e. IsByAddress all e.wanted) es → (k : ℕ) (d : Run A) → k < length runs → HasOneAll (slice_index_or runs k d).wanted.items
+run_kinds limit all es runs some e h =
+    each_has_one_all runs (rw e (all_alike all (cut_within limit es) (of_runs (λ e. IsByAddress all e.wanted) limit es some h)))
+
 -- .. and so are those of each of its runs
 pub runs_alike : {A : Type 0} (limit pid : ℕ) (all : Bool) (ps ns : List ℕ) (runs : List (Run A)) → 0 < limit → stretches_of runs ≡ cut_within limit (requests_of pid all ps ns) → (k : ℕ) (d : Run A) → k < length runs → HasOneAll (slice_index_or runs k d).wanted.items
 runs_alike limit pid all ps ns runs some e =
-    let es = requests_of pid all ps ns in
-    each_has_one_all runs (rw e (all_alike all (cut_within limit es) (of_runs (λ e. IsByAddress all e.wanted) limit es some (batch_alike pid all ps ns))))
+    run_kinds limit all (requests_of pid all ps ns) runs some e (batch_alike pid all ps ns)

@@ -14,6 +14,7 @@ pub data Call : Type 0 where
   ReadBytes : (pid addr len : ℕ) → Call
   WriteBytes : (pid addr : ℕ) (bytes : List ℕ) → Call
   MovePages : (caller pid : ℕ) (pages nodes : List ℕ) (flags : ℕ) → Call
+  MigratePages : (caller pid : ℕ) (old new : List ℕ) → Call
   Query : (caller pid : ℕ) (pages : List ℕ) (flags : ℕ) → Call
   FreeList : (node : ℕ) → Call
   Pagemap : (pid : ℕ) → Call
@@ -29,6 +30,8 @@ pub data Answer : Type 0 where
   TheBytes : List ℕ → Answer
   -- how many entries failed, and the status of each entry
   Statuses : (failed : ℕ) → List ℤ → Answer
+  -- how many pages failed
+  Failed : ℕ → Answer
   -- frames, the front first
   Frames : List ℕ → Answer
   -- page numbers and the frame at each, or none for the page of zeros

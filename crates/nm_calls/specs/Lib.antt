@@ -3,8 +3,14 @@ pub mod Errors
 pub mod Entries
 pub mod Permission
 pub mod Batch
+pub mod Sets
+pub mod Sights
+pub mod Migrating
+pub mod Listing
 pub mod Systems
 pub mod Outcome
 pub mod Does
 pub mod Views
 pub mod Laws
+pub mod MigrateRows
+pub mod MigrateLaws

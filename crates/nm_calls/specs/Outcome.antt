@@ -12,10 +12,11 @@ use Rattle.nm_engine.specs.Run.{Ran, run}
 use Rattle.nm_engine.specs.Batch.{runs_from, answer_of}
 use Rattle.nm_engine.specs.Entries.{entries_of}
 use Rattle.nm_engine.specs.Asking.{node_status}
-use Rattle.nm_calls.specs.Calls.{Call, Spawn, MapPages, Attach, Unmap, Exit, Pin, Unpin, ReadBytes, WriteBytes, MovePages, Query, FreeList, Pagemap, Vmstat, Answer, Refusal, Done, Held, NewSegment, TheBytes, Statuses, Frames, Entries, TheTotals}
+use Rattle.nm_calls.specs.Calls.{Call, Spawn, MapPages, Attach, Unmap, Exit, Pin, Unpin, ReadBytes, WriteBytes, MovePages, MigratePages, Query, FreeList, Pagemap, Vmstat, Answer, Refusal, Done, Held, NewSegment, TheBytes, Statuses, Failed, Frames, Entries, TheTotals}
 use Rattle.nm_calls.specs.Entries.{entries_shown}
 use Rattle.nm_calls.specs.Permission.{query_refusal, moves_all, owner_of}
 use Rattle.nm_calls.specs.Batch.{move_refusal, requests_of}
+use Rattle.nm_calls.specs.Migrating.{migrate_refusal, migration}
 use Rattle.nm_calls.specs.Systems.{SystemState, in_state}
 
 -- why an access is refused
@@ -48,6 +49,7 @@ refused s (Unpin pid addr) = unpin_refusal s pid addr
 refused s (ReadBytes pid addr len) = refusal_in (read s pid addr len).answer
 refused s (WriteBytes pid addr bytes) = refusal_in (write s pid addr bytes).answer
 refused s (MovePages caller pid pages nodes flags) = move_refusal s caller pid nodes flags
+refused s (MigratePages caller pid old new) = migrate_refusal s caller pid old new
 refused s (Query caller pid pages flags) = query_refusal s caller pid flags
 refused s (FreeList node) = list_refusal s node
 refused s (Pagemap pid) = entries_refusal s pid
@@ -63,6 +65,7 @@ refused_at_once s call = refused s call
 unfoldable pub runs_asked : SystemState → Call → List Stretch
 runs_asked y (MovePages caller pid pages nodes flags) =
     cut_within y.run_limit (requests_of (owner_of caller pid) (moves_all flags) pages nodes)
+runs_asked y (MigratePages caller pid old new) = cut_within y.run_limit (migration y.state caller pid old new)
 runs_asked y call = []
 
 -- an answer, and the system after it
@@ -89,6 +92,7 @@ ended y (ReadBytes pid addr len) made =
 ended y (WriteBytes pid addr bytes) made =
     let access = write y.state pid addr bytes in leaves y (shown access.answer) access.state
 ended y (MovePages caller pid pages nodes flags) made = leaves y (Statuses (answer_of made) made.statuses) made.state
+ended y (MigratePages caller pid old new) made = leaves y (Failed (answer_of made)) made.state
 ended y (Query caller pid pages flags) made =
     leaves y (Statuses 0 (statuses_of y.state (owner_of caller pid) pages)) y.state
 ended y (FreeList node) made = leaves y (Frames (free_list y.state node)) y.state

@@ -3,7 +3,7 @@ use Rattle.nm_calls.specs.declared.call.Call as values
 use Rattle.nm_calls.specs.declared.call.Call.TheVariants as call
 use Rattle.nm_calls.specs.declared.answer.Answer as values_of_answers
 use Rattle.nm_calls.specs.declared.answer.Answer.TheVariants as answer
-use Rattle.nm_calls.specs.Calls.{Call, Spawn, MapPages, Attach, Unmap, Exit, Pin, Unpin, ReadBytes, WriteBytes, MovePages, Query, FreeList, Pagemap, Vmstat, Answer, Done, NewSegment, TheBytes, Statuses, Frames, Entries, TheTotals}
+use Rattle.nm_calls.specs.Calls.{Call, Spawn, MapPages, Attach, Unmap, Exit, Pin, Unpin, ReadBytes, WriteBytes, MovePages, MigratePages, Query, FreeList, Pagemap, Vmstat, Answer, Done, NewSegment, TheBytes, Statuses, Failed, Frames, Entries, TheTotals}
 use Rattle.nm_calls.specs.Entries.{entries_mapped}
 
 -- what a call asks
@@ -19,6 +19,7 @@ call_of (call.Read pid addr len) = ReadBytes pid addr len
 call_of (call.Write pid addr bytes) = WriteBytes pid addr bytes.items
 call_of (call.MovePages request) =
     MovePages request.caller request.pid request.batch.pages.items request.batch.nodes.items request.flags
+call_of (call.MigratePages request) = MigratePages request.caller request.pid request.old request.new
 call_of (call.Query question) = Query question.caller question.pid question.pages.items question.flags
 call_of (call.FreeList node) = FreeList node
 call_of (call.Pagemap pid) = Pagemap pid
@@ -30,6 +31,7 @@ answer_of answer.Done = Done
 answer_of (answer.Segment segment) = NewSegment segment
 answer_of (answer.Bytes bytes) = TheBytes bytes.items
 answer_of (answer.Statuses moved) = Statuses moved.failed moved.statuses.items
+answer_of (answer.Failed failed) = Failed failed
 answer_of (answer.Frames frames) = Frames frames.items
 answer_of (answer.Entries entries) = Entries (entries_mapped entries.items)
 answer_of (answer.Totals totals) = TheTotals totals.moved totals.failed

@@ -33,6 +33,8 @@ pub enum Answer<A: Allocator + Copy + Send + Sync> {
     Bytes(Vec<u8, A>),
     /// The statuses of a batch, or of pages that are looked at, where none failed.
     Statuses(Moved<A>),
+    /// How many pages failed to move, for a pin or for want of a free frame.
+    Failed(usize),
     /// Frames, the front first.
     Frames(Vec<FrameId, A>),
     /// The entries of a process, by address.

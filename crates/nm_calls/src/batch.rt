@@ -86,7 +86,7 @@ fn failures(statuses: &[i32]) -> usize
 
 /// Makes runs one after another, and puts the statuses into a list that has room for them. An error means that the host
 /// refused memory after so many runs.
-fn move_runs<A: Allocator + Copy + Send + Sync>(
+pub(crate) fn move_runs<A: Allocator + Copy + Send + Sync>(
     machine: &mut Machine<A>,
     runs: &[Run<A>],
     mut statuses: Vec<i32, A>,

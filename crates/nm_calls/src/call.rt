@@ -71,6 +71,19 @@ pub struct MoveRequest<A: Allocator + Copy + Send + Sync> {
     pub flags: u32,
 }
 
+/// Nodes from which pages of a process are to move, and nodes to which they are to go.
+#[derive(Clone, Copy, Debug, PartialEq, Eq)]
+pub struct MigrateRequest {
+    /// Who calls.
+    pub caller: Pid,
+    /// Whose pages: 0 is the caller.
+    pub pid: Pid,
+    /// The nodes that they leave.
+    pub old: NodeMask,
+    /// The nodes to which they go.
+    pub new: NodeMask,
+}
+
 /// Pages that are looked at.
 #[derive(Debug, Drop)]
 pub struct Question<A: Allocator + Copy + Send + Sync> {
@@ -127,6 +140,8 @@ pub enum Call<A: Allocator + Copy + Send + Sync> {
     },
     /// Moves pages, as `move_pages(2)`.
     MovePages(MoveRequest<A>),
+    /// Moves the pages of a process from nodes to nodes, as `migrate_pages(2)`.
+    MigratePages(MigrateRequest),
     /// Asks where pages are, as `move_pages(2)` without nodes.
     Query(Question<A>),
     /// Asks for the free frames of a node.

@@ -5,7 +5,9 @@ ghost use Rattle.nm_calls.specs.Does.{Does};
 ghost use Rattle.nm_calls.specs.Views.{call_of, answer_of};
 
 use crate::answer::{Answer, Moved};
-use crate::call::{Attachment, Batch, Call, MoveRequest, NewArea, NewProcess, Question};
+use crate::call::{
+    Attachment, Batch, Call, MigrateRequest, MoveRequest, NewArea, NewProcess, Question,
+};
 use crate::call_error::CallError;
 use crate::system::System;
 use std::alloc::Allocator;
@@ -83,6 +85,23 @@ fn move_pages<A: Allocator + Copy + Send + Sync>(
     system.move_pages(*caller, *pid, pages.as_slice(), nodes.as_slice(), *flags)
 }
 
+/// Moves the pages of a process from nodes to nodes.
+fn migrate_pages<A: Allocator + Copy + Send + Sync>(
+    system: &mut System<A>,
+    request: &MigrateRequest,
+) -> Result<usize, CallError>
+    ensures { Does calls.Failed result system.old system.new
+        (calls.MigratePages request.now.caller request.now.pid request.now.old request.now.new) }
+{
+    let MigrateRequest {
+        caller,
+        pid,
+        old,
+        new,
+    } = request;
+    system.migrate_pages(*caller, *pid, *old, *new)
+}
+
 /// Asks where pages are.
 fn query<A: Allocator + Copy + Send + Sync>(
     system: &System<A>,
@@ -135,6 +154,7 @@ impl<A: Allocator + Copy + Send + Sync> System<A> {
                 Ok(Answer::Done)
             }
             Call::MovePages(request) => Ok(Answer::Statuses(move_pages(self, request)?)),
+            Call::MigratePages(request) => Ok(Answer::Failed(migrate_pages(self, request)?)),
             Call::Query(question) => Ok(Answer::Statuses(query(self, question)?)),
             Call::FreeList { node } => Ok(Answer::Frames(self.free_list(*node)?)),
             Call::Pagemap { pid } => Ok(Answer::Entries(self.pagemap(*pid)?)),

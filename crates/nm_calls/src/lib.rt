@@ -7,11 +7,15 @@ mod call;
 mod call_error;
 mod calling;
 pub mod laws;
+mod listing;
+mod migrating;
 mod permission;
 mod system;
 
 pub use answer::{Answer, Mapped, Moved};
-pub use call::{Attachment, Batch, Call, MoveRequest, NewArea, NewProcess, Question};
+pub use call::{
+    Attachment, Batch, Call, MigrateRequest, MoveRequest, NewArea, NewProcess, Question,
+};
 pub use call_error::CallError;
 pub use nm_engine::Totals;
 pub use system::System;

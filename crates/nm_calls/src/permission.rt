@@ -2,7 +2,7 @@
 
 ghost use Rattle.std.specs.Prelude.{◌≡◌, IfOk, Some};
 ghost use Rattle.nm_runs.specs.Targets.{Checks};
-ghost use Rattle.nm_calls.specs.Permission.{flags_refusal, moves_all, owner_of, query_refusal};
+ghost use Rattle.nm_calls.specs.Permission.{flags_refusal, moves_all, owner_of, query_refusal, right_refusal};
 ghost use Rattle.nm_calls.specs.Batch.{allowed_at};
 
 use nm_engine::{Machine, ProcessInfo};
@@ -38,10 +38,33 @@ fn asks_all(flags: u32, privileged: bool) -> Result<bool, Errno>
 }
 
 /// Whose pages a call names, where pid 0 is the caller.
-fn owner_of(caller: Pid, pid: Pid) -> Pid
+pub(crate) fn owner_of(caller: Pid, pid: Pid) -> Pid
     ensures { result ≡ owner_of caller pid }
 {
     if pid.number() == 0 { caller } else { pid }
+}
+
+/// What is fixed of a process on whose pages another may act: ESRCH (there is no such process); EPERM (it is of another
+/// user, and the other one has no privilege).
+pub(crate) fn acted_on(
+    asking: ProcessInfo,
+    asked: Option<ProcessInfo>,
+) -> Result<ProcessInfo, Errno>
+    ensures exact { Checks result (right_refusal asking asked) }
+    ensures asked { IfOk result (λ info. asked ≡ Some info) }
+{
+    let ProcessInfo {
+        uid,
+        privileged,
+        ..
+    } = asking;
+    let Some(asked) = asked else {
+        return Err(Errno::Esrch);
+    };
+    if uid != asked.uid && !privileged {
+        return Err(Errno::Eperm);
+    }
+    Ok(asked)
 }
 
 /// What a caller may do with the pages of a process, where pid 0 is the caller. ESRCH (no such caller); EINVAL (a flag
@@ -61,19 +84,9 @@ pub(crate) fn permit_of<A: Allocator + Copy + Send + Sync>(
     let Some(asking) = machine.process(caller) else {
         return Err(Errno::Esrch);
     };
-    let ProcessInfo {
-        uid,
-        privileged,
-        ..
-    } = asking;
-    let all = asks_all(flags, privileged)?;
+    let all = asks_all(flags, asking.privileged)?;
     let owner = owner_of(caller, pid);
-    let Some(asked) = machine.process(owner) else {
-        return Err(Errno::Esrch);
-    };
-    if uid != asked.uid && !privileged {
-        return Err(Errno::Eperm);
-    }
+    let asked = acted_on(asking, machine.process(owner))?;
     Ok(Permit {
         pid: owner,
         allowed: asked.allowed,

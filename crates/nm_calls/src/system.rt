@@ -3,7 +3,7 @@
 ghost use Rattle.std.specs.Prelude.{◌≡◌, ◌<◌, ◌≤◌, true, IfOk, length};
 ghost use Rattle.nm_engine.specs.Audited.{audited};
 ghost use Rattle.nm_engine.specs.Sound.{IsSound};
-ghost use Rattle.nm_calls.specs.Calls.{Spawn, MapPages, Attach, Unmap, Exit, Pin, Unpin, ReadBytes, WriteBytes, MovePages, Query, FreeList, Pagemap, Vmstat, Done, NewSegment, TheBytes, Statuses, Frames, Entries, TheTotals};
+ghost use Rattle.nm_calls.specs.Calls.{Spawn, MapPages, Attach, Unmap, Exit, Pin, Unpin, ReadBytes, WriteBytes, MovePages, MigratePages, Query, FreeList, Pagemap, Vmstat, Done, NewSegment, TheBytes, Statuses, Failed, Frames, Entries, TheTotals};
 ghost use Rattle.nm_calls.specs.Entries.{entries_mapped, entries_shown};
 ghost use Rattle.nm_calls.specs.Systems.{default_limit, new_system, system_with};
 ghost use Rattle.nm_calls.specs.Outcome.{statuses_of, outcome};
@@ -12,6 +12,7 @@ ghost use Rattle.nm_calls.specs.Does.{Does, DoesOrRefuses};
 use crate::answer::{Mapped, Moved};
 use crate::batch::{check_targets, move_batch};
 use crate::call_error::CallError;
+use crate::migrating::{migrate, migration_of};
 use crate::permission::{Permit, permit_of};
 use nm_engine::{Entry, Machine, Totals};
 use nm_types::limits::MAX_BATCH;
@@ -237,6 +238,34 @@ impl<A: Allocator + Copy + Send + Sync> System<A> {
             nodes,
             limit,
         )
+    }
+
+    /// Moves the pages that a process sees on the nodes of `old` to those of `new` that are online and that it may use, and
+    /// answers how many of them failed, for a pin or for want of a free frame. Pid 0 is the caller. Each node of `old` is
+    /// paired with one of those, which take turns upwards; a node keeps its pages if it is its own target, or if the sets
+    /// differ in size and it is in the new one. The pages are listed before the first moves, each once and at its lowest
+    /// address: by pair, so that a chain of nodes is emptied from its end, and then by address. Each stretch of the list
+    /// with one target is a run, or several where it is longer than the limit. A page that another process sees stays, and
+    /// is no failure; a privileged caller moves it.
+    ///
+    /// Refusals in order, each before anything moves: ESRCH (unknown caller); EINVAL (a node that is none of the machine);
+    /// ESRCH (no such process); EPERM (a process of another user, without privilege); EPERM (a node of `new` that the
+    /// process may not use, without privilege); EINVAL (no node of `new` is online and may be used by the process).
+    /// `HostMemory { runs, .. }` leaves the first runs made.
+    #[tactic(auto, unfolding(crate::specs::Outcome::refused, crate::specs::Outcome::refused_at_once, crate::specs::Outcome::ended, crate::specs::Outcome::runs_asked), using(crate::proofs::Outcomes::answers, crate::proofs::Outcomes::refuses, crate::proofs::Outcomes::host_leaves))]
+    pub fn migrate_pages(
+        &mut self,
+        caller: Pid,
+        pid: Pid,
+        old: NodeMask,
+        new: NodeMask,
+    ) -> Result<usize, CallError>
+        ensures { Does Failed result self.old self.new (MigratePages caller pid old new) }
+    {
+        let what = migration_of(&self.machine, caller, pid, old, new)?;
+        let limit = self.run_limit;
+        let moved = migrate(self.alloc, &mut self.machine, what, old, limit)?;
+        Ok(moved.failed)
     }
 
     /// Where pages are, each named by an address in it: the number of its node, -14 (EFAULT) without an area or for the

@@ -10,6 +10,8 @@ mod limits;
 #[cfg(test)]
 mod machine;
 #[cfg(test)]
+mod migrations;
+#[cfg(test)]
 mod plain;
 #[cfg(test)]
 mod policies;

@@ -13,7 +13,7 @@ use Rattle.nm_runs.specs.Cut.{Request}
 use Rattle.nm_engine.specs.Touch.{read, write}
 use Rattle.nm_engine.specs.Seeing.{frame_seen}
 use Rattle.nm_engine.specs.Run.{Ran}
-use Rattle.nm_engine.specs.Batch.{answer_of}
+use Rattle.nm_engine.specs.Batch.{batch, answer_of}
 use Rattle.nm_engine.specs.Effect.{new_machine, spawn, map_new, attach}
 
 -- five addresses, a page apart
@@ -104,6 +104,12 @@ requests all addresses target =
 -- requests that leave alone what other processes see
 abbrev pub to : List ℕ → ℕ → List Request
 to addresses target = requests false addresses target
+
+-- a page on node 0 of three, and one on node 1
+abbrev pub on_two_of_three : State
+on_two_of_three =
+    let one = spawn (new_machine three_nodes) 1 100 0 (0 ∷ 1 ∷ 2 ∷ []) false in
+    (batch (wrote (wrote (map_new one 1 A 2 false) 1 A 0x61) 1 B 0x62) (to (B ∷ []) 1) []).state
 
 -- the frame of the page that a process sees at an address
 abbrev pub frame_at : State → ℕ → ℕ → Option ℕ

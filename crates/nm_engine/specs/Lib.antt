@@ -5,7 +5,6 @@ pub mod Run
 pub mod Batch
 pub mod Effect
 pub mod Refused
-pub mod Migrate
 pub mod Sound
 pub mod Laws
 pub mod Moves

@@ -6,7 +6,7 @@ ghost use Rattle.nm_engine.specs.Examples.Moving.{ThreePagesMove, MovedPageReads
 ghost use Rattle.nm_engine.specs.Examples.Sharing.{TwoAddressesAreOneProcess, SharedPageStays, SharedPageIsOnTarget, SharedPageMovesForBoth};
 ghost use Rattle.nm_engine.specs.Examples.Letting.{OnlyTheMovingPageIsHeld, EachHasItsStatus, PinnedPageKeepsItsArea, UnmappedPagesAreFree, LastAreaFreesThePage};
 ghost use Rattle.nm_engine.specs.Examples.Setting.{MiddlePageIsSplitOff, NewPagesFollowThePolicy, LengthsRoundUp, AreasAreNotMerged, OthersKeepTheirAreas, RangesAreRefused};
-ghost use Rattle.nm_engine.specs.Examples.Deciding.{NodesAreOrderedByDistance, PolicyOrdersTheNodes, PlanResolvesRepeats, PlanWithoutFrames, PlanWithoutRequests, PairsLeaveRoomFirst, EachPageMigratesOnce};
+ghost use Rattle.nm_engine.specs.Examples.Deciding.{NodesAreOrderedByDistance, PolicyOrdersTheNodes, PlanResolvesRepeats, PlanWithoutFrames, PlanWithoutRequests};
 
 /// No move changes a byte that a process reads: not one, and not a batch; and no read and no policy does.
 pub fn mem_stays()
@@ -118,10 +118,4 @@ pub fn plans_take_frames_in_order()
     ensures plan_resolves_repeats { PlanResolvesRepeats }
     ensures plan_without_frames { PlanWithoutFrames }
     ensures plan_without_requests { PlanWithoutRequests }
-{}
-
-/// Worked examples of the pairs of nodes between which `migrate_pages(2)` moves.
-pub fn pages_migrate_by_pairs()
-    ensures pairs_leave_room_first { PairsLeaveRoomFirst }
-    ensures each_page_migrates_once { EachPageMigratesOnce }
 {}

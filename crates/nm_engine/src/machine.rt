@@ -80,16 +80,10 @@ impl<A: Allocator + Copy + Send + Sync> Machine<A> {
         self.inner.node_count()
     }
 
-    /// Whether there is such a node, and it is online.
-    pub fn is_online(&self, node: NodeId) -> bool
-        ensures { result ≡ is_in self.now.online node }
-    {
-        self.inner.is_online(node)
-    }
-
-    /// The nodes of the machine, with their frames and distances.
+    /// The nodes, and the frames that each owns.
     pub fn geometry(&self) -> &Geometry<A>
-        ensures { result.now ≡ self.now.layout }
+        ensures geometry { result.now ≡ self.now.layout }
+        ensures sound { IsSound self.now }
     {
         self.inner.geometry()
     }
@@ -99,6 +93,13 @@ impl<A: Allocator + Copy + Send + Sync> Machine<A> {
         ensures { result ≡ self.now.online }
     {
         self.inner.online()
+    }
+
+    /// Whether there is such a node, and it is online.
+    pub fn is_online(&self, node: NodeId) -> bool
+        ensures { result ≡ is_in self.now.online node }
+    {
+        self.inner.is_online(node)
     }
 
     /// What `spawn` fixed of a process, or None where there is none of this pid.

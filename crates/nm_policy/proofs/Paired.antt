@@ -1,5 +1,5 @@
 -- Pairs of nodes, and the order in which they come.
-use Rattle.std.proofs.Common.{arith, ◌≡◌, ◌≢◌, ℕ, zero, suc, ◌+◌, ◌-◌, ◌<◌, ◌≤◌, ◌⊎◌, ⊎_elim, inl, inr, Bool, true, false, not, cond, List, [], ◌∷◌, map, length, Some, None, Option, refl, sym, subst, ap, ◌∙◌}
+use Rattle.std.proofs.Common.{arith, ◌≡◌, ◌≢◌, ℕ, zero, suc, ◌+◌, ◌-◌, ◌%◌, ◌<◌, ◌≤◌, ◌⊎◌, ⊎_elim, inl, inr, Bool, true, false, not, cond, List, [], ◌∷◌, map, length, Some, None, Option, refl, sym, subst, ap, ◌∙◌}
 use Rattle.std.specs.Prelude.{◌==◌, ◌&&◌, nat_eq, find, slice_get, if◌then◌else◌, IsPermutation}
 use Rattle.std.specs.List.{AllByRecursion, IsDistinct, filter, last_or}
 use Rattle.std.specs.List.Sorted.{IsStrictlyIncreasing, IsStrictlySortedBy}
@@ -13,6 +13,7 @@ use Rattle.nm_types.specs.Nodes.{is_in, without_node}
 use Rattle.nm_policy.specs.declared.pairing.Pair.{Pair}
 use Rattle.nm_policy.specs.Pairs.{dealt, stays, moving, next_pair, without_source, pairs_after, pairs, EmptiesFromTheEnd, EachSetIsPairedInOrder}
 use Rattle.nm_policy.proofs.Sorted.{lower}
+use Rattle.nm_policy.proofs.Turned.{is_in_at}
 
 -- a pair is one of these
 abbrev IsOneOf : Pair → List Pair → Type 0
@@ -287,12 +288,25 @@ moves_away old new =
           (passes (λ p. not (stays old new p)) (dealt 0 old new))
     ]
 
+-- each node is dealt one of the set
+dealt_inside : (k : ℕ) (old new : List ℕ) → 0 < length new → AllByRecursion (λ p. is_in new p.to ≡ true) (dealt k old new)
+dealt_inside k [] new some = tt
+dealt_inside k (n ∷ old) new some = (is_in_at new (k % length new) (omega (arith, some)), dealt_inside (k + 1) old new some)
+
+moves_inside : (old new : List ℕ) → AllByRecursion (λ p. is_in new p.to ≡ true) (moving old new)
+moves_inside old [] = tt
+moves_inside old (n ∷ new) =
+    let all : List ℕ = n ∷ new in
+    subst (λ b. AllByRecursion (λ p. is_in all p.to ≡ true) (if b then [] else filter (λ p. not (stays old all p)) (dealt 0 old all))) (sym (ne_eqb (length all) 0 (λ e. omega (arith, e))))
+    (all_filtered (λ p. is_in all p.to ≡ true) (λ p. not (stays old all p)) (dealt 0 old all) (dealt_inside 0 old all (omega arith)))
+
 pub each_set_is_paired_in_order : EachSetIsPairedInOrder
 each_set_is_paired_in_order old new up =
     let left = moving old new in
     let n = length left in
     record {
       away = all_after (λ p. p.from ≢ p.to) n old left (moves_away old new);
+      inside = all_after (λ p. is_in new p.to ≡ true) n old left (moves_inside old new);
       once = distinct (pairs old new) (fresh_after n old left);
       all = all_come n old left (omega arith) (fresh_moving old new up);
       from_the_end = from_the_end n old left;

@@ -49,9 +49,11 @@ EmptiesFromTheEnd remaining (p ∷ ps) =
     (is_in remaining p.to ≡ true → AllByRecursion (λ q. is_in remaining q.to ≡ true) ps)
     × EmptiesFromTheEnd (without_node remaining p.from) ps
 
--- no node moves to itself, none is left twice, each that moves is left once, and chains are emptied from their ends
+-- no node moves to itself, each goes to one of `new`, none is left twice, each that moves is left once, and chains are
+-- emptied from their ends
 pub record PairsAreInOrder (old new : List ℕ) : Type 0 where
   pub away : AllByRecursion (λ p. p.from ≢ p.to) (pairs old new)
+  pub inside : AllByRecursion (λ p. is_in new p.to ≡ true) (pairs old new)
   pub once : IsDistinct nat_eq (map (λ p. p.from) (pairs old new))
   pub all : IsPermutation (moving old new) (pairs old new)
   pub from_the_end : EmptiesFromTheEnd old (pairs old new)

@@ -1,7 +1,7 @@
 //! Which nodes pages leave for which.
 
-ghost use Rattle.std.specs.Prelude.{◌≡◌, IfOk};
-ghost use Rattle.nm_policy.specs.Pairs.{stays, moving, next_pair, pairs};
+ghost use Rattle.std.specs.Prelude.{◌≡◌, IfOk, OnOk};
+ghost use Rattle.nm_policy.specs.Pairs.{stays, moving, next_pair, pairs, PairsAreInOrder};
 
 use crate::first_touch::turn;
 use nm_types::{NodeId, NodeMask};
@@ -72,10 +72,11 @@ pub fn pairs<A: Allocator + Copy>(
     old: NodeMask,
     new: NodeMask,
 ) -> Result<Vec<Pair, A>, AllocError>
-    ensures { IfOk result (λ found. found.items ≡ pairs old new) }
+    ensures value { IfOk result (λ found. found.items ≡ pairs old new) }
+    ensures order { OnOk result (PairsAreInOrder old new) }
 {
     let mut left = moving(alloc, old, new)?;
-    let mut pairs = Vec::with_capacity(alloc, left.len())?;
+    let mut pairs = Vec::with_capacity(alloc, old.len())?;
     let mut remaining = old;
     while let Some(pair) = next_pair(left.as_slice(), remaining) {
         remaining.remove(pair.from);

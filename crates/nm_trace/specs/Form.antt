@@ -11,7 +11,7 @@ use Rattle.nm_types.specs.Layout.{Layout}
 use Rattle.nm_types.specs.Refusal.{refusal}
 use Rattle.nm_types.specs.declared.geometry.GeometryError.{GeometryError}
 use Rattle.nm_calls.specs.Systems.{default_limit}
-use Rattle.nm_calls.specs.Calls.{Call, Spawn, MapPages, Attach, Unmap, Exit, Pin, Unpin, ReadBytes, WriteBytes, MovePages, Query, FreeList, Pagemap, Vmstat}
+use Rattle.nm_calls.specs.Calls.{Call, Spawn, MapPages, Attach, Unmap, Exit, Pin, Unpin, ReadBytes, WriteBytes, MovePages, MigratePages, Query, FreeList, Pagemap, Vmstat}
 
 infixl 10 ◌>>=◌
 abbrev pub ◌>>=◌ : {A B : Type 0} → Option A → (A → Option B) → Option B
@@ -203,6 +203,14 @@ move_pages_of d = do
   flags ← small_at (codes "flags") d
   if nat_le (length pages) 16384 && (length pages == length nodes) then Some (MovePages caller pid pages nodes flags) else None
 
+unfoldable pub migrate_pages_of : Data → Option Call
+migrate_pages_of d = do
+  caller ← small_at (codes "caller") d
+  pid ← small_at (codes "pid") d
+  old ← set_at (codes "old") d
+  new ← set_at (codes "new") d
+  Some (MigratePages caller pid old new)
+
 -- at most 16,384 pages
 unfoldable pub query_of : Data → Option Call
 query_of d = do
@@ -238,11 +246,12 @@ named op d =
     else (if bytes_eq op (codes "read") then read_of d
     else (if bytes_eq op (codes "write") then write_of d
     else (if bytes_eq op (codes "move_pages") then move_pages_of d
+    else (if bytes_eq op (codes "migrate_pages") then migrate_pages_of d
     else (if bytes_eq op (codes "query") then query_of d
     else (if bytes_eq op (codes "free") then free_of d
     else (if bytes_eq op (codes "pagemap") then pagemap_of d
     else (if bytes_eq op (codes "vmstat") then vmstat_of d
-    else None)))))))))))))
+    else None))))))))))))))
 
 unfoldable pub step_of : Data → Option Call
 step_of d = do

@@ -5,7 +5,7 @@ use Rattle.std.specs.List.{flat_map}
 use Rattle.hex.specs.Hex.{encode_lower}
 use Rattle.nm_types.specs.Names.{name_of}
 use Rattle.nm_calls.specs.Systems.{SystemState}
-use Rattle.nm_calls.specs.Calls.{Call, Spawn, MapPages, Attach, Unmap, Exit, Pin, Unpin, ReadBytes, WriteBytes, MovePages, Query, FreeList, Pagemap, Vmstat, Answer, Refusal, Done, Held, NewSegment, TheBytes, Statuses, Frames, Entries, TheTotals}
+use Rattle.nm_calls.specs.Calls.{Call, Spawn, MapPages, Attach, Unmap, Exit, Pin, Unpin, ReadBytes, WriteBytes, MovePages, MigratePages, Query, FreeList, Pagemap, Vmstat, Answer, Refusal, Done, Held, NewSegment, TheBytes, Statuses, Failed, Frames, Entries, TheTotals}
 use Rattle.nm_calls.specs.Outcome.{Outcome, outcome}
 
 -- the word of a call
@@ -20,6 +20,7 @@ word_of (Unpin pid addr) = codes "unpin"
 word_of (ReadBytes pid addr len) = codes "read"
 word_of (WriteBytes pid addr bytes) = codes "write"
 word_of (MovePages caller pid pages nodes flags) = codes "move_pages"
+word_of (MigratePages caller pid old new) = codes "migrate_pages"
 word_of (Query caller pid pages flags) = codes "query"
 word_of (FreeList node) = codes "free"
 word_of (Pagemap pid) = codes "pagemap"
@@ -61,6 +62,7 @@ answer_text Held = codes "held"
 answer_text (NewSegment segment) = codes "segment=" ++ decimal segment
 answer_text (TheBytes bytes) = encode_lower bytes
 answer_text (Statuses failed statuses) = decimal failed ++ codes ":" ++ signed_listed statuses
+answer_text (Failed failed) = decimal failed
 answer_text (Frames frames) = decimal (length frames) ++ codes ":" ++ listed frames
 answer_text (Entries entries) = decimal (length entries) ++ codes ":" ++ flat_map entry_text entries
 answer_text (TheTotals moved failed) = totals_text moved failed

@@ -7,7 +7,9 @@ ghost use Rattle.nm_trace.specs.Gives.{Gives};
 
 use crate::fields::{flag, hex, number, numbers, set, small, smalls, text};
 use crate::step_error::StepError;
-use nm_calls::{Attachment, Batch, Call, MoveRequest, NewArea, NewProcess, Question};
+use nm_calls::{
+    Attachment, Batch, Call, MigrateRequest, MoveRequest, NewArea, NewProcess, Question,
+};
 use nm_types::limits::MAX_BATCH;
 use nm_types::{NodeId, Pid};
 use serde_json::Value;
@@ -136,6 +138,18 @@ fn move_pages<A: Allocator + Copy + Send + Sync>(
     }))
 }
 
+#[tactic(auto, unfolding(crate::specs::Form::migrate_pages_of))]
+fn migrate_pages<A: Allocator + Copy + Send + Sync>(value: &Value) -> Result<Call<A>, StepError>
+    ensures { Gives call_of result (form.migrate_pages_of (view value.now)) }
+{
+    Ok(Call::MigratePages(MigrateRequest {
+        caller: Pid::new(small(value, "caller")?),
+        pid: Pid::new(small(value, "pid")?),
+        old: set(value, "old")?,
+        new: set(value, "new")?,
+    }))
+}
+
 #[tactic(auto, unfolding(crate::specs::Form::query_of))]
 fn query<A: Allocator + Copy + Send + Sync>(alloc: A, value: &Value) -> Result<Call<A>, StepError>
     ensures { Gives call_of result (form.query_of (view value.now)) }
@@ -199,6 +213,7 @@ fn named<A: Allocator + Copy + Send + Sync>(
         "read" => read(value),
         "write" => write(alloc, value),
         "move_pages" => move_pages(alloc, value),
+        "migrate_pages" => migrate_pages(value),
         "query" => query(alloc, value),
         "free" => free(value),
         "pagemap" => pagemap(value),

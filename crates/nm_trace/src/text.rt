@@ -26,6 +26,7 @@ fn word<A: Allocator + Copy + Send + Sync>(call: &Call<A>) -> &'static str
         Call::Read { .. } => "read",
         Call::Write { .. } => "write",
         Call::MovePages(_) => "move_pages",
+        Call::MigratePages(_) => "migrate_pages",
         Call::Query(_) => "query",
         Call::FreeList { .. } => "free",
         Call::Pagemap { .. } => "pagemap",
@@ -143,6 +144,10 @@ fn push_answer<A: Allocator + Copy + Send + Sync>(
         Answer::Statuses(moved) => {
             push_count(line, moved.failed)?;
             push_statuses(line, moved.statuses.as_slice())
+        }
+        Answer::Failed(failed) => {
+            let mut buffer = itoa::Buffer::new();
+            line.push_str(buffer.format(*failed))
         }
         Answer::Frames(frames) => {
             push_count(line, frames.len())?;

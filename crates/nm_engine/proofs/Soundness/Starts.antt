@@ -4,9 +4,8 @@ use Rattle.nm_types.specs.State.{State}
 use Rattle.nm_engine.specs.Touch.{Read, Write}
 use Rattle.nm_engine.specs.Effect.{new_machine, map_new}
 use Rattle.nm_engine.specs.Sound.{IsSound}
-use Rattle.nm_engine.specs.Examples.{A, B, C, D, E, two_nodes, three_nodes, one_process, with_second, wrote, three_pages, two_addresses, six_pages, seven_pages, shared_page, attached_by_two, four_of_five, to}
+use Rattle.nm_engine.specs.Examples.{A, B, C, D, E, two_nodes, three_nodes, one_process, with_second, wrote, three_pages, two_addresses, six_pages, seven_pages, shared_page, attached_by_two, four_of_five, to, on_two_of_three}
 use Rattle.nm_engine.specs.Examples.Letting.{one_of_each}
-use Rattle.nm_engine.specs.Examples.Deciding.{on_two_of_three}
 use Rattle.nm_engine.specs.Examples.Starts.{StartsAreSound}
 use Rattle.nm_engine.proofs.Soundness.New.{new_sound}
 use Rattle.nm_engine.proofs.Soundness.Called.{spawn_sound, map_sound, attach_sound, pin_sound}

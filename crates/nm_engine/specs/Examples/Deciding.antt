@@ -1,18 +1,12 @@
--- Worked examples of orders of nodes, of pairs of nodes, and of plans.
-use Rattle.std.specs.Prelude.{◌≡◌, ℕ, pos, negsuc, false, List, [], ◌∷◌, map, Some, None}
+-- Worked examples of orders of nodes, and of plans.
+use Rattle.std.specs.Prelude.{◌≡◌, ℕ, pos, negsuc, List, [], ◌∷◌, map, Some, None}
 use Rattle.nm_types.specs.declared.page.Page.{Page}
 use Rattle.nm_types.specs.declared.area.Policy.TheVariants.{Preferred, Bind, Interleave}
 use Rattle.nm_types.specs.Layout.{Layout}
-use Rattle.nm_types.specs.State.{State}
 use Rattle.nm_policy.specs.Order.{zonelist, first_touch_order}
 use Rattle.nm_runs.specs.declared.Class.{Class}
 use Rattle.nm_runs.specs.declared.Class.TheVariants.{Status, Move}
 use Rattle.nm_plan.specs.Decide.{decide, moves, shortage}
-use Rattle.nm_engine.specs.Run.{Ran}
-use Rattle.nm_engine.specs.Batch.{batch}
-use Rattle.nm_engine.specs.Migrate.{pairs, migrate_list}
-use Rattle.nm_engine.specs.Effect.{new_machine, spawn, map_new}
-use Rattle.nm_engine.specs.Examples.{A, B, three_nodes, wrote, to, frame_at, told}
 
 -- three nodes, of which node 2 is in the middle
 abbrev pub in_a_row : Layout
@@ -63,32 +57,3 @@ abbrev pub PlanWithoutRequests : Type 0
 PlanWithoutRequests =
     let plan = decide [] [] (6 ∷ []) 1 in
     (plan ≡ record { statuses = []; taken = [] }) × (shortage [] plan ≡ None)
-
--- a node whose pages go to one that is still to be left comes later; one set twice moves nothing
-abbrev pub PairsLeaveRoomFirst : Type 0
-PairsLeaveRoomFirst =
-    (pairs (0 ∷ 1 ∷ 2 ∷ 3 ∷ 4 ∷ 5 ∷ 6 ∷ 7 ∷ []) (3 ∷ 4 ∷ 5 ∷ []) ≡ (7, 4) ∷ (6, 3) ∷ (2, 5) ∷ (1, 4) ∷ (0, 3) ∷ [])
-    × (pairs (0 ∷ 1 ∷ []) (1 ∷ 2 ∷ []) ≡ (1, 2) ∷ (0, 1) ∷ []) × (pairs (0 ∷ 1 ∷ []) (0 ∷ 1 ∷ []) ≡ [])
-
--- a page on node 0 and one on node 1
-abbrev pub on_two_of_three : State
-on_two_of_three =
-    let one = spawn (new_machine three_nodes) 1 100 0 (0 ∷ 1 ∷ 2 ∷ []) false in
-    (batch (wrote (wrote (map_new one 1 A 2 false) 1 A 0x61) 1 B 0x62) (to (B ∷ []) 1) []).state
-
--- they go from {0, 1} to {1, 2}, the one behind first, and none goes on to node 2 by way of node 1
-abbrev pub migrated : Ran
-migrated = batch on_two_of_three (migrate_list on_two_of_three 1 false (pairs (0 ∷ 1 ∷ []) (1 ∷ 2 ∷ []))) []
-
--- the page that goes to node 1 stays there
-abbrev pub EachPageMigratesOnce : Type 0
-EachPageMigratesOnce =
-    (told migrated
-    ≡ record {
-      answer = 0;
-      statuses = pos 2 ∷ pos 1 ∷ [];
-      free = (2 ∷ 3 ∷ 1 ∷ 0 ∷ []) ∷ (6 ∷ 7 ∷ 4 ∷ []) ∷ (9 ∷ 10 ∷ 11 ∷ []) ∷ [];
-      moved = 3;
-      failed = 0;
-    })
-    × (map (frame_at migrated.state 1) (A ∷ B ∷ []) ≡ Some 5 ∷ Some 8 ∷ [])

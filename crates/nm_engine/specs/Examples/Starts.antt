@@ -1,8 +1,7 @@
 -- The starts of the worked examples.
 use Rattle.nm_engine.specs.Sound.{IsSound}
-use Rattle.nm_engine.specs.Examples.{three_pages, two_addresses, six_pages, seven_pages, seen_by_two, attached_by_two, four_of_five}
+use Rattle.nm_engine.specs.Examples.{three_pages, two_addresses, six_pages, seven_pages, seen_by_two, attached_by_two, four_of_five, on_two_of_three}
 use Rattle.nm_engine.specs.Examples.Letting.{one_of_each}
-use Rattle.nm_engine.specs.Examples.Deciding.{on_two_of_three}
 
 -- each is sound, so that no law is empty there
 abbrev pub StartsAreSound : Type 0

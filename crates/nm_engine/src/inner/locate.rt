@@ -11,24 +11,10 @@ ghost use Rattle.nm_types.specs.Layout.{node_count};
 use crate::inner::Inner;
 use crate::located::Located;
 use nm_areas::Line;
-use nm_types::{Errno, Geometry, MachineError, NodeMask, Page, Pid, Seen, Sight, Vpn};
+use nm_types::{Errno, MachineError, Page, Pid, Seen, Sight, Vpn};
 use std::alloc::Allocator;
 
 impl<A: Allocator + Copy> Inner<A> {
-    /// The nodes.
-    pub(crate) fn geometry(&self) -> &Geometry<A>
-        ensures { result.now ≡ self.now.state.layout }
-    {
-        self.frames.geometry()
-    }
-
-    /// The nodes that are online.
-    pub(crate) fn online(&self) -> NodeMask
-        ensures { result ≡ self.now.state.online }
-    {
-        self.online
-    }
-
     /// The areas of a process, by address.
     pub(crate) fn lines(&self, pid: Pid) -> Result<Vec<Line, A>, MachineError>
         ensures told { Tells result (entries_refusal self.now.state pid) (λ lines. lines.items ≡ lines_of self.now.state.segments self.now.state.areas pid) }

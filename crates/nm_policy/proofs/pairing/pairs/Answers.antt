@@ -5,7 +5,7 @@ use Rattle.std.proofs.lemmas.List.{length-append}
 use Rattle.nm_types.specs.Nodes.{without_node}
 use Rattle.nm_policy.specs.declared.pairing.Pair.{Pair}
 use Rattle.nm_policy.specs.Pairs.{moving, next_pair, without_source, pairs_after}
-use Rattle.nm_policy.proofs.Paired.{pairs_none, pairs_some, fewer_left}
+use Rattle.nm_policy.proofs.Paired.{pairs_none, pairs_some, fewer_left, each_set_is_paired_in_order}
 use Rattle.nm_policy.proofs.pairing.pairs.Given as given
 use Rattle.nm_policy.proofs.pairing.pairs.Goals as goal
 
@@ -44,8 +44,11 @@ loop-pair-preserved g c =
           ∙ c.loop-pair.invariant.made;
     }
 
-pub returns : goal.returns
-returns g c =
+pub returns-clause-order : goal.returns-clause-order
+returns-clause-order g c = each_set_is_paired_in_order c.args.old c.args.new c.len.ensures.nodes.upwards
+
+pub returns-clause-value : goal.returns-clause-value
+returns-clause-value g c =
     let none : next_pair c.loop-pair.remaining c.loop-pair.left.items ≡ None = ap (next_pair c.loop-pair.remaining) (sym c.as_slice.ensures.value) ∙ sym c.next_pair.ensures ∙ c.in_default.is in
     let n = length (moving c.args.old c.args.new) - length c.loop-pair.pairs.items in
     sym (append-nil c.loop-pair.pairs.items) ∙ sym (ap (λ l. c.loop-pair.pairs.items ++ l) (pairs_none n c.loop-pair.remaining c.loop-pair.left.items none)) ∙ c.loop-pair.invariant.made

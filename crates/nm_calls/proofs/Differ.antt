@@ -1,0 +1,125 @@
+-- No page is listed twice.
+use Rattle.std.proofs.Common.{◌≡◌, ◌≢◌, ℕ, Bool, true, false, cond, not, List, [], ◌∷◌, ◌++◌, map, refl, sym, ap, ◌∙◌, Option, Some, None}
+use Rattle.std.specs.Prelude.{◌==◌, nat_eq}
+use Rattle.std.specs.List.{AllByRecursion, IsDistinct, filter, flat_map}
+use Rattle.std.specs.Map.{values_of}
+use Rattle.std.specs.Option.{unwrap_or, option_map}
+use Rattle.std.proofs.lemmas.Bool.{eqb-true, eq-eqb, ne_eqb, false≢true, false_from_ne_true}
+use Rattle.nm_types.specs.declared.page.Page.{Page}
+use Rattle.nm_types.specs.Layout.{node_of}
+use Rattle.nm_types.specs.Map.{Map, get, page_cmp, same_page}
+use Rattle.nm_types.specs.State.{State}
+use Rattle.nm_types.proofs.Maps.{equal, exact_page}
+use Rattle.nm_policy.specs.declared.pairing.Pair.{Pair}
+use Rattle.nm_policy.proofs.Paired.{each_set_is_paired_in_order}
+use Rattle.nm_calls.specs.Sights.{sights, pages_in}
+use Rattle.nm_calls.specs.Migrating.{once, pages_seen, is_on, pages_on}
+use Rattle.nm_calls.specs.MigrateLaws.{EachPageIsListedOnce}
+
+-- two page numbers with different pages
+abbrev Differs : ℕ × Page → ℕ × Page → Type 0
+Differs e f = same_page e.1 f.1 ≡ false
+
+-- each has another page than those behind it
+abbrev AllDiffer : Map ℕ Page → Type 0
+AllDiffer [] = Unit {0}
+AllDiffer (e ∷ es) = AllByRecursion (Differs e) es × AllDiffer es
+
+all_filtered : (P : ℕ × Page → Type 0) (test : ℕ × Page → Bool) (es : Map ℕ Page) → AllByRecursion P es → AllByRecursion P (filter test es)
+all_filtered P test [] h = tt
+all_filtered P test (e ∷ es) h =
+    let rest = all_filtered P test es h.1 in
+    elim (test e) as (λ b. AllByRecursion P (cond b (e ∷ filter test es) (filter test es))) [
+      | true ↦ (h.0, rest)
+      | false ↦ rest
+    ]
+
+differ_filtered : (test : ℕ × Page → Bool) (es : Map ℕ Page) → AllDiffer es → AllDiffer (filter test es)
+differ_filtered test [] h = tt
+differ_filtered test (e ∷ es) h =
+    let rest = differ_filtered test es h.1 in
+    elim (test e) as (λ b. AllDiffer (cond b (e ∷ filter test es) (filter test es))) [
+      | true ↦ (all_filtered (Differs e) test es h.0, rest)
+      | false ↦ rest
+    ]
+
+-- what is left has not the page
+left_differs : (e : ℕ × Page) (es : Map ℕ Page) → AllByRecursion (Differs e) (filter (λ f. not (same_page e.1 f.1)) es)
+left_differs e [] = tt
+left_differs e (f ∷ es) =
+    let test : ℕ × Page → Bool = λ g. not (same_page e.1 g.1) in
+    let rest = left_differs e es in
+    elim (same_page e.1 f.1) as (λ b. same_page e.1 f.1 ≡ b → AllByRecursion (Differs e) (cond (not b) (f ∷ filter test es) (filter test es))) [
+      | true ↦ λ h. rest
+      | false ↦ λ h. (h, rest)
+    ] refl
+
+once_differs : (es : Map ℕ Page) → AllDiffer (once same_page es)
+once_differs [] = tt
+once_differs (e ∷ es) =
+    (left_differs e (once same_page es), differ_filtered (λ f. not (same_page e.1 f.1)) (once same_page es) (once_differs es))
+
+-- a page is on one node
+on_one : (s : State) (n m : ℕ) (o : Option ℕ) → n ≢ m → unwrap_or (option_map (λ frame. node_of s.layout frame == n) o) false ≡ true → unwrap_or (option_map (λ frame. node_of s.layout frame == m) o) false ≡ false
+on_one s n m None other h = refl
+on_one s n m (Some frame) other h = ne_eqb (node_of s.layout frame) m (λ e. other (sym (eqb-true (node_of s.layout frame) n h) ∙ e))
+
+all_on : (s : State) (n : ℕ) (es : Map ℕ Page) → AllByRecursion (λ e. is_on s n e.1 ≡ true) (filter (λ e. is_on s n e.1) es)
+all_on s n [] = tt
+all_on s n (e ∷ es) =
+    let rest = all_on s n es in
+    elim (is_on s n e.1) as (λ b. is_on s n e.1 ≡ b → AllByRecursion (λ e. is_on s n e.1 ≡ true) (cond b (e ∷ filter (λ e. is_on s n e.1) es) (filter (λ e. is_on s n e.1) es))) [
+      | true ↦ λ h. (h, rest)
+      | false ↦ λ h. rest
+    ] refl
+
+all_map : (P Q : ℕ × Page → Type 0) (es : Map ℕ Page) → ((e : ℕ × Page) → P e → Q e) → AllByRecursion P es → AllByRecursion Q es
+all_map P Q [] f h = tt
+all_map P Q (e ∷ es) f h = (f e h.0, all_map P Q es f h.1)
+
+all-append : (P : ℕ × Page → Type 0) (es fs : Map ℕ Page) → AllByRecursion P es → AllByRecursion P fs → AllByRecursion P (es ++ fs)
+all-append P [] fs h k = k
+all-append P (e ∷ es) fs h k = (h.0, all-append P es fs h.1 k)
+
+differ-append : (es fs : Map ℕ Page) → AllDiffer es → AllDiffer fs → AllByRecursion (λ e. AllByRecursion (Differs e) fs) es → AllDiffer (es ++ fs)
+differ-append [] fs h k cross = k
+differ-append (e ∷ es) fs h k cross = (all-append (Differs e) es fs h.0 cross.0, differ-append es fs h.1 k cross.1)
+
+-- a page on a node is none that is not on it
+apart : (s : State) (n : ℕ) (e f : ℕ × Page) → is_on s n e.1 ≡ true → is_on s n f.1 ≡ false → Differs e f
+apart s n e f here there =
+    false_from_ne_true (same_page e.1 f.1) (λ same. false≢true (sym there ∙ ap (is_on s n) (sym (exact_page e.1 f.1 (equal _ same))) ∙ here))
+
+-- what leaves the nodes of pairs, in their order
+abbrev leaving : State → ℕ → List Pair → Map ℕ Page
+leaving s pid ps = flat_map (λ p. pages_on s pid p.from) ps
+
+none_on : (s : State) (pid n : ℕ) (ps : List Pair) → AllByRecursion (λ m. nat_eq n m ≡ false) (map (λ p. p.from) ps) → AllByRecursion (λ e. is_on s n e.1 ≡ false) (leaving s pid ps)
+none_on s pid n [] h = tt
+none_on s pid n (p ∷ ps) h =
+    all-append (λ e. is_on s n e.1 ≡ false) (pages_on s pid p.from) (leaving s pid ps)
+    (all_map (λ e. is_on s p.from e.1 ≡ true) (λ e. is_on s n e.1 ≡ false) (pages_on s pid p.from)
+    (λ e on. on_one s p.from n (get page_cmp s.place e.1) (λ same. false≢true (sym h.0 ∙ eq-eqb n p.from (sym same))) on) (all_on s p.from (pages_seen s pid)))
+    (none_on s pid n ps h.1)
+
+leaving_differ : (s : State) (pid : ℕ) (ps : List Pair) → IsDistinct nat_eq (map (λ p. p.from) ps) → AllDiffer (leaving s pid ps)
+unfolding IsDistinct
+leaving_differ s pid [] h = tt
+leaving_differ s pid (p ∷ ps) h =
+    differ-append (pages_on s pid p.from) (leaving s pid ps) (differ_filtered (λ e. is_on s p.from e.1) (pages_seen s pid) (once_differs (pages_in (sights s pid)))) (leaving_differ s pid ps h.1)
+    (all_map (λ e. is_on s p.from e.1 ≡ true) (λ e. AllByRecursion (Differs e) (leaving s pid ps)) (pages_on s pid p.from)
+    (λ e on. all_map (λ f. is_on s p.from f.1 ≡ false) (Differs e) (leaving s pid ps) (λ f off. apart s p.from e f on off) (none_on s pid p.from ps h.0)) (all_on s p.from (pages_seen s pid)))
+
+others_of : (e : ℕ × Page) (es : Map ℕ Page) → AllByRecursion (Differs e) es → AllByRecursion (λ q. same_page e.1 q ≡ false) (values_of es)
+others_of e [] h = tt
+others_of e (f ∷ es) h = (h.0, others_of e es h.1)
+
+pages_differ : (es : Map ℕ Page) → AllDiffer es → IsDistinct same_page (values_of es)
+unfolding IsDistinct
+pages_differ [] h = tt
+pages_differ (e ∷ es) h = (others_of e es h.0, pages_differ es h.1)
+
+pub each_page_is_listed_once : EachPageIsListedOnce
+each_page_is_listed_once s pid old new set =
+    let order = each_set_is_paired_in_order old new set.upwards in
+    pages_differ (leaving s pid _) (leaving_differ s pid _ order.once)

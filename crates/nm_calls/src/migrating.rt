@@ -1,0 +1,127 @@
+//! What moves from nodes to nodes, as by `migrate_pages(2)`: whether it may, and its runs.
+
+ghost use Rattle.std.specs.Prelude.{◌≡◌, ◌<◌, IfOk, IsSome, Some};
+ghost use Rattle.std.specs.List.{AllByRecursion};
+ghost use Rattle.nm_types.specs.Layout.{node_count};
+ghost use Rattle.nm_policy.specs.Pairs.{pairs};
+ghost use Rattle.nm_runs.specs.Limit.{cut_within};
+ghost use Rattle.nm_runs.specs.Targets.{Checks};
+ghost use Rattle.nm_calls.specs.Does.{Moves};
+ghost use Rattle.nm_calls.specs.Permission.{info_at};
+ghost use Rattle.nm_calls.specs.Sets.{names_no_node, usable};
+ghost use Rattle.nm_calls.specs.Migrating.{new_refusal, migrate_refusal, migration, migrate_list};
+
+use crate::answer::Moved;
+use crate::batch::move_runs;
+use crate::call_error::CallError;
+use crate::listing::migrate_list;
+use crate::permission::{acted_on, owner_of};
+use nm_engine::{Machine, ProcessInfo};
+use nm_policy::pairs;
+use nm_runs::cut_within;
+use nm_types::{Errno, NodeMask, Pid};
+use std::alloc::Allocator;
+
+/// What a caller moves.
+#[derive(Clone, Copy, Debug)]
+pub(crate) struct Migration {
+    /// The process whose pages go.
+    pub(crate) pid: Pid,
+    /// Whether pages go though other processes see them.
+    pub(crate) all: bool,
+    /// The nodes to which they go: those that were named, are online, and may be used by the process.
+    pub(crate) targets: NodeMask,
+}
+
+/// Whether a node of a set is not below a count.
+fn names_no_node<A: Allocator + Copy + Send + Sync>(machine: &Machine<A>, nodes: NodeMask) -> bool
+    ensures { result ≡ names_no_node machine.now nodes }
+{
+    let count = machine.node_count();
+    let mut rest = nodes;
+    while let Some(node) = rest.take_first() {
+        if node.index() >= count {
+            return true;
+        }
+    }
+    false
+}
+
+/// The nodes to which the pages of a process may go, of those that a caller names. EPERM (one that the process may not
+/// use, without privilege); EINVAL (none that is online and may be used).
+#[tactic(auto, using(crate::proofs::Reach::beyond_is, crate::proofs::Reach::usable_is, crate::proofs::Reach::none_is))]
+fn targets_of<A: Allocator + Copy + Send + Sync>(
+    machine: &Machine<A>,
+    privileged: bool,
+    new: NodeMask,
+    asked: ProcessInfo,
+) -> Result<NodeMask, Errno>
+    ensures exact { Checks result (new_refusal machine.now privileged new (Some asked)) }
+    ensures targets { IfOk result (λ targets. targets ≡ usable machine.now asked.allowed new) }
+{
+    if !new.is_subset(asked.allowed) && !privileged {
+        return Err(Errno::Eperm);
+    }
+    let targets = new
+        .intersection(machine.online())
+        .intersection(asked.allowed);
+    if targets.is_empty() {
+        return Err(Errno::Einval);
+    }
+    Ok(targets)
+}
+
+/// What a caller may move of a process, where pid 0 is the caller, to some nodes. ESRCH (no such caller); EINVAL (a node
+/// that is none of the machine); ESRCH (no such process); EPERM (a process of another user, without privilege); EPERM (a
+/// new node that the process may not use, without privilege); EINVAL (no new node that is online and may be used).
+pub(crate) fn migration_of<A: Allocator + Copy + Send + Sync>(
+    machine: &Machine<A>,
+    caller: Pid,
+    pid: Pid,
+    old: NodeMask,
+    new: NodeMask,
+) -> Result<Migration, Errno>
+    ensures exact { Checks result (migrate_refusal machine.now caller pid old new) }
+    ensures list { IfOk result (λ m. migration machine.now caller pid old new ≡ migrate_list machine.now m.pid m.all (pairs old m.targets)) }
+    ensures there { IfOk result (λ m. IsSome (info_at machine.now m.pid)) }
+    ensures nodes { IfOk result (λ m. AllByRecursion (λ n. n < node_count (machine.now.layout)) m.targets) }
+{
+    let Some(asking) = machine.process(caller) else {
+        return Err(Errno::Esrch);
+    };
+    if names_no_node(machine, old) || names_no_node(machine, new) {
+        return Err(Errno::Einval);
+    }
+    let owner = owner_of(caller, pid);
+    let privileged = asking.privileged;
+    let asked = acted_on(asking, machine.process(owner))?;
+    let targets = targets_of(machine, privileged, new, asked)?;
+    Ok(Migration {
+        pid: owner,
+        all: privileged,
+        targets,
+    })
+}
+
+/// Moves the pages of a process from nodes to nodes, run after run, none of more entries than the limit. The list of
+/// pages and all that is asked for is made before the first run starts. An error means that the host refused memory after
+/// so many runs.
+#[tactic(auto, using(crate::proofs::Trails::first_state))]
+pub(crate) fn migrate<A: Allocator + Copy + Send + Sync>(
+    alloc: A,
+    machine: &mut Machine<A>,
+    what: Migration,
+    old: NodeMask,
+    limit: usize,
+) -> Result<Moved<A>, CallError>
+    requires some { 0 < limit }
+    requires there { IsSome (info_at machine.old what.pid) }
+    requires nodes { AllByRecursion (λ n. n < node_count machine.old.layout) what.targets }
+    ensures { Moves result machine.old machine.new (cut_within limit (migrate_list machine.old what.pid what.all (pairs old what.targets))) }
+{
+    let pairs = pairs(alloc, old, what.targets)?;
+    let requests = migrate_list(alloc, machine, what.pid, what.all, pairs.as_slice())?;
+    let runs = cut_within(alloc, requests.as_slice(), limit)?;
+    let statuses = Vec::with_capacity(alloc, requests.len())?;
+    move_runs(machine, runs.as_slice(), statuses)
+}

@@ -1,0 +1,25 @@
+//! The nodes of a machine.
+
+ghost use Rattle.std.specs.Prelude.{◌≡◌, []};
+ghost use Rattle.nm_engine.specs.Sound.{IsSound};
+
+use crate::inner::Inner;
+use nm_types::{Geometry, NodeMask};
+use std::alloc::Allocator;
+
+impl<A: Allocator + Copy> Inner<A> {
+    /// The nodes, and the frames that each owns.
+    pub(crate) fn geometry(&self) -> &Geometry<A>
+        ensures geometry { result.now ≡ self.now.state.layout }
+        ensures sound { self.now.left ≡ [] → IsSound self.now.state }
+    {
+        self.frames.geometry()
+    }
+
+    /// The nodes that are online.
+    pub(crate) fn online(&self) -> NodeMask
+        ensures { result ≡ self.now.state.online }
+    {
+        self.online
+    }
+}
