@@ -5,3 +5,6 @@ pub mod Requests
 pub mod Outcomes
 pub mod Trails
 mod Refusals
+pub mod Texts
+pub mod Stretched
+pub mod Tallies

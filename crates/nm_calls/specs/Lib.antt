@@ -1,5 +1,7 @@
 pub mod Calls
 pub mod Errors
+pub mod Maps
+pub mod Tallied
 pub mod Entries
 pub mod Permission
 pub mod Batch

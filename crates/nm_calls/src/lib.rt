@@ -7,11 +7,14 @@ mod call;
 mod call_error;
 mod calling;
 pub mod laws;
+mod maps;
 mod permission;
 mod system;
+mod words;
 
 pub use answer::{Answer, Mapped, Moved};
 pub use call::{Attachment, Batch, Call, MoveRequest, NewArea, NewProcess, Question};
 pub use call_error::CallError;
 pub use nm_engine::Totals;
 pub use system::System;
+pub use words::{push_address, push_number};
