@@ -1,6 +1,6 @@
 //! The policy of a range of page numbers of a process.
 
-ghost use Rattle.std.specs.Prelude.{◌≡◌, ◌≤◌, ◌<◌, ◌+◌, ◌*◌, ◌/◌, ◌%◌, ◌^◌, ℕ, None, Some, IfSome, IfNone, IfOk, OnOk, OnErr};
+ghost use Rattle.std.specs.Prelude.{◌≡◌, ◌≤◌, ◌<◌, ◌+◌, ◌*◌, ◌/◌, ◌%◌, ◌^◌, ℕ, None, Some, IfSome, IfNone, IfOk, IfErr, OnOk, OnErr};
 ghost use Rattle.std.specs.List.{AllByRecursion, flat_map};
 ghost use Rattle.std.specs.List.Sorted.{IsStrictlySortedBy};
 ghost use Rattle.std.specs.Map.{keys_of};
@@ -146,6 +146,20 @@ fn whole_pages(addr: u64, len: u64) -> Option<(Vpn, u64)>
 }
 
 impl<A: Allocator + Copy> Areas<A> {
+    /// Whether `split_policy` would set the policy of a range: EINVAL and then EFAULT as there. It takes no memory.
+    pub fn check_policy(&self, pid: Pid, addr: u64, len: u64) -> Result<(), Errno>
+        ensures ok { OnOk result (policy_refusal self.now pid addr len ≡ None) }
+        ensures err { IfErr result (λ e. policy_refusal self.now pid addr len ≡ Some e) }
+    {
+        let Some((first, count)) = whole_pages(addr, len) else {
+            return Err(Errno::Einval);
+        };
+        if !self.table.is_mapped(pid, first, count) {
+            return Err(Errno::Efault);
+        }
+        Ok(())
+    }
+
     /// Sets the policy of the whole pages of `len` bytes from an address on, and of no others: the areas of the process
     /// are split at both ends, and those between have the policy. Areas are never merged.
     ///

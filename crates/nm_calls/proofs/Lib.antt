@@ -8,3 +8,4 @@ mod Refusals
 pub mod Texts
 pub mod Stretched
 pub mod Tallies
+pub mod Listed

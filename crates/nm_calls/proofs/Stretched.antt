@@ -1,12 +1,12 @@
 -- Stretches of consecutive nodes, one after another.
-use Rattle.std.proofs.Common.{◌≡◌, ℕ, suc, zero, ◌+◌, Bool, true, false, cond, List, [], ◌∷◌, ◌++◌, map, refl, sym, ap, ◌∙◌, append_assoc, eq-eqb, arith}
+use Rattle.std.proofs.Common.{◌≡◌, ℕ, suc, zero, ◌+◌, true, false, cond, List, [], ◌∷◌, ◌++◌, refl, sym, ap, ◌∙◌, append_assoc, eq-eqb, arith}
 use Rattle.std.proofs.lemmas.Bool.{ne_eqb}
 use Rattle.std.proofs.lemmas.List.{append-nil}
 use Rattle.std.specs.Prelude.{◌==◌, Option, Some, None, slice_get, drop}
 use Rattle.nm_types.proofs.Cases.{some_is}
 use Rattle.std.specs.List.{join_with_byte, flat_map}
 use Rattle.nm_types.specs.Nodes.{up_from}
-use Rattle.nm_calls.specs.Maps.{node_in_front, stretches, stretch_text, set_text}
+use Rattle.nm_calls.specs.Maps.{node_in_front, stretches}
 
 -- stretches of which the first begins with this node
 abbrev pub extended : ℕ → List (ℕ × ℕ) → List (ℕ × ℕ)

@@ -10,3 +10,7 @@ pub mod Outcome
 pub mod Does
 pub mod Views
 pub mod Laws
+pub mod Sets
+pub mod Passes
+pub mod Binding
+pub mod BindingRows

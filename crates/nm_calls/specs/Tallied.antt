@@ -1,5 +1,5 @@
 -- What is counted of the pages in an area, as text.
-use Rattle.std.specs.Prelude.{ℕ, Bool, List, [], ◌∷◌, ◌++◌, codes, decimal, slice_index, ◌==◌, if◌then◌else◌}
+use Rattle.std.specs.Prelude.{ℕ, Bool, List, [], ◌++◌, codes, decimal, slice_index, ◌==◌, if◌then◌else◌}
 use Rattle.std.specs.List.{flat_map}
 use Rattle.nm_types.specs.Nodes.{up_from}
 use Rattle.nm_calls.specs.declared.maps.Tally.{Tally}

@@ -1,6 +1,8 @@
 //! What holds of every call, as the contracts of functions that do nothing.
 
 ghost use Rattle.nm_calls.specs.Laws.{RefusalsChangeNothing, TrailIsAfterRuns};
+ghost use Rattle.nm_calls.specs.Binding.{EachPageIsListedOnce};
+ghost use Rattle.nm_calls.specs.BindingRows.{PinnedPageIsTold, StrictAloneRefuses, StayingIsNoError, LinesAreSplit, NewPagesTakeTurns, BoundPagesGoNowhereElse, SecondPassTakesTheRest, FollowersStay, StrayPagesTakeTurns, BindingsAreRefused, LastByteCounts, TurnsGoByIndex, PageIsListedOnce, SharedPagesMoveWithAll, SetsAsText, BothProcessesAreCounted, LastPage};
 
 /// A call that is refused leaves the system as it was.
 pub fn refusals_change_nothing()
@@ -10,4 +12,34 @@ pub fn refusals_change_nothing()
 /// The states on the way of a call, which is what a host without memory may leave, are those after its first runs.
 pub fn trail_is_after_runs()
     ensures { TrailIsAfterRuns }
+{}
+
+/// Worked examples of mbind(2), by its definition.
+pub fn policies_move_pages()
+    ensures pinned_page_is_told { PinnedPageIsTold }
+    ensures strict_alone_refuses { StrictAloneRefuses }
+    ensures staying_is_no_error { StayingIsNoError }
+    ensures lines_are_split { LinesAreSplit }
+    ensures new_pages_take_turns { NewPagesTakeTurns }
+    ensures bound_pages_go_nowhere_else { BoundPagesGoNowhereElse }
+    ensures second_pass_takes_the_rest { SecondPassTakesTheRest }
+    ensures followers_stay { FollowersStay }
+    ensures stray_pages_take_turns { StrayPagesTakeTurns }
+    ensures bindings_are_refused { BindingsAreRefused }
+    ensures last_byte_counts { LastByteCounts }
+    ensures turns_go_by_index { TurnsGoByIndex }
+    ensures page_is_listed_once { PageIsListedOnce }
+    ensures shared_pages_move_with_all { SharedPagesMoveWithAll }
+{}
+
+/// mbind(2) lists no page twice.
+pub fn each_page_is_listed_once()
+    ensures { EachPageIsListedOnce }
+{}
+
+/// Worked examples of areas as text.
+pub fn areas_are_told()
+    ensures sets_as_text { SetsAsText }
+    ensures both_processes_are_counted { BothProcessesAreCounted }
+    ensures last_page { LastPage }
 {}

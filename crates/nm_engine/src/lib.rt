@@ -4,6 +4,7 @@
 mod asking;
 mod audit;
 mod calls;
+mod checking;
 pub mod laws;
 mod letting;
 mod locating;

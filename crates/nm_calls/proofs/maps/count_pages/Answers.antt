@@ -1,4 +1,4 @@
-use Rattle.std.proofs.Common.{◌≡◌, ◌+◌, ◌<◌, ◌≤◌, ℕ, subst, slice_set, slice_index_or, ap, sym, ◌∙◌, ◌∷◌, arith}
+use Rattle.std.proofs.Common.{◌+◌, ◌<◌, ℕ, subst, slice_set, slice_index_or, ap, sym, ◌∙◌, ◌∷◌, arith}
 use Rattle.nm_engine.specs.Locating.{located_between}
 use Rattle.std.specs.Ordering.{nat_cmp, ord_max}
 use Rattle.nm_calls.specs.Maps.{pages_of}
