@@ -147,6 +147,17 @@ def sparse_touches(size):
     return trace([16000], steps)
 
 
+def numa_maps(pid=1):
+    return '{"op":"numa_maps","pid":%d}' % pid
+
+
+def told_pages(size):
+    """One area of 2^34 pages, of which so many thousand are touched, far from one another, and told 50 times."""
+    steps = [map_step(0, 2**34)]
+    steps += [write(PAGE * (number * 7919 * 1021 % 2**34)) for number in range(size * 1000)]
+    return trace([8192, 8192], steps + [numa_maps()] * 50)
+
+
 def many_areas(size):
     """So many thousand areas of one page, each touched when it is made."""
     steps = []
@@ -282,6 +293,7 @@ KINDS = {
     one_page: 8,
     long_batches: 2,
     sparse_touches: 16,
+    told_pages: 2,
     many_areas: 7,
     many_runs: 4,
     shared_moves: 50,

@@ -3,7 +3,7 @@
 ghost use Rattle.std.specs.List.{AllByRecursion, flat_map};
 ghost use Rattle.std.specs.List.Sorted.{IsStrictlySortedBy};
 ghost use Rattle.std.specs.Map.{keys_of};
-ghost use Rattle.std.specs.Prelude.{IfNone, IfSome, None, OnErr, OnOk, Some, false, true, ℕ, ◌%◌, ◌*◌, ◌+◌, ◌/◌, ◌<◌, ◌^◌, ◌≡◌, ◌≤◌};
+ghost use Rattle.std.specs.Prelude.{IfNone, IfSome, None, OnErr, OnOk, Some, false, true, ℕ, ◌%◌, ◌*◌, ◌+◌, ◌/◌, ◌<◌, ◌^◌, ◌≡◌, ◌≤◌, IfErr};
 ghost use Rattle.nm_types.specs.Does.{Makes};
 ghost use Rattle.nm_areas.specs.Effect.{with_policy};
 ghost use Rattle.nm_areas.specs.Mapped.{AreasAreApart, EndsLow, HasIndices, IsSomePages};
@@ -22,6 +22,20 @@ use std::alloc::{AllocError, Allocator};
 use std::collections::BTreeMap;
 
 impl<A: Allocator + Copy> Areas<A> {
+    /// Whether `split_policy` would set the policy of a range: EINVAL and then EFAULT as there. It takes no memory.
+    pub fn check_policy(&self, pid: Pid, addr: u64, len: u64) -> Result<(), Errno>
+        ensures ok { OnOk result (policy_refusal self.now pid addr len ≡ None) }
+        ensures err { IfErr result (λ e. policy_refusal self.now pid addr len ≡ Some e) }
+    {
+        let Some((first, count)) = whole_pages(addr, len) else {
+            return Err(Errno::Einval);
+        };
+        if !self.table.is_mapped(pid, first, count) {
+            return Err(Errno::Efault);
+        }
+        Ok(())
+    }
+
     /// Sets the policy of the whole pages of `len` bytes from an address on, and of no others: the areas of the process
     /// are split at both ends, and those between have the policy. Areas are never merged.
     ///

@@ -11,3 +11,7 @@ pub mod Pages
 pub mod Lists
 pub mod Differ
 mod Refusals
+pub mod Texts
+pub mod Stretched
+pub mod Tallies
+pub mod Listed

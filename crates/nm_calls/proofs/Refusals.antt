@@ -6,7 +6,7 @@ use Rattle.nm_engine.specs.Touch as engine
 use Rattle.nm_engine.specs.Touch.{read, write}
 use Rattle.nm_engine.specs.Run.{Ran}
 use Rattle.nm_engine.specs.Batch.{runs_from}
-use Rattle.nm_calls.specs.Calls.{Call, Spawn, MapPages, Attach, Unmap, Exit, Pin, Unpin, ReadBytes, WriteBytes, MovePages, MigratePages, Query, FreeList, Pagemap, Vmstat, Answer, Refusal, Done, Held, NewSegment, TheBytes, Statuses, Failed, Frames, Entries, TheTotals}
+use Rattle.nm_calls.specs.Calls.{Call, Spawn, MapPages, Attach, Unmap, Exit, Pin, Unpin, ReadBytes, WriteBytes, MovePages, MigratePages, Query, FreeList, Pagemap, Vmstat, NumaMaps, Answer, Refusal, Done, Held, NewSegment, TheBytes, Statuses, Failed, Frames, Entries, TheTotals, Lines}
 use Rattle.nm_calls.specs.Systems.{SystemState}
 use Rattle.nm_calls.specs.Outcome.{Outcome, refusal_in, shown, refused, runs_asked, ended, unless}
 use Rattle.nm_calls.specs.Laws.{RefusalsChangeNothing}
@@ -22,6 +22,7 @@ is_refusal (Failed failed) = false
 is_refusal (Frames frames) = false
 is_refusal (Entries entries) = false
 is_refusal (TheTotals moved failed) = false
+is_refusal (Lines lines) = false
 
 some_none : (e : Errno) → Some e ≡ None → ⊥
 some_none e h = true≢false (ap (λ (o : Option Errno). elim o [ Some d ↦ true | None ↦ false ]) h)
@@ -51,6 +52,7 @@ call_answers y (Query caller pid pages flags) made h = refl
 call_answers y (FreeList node) made h = refl
 call_answers y (Pagemap pid) made h = refl
 call_answers y Vmstat made h = refl
+call_answers y (NumaMaps pid) made h = refl
 
 by_refusal : (y : SystemState) (call : Call) (made : Ran) (o : Option Errno) (e : Errno) → refused y.state call ≡ o → (unless o y (ended y call made)).answer ≡ Refusal e → (unless o y (ended y call made)).system ≡ y
 by_refusal y call made (Some d) e r h = refl

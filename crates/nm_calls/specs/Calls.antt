@@ -19,6 +19,7 @@ pub data Call : Type 0 where
   FreeList : (node : ℕ) → Call
   Pagemap : (pid : ℕ) → Call
   Vmstat : Call
+  NumaMaps : (pid : ℕ) → Call
 
 -- the answers, by their kind
 pub data Answer : Type 0 where
@@ -38,3 +39,5 @@ pub data Answer : Type 0 where
   Entries : List (ℕ × Option ℕ) → Answer
   -- how many pages moved, and how many entries failed
   TheTotals : (moved failed : ℕ) → Answer
+  -- lines of text
+  Lines : List (List ℕ) → Answer

@@ -1,5 +1,7 @@
 pub mod Calls
 pub mod Errors
+pub mod Maps
+pub mod Tallied
 pub mod Entries
 pub mod Permission
 pub mod Batch
@@ -14,3 +16,6 @@ pub mod Views
 pub mod Laws
 pub mod MigrateRows
 pub mod MigrateLaws
+pub mod Passes
+pub mod Binding
+pub mod BindingRows

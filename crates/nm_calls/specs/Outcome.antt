@@ -12,8 +12,9 @@ use Rattle.nm_engine.specs.Run.{Ran, run}
 use Rattle.nm_engine.specs.Batch.{runs_from, answer_of}
 use Rattle.nm_engine.specs.Entries.{entries_of}
 use Rattle.nm_engine.specs.Asking.{node_status}
-use Rattle.nm_calls.specs.Calls.{Call, Spawn, MapPages, Attach, Unmap, Exit, Pin, Unpin, ReadBytes, WriteBytes, MovePages, MigratePages, Query, FreeList, Pagemap, Vmstat, Answer, Refusal, Done, Held, NewSegment, TheBytes, Statuses, Failed, Frames, Entries, TheTotals}
+use Rattle.nm_calls.specs.Calls.{Call, Spawn, MapPages, Attach, Unmap, Exit, Pin, Unpin, ReadBytes, WriteBytes, MovePages, MigratePages, Query, FreeList, Pagemap, Vmstat, NumaMaps, Answer, Refusal, Done, Held, NewSegment, TheBytes, Statuses, Failed, Frames, Entries, TheTotals, Lines}
 use Rattle.nm_calls.specs.Entries.{entries_shown}
+use Rattle.nm_calls.specs.Maps.{numa_maps}
 use Rattle.nm_calls.specs.Permission.{query_refusal, moves_all, owner_of}
 use Rattle.nm_calls.specs.Batch.{move_refusal, requests_of}
 use Rattle.nm_calls.specs.Migrating.{migrate_refusal, migration}
@@ -54,6 +55,7 @@ refused s (Query caller pid pages flags) = query_refusal s caller pid flags
 refused s (FreeList node) = list_refusal s node
 refused s (Pagemap pid) = entries_refusal s pid
 refused s Vmstat = None
+refused s (NumaMaps pid) = entries_refusal s pid
 
 -- the refusals that a call comes to before it asks the host for memory: all but the want of a free frame, for an access
 unfoldable pub refused_at_once : State → Call → Option Errno
@@ -98,6 +100,7 @@ ended y (Query caller pid pages flags) made =
 ended y (FreeList node) made = leaves y (Frames (free_list y.state node)) y.state
 ended y (Pagemap pid) made = leaves y (Entries (entries_shown (entries_of y.state pid))) y.state
 ended y Vmstat made = leaves y (TheTotals y.state.moved y.state.failed) y.state
+ended y (NumaMaps pid) made = leaves y (Lines (numa_maps y.state pid)) y.state
 
 -- the refusal and the system as it was, unless there is no refusal
 abbrev pub unless : Option Errno → SystemState → Outcome → Outcome

@@ -3,8 +3,9 @@ use Rattle.nm_calls.specs.declared.call.Call as values
 use Rattle.nm_calls.specs.declared.call.Call.TheVariants as call
 use Rattle.nm_calls.specs.declared.answer.Answer as values_of_answers
 use Rattle.nm_calls.specs.declared.answer.Answer.TheVariants as answer
-use Rattle.nm_calls.specs.Calls.{Call, Spawn, MapPages, Attach, Unmap, Exit, Pin, Unpin, ReadBytes, WriteBytes, MovePages, MigratePages, Query, FreeList, Pagemap, Vmstat, Answer, Done, NewSegment, TheBytes, Statuses, Failed, Frames, Entries, TheTotals}
+use Rattle.nm_calls.specs.Calls.{Call, Spawn, MapPages, Attach, Unmap, Exit, Pin, Unpin, ReadBytes, WriteBytes, MovePages, MigratePages, Query, FreeList, Pagemap, Vmstat, NumaMaps, Answer, Done, NewSegment, TheBytes, Statuses, Failed, Frames, Entries, TheTotals, Lines}
 use Rattle.nm_calls.specs.Entries.{entries_mapped}
+use Rattle.nm_calls.specs.Maps.{lines_shown}
 
 -- what a call asks
 abbrev pub call_of : {A : Type 0} → values.Call A → Call
@@ -24,6 +25,7 @@ call_of (call.Query question) = Query question.caller question.pid question.page
 call_of (call.FreeList node) = FreeList node
 call_of (call.Pagemap pid) = Pagemap pid
 call_of call.Vmstat = Vmstat
+call_of (call.NumaMaps pid) = NumaMaps pid
 
 -- what a call answers
 abbrev pub answer_of : {A : Type 0} → values_of_answers.Answer A → Answer
@@ -35,3 +37,4 @@ answer_of (answer.Failed failed) = Failed failed
 answer_of (answer.Frames frames) = Frames frames.items
 answer_of (answer.Entries entries) = Entries (entries_mapped entries.items)
 answer_of (answer.Totals totals) = TheTotals totals.moved totals.failed
+answer_of (answer.Lines lines) = Lines (lines_shown lines.items)

@@ -41,4 +41,6 @@ pub enum Answer<A: Allocator + Copy + Send + Sync> {
     Entries(Vec<Mapped, A>),
     /// How many pages moved and how many entries failed so far.
     Totals(Totals),
+    /// Lines of text, without line feeds.
+    Lines(Vec<String<A>, A>),
 }

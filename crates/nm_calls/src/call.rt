@@ -154,4 +154,8 @@ pub enum Call<A: Allocator + Copy + Send + Sync> {
     },
     /// Asks how many pages moved and how many entries failed so far.
     Vmstat,
+    /// Asks for the areas of a process as text.
+    NumaMaps {
+        pid: Pid,
+    },
 }

@@ -159,6 +159,7 @@ impl<A: Allocator + Copy + Send + Sync> System<A> {
             Call::FreeList { node } => Ok(Answer::Frames(self.free_list(*node)?)),
             Call::Pagemap { pid } => Ok(Answer::Entries(self.pagemap(*pid)?)),
             Call::Vmstat => Ok(Answer::Totals(self.vmstat())),
+            Call::NumaMaps { pid } => Ok(Answer::Lines(self.numa_maps(*pid)?)),
         }
     }
 }

@@ -3,6 +3,8 @@
 ghost use Rattle.nm_calls.specs.Laws.{RefusalsChangeNothing, TrailIsAfterRuns};
 ghost use Rattle.nm_calls.specs.MigrateLaws.{EachPageIsListedOnce, RunsGoToNodesOnline};
 ghost use Rattle.nm_calls.specs.MigrateRows.{EachPageGoesOnce, HalfWay, TwoOfFourGo, SharedPageGoesByPrivilege, MigrationsAreRefused, NothingMigrates, SizesOfWhatIsKept, PageIsListedOnce, RunsHaveALimit};
+ghost use Rattle.nm_calls.specs.Binding.{NoStrayIsListedTwice};
+ghost use Rattle.nm_calls.specs.BindingRows.{PinnedPageIsTold, StrictAloneRefuses, StayingIsNoError, LinesAreSplit, NewPagesTakeTurns, BoundPagesGoNowhereElse, SecondPassTakesTheRest, FollowersStay, StrayPagesTakeTurns, BindingsAreRefused, LastByteCounts, TurnsGoByIndex, StrayIsListedOnce, SharedPagesMoveWithAll, SetsAsText, BothProcessesAreCounted, LastPage};
 
 /// A call that is refused leaves the system as it was.
 pub fn refusals_change_nothing()
@@ -31,4 +33,34 @@ pub fn pages_migrate()
     ensures sizes_of_what_is_kept { SizesOfWhatIsKept }
     ensures page_is_listed_once { PageIsListedOnce }
     ensures runs_have_a_limit { RunsHaveALimit }
+{}
+
+/// Worked examples of mbind(2), by its definition.
+pub fn policies_move_pages()
+    ensures pinned_page_is_told { PinnedPageIsTold }
+    ensures strict_alone_refuses { StrictAloneRefuses }
+    ensures staying_is_no_error { StayingIsNoError }
+    ensures lines_are_split { LinesAreSplit }
+    ensures new_pages_take_turns { NewPagesTakeTurns }
+    ensures bound_pages_go_nowhere_else { BoundPagesGoNowhereElse }
+    ensures second_pass_takes_the_rest { SecondPassTakesTheRest }
+    ensures followers_stay { FollowersStay }
+    ensures stray_pages_take_turns { StrayPagesTakeTurns }
+    ensures bindings_are_refused { BindingsAreRefused }
+    ensures last_byte_counts { LastByteCounts }
+    ensures turns_go_by_index { TurnsGoByIndex }
+    ensures page_is_listed_once { StrayIsListedOnce }
+    ensures shared_pages_move_with_all { SharedPagesMoveWithAll }
+{}
+
+/// mbind(2) lists no page twice.
+pub fn each_page_is_listed_once()
+    ensures { NoStrayIsListedTwice }
+{}
+
+/// Worked examples of areas as text.
+pub fn areas_are_told()
+    ensures sets_as_text { SetsAsText }
+    ensures both_processes_are_counted { BothProcessesAreCounted }
+    ensures last_page { LastPage }
 {}

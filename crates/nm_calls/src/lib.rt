@@ -8,9 +8,11 @@ mod call_error;
 mod calling;
 pub mod laws;
 mod listing;
+mod maps;
 mod migrating;
 mod permission;
 mod system;
+mod words;
 
 pub use answer::{Answer, Mapped, Moved};
 pub use call::{
@@ -19,3 +21,4 @@ pub use call::{
 pub use call_error::CallError;
 pub use nm_engine::Totals;
 pub use system::System;
+pub use words::{push_address, push_number};

@@ -3,8 +3,9 @@
 ghost use Rattle.std.specs.Prelude.{◌≡◌, ◌<◌, ◌≤◌, true, IfOk, length};
 ghost use Rattle.nm_engine.specs.Audited.{audited};
 ghost use Rattle.nm_engine.specs.Sound.{IsSound};
-ghost use Rattle.nm_calls.specs.Calls.{Spawn, MapPages, Attach, Unmap, Exit, Pin, Unpin, ReadBytes, WriteBytes, MovePages, MigratePages, Query, FreeList, Pagemap, Vmstat, Done, NewSegment, TheBytes, Statuses, Failed, Frames, Entries, TheTotals};
+ghost use Rattle.nm_calls.specs.Calls.{Spawn, MapPages, Attach, Unmap, Exit, Pin, Unpin, ReadBytes, WriteBytes, MovePages, MigratePages, Query, FreeList, Pagemap, Vmstat, NumaMaps, Done, NewSegment, TheBytes, Statuses, Failed, Frames, Entries, TheTotals, Lines};
 ghost use Rattle.nm_calls.specs.Entries.{entries_mapped, entries_shown};
+ghost use Rattle.nm_calls.specs.Maps.{lines_shown};
 ghost use Rattle.nm_calls.specs.Systems.{default_limit, new_system, system_with};
 ghost use Rattle.nm_calls.specs.Outcome.{statuses_of, outcome};
 ghost use Rattle.nm_calls.specs.Does.{Does, DoesOrRefuses};
@@ -12,6 +13,7 @@ ghost use Rattle.nm_calls.specs.Does.{Does, DoesOrRefuses};
 use crate::answer::{Mapped, Moved};
 use crate::batch::{check_targets, move_batch};
 use crate::call_error::CallError;
+use crate::maps::areas_text;
 use crate::migrating::{migrate, migration_of};
 use crate::permission::{Permit, permit_of};
 use nm_engine::{Entry, Machine, Totals};
@@ -295,6 +297,21 @@ impl<A: Allocator + Copy + Send + Sync> System<A> {
         ensures told { outcome self.now Vmstat ≡ record { answer = TheTotals result.moved result.failed; system = self.now } }
     {
         self.machine.totals()
+    }
+
+    /// The areas of a process as text, by address, a line for each, as `/proc/PID/numa_maps` in numa(7) and no more of it
+    /// than this: the address at which the area begins, as at least eight hexadecimal digits; its policy, with the set
+    /// that was kept, as `default`, `prefer:1`, `bind:0-1,3`, `interleave:0,2` or `local`; and where the process sees
+    /// pages in it, `anon=` and their number, `mapmax=` and the greatest number of processes that see one of them, where
+    /// that is over 1, `N0=`, `N1=` .. and the number on that node, where there are some, and `kernelpagesize_kB=4`. The
+    /// page of zeros is no page. Refusal: ESRCH.
+    #[tactic(auto, unfolding(crate::specs::Outcome::refused, crate::specs::Outcome::refused_at_once, crate::specs::Outcome::ended, crate::specs::Outcome::runs_asked), using(crate::proofs::Outcomes::answers, crate::proofs::Outcomes::refuses))]
+    pub fn numa_maps(&self, pid: Pid) -> Result<Vec<String<A>, A>, CallError>
+        ensures { Does (λ lines. Lines (lines_shown lines.items)) result self.now self.now (NumaMaps pid) }
+    {
+        let areas = self.machine.lines(pid)?;
+        prove!(self.machine.node_count() <= 64);
+        Ok(areas_text(self.alloc, &self.machine, pid, areas.as_slice())?)
     }
 
     /// The free frames of a node, the front first. Refusal: EINVAL (no such node).

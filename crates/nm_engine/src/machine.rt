@@ -14,6 +14,7 @@ ghost use Rattle.nm_engine.specs.Refused.{spawn_refusal, map_refusal, attach_ref
 ghost use Rattle.nm_engine.specs.Policing.{policy_refusal, set_policy};
 ghost use Rattle.nm_areas.specs.Lines.{lines_of};
 ghost use Rattle.nm_runs.specs.Seen.{users};
+ghost use Rattle.nm_runs.specs.Targets.{Checks};
 ghost use Rattle.nm_engine.specs.Entries.{entries_of};
 ghost use Rattle.nm_engine.specs.Locating.{located_between};
 ghost use Rattle.nm_engine.specs.Audited.{audited};
@@ -211,6 +212,13 @@ impl<A: Allocator + Copy + Send + Sync> Machine<A> {
         ensures memory { AsksLast result (exit_refusal self.old pid) }
     {
         self.inner.exit(pid)
+    }
+
+    /// Whether `set_policy` would set a policy: ESRCH, EINVAL and EFAULT as there. It takes no memory.
+    pub fn check_policy(&self, pid: Pid, addr: u64, len: u64) -> Result<(), Errno>
+        ensures { Checks result (policy_refusal self.now pid addr len) }
+    {
+        self.inner.check_policy(pid, addr, len)
     }
 
     /// Sets where the new pages of `len` bytes from an address on are placed, rounded up to whole pages, as `mbind(2)`

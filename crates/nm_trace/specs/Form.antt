@@ -11,7 +11,7 @@ use Rattle.nm_types.specs.Layout.{Layout}
 use Rattle.nm_types.specs.Refusal.{refusal}
 use Rattle.nm_types.specs.declared.geometry.GeometryError.{GeometryError}
 use Rattle.nm_calls.specs.Systems.{default_limit}
-use Rattle.nm_calls.specs.Calls.{Call, Spawn, MapPages, Attach, Unmap, Exit, Pin, Unpin, ReadBytes, WriteBytes, MovePages, MigratePages, Query, FreeList, Pagemap, Vmstat}
+use Rattle.nm_calls.specs.Calls.{Call, Spawn, MapPages, Attach, Unmap, Exit, Pin, Unpin, ReadBytes, WriteBytes, MovePages, MigratePages, Query, FreeList, Pagemap, Vmstat, NumaMaps}
 
 infixl 10 ◌>>=◌
 abbrev pub ◌>>=◌ : {A B : Type 0} → Option A → (A → Option B) → Option B
@@ -233,6 +233,11 @@ pagemap_of d = do
 unfoldable pub vmstat_of : Data → Option Call
 vmstat_of d = Some Vmstat
 
+unfoldable pub numa_maps_of : Data → Option Call
+numa_maps_of d = do
+  pid ← small_at (codes "pid") d
+  Some (NumaMaps pid)
+
 -- the step of this name
 unfoldable pub named : List ℕ → Data → Option Call
 named op d =
@@ -251,7 +256,8 @@ named op d =
     else (if bytes_eq op (codes "free") then free_of d
     else (if bytes_eq op (codes "pagemap") then pagemap_of d
     else (if bytes_eq op (codes "vmstat") then vmstat_of d
-    else None))))))))))))))
+    else (if bytes_eq op (codes "numa_maps") then numa_maps_of d
+    else None)))))))))))))))
 
 unfoldable pub step_of : Data → Option Call
 step_of d = do

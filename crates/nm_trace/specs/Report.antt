@@ -1,11 +1,12 @@
 -- The report on calls, and the state after them.
-use Rattle.std.specs.Prelude.{ℕ, ℤ, ◌+◌, ◌-◌, List, [], ◌∷◌, ◌++◌, length, replicate, false, Option, Some, None, codes, decimal}
-use Rattle.std.specs.Fmt.{signed_decimal, digits}
+use Rattle.std.specs.Prelude.{ℕ, ℤ, ◌+◌, List, [], ◌∷◌, ◌++◌, length, Option, Some, None, codes, decimal}
+use Rattle.std.specs.Fmt.{signed_decimal}
 use Rattle.std.specs.List.{flat_map}
 use Rattle.hex.specs.Hex.{encode_lower}
 use Rattle.nm_types.specs.Names.{name_of}
+use Rattle.nm_calls.specs.Maps.{address_text}
 use Rattle.nm_calls.specs.Systems.{SystemState}
-use Rattle.nm_calls.specs.Calls.{Call, Spawn, MapPages, Attach, Unmap, Exit, Pin, Unpin, ReadBytes, WriteBytes, MovePages, MigratePages, Query, FreeList, Pagemap, Vmstat, Answer, Refusal, Done, Held, NewSegment, TheBytes, Statuses, Failed, Frames, Entries, TheTotals}
+use Rattle.nm_calls.specs.Calls.{Call, Spawn, MapPages, Attach, Unmap, Exit, Pin, Unpin, ReadBytes, WriteBytes, MovePages, MigratePages, Query, FreeList, Pagemap, Vmstat, NumaMaps, Answer, Refusal, Done, Held, NewSegment, TheBytes, Statuses, Failed, Frames, Entries, TheTotals, Lines}
 use Rattle.nm_calls.specs.Outcome.{Outcome, outcome}
 
 -- the word of a call
@@ -25,6 +26,7 @@ word_of (Query caller pid pages flags) = codes "query"
 word_of (FreeList node) = codes "free"
 word_of (Pagemap pid) = codes "pagemap"
 word_of Vmstat = codes "vmstat"
+word_of (NumaMaps pid) = codes "numa_maps"
 
 -- numbers, each after a space
 abbrev pub listed : List ℕ → List ℕ
@@ -32,14 +34,6 @@ listed ns = flat_map (λ n. 32 ∷ decimal n) ns
 
 abbrev pub signed_listed : List ℤ → List ℕ
 signed_listed zs = flat_map (λ z. 32 ∷ signed_decimal z) zs
-
--- digits, after as many zeros as bring them to a width
-abbrev pub zero_filled : ℕ → List ℕ → List ℕ
-zero_filled width ds = replicate (width - length ds) 48 ++ ds
-
--- the address at which a page begins, as at least eight hexadecimal digits: those of its number, and three zeros
-abbrev pub address_text : ℕ → List ℕ
-address_text vpn = zero_filled 5 (digits 16 false vpn) ++ codes "000"
 
 abbrev pub frame_text : Option ℕ → List ℕ
 frame_text None = codes "zero"
@@ -54,6 +48,10 @@ abbrev pub totals_text : ℕ → ℕ → List ℕ
 totals_text moved failed =
     (codes "pgmigrate_success " ++ decimal moved) ++ (codes " pgmigrate_fail " ++ decimal failed)
 
+-- lines, each after a line feed
+abbrev pub lines_behind : List (List ℕ) → List ℕ
+lines_behind lines = flat_map (λ line. 10 ∷ line) lines
+
 -- an answer in words
 unfoldable pub answer_text : Answer → List ℕ
 answer_text (Refusal errno) = codes "error " ++ name_of errno
@@ -66,8 +64,9 @@ answer_text (Failed failed) = decimal failed
 answer_text (Frames frames) = decimal (length frames) ++ codes ":" ++ listed frames
 answer_text (Entries entries) = decimal (length entries) ++ codes ":" ++ flat_map entry_text entries
 answer_text (TheTotals moved failed) = totals_text moved failed
+answer_text (Lines lines) = decimal (length lines) ++ lines_behind lines
 
--- the lines of step k: one, as each call answers one thing
+-- the lines of step k: one, and behind it those of an answer that has lines
 unfoldable pub text_of : ℕ → Call → Answer → List ℕ
 text_of k call answer = decimal k ++ codes " " ++ word_of call ++ codes " " ++ answer_text answer ++ codes "\n"
 

@@ -194,6 +194,15 @@ fn vmstat<A: Allocator + Copy + Send + Sync>(value: &Value) -> Result<Call<A>, S
     Ok(Call::Vmstat)
 }
 
+#[tactic(auto, unfolding(crate::specs::Form::numa_maps_of))]
+fn numa_maps<A: Allocator + Copy + Send + Sync>(value: &Value) -> Result<Call<A>, StepError>
+    ensures { Gives call_of result (form.numa_maps_of (view value.now)) }
+{
+    Ok(Call::NumaMaps {
+        pid: Pid::new(small(value, "pid")?),
+    })
+}
+
 #[tactic(auto, unfolding(crate::specs::Form::named))]
 fn named<A: Allocator + Copy + Send + Sync>(
     alloc: A,
@@ -218,6 +227,7 @@ fn named<A: Allocator + Copy + Send + Sync>(
         "free" => free(value),
         "pagemap" => pagemap(value),
         "vmstat" => vmstat(value),
+        "numa_maps" => numa_maps(value),
         _ => Err(StepError::Bad),
     }
 }

@@ -4,11 +4,12 @@ ghost use Rattle.std.specs.Prelude.{◌≡◌, ◌++◌, ◌∷◌, OnOk, IfOk, 
 ghost use Rattle.std.specs.List.{flat_map};
 ghost use Rattle.nm_types.specs.Names.{name_of};
 ghost use Rattle.nm_calls.specs.Calls.{Refusal};
+ghost use Rattle.nm_calls.specs.Maps.{lines_shown};
 ghost use Rattle.nm_calls.specs.Views.{call_of, answer_of};
-ghost use Rattle.nm_trace.specs.Report.{word_of, listed, signed_listed, address_text, entry_text, totals_text, answer_text, text_of};
+ghost use Rattle.nm_trace.specs.Report.{word_of, listed, signed_listed, entry_text, totals_text, lines_behind, answer_text, text_of};
 
-use nm_calls::{Answer, Call, Mapped, Totals};
-use nm_types::{Errno, FrameId, Vpn};
+use nm_calls::{Answer, Call, Mapped, Totals, push_address, push_number};
+use nm_types::{Errno, FrameId};
 use std::alloc::{AllocError, Allocator};
 
 /// The word that names a call.
@@ -31,6 +32,7 @@ fn word<A: Allocator + Copy + Send + Sync>(call: &Call<A>) -> &'static str
         Call::FreeList { .. } => "free",
         Call::Pagemap { .. } => "pagemap",
         Call::Vmstat => "vmstat",
+        Call::NumaMaps { .. } => "numa_maps",
     }
 }
 
@@ -56,15 +58,6 @@ fn push_statuses<A: Allocator>(line: &mut String<A>, statuses: &[i32]) -> Result
         line.push_str(buffer.format(*status))?;
     }
     Ok(())
-}
-
-/// Puts the address at which a page begins.
-#[tactic(auto, using(crate::proofs::Texts::padded_by_zeros))]
-fn push_address<A: Allocator>(line: &mut String<A>, vpn: Vpn) -> Result<(), AllocError>
-    ensures { OnOk result (string_bytes line.new ≡ string_bytes line.old ++ address_text vpn) }
-{
-    let number = vpn.number();
-    write!(line, "{number:05x}000")
 }
 
 /// Puts an entry after a space.
@@ -103,25 +96,23 @@ fn push_count<A: Allocator>(line: &mut String<A>, count: usize) -> Result<(), Al
     line.push_str(":")
 }
 
-/// Puts a word and a number.
-fn push_number<A: Allocator>(
-    line: &mut String<A>,
-    word: &str,
-    number: u64,
-) -> Result<(), AllocError>
-    ensures { OnOk result (string_bytes line.new ≡ string_bytes line.old ++ (word.now ++ decimal number)) }
-{
-    let mut buffer = itoa::Buffer::new();
-    line.push_str(word)?;
-    line.push_str(buffer.format(number))
-}
-
 /// Puts the two totals, each after its name.
 fn push_totals<A: Allocator>(line: &mut String<A>, totals: Totals) -> Result<(), AllocError>
     ensures { OnOk result (string_bytes line.new ≡ string_bytes line.old ++ totals_text totals.moved totals.failed) }
 {
     push_number(line, "pgmigrate_success ", totals.moved)?;
     push_number(line, " pgmigrate_fail ", totals.failed)
+}
+
+/// Puts each line after a line feed.
+fn push_lines<A: Allocator>(text: &mut String<A>, lines: &[String<A>]) -> Result<(), AllocError>
+    ensures { OnOk result (string_bytes text.new ≡ string_bytes text.old ++ lines_behind (lines_shown lines.now)) }
+{
+    for line in lines {
+        text.push_str("\n")?;
+        text.push_str(line.as_str())?;
+    }
+    Ok(())
 }
 
 /// Puts an answer.
@@ -158,6 +149,10 @@ fn push_answer<A: Allocator + Copy + Send + Sync>(
             push_entries(line, entries.as_slice())
         }
         Answer::Totals(totals) => push_totals(line, *totals),
+        Answer::Lines(lines) => {
+            push_number(line, "", lines.len() as u64)?;
+            push_lines(line, lines.as_slice())
+        }
     }
 }
 

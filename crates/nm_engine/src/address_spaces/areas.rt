@@ -1,6 +1,6 @@
 //! Areas of address spaces that come, split and go.
 
-ghost use Rattle.std.specs.Prelude.{ℕ, true, false, ◌≡◌, ◌<◌, ◌≤◌, ◌+◌, ◌/◌, [], length, None, Some, Err, IfOk, OnOk, OnErr};
+ghost use Rattle.std.specs.Prelude.{ℕ, true, false, ◌≡◌, ◌<◌, ◌≤◌, ◌+◌, ◌/◌, [], length, None, Some, Err, IfOk, OnOk, OnErr, IfErr};
 ghost use Rattle.std.specs.List.{AllByRecursion};
 ghost use Rattle.std.specs.Map.{keys_of};
 ghost use Rattle.std.specs.Ordering.{nat_cmp};
@@ -20,7 +20,7 @@ use crate::address_spaces::AddressSpaces;
 use crate::process_table::ProcessTable;
 use nm_rmap::ReverseMap;
 use nm_tables::Entry;
-use nm_types::{FrameId, MachineError, Page, Pid, Policy, Vpn};
+use nm_types::{Errno, FrameId, MachineError, Page, Pid, Policy, Vpn};
 use std::alloc::Allocator;
 
 impl<A: Allocator + Copy> AddressSpaces<A> {
@@ -54,6 +54,14 @@ impl<A: Allocator + Copy> AddressSpaces<A> {
         ensures same { self.new ≡ with_mapped self.old (mapped_of self.new) }
     {
         self.areas.attach(pid, addr, segment, offset, pages)
+    }
+
+    /// Whether the policy of a range of a process may be set, as far as areas go.
+    pub(crate) fn check_policy(&self, pid: Pid, addr: u64, len: u64) -> Result<(), Errno>
+        ensures ok { OnOk result (policy_refusal (mapped_of self.now) pid addr len ≡ None) }
+        ensures err { IfErr result (λ e. policy_refusal (mapped_of self.now) pid addr len ≡ Some e) }
+    {
+        self.areas.check_policy(pid, addr, len)
     }
 
     /// Sets the policy of the whole pages of a range of a process, and of no others.

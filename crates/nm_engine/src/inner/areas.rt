@@ -3,6 +3,7 @@
 ghost use Rattle.nm_engine.specs.Does.{AsksLast, Makes};
 ghost use Rattle.nm_engine.specs.Effect.{attach, dropped, map_new, unmap};
 ghost use Rattle.nm_engine.specs.Frames.{CanFree, pool_of, with_freed};
+ghost use Rattle.nm_runs.specs.Targets.{Checks};
 ghost use Rattle.nm_engine.specs.MidRun.{with_state};
 ghost use Rattle.nm_engine.specs.Policing.{policy_refusal, set_policy};
 ghost use Rattle.nm_engine.specs.Refused.{attach_refusal, is_range, is_unknown, map_refusal, shows_pinned, unmap_refusal};
@@ -70,6 +71,16 @@ impl<A: Allocator + Copy> Inner<A> {
             return Err(MachineError::Refused(Errno::Esrch));
         }
         Ok(self.spaces.attach(pid, addr, segment, offset, pages)?)
+    }
+
+    /// Whether the policy of a range of a process may be set.
+    pub(crate) fn check_policy(&self, pid: Pid, addr: u64, len: u64) -> Result<(), Errno>
+        ensures { Checks result (policy_refusal self.now.state pid addr len) }
+    {
+        if self.spaces.info(pid).is_none() {
+            return Err(Errno::Esrch);
+        }
+        self.spaces.check_policy(pid, addr, len)
     }
 
     /// Sets the policy of the whole pages of a range of addresses of a process, and of no others.

@@ -1,4 +1,4 @@
-use Rattle.std.proofs.Common.{◌≤◌, ◌<◌, ◌∙◌, refl, sym, ap, eq-eqb, arith}
+use Rattle.std.proofs.Common.{◌≤◌, ◌∙◌, refl, sym, ap, eq-eqb, arith}
 use Rattle.std.specs.Prelude.{Some}
 use Rattle.nm_types.proofs.Cases.{none_always}
 use Rattle.nm_engine.specs.AddressSpaces.{sight_of}

@@ -1,0 +1,21 @@
+use Rattle.std.proofs.Common.{◌++◌, ap, ◌∙◌, arith}
+use Rattle.std.specs.Prelude.{codes}
+use Rattle.nm_calls.specs.Maps.{address_text, policy_text, pages_of}
+use Rattle.nm_calls.specs.Tallied.{tally_text}
+use Rattle.nm_calls.proofs.Tallies.{tally_tells}
+use Rattle.nm_calls.proofs.maps.area_text.Goals as goal
+
+pub returns : goal.returns
+returns g c =
+    let s = c.args.machine.now in
+    let a = c.args.area.now in
+    let few = c.node_count.ensures.few in
+    let count = c.node_count.ensures.count in
+    let told = ap (tally_text c.count_pages-tally.result) count
+    ∙ tally_tells s (pages_of s c.args.pid a) c.count_pages-tally.result c.count_pages-tally.ensures.pages c.count_pages-tally.ensures.most c.count_pages-tally.ensures.on (omega (arith, few, count)) in
+    c.in_ok-push_tally.ensures
+    ∙ ap (λ t. t ++ tally_text c.count_pages-tally.result c.node_count.result) c.in_ok-push_policy.ensures
+    ∙ ap (λ t. t ++ policy_text a.policy ++ tally_text c.count_pages-tally.result c.node_count.result) c.in_ok-push_str.ensures.bytes
+    ∙ ap (λ t. t ++ codes " " ++ policy_text a.policy ++ tally_text c.count_pages-tally.result c.node_count.result) c.in_ok-push_address.ensures
+    ∙ ap (λ t. t ++ address_text a.first ++ codes " " ++ policy_text a.policy ++ tally_text c.count_pages-tally.result c.node_count.result) c.new-line.ensures.bytes
+    ∙ ap (λ t. address_text a.first ++ codes " " ++ policy_text a.policy ++ t) told

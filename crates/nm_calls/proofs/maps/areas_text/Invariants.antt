@@ -1,0 +1,6 @@
+use Rattle.std.proofs.Common.{◌≡◌, map, take}
+use Rattle.nm_calls.specs.Maps.{area_text, lines_shown}
+use Rattle.nm_calls.proofs.maps.areas_text.Given as goal
+
+abbrev pub invariant-loop-area : goal.invariant-loop-area
+invariant-loop-area g l = lines_shown l.lines.items ≡ map (area_text l.machine l.pid) (take l.area-index l.areas)

@@ -1,0 +1,12 @@
+use Rattle.std.proofs.Common.{◌≡◌, ◌++◌, map, length, string_bytes}
+use Rattle.nm_calls.specs.Maps.{stretches, stretch_text, set_text}
+use Rattle.nm_calls.specs.Tallied.{comma}
+use Rattle.nm_calls.proofs.Stretched.{joined_after}
+use Rattle.nm_calls.proofs.maps.push_set.Given as goal
+
+abbrev pub invariant-loop-first : goal.invariant-loop-first
+invariant-loop-first g l =
+    string_bytes l.line ++ joined_after (comma l.behind) (map stretch_text (stretches l.rest)) ≡ string_bytes l.fn.line ++ set_text l.fn.nodes
+
+abbrev pub decreases-loop-first : goal.decreases-loop-first
+decreases-loop-first g l = length (stretches l.rest)

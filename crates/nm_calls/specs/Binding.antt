@@ -1,0 +1,198 @@
+-- mbind(2): what is refused, which policy is set, and what moves.
+use Rattle.std.specs.Prelude.{ℕ, ◌+◌, ◌/◌, ◌%◌, nat_le, ◌==◌, Bool, not, ◌&&◌, ◌||◌, List, [], ◌∷◌, map, length, false, Option, Some, None, if◌then◌else◌}
+use Rattle.std.specs.List.{IsDistinct, list_any, filter}
+use Rattle.std.specs.Option.{unwrap_or, option_map}
+use Rattle.nm_types.specs.declared.area.Policy.{Policy}
+use Rattle.nm_types.specs.declared.area.Policy.TheVariants.{Default, Preferred, Bind, Interleave, Local}
+use Rattle.nm_types.specs.declared.errno.Errno.{Errno}
+use Rattle.nm_types.specs.declared.errno.Errno.TheVariants.{Eperm, Esrch, Eio, Einval}
+use Rattle.nm_types.specs.Map.{get, page_cmp, same_page}
+use Rattle.nm_types.specs.Layout.{node_of}
+use Rattle.nm_types.specs.Nodes.{is_in}
+use Rattle.nm_types.specs.State.{State}
+use Rattle.nm_policy.specs.declared.targets.Sent.{Sent}
+use Rattle.nm_policy.specs.declared.targets.Stray.{Stray}
+use Rattle.nm_policy.specs.Order.{zonelist, follows}
+use Rattle.nm_policy.specs.Turns.{by_turns}
+use Rattle.nm_runs.specs.declared.Wanted.{Wanted}
+use Rattle.nm_runs.specs.declared.Wanted.TheVariants.{At}
+use Rattle.nm_runs.specs.Cut.{Request, Stretch}
+use Rattle.nm_runs.specs.Limit.{cut_within}
+use Rattle.nm_runs.specs.Targets.{earlier}
+use Rattle.nm_engine.specs.declared.located.Located.{Located}
+use Rattle.nm_engine.specs.declared.ProcessInfo.{ProcessInfo}
+use Rattle.nm_engine.specs.Locating.{located_between}
+use Rattle.nm_engine.specs.Policing.{pages_of, policy_refusal, set_policy}
+use Rattle.nm_engine.specs.Run.{Ran}
+use Rattle.nm_engine.specs.Batch.{runs_from}
+use Rattle.nm_engine.specs.Refused.{first_error}
+use Rattle.nm_calls.specs.Permission.{moves_all, info_at}
+use Rattle.nm_calls.specs.Passes.{passes}
+use Rattle.nm_calls.specs.Sets.{names_no_node, usable, is_none}
+
+-- the modes by their numbers
+abbrev pub MPOL_DEFAULT : ℕ
+MPOL_DEFAULT = 0
+
+abbrev pub MPOL_PREFERRED : ℕ
+MPOL_PREFERRED = 1
+
+abbrev pub MPOL_BIND : ℕ
+MPOL_BIND = 2
+
+abbrev pub MPOL_INTERLEAVE : ℕ
+MPOL_INTERLEAVE = 3
+
+abbrev pub MPOL_LOCAL : ℕ
+MPOL_LOCAL = 4
+
+-- the lowest node is preferred, or the nearest where there is none
+abbrev pub preferred : List ℕ → Policy
+preferred [] = Local
+preferred (n ∷ ns) = Preferred n
+
+-- the policy of a mode and a set of nodes
+abbrev pub policy_of : ℕ → List ℕ → Policy
+policy_of mode nodes =
+    if mode == MPOL_PREFERRED then preferred nodes
+    else (if mode == MPOL_BIND then Bind nodes
+    else (if mode == MPOL_INTERLEAVE then Interleave nodes
+    else (if mode == MPOL_LOCAL then Local else Default)))
+
+-- whether MPOL_MF_STRICT, which is 1, is among flags
+abbrev pub is_strict : ℕ → Bool
+is_strict flags = flags % 2 == 1
+
+-- whether MPOL_MF_MOVE or MPOL_MF_MOVE_ALL is among flags, which are 2 and 4
+abbrev pub moves : ℕ → Bool
+moves flags = (flags / 2 % 2 == 1) || moves_all flags
+
+-- nodes for a mode that takes none, or none for a mode that wants some
+abbrev pub is_misfit : ℕ → List ℕ → Bool
+is_misfit mode nodes =
+    if is_none nodes then (mode == MPOL_BIND) || (mode == MPOL_INTERLEAVE)
+    else (mode == MPOL_DEFAULT) || (mode == MPOL_LOCAL)
+
+-- a flag or a mode that is unknown; nodes that do not fit the mode, or are none of the machine; none that can be used
+abbrev pub is_invalid : State → List ℕ → ℕ → List ℕ → ℕ → Bool
+is_invalid s allowed mode nodes flags =
+    nat_le 8 flags || nat_le 5 mode || is_misfit mode nodes || names_no_node s nodes
+    || (not (is_none nodes) && is_none (usable s allowed nodes))
+
+-- a process, the first page number of a range and the one behind it, and its policy to be
+pub record Binding : Type 0 where
+  pub pid : ℕ
+  pub first : ℕ
+  pub end : ℕ
+  pub policy : Policy
+
+-- pages without those that come before
+abbrev pub once : List Located → List Located
+once [] = []
+once (l ∷ ls) = l ∷ filter (λ m. not (same_page l.page m.page)) (once ls)
+
+-- the pages seen in the range that do not follow the policy, by address, each at its lowest
+abbrev pub astray : State → Binding → List Located
+astray s b = once (filter (λ l. not (follows b.policy l.node)) (located_between s b.pid b.first b.end))
+
+-- the nodes that a process may use, and none where there is no such process
+abbrev pub allowed_to : Option ProcessInfo → List ℕ
+allowed_to caller = unwrap_or (option_map (λ (i : ProcessInfo). i.allowed) caller) []
+
+-- the home node of a process, and node 0 where there is no such process
+abbrev pub home_of : Option ProcessInfo → ℕ
+home_of caller = unwrap_or (option_map (λ (i : ProcessInfo). i.home) caller) 0
+
+-- what a call asks for: the set that is kept is what is online and allowed of its nodes
+abbrev pub binding : State → ℕ → ℕ → ℕ → ℕ → List ℕ → Binding
+binding s pid address len mode nodes =
+    let first = address / 4096 in
+    let kept = usable s (allowed_to (info_at s pid)) nodes in
+    record { pid = pid; first = first; end = first + pages_of len; policy = policy_of mode kept }
+
+-- no such caller; bad arguments; MPOL_MF_MOVE_ALL without privilege
+abbrev pub mode_refusal : State → Option ProcessInfo → ℕ → List ℕ → ℕ → Option Errno
+mode_refusal s None mode nodes flags = Some Esrch
+mode_refusal s (Some caller) mode nodes flags =
+    let invalid = is_invalid s caller.allowed mode nodes flags in
+    first_error ((invalid, Einval) ∷ (moves_all flags && not caller.privileged, Eperm) ∷ [])
+
+-- whether MPOL_MF_STRICT alone is given, and a page does not follow the policy
+abbrev pub is_strictly_refused : State → Binding → ℕ → Bool
+is_strictly_refused s b flags = is_strict flags && not (moves flags) && not (length (astray s b) == 0)
+
+-- no such caller, bad arguments or no privilege; a bad address; a page without an area; a page that does not follow
+abbrev pub mbind_refusal : State → ℕ → ℕ → ℕ → ℕ → List ℕ → ℕ → Option Errno
+mbind_refusal s caller address len mode nodes flags =
+    let strict = is_strictly_refused s (binding s caller address len mode nodes) flags in
+    let late = earlier (policy_refusal s caller address len) (first_error ((strict, Eio) ∷ [])) in
+    earlier (mode_refusal s (info_at s caller) mode nodes flags) late
+
+-- requests for pages at the page numbers at which a process sees them
+abbrev pub spots : ℕ → Bool → List Located → List Wanted
+spots pid all pages = map (λ l. At pid l.vpn all) pages
+
+-- pages as strays
+abbrev pub strays_of : List Located → List Stray
+strays_of pages = map (λ l. record { vpn = l.vpn; page = l.page }) pages
+
+-- requests for page numbers with their nodes
+abbrev pub each_to : ℕ → Bool → List Sent → List Request
+each_to pid all targets = map (λ t. record { target = t.to; wanted = At pid t.vpn all }) targets
+
+-- the runs that bring pages to where a policy wants them: passes for BIND, and one pass for the others
+abbrev pub runs_by : ℕ → State → Policy → ℕ → ℕ → Bool → List Located → List Stretch
+runs_by limit s Default home pid all pages = []
+runs_by limit s (Preferred node) home pid all pages = passes limit s (node ∷ []) (spots pid all pages)
+runs_by limit s (Bind nodes) home pid all pages =
+    passes limit s (filter (is_in nodes) (zonelist s.layout s.online home)) (spots pid all pages)
+runs_by limit s (Interleave nodes) home pid all pages =
+    cut_within limit (each_to pid all (by_turns nodes (strays_of pages)))
+runs_by limit s Local home pid all pages = []
+
+-- the runs of a call: none without a flag to move
+abbrev pub mbind_runs : ℕ → State → Binding → ℕ → List Stretch
+mbind_runs limit s b flags =
+    let home = home_of (info_at s b.pid) in
+    if moves flags then runs_by limit s b.policy home b.pid (moves_all flags) (astray s b) else []
+
+-- whether a listed page does not follow the policy where it is now
+abbrev pub strays : State → Policy → Located → Bool
+strays s policy l =
+    unwrap_or (option_map (λ frame. not (follows policy (node_of s.layout frame))) (get page_cmp s.place l.page)) false
+
+-- whether a page that did not follow the policy before the moves does not follow it after them
+abbrev pub still_strays : State → State → Binding → Bool
+still_strays old new b = list_any (strays new b.policy) (astray old b)
+
+-- no page is listed twice
+abbrev pub NoStrayIsListedTwice : Type 0
+NoStrayIsListedTwice = (s : State) (b : Binding) → IsDistinct same_page (map (λ l. l.page) (astray s b))
+
+-- whether flags ask for moves, and for an error where a page does not follow
+abbrev pub tells_late : ℕ → Bool
+tells_late flags = is_strict flags && moves flags
+
+-- what a call leaves: the error with which it is refused, if it is, and the state
+pub record Bound : Type 0 where
+  pub refusal : Option Errno
+  pub state : State
+
+-- the state before the first run: the policy is set
+abbrev pub policed : State → ℕ → ℕ → ℕ → ℕ → List ℕ → State
+policed s caller address len mode nodes =
+    set_policy s caller address len (binding s caller address len mode nodes).policy
+
+-- refused as it is, or with EIO once the moves are made, which stay
+abbrev pub bound_unless : Option Errno → State → Bound → Bound
+bound_unless (Some e) s b = record { refusal = Some e; state = s }
+bound_unless None s b = b
+
+-- one call of mbind(2): nothing changes where it is refused at first; else the policy is set and pages move, and both
+-- stay where a page is told to be astray still
+abbrev pub mbind : ℕ → State → ℕ → ℕ → ℕ → ℕ → List ℕ → ℕ → Bound
+mbind limit s caller address len mode nodes flags =
+    let b = binding s caller address len mode nodes in
+    let made : Ran = runs_from 0 (policed s caller address len mode nodes) (mbind_runs limit s b flags) [] in
+    let late = tells_late flags && still_strays s made.state b in
+    bound_unless (mbind_refusal s caller address len mode nodes flags) s (record { refusal = first_error ((late, Eio) ∷ []); state = made.state })

@@ -1,0 +1,88 @@
+-- The areas of a process as text, as in numa(7).
+use Rattle.std.specs.Prelude.{ℕ, ◌+◌, ◌-◌, max, ◌==◌, nat_lt, List, [], ◌∷◌, ◌++◌, map, length, replicate, count_by, String, string_bytes, false, codes, decimal, if◌then◌else◌}
+use Rattle.std.specs.Fmt.{digits}
+use Rattle.std.specs.List.{flat_map, fold, join_with_byte}
+use Rattle.nm_types.specs.declared.area.Policy.{Policy}
+use Rattle.nm_types.specs.declared.area.Policy.TheVariants.{Default, Preferred, Bind, Interleave, Local}
+use Rattle.nm_types.specs.Layout.{node_count}
+use Rattle.nm_types.specs.Nodes.{up_from}
+use Rattle.nm_types.specs.State.{State}
+use Rattle.nm_runs.specs.Seen.{users}
+use Rattle.nm_areas.specs.declared.lines.Line.{Line}
+use Rattle.nm_areas.specs.Lines.{lines_of}
+use Rattle.nm_engine.specs.declared.located.Located.{Located}
+use Rattle.nm_engine.specs.Locating.{located_between}
+
+-- a node is the first of the stretch behind it, or a stretch of one
+abbrev pub node_in_front : ℕ → List (ℕ × ℕ) → List (ℕ × ℕ)
+node_in_front n [] = (n, n) ∷ []
+node_in_front n (r ∷ rs) = if n + 1 == r.0 then (n, r.1) ∷ rs else (n, n) ∷ r ∷ rs
+
+-- the longest stretches of consecutive nodes of a set, each by its first and its last
+abbrev pub stretches : List ℕ → List (ℕ × ℕ)
+stretches [] = []
+stretches (n ∷ nodes) = node_in_front n (stretches nodes)
+
+-- one node, or the first and the last of several
+abbrev pub stretch_text : ℕ × ℕ → List ℕ
+stretch_text r = if r.0 == r.1 then decimal r.0 else decimal r.0 ++ codes "-" ++ decimal r.1
+
+-- a set of nodes, as 0-1,3
+abbrev pub set_text : List ℕ → List ℕ
+set_text nodes = join_with_byte 44 (map stretch_text (stretches nodes))
+
+-- a policy, as bind:0-1,3
+unfoldable pub policy_text : Policy → List ℕ
+policy_text Default = codes "default"
+policy_text (Preferred node) = codes "prefer:" ++ decimal node
+policy_text (Bind nodes) = codes "bind:" ++ set_text nodes
+policy_text (Interleave nodes) = codes "interleave:" ++ set_text nodes
+policy_text Local = codes "local"
+
+-- digits, after as many zeros as bring them to a width
+abbrev pub zero_filled : ℕ → List ℕ → List ℕ
+zero_filled width ds = replicate (width - length ds) 48 ++ ds
+
+-- the address at which a page begins, as at least eight hexadecimal digits: those of its number, and three zeros
+abbrev pub address_text : ℕ → List ℕ
+address_text vpn = zero_filled 5 (digits 16 false vpn) ++ codes "000"
+
+-- the pages that a process sees in an area
+abbrev pub pages_of : State → ℕ → Line → List Located
+pages_of s pid line = located_between s pid line.first (line.first + line.pages)
+
+-- how many pages are on a node
+abbrev pub count_on : List Located → ℕ → ℕ
+count_on pages node = count_by (λ p. p.node == node) pages
+
+-- the greatest number of processes that see one of these pages
+abbrev pub most_users : State → List Located → ℕ
+most_users s pages = fold (λ most p. max most (length (users s p.page))) 0 pages
+
+-- a word and a number, unless the number is too small to be told
+abbrev pub told_from : ℕ → List ℕ → ℕ → List ℕ
+told_from least word n = if nat_lt n least then [] else word ++ decimal n
+
+-- how many pages are on a node, where some are
+abbrev pub node_text : List Located → ℕ → List ℕ
+node_text pages node = told_from 1 (codes " N" ++ decimal node ++ codes "=") (count_on pages node)
+
+-- what is told of the pages in an area, where there are some
+abbrev pub pages_text : State → List Located → List ℕ
+pages_text s [] = []
+pages_text s (p ∷ ps) =
+    (codes " anon=" ++ decimal (length (p ∷ ps))) ++ told_from 2 (codes " mapmax=") (most_users s (p ∷ ps))
+    ++ flat_map (node_text (p ∷ ps)) (up_from 0 (node_count s.layout)) ++ codes " kernelpagesize_kB=4"
+
+-- an area as text
+abbrev pub area_text : State → ℕ → Line → List ℕ
+area_text s pid line =
+    address_text line.first ++ codes " " ++ policy_text line.policy ++ pages_text s (pages_of s pid line)
+
+-- the bytes of lines
+abbrev pub lines_shown : {A : Type 0} → List (String A) → List (List ℕ)
+lines_shown lines = map (λ line. string_bytes line) lines
+
+-- the areas of a process as text, by address
+abbrev pub numa_maps : State → ℕ → List (List ℕ)
+numa_maps s pid = map (area_text s pid) (lines_of s.segments s.areas pid)

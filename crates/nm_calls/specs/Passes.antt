@@ -1,0 +1,24 @@
+-- Passes: all that is wanted goes to one node, and what finds no free frame goes on to the next.
+use Rattle.std.specs.Prelude.{ℕ, ℤ, List, [], ◌∷◌, ◌++◌, map}
+use Rattle.std.specs.List.{filter, zip}
+use Rattle.std.specs.Ordering.{int_eq}
+use Rattle.nm_types.specs.declared.errno.Errno.TheVariants.{Enomem}
+use Rattle.nm_types.specs.State.{State}
+use Rattle.nm_runs.specs.declared.Wanted.{Wanted}
+use Rattle.nm_runs.specs.Status.{code}
+use Rattle.nm_runs.specs.Cut.{Stretch, all_to}
+use Rattle.nm_runs.specs.Limit.{cut_within}
+use Rattle.nm_engine.specs.Run.{Ran}
+use Rattle.nm_engine.specs.Batch.{runs_from}
+
+-- what was wanted and found no free frame
+abbrev pub without_frame : List Wanted → List ℤ → List Wanted
+without_frame wanted statuses = map (λ e. e.0) (filter (λ e. int_eq e.1 (code Enomem)) (zip wanted statuses))
+
+-- the runs of passes over nodes: each pass is one batch to one node, and what finds no free frame goes on to the next
+abbrev pub passes : ℕ → State → List ℕ → List Wanted → List Stretch
+passes limit s [] wanted = []
+passes limit s (node ∷ nodes) wanted =
+    let runs = cut_within limit (all_to node wanted) in
+    let made : Ran = runs_from 0 s runs [] in
+    runs ++ passes limit made.state nodes (without_frame wanted made.statuses)

@@ -1,0 +1,211 @@
+//! The areas of a process as text.
+
+ghost use Rattle.std.specs.Prelude.{◌≡◌, ℕ, ◌+◌, ◌++◌, ◌∷◌, ◌<◌, ◌≤◌, ◌^◌, All, IfOk, OnOk, length, map, string_bytes, slice_index};
+ghost use Rattle.nm_calls.specs.Maps.{stretches, stretch_text, set_text, policy_text, pages_of, count_on, most_users, area_text, lines_shown};
+ghost use Rattle.nm_calls.specs.Tallied.{comma, told_on, nodes_text, tally_text};
+
+use crate::words::{push_address, push_number};
+use nm_engine::{Line, Machine};
+use nm_types::{NodeId, NodeMask, Pid, Policy, Vpn};
+use std::alloc::{AllocError, Allocator};
+
+/// Takes the nodes that follow on a first one out of those behind it, and gives the last of them.
+fn take_stretch(first: NodeId, rest: &mut NodeMask) -> NodeId
+    ensures { stretches (first ∷ rest.old) ≡ (first, result) ∷ stretches rest.new }
+{
+    let mut last = first;
+    while let Some(next) = rest.nth(0) {
+        if u64::from(last.number()) + 1 != u64::from(next.number()) {
+            return last;
+        }
+        rest.take_first();
+        last = next;
+    }
+    last
+}
+
+/// Puts a comma, if it is wanted.
+fn push_comma<A: Allocator>(line: &mut String<A>, wanted: bool) -> Result<(), AllocError>
+    ensures { OnOk result (string_bytes line.new ≡ string_bytes line.old ++ comma wanted) }
+{
+    if wanted { line.push_str(",") } else { Ok(()) }
+}
+
+/// Puts one node, or the first and the last of several, behind a comma, if it is wanted.
+fn push_stretch<A: Allocator>(
+    line: &mut String<A>,
+    behind: bool,
+    first: NodeId,
+    last: NodeId,
+) -> Result<(), AllocError>
+    ensures { OnOk result (string_bytes line.new ≡ string_bytes line.old ++ (comma behind ++ stretch_text (first, last))) }
+{
+    push_comma(line, behind)?;
+    push_number(line, "", u64::from(first.number()))?;
+    if first == last {
+        return Ok(());
+    }
+    push_number(line, "-", u64::from(last.number()))
+}
+
+/// Puts a set of nodes.
+fn push_set<A: Allocator>(line: &mut String<A>, nodes: NodeMask) -> Result<(), AllocError>
+    ensures { OnOk result (string_bytes line.new ≡ string_bytes line.old ++ set_text nodes) }
+{
+    let mut rest = nodes;
+    let mut behind = false;
+    while let Some(first) = rest.take_first() {
+        let last = take_stretch(first, &mut rest);
+        push_stretch(line, behind, first, last)?;
+        behind = true;
+    }
+    Ok(())
+}
+
+/// Puts a word and a set of nodes.
+fn push_list<A: Allocator>(
+    line: &mut String<A>,
+    word: &str,
+    nodes: NodeMask,
+) -> Result<(), AllocError>
+    ensures { OnOk result (string_bytes line.new ≡ string_bytes line.old ++ (word.now ++ set_text nodes)) }
+{
+    line.push_str(word)?;
+    push_set(line, nodes)
+}
+
+/// Puts a policy.
+#[tactic(auto, unfolding(crate::specs::Maps::policy_text))]
+fn push_policy<A: Allocator>(line: &mut String<A>, policy: Policy) -> Result<(), AllocError>
+    ensures { OnOk result (string_bytes line.new ≡ string_bytes line.old ++ policy_text policy) }
+{
+    match policy {
+        Policy::Default => line.push_str("default"),
+        Policy::Preferred(node) => push_number(line, "prefer:", u64::from(node.number())),
+        Policy::Bind(nodes) => push_list(line, "bind:", nodes),
+        Policy::Interleave(nodes) => push_list(line, "interleave:", nodes),
+        Policy::Local => line.push_str("local"),
+    }
+}
+
+/// What is counted of the pages that a process sees in an area.
+#[derive(Clone, Copy, Debug)]
+struct Tally {
+    /// How many there are.
+    pages: u64,
+    /// The greatest number of processes that see one of them.
+    most: usize,
+    /// How many are on each node.
+    on: [u64; 64],
+}
+
+/// Counts the pages that a process sees in an area. It asks for each of them, and for no page number beside.
+fn count_pages<A: Allocator + Copy + Send + Sync>(
+    machine: &Machine<A>,
+    pid: Pid,
+    area: &Line,
+) -> Tally
+    requires { area.now.first + area.now.pages < 2 ^ 64 }
+    ensures pages { result.pages ≡ length (pages_of machine.now pid area.now) }
+    ensures most { result.most ≡ most_users machine.now (pages_of machine.now pid area.now) }
+    ensures on { (node : ℕ) → node < 64 → slice_index result.on node ≡ count_on (pages_of machine.now pid area.now) node }
+{
+    let first = area.first.number();
+    let end = Vpn::new(first + area.pages);
+    let mut at = first;
+    let mut pages = 0;
+    let mut most = 0;
+    let mut on = [0u64; 64];
+    while let Some(found) = machine.page_from(pid, Vpn::new(at), end) {
+        let users = machine.users(found.page);
+        let node = found.node.index();
+        prove!(machine.node_count() <= 64);
+        at = found.vpn.number() + 1;
+        pages += 1;
+        most = most.max(users);
+        on[node] += 1;
+    }
+    Tally { pages, most, on }
+}
+
+/// Puts how many pages are on a node, where some are.
+fn push_node<A: Allocator>(line: &mut String<A>, node: usize, pages: u64) -> Result<(), AllocError>
+    ensures { OnOk result (string_bytes line.new ≡ string_bytes line.old ++ told_on node pages) }
+{
+    if pages == 0 {
+        return Ok(());
+    }
+    push_number(line, " N", node as u64)?;
+    push_number(line, "=", pages)
+}
+
+/// Puts how many pages are on each node, where some are.
+fn push_nodes<A: Allocator>(
+    line: &mut String<A>,
+    on: &[u64; 64],
+    count: usize,
+) -> Result<(), AllocError>
+    requires { count ≤ 64 }
+    ensures { OnOk result (string_bytes line.new ≡ string_bytes line.old ++ nodes_text on.now count) }
+{
+    for node in 0..count {
+        push_node(line, node, on[node])?;
+    }
+    Ok(())
+}
+
+/// Puts what was counted, where there are pages.
+fn push_tally<A: Allocator>(
+    line: &mut String<A>,
+    tally: &Tally,
+    nodes: usize,
+) -> Result<(), AllocError>
+    requires { nodes ≤ 64 }
+    ensures { OnOk result (string_bytes line.new ≡ string_bytes line.old ++ tally_text tally.now nodes) }
+{
+    if tally.pages == 0 {
+        return Ok(());
+    }
+    push_number(line, " anon=", tally.pages)?;
+    if tally.most > 1 {
+        push_number(line, " mapmax=", tally.most as u64)?;
+    }
+    push_nodes(line, &tally.on, nodes)?;
+    line.push_str(" kernelpagesize_kB=4")
+}
+
+/// An area as text.
+fn area_text<A: Allocator + Copy + Send + Sync>(
+    alloc: A,
+    machine: &Machine<A>,
+    pid: Pid,
+    area: &Line,
+) -> Result<String<A>, AllocError>
+    requires { area.now.first + area.now.pages < 2 ^ 64 }
+    ensures { IfOk result (λ line. string_bytes line ≡ area_text machine.now pid area.now) }
+{
+    let mut line = String::new(alloc);
+    push_address(&mut line, area.first)?;
+    line.push_str(" ")?;
+    push_policy(&mut line, area.policy)?;
+    let tally = count_pages(machine, pid, area);
+    push_tally(&mut line, &tally, machine.node_count())?;
+    Ok(line)
+}
+
+/// Areas of a process as text.
+pub(crate) fn areas_text<A: Allocator + Copy + Send + Sync>(
+    alloc: A,
+    machine: &Machine<A>,
+    pid: Pid,
+    areas: &[Line],
+) -> Result<Vec<String<A>, A>, AllocError>
+    requires { All (λ (area : Line). area.first + area.pages < 2 ^ 64) areas.now }
+    ensures { IfOk result (λ lines. lines_shown lines.items ≡ map (area_text machine.now pid) areas.now) }
+{
+    let mut lines = Vec::with_capacity(alloc, areas.len())?;
+    for area in areas {
+        lines.push(area_text(alloc, machine, pid, area)?)?;
+    }
+    Ok(lines)
+}
