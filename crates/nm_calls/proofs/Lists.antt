@@ -1,5 +1,5 @@
 -- What is asked for, by pairs of nodes.
-use Rattle.std.proofs.Common.{◌≡◌, ℕ, ◌<◌, ⊎_elim, Bool, true, false, List, [], ◌∷◌, ◌++◌, map, refl, subst}
+use Rattle.std.proofs.Common.{◌≡◌, ℕ, ⊎_elim, Bool, true, List, [], ◌∷◌, ◌++◌, map, refl, subst}
 use Rattle.std.specs.Prelude.{◌==◌, Option, Some, None}
 use Rattle.std.specs.List.{AllByRecursion}
 use Rattle.std.proofs.lemmas.Bool.{eqb-true, or_cases, false≢true}
@@ -21,7 +21,6 @@ use Rattle.nm_engine.specs.Run.{IsByAddress}
 use Rattle.nm_calls.specs.Permission.{owner_of, info_at}
 use Rattle.nm_calls.specs.Sets.{usable}
 use Rattle.nm_calls.specs.Calls.{MigratePages}
-use Rattle.nm_calls.specs.Systems.{SystemState}
 use Rattle.nm_calls.specs.Outcome.{refused, runs_asked, runs_unless}
 use Rattle.nm_calls.specs.MigrateLaws.{RunsGoToNodesOnline}
 use Rattle.nm_calls.proofs.Requests.{cut_targets}

@@ -1,9 +1,8 @@
 -- The outcome of a call, where it is refused and where it is not, and where the host has no memory for it.
-use Rattle.std.proofs.Common.{◌≡◌, ℕ, ◌≤◌, Bool, false, List, [], length, refl, slice_index_or, Option, Some, None}
+use Rattle.std.proofs.Common.{◌≡◌, ℕ, ◌≤◌, Bool, false, [], length, refl, slice_index_or, Some, None}
 use Rattle.std.specs.Prelude.{◌-◌}
 use Rattle.nm_types.specs.declared.errno.Errno.{Errno}
 use Rattle.nm_types.specs.State.{State}
-use Rattle.nm_runs.specs.Cut.{Stretch}
 use Rattle.nm_engine.specs.Batch.{runs_from}
 use Rattle.nm_calls.specs.Calls.{Call, Refusal}
 use Rattle.nm_calls.specs.Systems.{SystemState, in_state}

@@ -1,8 +1,8 @@
 -- Nodes that a caller names.
-use Rattle.std.proofs.Common.{arith, ◌≡◌, ℕ, suc, Bool, true, false, not, ◌&&◌, ◌||◌, cond, List, [], ◌∷◌, length, refl, sym, ap, ◌∙◌}
-use Rattle.std.specs.Prelude.{◌<◌, ◌==◌, nat_le}
+use Rattle.std.proofs.Common.{arith, ◌≡◌, ℕ, suc, Bool, true, false, not, ◌&&◌, ◌||◌, cond, List, [], ◌∷◌, length, refl, ap, ◌∙◌}
+use Rattle.std.specs.Prelude.{◌<◌, nat_le}
 use Rattle.std.proofs.lemmas.Bool.{eqb-true, leb-false}
-use Rattle.std.specs.List.{AllByRecursion, filter, list_all, list_any}
+use Rattle.std.specs.List.{AllByRecursion, filter, list_all}
 use Rattle.nm_types.specs.Layout.{node_count}
 use Rattle.nm_types.specs.Nodes.{is_in}
 use Rattle.nm_types.specs.State.{State}

@@ -1,12 +1,11 @@
 -- What the runs of a batch have of its requests.
-use Rattle.std.proofs.Common.{arith, ◌≡◌, ℕ, suc, ◌+◌, ◌<◌, ◌≤◌, inl, Bool, List, [], ◌∷◌, ◌++◌, length, map, refl, sym, ap, ◌∙◌, slice_index_or, zero, length-append, subst}
+use Rattle.std.proofs.Common.{arith, ◌≡◌, ℕ, suc, ◌<◌, ◌≤◌, inl, Bool, List, [], ◌∷◌, ◌++◌, length, refl, sym, ap, ◌∙◌, slice_index_or, zero, length-append, subst}
 use Rattle.std.proofs.lemmas.List.{length-map}
-use Rattle.std.specs.Prelude.{◌/◌, slice_index}
+use Rattle.std.specs.Prelude.{slice_index}
 use Rattle.std.proofs.lemmas.List.Sums.{sum_by-cons}
 use Rattle.std.specs.List.{AllByRecursion, sum_by}
 use Rattle.nm_runs.specs.declared.Run.{Run}
 use Rattle.nm_runs.specs.declared.Wanted.{Wanted}
-use Rattle.nm_runs.specs.declared.Wanted.TheVariants.{At}
 use Rattle.nm_runs.specs.Cut.{Request, Stretch, all_to, joined, size_of, stretches_of}
 use Rattle.nm_runs.specs.Limit.{cut_within}
 use Rattle.nm_runs.proofs.Pieces.{each_limit_cuts}

@@ -2,12 +2,12 @@
 use Rattle.std.specs.Prelude.{◌≡◌, ℕ, ◌<◌, true, List}
 use Rattle.std.specs.List.{AllByRecursion, IsDistinct, flat_map}
 use Rattle.std.specs.Map.{values_of}
-use Rattle.nm_types.specs.Map.{Map, same_page}
+use Rattle.nm_types.specs.Map.{same_page}
 use Rattle.nm_types.specs.Nodes.{is_in, IsNodeSet}
 use Rattle.nm_types.specs.State.{State}
 use Rattle.nm_types.specs.declared.page.Page.{Page}
 use Rattle.nm_policy.specs.Pairs.{pairs}
-use Rattle.nm_calls.specs.Migrating.{pages_on, migration}
+use Rattle.nm_calls.specs.Migrating.{pages_on}
 use Rattle.nm_calls.specs.Systems.{SystemState}
 use Rattle.nm_calls.specs.Calls.{MigratePages}
 use Rattle.nm_calls.specs.Outcome.{runs_of}

@@ -1,14 +1,12 @@
 -- Worked examples of migrate_pages(2).
-use Rattle.std.specs.Prelude.{◌≡◌, ℕ, false, true, List, [], ◌∷◌, map, length, slice_index_or, Option, Some, None}
-use Rattle.nm_types.specs.declared.errno.Errno.{Errno}
+use Rattle.std.specs.Prelude.{◌≡◌, ℕ, false, true, List, [], ◌∷◌, map, length, slice_index_or, Option, Some}
 use Rattle.nm_types.specs.declared.errno.Errno.TheVariants.{Eperm, Esrch, Einval}
 use Rattle.nm_types.specs.Layout.{Layout}
 use Rattle.nm_types.specs.State.{State}
-use Rattle.nm_engine.specs.Effect.{new_machine, spawn, map_new, attach, pin}
-use Rattle.nm_engine.specs.Touch.{read}
+use Rattle.nm_engine.specs.Effect.{new_machine, spawn, map_new, pin}
 use Rattle.nm_engine.specs.Examples.{A, B, C, one_process, with_second, wrote, three_pages, two_addresses, six_pages, seen_by_two, on_two_of_three, frame_at}
 use Rattle.nm_calls.specs.Systems.{SystemState, default_limit}
-use Rattle.nm_calls.specs.Calls.{Call, MigratePages, Answer, Refusal, Failed}
+use Rattle.nm_calls.specs.Calls.{Call, MigratePages, Answer, Failed}
 use Rattle.nm_calls.specs.Outcome.{refused, outcome, trail}
 
 -- a system in this state, with a limit on runs
