@@ -5,6 +5,5 @@ pub mod Parts
 pub mod Policy
 pub mod Refused
 pub mod Effect
-pub mod Does
 pub mod Lines
 pub mod Removed

@@ -2,16 +2,15 @@
 
 ghost use Rattle.std.specs.Prelude.{ℕ, OnOk, ◌≡◌, ◌≤◌, ◌<◌, ◌+◌, ◌/◌, ◌^◌, false, true, IfSome, IfNone, IfOk, option_map};
 ghost use Rattle.nm_types.specs.State.{Placed, area_over};
-ghost use Rattle.nm_areas.specs.Does.{Makes};
+ghost use Rattle.nm_types.specs.Does.{Makes};
 ghost use Rattle.nm_areas.specs.Effect.{no_areas, new_area, inserted, attached, over_with};
 ghost use Rattle.nm_areas.specs.Lines.{is_shared};
 ghost use Rattle.nm_areas.specs.Mapped.{IsMapped};
 ghost use Rattle.nm_areas.specs.Refused.{is_range, insert_refusal, attach_refusal};
 
-use crate::area_error::AreaError;
 use crate::area_table::AreaTable;
 use nm_types::limits::{MAX_SEGMENTS, PAGE_NUMBERS};
-use nm_types::{Area, Errno, FrameId, Page, Pid, Vpn};
+use nm_types::{Area, Errno, FrameId, MachineError, Page, Pid, Vpn};
 use std::alloc::Allocator;
 use std::collections::BTreeMap;
 use std::marker::Model;
@@ -75,21 +74,21 @@ impl<A: Allocator + Copy> Areas<A> {
         addr: u64,
         pages: u64,
         shared: bool,
-    ) -> Result<u32, AreaError>
+    ) -> Result<u32, MachineError>
         ensures done { Makes result self.old self.new (insert_refusal self.old pid addr pages) (inserted self.old pid addr pages shared) }
-        ensures memory { result ≡ Err AreaError.HostMemory → insert_refusal self.old pid addr pages ≡ None }
+        ensures memory { result ≡ Err MachineError.HostMemory → insert_refusal self.old pid addr pages ≡ None }
         ensures number { IfOk result (λ number. number ≡ self.old.next) }
         ensures over { OnOk result ((q v : ℕ) → area_over self.new.areas q v ≡ over_with self.old.areas ((pid, addr / 4096), new_area self.old.next 0 pages) q v) }
     {
         let Some(first) = stretch(addr, pages) else {
-            return Err(AreaError::Refused(Errno::Einval));
+            return Err(MachineError::Refused(Errno::Einval));
         };
         // An area in the way is told before the limit.
         if !self.table.is_free(pid, first, pages) {
-            return Err(AreaError::Refused(Errno::Einval));
+            return Err(MachineError::Refused(Errno::Einval));
         }
         if self.table.next_segment() >= MAX_SEGMENTS {
-            return Err(AreaError::Refused(Errno::Enomem));
+            return Err(MachineError::Refused(Errno::Enomem));
         }
         Ok(self.table.insert(pid, first, pages, shared)?)
     }
@@ -106,19 +105,19 @@ impl<A: Allocator + Copy> Areas<A> {
         segment: u64,
         offset: u64,
         pages: u64,
-    ) -> Result<(), AreaError>
+    ) -> Result<(), MachineError>
         ensures done { Makes result self.old self.new (attach_refusal self.old pid addr segment offset pages) (attached self.old pid addr segment offset pages) }
-        ensures memory { result ≡ Err AreaError.HostMemory → attach_refusal self.old pid addr segment offset pages ≡ None }
+        ensures memory { result ≡ Err MachineError.HostMemory → attach_refusal self.old pid addr segment offset pages ≡ None }
         ensures over { OnOk result ((q v : ℕ) → area_over self.new.areas q v ≡ over_with self.old.areas ((pid, addr / 4096), new_area segment offset pages) q v) }
     {
         let Some(first) = stretch(addr, pages) else {
-            return Err(AreaError::Refused(Errno::Einval));
+            return Err(MachineError::Refused(Errno::Einval));
         };
         if !self.table.is_free(pid, first, pages) {
-            return Err(AreaError::Refused(Errno::Einval));
+            return Err(MachineError::Refused(Errno::Einval));
         }
         let Some(number) = self.table.stretch_of(segment, offset, pages) else {
-            return Err(AreaError::Refused(Errno::Einval));
+            return Err(MachineError::Refused(Errno::Einval));
         };
         self.table.attach(pid, first, number, offset, pages)?;
         Ok(())

@@ -1,7 +1,6 @@
 //! The areas of all processes, the segments that they show, and the frames in which pages stand.
 #![tactic(auto)]
 
-mod area_error;
 mod area_table;
 mod areas;
 mod lines;
@@ -13,6 +12,5 @@ mod split;
 mod tests;
 mod unmap;
 
-pub use area_error::AreaError;
 pub use areas::Areas;
 pub use lines::Line;

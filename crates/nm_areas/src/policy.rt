@@ -4,7 +4,7 @@ ghost use Rattle.std.specs.List.{AllByRecursion, flat_map};
 ghost use Rattle.std.specs.List.Sorted.{IsStrictlySortedBy};
 ghost use Rattle.std.specs.Map.{keys_of};
 ghost use Rattle.std.specs.Prelude.{IfNone, IfSome, None, OnErr, OnOk, Some, false, true, ℕ, ◌%◌, ◌*◌, ◌+◌, ◌/◌, ◌<◌, ◌^◌, ◌≡◌, ◌≤◌};
-ghost use Rattle.nm_areas.specs.Does.{Makes};
+ghost use Rattle.nm_types.specs.Does.{Makes};
 ghost use Rattle.nm_areas.specs.Effect.{with_policy};
 ghost use Rattle.nm_areas.specs.Mapped.{AreasAreApart, EndsLow, HasIndices, IsSomePages};
 ghost use Rattle.nm_areas.specs.Policy.{is_mapped, pages_of, painted, repoliced};
@@ -14,11 +14,10 @@ ghost use Rattle.nm_areas.specs.Table.{with_areas};
 ghost use Rattle.nm_types.specs.Map.{spot_cmp, with_values};
 ghost use Rattle.nm_types.specs.State.{page_at};
 
-use crate::area_error::AreaError;
 use crate::area_table::AreaTable;
 use crate::areas::Areas;
 use crate::scan::{next_area, put};
-use nm_types::{Area, Errno, Pid, Policy, Vpn};
+use nm_types::{Area, Errno, MachineError, Pid, Policy, Vpn};
 use std::alloc::{AllocError, Allocator};
 use std::collections::BTreeMap;
 
@@ -35,16 +34,16 @@ impl<A: Allocator + Copy> Areas<A> {
         addr: u64,
         len: u64,
         policy: Policy,
-    ) -> Result<(), AreaError>
+    ) -> Result<(), MachineError>
         ensures done { Makes result self.old self.new (policy_refusal self.old pid addr len) (with_policy self.old pid addr len policy) }
-        ensures memory { result ≡ Err AreaError.HostMemory → (policy_refusal self.old pid addr len ≡ None) × (0 < len) }
+        ensures memory { result ≡ Err MachineError.HostMemory → (policy_refusal self.old pid addr len ≡ None) × (0 < len) }
         ensures pages { (q v : ℕ) → page_at self.new.areas q v ≡ page_at self.old.areas q v }
     {
         let Some((first, count)) = whole_pages(addr, len) else {
-            return Err(AreaError::Refused(Errno::Einval));
+            return Err(MachineError::Refused(Errno::Einval));
         };
         if !self.table.is_mapped(pid, first, count) {
-            return Err(AreaError::Refused(Errno::Efault));
+            return Err(MachineError::Refused(Errno::Efault));
         }
         if len > 0 {
             self.table.set_policy(pid, first, count, policy)?;

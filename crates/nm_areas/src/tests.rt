@@ -1,21 +1,21 @@
-use crate::{AreaError, Areas};
-use nm_types::{Errno, FrameId, Page, Pid, Policy, Vpn};
+use crate::Areas;
+use nm_types::{Errno, FrameId, MachineError, Page, Pid, Policy, Vpn};
 use std::alloc::{AllocError, Global};
 use std::test::Fail;
 
-const INVALID: AreaError = AreaError::Refused(Errno::Einval);
+const INVALID: MachineError = MachineError::Refused(Errno::Einval);
 
-const FAULT: AreaError = AreaError::Refused(Errno::Efault);
+const FAULT: MachineError = MachineError::Refused(Errno::Efault);
 
 /// Process 1 has an area of three pages from page number 16 on.
-fn three_pages(alloc: Global) -> Result<Areas<Global>, AreaError> {
+fn three_pages(alloc: Global) -> Result<Areas<Global>, MachineError> {
     let mut areas = Areas::new(alloc);
     areas.insert(Pid::new(1), 0x10000, 3, false)?;
     Ok(areas)
 }
 
 /// The same after the second page has a policy of its own.
-fn second_apart(alloc: Global) -> Result<Areas<Global>, AreaError> {
+fn second_apart(alloc: Global) -> Result<Areas<Global>, MachineError> {
     let mut areas = three_pages(alloc)?;
     areas.split_policy(Pid::new(1), 0x11000, 4096, Policy::Local)?;
     Ok(areas)
@@ -103,7 +103,7 @@ fn attached(
     segment: u64,
     offset: u64,
     pages: u64,
-) -> Result<Option<AreaError>, AreaError> {
+) -> Result<Option<MachineError>, MachineError> {
     let mut areas = Areas::new(alloc);
     areas.insert(Pid::new(1), 0x10000, 3, true)?;
     Ok(
@@ -152,7 +152,7 @@ fn frames_of_pages(rt: HostRuntime) -> Result<(), Fail> {
 }
 
 /// The same after it let go its second page.
-fn second_gone(alloc: Global) -> Result<Areas<Global>, AreaError> {
+fn second_gone(alloc: Global) -> Result<Areas<Global>, MachineError> {
     let mut areas = second_apart(alloc)?;
     areas.remove(Pid::new(1), 0x11000, 1)?;
     Ok(areas)
@@ -174,7 +174,7 @@ fn a_page_goes(rt: HostRuntime) -> Result<(), Fail> {
 
 /// Segment 0, a shared one of three pages, whose pages stand in frames 5, 6 and 7. Process 1 has all of them from page
 /// number 16 on, and the last two again from 32 on. Process 2 has the second.
-fn shared_pages(alloc: Global) -> Result<Areas<Global>, AreaError> {
+fn shared_pages(alloc: Global) -> Result<Areas<Global>, MachineError> {
     let mut areas = Areas::new(alloc);
     areas.insert(Pid::new(1), 0x10000, 3, true)?;
     areas.attach(Pid::new(1), 0x20000, 0, 1, 2)?;
@@ -208,7 +208,7 @@ fn frames_one_after_another(rt: HostRuntime) -> Result<(), Fail> {
 }
 
 /// Whether a process that lets go all that it has gives these frames.
-fn gives(areas: &mut Areas<Global>, pid: u32, frames: &[u32]) -> Result<bool, AreaError> {
+fn gives(areas: &mut Areas<Global>, pid: u32, frames: &[u32]) -> Result<bool, MachineError> {
     let freed = areas.remove(Pid::new(pid), 0, 34_359_738_368)?;
     Ok(
         freed

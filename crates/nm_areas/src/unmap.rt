@@ -5,7 +5,7 @@ ghost use Rattle.std.specs.List.Sorted.{IsStrictlySortedBy};
 ghost use Rattle.std.specs.Map.{keys_of};
 ghost use Rattle.std.specs.Ordering.{nat_cmp};
 ghost use Rattle.std.specs.Prelude.{IfOk, None, OnOk, Some, false, length, min, true, vec_capacity, vec_len, ℕ, ◌*◌, ◌++◌, ◌+◌, ◌/◌, ◌<◌, ◌^◌, ◌≡◌, ◌≤◌};
-ghost use Rattle.nm_areas.specs.Does.{Makes};
+ghost use Rattle.nm_types.specs.Does.{Makes};
 ghost use Rattle.nm_areas.specs.Lines.{is_shared};
 ghost use Rattle.nm_areas.specs.Mapped.{AllShown, AreasAreApart, HasIndices, PrivateIsOnce, shows_segment};
 ghost use Rattle.nm_areas.specs.Parts.{is_covered};
@@ -14,11 +14,10 @@ ghost use Rattle.nm_areas.specs.Removed.{all_lost, frames_lost, lost, others, pa
 ghost use Rattle.nm_types.specs.Map.{get, page_cmp, spot_cmp, without};
 ghost use Rattle.nm_types.specs.State.{page_at};
 
-use crate::area_error::AreaError;
 use crate::area_table::AreaTable;
 use crate::areas::{Areas, stretch};
 use crate::scan::{is_covered, next_place};
-use nm_types::{Area, Errno, FrameId, Page, Pid, Vpn};
+use nm_types::{Area, Errno, FrameId, MachineError, Page, Pid, Vpn};
 use std::alloc::Allocator;
 use std::collections::BTreeMap;
 
@@ -35,15 +34,15 @@ impl<A: Allocator + Copy> Areas<A> {
         pid: Pid,
         addr: u64,
         pages: u64,
-    ) -> Result<Vec<(Page, FrameId), A>, AreaError>
+    ) -> Result<Vec<(Page, FrameId), A>, MachineError>
         ensures done { Makes result self.old self.new (remove_refusal addr pages) (removed self.old pid (addr / 4096) (addr / 4096 + pages)) }
-        ensures memory { result ≡ Err AreaError.HostMemory → remove_refusal addr pages ≡ None }
+        ensures memory { result ≡ Err MachineError.HostMemory → remove_refusal addr pages ≡ None }
         ensures pages { OnOk result ((q v : ℕ) → page_at self.new.areas q v ≡ page_outside self.old.areas pid (addr / 4096) (addr / 4096 + pages) q v) }
         ensures freed { IfOk result (λ freed. freed.items ≡ frames_lost self.old pid (addr / 4096) (addr / 4096 + pages)) }
         ensures room { IfOk result (λ freed. vec_capacity freed ≤ min (length self.old.place) pages) }
     {
         let Some(first) = stretch(addr, pages) else {
-            return Err(AreaError::Refused(Errno::Einval));
+            return Err(MachineError::Refused(Errno::Einval));
         };
         let end = Vpn::new(first.number() + pages);
         let most = self.places.len().min(pages as usize);

@@ -1,6 +1,6 @@
-use nm_areas::{AreaError, Areas, Line};
+use nm_areas::{Areas, Line};
 use nm_refusing::Refusing;
-use nm_types::{FrameId, Page, Pid, Policy};
+use nm_types::{FrameId, MachineError, Page, Pid, Policy};
 use std::alloc::Global;
 use std::process::Abort;
 use std::test::Fail;
@@ -37,7 +37,7 @@ fn first_page(segment: u32) -> Page {
 
 /// Makes a call of one round. Process 1 gets three pages of a shared segment, process 2 the last two of them, the first
 /// gets a frame, the second a policy in process 1, and in the end process 1 lets go the first two.
-fn perform<'a>(areas: &mut Areas<Heap<'a>>, call: Call, round: u32) -> Result<(), AreaError> {
+fn perform<'a>(areas: &mut Areas<Heap<'a>>, call: Call, round: u32) -> Result<(), MachineError> {
     let one = Pid::new(1);
     let addr = u64::from(round) * 0x10000;
     match call {
@@ -72,7 +72,7 @@ impl Picture<'_> {
     }
 }
 
-fn take_picture<'a>(areas: &Areas<Heap<'a>>, round: u32) -> Result<Picture<'a>, AreaError> {
+fn take_picture<'a>(areas: &Areas<Heap<'a>>, round: u32) -> Result<Picture<'a>, MachineError> {
     Ok(Picture {
         first: areas.lines(Pid::new(1))?,
         second: areas.lines(Pid::new(2))?,
@@ -87,7 +87,7 @@ fn attempt<'a>(
     call: Call,
     round: u32,
     number: u64,
-) -> (bool, Result<(), AreaError>) {
+) -> (bool, Result<(), MachineError>) {
     heap.refuse(number);
     let answer = perform(areas, call, round);
     let met = heap.asked_since(number) >= number;
@@ -103,7 +103,7 @@ fn refuse_each<'a>(
     areas: &mut Areas<Heap<'a>>,
     call: Call,
     round: u32,
-) -> Result<u64, AreaError> {
+) -> Result<u64, MachineError> {
     let before = take_picture(areas, round)?;
     for number in 1..1000u64 {
         let (met, answer) = attempt(heap, areas, call, round, number);
@@ -112,14 +112,14 @@ fn refuse_each<'a>(
             return Ok(number - 1);
         }
         let answered = matches!(call, Call::Lines) && answer.is_ok();
-        let fine = answered || answer.err() == Some(AreaError::HostMemory);
+        let fine = answered || answer.err() == Some(MachineError::HostMemory);
         let now = take_picture(areas, round)?;
         assert!(rt;
             fine && now.is_same(&before),
             "{call:?}, allocation {number}"
         );
     }
-    Err(AreaError::HostMemory)
+    Err(MachineError::HostMemory)
 }
 
 /// Makes a call in each round, after each of its allocations was refused in turn. Gives how many refusals there were.
@@ -128,7 +128,7 @@ fn refuse_rounds<'a>(
     heap: Heap<'a>,
     areas: &mut Areas<Heap<'a>>,
     call: Call,
-) -> Result<u64, AreaError> {
+) -> Result<u64, MachineError> {
     let mut refused = 0u64;
     for round in 0..ROUNDS {
         let more = refuse_each(rt, heap, areas, call, round)?;

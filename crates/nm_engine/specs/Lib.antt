@@ -32,4 +32,3 @@ pub mod Does
 pub mod Entries
 pub mod Audited
 pub mod Policing
-pub mod Errors

@@ -10,7 +10,7 @@ ghost use Rattle.nm_types.specs.declared.errno.Errno.TheVariants.{Ebusy, Einval}
 ghost use Rattle.nm_types.specs.declared.sight.Sight.TheVariants.{ZeroPage, Sees};
 ghost use Rattle.nm_types.specs.Map.{get, set, without, with_values, page_cmp};
 ghost use Rattle.nm_types.specs.State.{Process, Placed, State, area_over, page_at};
-ghost use Rattle.nm_areas.specs.Does.{Makes};
+ghost use Rattle.nm_types.specs.Does.{Makes};
 ghost use Rattle.nm_areas.specs.Effect.{inserted, attached, with_policy};
 ghost use Rattle.nm_areas.specs.Refused.{insert_refusal, attach_refusal, policy_refusal, remove_refusal};
 ghost use Rattle.nm_areas.specs.Removed.{frames_lost};

@@ -7,11 +7,10 @@ mod frames;
 mod inner;
 pub mod laws;
 mod machine;
-mod machine_error;
 mod process;
 mod process_table;
 
 pub use machine::{Machine, Totals};
-pub use machine_error::MachineError;
 pub use nm_tables::Entry;
+pub use nm_types::MachineError;
 pub use process::ProcessInfo;

@@ -19,11 +19,10 @@ ghost use Rattle.nm_engine.specs.Sound.{IsSound};
 ghost use Rattle.nm_engine.specs.Does.{Makes, Alters, Tells, Accesses, AsksLast};
 
 use crate::inner::Inner;
-use crate::machine_error::MachineError;
 use crate::process::ProcessInfo;
 use nm_runs::Run;
 use nm_tables::Entry;
-use nm_types::{Errno, FrameId, Geometry, NodeId, NodeMask, Pid, Policy, Vpn};
+use nm_types::{Errno, FrameId, Geometry, MachineError, NodeId, NodeMask, Pid, Policy, Vpn};
 use std::alloc::{AllocError, Allocator};
 use std::marker::Model;
 

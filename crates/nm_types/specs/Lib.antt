@@ -5,3 +5,4 @@ pub mod Layout
 pub mod Refusal
 pub mod Map
 pub mod State
+pub mod Does

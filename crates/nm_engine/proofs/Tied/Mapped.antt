@@ -20,9 +20,9 @@ use Rattle.nm_types.specs.State.{covers, area_over, page_shown, page_at}
 use Rattle.nm_types.proofs.Cases.{true_false, none_some, some_none}
 use Rattle.nm_tables.specs.declared.entry.Entry.{Entry}
 use Rattle.nm_tables.specs.declared.entry.Entry.TheVariants.{Zero, Frame, Held}
-use Rattle.nm_areas.specs.declared.area_error.AreaError.{AreaError}
-use Rattle.nm_areas.specs.declared.area_error.AreaError.TheVariants as error
-use Rattle.nm_areas.specs.Does.{Makes}
+use Rattle.nm_types.specs.declared.machine_error.MachineError.{MachineError}
+use Rattle.nm_types.specs.declared.machine_error.MachineError.TheVariants as error
+use Rattle.nm_types.specs.Does.{Makes}
 use Rattle.nm_areas.specs.Effect.{over_with, with_policy}
 use Rattle.nm_areas.specs.Policy.{pages_of, repoliced}
 use Rattle.nm_areas.specs.Mapped.{Mapped}
@@ -134,7 +134,7 @@ attach_room m pid address segment offset pages h =
     (and_parts (is_room m.areas pid address pages) _ (not_false fits (no_error (not fits) Einval [] h))).0
 
 -- what holds if a call does what it is to, and if it changes nothing, holds
-pub from_makes : {T P F : Type 0} (result : Result T AreaError) (old new after : Mapped) (refusal : Option Errno) → (refusal ≡ None → new ≡ after → F → P) → (new ≡ old → P)
+pub from_makes : {T P F : Type 0} (result : Result T MachineError) (old new after : Mapped) (refusal : Option Errno) → (refusal ≡ None → new ≡ after → F → P) → (new ≡ old → P)
     → Makes result old new refusal after → OnOk result F → P
 from_makes (Ok x) old new after refusal f g h k = f h.0 h.1 k
 from_makes (Err (error.Refused e)) old new after refusal f g h k = g h.1
@@ -146,7 +146,7 @@ place_policed m pid address len policy =
     let n : Mapped = record m { areas = flat_map (repoliced pid (address / 4096) (address / 4096 + pages_of len) policy) m.areas } in
     elim (len == 0) as (λ b. (cond b m n).place ≡ m.place) [ true ↦ refl | false ↦ refl ]
 
-pub policed_still : {T : Type 0} (m n : Mapped) (pid address len : ℕ) (policy : Policy) (result : Result T AreaError)
+pub policed_still : {T : Type 0} (m n : Mapped) (pid address len : ℕ) (policy : Policy) (result : Result T MachineError)
     → Makes result m n (policy_refusal m pid address len) (with_policy m pid address len policy) → ((q v : ℕ) → page_at n.areas q v ≡ page_at m.areas q v) → IsShownStill m n
 policed_still m n pid address len policy (Ok x) h same =
     record { place = ap (λ (n : Mapped). n.place) h.1 ∙ place_policed m pid address len policy; pages = λ q v p k. same q v ∙ k }

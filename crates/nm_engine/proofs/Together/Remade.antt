@@ -3,9 +3,9 @@ use Rattle.std.proofs.Common.{◌≡◌, ℕ, List, [], Bool, sym, ap, subst, �
 use Rattle.std.specs.Prelude.{Option, None, Err}
 use Rattle.nm_types.specs.declared.errno.Errno.{Errno}
 use Rattle.nm_types.specs.declared.area.Policy.{Policy}
-use Rattle.nm_areas.specs.declared.area_error.AreaError.{AreaError}
-use Rattle.nm_areas.specs.declared.area_error.AreaError.TheVariants.{Refused, HostMemory}
-use Rattle.nm_areas.specs.Does.{Makes}
+use Rattle.nm_types.specs.declared.machine_error.MachineError.{MachineError}
+use Rattle.nm_types.specs.declared.machine_error.MachineError.TheVariants.{Refused, HostMemory}
+use Rattle.nm_types.specs.Does.{Makes}
 use Rattle.nm_areas.specs.Effect.{inserted, attached, with_policy}
 use Rattle.nm_areas.specs.Mapped.{Mapped}
 use Rattle.nm_engine.specs.AddressSpaces.{SpacesView, mapped_of, table_of, with_mapped}
@@ -19,7 +19,7 @@ use Rattle.nm_engine.proofs.Soundness.Called.{map_sound, attach_sound}
 use Rattle.nm_engine.proofs.Soundness.Policed.{policy_sound}
 
 -- a call that did nothing changed no area
-pub nothing_made : (T : Type 0) (e : AreaError) (old new : Mapped) (refusal : Option Errno) (after : Mapped) → Makes {T = T} (Err e) old new refusal after → new ≡ old
+pub nothing_made : (T : Type 0) (e : MachineError) (old new : Mapped) (refusal : Option Errno) (after : Mapped) → Makes {T = T} (Err e) old new refusal after → new ≡ old
 nothing_made T (Refused errno) old new refusal after h = h.1
 nothing_made T HostMemory old new refusal after h = h
 

@@ -7,7 +7,7 @@ ghost use Rattle.std.specs.Ordering.{nat_cmp};
 ghost use Rattle.std.specs.List.Sorted.{IsStrictlySortedBy};
 ghost use Rattle.nm_types.specs.Map.{get, without};
 ghost use Rattle.nm_types.specs.State.{Process};
-ghost use Rattle.nm_areas.specs.Does.{Makes};
+ghost use Rattle.nm_types.specs.Does.{Makes};
 ghost use Rattle.nm_areas.specs.Effect.{inserted, attached, with_policy};
 ghost use Rattle.nm_areas.specs.Refused.{insert_refusal, attach_refusal, policy_refusal, remove_refusal};
 ghost use Rattle.nm_areas.specs.Removed.{removed, frames_lost};
@@ -18,10 +18,9 @@ ghost use Rattle.nm_engine.specs.AddressSpaces.{mapped_of, with_mapped, without_
 
 use crate::address_spaces::AddressSpaces;
 use crate::process_table::ProcessTable;
-use nm_areas::AreaError;
 use nm_rmap::ReverseMap;
 use nm_tables::Entry;
-use nm_types::{FrameId, Page, Pid, Policy, Vpn};
+use nm_types::{FrameId, MachineError, Page, Pid, Policy, Vpn};
 use std::alloc::Allocator;
 
 impl<A: Allocator + Copy> AddressSpaces<A> {
@@ -32,9 +31,9 @@ impl<A: Allocator + Copy> AddressSpaces<A> {
         addr: u64,
         pages: u64,
         shared: bool,
-    ) -> Result<u32, AreaError>
+    ) -> Result<u32, MachineError>
         ensures done { Makes result (mapped_of self.old) (mapped_of self.new) (insert_refusal (mapped_of self.old) pid addr pages) (inserted (mapped_of self.old) pid addr pages shared) }
-        ensures memory { result ≡ Err AreaError.HostMemory → insert_refusal (mapped_of self.old) pid addr pages ≡ None }
+        ensures memory { result ≡ Err MachineError.HostMemory → insert_refusal (mapped_of self.old) pid addr pages ≡ None }
         ensures number { IfOk result (λ number. number ≡ self.old.next) }
         ensures same { self.new ≡ with_mapped self.old (mapped_of self.new) }
     {
@@ -49,9 +48,9 @@ impl<A: Allocator + Copy> AddressSpaces<A> {
         segment: u64,
         offset: u64,
         pages: u64,
-    ) -> Result<(), AreaError>
+    ) -> Result<(), MachineError>
         ensures done { Makes result (mapped_of self.old) (mapped_of self.new) (attach_refusal (mapped_of self.old) pid addr segment offset pages) (attached (mapped_of self.old) pid addr segment offset pages) }
-        ensures memory { result ≡ Err AreaError.HostMemory → attach_refusal (mapped_of self.old) pid addr segment offset pages ≡ None }
+        ensures memory { result ≡ Err MachineError.HostMemory → attach_refusal (mapped_of self.old) pid addr segment offset pages ≡ None }
         ensures same { self.new ≡ with_mapped self.old (mapped_of self.new) }
     {
         self.areas.attach(pid, addr, segment, offset, pages)
@@ -64,9 +63,9 @@ impl<A: Allocator + Copy> AddressSpaces<A> {
         addr: u64,
         len: u64,
         policy: Policy,
-    ) -> Result<(), AreaError>
+    ) -> Result<(), MachineError>
         ensures done { Makes result (mapped_of self.old) (mapped_of self.new) (policy_refusal (mapped_of self.old) pid addr len) (with_policy (mapped_of self.old) pid addr len policy) }
-        ensures memory { result ≡ Err AreaError.HostMemory → policy_refusal (mapped_of self.old) pid addr len ≡ None }
+        ensures memory { result ≡ Err MachineError.HostMemory → policy_refusal (mapped_of self.old) pid addr len ≡ None }
         ensures same { self.new ≡ with_mapped self.old (mapped_of self.new) }
     {
         self.areas.split_policy(pid, addr, len, policy)
@@ -94,7 +93,7 @@ impl<A: Allocator + Copy> AddressSpaces<A> {
         pid: Pid,
         addr: u64,
         pages: u64,
-    ) -> Result<Vec<(Page, FrameId), A>, AreaError>
+    ) -> Result<Vec<(Page, FrameId), A>, MachineError>
         requires unpinned { shows_pinned self.old.areas self.old.pins pid (addr / 4096) (addr / 4096 + pages) ≡ false }
         ensures done { Makes result (mapped_of self.old) (mapped_of self.new) (remove_refusal addr pages) (removed (mapped_of self.old) pid (addr / 4096) (addr / 4096 + pages)) }
         ensures ok { OnOk result (self.new ≡ without_range self.old pid (addr / 4096) (addr / 4096 + pages)) }

@@ -12,9 +12,8 @@ ghost use Rattle.std.specs.Prelude.{IfNone, IfOk, IfSome, Some, [], false, map, 
 
 use crate::frames::Frames;
 use crate::inner::Inner;
-use crate::machine_error::MachineError;
 use nm_types::limits::PAGE_NUMBERS;
-use nm_types::{Errno, FrameId, Page, Pid, Policy, Vpn};
+use nm_types::{Errno, FrameId, MachineError, Page, Pid, Policy, Vpn};
 use std::alloc::Allocator;
 
 /// The first page number of `pages` pages from an address on, where it is a page's address and they are at least one

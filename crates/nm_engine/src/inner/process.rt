@@ -11,10 +11,9 @@ ghost use Rattle.std.specs.List.{list_any};
 ghost use Rattle.std.specs.Prelude.{Some, [], false, nat_le, true, ◌+◌, ◌/◌, ◌<◌, ◌≡◌, ◌≤◌};
 
 use crate::inner::Inner;
-use crate::machine_error::MachineError;
 use crate::process::ProcessInfo;
 use nm_types::limits::{MAX_PROCESSES, PAGE_NUMBERS};
-use nm_types::{Errno, NodeMask, Pid, Vpn};
+use nm_types::{Errno, MachineError, NodeMask, Pid, Vpn};
 use std::alloc::Allocator;
 
 /// Whether a node of a set is not below a count.

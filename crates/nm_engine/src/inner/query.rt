@@ -20,10 +20,9 @@ ghost use Rattle.std.specs.Prelude.{IfOk, Some, [], option_map, true, ◌+◌, �
 
 use crate::inner::Inner;
 use crate::machine::Totals;
-use crate::machine_error::MachineError;
 use crate::process::ProcessInfo;
 use nm_tables::Entry;
-use nm_types::{Errno, FrameId, NodeId, Pid, Seen, Vpn};
+use nm_types::{Errno, FrameId, MachineError, NodeId, Pid, Seen, Vpn};
 use std::alloc::{AllocError, Allocator};
 
 impl<A: Allocator + Copy> Inner<A> {

@@ -16,10 +16,9 @@ ghost use Rattle.nm_engine.specs.Seeing.{frame_seen};
 use crate::frames::Frames;
 use crate::inner::Inner;
 use crate::inner::resolved::Resolved;
-use crate::machine_error::MachineError;
 use crate::process::ProcessInfo;
 use nm_policy::first_touch_order;
-use nm_types::{Errno, FrameId, NodeId, Page, Pid, Policy, Sight, Vpn};
+use nm_types::{Errno, FrameId, MachineError, NodeId, Page, Pid, Policy, Sight, Vpn};
 use std::alloc::{AllocError, Allocator};
 
 impl<A: Allocator + Copy> Inner<A> {
@@ -29,10 +28,7 @@ impl<A: Allocator + Copy> Inner<A> {
         ensures memory { AsksLast result (spot_refusal self.old.state pid addr len) }
         ensures same { self.new ≡ with_state self.old self.new.state }
     {
-        let resolved = match self.resolve(pid, addr, len) {
-            Ok(resolved) => resolved,
-            Err(errno) => return Err(MachineError::Refused(errno)),
-        };
+        let resolved = self.resolve(pid, addr, len)?;
         let len = len as usize;
         let mut bytes = Vec::with_capacity(self.alloc, len)?;
         match self.touch(resolved, false)? {
@@ -50,10 +46,7 @@ impl<A: Allocator + Copy> Inner<A> {
         ensures memory { AsksLast result (spot_refusal self.old.state pid addr (length bytes.now)) }
         ensures same { self.new ≡ with_state self.old self.new.state }
     {
-        let resolved = match self.resolve(pid, addr, bytes.len() as u64) {
-            Ok(resolved) => resolved,
-            Err(errno) => return Err(MachineError::Refused(errno)),
-        };
+        let resolved = self.resolve(pid, addr, bytes.len() as u64)?;
         let Some(frame) = self.touch(resolved, true)? else {
             unreachable!()
         };

@@ -1,8 +1,8 @@
 use Rattle.std.proofs.Common.{◌≡◌, arith, ℕ, List, ap, subst, ◌∙◌}
 use Rattle.std.specs.Prelude.{Option, None, Result, Ok, Err}
 use Rattle.nm_types.specs.declared.errno.Errno.{Errno}
-use Rattle.nm_engine.specs.declared.machine_error.MachineError.{MachineError}
-use Rattle.nm_engine.specs.declared.machine_error.MachineError.TheVariants.{Refused, HostMemory}
+use Rattle.nm_types.specs.declared.machine_error.MachineError.{MachineError}
+use Rattle.nm_types.specs.declared.machine_error.MachineError.TheVariants.{Refused, HostMemory}
 use Rattle.nm_engine.specs.Does.{AsksLast}
 use Rattle.nm_types.specs.State.{free_list}
 use Rattle.nm_engine.specs.Refused.{list_refusal}

@@ -19,30 +19,30 @@ use Rattle.nm_engine.proofs.inner.Inner.read.Goals as goal
 pub read-requires-clause-frame : goal.read-requires-clause-frame
 read-requires-clause-frame g c =
     let seen = inside _ _ _ _ c.self-2.view_is (λ s. frame_seen s c.args.pid (c.args.addr / 4096) ≡ Some c.in-Some.frame)
-    (ap (λ (x : ℕ × ℕ). frame_seen c.touch.new.self.state x.0 x.1) (λ i. (sym c.in-Ok.ensures.pid i, sym c.in-Ok.ensures.page i)) ∙ sym c.in_ok-frame.ensures.frame ∙ c.in-Some.is) in
+    (ap (λ (x : ℕ × ℕ). frame_seen c.touch.new.self.state x.0 x.1) (λ i. (sym c.in_ok-resolved.ensures.pid i, sym c.in_ok-resolved.ensures.page i)) ∙ sym c.in_ok-frame.ensures.frame ∙ c.in-Some.is) in
     let page = page_of_frame c.self-2.inside.spaces.place _ c.in-Some.frame seen in
     place_in_range (shown c.self-2.inside.spaces.processes (table_of c.self-2.inside.spaces) (paged_frames c.self-2.inside.spaces c.self-2.inside.frames) c.self-2.inside.online c.self-2.inside.totals.moved c.self-2.inside.totals.failed) _ page.0 c.in-Some.frame c.self-2.invariant.sound page.2
 
 pub returns-clause-answer : goal.returns-clause-answer
 returns-clause-answer g c =
-    let there = c.in-Ok.ensures.ok in
+    let there = c.in_ok-resolved.ensures.ok in
     let touched = touch_is c.args.self.now.state c.touch.new.self.state c.args.pid c.args.addr c.args.len false _ there.2 (c.in_ok-frame.ensures.touches there.0 there.1 there.3) in
     let done : read c.args.self.now.state c.args.pid c.args.addr c.args.len ≡ read_after c.args.self.now.state c.args.pid c.args.addr c.args.len (Ok c.touch.new.self.state) =
     ap (read_after c.args.self.now.state c.args.pid c.args.addr c.args.len) touched in
-    let bytes : c.match-branch-3.bytes.items ≡ mem_range (shown c.self-2.inside.spaces.processes (table_of c.self-2.inside.spaces) (paged_frames c.self-2.inside.spaces c.self-2.inside.frames) c.self-2.inside.online c.self-2.inside.totals.moved c.self-2.inside.totals.failed) c.args.pid c.args.addr c.args.len = elim c.match-branch-3.branch [
+    let bytes : c.match-branch-4.bytes.items ≡ mem_range (shown c.self-2.inside.spaces.processes (table_of c.self-2.inside.spaces) (paged_frames c.self-2.inside.spaces c.self-2.inside.frames) c.self-2.inside.online c.self-2.inside.totals.moved c.self-2.inside.totals.failed) c.args.pid c.args.addr c.args.len = elim c.match-branch-4.branch [
       | in-Some w ↦
           let seen = inside _ _ _ _ c.self-2.view_is (λ s. frame_seen s c.args.pid (c.args.addr / 4096) ≡ Some w.in-Some.frame)
-          (ap (λ (x : ℕ × ℕ). frame_seen c.touch.new.self.state x.0 x.1) (λ i. (sym c.in-Ok.ensures.pid i, sym c.in-Ok.ensures.page i)) ∙ sym c.in_ok-frame.ensures.frame ∙ w.in-Some.is) in
+          (ap (λ (x : ℕ × ℕ). frame_seen c.touch.new.self.state x.0 x.1) (λ i. (sym c.in_ok-resolved.ensures.pid i, sym c.in_ok-resolved.ensures.page i)) ∙ sym c.in_ok-frame.ensures.frame ∙ w.in-Some.is) in
           ap (λ b. b.items) w.bytes-is ∙ w.read.ensures
           ∙ ap (λ (old : List ℕ). old ++ stretch_of (bytes_of (paged_frames c.self-2.inside.spaces c.self-2.inside.frames).frames w.in-Some.frame) (c.args.addr % 4096) c.args.len) c.in_ok-bytes.ensures.items
-          ∙ sym (reads_frame c.self-2.inside.spaces.processes (table_of c.self-2.inside.spaces) (paged_frames c.self-2.inside.spaces c.self-2.inside.frames) c.self-2.inside.online c.self-2.inside.totals.moved c.self-2.inside.totals.failed _ c.self-2.invariant.sound c.args.pid c.args.addr c.args.len c.in-Ok.ensures.inside w.in-Some.frame seen)
+          ∙ sym (reads_frame c.self-2.inside.spaces.processes (table_of c.self-2.inside.spaces) (paged_frames c.self-2.inside.spaces c.self-2.inside.frames) c.self-2.inside.online c.self-2.inside.totals.moved c.self-2.inside.totals.failed _ c.self-2.invariant.sound c.args.pid c.args.addr c.args.len c.in_ok-resolved.ensures.inside w.in-Some.frame seen)
       | in-None w ↦
-          let zeros = subst (λ (o : Option ℕ). IfNone o (sight_at c.touch.new.self.state c.in-Ok.resolved.pid c.in-Ok.resolved.vpn ≡ Some ZeroPage)) w.in-None.is c.in_ok-frame.ensures.zeros in
+          let zeros = subst (λ (o : Option ℕ). IfNone o (sight_at c.touch.new.self.state c.in_ok-resolved.resolved.pid c.in_ok-resolved.resolved.vpn ≡ Some ZeroPage)) w.in-None.is c.in_ok-frame.ensures.zeros in
           let seen = inside _ _ _ _ c.self-2.view_is (λ s. sight_at s c.args.pid (c.args.addr / 4096) ≡ Some ZeroPage)
-          (ap (λ (x : ℕ × ℕ). sight_at c.touch.new.self.state x.0 x.1) (λ i. (sym c.in-Ok.ensures.pid i, sym c.in-Ok.ensures.page i)) ∙ zeros) in
+          (ap (λ (x : ℕ × ℕ). sight_at c.touch.new.self.state x.0 x.1) (λ i. (sym c.in_ok-resolved.ensures.pid i, sym c.in_ok-resolved.ensures.page i)) ∙ zeros) in
           ap (λ b. b.items) w.bytes-is ∙ w.push_zeros.ensures
           ∙ ap (λ (old : List ℕ). old ++ replicate c.args.len 0) c.in_ok-bytes.ensures.items
-          ∙ sym (reads_zeros c.self-2.inside.spaces.processes (table_of c.self-2.inside.spaces) (paged_frames c.self-2.inside.spaces c.self-2.inside.frames) c.self-2.inside.online c.self-2.inside.totals.moved c.self-2.inside.totals.failed _ c.self-2.invariant.sound c.args.pid c.args.addr c.args.len c.in-Ok.ensures.inside seen)
+          ∙ sym (reads_zeros c.self-2.inside.spaces.processes (table_of c.self-2.inside.spaces) (paged_frames c.self-2.inside.spaces c.self-2.inside.frames) c.self-2.inside.online c.self-2.inside.totals.moved c.self-2.inside.totals.failed _ c.self-2.invariant.sound c.args.pid c.args.addr c.args.len c.in_ok-resolved.ensures.inside seen)
     ] in (
       ap (λ (z : Answered). z.answer) done ∙ ap (λ (y : MidRun). Bytes (mem_range y.state c.args.pid c.args.addr c.args.len)) (sym c.self-2.view_is) ∙ ap Bytes (sym bytes),
       sym (ap (λ (z : Answered). z.state) done),
