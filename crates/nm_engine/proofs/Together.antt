@@ -9,4 +9,6 @@ pub mod Remade
 pub mod Paged
 pub mod Shows
 pub mod Free
+pub mod Copies
+pub mod Carried
 pub mod Touches

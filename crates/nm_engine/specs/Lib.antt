@@ -8,6 +8,7 @@ pub mod Refused
 pub mod Sound
 pub mod Laws
 pub mod Moves
+pub mod Copies
 pub mod Examples
 pub mod Asking
 pub use Rattle.nm_types.specs.Map

@@ -21,6 +21,7 @@ ghost use Rattle.nm_engine.specs.Tables.{info_of, untouched};
 ghost use Rattle.nm_engine.specs.ProcessTable.{IsThere, remapped};
 ghost use Rattle.nm_engine.specs.Entries.{entry_of};
 ghost use Rattle.nm_engine.specs.Refused.{shows_pinned};
+ghost use Rattle.nm_engine.specs.Moves.{CanRemap, all_moved};
 ghost use Rattle.nm_engine.specs.AddressSpaces.{no_spaces, mapped_of, with_mapped, with_seen, with_new_page, with_moved, pins_here, with_pins_of, without_range};
 
 mod areas;
@@ -29,6 +30,7 @@ mod walk;
 use crate::process::ProcessInfo;
 use crate::process_table::ProcessTable;
 use nm_areas::Areas;
+use nm_plan::Taken;
 use nm_rmap::ReverseMap;
 use nm_tables::Entry;
 use nm_types::{Area, Errno, FrameId, Page, PageView, Pid, Seen, Sight, Vpn};
@@ -262,7 +264,7 @@ impl<A: Allocator + Copy> AddressSpaces<A> {
 
     /// A page goes from a frame to one that no page has: every entry that named the one names the other, which has the
     /// pins. It takes no memory.
-    pub(crate) fn move_page(&mut self, page: Page, from: FrameId, to: FrameId)
+    fn move_page(&mut self, page: Page, from: FrameId, to: FrameId)
         requires placed { get page_cmp self.old.place page ≡ Some from }
         requires frame { to < self.old.frames }
         requires spare { (q : Page) → get page_cmp self.old.place q ≡ Some to → ⊥ }
@@ -271,6 +273,16 @@ impl<A: Allocator + Copy> AddressSpaces<A> {
         remap(&mut self.tasks, self.rmap.mappings(from), to);
         self.rmap.carry(from, to);
         self.areas.move_page(page, to);
+    }
+
+    /// Pages go from frames to others, one after another.
+    pub(crate) fn move_pages(&mut self, moves: &[Taken])
+        requires { CanRemap self.old moves.now }
+        ensures { self.new ≡ all_moved self.old moves.now }
+    {
+        for taken in moves {
+            self.move_page(taken.page, taken.from, taken.to);
+        }
     }
 
     /// Pins a page that has a frame once more. EBUSY where it has 65,535 pins, and then nothing has changed.

@@ -2,15 +2,21 @@
 
 ghost use Rattle.std.specs.Prelude.{◌≡◌, ◌≢◌, ◌+◌, ◌<◌, ◌≤◌, [], ◌∷◌, ◌++◌, length, vec_capacity, vec_len, Some, IfOk, OnOk, replicate, take, drop, slice_get, slice_set};
 ghost use Rattle.nm_types.specs.Layout.{node_count, frame_count, node_of};
-ghost use Rattle.nm_nodes.specs.Pool.{list_of, appended};
+ghost use Rattle.nm_nodes.specs.Pool.{list_of, with_list, appended};
+ghost use Rattle.nm_engine.specs.Copies.{CanCopy, with_copies};
+ghost use Rattle.nm_engine.specs.Run.{left};
 ghost use Rattle.nm_frames.specs.Store.{IsHome, bytes_of, overwrite};
 ghost use Rattle.nm_engine.specs.Audited.{is_audited, numbered};
 ghost use Rattle.nm_nodes.specs.Pool.{all_frames};
 ghost use Rattle.nm_engine.specs.Frames.{HasAllFrames, free_on, pool_of, all_freed, CanFree, with_freed, stretch_of};
 
+mod copying;
+
 use crate::audit;
+use copying::copy_pages;
 use nm_frames::{CopyJob, FrameStore};
 use nm_nodes::NodePool;
+use nm_plan::Taken;
 use nm_types::{FrameId, Geometry, NodeId};
 use std::alloc::{AllocError, Allocator};
 use std::marker::Model;
@@ -23,10 +29,11 @@ pub(crate) struct Frames<A: Allocator + Copy> {
     frames: FrameStore<A>,
     nodes: NodePool<A>,
     vacated: Vec<FrameId, A>,
+    jobs: Vec<CopyJob<A>, A>,
 }
 
 impl<A: Allocator + Copy> Model for Frames<A> {
-    ghost use Rattle.std.specs.Prelude.{◌≡◌, vec_capacity};
+    ghost use Rattle.std.specs.Prelude.{◌≡◌, [], min, vec_capacity};
     ghost use Rattle.nm_engine.specs.Frames.{FramesView, HasAllFrames};
 
     ghost Value = { FramesView };
@@ -36,7 +43,7 @@ impl<A: Allocator + Copy> Model for Frames<A> {
       frames = s.frames;
       free = s.nodes.lists;
       vacated = s.vacated.items;
-      room = vec_capacity s.vacated;
+      room = min (vec_capacity s.vacated) (vec_capacity s.jobs);
     } };
 
     ghost invariant = { λ s. (s.nodes.sizes ≡ s.geometry.sizes) × HasAllFrames (record {
@@ -44,8 +51,8 @@ impl<A: Allocator + Copy> Model for Frames<A> {
       frames = s.frames;
       free = s.nodes.lists;
       vacated = s.vacated.items;
-      room = vec_capacity s.vacated;
-    }) };
+      room = min (vec_capacity s.vacated) (vec_capacity s.jobs);
+    }) × (s.jobs.items ≡ []) };
 }
 
 impl<A: Allocator + Copy> Frames<A> {
@@ -63,6 +70,7 @@ impl<A: Allocator + Copy> Frames<A> {
             frames,
             nodes,
             vacated: Vec::new(alloc),
+            jobs: Vec::new(alloc),
         })
     }
 
@@ -170,22 +178,31 @@ impl<A: Allocator + Copy> Frames<A> {
         self.frames.zero(frame);
     }
 
-    /// Makes the bytes of one frame those of another.
-    pub(crate) fn copy(&mut self, from: FrameId, to: FrameId)
-        requires from { from < frame_count self.old.layout }
-        requires to { to < frame_count self.old.layout }
-        requires apart { from ≢ to }
-        ensures { self.new ≡ record (self.old) { frames = slice_set self.old.frames to (Some (bytes_of self.old.frames from)) } }
+    /// Takes so many free frames of a node from the front.
+    pub(crate) fn take_fronts(&mut self, node: NodeId, count: usize)
+        requires { node < node_count self.old.layout }
+        ensures rest { self.new ≡ record (self.old) { free = slice_set self.old.free node (drop count (free_on self.old node)) } }
+        ensures shelf { HasAllFrames self.old }
     {
-        copy_frame(&mut self.frames, from, to);
+        take_fronts(&mut self.nodes, node, count);
     }
 
-    /// Makes room for so many frames that a run's pages may leave.
+    /// Copies the pages of moves to the frames that they take.
+    pub(crate) fn copy_pages(&mut self, moves: &[Taken])
+        requires can { CanCopy self.old.frames moves.now }
+        requires room { length moves.now ≤ self.old.room }
+        ensures { self.new ≡ record (self.old) { frames = with_copies self.old.frames moves.now } }
+    {
+        copy_pages(&mut self.frames, moves, &mut self.jobs);
+    }
+
+    /// Makes room for so many moves of a run.
     pub(crate) fn reserve(&mut self, count: usize) -> Result<(), AllocError>
         ensures room { OnOk result (length self.new.vacated + count ≤ self.new.room) }
         ensures same { self.new ≡ record (self.old) { room = self.new.room } }
     {
-        self.vacated.reserve(count)
+        self.vacated.reserve(count)?;
+        self.jobs.reserve(self.vacated.len() + count)
     }
 
     /// How many frames the pages of this run have left.
@@ -195,12 +212,12 @@ impl<A: Allocator + Copy> Frames<A> {
         self.vacated.len()
     }
 
-    /// A page of this run has left a frame, which becomes free at the run's end.
-    pub(crate) fn vacate(&mut self, frame: FrameId)
-        requires { length self.old.vacated < self.old.room }
-        ensures { self.new ≡ record (self.old) { vacated = self.old.vacated ++ frame ∷ [] } }
+    /// The pages of these moves have left their frames, which become free at the run's end.
+    pub(crate) fn vacate_each(&mut self, moves: &[Taken])
+        requires { length self.old.vacated + length moves.now ≤ self.old.room }
+        ensures { self.new ≡ record (self.old) { vacated = self.old.vacated ++ left moves.now } }
     {
-        self.vacated.push_reserved(frame);
+        push_left(&mut self.vacated, moves);
     }
 
     /// The frames that the pages of this run have left become free, in their order, each at the end of its own node's
@@ -230,22 +247,25 @@ impl<A: Allocator + Copy> Frames<A> {
     }
 }
 
-/// Makes the bytes of one frame those of another.
-fn copy_frame<A: Allocator + Copy>(frames: &mut FrameStore<A>, from: FrameId, to: FrameId)
-    requires from { IsHome frames.old from }
-    requires to { IsHome frames.old to }
-    requires apart { from ≢ to }
-    ensures { frames.new ≡ slice_set frames.old to (Some (bytes_of frames.old from)) }
+/// Takes so many frames from the front of a node's list.
+fn take_fronts<A: Allocator + Copy>(nodes: &mut NodePool<A>, node: NodeId, count: usize)
+    requires { node < length nodes.old.lists }
+    ensures { nodes.new ≡ with_list nodes.old node (drop count (list_of nodes.old node)) }
 {
-    let mut job = CopyJob {
-        source: frames.take_out(from),
-        target: frames.take_out(to),
-        ticket: 0,
-    };
-    job.copy();
-    let CopyJob { source, target, .. } = job;
-    frames.put_back(source);
-    frames.put_back(target);
+    for _ in 0..count {
+        nodes.take_front(node);
+    }
+}
+
+/// Puts the frames that the pages of moves leave behind those of a list that has room for them.
+fn push_left<A: Allocator + Copy>(vacated: &mut Vec<FrameId, A>, moves: &[Taken])
+    requires { vec_len vacated.old + length moves.now ≤ vec_capacity vacated.old }
+    ensures items { vacated.new.items ≡ vacated.old.items ++ left moves.now }
+    ensures room { vec_capacity vacated.new ≡ vec_capacity vacated.old }
+{
+    for taken in moves {
+        vacated.push_reserved(taken.from);
+    }
 }
 
 /// Puts frames at the end of their own nodes' lists, one after another.

@@ -1,7 +1,6 @@
 -- A run by its plan is a run one after another.
-use Rattle.std.proofs.Common.{◌≡◌, ℕ, zero, suc, ◌+◌, ◌<◌, ◌≤◌, Bool, true, false, List, [], ◌∷◌, ◌++◌, map, length, take, drop, refl, sym, ap, subst, ◌∙◌, arith, append_assoc, length-append, ⊎_elim}
+use Rattle.std.proofs.Common.{◌≡◌, ◌≢◌, ℕ, zero, suc, ◌<◌, ◌≤◌, Bool, true, false, List, [], ◌∷◌, ◌++◌, map, length, take, drop, refl, sym, ap, subst, ◌∙◌, arith, ⊎_elim}
 use Rattle.std.specs.Prelude.{Option, Some, None, ℤ, slice_get, slice_set, if◌then◌else◌, pos}
-use Rattle.std.specs.Bool.{OnTrue, OnFalse}
 use Rattle.std.specs.List.{AllByRecursion, sum_by}
 use Rattle.std.specs.List.Sorted.{IsStrictlySortedBy}
 use Rattle.std.specs.Map.{keys_of, values_of}
@@ -9,10 +8,9 @@ use Rattle.std.specs.Ordering.{nat_cmp}
 use Rattle.nm_types.specs.declared.page.Page.{Page}
 use Rattle.nm_types.specs.declared.sight.Sight.{Sight}
 use Rattle.nm_types.specs.declared.sight.Sight.TheVariants.{ZeroPage, Sees}
-use Rattle.nm_types.specs.Layout.{frame_count}
+use Rattle.nm_types.specs.Layout.{frame_count, node_of}
 use Rattle.nm_types.specs.Map.{get, page_cmp}
 use Rattle.nm_types.specs.State.{State, free_list, page_at}
-use Rattle.nm_types.proofs.Cases.{none_some}
 use Rattle.nm_runs.specs.declared.Class.{Class}
 use Rattle.nm_runs.specs.declared.Class.TheVariants.{Status, Move}
 use Rattle.nm_runs.specs.declared.Wanted.{Wanted}
@@ -28,34 +26,35 @@ use Rattle.nm_engine.specs.Sound.{times, FramesAreOnce, OwnsItsFree}
 use Rattle.nm_engine.specs.Laws.{Agrees, moves_all, with_move, with_moves}
 use Rattle.nm_engine.specs.Moves.{CanMove, IsPlanOf}
 use Rattle.nm_engine.proofs.Soundness.Once.{counted_place}
-use Rattle.nm_engine.proofs.Together.Free.{counted_below, front_is}
+use Rattle.nm_engine.proofs.Together.Free.{counted_below}
 use Rattle.nm_engine.proofs.OneByOne.Looks.{looks_suffice}
 use Rattle.nm_engine.proofs.OneByOne.Planned.{plan_agrees}
-use Rattle.nm_engine.proofs.OneByOne.Placed.{ClassIsPlaced, status_placed}
+use Rattle.nm_engine.proofs.OneByOne.Placed.{ClassIsPlaced, status_placed, ClassIsAway, status_away}
 
 -- what can be done after a request
 abbrev Later : List Wanted → ℕ → Type 0
 Later ws target = (s : State) → CanMove s target (each s target ws).taken
 
-page_can : (s : State) (target : ℕ) (p : Page) (from : ℕ) (ws : List Wanted) → get page_cmp s.place p ≡ Some from → Later ws target → (front : List ℕ) → free_list s target ≡ front
+page_can : (s : State) (target : ℕ) (p : Page) (from : ℕ) (ws : List Wanted) → get page_cmp s.place p ≡ Some from → node_of s.layout from ≢ target → Later ws target → (front : List ℕ) → free_list s target ≡ front
     → CanMove s target ((moved_page s target p from front).taken ++ (each (moved_page s target p from front).state target ws).taken)
-page_can s target p from ws placed later [] e = later s
-page_can s target p from ws placed later (frame ∷ rest) e =
+page_can s target p from ws placed away later [] e = later s
+page_can s target p from ws placed away later (frame ∷ rest) e =
     let t : Taken = record { page = p; from = from; to = frame } in
     let after = λ (fs : List ℕ). record (with_move target s t) { free = slice_set s.free target fs } in (
       placed,
       ap (λ (fs : List ℕ). slice_get fs 0) e,
+      away,
       subst (λ (fs : List ℕ). CanMove (after (drop 1 fs)) target (each (moved_page s target p from (frame ∷ rest)).state target ws).taken) (sym e) (later (moved_page s target p from (frame ∷ rest)).state),
     )
 
-class_can : (s : State) (target : ℕ) (c : Class) (ws : List Wanted) → ClassIsPlaced s c → Later ws target → CanMove s target ((decided s target c).taken ++ (each (decided s target c).state target ws).taken)
-class_can s target (Status status) ws placed later = later s
-class_can s target (Move p from) ws placed later = page_can s target p from ws placed later (free_list s target) refl
+class_can : (s : State) (target : ℕ) (c : Class) (ws : List Wanted) → ClassIsPlaced s c → ClassIsAway s target c → Later ws target → CanMove s target ((decided s target c).taken ++ (each (decided s target c).state target ws).taken)
+class_can s target (Status status) ws placed away later = later s
+class_can s target (Move p from) ws placed away later = page_can s target p from ws placed away later (free_list s target) refl
 
 -- the moves of requests, one after another, can be made
 pub each_can : (ws : List Wanted) (target : ℕ) → Later ws target
 each_can [] target s = tt
-each_can (w ∷ ws) target s = class_can s target (status_or_move s target w) ws (status_placed s target w) (each_can ws target)
+each_can (w ∷ ws) target s = class_can s target (status_or_move s target w) ws (status_placed s target w) (status_away s target w) (each_can ws target)
 
 -- as many frames as requests are enough
 after_few : Bool → Page → ℕ → List Class → List Taken → List ℕ → ℕ → Decisions
@@ -86,18 +85,6 @@ few_suffice (Move page from ∷ classes) target moved front (suc n) enough =
       | true ↦ ap (λ (d : Decisions). record { statuses = pos target ∷ d.statuses; taken = d.taken }) (few_suffice classes target (moved ++ []) front (suc n) (omega (arith, enough)))
       | false ↦ new_few classes target (few_suffice classes target) page from moved front n (omega (arith, enough))
     ]
-
--- a page that can move has moved
-pub page_moved : (s : State) (target : ℕ) (t : Taken) (b : Bool) (new : State) → slice_get (free_list s target) 0 ≡ Some t.to → OnTrue b (new ≡ (decided s target (Move t.page t.from)).state) → OnFalse b (free_list s target ≡ [])
-    → new ≡ with_move target s t
-page_moved s target t true new front is none =
-    is ∙ ap (λ (fs : List ℕ). (moved_page s target t.page t.from fs).state) (front_is (free_list s target) t.to front)
-page_moved s target t false new front is none = absurd (none_some (sym (ap (λ (fs : List ℕ). slice_get fs 0) none) ∙ front))
-
-pub page_left : (s : State) (target : ℕ) (t : Taken) (b : Bool) (old new : List ℕ) → slice_get (free_list s target) 0 ≡ Some t.to → OnTrue b (new ≡ old ++ t.from ∷ []) → OnFalse b (free_list s target ≡ [])
-    → new ≡ old ++ t.from ∷ []
-page_left s target t true old new front is none = is
-page_left s target t false old new front is none = absurd (none_some (sym (ap (λ (fs : List ℕ). slice_get fs 0) none) ∙ front))
 
 -- the class by the view of a state is its class
 pub class_by_view : (s : State) (target : ℕ) (w : Wanted) → IsStrictlySortedBy nat_cmp (keys_of s.processes)
@@ -142,34 +129,6 @@ planned_is s target n classes front ws by at enough =
     ap (λ (fs : List ℕ). planned classes fs target) at
     ∙ ap (told classes) (few_suffice classes target [] (free_list s target) n enough)
     ∙ ap (λ (cs : List Class). planned cs (free_list s target) target) by
-
--- what is left of moves after one of them
-pub record Moved (s : State) (l : List ℕ) (target : ℕ) (taken rest : List Taken) (t : State) (m : List ℕ) : Type 0 where
-  pub can : CanMove t target rest
-  pub state : with_moves t target rest ≡ with_moves s target taken
-  pub left : m ++ left rest ≡ l ++ left taken
-  pub layout : t.layout ≡ s.layout
-  pub frames : length m ≡ length l + 1
-  pub one_less : length taken ≡ length rest + 1
-
-pub one_moved : (s : State) (l : List ℕ) (target : ℕ) (taken : List Taken) (x : Taken) (rest : List Taken) (t : State) (m : List ℕ) → taken ≡ x ∷ rest → CanMove s target taken
-    → (slice_get (free_list s target) 0 ≡ Some x.to → t ≡ with_move target s x) → (slice_get (free_list s target) 0 ≡ Some x.to → m ≡ l ++ x.from ∷ []) → Moved s l target taken rest t m
-one_moved s l target taken x rest t m first can state kept =
-    let now = subst (CanMove s target) first can in
-    let is = state now.1 in
-    let kept_is = kept now.1 in
-    record {
-      can = subst (λ (u : State). CanMove u target rest) (sym is) now.2;
-      state = ap (λ (u : State). with_moves u target rest) is ∙ sym (ap (with_moves s target) first);
-      left = ap (λ xs. xs ++ left rest) kept_is ∙ append_assoc l (x.from ∷ []) (left rest) ∙ ap (λ xs. l ++ left xs) (sym first);
-      layout = ap (λ (u : State). u.layout) is;
-      frames = let len : length m ≡ length l + 1 = ap length kept_is ∙ length-append l (x.from ∷ []) in len;
-      one_less = let n : length taken ≡ suc (length rest) = ap length first in omega (arith, n);
-    }
-
--- the page of a run's first move, and its place
-pub first_can : (s : State) (target : ℕ) (taken rest : List Taken) (x : Taken) → taken ≡ x ∷ rest → CanMove s target taken → get page_cmp s.place x.page ≡ Some x.from
-first_can s target taken rest x first can = (subst (CanMove s target) first can).0
 
 -- a run has one `all`
 by_address : (all : Bool) (ws : List Wanted) → AllByRecursion (IsByAddress all) ws → AllByRecursion (λ w. moves_all w ≡ all) ws

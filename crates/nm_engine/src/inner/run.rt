@@ -39,7 +39,8 @@ impl<A: Allocator + Copy> Inner<A> {
         plan(self.alloc, classes.as_slice(), front.as_slice(), target)
     }
 
-    /// Makes moves to a node, in their order.
+    /// Makes moves to a node: their frames are taken, all pages are copied, and then every entry that named a frame that
+    /// a page leaves names the other.
     pub(crate) fn carry_out(&mut self, target: NodeId, moves: &[Taken])
         requires target { target < node_count self.old.state.layout }
         requires room { length self.old.left + length moves.now ≤ self.old.room }
@@ -47,31 +48,10 @@ impl<A: Allocator + Copy> Inner<A> {
         ensures state { self.new.state ≡ with_moves self.old.state target moves.now }
         ensures left { self.new.left ≡ self.old.left ++ left moves.now }
     {
-        for taken in moves {
-            self.move_page(taken.page, taken.from, target);
-        }
-    }
-
-    /// Moves a page to the front free frame of a node: its bytes are copied, and then every entry that named the frame
-    /// that it leaves names the other. Whether the node had a free frame.
-    fn move_page(&mut self, page: Page, from: FrameId, target: NodeId) -> bool
-        requires placed { get page_cmp self.old.state.place page ≡ Some from }
-        requires target { target < node_count self.old.state.layout }
-        requires room { length self.old.left < self.old.room }
-        ensures some { OnTrue result (0 < length (free_list self.old.state target)) }
-        ensures state { OnTrue result (self.new.state ≡ (decided self.old.state target (Move page from)).state) }
-        ensures left { OnTrue result (self.new.left ≡ self.old.left ++ from ∷ []) }
-        ensures full { OnFalse result (free_list self.old.state target ≡ []) }
-        ensures same { OnFalse result (self.new ≡ self.old) }
-        ensures room { self.new.room ≡ self.old.room }
-    {
-        let Some(to) = self.frames.take_front(target) else {
-            return false;
-        };
-        self.frames.copy(from, to);
-        self.spaces.move_page(page, from, to);
-        self.frames.vacate(from);
-        true
+        self.frames.take_fronts(target, moves.len());
+        self.frames.copy_pages(moves);
+        self.spaces.move_pages(moves);
+        self.frames.vacate_each(moves);
     }
 
     /// The run ends: its moves and failures are counted, and the frames that its pages left become free.

@@ -13,4 +13,5 @@ invariant_of-self g c =
         buffers = c.self.invariant.1.buffers;
         home = c.self.invariant.1.home;
       },
+      c.self.invariant.2,
     )

@@ -8,4 +8,10 @@ invariant_of-result g c = (
   ap (λ (p : Pool). p.sizes) c.in_ok-nodes.ensures,
   new_shelf c.args.geometry c.in_ok-frames.frames c.in_ok-nodes.nodes.lists c.new-3.result.items _ c.frame_count.result
       c.frame_count.ensures c.in_ok-frames.ensures (ap (λ (p : Pool). p.lists) c.in_ok-nodes.ensures),
+  c.new-4.ensures.items,
 )
+
+pub returns-clause-shelf : goal.returns-clause-shelf
+returns-clause-shelf g c =
+    new_shelf c.args.geometry c.in_ok-frames.frames c.in_ok-nodes.nodes.lists c.new-3.result.items _ c.frame_count.result
+    c.frame_count.ensures c.in_ok-frames.ensures (ap (λ (p : Pool). p.lists) c.in_ok-nodes.ensures)

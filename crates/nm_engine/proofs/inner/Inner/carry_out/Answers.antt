@@ -1,24 +1,71 @@
-use Rattle.std.proofs.Common.{◌<◌, ◌+◌, drop, subst, sym, arith, ◌∙◌}
-use Rattle.nm_types.specs.Layout.{Layout, node_count}
-use Rattle.nm_engine.proofs.Together.Paces.{drop_item}
-use Rattle.nm_engine.proofs.OneByOne.Carried.{one_moved, page_moved, page_left}
+use Rattle.std.proofs.Common.{◌≡◌, ◌<◌, ◌++◌, length, ap, sym, subst, ◌∙◌, arith}
+use Rattle.nm_types.specs.Layout.{node_count}
+use Rattle.nm_engine.specs.AddressSpaces.{SpacesView}
+use Rattle.nm_engine.specs.Copies.{with_copies, CanCopy}
+use Rattle.nm_engine.specs.Frames.{FramesView}
+use Rattle.nm_engine.specs.Laws.{with_moves}
+use Rattle.nm_engine.specs.MidRun.{MidRun, IsKept}
+use Rattle.nm_engine.specs.Moves.{CanMove, all_moved}
+use Rattle.nm_engine.specs.Run.{left}
+use Rattle.nm_engine.specs.Shown.{shown_by}
+use Rattle.nm_engine.proofs.Together.Carried.{all_carried, by_parts, is_carried, carried_copy}
 use Rattle.nm_engine.proofs.inner.Inner.carry_out.Goals as goal
 
-pub loop-taken-preserved : goal.loop-taken-preserved
-loop-taken-preserved g c =
-    let i = c.loop-taken.invariant in
-    let old = c.loop-taken.self in
-    let new = c.move_page.new.self in
-    let t = c.taken-item.result in
-    let k = c.loop-taken.taken-index in
+pub copy_pages-requires-clause-can : goal.copy_pages-requires-clause-can
+copy_pages-requires-clause-can g c =
+    let i = c.self.inside in
+    let k : FramesView = i.frames in
     let moves = c.args.moves.now in
-    let now = one_moved old.state old.left c.args.target (drop k moves) t (drop (k + 1) moves) new.state new.left (drop_item moves k t c.loop-taken-test.true c.taken-item.is) i.moves
-    (λ front. page_moved old.state c.args.target t c.move_page.result new.state front c.move_page.ensures.state c.move_page.ensures.full)
-    (λ front. page_left old.state c.args.target t c.move_page.result old.left new.left front c.move_page.ensures.left c.move_page.ensures.full) in
-    record {
-      target = subst (λ (y : Layout). c.args.target < node_count y) (sym now.layout) i.target;
-      room = omega (arith, now.frames, now.one_less, i.room, c.move_page.ensures.room);
-      moves = now.can;
-      state = now.state ∙ i.state;
-      left = now.left ∙ i.left;
-    }
+    let t = c.args.target in
+    let can = subst (λ (x : MidRun). CanMove x.state t moves) (sym c.self.view_is) c.requires.moves in
+    let shelf = c.take_fronts.ensures.shelf in
+    let same = ap (λ (x : MidRun). node_count x.state.layout) c.self.view_is in
+    let inside : t < length k.free = omega (arith, same, shelf.lists, c.requires.target) in
+    let done = is_carried moves i.spaces k i.online i.totals.moved i.totals.failed t c.self.invariant shelf can in
+    subst (λ (x : FramesView). CanCopy x.frames moves) (sym c.take_fronts.ensures.rest)
+    (carried_copy moves i.spaces k i.online i.totals.moved i.totals.failed t c.self.invariant shelf inside can done)
+
+pub move_pages-requires : goal.move_pages-requires
+move_pages-requires g c =
+    let i = c.self.inside in
+    let moves = c.args.moves.now in
+    let t = c.args.target in
+    let can = subst (λ (x : MidRun). CanMove x.state t moves) (sym c.self.view_is) c.requires.moves in
+    (is_carried moves i.spaces i.frames i.online i.totals.moved i.totals.failed t c.self.invariant c.take_fronts.ensures.shelf can).remap
+
+pub invariant_of-self : goal.invariant_of-self
+invariant_of-self g c =
+    let i = c.self.inside in
+    let k : FramesView = i.frames in
+    let moves = c.args.moves.now in
+    let t = c.args.target in
+    let can = subst (λ (x : MidRun). CanMove x.state t moves) (sym c.self.view_is) c.requires.moves in
+    let shelf = c.take_fronts.ensures.shelf in
+    let same = ap (λ (x : MidRun). node_count x.state.layout) c.self.view_is in
+    let inside : t < length k.free = omega (arith, same, shelf.lists, c.requires.target) in
+    let done = is_carried moves i.spaces k i.online i.totals.moved i.totals.failed t c.self.invariant shelf can in
+    let copy : FramesView → FramesView = λ s. record s { frames = with_copies s.frames moves } in
+    let leave : FramesView → FramesView = λ s. record s { vacated = s.vacated ++ left moves } in
+    let after : c.vacate_each.new.self ≡ all_carried t k moves =
+    c.vacate_each.ensures ∙ ap leave (c.copy_pages.ensures ∙ ap copy c.take_fronts.ensures.rest) ∙ sym (by_parts moves t k inside) in
+    subst (λ (z : SpacesView). IsKept (shown_by z c.vacate_each.new.self i.online i.totals.moved i.totals.failed) c.vacate_each.new.self.vacated z.frames) (sym c.move_pages.ensures)
+    (subst (λ (x : FramesView). IsKept (shown_by (all_moved i.spaces moves) x i.online i.totals.moved i.totals.failed) x.vacated (all_moved i.spaces moves).frames) (sym after) done.kept)
+
+pub returns-clause-state : goal.returns-clause-state
+returns-clause-state g c =
+    let i = c.self.inside in
+    let k : FramesView = i.frames in
+    let moves = c.args.moves.now in
+    let t = c.args.target in
+    let can = subst (λ (x : MidRun). CanMove x.state t moves) (sym c.self.view_is) c.requires.moves in
+    let shelf = c.take_fronts.ensures.shelf in
+    let same = ap (λ (x : MidRun). node_count x.state.layout) c.self.view_is in
+    let inside : t < length k.free = omega (arith, same, shelf.lists, c.requires.target) in
+    let done = is_carried moves i.spaces k i.online i.totals.moved i.totals.failed t c.self.invariant shelf can in
+    let copy : FramesView → FramesView = λ s. record s { frames = with_copies s.frames moves } in
+    let leave : FramesView → FramesView = λ s. record s { vacated = s.vacated ++ left moves } in
+    let after : c.vacate_each.new.self ≡ all_carried t k moves =
+    c.vacate_each.ensures ∙ ap leave (c.copy_pages.ensures ∙ ap copy c.take_fronts.ensures.rest) ∙ sym (by_parts moves t k inside) in
+    ap (λ (z : SpacesView). shown_by z c.vacate_each.new.self i.online i.totals.moved i.totals.failed) c.move_pages.ensures
+    ∙ ap (λ (x : FramesView). shown_by (all_moved i.spaces moves) x i.online i.totals.moved i.totals.failed) after
+    ∙ done.shown ∙ ap (λ (x : MidRun). with_moves x.state t moves) c.self.view_is

@@ -1,0 +1,55 @@
+-- Copying the pages of a run.
+use Rattle.std.specs.Prelude.{◌≢◌, ℕ, ◌+◌, List, [], ◌∷◌, Some, None, slice_set}
+use Rattle.std.specs.List.{fold}
+use Rattle.nm_frames.specs.declared.job.CopyJob.{CopyJob}
+use Rattle.nm_frames.specs.Store.{Store, IsHome, IsOut, bytes_of}
+use Rattle.nm_plan.specs.declared.Taken.{Taken}
+
+-- a page is copied to the frame that it takes
+abbrev pub with_copy : Store → Taken → Store
+with_copy store t = slice_set store t.to (Some (bytes_of store t.from))
+
+-- one page after another is copied
+abbrev pub with_copies : Store → List Taken → Store
+with_copies store taken = fold with_copy store taken
+
+-- the store without the bytes of both frames
+abbrev pub without_both : Store → Taken → Store
+without_both store t = slice_set (slice_set store t.from None) t.to None
+
+-- the frames of these moves are home, and none is named twice
+abbrev pub CanCopy : Store → List Taken → Type 0
+CanCopy store [] = Unit {0}
+CanCopy store (t ∷ taken) = IsHome store t.from × IsHome store t.to × (t.from ≢ t.to) × CanCopy (without_both store t) taken
+
+-- the store while the bytes of these moves are out
+abbrev pub emptied : Store → List Taken → Store
+emptied store taken = fold without_both store taken
+
+-- a frame's bytes are back home
+abbrev pub with_buf : Store → ℕ × List ℕ → Store
+with_buf store buf = slice_set store buf.0 (Some buf.1)
+
+module _ {A : Type 0} where
+  -- a job for each move, numbered from k on
+  abbrev pub jobs_of : ℕ → Store → List Taken → List (CopyJob A)
+  jobs_of k store [] = []
+  jobs_of k store (t ∷ taken) =
+      record { source = (t.from, bytes_of store t.from); target = (t.to, bytes_of store t.to); ticket = k }
+      ∷ jobs_of (k + 1) (without_both store t) taken
+
+  -- a job's bytes are back home
+  abbrev pub with_job : Store → CopyJob A → Store
+  with_job store job = with_buf (with_buf store job.source) job.target
+
+  -- the bytes of jobs are back home, those of the last job first
+  abbrev pub refilled : Store → List (CopyJob A) → Store
+  refilled store [] = store
+  refilled store (job ∷ jobs) = with_job (refilled store jobs) job
+
+  -- the frames of jobs are out, and none is named twice
+  abbrev pub CanRefill : Store → List (CopyJob A) → Type 0
+  CanRefill store [] = Unit {0}
+  CanRefill store (job ∷ jobs) =
+      CanRefill store jobs × IsOut (refilled store jobs) job.source.0
+      × IsOut (with_buf (refilled store jobs) job.source) job.target.0
