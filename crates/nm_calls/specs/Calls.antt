@@ -15,6 +15,7 @@ pub data Call : Type 0 where
   WriteBytes : (pid addr : ℕ) (bytes : List ℕ) → Call
   MovePages : (caller pid : ℕ) (pages nodes : List ℕ) (flags : ℕ) → Call
   Query : (caller pid : ℕ) (pages : List ℕ) (flags : ℕ) → Call
+  Mbind : (caller addr len mode : ℕ) (nodes : List ℕ) (flags : ℕ) → Call
   FreeList : (node : ℕ) → Call
   Pagemap : (pid : ℕ) → Call
   Vmstat : Call
@@ -28,7 +29,9 @@ pub data Answer : Type 0 where
   Held : Answer
   NewSegment : (segment : ℕ) → Answer
   TheBytes : List ℕ → Answer
-  -- how many entries failed, and the status of each entry
+  -- how many entries failed
+  Failed : (failed : ℕ) → Answer
+  -- the same, and the status of each entry
   Statuses : (failed : ℕ) → List ℤ → Answer
   -- frames, the front first
   Frames : List ℕ → Answer

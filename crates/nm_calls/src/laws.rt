@@ -4,7 +4,7 @@ ghost use Rattle.nm_calls.specs.Laws.{RefusalsChangeNothing, TrailIsAfterRuns};
 ghost use Rattle.nm_calls.specs.Binding.{EachPageIsListedOnce};
 ghost use Rattle.nm_calls.specs.BindingRows.{PinnedPageIsTold, StrictAloneRefuses, StayingIsNoError, LinesAreSplit, NewPagesTakeTurns, BoundPagesGoNowhereElse, SecondPassTakesTheRest, FollowersStay, StrayPagesTakeTurns, BindingsAreRefused, LastByteCounts, TurnsGoByIndex, PageIsListedOnce, SharedPagesMoveWithAll, SetsAsText, BothProcessesAreCounted, LastPage};
 
-/// A call that is refused leaves the system as it was.
+/// A call that is refused leaves the system as it was, but for EIO of mbind(2) with MPOL_MF_STRICT and a flag to move.
 pub fn refusals_change_nothing()
     ensures { RefusalsChangeNothing }
 {}
