@@ -1,24 +1,28 @@
 -- A call that is refused leaves the system as it was.
-use Rattle.std.proofs.Common.{◌≡◌, Bool, true, false, Option, Some, None, [], refl, ap, sym, ◌∙◌}
+use Rattle.std.proofs.Common.{◌≡◌, Bool, true, false, Option, Some, None, List, [], refl, ap, sym, inl, inr, ◌∙◌}
 use Rattle.std.proofs.lemmas.Bool.{true≢false}
 use Rattle.nm_types.specs.declared.errno.Errno.{Errno}
 use Rattle.nm_engine.specs.Touch as engine
 use Rattle.nm_engine.specs.Touch.{read, write}
 use Rattle.nm_engine.specs.Run.{Ran}
 use Rattle.nm_engine.specs.Batch.{runs_from}
-use Rattle.nm_calls.specs.Calls.{Call, Spawn, MapPages, Attach, Unmap, Exit, Pin, Unpin, ReadBytes, WriteBytes, MovePages, MigratePages, Query, FreeList, Pagemap, Vmstat, NumaMaps, Answer, Refusal, Done, Held, NewSegment, TheBytes, Statuses, Failed, Frames, Entries, TheTotals, Lines}
+use Rattle.nm_calls.specs.Calls.{Call, Spawn, MapPages, Attach, Unmap, Exit, Pin, Unpin, ReadBytes, WriteBytes, MovePages, MigratePages, Query, FreeList, Pagemap, Vmstat, NumaMaps, Mbind, Answer, Refusal, Done, Held, Failed, NewSegment, TheBytes, Statuses, Frames, Entries, TheTotals, Lines}
 use Rattle.nm_calls.specs.Systems.{SystemState}
-use Rattle.nm_calls.specs.Outcome.{refusal_in, shown, refused, runs_asked, ended, unless}
+use Rattle.nm_calls.specs.Outcome.{Outcome, refusal_in, shown, refused, start, runs_asked, ended, unless, late_answer}
+use Rattle.std.specs.Prelude.{◌⊎◌, ◌&&◌, if◌then◌else◌}
+use Rattle.nm_types.specs.declared.errno.Errno.TheVariants.{Eio}
+use Rattle.nm_calls.specs.Binding.{binding, still_strays, tells_late}
+use Rattle.nm_calls.specs.Laws.{late_refusal}
 use Rattle.nm_calls.specs.Laws.{RefusalsChangeNothing}
 
 abbrev is_refusal : Answer → Bool
 is_refusal (Refusal e) = true
 is_refusal Done = false
+is_refusal (Failed failed) = false
 is_refusal Held = false
 is_refusal (NewSegment segment) = false
 is_refusal (TheBytes bytes) = false
 is_refusal (Statuses failed statuses) = false
-is_refusal (Failed failed) = false
 is_refusal (Frames frames) = false
 is_refusal (Entries entries) = false
 is_refusal (TheTotals moved failed) = false
@@ -34,29 +38,53 @@ access_answers engine.Done h = refl
 access_answers engine.Held h = refl
 access_answers (engine.Refused e) h = absurd (some_none e h)
 
--- nor does any other call
-call_answers : (y : SystemState) (call : Call) (made : Ran) → refused y.state call ≡ None → is_refusal (ended y call made).answer ≡ false
-unfolding ended refused
-call_answers y (Spawn pid uid home allowed privileged) made h = refl
-call_answers y (MapPages pid addr pages shared) made h = refl
-call_answers y (Attach pid addr segment offset pages) made h = refl
-call_answers y (Unmap pid addr pages) made h = refl
-call_answers y (Exit pid) made h = refl
-call_answers y (Pin pid addr) made h = refl
-call_answers y (Unpin pid addr) made h = refl
-call_answers y (ReadBytes pid addr len) made h = access_answers (read y.state pid addr len).answer h
-call_answers y (WriteBytes pid addr bytes) made h = access_answers (write y.state pid addr bytes).answer h
-call_answers y (MovePages caller pid pages nodes flags) made h = refl
-call_answers y (MigratePages caller pid old new) made h = refl
-call_answers y (Query caller pid pages flags) made h = refl
-call_answers y (FreeList node) made h = refl
-call_answers y (Pagemap pid) made h = refl
-call_answers y Vmstat made h = refl
-call_answers y (NumaMaps pid) made h = refl
+-- why an answer is a refusal
+abbrev error_of : Answer → Option Errno
+error_of (Refusal e) = Some e
+error_of Done = None
+error_of (Failed failed) = None
+error_of Held = None
+error_of (NewSegment segment) = None
+error_of (TheBytes bytes) = None
+error_of (Statuses failed statuses) = None
+error_of (Frames frames) = None
+error_of (Entries entries) = None
+error_of (TheTotals moved failed) = None
+error_of (Lines lines) = None
 
-by_refusal : (y : SystemState) (call : Call) (made : Ran) (o : Option Errno) (e : Errno) → refused y.state call ≡ o → (unless o y (ended y call made)).answer ≡ Refusal e → (unless o y (ended y call made)).system ≡ y
-by_refusal y call made (Some d) e r h = refl
-by_refusal y call made None e r h = absurd (true≢false (sym (ap is_refusal h) ∙ call_answers y call made r))
+no_error : (a : Answer) (e : Errno) → is_refusal a ≡ false → a ≡ Refusal e → ⊥
+no_error a e n is = true≢false (sym (ap is_refusal is) ∙ n)
+
+late_error : (strict strays : Bool) (e : Errno) → late_answer (strict && strays) ≡ Refusal e → (if strict then Some Eio else None) ≡ Some e
+late_error true true e h = ap error_of h
+late_error true false e h = absurd (no_error (Failed 0) e refl h)
+late_error false strays e h = absurd (no_error (Failed 0) e refl h)
+
+-- a call that is not refused at first answers no refusal, but for the late one
+call_answers : (y : SystemState) (call : Call) (made : Ran) (e : Errno) → refused y.state call ≡ None → (ended y call made).answer ≡ Refusal e → late_refusal call ≡ Some e
+unfolding ended refused
+call_answers y (Spawn pid uid home allowed privileged) made e h is = absurd (no_error Done e refl is)
+call_answers y (MapPages pid addr pages shared) made e h is = absurd (no_error (NewSegment y.state.next_segment) e refl is)
+call_answers y (Attach pid addr segment offset pages) made e h is = absurd (no_error Done e refl is)
+call_answers y (Unmap pid addr pages) made e h is = absurd (no_error Done e refl is)
+call_answers y (Exit pid) made e h is = absurd (no_error Done e refl is)
+call_answers y (Pin pid addr) made e h is = absurd (no_error Done e refl is)
+call_answers y (Unpin pid addr) made e h is = absurd (no_error Done e refl is)
+call_answers y (ReadBytes pid addr len) made e h is = absurd (no_error (shown (read y.state pid addr len).answer) e (access_answers (read y.state pid addr len).answer h) is)
+call_answers y (WriteBytes pid addr bytes) made e h is = absurd (no_error (shown (write y.state pid addr bytes).answer) e (access_answers (write y.state pid addr bytes).answer h) is)
+call_answers y (MovePages caller pid pages nodes flags) made e h is = absurd (no_error _ e refl is)
+call_answers y (MigratePages caller pid old new) made e h is = absurd (no_error _ e refl is)
+call_answers y (Query caller pid pages flags) made e h is = absurd (no_error _ e refl is)
+call_answers y (Mbind caller addr len mode nodes flags) made e h is =
+    late_error (tells_late flags) (still_strays y.state made.state (binding y.state caller addr len mode nodes)) e is
+call_answers y (FreeList node) made e h is = absurd (no_error _ e refl is)
+call_answers y (Pagemap pid) made e h is = absurd (no_error _ e refl is)
+call_answers y Vmstat made e h is = absurd (no_error _ e refl is)
+call_answers y (NumaMaps pid) made e h is = absurd (no_error _ e refl is)
+
+by_refusal : (y : SystemState) (call : Call) (made : Ran) (o : Option Errno) (e : Errno) → refused y.state call ≡ o → (unless o y (ended y call made)).answer ≡ Refusal e → ((unless o y (ended y call made)).system ≡ y) ⊎ (late_refusal call ≡ Some e)
+by_refusal y call made (Some d) e r h = inl refl
+by_refusal y call made None e r h = inr (call_answers y call made e r h)
 
 pub refusals_change_nothing : RefusalsChangeNothing
-refusals_change_nothing y call e h = by_refusal y call (runs_from 0 y.state (runs_asked y call) []) (refused y.state call) e refl h
+refusals_change_nothing y call e h = by_refusal y call (runs_from 0 (start y call) (runs_asked y call) []) (refused y.state call) e refl h

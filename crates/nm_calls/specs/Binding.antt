@@ -195,4 +195,5 @@ mbind limit s caller address len mode nodes flags =
     let b = binding s caller address len mode nodes in
     let made : Ran = runs_from 0 (policed s caller address len mode nodes) (mbind_runs limit s b flags) [] in
     let late = tells_late flags && still_strays s made.state b in
-    bound_unless (mbind_refusal s caller address len mode nodes flags) s (record { refusal = first_error ((late, Eio) ∷ []); state = made.state })
+    let refusal = mbind_refusal s caller address len mode nodes flags in
+    bound_unless refusal s (record { refusal = first_error ((late, Eio) ∷ []); state = made.state })

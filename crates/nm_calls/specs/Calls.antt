@@ -16,6 +16,7 @@ pub data Call : Type 0 where
   MovePages : (caller pid : ℕ) (pages nodes : List ℕ) (flags : ℕ) → Call
   MigratePages : (caller pid : ℕ) (old new : List ℕ) → Call
   Query : (caller pid : ℕ) (pages : List ℕ) (flags : ℕ) → Call
+  Mbind : (caller addr len mode : ℕ) (nodes : List ℕ) (flags : ℕ) → Call
   FreeList : (node : ℕ) → Call
   Pagemap : (pid : ℕ) → Call
   Vmstat : Call
@@ -29,10 +30,10 @@ pub data Answer : Type 0 where
   Held : Answer
   NewSegment : (segment : ℕ) → Answer
   TheBytes : List ℕ → Answer
-  -- how many entries failed, and the status of each entry
+  -- how many entries failed
+  Failed : (failed : ℕ) → Answer
+  -- the same, and the status of each entry
   Statuses : (failed : ℕ) → List ℤ → Answer
-  -- how many pages failed
-  Failed : ℕ → Answer
   -- frames, the front first
   Frames : List ℕ → Answer
   -- page numbers and the frame at each, or none for the page of zeros

@@ -1,5 +1,5 @@
 -- How what a call answers and does is told by its definition.
-use Rattle.std.specs.Prelude.{◌≡◌, ℕ, ◌≤◌, ◌-◌, Bool, false, List, [], length, slice_index_or, None, Result, Ok, Err}
+use Rattle.std.specs.Prelude.{◌≡◌, ◌⊎◌, ℕ, ◌<◌, ◌≤◌, ◌-◌, Bool, false, List, [], length, slice_index_or, Option, Some, None, Result, Ok, Err}
 use Rattle.nm_types.specs.declared.errno.Errno.{Errno}
 use Rattle.nm_types.specs.State.{State}
 use Rattle.nm_runs.specs.Cut.{Stretch}
@@ -9,14 +9,19 @@ use Rattle.nm_calls.specs.declared.call_error.CallError.TheVariants.{Refused, Ho
 use Rattle.nm_calls.specs.declared.answer.Moved.{Moved}
 use Rattle.nm_calls.specs.Calls.{Call, Answer, Refusal}
 use Rattle.nm_calls.specs.Systems.{SystemState}
-use Rattle.nm_calls.specs.Outcome.{refused_at_once, outcome, runs_of, after_runs, states_of}
+use Rattle.nm_calls.specs.Outcome.{refused_at_once, outcome, sets_policy, runs_of, after_runs, states_of}
 
--- A call for which the host has no memory is not one that is refused, and leaves some first ones of its runs made, of
--- which the last is none. No call sets a policy yet.
+-- a host without memory leaves the system as it was, or as it is after some first ones of the runs, with the policy set,
+-- and never after the last
+abbrev pub LeavesSome : SystemState → Call → ℕ → Bool → SystemState → Type 0
+LeavesSome old call runs policy_set new =
+    ((runs ≡ 0) × (policy_set ≡ false) × (new ≡ old))
+    ⊎ ((runs < length (runs_of old call)) × (policy_set ≡ sets_policy call) × (new ≡ after_runs old call runs))
+
+-- .. and the call is none that is refused
 abbrev pub HostLeaves : SystemState → Call → ℕ → Bool → SystemState → Type 0
 HostLeaves old call runs policy_set new =
-    (refused_at_once old.state call ≡ None) × (policy_set ≡ false) × (runs ≤ length (runs_of old call) - 1)
-    × (new ≡ after_runs old call runs)
+    (refused_at_once old.state call ≡ None) × LeavesSome old call runs policy_set new
 
 -- a call answers as defined and leaves the system as defined, also where it is refused; or the host has no memory for it
 abbrev pub Does : {T : Type 0} → (T → Answer) → Result T CallError → SystemState → SystemState → Call → Type 0

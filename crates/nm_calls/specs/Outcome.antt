@@ -1,5 +1,5 @@
 -- Which call is refused, what the others answer, and the state after each, also where the host refuses memory.
-use Rattle.std.specs.Prelude.{ℕ, ℤ, ◌/◌, List, [], ◌∷◌, length, map, slice_index_or, Option, Some, None}
+use Rattle.std.specs.Prelude.{ℕ, ℤ, ◌+◌, ◌/◌, Bool, true, false, ◌&&◌, if◌then◌else◌, List, [], ◌∷◌, length, map, slice_index_or, Option, Some, None, Result, Ok, Err}
 use Rattle.nm_types.specs.declared.errno.Errno.{Errno}
 use Rattle.nm_types.specs.State.{State, free_list}
 use Rattle.nm_runs.specs.Cut.{Stretch}
@@ -12,12 +12,14 @@ use Rattle.nm_engine.specs.Run.{Ran, run}
 use Rattle.nm_engine.specs.Batch.{runs_from, answer_of}
 use Rattle.nm_engine.specs.Entries.{entries_of}
 use Rattle.nm_engine.specs.Asking.{node_status}
-use Rattle.nm_calls.specs.Calls.{Call, Spawn, MapPages, Attach, Unmap, Exit, Pin, Unpin, ReadBytes, WriteBytes, MovePages, MigratePages, Query, FreeList, Pagemap, Vmstat, NumaMaps, Answer, Refusal, Done, Held, NewSegment, TheBytes, Statuses, Failed, Frames, Entries, TheTotals, Lines}
+use Rattle.nm_calls.specs.Calls.{Call, Spawn, MapPages, Attach, Unmap, Exit, Pin, Unpin, ReadBytes, WriteBytes, MovePages, MigratePages, Query, FreeList, Pagemap, Vmstat, NumaMaps, Mbind, Answer, Refusal, Done, Held, NewSegment, TheBytes, Statuses, Failed, Frames, Entries, TheTotals, Lines}
 use Rattle.nm_calls.specs.Entries.{entries_shown}
 use Rattle.nm_calls.specs.Maps.{numa_maps}
 use Rattle.nm_calls.specs.Permission.{query_refusal, moves_all, owner_of}
+use Rattle.nm_types.specs.declared.errno.Errno.TheVariants.{Eio}
 use Rattle.nm_calls.specs.Batch.{move_refusal, requests_of}
 use Rattle.nm_calls.specs.Migrating.{migrate_refusal, migration}
+use Rattle.nm_calls.specs.Binding.{mbind_refusal, policed, binding, mbind_runs, still_strays, tells_late}
 use Rattle.nm_calls.specs.Systems.{SystemState, in_state}
 
 -- why an access is refused
@@ -52,6 +54,7 @@ refused s (WriteBytes pid addr bytes) = refusal_in (write s pid addr bytes).answ
 refused s (MovePages caller pid pages nodes flags) = move_refusal s caller pid nodes flags
 refused s (MigratePages caller pid old new) = migrate_refusal s caller pid old new
 refused s (Query caller pid pages flags) = query_refusal s caller pid flags
+refused s (Mbind caller addr len mode nodes flags) = mbind_refusal s caller addr len mode nodes flags
 refused s (FreeList node) = list_refusal s node
 refused s (Pagemap pid) = entries_refusal s pid
 refused s Vmstat = None
@@ -63,11 +66,23 @@ refused_at_once s (ReadBytes pid addr len) = spot_refusal s pid addr len
 refused_at_once s (WriteBytes pid addr bytes) = spot_refusal s pid addr (length bytes)
 refused_at_once s call = refused s call
 
+-- the state before the first run of a call that is not refused: mbind has set its policy
+unfoldable pub start : SystemState → Call → State
+start y (Mbind caller addr len mode nodes flags) = policed y.state caller addr len mode nodes
+start y call = y.state
+
+-- whether a call sets a policy
+unfoldable pub sets_policy : Call → Bool
+sets_policy (Mbind caller addr len mode nodes flags) = true
+sets_policy call = false
+
 -- the runs that a call makes, where it is not refused; one that moves no pages makes none
 unfoldable pub runs_asked : SystemState → Call → List Stretch
 runs_asked y (MovePages caller pid pages nodes flags) =
     cut_within y.run_limit (requests_of (owner_of caller pid) (moves_all flags) pages nodes)
 runs_asked y (MigratePages caller pid old new) = cut_within y.run_limit (migration y.state caller pid old new)
+runs_asked y (Mbind caller addr len mode nodes flags) =
+    mbind_runs y.run_limit y.state (binding y.state caller addr len mode nodes) flags
 runs_asked y call = []
 
 -- an answer, and the system after it
@@ -79,7 +94,12 @@ pub record Outcome : Type 0 where
 abbrev pub leaves : SystemState → Answer → State → Outcome
 leaves y answer s = record { answer = answer; system = in_state y s }
 
--- what a call that is not refused answers once its runs are made, and the system then
+-- EIO, or the answer of a call of which nothing failed
+abbrev pub late_answer : Bool → Answer
+late_answer late = if late then Refusal Eio else Failed 0
+
+-- what a call that is not refused at first answers once its runs are made, and the system then: mbind tells of a page that
+-- does not follow its policy still, and the moves stay
 unfoldable pub ended : SystemState → Call → Ran → Outcome
 ended y (Spawn pid uid home allowed privileged) made = leaves y Done (spawn y.state pid uid home allowed privileged)
 ended y (MapPages pid addr pages shared) made =
@@ -97,6 +117,9 @@ ended y (MovePages caller pid pages nodes flags) made = leaves y (Statuses (answ
 ended y (MigratePages caller pid old new) made = leaves y (Failed (answer_of made)) made.state
 ended y (Query caller pid pages flags) made =
     leaves y (Statuses 0 (statuses_of y.state (owner_of caller pid) pages)) y.state
+ended y (Mbind caller addr len mode nodes flags) made =
+    let strays = still_strays y.state made.state (binding y.state caller addr len mode nodes) in
+    leaves y (late_answer (tells_late flags && strays)) made.state
 ended y (FreeList node) made = leaves y (Frames (free_list y.state node)) y.state
 ended y (Pagemap pid) made = leaves y (Entries (entries_shown (entries_of y.state pid))) y.state
 ended y Vmstat made = leaves y (TheTotals y.state.moved y.state.failed) y.state
@@ -107,9 +130,9 @@ abbrev pub unless : Option Errno → SystemState → Outcome → Outcome
 unless (Some e) y o = record { answer = Refusal e; system = y }
 unless None y o = o
 
--- what a call answers, and the system after it; one that is refused changes nothing
+-- what a call answers, and the system after it; one that is refused at first changes nothing
 abbrev pub outcome : SystemState → Call → Outcome
-outcome y call = unless (refused y.state call) y (ended y call (runs_from 0 y.state (runs_asked y call) []))
+outcome y call = unless (refused y.state call) y (ended y call (runs_from 0 (start y call) (runs_asked y call) []))
 
 -- no runs, unless there is no refusal
 abbrev pub runs_unless : Option Errno → List Stretch → List Stretch
@@ -125,9 +148,14 @@ abbrev pub states_of : State → List Stretch → List State
 states_of s [] = s ∷ []
 states_of s (r ∷ rs) = s ∷ states_of (run s r.target r.wanted []).state rs
 
--- the trail of a call: the states from before its first run to after its last
+-- the state as it was, unless there is no refusal
+abbrev pub started : Option Errno → State → State → State
+started (Some e) s t = s
+started None s t = t
+
+-- the trail of a call: the states from before its first run, with the policy set, to after its last
 abbrev pub trail : SystemState → Call → List State
-trail y call = states_of y.state (runs_of y call)
+trail y call = states_of (started (refused y.state call) y.state (start y call)) (runs_of y call)
 
 -- the system after so many runs of a call
 abbrev pub after_runs : SystemState → Call → ℕ → SystemState

@@ -6,7 +6,7 @@ ghost use Rattle.nm_calls.specs.MigrateRows.{EachPageGoesOnce, HalfWay, TwoOfFou
 ghost use Rattle.nm_calls.specs.Binding.{NoStrayIsListedTwice};
 ghost use Rattle.nm_calls.specs.BindingRows.{PinnedPageIsTold, StrictAloneRefuses, StayingIsNoError, LinesAreSplit, NewPagesTakeTurns, BoundPagesGoNowhereElse, SecondPassTakesTheRest, FollowersStay, StrayPagesTakeTurns, BindingsAreRefused, LastByteCounts, TurnsGoByIndex, StrayIsListedOnce, SharedPagesMoveWithAll, SetsAsText, BothProcessesAreCounted, LastPage};
 
-/// A call that is refused leaves the system as it was.
+/// A call that is refused leaves the system as it was, but for EIO of mbind(2) with MPOL_MF_STRICT and a flag to move.
 pub fn refusals_change_nothing()
     ensures { RefusalsChangeNothing }
 {}

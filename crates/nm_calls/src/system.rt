@@ -107,7 +107,7 @@ impl<A: Allocator + Copy + Send + Sync> System<A> {
 
     /// Makes a process. Refusals in order: EINVAL (pid 0 or alive, a home that is no node, no allowed node or one beyond
     /// the machine), ENOMEM (1,024 processes are alive).
-    #[tactic(auto, unfolding(crate::specs::Outcome::refused, crate::specs::Outcome::refused_at_once, crate::specs::Outcome::ended, crate::specs::Outcome::runs_asked), using(crate::proofs::Outcomes::answers, crate::proofs::Outcomes::refuses))]
+    #[tactic(auto, unfolding(crate::specs::Outcome::refused, crate::specs::Outcome::refused_at_once, crate::specs::Outcome::ended, crate::specs::Outcome::runs_asked, crate::specs::Outcome::start, crate::specs::Outcome::sets_policy), using(crate::proofs::Outcomes::answers, crate::proofs::Outcomes::refuses, crate::proofs::Outcomes::unchanged))]
     pub fn spawn(
         &mut self,
         pid: Pid,
@@ -123,7 +123,7 @@ impl<A: Allocator + Copy + Send + Sync> System<A> {
 
     /// Makes an area of so many pages over a new segment, private or shared, and answers the segment's number. Refusals in
     /// order: ESRCH; EINVAL (an address in mid-page, no page, past 2^47, an area there); ENOMEM (no segment number left).
-    #[tactic(auto, unfolding(crate::specs::Outcome::refused, crate::specs::Outcome::refused_at_once, crate::specs::Outcome::ended, crate::specs::Outcome::runs_asked), using(crate::proofs::Outcomes::answers, crate::proofs::Outcomes::refuses))]
+    #[tactic(auto, unfolding(crate::specs::Outcome::refused, crate::specs::Outcome::refused_at_once, crate::specs::Outcome::ended, crate::specs::Outcome::runs_asked, crate::specs::Outcome::start, crate::specs::Outcome::sets_policy), using(crate::proofs::Outcomes::answers, crate::proofs::Outcomes::refuses, crate::proofs::Outcomes::unchanged))]
     pub fn map(&mut self, pid: Pid, addr: u64, pages: u64, shared: bool) -> Result<u32, CallError>
         ensures { Does NewSegment result self.old self.new (MapPages pid addr pages shared) }
     {
@@ -133,7 +133,7 @@ impl<A: Allocator + Copy + Send + Sync> System<A> {
     /// Makes an area over so many pages of a shared segment, from an offset in pages on. Refusals in order: ESRCH; EINVAL
     /// (an address in mid-page, no page, past 2^47, an area there; or a segment that is unknown, gone or private, or ends
     /// before the area would).
-    #[tactic(auto, unfolding(crate::specs::Outcome::refused, crate::specs::Outcome::refused_at_once, crate::specs::Outcome::ended, crate::specs::Outcome::runs_asked), using(crate::proofs::Outcomes::answers, crate::proofs::Outcomes::refuses))]
+    #[tactic(auto, unfolding(crate::specs::Outcome::refused, crate::specs::Outcome::refused_at_once, crate::specs::Outcome::ended, crate::specs::Outcome::runs_asked, crate::specs::Outcome::start, crate::specs::Outcome::sets_policy), using(crate::proofs::Outcomes::answers, crate::proofs::Outcomes::refuses, crate::proofs::Outcomes::unchanged))]
     pub fn attach(
         &mut self,
         pid: Pid,
@@ -150,7 +150,7 @@ impl<A: Allocator + Copy + Send + Sync> System<A> {
     /// Lets go so many pages from an address on, where there may be holes. A page that no area of any process covers any
     /// more loses its frame, which goes to the end of its node's free list, by ascending address. Refusals in order:
     /// ESRCH; EINVAL (an address in mid-page, no page, past 2^47); EBUSY (an area shows a pinned page there).
-    #[tactic(auto, unfolding(crate::specs::Outcome::refused, crate::specs::Outcome::refused_at_once, crate::specs::Outcome::ended, crate::specs::Outcome::runs_asked), using(crate::proofs::Outcomes::answers, crate::proofs::Outcomes::refuses))]
+    #[tactic(auto, unfolding(crate::specs::Outcome::refused, crate::specs::Outcome::refused_at_once, crate::specs::Outcome::ended, crate::specs::Outcome::runs_asked, crate::specs::Outcome::start, crate::specs::Outcome::sets_policy), using(crate::proofs::Outcomes::answers, crate::proofs::Outcomes::refuses, crate::proofs::Outcomes::unchanged))]
     pub fn unmap(&mut self, pid: Pid, addr: u64, pages: u64) -> Result<(), CallError>
         ensures { Does (λ done. Done) result self.old self.new (Unmap pid addr pages) }
     {
@@ -159,7 +159,7 @@ impl<A: Allocator + Copy + Send + Sync> System<A> {
 
     /// Ends a process, which lets go all its areas as by one `unmap`. Its pid may come again. Refusals in order: ESRCH;
     /// EBUSY (an area of it shows a pinned page).
-    #[tactic(auto, unfolding(crate::specs::Outcome::refused, crate::specs::Outcome::refused_at_once, crate::specs::Outcome::ended, crate::specs::Outcome::runs_asked), using(crate::proofs::Outcomes::answers, crate::proofs::Outcomes::refuses))]
+    #[tactic(auto, unfolding(crate::specs::Outcome::refused, crate::specs::Outcome::refused_at_once, crate::specs::Outcome::ended, crate::specs::Outcome::runs_asked, crate::specs::Outcome::start, crate::specs::Outcome::sets_policy), using(crate::proofs::Outcomes::answers, crate::proofs::Outcomes::refuses, crate::proofs::Outcomes::unchanged))]
     pub fn exit(&mut self, pid: Pid) -> Result<(), CallError>
         ensures { Does (λ done. Done) result self.old self.new (Exit pid) }
     {
@@ -169,7 +169,7 @@ impl<A: Allocator + Copy + Send + Sync> System<A> {
     /// Pins the page at an address once more, and takes no memory: the page stays in its frame until it is unpinned as
     /// often. Refusals in order: ESRCH; EFAULT (no area, or the page of zeros); ENOENT (nothing was touched there); EBUSY
     /// (65,535 pins).
-    #[tactic(auto, unfolding(crate::specs::Outcome::refused, crate::specs::Outcome::refused_at_once, crate::specs::Outcome::ended, crate::specs::Outcome::runs_asked), using(crate::proofs::Outcomes::answers, crate::proofs::Outcomes::refuses))]
+    #[tactic(auto, unfolding(crate::specs::Outcome::refused, crate::specs::Outcome::refused_at_once, crate::specs::Outcome::ended, crate::specs::Outcome::runs_asked, crate::specs::Outcome::start, crate::specs::Outcome::sets_policy), using(crate::proofs::Outcomes::answers, crate::proofs::Outcomes::refuses, crate::proofs::Outcomes::unchanged))]
     pub fn pin(&mut self, pid: Pid, addr: u64) -> Result<(), Errno>
         ensures { DoesOrRefuses (λ done. Done) result self.old self.new (Pin pid addr) }
     {
@@ -178,7 +178,7 @@ impl<A: Allocator + Copy + Send + Sync> System<A> {
 
     /// Takes one pin off the page at an address, whoever pinned it, and takes no memory. Refusals in order: ESRCH, EFAULT
     /// and ENOENT as for `pin`; EINVAL (no pin).
-    #[tactic(auto, unfolding(crate::specs::Outcome::refused, crate::specs::Outcome::refused_at_once, crate::specs::Outcome::ended, crate::specs::Outcome::runs_asked), using(crate::proofs::Outcomes::answers, crate::proofs::Outcomes::refuses))]
+    #[tactic(auto, unfolding(crate::specs::Outcome::refused, crate::specs::Outcome::refused_at_once, crate::specs::Outcome::ended, crate::specs::Outcome::runs_asked, crate::specs::Outcome::start, crate::specs::Outcome::sets_policy), using(crate::proofs::Outcomes::answers, crate::proofs::Outcomes::refuses, crate::proofs::Outcomes::unchanged))]
     pub fn unpin(&mut self, pid: Pid, addr: u64) -> Result<(), Errno>
         ensures { DoesOrRefuses (λ done. Done) result self.old self.new (Unpin pid addr) }
     {
@@ -187,7 +187,7 @@ impl<A: Allocator + Copy + Send + Sync> System<A> {
 
     /// Reads 1 to 4,096 bytes inside one page. Refusals in order: ESRCH, EINVAL (no byte, or past the page's end),
     /// EFAULT (no area), ENOMEM (no free frame).
-    #[tactic(auto, unfolding(crate::specs::Outcome::refused, crate::specs::Outcome::refused_at_once, crate::specs::Outcome::ended, crate::specs::Outcome::runs_asked), using(crate::proofs::Outcomes::answers, crate::proofs::Outcomes::refuses))]
+    #[tactic(auto, unfolding(crate::specs::Outcome::refused, crate::specs::Outcome::refused_at_once, crate::specs::Outcome::ended, crate::specs::Outcome::runs_asked, crate::specs::Outcome::start, crate::specs::Outcome::sets_policy), using(crate::proofs::Outcomes::answers, crate::proofs::Outcomes::refuses, crate::proofs::Outcomes::unchanged))]
     pub fn read(&mut self, pid: Pid, addr: u64, len: u64) -> Result<Vec<u8, A>, CallError>
         ensures { Does (λ bytes. TheBytes bytes.items) result self.old self.new (ReadBytes pid addr len) }
     {
@@ -195,7 +195,7 @@ impl<A: Allocator + Copy + Send + Sync> System<A> {
     }
 
     /// Writes 1 to 4,096 bytes inside one page. Refusals as for `read`.
-    #[tactic(auto, unfolding(crate::specs::Outcome::refused, crate::specs::Outcome::refused_at_once, crate::specs::Outcome::ended, crate::specs::Outcome::runs_asked), using(crate::proofs::Outcomes::answers, crate::proofs::Outcomes::refuses))]
+    #[tactic(auto, unfolding(crate::specs::Outcome::refused, crate::specs::Outcome::refused_at_once, crate::specs::Outcome::ended, crate::specs::Outcome::runs_asked, crate::specs::Outcome::start, crate::specs::Outcome::sets_policy), using(crate::proofs::Outcomes::answers, crate::proofs::Outcomes::refuses, crate::proofs::Outcomes::unchanged))]
     pub fn write(&mut self, pid: Pid, addr: u64, bytes: &[u8]) -> Result<(), CallError>
         ensures { Does (λ done. Done) result self.old self.new (WriteBytes pid addr bytes.now) }
     {
@@ -211,7 +211,7 @@ impl<A: Allocator + Copy + Send + Sync> System<A> {
     /// (MPOL_MF_MOVE_ALL without privilege); ESRCH (no such process); EPERM (a process of another user, without
     /// privilege); then for the first entry that is refused ENODEV (no such node, or it is offline) before EACCES (a node
     /// that the process may not use, whoever calls). `HostMemory { runs, .. }` leaves the first runs made.
-    #[tactic(auto, unfolding(crate::specs::Outcome::refused, crate::specs::Outcome::refused_at_once, crate::specs::Outcome::ended, crate::specs::Outcome::runs_asked), using(crate::proofs::Outcomes::answers, crate::proofs::Outcomes::refuses, crate::proofs::Outcomes::host_leaves))]
+    #[tactic(auto, unfolding(crate::specs::Outcome::refused, crate::specs::Outcome::refused_at_once, crate::specs::Outcome::ended, crate::specs::Outcome::runs_asked, crate::specs::Outcome::start, crate::specs::Outcome::sets_policy), using(crate::proofs::Outcomes::answers, crate::proofs::Outcomes::refuses, crate::proofs::Outcomes::unchanged, crate::proofs::Outcomes::host_leaves))]
     pub fn move_pages(
         &mut self,
         caller: Pid,
@@ -254,7 +254,7 @@ impl<A: Allocator + Copy + Send + Sync> System<A> {
     /// ESRCH (no such process); EPERM (a process of another user, without privilege); EPERM (a node of `new` that the
     /// process may not use, without privilege); EINVAL (no node of `new` is online and may be used by the process).
     /// `HostMemory { runs, .. }` leaves the first runs made.
-    #[tactic(auto, unfolding(crate::specs::Outcome::refused, crate::specs::Outcome::refused_at_once, crate::specs::Outcome::ended, crate::specs::Outcome::runs_asked), using(crate::proofs::Outcomes::answers, crate::proofs::Outcomes::refuses, crate::proofs::Outcomes::host_leaves))]
+    #[tactic(auto, unfolding(crate::specs::Outcome::refused, crate::specs::Outcome::refused_at_once, crate::specs::Outcome::ended, crate::specs::Outcome::runs_asked, crate::specs::Outcome::start, crate::specs::Outcome::sets_policy), using(crate::proofs::Outcomes::answers, crate::proofs::Outcomes::refuses, crate::proofs::Outcomes::unchanged, crate::proofs::Outcomes::host_leaves))]
     pub fn migrate_pages(
         &mut self,
         caller: Pid,
@@ -273,7 +273,7 @@ impl<A: Allocator + Copy + Send + Sync> System<A> {
     /// Where pages are, each named by an address in it: the number of its node, -14 (EFAULT) without an area or for the
     /// page of zeros, -2 (ENOENT) where nothing was touched. Pid 0 is the caller. Refusals as for `move_pages`, but for
     /// those of entries: ESRCH, EINVAL, EPERM, ESRCH, EPERM.
-    #[tactic(auto, unfolding(crate::specs::Outcome::refused, crate::specs::Outcome::refused_at_once, crate::specs::Outcome::ended, crate::specs::Outcome::runs_asked), using(crate::proofs::Outcomes::answers, crate::proofs::Outcomes::refuses))]
+    #[tactic(auto, unfolding(crate::specs::Outcome::refused, crate::specs::Outcome::refused_at_once, crate::specs::Outcome::ended, crate::specs::Outcome::runs_asked, crate::specs::Outcome::start, crate::specs::Outcome::sets_policy), using(crate::proofs::Outcomes::answers, crate::proofs::Outcomes::refuses, crate::proofs::Outcomes::unchanged))]
     pub fn query(
         &self,
         caller: Pid,
@@ -305,7 +305,7 @@ impl<A: Allocator + Copy + Send + Sync> System<A> {
     /// pages in it, `anon=` and their number, `mapmax=` and the greatest number of processes that see one of them, where
     /// that is over 1, `N0=`, `N1=` .. and the number on that node, where there are some, and `kernelpagesize_kB=4`. The
     /// page of zeros is no page. Refusal: ESRCH.
-    #[tactic(auto, unfolding(crate::specs::Outcome::refused, crate::specs::Outcome::refused_at_once, crate::specs::Outcome::ended, crate::specs::Outcome::runs_asked), using(crate::proofs::Outcomes::answers, crate::proofs::Outcomes::refuses))]
+    #[tactic(auto, unfolding(crate::specs::Outcome::refused, crate::specs::Outcome::refused_at_once, crate::specs::Outcome::ended, crate::specs::Outcome::runs_asked, crate::specs::Outcome::start, crate::specs::Outcome::sets_policy), using(crate::proofs::Outcomes::answers, crate::proofs::Outcomes::refuses, crate::proofs::Outcomes::unchanged))]
     pub fn numa_maps(&self, pid: Pid) -> Result<Vec<String<A>, A>, CallError>
         ensures { Does (λ lines. Lines (lines_shown lines.items)) result self.now self.now (NumaMaps pid) }
     {
@@ -315,7 +315,7 @@ impl<A: Allocator + Copy + Send + Sync> System<A> {
     }
 
     /// The free frames of a node, the front first. Refusal: EINVAL (no such node).
-    #[tactic(auto, unfolding(crate::specs::Outcome::refused, crate::specs::Outcome::refused_at_once, crate::specs::Outcome::ended, crate::specs::Outcome::runs_asked), using(crate::proofs::Outcomes::answers, crate::proofs::Outcomes::refuses))]
+    #[tactic(auto, unfolding(crate::specs::Outcome::refused, crate::specs::Outcome::refused_at_once, crate::specs::Outcome::ended, crate::specs::Outcome::runs_asked, crate::specs::Outcome::start, crate::specs::Outcome::sets_policy), using(crate::proofs::Outcomes::answers, crate::proofs::Outcomes::refuses, crate::proofs::Outcomes::unchanged))]
     pub fn free_list(&self, node: NodeId) -> Result<Vec<FrameId, A>, CallError>
         ensures { Does (λ frames. Frames frames.items) result self.now self.now (FreeList node) }
     {
@@ -323,7 +323,7 @@ impl<A: Allocator + Copy + Send + Sync> System<A> {
     }
 
     /// The entries of a process by address: the frame of each, or the page of zeros. Refusal: ESRCH.
-    #[tactic(auto, unfolding(crate::specs::Outcome::refused, crate::specs::Outcome::refused_at_once, crate::specs::Outcome::ended, crate::specs::Outcome::runs_asked), using(crate::proofs::Outcomes::answers, crate::proofs::Outcomes::refuses))]
+    #[tactic(auto, unfolding(crate::specs::Outcome::refused, crate::specs::Outcome::refused_at_once, crate::specs::Outcome::ended, crate::specs::Outcome::runs_asked, crate::specs::Outcome::start, crate::specs::Outcome::sets_policy), using(crate::proofs::Outcomes::answers, crate::proofs::Outcomes::refuses, crate::proofs::Outcomes::unchanged))]
     pub fn pagemap(&self, pid: Pid) -> Result<Vec<Mapped, A>, CallError>
         ensures { Does (λ mapped. Entries (entries_mapped mapped.items)) result self.now self.now (Pagemap pid) }
     {

@@ -6,7 +6,7 @@ use Rattle.hex.specs.Hex.{encode_lower}
 use Rattle.nm_types.specs.Names.{name_of}
 use Rattle.nm_calls.specs.Maps.{address_text}
 use Rattle.nm_calls.specs.Systems.{SystemState}
-use Rattle.nm_calls.specs.Calls.{Call, Spawn, MapPages, Attach, Unmap, Exit, Pin, Unpin, ReadBytes, WriteBytes, MovePages, MigratePages, Query, FreeList, Pagemap, Vmstat, NumaMaps, Answer, Refusal, Done, Held, NewSegment, TheBytes, Statuses, Failed, Frames, Entries, TheTotals, Lines}
+use Rattle.nm_calls.specs.Calls.{Call, Spawn, MapPages, Attach, Unmap, Exit, Pin, Unpin, ReadBytes, WriteBytes, MovePages, MigratePages, Query, FreeList, Pagemap, Vmstat, NumaMaps, Mbind, Answer, Refusal, Done, Held, NewSegment, TheBytes, Statuses, Failed, Frames, Entries, TheTotals, Lines}
 use Rattle.nm_calls.specs.Outcome.{Outcome, outcome}
 
 -- the word of a call
@@ -23,6 +23,7 @@ word_of (WriteBytes pid addr bytes) = codes "write"
 word_of (MovePages caller pid pages nodes flags) = codes "move_pages"
 word_of (MigratePages caller pid old new) = codes "migrate_pages"
 word_of (Query caller pid pages flags) = codes "query"
+word_of (Mbind caller addr len mode nodes flags) = codes "mbind"
 word_of (FreeList node) = codes "free"
 word_of (Pagemap pid) = codes "pagemap"
 word_of Vmstat = codes "vmstat"
@@ -59,8 +60,8 @@ answer_text Done = codes "ok"
 answer_text Held = codes "held"
 answer_text (NewSegment segment) = codes "segment=" ++ decimal segment
 answer_text (TheBytes bytes) = encode_lower bytes
-answer_text (Statuses failed statuses) = decimal failed ++ codes ":" ++ signed_listed statuses
 answer_text (Failed failed) = decimal failed
+answer_text (Statuses failed statuses) = decimal failed ++ codes ":" ++ signed_listed statuses
 answer_text (Frames frames) = decimal (length frames) ++ codes ":" ++ listed frames
 answer_text (Entries entries) = decimal (length entries) ++ codes ":" ++ flat_map entry_text entries
 answer_text (TheTotals moved failed) = totals_text moved failed
