@@ -157,7 +157,7 @@ fn query<A: Allocator + Copy + Send + Sync>(alloc: A, value: &Value) -> Result<C
     let caller = small(value, "caller")?;
     let pid = small(value, "pid")?;
     let pages = numbers(alloc, value, "pages")?;
-    let flags = small(value, "flags")?;
+    let given = small(value, "flags")?;
     if pages.len() > MAX_BATCH {
         return Err(StepError::Bad);
     }
@@ -165,7 +165,7 @@ fn query<A: Allocator + Copy + Send + Sync>(alloc: A, value: &Value) -> Result<C
         caller: Pid::new(caller),
         pid: Pid::new(pid),
         pages,
-        flags,
+        flags: given,
     }))
 }
 

@@ -27,6 +27,7 @@ use Rattle.nm_tables.specs.declared.entry.Entry.{Entry}
 use Rattle.nm_areas.specs.Mapped.{Mapped}
 use Rattle.nm_rmap.specs.Mappers.{Mappers}
 use Rattle.nm_engine.specs.ProcessTable.{Task, task_table, entry_in, entry_at}
+use Rattle.nm_engine.specs.MidRun.{MidRun}
 use Rattle.nm_engine.specs.AddressSpaces.{SpacesView, spaces_view, sight_of, process_of, page_here}
 use Rattle.nm_runs.specs.Seen.{sight_in, sight_at, is_sight_of, sees_page, users, look_at_place}
 use Rattle.nm_types.specs.declared.seen.Seen.{Seen}
@@ -217,3 +218,8 @@ counted (At p frame processes pinned) = processes
 pub counts_users : (s : State) (l : List ℕ) (p : Page) (o : Option ℕ) → IsSoundMidRun s l → get page_cmp s.place p ≡ o → counted (look_at_place s.processes s.pins p o) ≡ length (users s p)
 counts_users s l p None h e = sym (ap length (nobody_sees s l p h e))
 counts_users s l p (Some frame) h e = refl
+
+-- the same of a look at what the parts show
+pub counted_here : (s now : MidRun) (p : Page) (seen : Seen) → s ≡ now → IsSoundMidRun s.state s.left → seen ≡ look_at_place s.state.processes s.state.pins p (get page_cmp s.state.place p) → counted seen ≡ length (users now.state p)
+counted_here s now p seen is h look =
+    ap counted look ∙ counts_users s.state s.left p (get page_cmp s.state.place p) h refl ∙ ap (λ (x : MidRun). length (users x.state p)) is

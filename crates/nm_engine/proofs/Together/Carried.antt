@@ -63,6 +63,15 @@ by_parts (t ∷ taken) target k inside =
     ∙ ap (λ (f : List (List ℕ)). record k { frames = copies; free = f; vacated = (k.vacated ++ t.from ∷ []) ++ left taken }) (fronts_list k.free target (length taken) (free_on k target) inside)
     ∙ ap (λ (v : List ℕ). record k { frames = copies; free = slice_set k.free target (drop (suc (length taken)) (free_on k target)); vacated = v }) (append_assoc k.vacated (t.from ∷ []) (left taken))
 
+-- .. and the parts one after the other: frames taken, pages copied, frames left
+pub in_phases : (taken : List Taken) (target : ℕ) (k fronts copies after : FramesView) → target < length k.free
+    → fronts ≡ record k { free = slice_set k.free target (drop (length taken) (free_on k target)) } → copies ≡ record fronts { frames = with_copies fronts.frames taken }
+    → after ≡ record copies { vacated = copies.vacated ++ left taken } → after ≡ all_carried target k taken
+in_phases taken target k fronts copies after inside took copied left_is =
+    let copy : FramesView → FramesView = λ s. record s { frames = with_copies s.frames taken } in
+    let leave : FramesView → FramesView = λ s. record s { vacated = s.vacated ++ left taken } in
+    left_is ∙ ap leave (copied ∙ ap copy took) ∙ sym (by_parts taken target k inside)
+
 carried_shelf : (k : FramesView) (target : ℕ) (t : Taken) → HasAllFrames k → HasAllFrames (carried target k t)
 carried_shelf k target t h = record {
   lists = length-set k.free target (drop 1 (free_on k target)) ∙ h.lists;

@@ -1,14 +1,13 @@
-use Rattle.std.proofs.Common.{◌≡◌, ◌<◌, ◌++◌, length, ap, sym, subst, ◌∙◌, arith}
+use Rattle.std.proofs.Common.{◌≡◌, ◌<◌, length, ap, sym, subst, ◌∙◌, arith}
 use Rattle.nm_types.specs.Layout.{node_count}
 use Rattle.nm_engine.specs.AddressSpaces.{SpacesView}
-use Rattle.nm_engine.specs.Copies.{with_copies, CanCopy}
+use Rattle.nm_engine.specs.Copies.{CanCopy}
 use Rattle.nm_engine.specs.Frames.{FramesView}
 use Rattle.nm_engine.specs.Laws.{with_moves}
 use Rattle.nm_engine.specs.MidRun.{MidRun, IsKept}
 use Rattle.nm_engine.specs.Moves.{CanMove, all_moved}
-use Rattle.nm_engine.specs.Run.{left}
 use Rattle.nm_engine.specs.Shown.{shown_by}
-use Rattle.nm_engine.proofs.Together.Carried.{all_carried, by_parts, is_carried, carried_copy}
+use Rattle.nm_engine.proofs.Together.Carried.{in_phases, is_carried, carried_copy}
 use Rattle.nm_engine.proofs.inner.Inner.carry_out.Goals as goal
 
 pub copy_pages-requires-clause-can : goal.copy_pages-requires-clause-can
@@ -44,10 +43,7 @@ invariant_of-self g c =
     let same = ap (λ (x : MidRun). node_count x.state.layout) c.self.view_is in
     let inside : t < length k.free = omega (arith, same, shelf.lists, c.requires.target) in
     let done = is_carried moves i.spaces k i.online i.totals.moved i.totals.failed t c.self.invariant shelf can in
-    let copy : FramesView → FramesView = λ s. record s { frames = with_copies s.frames moves } in
-    let leave : FramesView → FramesView = λ s. record s { vacated = s.vacated ++ left moves } in
-    let after : c.vacate_each.new.self ≡ all_carried t k moves =
-    c.vacate_each.ensures ∙ ap leave (c.copy_pages.ensures ∙ ap copy c.take_fronts.ensures.rest) ∙ sym (by_parts moves t k inside) in
+    let after = in_phases moves t k _ _ _ inside c.take_fronts.ensures.rest c.copy_pages.ensures c.vacate_each.ensures in
     subst (λ (z : SpacesView). IsKept (shown_by z c.vacate_each.new.self i.online i.totals.moved i.totals.failed) c.vacate_each.new.self.vacated z.frames) (sym c.move_pages.ensures)
     (subst (λ (x : FramesView). IsKept (shown_by (all_moved i.spaces moves) x i.online i.totals.moved i.totals.failed) x.vacated (all_moved i.spaces moves).frames) (sym after) done.kept)
 
@@ -62,10 +58,7 @@ returns-clause-state g c =
     let same = ap (λ (x : MidRun). node_count x.state.layout) c.self.view_is in
     let inside : t < length k.free = omega (arith, same, shelf.lists, c.requires.target) in
     let done = is_carried moves i.spaces k i.online i.totals.moved i.totals.failed t c.self.invariant shelf can in
-    let copy : FramesView → FramesView = λ s. record s { frames = with_copies s.frames moves } in
-    let leave : FramesView → FramesView = λ s. record s { vacated = s.vacated ++ left moves } in
-    let after : c.vacate_each.new.self ≡ all_carried t k moves =
-    c.vacate_each.ensures ∙ ap leave (c.copy_pages.ensures ∙ ap copy c.take_fronts.ensures.rest) ∙ sym (by_parts moves t k inside) in
+    let after = in_phases moves t k _ _ _ inside c.take_fronts.ensures.rest c.copy_pages.ensures c.vacate_each.ensures in
     ap (λ (z : SpacesView). shown_by z c.vacate_each.new.self i.online i.totals.moved i.totals.failed) c.move_pages.ensures
     ∙ ap (λ (x : FramesView). shown_by (all_moved i.spaces moves) x i.online i.totals.moved i.totals.failed) after
     ∙ done.shown ∙ ap (λ (x : MidRun). with_moves x.state t moves) c.self.view_is
