@@ -23,8 +23,6 @@ use Rattle.nm_engine.specs.declared.located.Located.{Located}
 use Rattle.nm_engine.specs.declared.ProcessInfo.{ProcessInfo}
 use Rattle.nm_engine.specs.Locating.{located_between}
 use Rattle.nm_engine.specs.Policing.{pages_of, policy_refusal, set_policy}
-use Rattle.nm_engine.specs.Run.{Ran}
-use Rattle.nm_engine.specs.Batch.{runs_from}
 use Rattle.nm_engine.specs.Refused.{first_error}
 use Rattle.nm_calls.specs.Permission.{moves_all, info_at}
 use Rattle.nm_calls.specs.Passes.{passes}
@@ -173,27 +171,7 @@ NoStrayIsListedTwice = (s : State) (b : Binding) → IsDistinct same_page (map (
 abbrev pub tells_late : ℕ → Bool
 tells_late flags = is_strict flags && moves flags
 
--- what a call leaves: the error with which it is refused, if it is, and the state
-pub record Bound : Type 0 where
-  pub refusal : Option Errno
-  pub state : State
-
 -- the state before the first run: the policy is set
 abbrev pub policed : State → ℕ → ℕ → ℕ → ℕ → List ℕ → State
 policed s caller address len mode nodes =
     set_policy s caller address len (binding s caller address len mode nodes).policy
-
--- refused as it is, or with EIO once the moves are made, which stay
-abbrev pub bound_unless : Option Errno → State → Bound → Bound
-bound_unless (Some e) s b = record { refusal = Some e; state = s }
-bound_unless None s b = b
-
--- one call of mbind(2): nothing changes where it is refused at first; else the policy is set and pages move, and both
--- stay where a page is told to be astray still
-abbrev pub mbind : ℕ → State → ℕ → ℕ → ℕ → ℕ → List ℕ → ℕ → Bound
-mbind limit s caller address len mode nodes flags =
-    let b = binding s caller address len mode nodes in
-    let made : Ran = runs_from 0 (policed s caller address len mode nodes) (mbind_runs limit s b flags) [] in
-    let late = tells_late flags && still_strays s made.state b in
-    let refusal = mbind_refusal s caller address len mode nodes flags in
-    bound_unless refusal s (record { refusal = first_error ((late, Eio) ∷ []); state = made.state })

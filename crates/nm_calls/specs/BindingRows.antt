@@ -1,19 +1,18 @@
 -- Worked examples of mbind(2), and of the areas of a process as text.
-use Rattle.std.specs.Prelude.{◌≡◌, ℕ, ◌+◌, false, true, List, [], ◌∷◌, map, codes, length, take, Option, Some, None}
-use Rattle.nm_types.specs.declared.errno.Errno.{Errno}
+use Rattle.std.specs.Prelude.{◌≡◌, ℕ, ◌+◌, false, true, List, [], ◌∷◌, map, codes, length, Option, Some, None}
 use Rattle.nm_types.specs.declared.errno.Errno.TheVariants.{Eperm, Esrch, Eio, Enomem, Efault, Einval}
 use Rattle.nm_types.specs.Layout.{Layout}
 use Rattle.nm_types.specs.State.{State}
 use Rattle.nm_runs.specs.Cut.{Stretch}
-use Rattle.nm_engine.specs.Run.{Ran}
-use Rattle.nm_engine.specs.Batch.{runs_from}
 use Rattle.nm_engine.specs.Effect.{new_machine, spawn, map_new, attach, pin}
 use Rattle.nm_engine.specs.Refused.{map_refusal}
 use Rattle.nm_engine.specs.Touch.{read, write, Bytes, Refused}
 use Rattle.nm_engine.specs.Examples.{A, B, C, D, E, three_nodes, one_process, with_second, wrote, three_pages, seen_by_two, frame_at}
-use Rattle.nm_calls.specs.Systems.{default_limit}
+use Rattle.nm_calls.specs.Calls.{Call, Mbind, Answer, Refusal, Failed}
+use Rattle.nm_calls.specs.Outcome.{Outcome, outcome, runs_of, after_runs}
+use Rattle.nm_calls.specs.Systems.{SystemState, default_limit}
 use Rattle.nm_calls.specs.Maps.{set_text, numa_maps}
-use Rattle.nm_calls.specs.Binding.{Bound, MPOL_DEFAULT, MPOL_PREFERRED, MPOL_BIND, MPOL_INTERLEAVE, binding, policed, mbind_runs, mbind}
+use Rattle.nm_calls.specs.Binding.{MPOL_DEFAULT, MPOL_PREFERRED, MPOL_BIND, MPOL_INTERLEAVE}
 
 -- a call of process 1, with an address, a length, a mode, nodes and flags
 pub record Asked : Type 0 where
@@ -26,25 +25,33 @@ pub record Asked : Type 0 where
 abbrev pub ask : ℕ → ℕ → ℕ → List ℕ → ℕ → Asked
 ask addr len mode nodes flags = record { addr = addr; len = len; mode = mode; nodes = nodes; flags = flags }
 
-abbrev pub bound_by : ℕ → State → Asked → Bound
-bound_by pid s a = mbind default_limit s pid a.addr a.len a.mode a.nodes a.flags
+-- a system in this state, with the greatest limit on runs
+abbrev pub system_in : State → SystemState
+system_in s = record { state = s; run_limit = default_limit }
 
--- the error with which it is refused
-abbrev pub answer : State → Asked → Option Errno
-answer s a = (bound_by 1 s a).refusal
+-- the same as a call of a process
+abbrev pub call_by : ℕ → Asked → Call
+call_by pid a = Mbind pid a.addr a.len a.mode a.nodes a.flags
+
+-- what it answers, and the system after it
+abbrev pub bound_by : ℕ → State → Asked → Outcome
+bound_by pid s a = outcome (system_in s) (call_by pid a)
+
+-- what process 1 is answered
+abbrev pub answer : State → Asked → Answer
+answer s a = (bound_by 1 s a).answer
 
 -- the state after it
 abbrev pub after : State → Asked → State
-after s a = (bound_by 1 s a).state
+after s a = (bound_by 1 s a).system.state
 
--- the runs of a call of process 1
+-- its runs
 abbrev pub runs : State → Asked → List Stretch
-runs s a = mbind_runs default_limit s (binding s 1 a.addr a.len a.mode a.nodes) a.flags
+runs s a = runs_of (system_in s) (call_by 1 a)
 
 -- the state after so many of its runs
-abbrev pub after_runs : State → Asked → ℕ → State
-after_runs s a n =
-    let made : Ran = runs_from 0 (policed s 1 a.addr a.len a.mode a.nodes) (take n (runs s a)) [] in made.state
+abbrev pub state_after : State → Asked → ℕ → State
+state_after s a n = (after_runs (system_in s) (call_by 1 a) n).state
 
 -- what a call leaves: the free lists, the totals, and the frames at some addresses of process 1
 pub record Left : Type 0 where
@@ -69,7 +76,7 @@ both_to_1 flags = ask A 8192 MPOL_BIND (1 ∷ []) flags
 abbrev pub PinnedPageIsTold : Type 0
 PinnedPageIsTold =
     let s = after second_pinned (both_to_1 3) in
-    (answer second_pinned (both_to_1 3) ≡ Some Eio)
+    (answer second_pinned (both_to_1 3) ≡ Refusal Eio)
     × (left_in s (A ∷ B ∷ [])
     ≡ record {
       free = (2 ∷ 3 ∷ 0 ∷ []) ∷ (5 ∷ 6 ∷ 7 ∷ []) ∷ [];
@@ -82,15 +89,15 @@ PinnedPageIsTold =
 -- with MPOL_MF_STRICT alone nothing changes; without flags the policy is set
 abbrev pub StrictAloneRefuses : Type 0
 StrictAloneRefuses =
-    (answer second_pinned (both_to_1 1) ≡ Some Eio) × (after second_pinned (both_to_1 1) ≡ second_pinned)
+    (answer second_pinned (both_to_1 1) ≡ Refusal Eio) × (after second_pinned (both_to_1 1) ≡ second_pinned)
     × (numa_maps second_pinned 1 ≡ codes "00010000 default anon=2 N0=2 kernelpagesize_kB=4" ∷ [])
-    × (answer second_pinned (both_to_1 0) ≡ None)
+    × (answer second_pinned (both_to_1 0) ≡ Failed 0)
     × (numa_maps (after second_pinned (both_to_1 0)) 1 ≡ codes "00010000 bind:1 anon=2 N0=2 kernelpagesize_kB=4" ∷ [])
 
 -- without MPOL_MF_STRICT a page that stays is no error
 abbrev pub StayingIsNoError : Type 0
 StayingIsNoError =
-    (answer second_pinned (both_to_1 2) ≡ None) × ((after second_pinned (both_to_1 2)).failed ≡ 1)
+    (answer second_pinned (both_to_1 2) ≡ Failed 0) × ((after second_pinned (both_to_1 2)).failed ≡ 1)
 
 -- a policy for one byte splits an area into three
 abbrev pub LinesAreSplit : Type 0
@@ -131,7 +138,7 @@ two_on_narrow =
 abbrev pub SecondPassTakesTheRest : Type 0
 SecondPassTakesTheRest =
     let call = ask A 8192 MPOL_BIND (1 ∷ 2 ∷ []) 2 in
-    (answer two_on_narrow call ≡ None)
+    (answer two_on_narrow call ≡ Failed 0)
     × (left_in (after two_on_narrow call) (A ∷ B ∷ [])
     ≡ record {
       free = (2 ∷ 3 ∷ 0 ∷ 1 ∷ []) ∷ [] ∷ (6 ∷ 7 ∷ 8 ∷ []) ∷ [];
@@ -140,7 +147,7 @@ SecondPassTakesTheRest =
       frames = Some 4 ∷ Some 5 ∷ [];
     })
     × (length (runs two_on_narrow call) ≡ 2)
-    × (left_in (after_runs two_on_narrow call 1) (A ∷ B ∷ [])
+    × (left_in (state_after two_on_narrow call 1) (A ∷ B ∷ [])
     ≡ record {
       free = (2 ∷ 3 ∷ 0 ∷ []) ∷ [] ∷ (5 ∷ 6 ∷ 7 ∷ 8 ∷ []) ∷ [];
       moved = 1;
@@ -158,16 +165,16 @@ FollowersStay =
     let preferred = ask A 12288 MPOL_PREFERRED (0 ∷ 1 ∷ []) 2 in
     let interleaved = ask A 12288 MPOL_INTERLEAVE (0 ∷ 1 ∷ []) 2 in
     let strict = ask A 4096 MPOL_DEFAULT [] 3 in
-    (answer three_pages preferred ≡ None) × ((after three_pages preferred).free ≡ where_they_are)
+    (answer three_pages preferred ≡ Failed 0) × ((after three_pages preferred).free ≡ where_they_are)
     × (numa_maps (after three_pages preferred) 1 ≡ codes "00010000 prefer:0 anon=3 N0=3 kernelpagesize_kB=4" ∷ [])
-    × (answer three_pages interleaved ≡ None) × ((after three_pages interleaved).free ≡ where_they_are)
-    × (answer three_pages strict ≡ None) × ((after three_pages strict).free ≡ where_they_are)
+    × (answer three_pages interleaved ≡ Failed 0) × ((after three_pages interleaved).free ≡ where_they_are)
+    × (answer three_pages strict ≡ Failed 0) × ((after three_pages strict).free ≡ where_they_are)
 
 -- pages that do not follow take turns, here all to one node
 abbrev pub StrayPagesTakeTurns : Type 0
 StrayPagesTakeTurns =
     let call = ask A 12288 MPOL_INTERLEAVE (1 ∷ []) 2 in
-    (answer three_pages call ≡ None)
+    (answer three_pages call ≡ Failed 0)
     × (left_in (after three_pages call) (A ∷ B ∷ C ∷ [])
     ≡ record {
       free = (3 ∷ 0 ∷ 1 ∷ 2 ∷ []) ∷ (7 ∷ []) ∷ [];
@@ -179,17 +186,17 @@ StrayPagesTakeTurns =
 -- no length is no change, and what is refused
 abbrev pub BindingsAreRefused : Type 0
 BindingsAreRefused =
-    (answer three_pages (ask A 16384 MPOL_BIND (1 ∷ []) 0) ≡ Some Efault)
-    × (answer three_pages (ask 0x10001 4096 MPOL_BIND (1 ∷ []) 0) ≡ Some Einval)
-    × (answer three_pages (ask A 0 MPOL_BIND (1 ∷ []) 2) ≡ None)
+    (answer three_pages (ask A 16384 MPOL_BIND (1 ∷ []) 0) ≡ Refusal Efault)
+    × (answer three_pages (ask 0x10001 4096 MPOL_BIND (1 ∷ []) 0) ≡ Refusal Einval)
+    × (answer three_pages (ask A 0 MPOL_BIND (1 ∷ []) 2) ≡ Failed 0)
     × (after three_pages (ask A 0 MPOL_BIND (1 ∷ []) 2) ≡ three_pages)
-    × (answer three_pages (ask A 4096 MPOL_DEFAULT (0 ∷ []) 0) ≡ Some Einval)
-    × (answer three_pages (ask A 4096 MPOL_BIND [] 0) ≡ Some Einval)
-    × (answer three_pages (ask A 4096 5 [] 0) ≡ Some Einval)
-    × (answer three_pages (ask A 4096 5 [] 4) ≡ Some Einval)
-    × (answer three_pages (ask A 4096 MPOL_DEFAULT [] 8) ≡ Some Einval)
-    × (answer three_pages (ask 0x10001 4096 MPOL_BIND (1 ∷ []) 4) ≡ Some Eperm)
-    × ((bound_by 77 three_pages (ask 0x10001 4096 MPOL_BIND (1 ∷ []) 8)).refusal ≡ Some Esrch)
+    × (answer three_pages (ask A 4096 MPOL_DEFAULT (0 ∷ []) 0) ≡ Refusal Einval)
+    × (answer three_pages (ask A 4096 MPOL_BIND [] 0) ≡ Refusal Einval)
+    × (answer three_pages (ask A 4096 5 [] 0) ≡ Refusal Einval)
+    × (answer three_pages (ask A 4096 5 [] 4) ≡ Refusal Einval)
+    × (answer three_pages (ask A 4096 MPOL_DEFAULT [] 8) ≡ Refusal Einval)
+    × (answer three_pages (ask 0x10001 4096 MPOL_BIND (1 ∷ []) 4) ≡ Refusal Eperm)
+    × ((bound_by 77 three_pages (ask 0x10001 4096 MPOL_BIND (1 ∷ []) 8)).answer ≡ Refusal Esrch)
 
 -- a byte of a page is the page
 abbrev pub LastByteCounts : Type 0
@@ -220,7 +227,7 @@ StrayIsListedOnce =
     let both = attach (map_new one_process 1 A 1 true) 1 B 0 0 1 in
     let twice = pin (read (wrote both 1 A 0x61) 1 B 1).state 1 A in
     let call = ask A 8192 MPOL_PREFERRED (1 ∷ []) 2 in
-    (answer twice call ≡ None) × ((after twice call).failed ≡ 1)
+    (answer twice call ≡ Failed 0) × ((after twice call).failed ≡ 1)
     × (numa_maps (after twice call) 1
     ≡ codes "00010000 prefer:1 anon=1 N0=1 kernelpagesize_kB=4"
     ∷ codes "00011000 prefer:1 anon=1 N0=1 kernelpagesize_kB=4" ∷ [])
@@ -232,9 +239,9 @@ seen_by_three = (read (attach (spawn seen_by_two 3 300 0 (0 ∷ 1 ∷ []) true) 
 -- what others see stays, and is told with MPOL_MF_STRICT, but moves with MPOL_MF_MOVE_ALL
 abbrev pub SharedPagesMoveWithAll : Type 0
 SharedPagesMoveWithAll =
-    let all = (bound_by 3 seen_by_three (ask 0x20000 4096 MPOL_BIND (1 ∷ []) 4)).state in
-    (answer seen_by_two (ask 0x20000 4096 MPOL_BIND (1 ∷ []) 2) ≡ None)
-    × (answer seen_by_two (ask 0x20000 4096 MPOL_BIND (1 ∷ []) 3) ≡ Some Eio)
+    let all = (bound_by 3 seen_by_three (ask 0x20000 4096 MPOL_BIND (1 ∷ []) 4)).system.state in
+    (answer seen_by_two (ask 0x20000 4096 MPOL_BIND (1 ∷ []) 2) ≡ Failed 0)
+    × (answer seen_by_two (ask 0x20000 4096 MPOL_BIND (1 ∷ []) 3) ≡ Refusal Eio)
     × (numa_maps (after seen_by_two (ask 0x20000 4096 MPOL_BIND (1 ∷ []) 3)) 1
     ≡ codes "00020000 bind:1 anon=1 mapmax=2 N0=1 kernelpagesize_kB=4" ∷ [])
     × (map (λ pid. frame_at all pid 0x20000) (1 ∷ 2 ∷ 3 ∷ []) ≡ Some 4 ∷ Some 4 ∷ Some 4 ∷ [])
