@@ -42,14 +42,14 @@ is_stretch o offset pages =
     unwrap_or (option_map (λ segment. segment.shared && nat_le (offset + pages) segment.pages) o) false
 
 -- no room for the area, or no such stretch of a shared segment
-abbrev pub attach_refusal : Mapped → ℕ → ℕ → ℕ → ℕ → ℕ → Option Errno
-attach_refusal m pid address segment offset pages =
+abbrev pub stretch_refusal : Mapped → ℕ → ℕ → ℕ → ℕ → ℕ → Option Errno
+stretch_refusal m pid address segment offset pages =
     let fits = is_room m.areas pid address pages && is_stretch (get nat_cmp m.segments segment) offset pages in
     first_error ((not fits, Einval) ∷ [])
 
 -- an address inside a page, or an end past 2^64 - 1; a page without an area
-abbrev pub policy_refusal : Mapped → ℕ → ℕ → ℕ → Option Errno
-policy_refusal m pid address len =
+abbrev pub range_refusal : Mapped → ℕ → ℕ → ℕ → Option Errno
+range_refusal m pid address len =
     let pages = pages_of len in
     let bad = not (address % 4096 == 0) || nat_le (2 ^ 64) (address + 4096 * pages) in
     let hole = not (is_mapped m.areas pid (address / 4096) pages) in

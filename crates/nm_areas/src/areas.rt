@@ -6,7 +6,7 @@ ghost use Rattle.nm_types.specs.Does.{Makes};
 ghost use Rattle.nm_areas.specs.Effect.{no_areas, new_area, inserted, attached, over_with};
 ghost use Rattle.nm_areas.specs.Lines.{is_shared};
 ghost use Rattle.nm_areas.specs.Mapped.{IsMapped};
-ghost use Rattle.nm_areas.specs.Refused.{is_range, insert_refusal, attach_refusal};
+ghost use Rattle.nm_areas.specs.Refused.{is_range, insert_refusal, stretch_refusal};
 
 use crate::area_table::AreaTable;
 use nm_types::limits::{MAX_SEGMENTS, PAGE_NUMBERS};
@@ -106,8 +106,8 @@ impl<A: Allocator + Copy> Areas<A> {
         offset: u64,
         pages: u64,
     ) -> Result<(), MachineError>
-        ensures done { Makes result self.old self.new (attach_refusal self.old pid addr segment offset pages) (attached self.old pid addr segment offset pages) }
-        ensures memory { result ≡ Err MachineError.HostMemory → attach_refusal self.old pid addr segment offset pages ≡ None }
+        ensures done { Makes result self.old self.new (stretch_refusal self.old pid addr segment offset pages) (attached self.old pid addr segment offset pages) }
+        ensures memory { result ≡ Err MachineError.HostMemory → stretch_refusal self.old pid addr segment offset pages ≡ None }
         ensures over { OnOk result ((q v : ℕ) → area_over self.new.areas q v ≡ over_with self.old.areas ((pid, addr / 4096), new_area segment offset pages) q v) }
     {
         let Some(first) = stretch(addr, pages) else {

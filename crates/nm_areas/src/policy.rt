@@ -8,7 +8,7 @@ ghost use Rattle.nm_types.specs.Does.{Makes};
 ghost use Rattle.nm_areas.specs.Effect.{with_policy};
 ghost use Rattle.nm_areas.specs.Mapped.{AreasAreApart, EndsLow, HasIndices, IsSomePages};
 ghost use Rattle.nm_areas.specs.Policy.{is_mapped, pages_of, painted, repoliced};
-ghost use Rattle.nm_areas.specs.Refused.{policy_refusal};
+ghost use Rattle.nm_areas.specs.Refused.{range_refusal};
 ghost use Rattle.nm_areas.specs.Removed.{others};
 ghost use Rattle.nm_areas.specs.Table.{with_areas};
 ghost use Rattle.nm_types.specs.Map.{spot_cmp, with_values};
@@ -24,8 +24,8 @@ use std::collections::BTreeMap;
 impl<A: Allocator + Copy> Areas<A> {
     /// Whether `split_policy` would set the policy of a range: EINVAL and then EFAULT as there. It takes no memory.
     pub fn check_policy(&self, pid: Pid, addr: u64, len: u64) -> Result<(), Errno>
-        ensures ok { OnOk result (policy_refusal self.now pid addr len ≡ None) }
-        ensures err { IfErr result (λ e. policy_refusal self.now pid addr len ≡ Some e) }
+        ensures ok { OnOk result (range_refusal self.now pid addr len ≡ None) }
+        ensures err { IfErr result (λ e. range_refusal self.now pid addr len ≡ Some e) }
     {
         let Some((first, count)) = whole_pages(addr, len) else {
             return Err(Errno::Einval);
@@ -49,8 +49,8 @@ impl<A: Allocator + Copy> Areas<A> {
         len: u64,
         policy: Policy,
     ) -> Result<(), MachineError>
-        ensures done { Makes result self.old self.new (policy_refusal self.old pid addr len) (with_policy self.old pid addr len policy) }
-        ensures memory { result ≡ Err MachineError.HostMemory → (policy_refusal self.old pid addr len ≡ None) × (0 < len) }
+        ensures done { Makes result self.old self.new (range_refusal self.old pid addr len) (with_policy self.old pid addr len policy) }
+        ensures memory { result ≡ Err MachineError.HostMemory → (range_refusal self.old pid addr len ≡ None) × (0 < len) }
         ensures pages { (q v : ℕ) → page_at self.new.areas q v ≡ page_at self.old.areas q v }
     {
         let Some((first, count)) = whole_pages(addr, len) else {

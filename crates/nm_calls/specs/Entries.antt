@@ -2,7 +2,7 @@
 use Rattle.std.specs.Prelude.{ℕ, List, map, Option, Some, None}
 use Rattle.nm_engine.specs.declared.Entry.{Entry}
 use Rattle.nm_engine.specs.declared.Entry.TheVariants.{Zero, Frame, Held}
-use Rattle.nm_calls.specs.declared.answer.Mapped.{Mapped}
+use Rattle.nm_calls.specs.declared.answer.PagemapEntry.{PagemapEntry}
 
 -- the frame of an entry, or none for the page of zeros
 abbrev pub frame_shown : Entry → Option ℕ
@@ -15,5 +15,5 @@ abbrev pub entries_shown : List (ℕ × Entry) → List (ℕ × Option ℕ)
 entries_shown es = map {B = ℕ × Option ℕ} (λ e. (e.0, frame_shown e.1)) es
 
 -- the same of what a call answers
-abbrev pub entries_mapped : List Mapped → List (ℕ × Option ℕ)
+abbrev pub entries_mapped : List PagemapEntry → List (ℕ × Option ℕ)
 entries_mapped ms = map {B = ℕ × Option ℕ} (λ m. (m.vpn, m.frame)) ms

@@ -15,7 +15,7 @@ pub struct Moved<A: Allocator + Copy + Send + Sync> {
 
 /// An entry of a process, at a page number.
 #[derive(Clone, Copy, Debug, PartialEq, Eq)]
-pub struct Mapped {
+pub struct PagemapEntry {
     /// The page number.
     pub vpn: Vpn,
     /// The frame, or None for the page of zeros.
@@ -38,7 +38,7 @@ pub enum Answer<A: Allocator + Copy + Send + Sync> {
     /// Frames, the front first.
     Frames(Vec<FrameId, A>),
     /// The entries of a process, by address.
-    Entries(Vec<Mapped, A>),
+    Entries(Vec<PagemapEntry, A>),
     /// How many pages moved and how many entries failed so far.
     Totals(Totals),
     /// Lines of text, without line feeds.

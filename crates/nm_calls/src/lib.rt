@@ -14,7 +14,7 @@ mod permission;
 mod system;
 mod words;
 
-pub use answer::{Answer, Mapped, Moved};
+pub use answer::{Answer, Moved, PagemapEntry};
 pub use call::{
     Attachment, Batch, Call, MigrateRequest, MoveRequest, NewArea, NewProcess, Question,
 };

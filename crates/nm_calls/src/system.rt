@@ -10,7 +10,7 @@ ghost use Rattle.nm_calls.specs.Systems.{default_limit, new_system, system_with}
 ghost use Rattle.nm_calls.specs.Outcome.{statuses_of, outcome};
 ghost use Rattle.nm_calls.specs.Does.{Does, DoesOrRefuses};
 
-use crate::answer::{Mapped, Moved};
+use crate::answer::{Moved, PagemapEntry};
 use crate::batch::{check_targets, move_batch};
 use crate::call_error::CallError;
 use crate::maps::areas_text;
@@ -26,7 +26,7 @@ use std::marker::Model;
 fn mapped_of<A: Allocator + Copy>(
     alloc: A,
     entries: &[(Vpn, Entry)],
-) -> Result<Vec<Mapped, A>, AllocError>
+) -> Result<Vec<PagemapEntry, A>, AllocError>
     ensures { IfOk result (λ mapped. entries_mapped mapped.items ≡ entries_shown entries.now) }
 {
     let mut mapped = Vec::with_capacity(alloc, entries.len())?;
@@ -36,7 +36,7 @@ fn mapped_of<A: Allocator + Copy>(
             Entry::Frame(frame) => Some(*frame),
             Entry::Held(frame) => Some(*frame),
         };
-        mapped.push(Mapped { vpn: *vpn, frame })?;
+        mapped.push(PagemapEntry { vpn: *vpn, frame })?;
     }
     Ok(mapped)
 }
@@ -324,7 +324,7 @@ impl<A: Allocator + Copy + Send + Sync> System<A> {
 
     /// The entries of a process by address: the frame of each, or the page of zeros. Refusal: ESRCH.
     #[tactic(auto, unfolding(crate::specs::Outcome::refused, crate::specs::Outcome::refused_at_once, crate::specs::Outcome::ended, crate::specs::Outcome::runs_asked, crate::specs::Outcome::start, crate::specs::Outcome::sets_policy), using(crate::proofs::Outcomes::answers, crate::proofs::Outcomes::refuses, crate::proofs::Outcomes::unchanged))]
-    pub fn pagemap(&self, pid: Pid) -> Result<Vec<Mapped, A>, CallError>
+    pub fn pagemap(&self, pid: Pid) -> Result<Vec<PagemapEntry, A>, CallError>
         ensures { Does (λ mapped. Entries (entries_mapped mapped.items)) result self.now self.now (Pagemap pid) }
     {
         let entries = self.machine.entries(pid)?;

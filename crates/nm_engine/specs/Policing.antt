@@ -14,7 +14,7 @@ use Rattle.nm_engine.specs.Refused.{is_unknown}
 -- no such process; an address inside a page, or an end past 2^64 - 1; a page without an area
 abbrev pub policy_refusal : State → ℕ → ℕ → ℕ → Option Errno
 policy_refusal s pid address len =
-    if is_unknown s pid then Some Esrch else areas.policy_refusal (areas_of s) pid address len
+    if is_unknown s pid then Some Esrch else areas.range_refusal (areas_of s) pid address len
 
 -- the areas of a process are split at both ends of a range, and those inside have this policy
 abbrev pub set_policy : State → ℕ → ℕ → ℕ → Policy → State

@@ -40,7 +40,7 @@ map_refusal s pid address pages =
 -- no such process; no room for the area, or no such stretch of a shared segment
 abbrev pub attach_refusal : State → ℕ → ℕ → ℕ → ℕ → ℕ → Option Errno
 attach_refusal s pid address segment offset pages =
-    if is_unknown s pid then Some Esrch else areas.attach_refusal (areas_of s) pid address segment offset pages
+    if is_unknown s pid then Some Esrch else areas.stretch_refusal (areas_of s) pid address segment offset pages
 
 -- whether an area of the process shows a page with pins at one of these page numbers
 abbrev pub shows_pinned : Map (ℕ × ℕ) Area → Map Page ℕ → ℕ → ℕ → ℕ → Bool

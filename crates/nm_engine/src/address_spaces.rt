@@ -12,7 +12,7 @@ ghost use Rattle.nm_types.specs.Map.{get, set, without, with_values, page_cmp};
 ghost use Rattle.nm_types.specs.State.{Process, Placed, State, area_over, page_at};
 ghost use Rattle.nm_types.specs.Does.{Makes};
 ghost use Rattle.nm_areas.specs.Effect.{inserted, attached, with_policy};
-ghost use Rattle.nm_areas.specs.Refused.{insert_refusal, attach_refusal, policy_refusal, remove_refusal};
+ghost use Rattle.nm_areas.specs.Refused.{insert_refusal, stretch_refusal, range_refusal, remove_refusal};
 ghost use Rattle.nm_areas.specs.Removed.{frames_lost};
 ghost use Rattle.nm_areas.specs.Lines.{is_shared};
 ghost use Rattle.nm_runs.specs.Seen.{sight_in, look_in, look_at_place};

@@ -8,7 +8,7 @@ ghost use Rattle.nm_calls.specs.Maps.{lines_shown};
 ghost use Rattle.nm_calls.specs.Views.{call_of, answer_of};
 ghost use Rattle.nm_trace.specs.Report.{word_of, listed, signed_listed, entry_text, totals_text, lines_behind, answer_text, text_of};
 
-use nm_calls::{Answer, Call, Mapped, Totals, push_address, push_number};
+use nm_calls::{Answer, Call, PagemapEntry, Totals, push_address, push_number};
 use nm_types::{Errno, FrameId};
 use std::alloc::{AllocError, Allocator};
 
@@ -61,7 +61,7 @@ fn push_statuses<A: Allocator>(line: &mut String<A>, statuses: &[i32]) -> Result
 }
 
 /// Puts an entry after a space.
-fn push_entry<A: Allocator>(line: &mut String<A>, entry: Mapped) -> Result<(), AllocError>
+fn push_entry<A: Allocator>(line: &mut String<A>, entry: PagemapEntry) -> Result<(), AllocError>
     ensures { OnOk result (string_bytes line.new ≡ string_bytes line.old ++ entry_text (entry.vpn, entry.frame)) }
 {
     line.push_str(" ")?;
@@ -77,7 +77,10 @@ fn push_entry<A: Allocator>(line: &mut String<A>, entry: Mapped) -> Result<(), A
 }
 
 /// Puts each entry after a space.
-fn push_entries<A: Allocator>(line: &mut String<A>, entries: &[Mapped]) -> Result<(), AllocError>
+fn push_entries<A: Allocator>(
+    line: &mut String<A>,
+    entries: &[PagemapEntry],
+) -> Result<(), AllocError>
     ensures { OnOk result (string_bytes line.new ≡ string_bytes line.old
         ++ flat_map entry_text (map (λ e. (e.vpn, e.frame)) entries.now)) }
 {

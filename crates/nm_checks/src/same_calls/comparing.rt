@@ -1,7 +1,7 @@
 //! What can be seen of a system and of a plain machine.
 
 use crate::plain::{NODES, PIDS, Plain};
-use nm_calls::{CallError, Mapped, System};
+use nm_calls::{CallError, PagemapEntry, System};
 use nm_types::{Errno, NodeId, Pid};
 use std::alloc::Global;
 
@@ -14,7 +14,7 @@ fn same_free(system: &System<Global>, plain: &Plain, node: u32) -> bool {
 }
 
 /// Whether these are the entries of a process, upwards.
-fn has_entries(plain: &Plain, pid: u32, entries: &[Mapped]) -> bool {
+fn has_entries(plain: &Plain, pid: u32, entries: &[PagemapEntry]) -> bool {
     let mut least = 0u64;
     for entry in entries {
         let vpn = entry.vpn.number();

@@ -26,7 +26,7 @@ use Rattle.nm_types.specs.Does.{Makes}
 use Rattle.nm_areas.specs.Effect.{over_with, with_policy}
 use Rattle.nm_areas.specs.Policy.{pages_of, repoliced}
 use Rattle.nm_areas.specs.Mapped.{Mapped}
-use Rattle.nm_areas.specs.Refused.{first_error, is_range, is_room, is_stretch, insert_refusal, attach_refusal, policy_refusal, overlaps}
+use Rattle.nm_areas.specs.Refused.{first_error, is_range, is_room, is_stretch, insert_refusal, stretch_refusal, range_refusal, overlaps}
 use Rattle.nm_rmap.specs.Mappers.{Mappers}
 use Rattle.nm_engine.specs.ProcessTable.{Task, entry_at, entry_in, names}
 use Rattle.nm_engine.specs.AddressSpaces.{SpacesView, spaces_view, process_of, sight_of, page_here, pins_in, mapped_of, with_mapped}
@@ -128,7 +128,7 @@ still_with_new m n pid address new room place over =
 pub insert_room : (m : Mapped) (pid address pages : ℕ) → insert_refusal m pid address pages ≡ None → is_room m.areas pid address pages ≡ true
 insert_room m pid address pages h = not_false _ (no_error (not (is_room m.areas pid address pages)) Einval ((nat_le 65536 m.next, Enomem) ∷ []) h)
 
-pub attach_room : (m : Mapped) (pid address segment offset pages : ℕ) → attach_refusal m pid address segment offset pages ≡ None → is_room m.areas pid address pages ≡ true
+pub attach_room : (m : Mapped) (pid address segment offset pages : ℕ) → stretch_refusal m pid address segment offset pages ≡ None → is_room m.areas pid address pages ≡ true
 attach_room m pid address segment offset pages h =
     let fits = is_room m.areas pid address pages && is_stretch (get nat_cmp m.segments segment) offset pages in
     (and_parts (is_room m.areas pid address pages) _ (not_false fits (no_error (not fits) Einval [] h))).0
@@ -147,7 +147,7 @@ place_policed m pid address len policy =
     elim (len == 0) as (λ b. (cond b m n).place ≡ m.place) [ true ↦ refl | false ↦ refl ]
 
 pub policed_still : {T : Type 0} (m n : Mapped) (pid address len : ℕ) (policy : Policy) (result : Result T MachineError)
-    → Makes result m n (policy_refusal m pid address len) (with_policy m pid address len policy) → ((q v : ℕ) → page_at n.areas q v ≡ page_at m.areas q v) → IsShownStill m n
+    → Makes result m n (range_refusal m pid address len) (with_policy m pid address len policy) → ((q v : ℕ) → page_at n.areas q v ≡ page_at m.areas q v) → IsShownStill m n
 policed_still m n pid address len policy (Ok x) h same =
     record { place = ap (λ (n : Mapped). n.place) h.1 ∙ place_policed m pid address len policy; pages = λ q v p k. same q v ∙ k }
 policed_still m n pid address len policy (Err (error.Refused e)) h same = still_same m n h.1

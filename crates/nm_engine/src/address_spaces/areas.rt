@@ -9,7 +9,7 @@ ghost use Rattle.nm_types.specs.Map.{get, without};
 ghost use Rattle.nm_types.specs.State.{Process};
 ghost use Rattle.nm_types.specs.Does.{Makes};
 ghost use Rattle.nm_areas.specs.Effect.{inserted, attached, with_policy};
-ghost use Rattle.nm_areas.specs.Refused.{insert_refusal, attach_refusal, policy_refusal, remove_refusal};
+ghost use Rattle.nm_areas.specs.Refused.{insert_refusal, stretch_refusal, range_refusal, remove_refusal};
 ghost use Rattle.nm_areas.specs.Removed.{removed, frames_lost};
 ghost use Rattle.nm_engine.specs.Refused.{shows_pinned};
 ghost use Rattle.nm_engine.specs.ProcessTable.{entry_at, names, cleared};
@@ -49,8 +49,8 @@ impl<A: Allocator + Copy> AddressSpaces<A> {
         offset: u64,
         pages: u64,
     ) -> Result<(), MachineError>
-        ensures done { Makes result (mapped_of self.old) (mapped_of self.new) (attach_refusal (mapped_of self.old) pid addr segment offset pages) (attached (mapped_of self.old) pid addr segment offset pages) }
-        ensures memory { result ≡ Err MachineError.HostMemory → attach_refusal (mapped_of self.old) pid addr segment offset pages ≡ None }
+        ensures done { Makes result (mapped_of self.old) (mapped_of self.new) (stretch_refusal (mapped_of self.old) pid addr segment offset pages) (attached (mapped_of self.old) pid addr segment offset pages) }
+        ensures memory { result ≡ Err MachineError.HostMemory → stretch_refusal (mapped_of self.old) pid addr segment offset pages ≡ None }
         ensures same { self.new ≡ with_mapped self.old (mapped_of self.new) }
     {
         self.areas.attach(pid, addr, segment, offset, pages)
@@ -58,8 +58,8 @@ impl<A: Allocator + Copy> AddressSpaces<A> {
 
     /// Whether the policy of a range of a process may be set, as far as areas go.
     pub(crate) fn check_policy(&self, pid: Pid, addr: u64, len: u64) -> Result<(), Errno>
-        ensures ok { OnOk result (policy_refusal (mapped_of self.now) pid addr len ≡ None) }
-        ensures err { IfErr result (λ e. policy_refusal (mapped_of self.now) pid addr len ≡ Some e) }
+        ensures ok { OnOk result (range_refusal (mapped_of self.now) pid addr len ≡ None) }
+        ensures err { IfErr result (λ e. range_refusal (mapped_of self.now) pid addr len ≡ Some e) }
     {
         self.areas.check_policy(pid, addr, len)
     }
@@ -72,8 +72,8 @@ impl<A: Allocator + Copy> AddressSpaces<A> {
         len: u64,
         policy: Policy,
     ) -> Result<(), MachineError>
-        ensures done { Makes result (mapped_of self.old) (mapped_of self.new) (policy_refusal (mapped_of self.old) pid addr len) (with_policy (mapped_of self.old) pid addr len policy) }
-        ensures memory { result ≡ Err MachineError.HostMemory → policy_refusal (mapped_of self.old) pid addr len ≡ None }
+        ensures done { Makes result (mapped_of self.old) (mapped_of self.new) (range_refusal (mapped_of self.old) pid addr len) (with_policy (mapped_of self.old) pid addr len policy) }
+        ensures memory { result ≡ Err MachineError.HostMemory → range_refusal (mapped_of self.old) pid addr len ≡ None }
         ensures same { self.new ≡ with_mapped self.old (mapped_of self.new) }
     {
         self.areas.split_policy(pid, addr, len, policy)

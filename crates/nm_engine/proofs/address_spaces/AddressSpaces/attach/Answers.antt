@@ -1,7 +1,7 @@
 use Rattle.std.proofs.Common.{ap}
 use Rattle.nm_areas.specs.Effect.{attached, new_area}
 use Rattle.nm_areas.specs.Mapped.{Mapped}
-use Rattle.nm_areas.specs.Refused.{attach_refusal}
+use Rattle.nm_areas.specs.Refused.{stretch_refusal}
 use Rattle.nm_engine.proofs.Tied.Mapped.{IsShownStill, still_same, still_tied, still_shows_at, still_with_new, attach_room, from_makes}
 use Rattle.nm_engine.proofs.address_spaces.AddressSpaces.attach.Given.{Over}
 use Rattle.nm_engine.proofs.address_spaces.AddressSpaces.attach.Goals as goal
@@ -11,7 +11,7 @@ still g c =
     let m = c.self.inside.areas in
     let n = c.attach.new.self in
     let x = c.args in
-    from_makes c.attach.result m n (attached m x.pid x.addr x.segment x.offset x.pages) (attach_refusal m x.pid x.addr x.segment x.offset x.pages)
+    from_makes c.attach.result m n (attached m x.pid x.addr x.segment x.offset x.pages) (stretch_refusal m x.pid x.addr x.segment x.offset x.pages)
     (λ fine is over. still_with_new m n x.pid x.addr (new_area x.segment x.offset x.pages) (attach_room m x.pid x.addr x.segment x.offset x.pages fine) (ap (λ (n : Mapped). n.place) is) over)
     (λ is. still_same m n is) c.attach.ensures.done c.attach.ensures.over
 
