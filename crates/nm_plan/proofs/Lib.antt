@@ -1,3 +1,3 @@
-mod Moved
+mod Searched
 mod Closed
 mod Short

@@ -1,11 +1,25 @@
--- How a set finds the pages that have moved.
-use Rattle.std.specs.Prelude.{◌≡◌, List, drop}
-use Rattle.std.specs.BTreeSet.{BTreeSet, contains}
+-- How the pages that have moved are found.
+use Rattle.std.specs.Prelude.{◌≡◌, ◌-◌, ◌≤◌, ◌<◌, List, length, take, drop, get_or}
+use Rattle.std.specs.declared.cmp.Ordering.TheVariants.{Less}
+use Rattle.std.specs.BTreeSet.{contains}
+use Rattle.std.specs.List.Sorted.{IsNonDecreasingBy}
+use Rattle.std.specs.Ordering.{ordering_index}
 use Rattle.nm_types.specs.declared.page.Page.{Page}
 use Rattle.nm_types.specs.Map.{page_cmp}
 use Rattle.nm_plan.specs.declared.Taken.{Taken}
+use Rattle.nm_plan.specs.declared.search.Search.{Search}
 use Rattle.nm_plan.specs.Decide.{has_moved}
 
--- the set has the pages of the moves past the first eight, and no other
-abbrev pub Finds : BTreeSet Page → List Taken → Type 0
-Finds later taken = (p : Page) → contains page_cmp later p ≡ has_moved (drop 8 taken) p
+-- the pages ascend: against any page, none stands higher than those behind it
+abbrev pub Ascends : List Taken → Type 0
+Ascends taken = (p : Page) → IsNonDecreasingBy (λ t. ordering_index (page_cmp t.page p)) taken
+
+-- the page comes after that of the last move
+abbrev pub IsPast : List Taken → Page → Type 0
+IsPast taken page = (d : Taken) → 0 < length taken → page_cmp (get_or taken (length taken - 1) d).page page ≡ Less
+
+-- the first moves ascend, and the set has the pages of those past the eight behind them, and no other
+pub record Finds {A : Type 0} (s : Search A) (taken : List Taken) : Type 0 where
+  pub within : s.ascending ≤ length taken
+  pub ascends : Ascends (take s.ascending taken)
+  pub later : (p : Page) → contains page_cmp s.later p ≡ has_moved (drop 8 (drop s.ascending taken)) p

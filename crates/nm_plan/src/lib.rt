@@ -4,6 +4,7 @@
 pub mod laws;
 mod outcome;
 mod planning;
+mod search;
 #[cfg(test)]
 mod tests;
 

@@ -2,34 +2,15 @@
 
 ghost use Rattle.std.specs.Prelude.{◌≡◌, ◌<◌, ◌+◌, ◌^◌, ◌++◌, drop, length, position, vec_len, vec_capacity, IfOk, OnOk};
 ghost use Rattle.std.specs.List.{zip};
-ghost use Rattle.nm_plan.specs.Decide.{has_moved, choose, is_short, planned};
+ghost use Rattle.nm_plan.specs.Decide.{choose, is_short, planned};
 ghost use Rattle.nm_plan.specs.Found.{Finds};
 
 use crate::Taken;
 use crate::outcome::Plan;
+use crate::search::Search;
 use nm_runs::Class;
-use nm_types::{Errno, FrameId, NodeId, Page};
+use nm_types::{Errno, FrameId, NodeId};
 use std::alloc::{AllocError, Allocator};
-use std::collections::BTreeSet;
-
-/// So many moves are looked through one by one: a short run then takes no memory for a set.
-const FEW: usize = 8;
-
-/// Whether one of these moves is of the page.
-fn is_among(moves: &[Taken], page: Page) -> bool
-    ensures { result ≡ has_moved moves.now page }
-{
-    moves.iter().any(|taken| page.cmp(&taken.page).is_eq())
-}
-
-/// Whether one of these moves is of the page, where the set has the pages of those past the first few.
-fn has_moved<A: Allocator + Copy>(moves: &[Taken], later: &BTreeSet<Page, A>, page: Page) -> bool
-    requires { Finds later.now moves.now }
-    ensures { result ≡ has_moved moves.now page }
-{
-    let few = moves.len().min(FEW);
-    is_among(&moves[..few], page) || later.contains(&page)
-}
 
 /// Decides one request after these moves: a page that moves takes the first frame that none of them has taken.
 fn choose<A: Allocator + Copy>(
@@ -37,15 +18,15 @@ fn choose<A: Allocator + Copy>(
     free_front: &[FrameId],
     target: NodeId,
     moves: &mut Vec<Taken, A>,
-    later: &mut BTreeSet<Page, A>,
+    search: &mut Search<A>,
 ) -> Result<i32, AllocError>
     requires target { target < 2 ^ 31 }
-    requires found { Finds later.old moves.old.items }
+    requires found { Finds search.old moves.old.items }
     requires room { vec_len moves.old < vec_capacity moves.old }
     ensures status { IfOk result (λ status. status ≡ (choose class moves.old.items (drop (length moves.old.items) free_front.now) target).status) }
     ensures moves { OnOk result (moves.new.items ≡ moves.old.items ++ (choose class moves.old.items (drop (length moves.old.items) free_front.now) target).taken) }
     ensures front { OnOk result (drop (length moves.new.items) free_front.now ≡ (choose class moves.old.items (drop (length moves.old.items) free_front.now) target).front) }
-    ensures found { OnOk result (Finds later.new moves.new.items) }
+    ensures found { OnOk result (Finds search.new moves.new.items) }
     ensures capacity { OnOk result (vec_capacity moves.new ≡ vec_capacity moves.old) }
 {
     let Class::Move { page, from } = class else {
@@ -54,15 +35,13 @@ fn choose<A: Allocator + Copy>(
         };
         return Ok(status);
     };
-    if has_moved(moves.as_slice(), later, page) {
+    if search.has(moves.as_slice(), page) {
         return Ok(target.number() as i32);
     }
     let Some(to) = free_front.get(moves.len()) else {
         return Ok(-Errno::Enomem.number());
     };
-    if moves.len() >= FEW {
-        later.insert(page)?;
-    }
+    search.add(moves.as_slice(), page)?;
     moves.push_reserved(Taken {
         page,
         from,
@@ -106,9 +85,9 @@ pub fn plan<A: Allocator + Copy>(
 {
     let mut moves = Vec::with_capacity(alloc, classes.len())?;
     let mut statuses = Vec::with_capacity(alloc, classes.len())?;
-    let mut later = BTreeSet::new(alloc);
+    let mut search = Search::new(alloc);
     for class in classes {
-        let status = choose(*class, free_front, target, &mut moves, &mut later)?;
+        let status = choose(*class, free_front, target, &mut moves, &mut search)?;
         statuses.push_reserved(status);
     }
     let shortage = shortage_of(classes, statuses.as_slice());

@@ -9,7 +9,7 @@ invariant-loop-class g l =
     record {
       statuses : l.statuses.items ++ rest.statuses ≡ (decide l.classes [] l.free_front l.target).statuses;
       moves : l.moves.items ++ rest.taken ≡ (decide l.classes [] l.free_front l.target).taken;
-      found : Finds l.later l.moves.items;
+      found : Finds l.search l.moves.items;
       status_room : length l.statuses.items + length (drop l.class-index l.classes) ≤ l.statuses.cap;
       move_room : length l.moves.items + length (drop l.class-index l.classes) ≤ l.moves.cap;
     }

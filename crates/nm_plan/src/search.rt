@@ -1,0 +1,85 @@
+//! Finding a page among those that move.
+
+ghost use Rattle.std.specs.Prelude.{◌≡◌, ◌∷◌, ◌++◌, [], OnOk};
+ghost use Rattle.std.specs.Bool.{OnTrue};
+ghost use Rattle.nm_plan.specs.Decide.{has_moved};
+ghost use Rattle.nm_plan.specs.Found.{Ascends, IsPast, Finds};
+
+use crate::Taken;
+use nm_types::Page;
+use std::alloc::{AllocError, Allocator};
+use std::collections::BTreeSet;
+
+/// So many moves behind those in ascending order are looked through one by one: a short run then takes no memory for a
+/// set.
+const FEW: usize = 8;
+
+/// Whether one of these moves is of the page.
+fn is_among(moves: &[Taken], page: Page) -> bool
+    ensures { result ≡ has_moved moves.now page }
+{
+    moves.iter().any(|taken| page.cmp(&taken.page).is_eq())
+}
+
+/// Whether one of these moves, whose pages ascend, is of the page.
+fn is_among_ascending(moves: &[Taken], page: Page) -> bool
+    requires { Ascends moves.now }
+    ensures { result ≡ has_moved moves.now page }
+{
+    moves
+        .binary_search_by(|taken| taken.page.cmp(&page))
+        .is_ok()
+}
+
+/// Whether a page comes after the last of these moves, or there is none.
+fn is_past(moves: &[Taken], page: Page) -> bool
+    ensures { OnTrue result (IsPast moves.now page) }
+{
+    moves.last().is_none_or(|last| last.page.cmp(&page).is_lt())
+}
+
+/// How the moves of a run are searched. The pages of the first of them ascend and are searched by halves, as most runs
+/// name their pages in that order; the next few are looked at one by one; the pages of all others stand in a set.
+#[derive(Drop)]
+pub(crate) struct Search<A: Allocator + Copy> {
+    ascending: usize,
+    later: BTreeSet<Page, A>,
+}
+
+impl<A: Allocator + Copy> Search<A> {
+    /// No move.
+    pub(crate) fn new(alloc: A) -> Self
+        ensures { Finds result [] }
+    {
+        Self {
+            ascending: 0,
+            later: BTreeSet::new(alloc),
+        }
+    }
+
+    /// Whether one of these moves is of the page.
+    pub(crate) fn has(&self, moves: &[Taken], page: Page) -> bool
+        requires { Finds self.now moves.now }
+        ensures { result ≡ has_moved moves.now page }
+    {
+        let (ascending, rest) = moves.split_at(self.ascending);
+        let few = rest.len().min(FEW);
+        is_among_ascending(ascending, page)
+            || is_among(&rest[..few], page)
+            || self.later.contains(&page)
+    }
+
+    /// Takes note of a page that moves behind these.
+    pub(crate) fn add(&mut self, moves: &[Taken], page: Page) -> Result<(), AllocError>
+        requires { Finds self.old moves.now }
+        ensures { OnOk result ((taken : Taken) → taken.page ≡ page → Finds self.new (moves.now ++ taken ∷ [])) }
+    {
+        let behind = moves.len() - self.ascending;
+        if behind == 0 && is_past(moves, page) {
+            self.ascending += 1;
+        } else if behind >= FEW {
+            self.later.insert(page)?;
+        }
+        Ok(())
+    }
+}
