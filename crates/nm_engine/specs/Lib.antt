@@ -7,6 +7,10 @@ pub mod Effect
 pub mod Refused
 pub mod Sound
 pub mod Laws
+pub mod RunMachine
+pub mod Accesses
+pub mod Events
+pub mod Interleavings
 pub mod Moves
 pub mod Copies
 pub mod Examples

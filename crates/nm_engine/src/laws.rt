@@ -1,6 +1,8 @@
 //! Laws over the definitions alone, and worked examples.
 
 ghost use Rattle.nm_engine.specs.Laws.{DecidingKeepsMemory, FreeingKeepsMemory, BatchKeepsMemory, ReadingKeepsMemory, WritingIsExact, PolicyKeepsMemory, LooksSuffice, LooksAreBounded, SoundIsAudited, PlanIsOneByOne, AccessIsSound, RunIsSound, BatchIsSound, NewIsSound, SpawnIsSound, MapIsSound, AttachIsSound, PinIsSound, UnpinIsSound, PolicyIsSound, UnmapIsSound, ExitIsSound};
+ghost use Rattle.nm_engine.specs.Interleavings.{EverySoundStateIsRead, EveryRunCanEnd, EveryOrderIsTheRun, EveryBufferIsInOneHand, HeldIsExact};
+ghost use Rattle.nm_engine.specs.Examples.Interleaved.{StartIsRead, BothOrdersEndAlike, InTheMiddle, TwoWorkersCopy, NotAllowed};
 ghost use Rattle.nm_engine.specs.Examples.Starts.{StartsAreSound};
 ghost use Rattle.nm_engine.specs.Examples.Moving.{ThreePagesMove, MovedPageReads, EmptyBatchDoesNothing, OnePageTwiceMovesOnce, ShortageStopsTwoOfFour, LaterRunTakesFrameOfEarlier, EarlierRunFindsNone, PageGoesAndComesHome};
 ghost use Rattle.nm_engine.specs.Examples.Sharing.{TwoAddressesAreOneProcess, SharedPageStays, SharedPageIsOnTarget, SharedPageMovesForBoth};
@@ -118,4 +120,23 @@ pub fn plans_take_frames_in_order()
     ensures plan_resolves_repeats { PlanResolvesRepeats }
     ensures plan_without_frames { PlanWithoutFrames }
     ensures plan_without_requests { PlanWithoutRequests }
+{}
+
+/// Whatever order the events of a run take, between its beginning and its end, the run is one request after another, the
+/// accesses one after another, and then the frames that were left become free; and each buffer is in one place all along.
+pub fn interleavings()
+    ensures states { EverySoundStateIsRead }
+    ensures ends { EveryRunCanEnd }
+    ensures orders { EveryOrderIsTheRun }
+    ensures hands { EveryBufferIsInOneHand }
+    ensures held { HeldIsExact }
+{}
+
+/// A worked example of the events of a run.
+pub fn one_page_moves()
+    ensures start { StartIsRead }
+    ensures ends { BothOrdersEndAlike }
+    ensures middle { InTheMiddle }
+    ensures two { TwoWorkersCopy }
+    ensures refused { NotAllowed }
 {}

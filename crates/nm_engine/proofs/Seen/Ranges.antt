@@ -27,7 +27,7 @@ module _ (s : State) (pid v : ℕ) (p : Page) (at : page_at s.areas pid v ≡ So
       ∙ ap (option_map (λ q. byte_of s q (get page_cmp s.place q) i)) at
 
   -- those that its frame has
-  range_here : (bytes : List ℕ) → ((i : ℕ) → byte_of s p (get page_cmp s.place p) i ≡ slice_index bytes i) → (i len : ℕ) → i + len ≤ 4096 → mem_range s pid (v * 4096 + i) len ≡ stretch_of bytes i len
+  pub range_here : (bytes : List ℕ) → ((i : ℕ) → byte_of s p (get page_cmp s.place p) i ≡ slice_index bytes i) → (i len : ℕ) → i + len ≤ 4096 → mem_range s pid (v * 4096 + i) len ≡ stretch_of bytes i len
   range_here bytes same i zero fits = refl
   range_here bytes same i (suc len) fits =
       let next : v * 4096 + i + 1 ≡ v * 4096 + (i + 1) = omega arith in
@@ -37,7 +37,7 @@ module _ (s : State) (pid v : ℕ) (p : Page) (at : page_at s.areas pid v ≡ So
       ∙ ap (λ xs. slice_index bytes i ∷ xs) (range_here bytes same (i + 1) len (omega (arith, fits)))
 
   -- zeros where it has no frame
-  zeros_here : get page_cmp s.place p ≡ None → (i len : ℕ) → i + len ≤ 4096 → mem_range s pid (v * 4096 + i) len ≡ replicate len 0
+  pub zeros_here : get page_cmp s.place p ≡ None → (i len : ℕ) → i + len ≤ 4096 → mem_range s pid (v * 4096 + i) len ≡ replicate len 0
   zeros_here unplaced i zero fits = refl
   zeros_here unplaced i (suc len) fits =
       let next : v * 4096 + i + 1 ≡ v * 4096 + (i + 1) = omega arith in
@@ -46,11 +46,11 @@ module _ (s : State) (pid v : ℕ) (p : Page) (at : page_at s.areas pid v ≡ So
       ∙ ap (λ a. 0 ∷ mem_range s pid a len) next
       ∙ ap (λ xs. 0 ∷ xs) (zeros_here unplaced (i + 1) len (omega (arith, fits)))
 
-parted : (address : ℕ) → address ≡ address / 4096 * 4096 + address % 4096
+pub parted : (address : ℕ) → address ≡ address / 4096 * 4096 + address % 4096
 parted address = omega arith
 
 -- where the page of zeros is seen, the page that is shown has no frame
-zero_has_none : (s : State) (l : List ℕ) (pid v : ℕ) → IsSoundMidRun s l → sight_at s pid v ≡ Some ZeroPage → (p : Page) × (page_at s.areas pid v ≡ Some p) × (get page_cmp s.place p ≡ None)
+pub zero_has_none : (s : State) (l : List ℕ) (pid v : ℕ) → IsSoundMidRun s l → sight_at s pid v ≡ Some ZeroPage → (p : Page) × (page_at s.areas pid v ≡ Some p) × (get page_cmp s.place p ≡ None)
 zero_has_none s l pid v h e =
     let zero = h.zeros pid v e in (
       zero.0,
