@@ -87,7 +87,15 @@ fn move_pages<R: Threads + Wait + Sync, A: Allocator + Copy + Send + Sync, G: Ga
         flags,
     } = request;
     let Batch { pages, nodes } = batch;
-    system.move_pages(rt, *caller, *pid, pages.as_slice(), nodes.as_slice(), *flags, gate)
+    system.move_pages(
+        rt,
+        *caller,
+        *pid,
+        pages.as_slice(),
+        nodes.as_slice(),
+        *flags,
+        gate,
+    )
 }
 
 /// Moves the pages of a process from nodes to nodes.
@@ -166,7 +174,9 @@ impl<A: Allocator + Copy + Send + Sync> System<A> {
                 Ok(Answer::Done)
             }
             Call::MovePages(request) => Ok(Answer::Statuses(move_pages(rt, self, request, gate)?)),
-            Call::MigratePages(request) => Ok(Answer::Failed(migrate_pages(rt, self, request, gate)?)),
+            Call::MigratePages(request) => Ok(Answer::Failed(migrate_pages(
+                rt, self, request, gate,
+            )?)),
             Call::Query(question) => Ok(Answer::Statuses(query(self, question)?)),
             Call::FreeList { node } => Ok(Answer::Frames(self.free_list(*node)?)),
             Call::Pagemap { pid } => Ok(Answer::Entries(self.pagemap(*pid)?)),

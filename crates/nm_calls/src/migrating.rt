@@ -110,11 +110,7 @@ pub(crate) fn migration_of<A: Allocator + Copy + Send + Sync>(
 /// workers. The list of pages and all that is asked for is made before the first run starts. An error means that the host refused memory after
 /// so many runs.
 #[tactic(auto, using(crate::proofs::Trails::first_state))]
-pub(crate) fn migrate<
-    R: Threads + Wait + Sync,
-    A: Allocator + Copy + Send + Sync,
-    G: Gate + Sync,
->(
+pub(crate) fn migrate<R: Threads + Wait + Sync, A: Allocator + Copy + Send + Sync, G: Gate + Sync>(
     rt: &R,
     alloc: A,
     machine: &mut Machine<A>,
