@@ -9,7 +9,9 @@ use nm_engine::Totals;
 use nm_refusing::Refusing;
 use nm_types::{NodeId, Pid};
 use std::alloc::AllocError;
+use std::sync::Wait;
 use std::test::Fail;
+use std::thread::Threads;
 
 /// Makes a process of a user and a home of its own, with so many pages from 0x10000 on, and writes each of them.
 fn begin(system: &mut System<Heap<'_>>, pid: Pid, home: u32, pages: u64) -> Result<(), CallError> {
@@ -30,7 +32,7 @@ pub(crate) fn three_pages(heap: Heap<'_>) -> Result<System<Heap<'_>>, CallError>
 
 /// Moves the first page to node 1 and, in a second run, back to node 0.
 fn there_and_back<'a>(
-    rt: &HostRuntime,
+    rt: &(impl Threads + Wait + Sync),
     system: &mut System<Heap<'a>>,
 ) -> Result<Moved<Heap<'a>>, CallError> {
     let pages = [0x10000u64, 0x10000];
@@ -70,7 +72,7 @@ struct Attempt {
 
 /// Makes the batch on a new system while the allocation of this number is refused.
 fn make_attempt(
-    rt: &HostRuntime,
+    rt: &(impl Threads + Wait + Sync),
     heap: Heap<'_>,
     number: u64,
 ) -> Result<Attempt, CallError> {
@@ -125,7 +127,7 @@ fn one_by_one(heap: Heap<'_>) -> Result<System<Heap<'_>>, CallError> {
 
 /// Moves the first two pages to node 1, while the allocation of this number is refused.
 fn move_two(
-    rt: &HostRuntime,
+    rt: &(impl Threads + Wait + Sync),
     heap: Heap<'_>,
     number: u64,
 ) -> Result<Attempt, CallError> {
@@ -180,7 +182,7 @@ fn six_pages(heap: Heap<'_>) -> Result<System<Heap<'_>>, CallError> {
 
 /// How many entries of four pages to node 1 fail.
 fn crowd(
-    rt: &HostRuntime,
+    rt: &(impl Threads + Wait + Sync),
     system: &mut System<Heap<'_>>,
 ) -> Result<usize, CallError> {
     let pages = [0x10000u64, 0x11000, 0x12000, 0x13000];
@@ -221,7 +223,7 @@ fn totals_count_moves_and_failures(rt: HostRuntime) -> Result<(), Fail> {
 
 /// How many statuses of a batch that names one page 16,384 times are its target, node 1.
 fn name_often(
-    rt: &HostRuntime,
+    rt: &(impl Threads + Wait + Sync),
     heap: Heap<'_>,
     system: &mut System<Heap<'_>>,
 ) -> Result<usize, CallError> {

@@ -4,8 +4,10 @@ ghost use Rattle.std.specs.Prelude.{◌<◌, ◌≤◌};
 
 use nm_crew::Gate;
 use nm_trace::run_trace;
+use std::alloc::Global;
+use std::sync::Wait;
 use std::sync::atomic::{AtomicBool, AtomicU64, Ordering};
-use std::thread::yield_now;
+use std::thread::{Threads, yield_now};
 
 /// Three pages of one process, written on node 0, moved to node 1 in one run and read there.
 const TRACE: &str =
@@ -90,10 +92,14 @@ impl Gate for Alone {
 }
 
 /// Runs the trace with so many workers, and gives whether its report is right.
-fn reports_right<G: Gate + Sync>(rt: &HostRuntime, workers: usize, gate: &G) -> bool
+fn reports_right<G: Gate + Sync>(
+    rt: &(impl Threads + Wait + Sync),
+    alloc: Global,
+    workers: usize,
+    gate: &G,
+) -> bool
     requires { (0 < workers) × (workers ≤ 64) }
 {
-    let alloc = rt.alloc();
     let mut written = Vec::new(alloc);
     let played = run_trace(
         rt,
@@ -111,14 +117,14 @@ fn reports_right<G: Gate + Sync>(rt: &HostRuntime, workers: usize, gate: &G) -> 
 #[test]
 fn workers_meet_in_a_trace(rt: HostRuntime) {
     let gate = Meeting::new();
-    assert!(rt; reports_right(&rt, 2, &gate) && gate.met());
+    assert!(rt; reports_right(&rt, rt.alloc(), 2, &gate) && gate.met());
 }
 
 /// With one worker the caller copies alone: three pages, three passes.
 #[test]
 fn one_worker_is_alone(rt: HostRuntime) {
     let gate = Alone(AtomicU64::new(0));
-    assert!(rt; reports_right(&rt, 1, &gate));
+    assert!(rt; reports_right(&rt, rt.alloc(), 1, &gate));
     assert_eq!(rt; gate.0.load(Ordering::SeqCst), 3u64);
 }
 
@@ -126,6 +132,9 @@ fn one_worker_is_alone(rt: HostRuntime) {
 #[test]
 fn reports_are_the_same(rt: HostRuntime) {
     for workers in [1, 2, 3, 64] {
-        assert!(rt; reports_right(&rt, workers, &Through), "{workers} workers");
+        assert!(rt;
+            reports_right(&rt, rt.alloc(), workers, &Through),
+            "{workers} workers"
+        );
     }
 }

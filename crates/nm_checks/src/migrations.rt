@@ -7,7 +7,9 @@ use nm_calls::{CallError, System};
 use nm_refusing::Refusing;
 use nm_types::{Geometry, NodeId, NodeMask, Pid};
 use std::alloc::AllocError;
+use std::sync::Wait;
 use std::test::Fail;
+use std::thread::Threads;
 
 /// Three nodes of four frames, each at distance 20 from the others.
 fn three_nodes(heap: Heap<'_>) -> Result<System<Heap<'_>>, AllocError> {
@@ -38,7 +40,7 @@ fn all_nodes() -> NodeMask {
 
 /// Process 1 has its first page in frame 0, on node 0, and its second in frame 4, on node 1.
 fn two_pages<'a>(
-    rt: &HostRuntime,
+    rt: &(impl Threads + Wait + Sync),
     heap: Heap<'a>,
 ) -> Result<System<Heap<'a>>, CallError> {
     let mut system = three_nodes(heap)?;
@@ -75,7 +77,7 @@ struct Attempt {
 
 /// Moves while the allocation of this number is refused.
 fn migrate(
-    rt: &HostRuntime,
+    rt: &(impl Threads + Wait + Sync),
     heap: Heap<'_>,
     number: u64,
 ) -> Result<Attempt, CallError> {

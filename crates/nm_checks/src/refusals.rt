@@ -9,7 +9,10 @@ use nm_refusing::Refusing;
 use nm_runs::{Run, Wanted};
 use nm_types::{FrameId, NodeId, Pid, Policy, Vpn};
 use std::alloc::AllocError;
+use std::process::Abort;
+use std::sync::Wait;
 use std::test::Fail;
+use std::thread::Threads;
 
 /// What can be seen of a machine of two nodes and the processes 1 and 2.
 #[derive(Drop)]
@@ -124,7 +127,7 @@ fn only_looks(call: Call) -> bool {
 }
 
 fn perform<'a>(
-    rt: &HostRuntime,
+    rt: &(impl Threads + Wait + Sync),
     machine: &mut Machine<Heap<'a>>,
     run: &Run<Heap<'a>>,
     call: Call,
@@ -205,7 +208,7 @@ fn take_picture<'a>(
 
 /// Makes a call while its allocation of this number is refused. Tells whether it came to that allocation.
 fn attempt<'a>(
-    rt: &HostRuntime,
+    rt: &(impl Threads + Wait + Sync),
     heap: Heap<'a>,
     machine: &mut Machine<Heap<'a>>,
     run: &Run<Heap<'a>>,
@@ -235,7 +238,7 @@ fn is_as_before<'a>(
 /// Makes a call, after each of its allocations was refused in turn: it answers so, and the machine is as it was. A call
 /// that only looks may make do with less room, and answer. Gives how many refusals there were.
 fn refuse_each<'a>(
-    rt: &HostRuntime,
+    rt: &(impl Abort + Threads + Wait + Sync),
     heap: Heap<'a>,
     machine: &mut Machine<Heap<'a>>,
     run: &Run<Heap<'a>>,
@@ -260,7 +263,7 @@ fn refuse_each<'a>(
 
 /// Makes each of some calls, after each of its allocations was refused in turn. Gives how many refusals there were.
 fn refuse_all<'a>(
-    rt: &HostRuntime,
+    rt: &(impl Abort + Threads + Wait + Sync),
     heap: Heap<'a>,
     machine: &mut Machine<Heap<'a>>,
     run: &Run<Heap<'a>>,

@@ -14,7 +14,9 @@ use nm_types::Geometry;
 use playing::{Difference, play};
 use rows::{Row, all_rows};
 use std::alloc::{AllocError, Global};
+use std::sync::Wait;
 use std::test::Fail;
+use std::thread::Threads;
 
 /// Two machines of three nodes. The way back between two nodes may be another one.
 const LAYOUTS: [Layout; 2] = [
@@ -58,7 +60,7 @@ fn new_system(alloc: Global, layout: &Layout) -> Result<System<Global>, AllocErr
 
 /// Plays the calls of a row, and gives the first difference.
 fn play_row(
-    rt: &HostRuntime,
+    rt: &(impl Threads + Wait + Sync),
     system: &mut System<Global>,
     plain: &mut Plain,
     met: &mut Met,
@@ -75,7 +77,7 @@ fn play_row(
 
 /// Plays calls that are drawn from a seed, and gives the first difference.
 fn play_drawn(
-    rt: &HostRuntime,
+    rt: &(impl Threads + Wait + Sync),
     system: &mut System<Global>,
     plain: &mut Plain,
     met: &mut Met,
@@ -98,7 +100,7 @@ fn play_drawn(
 
 /// Reads the first bytes of each page of each process, and gives the first difference.
 fn read_all(
-    rt: &HostRuntime,
+    rt: &(impl Threads + Wait + Sync),
     system: &mut System<Global>,
     plain: &mut Plain,
     met: &mut Met,

@@ -7,7 +7,9 @@ use nm_refusing::Refusing;
 use nm_trace::{Summary, Trace, TraceError, play, read_trace, run_trace};
 use nm_types::{Geometry, NodeId, Pid};
 use std::alloc::{AllocError, Global};
+use std::sync::Wait;
 use std::test::Fail;
+use std::thread::Threads;
 
 pub(crate) type Heap<'a> = &'a Refusing<Global>;
 
@@ -56,14 +58,22 @@ fn is_fine(played: Result<Summary, TraceError>, written: &[u8]) -> bool {
 /// Runs the trace while the allocation of this number is refused. Gives whether it came to that allocation, and whether
 /// what it answered and wrote is fine.
 fn run_refused(
-    rt: &HostRuntime,
+    rt: &(impl Threads + Wait + Sync),
     heap: Heap<'_>,
     global: Global,
     number: u64,
 ) -> (bool, bool) {
     let mut written = Vec::new(global);
     heap.refuse(number);
-    let played = run_trace(rt, heap, global, &mut TRACE.as_bytes(), &mut written, 4, &OpenGate);
+    let played = run_trace(
+        rt,
+        heap,
+        global,
+        &mut TRACE.as_bytes(),
+        &mut written,
+        4,
+        &OpenGate,
+    );
     let met = heap.asked_since(number) >= number;
     heap.refuse(0);
     (met, is_fine(played, written.as_slice()))
@@ -105,7 +115,7 @@ pub(crate) fn two_nodes(heap: Heap<'_>) -> Result<System<Heap<'_>>, AllocError> 
 /// Plays the trace on a new system while the allocation of this number is refused. Gives whether it came to that
 /// allocation, and whether what it answered and wrote is fine and the system sound.
 fn play_refused(
-    rt: &HostRuntime,
+    rt: &(impl Threads + Wait + Sync),
     heap: Heap<'_>,
     global: Global,
     number: u64,
@@ -147,7 +157,7 @@ fn own_trace(heap: Heap<'_>) -> Result<Trace<Heap<'_>>, AllocError> {
 
 /// Plays that trace on a system that is made for it, and gives the report.
 fn own_report(
-    rt: &HostRuntime,
+    rt: &(impl Threads + Wait + Sync),
     heap: Heap<'_>,
     global: Global,
 ) -> Result<Vec<u8>, AllocError> {

@@ -91,12 +91,7 @@ pub(crate) fn play_calls<
 /// `WriteFault` where the writer failed or took no byte: the report breaks off inside the lines of the last step that was
 /// made. `HostMemory(k)` where the host refused memory in step k: the lines of the steps before it were written, and step
 /// k was made as far as its call says, or whole and without its lines. The workers of the system pass the gate.
-pub fn play<
-    R: Threads + Wait + Sync,
-    A: Allocator + Copy + Send + Sync,
-    W: Write,
-    G: Gate + Sync,
->(
+pub fn play<R: Threads + Wait + Sync, A: Allocator + Copy + Send + Sync, W: Write, G: Gate + Sync>(
     rt: &R,
     alloc: A,
     system: &mut System<A>,

@@ -46,12 +46,7 @@ fn read_all<A: Allocator + Copy, R: Read>(
 }
 
 /// Checks the bytes of a trace whole, and then plays it on a new system with so many workers.
-fn run_bytes<
-    R: Threads + Wait + Sync,
-    A: Allocator + Copy + Send + Sync,
-    W: Write,
-    G: Gate + Sync,
->(
+fn run_bytes<R: Threads + Wait + Sync, A: Allocator + Copy + Send + Sync, W: Write, G: Gate + Sync>(
     rt: &R,
     alloc: A,
     heap: Global,

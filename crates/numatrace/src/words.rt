@@ -84,15 +84,7 @@ pub fn run_words<
     R: Read,
     W: Write,
     E: Write,
->(
-    rt: &T,
-    alloc: A,
-    heap: Global,
-    words: &[String],
-    reader: &mut R,
-    out: &mut W,
-    err: &mut E,
-) -> u8
+>(rt: &T, alloc: A, heap: Global, words: &[String], reader: &mut R, out: &mut W, err: &mut E) -> u8
     ensures status { IsStatus result }
     ensures reports { OfSomeBytes (R.remaining reader.old) (λ trace.
         Leaves result trace (W.contents out.old) (W.contents out.new)) }

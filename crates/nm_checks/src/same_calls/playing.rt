@@ -7,6 +7,8 @@ use nm_calls::{CallError, System};
 use nm_crew::OpenGate;
 use nm_types::{NodeId, Pid};
 use std::alloc::Global;
+use std::sync::Wait;
+use std::thread::Threads;
 
 /// A call after which the machines differ: what the system answered, and what the plain machine did.
 #[derive(Clone, Copy, Debug)]
@@ -70,7 +72,7 @@ fn write(system: &mut System<Global>, pid: Pid, addr: u64, len: usize, bytes: [u
 }
 
 fn move_pages(
-    rt: &HostRuntime,
+    rt: &(impl Threads + Wait + Sync),
     system: &mut System<Global>,
     batch: &Batch,
 ) -> Answer {
@@ -102,11 +104,7 @@ fn query(system: &System<Global>, batch: &Batch) -> Answer {
 }
 
 /// Makes a call on a system.
-fn perform(
-    rt: &HostRuntime,
-    system: &mut System<Global>,
-    call: &Call,
-) -> Answer {
+fn perform(rt: &(impl Threads + Wait + Sync), system: &mut System<Global>, call: &Call) -> Answer {
     match *call {
         Call::Spawn(pid, uid, home, allowed, privileged) => {
             let home = NodeId::new(home);
@@ -129,7 +127,7 @@ fn perform(
 
 /// Makes a call on both machines. Gives the difference, if there is one after it.
 pub(super) fn play(
-    rt: &HostRuntime,
+    rt: &(impl Threads + Wait + Sync),
     system: &mut System<Global>,
     plain: &mut Plain,
     met: &mut Met,
