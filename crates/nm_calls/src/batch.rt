@@ -14,10 +14,13 @@ ghost use Rattle.nm_calls.specs.Does.{Moves};
 
 use crate::answer::Moved;
 use crate::call_error::CallError;
+use nm_crew::Gate;
 use nm_engine::Machine;
 use nm_runs::{Request, Run, Wanted, check_batch, cut_within};
 use nm_types::{Errno, NodeId, NodeMask, Pid, Vpn};
 use std::alloc::{AllocError, Allocator};
+use std::sync::Wait;
+use std::thread::Threads;
 
 /// The nodes of the machine that are online.
 fn online_nodes<A: Allocator + Copy + Send + Sync>(machine: &Machine<A>) -> NodeMask
@@ -84,21 +87,29 @@ fn failures(statuses: &[i32]) -> usize
         .count()
 }
 
-/// Makes runs one after another, and puts the statuses into a list that has room for them. An error means that the host
-/// refused memory after so many runs.
-pub(crate) fn move_runs<A: Allocator + Copy + Send + Sync>(
+/// Makes runs one after another, whose pages so many workers copy, and puts the statuses into a list that has room for
+/// them. An error means that the host refused memory after so many runs.
+pub(crate) fn move_runs<
+    R: Threads + Wait + Sync,
+    A: Allocator + Copy + Send + Sync,
+    G: Gate + Sync,
+>(
+    rt: &R,
     machine: &mut Machine<A>,
     runs: &[Run<A>],
     mut statuses: Vec<i32, A>,
+    workers: usize,
+    gate: &G,
 ) -> Result<Moved<A>, CallError>
     requires targets { All (λ run. run.target < node_count machine.old.layout) runs.now }
     requires alike { All (λ run. HasOneAll run.wanted.items) runs.now }
     requires empty { statuses.items ≡ [] }
     requires room { sum_by (λ run. length run.wanted.items) runs.now ≤ vec_capacity statuses }
+    requires workers { (0 < workers) × (workers ≤ 64) }
     ensures { Moves result machine.old machine.new (stretches_of runs.now) }
 {
     for (k, run) in runs.iter().enumerate() {
-        let Ok(answered) = machine.run_flight(run) else {
+        let Ok(answered) = machine.run_flight(rt, run, workers, gate) else {
             return Err(CallError::HostMemory {
                 runs: k,
                 policy_set: false,
@@ -112,11 +123,16 @@ pub(crate) fn move_runs<A: Allocator + Copy + Send + Sync>(
     })
 }
 
-/// Moves the pages of a batch, run after run, none of more entries than the limit. All that is asked for is made ready
-/// before the first run starts: what could be known before is not refused in the middle. An error means that the host
-/// refused memory after so many runs.
+/// Moves the pages of a batch, run after run, none of more entries than the limit, by so many workers. All that is asked
+/// for is made ready before the first run starts: what could be known before is not refused in the middle. An error means
+/// that the host refused memory after so many runs.
 #[tactic(auto, using(crate::proofs::Trails::first_state))]
-pub(crate) fn move_batch<A: Allocator + Copy + Send + Sync>(
+pub(crate) fn move_batch<
+    R: Threads + Wait + Sync,
+    A: Allocator + Copy + Send + Sync,
+    G: Gate + Sync,
+>(
+    rt: &R,
     alloc: A,
     machine: &mut Machine<A>,
     pid: Pid,
@@ -124,14 +140,17 @@ pub(crate) fn move_batch<A: Allocator + Copy + Send + Sync>(
     pages: &[u64],
     nodes: &[u32],
     limit: usize,
+    workers: usize,
+    gate: &G,
 ) -> Result<Moved<A>, CallError>
     requires some { 0 < limit }
     requires nodes { EachIndex nodes.now (λ k. slice_index nodes.now k < node_count machine.old.layout) }
     requires paired { length pages.now ≡ length nodes.now }
+    requires workers { (0 < workers) × (workers ≤ 64) }
     ensures { Moves result machine.old machine.new (cut_within limit (requests_of pid all pages.now nodes.now)) }
 {
     let requests = requests_of(alloc, pid, all, pages, nodes)?;
     let runs = cut_within(alloc, requests.as_slice(), limit)?;
     let statuses = Vec::with_capacity(alloc, pages.len())?;
-    move_runs(machine, runs.as_slice(), statuses)
+    move_runs(rt, machine, runs.as_slice(), statuses, workers, gate)
 }

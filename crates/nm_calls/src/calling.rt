@@ -10,7 +10,10 @@ use crate::call::{
 };
 use crate::call_error::CallError;
 use crate::system::System;
+use nm_crew::Gate;
 use std::alloc::Allocator;
+use std::sync::Wait;
+use std::thread::Threads;
 
 /// Makes a process.
 fn spawn<A: Allocator + Copy + Send + Sync>(
@@ -68,9 +71,11 @@ fn attach<A: Allocator + Copy + Send + Sync>(
 }
 
 /// Moves pages.
-fn move_pages<A: Allocator + Copy + Send + Sync>(
+fn move_pages<R: Threads + Wait + Sync, A: Allocator + Copy + Send + Sync, G: Gate + Sync>(
+    rt: &R,
     system: &mut System<A>,
     request: &MoveRequest<A>,
+    gate: &G,
 ) -> Result<Moved<A>, CallError>
     ensures { Does (λ moved. calls.Statuses moved.failed moved.statuses.items) result system.old system.new
         (calls.MovePages request.now.caller request.now.pid request.now.batch.pages.items request.now.batch.nodes.items request.now.flags) }
@@ -82,13 +87,23 @@ fn move_pages<A: Allocator + Copy + Send + Sync>(
         flags,
     } = request;
     let Batch { pages, nodes } = batch;
-    system.move_pages(*caller, *pid, pages.as_slice(), nodes.as_slice(), *flags)
+    system.move_pages(
+        rt,
+        *caller,
+        *pid,
+        pages.as_slice(),
+        nodes.as_slice(),
+        *flags,
+        gate,
+    )
 }
 
 /// Moves the pages of a process from nodes to nodes.
-fn migrate_pages<A: Allocator + Copy + Send + Sync>(
+fn migrate_pages<R: Threads + Wait + Sync, A: Allocator + Copy + Send + Sync, G: Gate + Sync>(
+    rt: &R,
     system: &mut System<A>,
     request: &MigrateRequest,
+    gate: &G,
 ) -> Result<usize, CallError>
     ensures { Does calls.Failed result system.old system.new
         (calls.MigratePages request.now.caller request.now.pid request.now.old request.now.new) }
@@ -99,7 +114,7 @@ fn migrate_pages<A: Allocator + Copy + Send + Sync>(
         old,
         new,
     } = request;
-    system.migrate_pages(*caller, *pid, *old, *new)
+    system.migrate_pages(rt, *caller, *pid, *old, *new, gate)
 }
 
 /// Asks where pages are.
@@ -124,8 +139,13 @@ fn query<A: Allocator + Copy + Send + Sync>(
 
 impl<A: Allocator + Copy + Send + Sync> System<A> {
     /// Makes a call that is given as a value. Its refusals, and what a host without memory leaves, are those of the method
-    /// of its name.
-    pub fn call(&mut self, call: &Call<A>) -> Result<Answer<A>, CallError>
+    /// of its name. The workers of one that moves pages pass the gate.
+    pub fn call<R: Threads + Wait + Sync, G: Gate + Sync>(
+        &mut self,
+        rt: &R,
+        call: &Call<A>,
+        gate: &G,
+    ) -> Result<Answer<A>, CallError>
         ensures { Does answer_of result self.old self.new (call_of call.now) }
     {
         match call {
@@ -153,8 +173,10 @@ impl<A: Allocator + Copy + Send + Sync> System<A> {
                 self.write(*pid, *addr, bytes.as_slice())?;
                 Ok(Answer::Done)
             }
-            Call::MovePages(request) => Ok(Answer::Statuses(move_pages(self, request)?)),
-            Call::MigratePages(request) => Ok(Answer::Failed(migrate_pages(self, request)?)),
+            Call::MovePages(request) => Ok(Answer::Statuses(move_pages(rt, self, request, gate)?)),
+            Call::MigratePages(request) => Ok(Answer::Failed(migrate_pages(
+                rt, self, request, gate,
+            )?)),
             Call::Query(question) => Ok(Answer::Statuses(query(self, question)?)),
             Call::FreeList { node } => Ok(Answer::Frames(self.free_list(*node)?)),
             Call::Pagemap { pid } => Ok(Answer::Entries(self.pagemap(*pid)?)),

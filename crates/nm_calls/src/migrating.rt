@@ -1,6 +1,6 @@
 //! What moves from nodes to nodes, as by `migrate_pages(2)`: whether it may, and its runs.
 
-ghost use Rattle.std.specs.Prelude.{◌≡◌, ◌<◌, IfOk, IsSome, Some};
+ghost use Rattle.std.specs.Prelude.{◌≡◌, ◌<◌, ◌≤◌, IfOk, IsSome, Some};
 ghost use Rattle.std.specs.List.{AllByRecursion};
 ghost use Rattle.nm_types.specs.Layout.{node_count};
 ghost use Rattle.nm_policy.specs.Pairs.{pairs};
@@ -16,11 +16,14 @@ use crate::batch::move_runs;
 use crate::call_error::CallError;
 use crate::listing::migrate_list;
 use crate::permission::{acted_on, owner_of};
+use nm_crew::Gate;
 use nm_engine::{Machine, ProcessInfo};
 use nm_policy::pairs;
 use nm_runs::cut_within;
 use nm_types::{Errno, NodeMask, Pid};
 use std::alloc::Allocator;
+use std::sync::Wait;
+use std::thread::Threads;
 
 /// What a caller moves.
 #[derive(Clone, Copy, Debug)]
@@ -103,25 +106,29 @@ pub(crate) fn migration_of<A: Allocator + Copy + Send + Sync>(
     })
 }
 
-/// Moves the pages of a process from nodes to nodes, run after run, none of more entries than the limit. The list of
-/// pages and all that is asked for is made before the first run starts. An error means that the host refused memory after
+/// Moves the pages of a process from nodes to nodes, run after run, none of more entries than the limit, by so many
+/// workers. The list of pages and all that is asked for is made before the first run starts. An error means that the host refused memory after
 /// so many runs.
 #[tactic(auto, using(crate::proofs::Trails::first_state))]
-pub(crate) fn migrate<A: Allocator + Copy + Send + Sync>(
+pub(crate) fn migrate<R: Threads + Wait + Sync, A: Allocator + Copy + Send + Sync, G: Gate + Sync>(
+    rt: &R,
     alloc: A,
     machine: &mut Machine<A>,
     what: Migration,
     old: NodeMask,
     limit: usize,
+    workers: usize,
+    gate: &G,
 ) -> Result<Moved<A>, CallError>
     requires some { 0 < limit }
     requires there { IsSome (info_at machine.old what.pid) }
     requires nodes { AllByRecursion (λ n. n < node_count machine.old.layout) what.targets }
+    requires workers { (0 < workers) × (workers ≤ 64) }
     ensures { Moves result machine.old machine.new (cut_within limit (migrate_list machine.old what.pid what.all (pairs old what.targets))) }
 {
     let pairs = pairs(alloc, old, what.targets)?;
     let requests = migrate_list(alloc, machine, what.pid, what.all, pairs.as_slice())?;
     let runs = cut_within(alloc, requests.as_slice(), limit)?;
     let statuses = Vec::with_capacity(alloc, requests.len())?;
-    move_runs(machine, runs.as_slice(), statuses)
+    move_runs(rt, machine, runs.as_slice(), statuses, workers, gate)
 }

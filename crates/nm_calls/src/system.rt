@@ -16,11 +16,14 @@ use crate::call_error::CallError;
 use crate::maps::areas_text;
 use crate::migrating::{migrate, migration_of};
 use crate::permission::{Permit, permit_of};
+use nm_crew::Gate;
 use nm_engine::{Entry, Machine, Totals};
 use nm_types::limits::MAX_BATCH;
 use nm_types::{Errno, FrameId, Geometry, NodeId, NodeMask, Pid, Vpn};
 use std::alloc::{AllocError, Allocator};
 use std::marker::Model;
+use std::sync::Wait;
+use std::thread::Threads;
 
 /// Entries as a process's list shows them.
 fn mapped_of<A: Allocator + Copy>(
@@ -58,33 +61,35 @@ fn statuses_of<A: Allocator + Copy + Send + Sync>(
     Ok(statuses)
 }
 
-/// A machine of nodes, processes and pages, and how many entries a run has at most. Contracts see its state, which is
-/// sound, and that limit.
+/// A machine of nodes, processes and pages, how many entries a run has at most, and how many workers copy. Contracts see
+/// its state, which is sound, and that limit: how many workers there are changes nothing that a call does or answers.
 #[derive(Drop)]
 pub struct System<A: Allocator + Copy + Send + Sync> {
     machine: Machine<A>,
     run_limit: usize,
+    workers: usize,
     alloc: A,
 }
 
 impl<A: Allocator + Copy + Send + Sync> Model for System<A> {
-    ghost use Rattle.std.specs.Prelude.{◌<◌};
+    ghost use Rattle.std.specs.Prelude.{◌<◌, ◌≤◌};
     ghost use Rattle.nm_calls.specs.Systems.{SystemState};
 
     ghost Value = { SystemState };
 
     ghost view = { λ s. record { state = s.machine; run_limit = s.run_limit } };
 
-    ghost invariant = { λ s. 0 < s.run_limit };
+    ghost invariant = { λ s. (0 < s.run_limit) × (0 < s.workers) × (s.workers ≤ 64) };
 }
 
 impl<A: Allocator + Copy + Send + Sync> System<A> {
-    /// A new machine: no process, every node online, every frame free and its list in ascending order. An error is want of
-    /// memory.
-    pub fn new(alloc: A, geometry: Geometry<A>) -> Result<Self, AllocError>
+    /// A new machine, whose pages 1 to 64 workers copy, the caller and threads that each call starts: no process, every
+    /// node online, every frame free and its list in ascending order. An error is want of memory.
+    pub fn new(alloc: A, geometry: Geometry<A>, workers: usize) -> Result<Self, AllocError>
+        requires { (0 < workers) × (workers ≤ 64) }
         ensures { IfOk result (λ system. system ≡ new_system geometry) }
     {
-        System::with_run_limit(alloc, geometry, MAX_BATCH)
+        System::with_run_limit(alloc, geometry, workers, MAX_BATCH)
     }
 
     /// A new machine as by `new`, whose runs have at most so many entries, 1 to 16,384: a longer stretch of one target is
@@ -92,8 +97,10 @@ impl<A: Allocator + Copy + Send + Sync> System<A> {
     pub fn with_run_limit(
         alloc: A,
         geometry: Geometry<A>,
+        workers: usize,
         run_limit: usize,
     ) -> Result<Self, AllocError>
+        requires workers { (0 < workers) × (workers ≤ 64) }
         requires some { 0 < run_limit }
         requires within { run_limit ≤ default_limit }
         ensures { IfOk result (λ system. system ≡ system_with geometry run_limit) }
@@ -101,6 +108,7 @@ impl<A: Allocator + Copy + Send + Sync> System<A> {
         Ok(System {
             machine: Machine::new(alloc, geometry)?,
             run_limit,
+            workers,
             alloc,
         })
     }
@@ -212,13 +220,15 @@ impl<A: Allocator + Copy + Send + Sync> System<A> {
     /// privilege); then for the first entry that is refused ENODEV (no such node, or it is offline) before EACCES (a node
     /// that the process may not use, whoever calls). `HostMemory { runs, .. }` leaves the first runs made.
     #[tactic(auto, unfolding(crate::specs::Outcome::refused, crate::specs::Outcome::refused_at_once, crate::specs::Outcome::ended, crate::specs::Outcome::runs_asked, crate::specs::Outcome::start, crate::specs::Outcome::sets_policy), using(crate::proofs::Outcomes::answers, crate::proofs::Outcomes::refuses, crate::proofs::Outcomes::unchanged, crate::proofs::Outcomes::host_leaves))]
-    pub fn move_pages(
+    pub fn move_pages<R: Threads + Wait + Sync, G: Gate + Sync>(
         &mut self,
+        rt: &R,
         caller: Pid,
         pid: Pid,
         pages: &[u64],
         nodes: &[u32],
         flags: u32,
+        gate: &G,
     ) -> Result<Moved<A>, CallError>
         requires paired { length pages.now ≡ length nodes.now }
         ensures { Does (λ moved. Statuses moved.failed moved.statuses.items) result self.old self.new (MovePages caller pid pages.now nodes.now flags) }
@@ -231,7 +241,9 @@ impl<A: Allocator + Copy + Send + Sync> System<A> {
         } = permit;
         check_targets(&self.machine, allowed, nodes)?;
         let limit = self.run_limit;
+        let workers = self.workers;
         move_batch(
+            rt,
             self.alloc,
             &mut self.machine,
             owner,
@@ -239,6 +251,8 @@ impl<A: Allocator + Copy + Send + Sync> System<A> {
             pages,
             nodes,
             limit,
+            workers,
+            gate,
         )
     }
 
@@ -255,18 +269,30 @@ impl<A: Allocator + Copy + Send + Sync> System<A> {
     /// process may not use, without privilege); EINVAL (no node of `new` is online and may be used by the process).
     /// `HostMemory { runs, .. }` leaves the first runs made.
     #[tactic(auto, unfolding(crate::specs::Outcome::refused, crate::specs::Outcome::refused_at_once, crate::specs::Outcome::ended, crate::specs::Outcome::runs_asked, crate::specs::Outcome::start, crate::specs::Outcome::sets_policy), using(crate::proofs::Outcomes::answers, crate::proofs::Outcomes::refuses, crate::proofs::Outcomes::unchanged, crate::proofs::Outcomes::host_leaves))]
-    pub fn migrate_pages(
+    pub fn migrate_pages<R: Threads + Wait + Sync, G: Gate + Sync>(
         &mut self,
+        rt: &R,
         caller: Pid,
         pid: Pid,
         old: NodeMask,
         new: NodeMask,
+        gate: &G,
     ) -> Result<usize, CallError>
         ensures { Does Failed result self.old self.new (MigratePages caller pid old new) }
     {
         let what = migration_of(&self.machine, caller, pid, old, new)?;
         let limit = self.run_limit;
-        let moved = migrate(self.alloc, &mut self.machine, what, old, limit)?;
+        let workers = self.workers;
+        let moved = migrate(
+            rt,
+            self.alloc,
+            &mut self.machine,
+            what,
+            old,
+            limit,
+            workers,
+            gate,
+        )?;
         Ok(moved.failed)
     }
 

@@ -1,13 +1,17 @@
 //! Batches whose memory is refused, and the totals, which no step of a trace tells.
 
+use crate::gates::Through;
 use crate::machine::both_nodes;
 use crate::traces::{Heap, layout, two_nodes};
 use nm_calls::{CallError, Moved, System};
+use nm_crew::OpenGate;
 use nm_engine::Totals;
 use nm_refusing::Refusing;
 use nm_types::{NodeId, Pid};
 use std::alloc::AllocError;
+use std::sync::Wait;
 use std::test::Fail;
+use std::thread::Threads;
 
 /// Makes a process of a user and a home of its own, with so many pages from 0x10000 on, and writes each of them.
 fn begin(system: &mut System<Heap<'_>>, pid: Pid, home: u32, pages: u64) -> Result<(), CallError> {
@@ -27,10 +31,13 @@ pub(crate) fn three_pages(heap: Heap<'_>) -> Result<System<Heap<'_>>, CallError>
 }
 
 /// Moves the first page to node 1 and, in a second run, back to node 0.
-fn there_and_back<'a>(system: &mut System<Heap<'a>>) -> Result<Moved<Heap<'a>>, CallError> {
+fn there_and_back<'a>(
+    rt: &(impl Threads + Wait + Sync),
+    system: &mut System<Heap<'a>>,
+) -> Result<Moved<Heap<'a>>, CallError> {
     let pages = [0x10000u64, 0x10000];
     let nodes = [1u32, 0];
-    system.move_pages(Pid::new(1), Pid::new(0), &pages, &nodes, 2)
+    system.move_pages(rt, Pid::new(1), Pid::new(0), &pages, &nodes, 2, &Through)
 }
 
 /// How many runs were made before memory was refused, or None where the call answered.
@@ -64,10 +71,14 @@ struct Attempt {
 }
 
 /// Makes the batch on a new system while the allocation of this number is refused.
-fn make_attempt(heap: Heap<'_>, number: u64) -> Result<Attempt, CallError> {
+fn make_attempt(
+    rt: &(impl Threads + Wait + Sync),
+    heap: Heap<'_>,
+    number: u64,
+) -> Result<Attempt, CallError> {
     let mut system = three_pages(heap)?;
     heap.refuse(number);
-    let runs = runs_made(there_and_back(&mut system));
+    let runs = runs_made(there_and_back(rt, &mut system));
     let met = heap.asked_since(number) >= number;
     heap.refuse(0);
     let frame = first_frame(&system)?;
@@ -93,7 +104,7 @@ fn refused_batches_tell_their_runs(rt: HostRuntime) -> Result<(), Fail> {
     let mut before_the_second = false;
     let mut whole = false;
     for number in 1..1000u64 {
-        let tried = make_attempt(&heap, number)?;
+        let tried = make_attempt(&rt, &heap, number)?;
         assert!(rt; is_there(tried), "allocation {number}: {tried:?}");
         before_the_first |= tried.runs == Some(0);
         before_the_second |= tried.runs == Some(1);
@@ -109,17 +120,29 @@ fn refused_batches_tell_their_runs(rt: HostRuntime) -> Result<(), Fail> {
 /// Two nodes of four frames, process 1 with three pages on node 0, and runs of at most one entry.
 fn one_by_one(heap: Heap<'_>) -> Result<System<Heap<'_>>, CallError> {
     let geometry = layout(heap)?;
-    let mut system = System::with_run_limit(heap, geometry, 1)?;
+    let mut system = System::with_run_limit(heap, geometry, 2, 1)?;
     begin(&mut system, Pid::new(1), 0, 3)?;
     Ok(system)
 }
 
 /// Moves the first two pages to node 1, while the allocation of this number is refused.
-fn move_two(heap: Heap<'_>, number: u64) -> Result<Attempt, CallError> {
+fn move_two(
+    rt: &(impl Threads + Wait + Sync),
+    heap: Heap<'_>,
+    number: u64,
+) -> Result<Attempt, CallError> {
     let mut system = one_by_one(heap)?;
     let pages = [0x10000u64, 0x11000];
     heap.refuse(number);
-    let runs = runs_made(system.move_pages(Pid::new(1), Pid::new(0), &pages, &[1u32; 2], 2));
+    let runs = runs_made(system.move_pages(
+        rt,
+        Pid::new(1),
+        Pid::new(0),
+        &pages,
+        &[1u32; 2],
+        2,
+        &Through,
+    ));
     let met = heap.asked_since(number) >= number;
     heap.refuse(0);
     let frame = first_frame(&system)?;
@@ -133,7 +156,7 @@ fn limited_batches_tell_their_runs(rt: HostRuntime) -> Result<(), Fail> {
     let mut between = false;
     let mut whole = false;
     for number in 1..1000u64 {
-        let tried = move_two(&heap, number)?;
+        let tried = move_two(&rt, &heap, number)?;
         let there = if tried.runs == Some(0) { 0u32 } else { 4 };
         assert!(rt;
             tried.frame == Some(there),
@@ -158,9 +181,20 @@ fn six_pages(heap: Heap<'_>) -> Result<System<Heap<'_>>, CallError> {
 }
 
 /// How many entries of four pages to node 1 fail.
-fn crowd(system: &mut System<Heap<'_>>) -> Result<usize, CallError> {
+fn crowd(
+    rt: &(impl Threads + Wait + Sync),
+    system: &mut System<Heap<'_>>,
+) -> Result<usize, CallError> {
     let pages = [0x10000u64, 0x11000, 0x12000, 0x13000];
-    let moved = system.move_pages(Pid::new(1), Pid::new(0), &pages, &[1u32; 4], 0)?;
+    let moved = system.move_pages(
+        rt,
+        Pid::new(1),
+        Pid::new(0),
+        &pages,
+        &[1u32; 4],
+        0,
+        &OpenGate,
+    )?;
     Ok(moved.failed)
 }
 
@@ -176,7 +210,7 @@ fn totals_count_moves_and_failures(rt: HostRuntime) -> Result<(), Fail> {
                 failed: 0
             }
     );
-    assert_eq!(rt; crowd(&mut system)?, 2usize);
+    assert_eq!(rt; crowd(&rt, &mut system)?, 2usize);
     assert!(rt;
         system.vmstat()
             == Totals {
@@ -188,13 +222,17 @@ fn totals_count_moves_and_failures(rt: HostRuntime) -> Result<(), Fail> {
 }
 
 /// How many statuses of a batch that names one page 16,384 times are its target, node 1.
-fn name_often(heap: Heap<'_>, system: &mut System<Heap<'_>>) -> Result<usize, CallError> {
+fn name_often(
+    rt: &(impl Threads + Wait + Sync),
+    heap: Heap<'_>,
+    system: &mut System<Heap<'_>>,
+) -> Result<usize, CallError> {
     let pages = many(heap, 0x10000u64)?;
     let nodes = many(heap, 1u32)?;
     if pages.len() != nodes.len() || pages.len() > 16_384 {
         return Ok(0);
     }
-    let moved = system.move_pages(Pid::new(1), Pid::new(0), &pages, &nodes, 2)?;
+    let moved = system.move_pages(rt, Pid::new(1), Pid::new(0), &pages, &nodes, 2, &OpenGate)?;
     Ok(moved.statuses.iter().filter(|status| **status == 1).count())
 }
 
@@ -212,7 +250,7 @@ fn many<T: Copy + Drop>(heap: Heap<'_>, number: T) -> Result<Vec<T, Heap<'_>>, A
 fn totals_count_a_page_once(rt: HostRuntime) -> Result<(), Fail> {
     let heap = Refusing::new(rt.alloc());
     let mut system = three_pages(&heap)?;
-    assert_eq!(rt; name_often(&heap, &mut system)?, 16_384usize);
+    assert_eq!(rt; name_often(&rt, &heap, &mut system)?, 16_384usize);
     assert!(rt;
         system.vmstat()
             == Totals {

@@ -1,12 +1,15 @@
 //! Moves from nodes to nodes whose memory is refused.
 
+use crate::gates::Through;
 use crate::machine::both_nodes;
 use crate::traces::Heap;
 use nm_calls::{CallError, System};
 use nm_refusing::Refusing;
 use nm_types::{Geometry, NodeId, NodeMask, Pid};
 use std::alloc::AllocError;
+use std::sync::Wait;
 use std::test::Fail;
+use std::thread::Threads;
 
 /// Three nodes of four frames, each at distance 20 from the others.
 fn three_nodes(heap: Heap<'_>) -> Result<System<Heap<'_>>, AllocError> {
@@ -15,7 +18,7 @@ fn three_nodes(heap: Heap<'_>) -> Result<System<Heap<'_>>, AllocError> {
     let third = vec![in heap; 20u8, 20u8, 10u8]?;
     let sizes = vec![in heap; 4u32, 4u32, 4u32]?;
     match Geometry::new(sizes, vec![in heap; first, second, third]?) {
-        Ok(geometry) => System::new(heap, geometry),
+        Ok(geometry) => System::new(heap, geometry, 2),
         Err(_) => Err(AllocError),
     }
 }
@@ -36,14 +39,17 @@ fn all_nodes() -> NodeMask {
 }
 
 /// Process 1 has its first page in frame 0, on node 0, and its second in frame 4, on node 1.
-fn two_pages(heap: Heap<'_>) -> Result<System<Heap<'_>>, CallError> {
+fn two_pages<'a>(
+    rt: &(impl Threads + Wait + Sync),
+    heap: Heap<'a>,
+) -> Result<System<Heap<'a>>, CallError> {
     let mut system = three_nodes(heap)?;
     let one = Pid::new(1);
     system.spawn(one, 100, NodeId::new(0), all_nodes(), false)?;
     system.map(one, 0x10000, 2, false)?;
     system.write(one, 0x10000, [0x61u8].as_slice())?;
     system.write(one, 0x11000, [0x62u8].as_slice())?;
-    system.move_pages(one, one, &[0x11000u64], &[1u32], 2)?;
+    system.move_pages(rt, one, one, &[0x11000u64], &[1u32], 2, &Through)?;
     Ok(system)
 }
 
@@ -70,10 +76,21 @@ struct Attempt {
 }
 
 /// Moves while the allocation of this number is refused.
-fn migrate(heap: Heap<'_>, number: u64) -> Result<Attempt, CallError> {
-    let mut system = two_pages(heap)?;
+fn migrate(
+    rt: &(impl Threads + Wait + Sync),
+    heap: Heap<'_>,
+    number: u64,
+) -> Result<Attempt, CallError> {
+    let mut system = two_pages(rt, heap)?;
     heap.refuse(number);
-    let answer = system.migrate_pages(Pid::new(1), Pid::new(0), both_nodes(), later_nodes());
+    let answer = system.migrate_pages(
+        rt,
+        Pid::new(1),
+        Pid::new(0),
+        both_nodes(),
+        later_nodes(),
+        &Through,
+    );
     let met = heap.asked_since(number) >= number;
     heap.refuse(0);
     let frames = [frame_at(&system, 0)?, frame_at(&system, 1)?];
@@ -112,7 +129,7 @@ fn refused_migrations_tell_their_runs(rt: HostRuntime) -> Result<(), Fail> {
     let mut between = false;
     let mut whole = false;
     for number in 1..1000u64 {
-        let tried = migrate(&heap, number)?;
+        let tried = migrate(&rt, &heap, number)?;
         assert!(rt; are_there(tried), "allocation {number}: {tried:?}");
         before_the_first |= runs_made(tried) == Some(0);
         between |= runs_made(tried) == Some(1);

@@ -3,13 +3,16 @@ ghost use Rattle.nm_runs.specs.declared.Wanted.TheVariants.{At};
 ghost use Rattle.nm_engine.specs.Run.{HasOneAll};
 
 use crate::machine::{Heap, both_nodes, two_nodes};
+use nm_crew::OpenGate;
 use nm_engine::{Entry, Machine, MachineError, Totals};
 use nm_refusing::Refusing;
 use nm_runs::{Run, Wanted};
 use nm_types::{FrameId, NodeId, Pid, Policy, Vpn};
 use std::alloc::AllocError;
 use std::process::Abort;
+use std::sync::Wait;
 use std::test::Fail;
+use std::thread::Threads;
 
 /// What can be seen of a machine of two nodes and the processes 1 and 2.
 #[derive(Drop)]
@@ -124,6 +127,7 @@ fn only_looks(call: Call) -> bool {
 }
 
 fn perform<'a>(
+    rt: &(impl Threads + Wait + Sync),
     machine: &mut Machine<Heap<'a>>,
     run: &Run<Heap<'a>>,
     call: Call,
@@ -143,7 +147,7 @@ fn perform<'a>(
         Call::Write(addr, byte) => machine.write(one, addr, [byte].as_slice()),
         Call::Move => {
             if run.target.index() < machine.node_count() {
-                machine.run_flight(run)?;
+                machine.run_flight(rt, run, 2, &OpenGate)?;
             }
             Ok(())
         }
@@ -204,6 +208,7 @@ fn take_picture<'a>(
 
 /// Makes a call while its allocation of this number is refused. Tells whether it came to that allocation.
 fn attempt<'a>(
+    rt: &(impl Threads + Wait + Sync),
     heap: Heap<'a>,
     machine: &mut Machine<Heap<'a>>,
     run: &Run<Heap<'a>>,
@@ -213,7 +218,7 @@ fn attempt<'a>(
     requires { HasOneAll run.now.wanted.items }
 {
     heap.refuse(number);
-    let answer = perform(machine, run, call);
+    let answer = perform(rt, machine, run, call);
     let met = heap.asked_since(number) >= number;
     heap.refuse(0);
     (met, answer)
@@ -233,7 +238,7 @@ fn is_as_before<'a>(
 /// Makes a call, after each of its allocations was refused in turn: it answers so, and the machine is as it was. A call
 /// that only looks may make do with less room, and answer. Gives how many refusals there were.
 fn refuse_each<'a>(
-    rt: &impl Abort,
+    rt: &(impl Abort + Threads + Wait + Sync),
     heap: Heap<'a>,
     machine: &mut Machine<Heap<'a>>,
     run: &Run<Heap<'a>>,
@@ -243,7 +248,7 @@ fn refuse_each<'a>(
 {
     let before = take_picture(heap, machine)?;
     for number in 1..1000u64 {
-        let (met, answer) = attempt(heap, machine, run, call, number);
+        let (met, answer) = attempt(rt, heap, machine, run, call, number);
         if !met {
             assert!(rt; answer.is_ok(), "{call:?} with memory");
             return Ok(number - 1);
@@ -258,7 +263,7 @@ fn refuse_each<'a>(
 
 /// Makes each of some calls, after each of its allocations was refused in turn. Gives how many refusals there were.
 fn refuse_all<'a>(
-    rt: &impl Abort,
+    rt: &(impl Abort + Threads + Wait + Sync),
     heap: Heap<'a>,
     machine: &mut Machine<Heap<'a>>,
     run: &Run<Heap<'a>>,

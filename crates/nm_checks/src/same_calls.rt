@@ -14,7 +14,9 @@ use nm_types::Geometry;
 use playing::{Difference, play};
 use rows::{Row, all_rows};
 use std::alloc::{AllocError, Global};
+use std::sync::Wait;
 use std::test::Fail;
+use std::thread::Threads;
 
 /// Two machines of three nodes. The way back between two nodes may be another one.
 const LAYOUTS: [Layout; 2] = [
@@ -51,20 +53,21 @@ fn new_system(alloc: Global, layout: &Layout) -> Result<System<Global>, AllocErr
     let rows = rows_of(alloc, layout)?;
     let sizes = layout.sizes.to_vec(alloc)?;
     match Geometry::new(sizes, rows) {
-        Ok(geometry) => System::new(alloc, geometry),
+        Ok(geometry) => System::new(alloc, geometry, 1),
         Err(_) => Err(AllocError),
     }
 }
 
 /// Plays the calls of a row, and gives the first difference.
 fn play_row(
+    rt: &(impl Threads + Wait + Sync),
     system: &mut System<Global>,
     plain: &mut Plain,
     met: &mut Met,
     row: &Row,
 ) -> Option<Difference> {
     for call in row.iter() {
-        let difference = play(system, plain, met, call);
+        let difference = play(rt, system, plain, met, call);
         if difference.is_some() {
             return difference;
         }
@@ -74,6 +77,7 @@ fn play_row(
 
 /// Plays calls that are drawn from a seed, and gives the first difference.
 fn play_drawn(
+    rt: &(impl Threads + Wait + Sync),
     system: &mut System<Global>,
     plain: &mut Plain,
     met: &mut Met,
@@ -86,7 +90,7 @@ fn play_drawn(
         } else {
             source.call(plain.segments_made())
         };
-        let difference = play(system, plain, met, &call);
+        let difference = play(rt, system, plain, met, &call);
         if difference.is_some() {
             return difference;
         }
@@ -95,11 +99,16 @@ fn play_drawn(
 }
 
 /// Reads the first bytes of each page of each process, and gives the first difference.
-fn read_all(system: &mut System<Global>, plain: &mut Plain, met: &mut Met) -> Option<Difference> {
+fn read_all(
+    rt: &(impl Threads + Wait + Sync),
+    system: &mut System<Global>,
+    plain: &mut Plain,
+    met: &mut Met,
+) -> Option<Difference> {
     for pid in 1..=PIDS {
         for vpn in 0..SPOTS {
             let call = Call::Read(pid, vpn * 4096, 7);
-            let difference = play(system, plain, met, &call);
+            let difference = play(rt, system, plain, met, &call);
             if difference.is_some() {
                 return difference;
             }
@@ -116,9 +125,9 @@ fn rows_are_alike(rt: HostRuntime) -> Result<(), Fail> {
         for layout in &LAYOUTS {
             let mut system = new_system(rt.alloc(), layout)?;
             let mut plain = Plain::new(*layout);
-            let played = play_row(&mut system, &mut plain, &mut met, row);
+            let played = play_row(&rt, &mut system, &mut plain, &mut met, row);
             assert!(rt; played.is_none(), "{played:?}");
-            let read = read_all(&mut system, &mut plain, &mut met);
+            let read = read_all(&rt, &mut system, &mut plain, &mut met);
             assert!(rt; read.is_none(), "{read:?}");
         }
     }
@@ -133,9 +142,9 @@ fn drawn_calls_are_alike(rt: HostRuntime) -> Result<(), Fail> {
         let layout = &LAYOUTS[seed as usize % 2];
         let mut system = new_system(rt.alloc(), layout)?;
         let mut plain = Plain::new(*layout);
-        let played = play_drawn(&mut system, &mut plain, &mut met, seed);
+        let played = play_drawn(&rt, &mut system, &mut plain, &mut met, seed);
         assert!(rt; played.is_none(), "seed {seed}: {played:?}");
-        let read = read_all(&mut system, &mut plain, &mut met);
+        let read = read_all(&rt, &mut system, &mut plain, &mut met);
         assert!(rt; read.is_none(), "seed {seed}: {read:?}");
     }
     let missing = met.missing();

@@ -2,11 +2,14 @@
 
 use crate::machine::both_nodes;
 use nm_calls::{Call, NewProcess, System};
+use nm_crew::OpenGate;
 use nm_refusing::Refusing;
 use nm_trace::{Summary, Trace, TraceError, play, read_trace, run_trace};
 use nm_types::{Geometry, NodeId, Pid};
 use std::alloc::{AllocError, Global};
+use std::sync::Wait;
 use std::test::Fail;
+use std::thread::Threads;
 
 pub(crate) type Heap<'a> = &'a Refusing<Global>;
 
@@ -54,10 +57,23 @@ fn is_fine(played: Result<Summary, TraceError>, written: &[u8]) -> bool {
 
 /// Runs the trace while the allocation of this number is refused. Gives whether it came to that allocation, and whether
 /// what it answered and wrote is fine.
-fn run_refused(heap: Heap<'_>, global: Global, number: u64) -> (bool, bool) {
+fn run_refused(
+    rt: &(impl Threads + Wait + Sync),
+    heap: Heap<'_>,
+    global: Global,
+    number: u64,
+) -> (bool, bool) {
     let mut written = Vec::new(global);
     heap.refuse(number);
-    let played = run_trace(heap, global, &mut TRACE.as_bytes(), &mut written);
+    let played = run_trace(
+        rt,
+        heap,
+        global,
+        &mut TRACE.as_bytes(),
+        &mut written,
+        4,
+        &OpenGate,
+    );
     let met = heap.asked_since(number) >= number;
     heap.refuse(0);
     (met, is_fine(played, written.as_slice()))
@@ -69,7 +85,7 @@ fn refused_runs_write_a_front(rt: HostRuntime) -> Result<(), Fail> {
     let heap = Refusing::new(rt.alloc());
     let mut refused = 0u64;
     for number in 1..10_000u64 {
-        let (met, fine) = run_refused(&heap, rt.alloc(), number);
+        let (met, fine) = run_refused(&rt, &heap, rt.alloc(), number);
         assert!(rt; fine, "allocation {number}");
         if !met {
             refused = number - 1;
@@ -93,20 +109,25 @@ pub(crate) fn layout(heap: Heap<'_>) -> Result<Geometry<Heap<'_>>, AllocError> {
 /// A system of such nodes.
 pub(crate) fn two_nodes(heap: Heap<'_>) -> Result<System<Heap<'_>>, AllocError> {
     let geometry = layout(heap)?;
-    System::new(heap, geometry)
+    System::new(heap, geometry, 2)
 }
 
 /// Plays the trace on a new system while the allocation of this number is refused. Gives whether it came to that
 /// allocation, and whether what it answered and wrote is fine and the system sound.
-fn play_refused(heap: Heap<'_>, global: Global, number: u64) -> Result<(bool, bool), AllocError> {
+fn play_refused(
+    rt: &(impl Threads + Wait + Sync),
+    heap: Heap<'_>,
+    global: Global,
+    number: u64,
+) -> Result<(bool, bool), AllocError> {
     let Ok(trace) = read_trace(heap, global, TRACE.as_bytes()) else {
         return Err(AllocError);
     };
     let geometry = trace.geometry.clone()?;
-    let mut system = System::with_run_limit(heap, geometry, trace.run_limit)?;
+    let mut system = System::with_run_limit(heap, geometry, 4, trace.run_limit)?;
     let mut written = Vec::new(global);
     heap.refuse(number);
-    let played = play(heap, &mut system, &trace, &mut written);
+    let played = play(rt, heap, &mut system, &trace, &mut written, &OpenGate);
     let met = heap.asked_since(number) >= number;
     heap.refuse(0);
     let sound = system.audit()?;
@@ -135,12 +156,16 @@ fn own_trace(heap: Heap<'_>) -> Result<Trace<Heap<'_>>, AllocError> {
 }
 
 /// Plays that trace on a system that is made for it, and gives the report.
-fn own_report(heap: Heap<'_>, global: Global) -> Result<Vec<u8>, AllocError> {
+fn own_report(
+    rt: &(impl Threads + Wait + Sync),
+    heap: Heap<'_>,
+    global: Global,
+) -> Result<Vec<u8>, AllocError> {
     let trace = own_trace(heap)?;
     let geometry = trace.geometry.clone()?;
-    let mut system = System::with_run_limit(heap, geometry, trace.run_limit)?;
+    let mut system = System::with_run_limit(heap, geometry, 4, trace.run_limit)?;
     let mut written = Vec::new(global);
-    match play(heap, &mut system, &trace, &mut written) {
+    match play(rt, heap, &mut system, &trace, &mut written, &OpenGate) {
         Ok(_) => Ok(written),
         Err(_) => Err(AllocError),
     }
@@ -150,7 +175,7 @@ fn own_report(heap: Heap<'_>, global: Global) -> Result<Vec<u8>, AllocError> {
 #[test]
 fn own_calls_are_played(rt: HostRuntime) -> Result<(), Fail> {
     let heap = Refusing::new(rt.alloc());
-    let written = own_report(&heap, rt.alloc())?;
+    let written = own_report(&rt, &heap, rt.alloc())?;
     assert_eq!(rt;
         written.as_slice(),
         b"0 spawn ok\n1 read error ESRCH\n".as_slice()
@@ -164,7 +189,7 @@ fn refused_plays_write_a_front(rt: HostRuntime) -> Result<(), Fail> {
     let heap = Refusing::new(rt.alloc());
     let mut refused = 0u64;
     for number in 1..10_000u64 {
-        let (met, fine) = play_refused(&heap, rt.alloc(), number)?;
+        let (met, fine) = play_refused(&rt, &heap, rt.alloc(), number)?;
         assert!(rt; fine, "allocation {number}");
         if !met {
             refused = number - 1;

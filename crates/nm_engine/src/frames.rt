@@ -14,12 +14,16 @@ mod copying;
 
 use crate::audit;
 use copying::copy_pages;
+use nm_crew::Gate;
 use nm_frames::{CopyJob, FrameStore};
 use nm_nodes::NodePool;
 use nm_plan::Taken;
 use nm_types::{FrameId, Geometry, NodeId};
 use std::alloc::{AllocError, Allocator};
 use std::marker::Model;
+use std::mem;
+use std::sync::Wait;
+use std::thread::Threads;
 
 /// The frames of all nodes with their bytes, the free ones by node, and those that a run's pages left and that become
 /// free at its end.
@@ -187,15 +191,6 @@ impl<A: Allocator + Copy> Frames<A> {
         take_fronts(&mut self.nodes, node, count);
     }
 
-    /// Copies the pages of moves to the frames that they take.
-    pub(crate) fn copy_pages(&mut self, moves: &[Taken])
-        requires can { CanCopy self.old.frames moves.now }
-        requires room { length moves.now ≤ self.old.room }
-        ensures { self.new ≡ record (self.old) { frames = with_copies self.old.frames moves.now } }
-    {
-        copy_pages(&mut self.frames, moves, &mut self.jobs);
-    }
-
     /// Makes room for so many moves of a run.
     pub(crate) fn reserve(&mut self, count: usize) -> Result<(), AllocError>
         ensures room { OnOk result (length self.new.vacated + count ≤ self.new.room) }
@@ -244,6 +239,26 @@ impl<A: Allocator + Copy> Frames<A> {
     {
         let free = audit::free_frames(alloc, &self.nodes, self.node_count())?;
         audit::is_each_once(alloc, &self.geometry, free.as_slice(), places)
+    }
+}
+
+impl<A: Allocator + Copy + Send + Sync> Frames<A> {
+    /// Copies the pages of moves to the frames that they take, with so many workers.
+    pub(crate) fn copy_pages<R: Threads + Wait + Sync, G: Gate + Sync>(
+        &mut self,
+        rt: &R,
+        alloc: A,
+        moves: &[Taken],
+        workers: usize,
+        gate: &G,
+    )
+        requires can { CanCopy self.old.frames moves.now }
+        requires room { length moves.now ≤ self.old.room }
+        requires workers { (0 < workers) × (workers ≤ 64) }
+        ensures { self.new ≡ record (self.old) { frames = with_copies self.old.frames moves.now; room = self.new.room } }
+    {
+        let jobs = mem::replace(&mut self.jobs, Vec::new(alloc));
+        self.jobs = copy_pages(rt, alloc, &mut self.frames, moves, jobs, workers, gate);
     }
 }
 

@@ -26,11 +26,14 @@ use crate::inner::Inner;
 use crate::located::Located;
 use crate::process::ProcessInfo;
 use nm_areas::Line;
+use nm_crew::Gate;
 use nm_runs::Run;
 use nm_tables::Entry;
 use nm_types::{Errno, FrameId, Geometry, MachineError, NodeId, NodeMask, Page, Pid, Policy, Vpn};
 use std::alloc::{AllocError, Allocator};
 use std::marker::Model;
+use std::sync::Wait;
+use std::thread::Threads;
 
 /// How many pages moved, and how many requests failed for a pin or for want of a free frame. Each stays at 2^64 - 1
 /// once it is there.
@@ -265,16 +268,27 @@ impl<A: Allocator + Copy + Send + Sync> Machine<A> {
     /// totals count the moves, and the requests with -16 or -12. The requests are all by address, with one `all`, or all by
     /// page: then their classes at the run's start are those that they have one after another. An error is want of memory,
     /// and means that the machine is as it was.
-    pub fn run_flight(&mut self, requests: &Run<A>) -> Result<Vec<i32, A>, AllocError>
+    ///
+    /// The pages are copied by 1 to 64 workers, of which the caller is the first; each passes the gate before each copy.
+    /// How many they are, and whether the host starts them, changes nothing of this. It waits for their threads to end.
+    pub fn run_flight<R: Threads + Wait + Sync, G: Gate + Sync>(
+        &mut self,
+        rt: &R,
+        requests: &Run<A>,
+        workers: usize,
+        gate: &G,
+    ) -> Result<Vec<i32, A>, AllocError>
         requires target { requests.now.target < node_count self.old.layout }
         requires alike { HasOneAll requests.now.wanted.items }
+        requires workers { (0 < workers) × (workers ≤ 64) }
         ensures statuses { IfOk result (λ statuses. statuses.items ≡ (run self.old requests.now.target requests.now.wanted.items []).statuses) }
         ensures state { OnOk result (self.new ≡ (run self.old requests.now.target requests.now.wanted.items []).state) }
         ensures err { OnErr result (self.new ≡ self.old) }
     {
-        let plan = self.inner.plan(requests)?;
+        let plan = self.inner.plan(rt, requests)?;
         self.inner.reserve(plan.moves().len())?;
-        self.inner.carry_out(requests.target, plan.moves());
+        self.inner
+            .carry_out(rt, requests.target, plan.moves(), workers, gate);
         self.inner.end_run(plan.statuses());
         Ok(plan.into_statuses())
     }

@@ -1,6 +1,6 @@
 //! From a reader's bytes to a writer's report.
 
-ghost use Rattle.std.specs.Prelude.{◌≡◌, ◌⊎◌, ◌≤◌, length, IfOk, IfErr, IfSome};
+ghost use Rattle.std.specs.Prelude.{◌≡◌, ◌⊎◌, ◌<◌, ◌≤◌, length, IfOk, IfErr, IfSome};
 ghost use Rattle.nm_trace.specs.Faults.{OfSomeBytes, trace_of, trace_limit};
 ghost use Rattle.nm_trace.specs.Played.{Runs, IsSilent, WritesFront};
 
@@ -9,8 +9,11 @@ use crate::reading::read_trace;
 use crate::trace::Trace;
 use crate::trace_error::TraceError;
 use nm_calls::System;
+use nm_crew::Gate;
 use std::alloc::{Allocator, Global};
 use std::io::{Read, Write};
+use std::sync::Wait;
+use std::thread::Threads;
 
 /// The most bytes that a trace has.
 pub const TRACE_LIMIT: usize = 16_777_216;
@@ -42,13 +45,17 @@ fn read_all<A: Allocator + Copy, R: Read>(
     Err(TraceError::ReadFault)
 }
 
-/// Checks the bytes of a trace whole, and then plays it on a new system.
-fn run_bytes<A: Allocator + Copy + Send + Sync, W: Write>(
+/// Checks the bytes of a trace whole, and then plays it on a new system with so many workers.
+fn run_bytes<R: Threads + Wait + Sync, A: Allocator + Copy + Send + Sync, W: Write, G: Gate + Sync>(
+    rt: &R,
     alloc: A,
     heap: Global,
     bytes: &[u8],
     writer: &mut W,
+    workers: usize,
+    gate: &G,
 ) -> Result<Summary, TraceError>
+    requires { (0 < workers) × (workers ≤ 64) }
     ensures runs { Runs (trace_of bytes.now) (W.contents writer.old) (W.contents writer.new) result }
     ensures silent { IfErr result (λ e. IsSilent e (W.contents writer.old) (W.contents writer.new)) }
 {
@@ -58,27 +65,38 @@ fn run_bytes<A: Allocator + Copy + Send + Sync, W: Write>(
         run_limit,
         calls,
     } = trace;
-    let Ok(mut system) = System::with_run_limit(alloc, geometry, run_limit) else {
+    let Ok(mut system) = System::with_run_limit(alloc, geometry, workers, run_limit) else {
         return Err(TraceError::HostMemory(0));
     };
-    play_calls(alloc, &mut system, calls.as_slice(), writer)
+    play_calls(rt, alloc, &mut system, calls.as_slice(), writer, gate)
 }
 
-/// Reads a trace to its end, checks it whole, plays it on a new system and writes the report. The system, the bytes and
-/// the lines stand in the memory of `alloc`, and the JSON value in that of `heap`.
+/// Reads a trace to its end, checks it whole, plays it on a new system and writes the report, with 1 to 64 workers that
+/// pass the gate; how many they are changes no byte of it. The system, the bytes and the lines stand in the memory of
+/// `alloc`, and the JSON value in that of `heap`.
 ///
 /// Faults in order: `ReadFault` where the reader failed or gave more than 16,777,216 bytes; those of `read_trace`; those
 /// of `play`. Nothing is written before the whole trace is checked.
-pub fn run_trace<A: Allocator + Copy + Send + Sync, R: Read, W: Write>(
+pub fn run_trace<
+    T: Threads + Wait + Sync,
+    A: Allocator + Copy + Send + Sync,
+    R: Read,
+    W: Write,
+    G: Gate + Sync,
+>(
+    rt: &T,
     alloc: A,
     heap: Global,
     reader: &mut R,
     writer: &mut W,
+    workers: usize,
+    gate: &G,
 ) -> Result<Summary, TraceError>
+    requires { (0 < workers) × (workers ≤ 64) }
     ensures runs { OfSomeBytes (R.remaining reader.old) (λ trace. Runs trace (W.contents writer.old) (W.contents writer.new) result
         × WritesFront trace (W.contents writer.old) (W.contents writer.new)) }
     ensures silent { IfErr result (λ e. IsSilent e (W.contents writer.old) (W.contents writer.new)) }
 {
     let bytes = read_all(alloc, reader)?;
-    run_bytes(alloc, heap, bytes.as_slice(), writer)
+    run_bytes(rt, alloc, heap, bytes.as_slice(), writer, workers, gate)
 }

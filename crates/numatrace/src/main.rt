@@ -19,6 +19,7 @@ fn main(rt: HostRuntime) -> ExitCode {
     };
     let status = match words {
         Ok(words) => run_words(
+            &rt,
             alloc,
             alloc,
             words.as_slice(),

@@ -3,7 +3,9 @@ use nm_refusing::Refusing;
 use std::alloc::{AllocError, Global};
 use std::io;
 use std::io::{ErrorKind, Read, Write};
+use std::sync::Wait;
 use std::test::Fail;
+use std::thread::Threads;
 
 /// Three pages of one process, written on node 0, moved to node 1 and read there.
 const TRACE: &str =
@@ -62,11 +64,25 @@ fn no_words(alloc: Global) -> Result<Vec<String>, AllocError> {
 }
 
 /// Runs the program without words on a trace.
-fn run(alloc: Global, mut trace: &[u8]) -> Result<Ran, AllocError> {
-    let words = no_words(alloc)?;
+fn run(rt: &(impl Threads + Wait + Sync), alloc: Global, trace: &[u8]) -> Result<Ran, AllocError> {
+    run_with(rt, alloc, &[], trace)
+}
+
+/// Runs the program with some words after its name on a trace.
+fn run_with(
+    rt: &(impl Threads + Wait + Sync),
+    alloc: Global,
+    more: &[&str],
+    mut trace: &[u8],
+) -> Result<Ran, AllocError> {
+    let mut words = no_words(alloc)?;
+    for word in more {
+        words.push(String::from_str(alloc, *word)?)?;
+    }
     let mut out = Vec::new(alloc);
     let mut err = Vec::new(alloc);
     let status = run_words(
+        rt,
         alloc,
         alloc,
         words.as_slice(),
@@ -165,7 +181,7 @@ impl Write for Narrow {
 
 #[test]
 fn reports_on_moved_pages(rt: HostRuntime) -> Result<(), Fail> {
-    let ran = run(rt.alloc(), TRACE.as_bytes())?;
+    let ran = run(&rt, rt.alloc(), TRACE.as_bytes())?;
     assert_eq!(rt; ran.out.as_slice(), REPORT.as_bytes());
     assert_eq!(rt; ran.err.len(), 0);
     assert_eq!(rt; ran.status, 0);
@@ -187,7 +203,7 @@ fn refuses_one_process_too_many(rt: HostRuntime) -> Result<(), Fail> {
         )?;
     }
     trace.push_str("]}")?;
-    let ran = run(alloc, trace.as_bytes())?;
+    let ran = run(&rt, rt.alloc(), trace.as_bytes())?;
     assert_eq!(rt; ran.status, 0);
     assert!(rt; ran.out.as_slice().starts_with(b"0 spawn ok\n1 spawn ok\n"));
     assert!(rt;
@@ -308,7 +324,7 @@ fn tells_the_fault_of_a_trace(rt: HostRuntime) -> Result<(), Fail> {
     let alloc = rt.alloc();
     for (old, new, text) in FAULTS {
         let trace = changed(alloc, TRACE, old, new)?;
-        let ran = run(alloc, trace.as_bytes())?;
+        let ran = run(&rt, rt.alloc(), trace.as_bytes())?;
         assert!(rt; is_fault(&ran, text), "at {new}");
     }
     Ok(())
@@ -345,7 +361,7 @@ fn reads_other_spellings(rt: HostRuntime) -> Result<(), Fail> {
     let alloc = rt.alloc();
     for (old, new) in SAME {
         let trace = changed(alloc, TRACE, old, new)?;
-        let ran = run(alloc, trace.as_bytes())?;
+        let ran = run(&rt, rt.alloc(), trace.as_bytes())?;
         assert!(rt;
             ran.status == 0 && ran.out.as_slice() == REPORT.as_bytes(),
             "at {new}"
@@ -373,7 +389,7 @@ fn tells_the_first_fault(rt: HostRuntime) -> Result<(), Fail> {
         (both.as_bytes(), "bad step 3"),
     ];
     for (trace, text) in faults {
-        let ran = run(alloc, trace)?;
+        let ran = run(&rt, rt.alloc(), trace)?;
         assert!(rt; is_fault(&ran, text), "at {text}");
     }
     Ok(())
@@ -395,9 +411,9 @@ fn nested(alloc: Global, levels: usize) -> Result<String, AllocError> {
 fn reads_127_levels(rt: HostRuntime) -> Result<(), Fail> {
     let alloc = rt.alloc();
     let deep = nested(alloc, 127)?;
-    assert!(rt; is_fault(&run(alloc, deep.as_bytes())?, "bad machine"));
+    assert!(rt; is_fault(&run(&rt, rt.alloc(), deep.as_bytes())?, "bad machine"));
     let deeper = nested(alloc, 128)?;
-    assert!(rt; is_fault(&run(alloc, deeper.as_bytes())?, "not JSON"));
+    assert!(rt; is_fault(&run(&rt, rt.alloc(), deeper.as_bytes())?, "not JSON"));
     Ok(())
 }
 
@@ -423,7 +439,7 @@ fn takes_16384_pages(rt: HostRuntime) -> Result<(), Fail> {
     let alloc = rt.alloc();
     let step = one_page_named(alloc, 16_384)?;
     let trace = started(alloc, &[step.as_str(), "{\"op\":\"free\",\"node\":1}"])?;
-    let ran = run(alloc, trace.as_bytes())?;
+    let ran = run(&rt, rt.alloc(), trace.as_bytes())?;
     assert_eq!(rt; ran.status, 0);
     assert_eq!(rt; ran.out.len(), STARTED.len() + 16 + 2 * 16_384 + 16);
     assert!(rt; ran.out.as_slice().ends_with(b" 1 1 1\n6 free 3: 5 6 7\n"));
@@ -435,17 +451,29 @@ fn refuses_16385_pages(rt: HostRuntime) -> Result<(), Fail> {
     let alloc = rt.alloc();
     let step = one_page_named(alloc, 16_385)?;
     let trace = started(alloc, &[step.as_str()])?;
-    let ran = run(alloc, trace.as_bytes())?;
+    let ran = run(&rt, rt.alloc(), trace.as_bytes())?;
     assert!(rt; is_fault(&ran, "bad step 5"));
     Ok(())
 }
 
 /// What the program says of a reader, and its status. Nothing else is written.
-fn read_from<R: Read>(alloc: Global, reader: &mut R) -> Result<Ran, AllocError> {
+fn read_from<R: Read>(
+    rt: &(impl Threads + Wait + Sync),
+    alloc: Global,
+    reader: &mut R,
+) -> Result<Ran, AllocError> {
     let words = no_words(alloc)?;
     let mut out = Vec::new(alloc);
     let mut err = Vec::new(alloc);
-    let status = run_words(alloc, alloc, words.as_slice(), reader, &mut out, &mut err);
+    let status = run_words(
+        rt,
+        alloc,
+        alloc,
+        words.as_slice(),
+        reader,
+        &mut out,
+        &mut err,
+    );
     Ok(Ran { status, out, err })
 }
 
@@ -463,7 +491,7 @@ fn fails_with_its_reader(rt: HostRuntime) -> Result<(), Fail> {
             rest: TRACE.as_bytes(),
             calls,
         };
-        let ran = read_from(rt.alloc(), &mut failing)?;
+        let ran = read_from(&rt, rt.alloc(), &mut failing)?;
         assert!(rt; is_read_fault(&ran), "at {calls} calls");
     }
     Ok(())
@@ -472,10 +500,10 @@ fn fails_with_its_reader(rt: HostRuntime) -> Result<(), Fail> {
 #[test]
 fn reads_16777216_bytes(rt: HostRuntime) -> Result<(), Fail> {
     let mut whole = Repeated { left: 16_777_216 };
-    let ran = read_from(rt.alloc(), &mut whole)?;
+    let ran = read_from(&rt, rt.alloc(), &mut whole)?;
     assert!(rt; is_fault(&ran, "not JSON"));
     let mut long = Repeated { left: 16_777_217 };
-    let ran = read_from(rt.alloc(), &mut long)?;
+    let ran = read_from(&rt, rt.alloc(), &mut long)?;
     assert!(rt; is_read_fault(&ran));
     Ok(())
 }
@@ -494,6 +522,7 @@ fn fails_with_its_writer(rt: HostRuntime) -> Result<(), Fail> {
             let mut err = Vec::new(alloc);
             let mut trace = TRACE.as_bytes();
             let status = run_words(
+                &rt,
                 alloc,
                 alloc,
                 words.as_slice(),
@@ -510,26 +539,56 @@ fn fails_with_its_writer(rt: HostRuntime) -> Result<(), Fail> {
     Ok(())
 }
 
+/// Words that are refused: others than the option, and numbers of workers that are none from 1 to 64.
+const REFUSED: [&[&str]; 16] = [
+    &["trace.json"],
+    &["--help"],
+    &["-h"],
+    &["--workers"],
+    &["--workers", "0"],
+    &["--workers", "65"],
+    &["--workers", "x"],
+    &["--workers", ""],
+    &["--workers", "-1"],
+    &["--workers", "4.0"],
+    &["--workers", "18446744073709551617"],
+    &["--workers=0"],
+    &["--worker", "4"],
+    &["--workers", "4", "4"],
+    &["--workers", "4", "--workers", "4"],
+    &["4"],
+];
+
 #[test]
 fn refuses_words(rt: HostRuntime) -> Result<(), Fail> {
-    let alloc = rt.alloc();
-    for word in ["trace.json", "--workers=4", "--help", "-h"] {
-        let mut words = no_words(alloc)?;
-        words.push(String::from_str(alloc, word)?)?;
-        let mut out = Vec::new(alloc);
-        let mut err = Vec::new(alloc);
-        let mut trace = TRACE.as_bytes();
-        let status = run_words(
-            alloc,
-            alloc,
-            words.as_slice(),
-            &mut trace,
-            &mut out,
-            &mut err,
-        );
-        assert_eq!(rt; status, 2, "at {word}");
-        assert_eq!(rt; out.len(), 0);
-        assert!(rt; !err.is_empty());
+    for words in REFUSED {
+        let ran = run_with(&rt, rt.alloc(), words, TRACE.as_bytes())?;
+        assert_eq!(rt; ran.status, 2, "at {words:?}");
+        assert_eq!(rt; ran.out.len(), 0);
+        assert!(rt; !ran.err.is_empty());
+    }
+    Ok(())
+}
+
+/// Words that are taken.
+const TAKEN: [&[&str]; 7] = [
+    &[],
+    &["--workers", "1"],
+    &["--workers=2"],
+    &["--workers", "+4"],
+    &["--workers", "04"],
+    &["--workers", "64"],
+    &["--workers=064"],
+];
+
+/// The report is the same whatever the number of workers.
+#[test]
+fn reports_alike_with_all_workers(rt: HostRuntime) -> Result<(), Fail> {
+    for words in TAKEN {
+        let ran = run_with(&rt, rt.alloc(), words, TRACE.as_bytes())?;
+        assert_eq!(rt; ran.status, 0, "at {words:?}");
+        assert_eq!(rt; ran.out.as_slice(), REPORT.as_bytes());
+        assert_eq!(rt; ran.err.len(), 0);
     }
     Ok(())
 }
@@ -546,6 +605,7 @@ fn keeps_its_status_where_err_fails(rt: HostRuntime) -> Result<(), Fail> {
     };
     let mut trace = b"[]".as_slice();
     let status = run_words(
+        &rt,
         alloc,
         alloc,
         words.as_slice(),
@@ -560,6 +620,7 @@ fn keeps_its_status_where_err_fails(rt: HostRuntime) -> Result<(), Fail> {
 /// Runs the program without words on the trace, while the allocation of this number is refused. Gives whether it came to
 /// that allocation.
 fn run_refused(
+    rt: &(impl Threads + Wait + Sync),
     global: Global,
     heap: &Refusing<Global>,
     number: u64,
@@ -570,6 +631,7 @@ fn run_refused(
     let mut trace = TRACE.as_bytes();
     heap.refuse(number);
     let status = run_words(
+        rt,
         heap,
         global,
         words.as_slice(),
@@ -598,7 +660,7 @@ fn tells_of_refused_memory(rt: HostRuntime) -> Result<(), Fail> {
     let heap = Refusing::new(rt.alloc());
     let mut refused = 0u64;
     for number in 1..10_000u64 {
-        let (met, ran) = run_refused(rt.alloc(), &heap, number)?;
+        let (met, ran) = run_refused(&rt, rt.alloc(), &heap, number)?;
         if !met {
             refused = number - 1;
             break;

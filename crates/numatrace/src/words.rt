@@ -1,16 +1,19 @@
 //! The program over any words, reader and writers.
 
-ghost use Rattle.std.specs.Prelude.{◌≡◌, []};
+ghost use Rattle.std.specs.Prelude.{◌≡◌, ◌<◌, ◌≤◌, [], IfOk};
 ghost use Rattle.std.specs.Io.KnownBytes.{Appends};
 ghost use Rattle.nm_trace.specs.Faults.{OfSomeBytes};
 ghost use Rattle.numatrace.specs.Status.{status_of, words_status, IsStatus, Leaves};
 
 use clap::error::ErrorKind;
-use clap::{Command, Error};
+use clap::{Arg, ArgAction, Command, Error, value_parser};
+use nm_crew::OpenGate;
 use nm_trace::{TraceError, run_trace};
 use std::alloc::{Allocator, Global};
 use std::io;
 use std::io::{Read, Write};
+use std::sync::Wait;
+use std::thread::Threads;
 
 /// The status after a whole report.
 const DONE: u8 = 0;
@@ -24,11 +27,26 @@ const HOST_REFUSAL: u8 = 3;
 /// The status where a reader or a writer failed.
 const STREAM_FAULT: u8 = 4;
 
-/// Reads the words. There is no option yet: every word after the program's name is refused.
-fn read_words(heap: Global, words: &[String]) -> Result<(), Error> {
-    let command = Command::new(heap, "numatrace");
-    command.try_get_matches_from(words)?;
-    Ok(())
+/// How many workers copy where the words do not say.
+const WORKERS: usize = 4;
+
+/// How many workers the words ask for: 1 to 64 by `--workers`, and 4 where it is not given. Any other word is refused.
+fn read_words(heap: Global, words: &[String]) -> Result<usize, Error>
+    ensures { IfOk result (λ workers. (0 < workers) × (workers ≤ 64)) }
+{
+    let workers = Arg::new(heap, "workers")
+        .long("workers")
+        .value_name("N")
+        .help("How many workers copy pages, 1 to 64: the report is the same")
+        .default_value("4")
+        .action(ArgAction::Set)
+        .value_parser(value_parser!(usize).range(1..=64));
+    let command = Command::new(heap, "numatrace").arg(workers)?;
+    let matches = command.try_get_matches_from(words)?;
+    match matches.get_one::<usize>("workers") {
+        Some(count) if count > 0 && count <= 64 => Ok(count),
+        _ => Ok(WORKERS),
+    }
 }
 
 /// The exit status of a fault.
@@ -55,33 +73,35 @@ pub(crate) fn unread_words<E: Write>(kind: io::ErrorKind, err: &mut E) -> u8
     BAD_INPUT
 }
 
-/// Runs the program: reads the words, then the trace from the reader, and writes the report to `out`. Answers the exit
-/// status: 0 after a whole report; 2 for a bad trace, for words that are refused and for `--help`; 3 where the host refused
+/// Runs the program: reads the words, then the trace from the reader, and writes the report to `out`. `--workers N` says
+/// how many workers copy, 1 to 64, and 4 where it is not given; it changes no byte of the report. Answers the exit status: 0 after a whole report; 2 for a bad trace, for words that are refused and for `--help`; 3 where the host refused
 /// memory; 4 for a read or write fault. A fault is told on `err`, in one line or in clap's own text, and a fault of `err`
 /// does not change the status. The words are read in the memory of `heap`, as is the JSON value; all else stands in that
 /// of `alloc`.
-pub fn run_words<A: Allocator + Copy + Send + Sync, R: Read, W: Write, E: Write>(
-    alloc: A,
-    heap: Global,
-    words: &[String],
-    reader: &mut R,
-    out: &mut W,
-    err: &mut E,
-) -> u8
+pub fn run_words<
+    T: Threads + Wait + Sync,
+    A: Allocator + Copy + Send + Sync,
+    R: Read,
+    W: Write,
+    E: Write,
+>(rt: &T, alloc: A, heap: Global, words: &[String], reader: &mut R, out: &mut W, err: &mut E) -> u8
     ensures status { IsStatus result }
     ensures reports { OfSomeBytes (R.remaining reader.old) (λ trace.
         Leaves result trace (W.contents out.old) (W.contents out.new)) }
     ensures bad { result ≡ 2 → Appends (W.contents out.old) (W.contents out.new) [] }
 {
-    if let Err(error) = read_words(heap, words) {
-        if matches!(error.kind(), ErrorKind::OutOfMemory) {
-            let _ = writeln!(err, "numatrace: host memory refused after 0 steps");
-            return HOST_REFUSAL;
+    let workers = match read_words(heap, words) {
+        Ok(workers) => workers,
+        Err(error) => {
+            if matches!(error.kind(), ErrorKind::OutOfMemory) {
+                let _ = writeln!(err, "numatrace: host memory refused after 0 steps");
+                return HOST_REFUSAL;
+            }
+            let _ = write!(err, "{error}");
+            return BAD_INPUT;
         }
-        let _ = write!(err, "{error}");
-        return BAD_INPUT;
-    }
-    match run_trace(alloc, heap, reader, out) {
+    };
+    match run_trace(rt, alloc, heap, reader, out, workers, &OpenGate) {
         Ok(_) => DONE,
         Err(fault) => {
             let _ = writeln!(err, "numatrace: {fault}");

@@ -4,8 +4,11 @@ use super::comparing::look_alike;
 use super::meeting::Met;
 use crate::plain::{Answer, Batch, Call, ENTRIES, KEPT, Plain, done_unless, nodes_of};
 use nm_calls::{CallError, System};
+use nm_crew::OpenGate;
 use nm_types::{NodeId, Pid};
 use std::alloc::Global;
+use std::sync::Wait;
+use std::thread::Threads;
 
 /// A call after which the machines differ: what the system answered, and what the plain machine did.
 #[derive(Clone, Copy, Debug)]
@@ -68,13 +71,17 @@ fn write(system: &mut System<Global>, pid: Pid, addr: u64, len: usize, bytes: [u
     done(system.write(pid, addr, &bytes[..len]))
 }
 
-fn move_pages(system: &mut System<Global>, batch: &Batch) -> Answer {
+fn move_pages(
+    rt: &(impl Threads + Wait + Sync),
+    system: &mut System<Global>,
+    batch: &Batch,
+) -> Answer {
     let count = batch.count.min(ENTRIES);
     let caller = Pid::new(batch.caller);
     let pid = Pid::new(batch.pid);
     let pages = &batch.pages[..count];
     let nodes = &batch.nodes[..count];
-    match system.move_pages(caller, pid, pages, nodes, batch.flags) {
+    match system.move_pages(rt, caller, pid, pages, nodes, batch.flags, &OpenGate) {
         Ok(moved) => {
             let statuses = first_statuses(moved.statuses.as_slice());
             Answer::Statuses(moved.failed, moved.statuses.len(), statuses)
@@ -97,7 +104,7 @@ fn query(system: &System<Global>, batch: &Batch) -> Answer {
 }
 
 /// Makes a call on a system.
-fn perform(system: &mut System<Global>, call: &Call) -> Answer {
+fn perform(rt: &(impl Threads + Wait + Sync), system: &mut System<Global>, call: &Call) -> Answer {
     match *call {
         Call::Spawn(pid, uid, home, allowed, privileged) => {
             let home = NodeId::new(home);
@@ -113,19 +120,20 @@ fn perform(system: &mut System<Global>, call: &Call) -> Answer {
         Call::Unpin(pid, addr) => done_unless(system.unpin(Pid::new(pid), addr).err()),
         Call::Read(pid, addr, len) => read(system, Pid::new(pid), addr, len),
         Call::Write(pid, addr, len, bytes) => write(system, Pid::new(pid), addr, len, bytes),
-        Call::MovePages(batch) => move_pages(system, &batch),
+        Call::MovePages(batch) => move_pages(rt, system, &batch),
         Call::Query(batch) => query(system, &batch),
     }
 }
 
 /// Makes a call on both machines. Gives the difference, if there is one after it.
 pub(super) fn play(
+    rt: &(impl Threads + Wait + Sync),
     system: &mut System<Global>,
     plain: &mut Plain,
     met: &mut Met,
     call: &Call,
 ) -> Option<Difference> {
-    let answer = perform(system, call);
+    let answer = perform(rt, system, call);
     let wanted = plain.perform(call);
     met.note(call, &wanted);
     if answer == wanted && look_alike(system, plain) {

@@ -63,14 +63,14 @@ by_parts (t ∷ taken) target k inside =
     ∙ ap (λ (f : List (List ℕ)). record k { frames = copies; free = f; vacated = (k.vacated ++ t.from ∷ []) ++ left taken }) (fronts_list k.free target (length taken) (free_on k target) inside)
     ∙ ap (λ (v : List ℕ). record k { frames = copies; free = slice_set k.free target (drop (suc (length taken)) (free_on k target)); vacated = v }) (append_assoc k.vacated (t.from ∷ []) (left taken))
 
--- .. and the parts one after the other: frames taken, pages copied, frames left
-pub in_phases : (taken : List Taken) (target : ℕ) (k fronts copies after : FramesView) → target < length k.free
-    → fronts ≡ record k { free = slice_set k.free target (drop (length taken) (free_on k target)) } → copies ≡ record fronts { frames = with_copies fronts.frames taken }
-    → after ≡ record copies { vacated = copies.vacated ++ left taken } → after ≡ all_carried target k taken
-in_phases taken target k fronts copies after inside took copied left_is =
-    let copy : FramesView → FramesView = λ s. record s { frames = with_copies s.frames taken } in
+-- .. and the parts one after the other: frames taken, frames left, pages copied, after which there may be another room
+pub in_phases : (taken : List Taken) (target : ℕ) (k fronts vacant after : FramesView) → target < length k.free
+    → fronts ≡ record k { free = slice_set k.free target (drop (length taken) (free_on k target)) } → vacant ≡ record fronts { vacated = fronts.vacated ++ left taken }
+    → after ≡ record vacant { frames = with_copies vacant.frames taken; room = after.room } → after ≡ record (all_carried target k taken) { room = after.room }
+in_phases taken target k fronts vacant after inside took left_is copied =
     let leave : FramesView → FramesView = λ s. record s { vacated = s.vacated ++ left taken } in
-    left_is ∙ ap leave (copied ∙ ap copy took) ∙ sym (by_parts taken target k inside)
+    let copy : FramesView → FramesView = λ s. record s { frames = with_copies s.frames taken; room = after.room } in
+    copied ∙ ap copy (left_is ∙ ap leave took) ∙ sym (ap (λ (s : FramesView). record s { room = after.room }) (by_parts taken target k inside))
 
 carried_shelf : (k : FramesView) (target : ℕ) (t : Taken) → HasAllFrames k → HasAllFrames (carried target k t)
 carried_shelf k target t h = record {

@@ -1,6 +1,6 @@
 -- The bytes of a run's frames go out, are copied, and come back.
 use Rattle.std.proofs.Common.{◌≡◌, ◌≢◌, ℕ, zero, suc, ◌+◌, ◌<◌, ◌≤◌, List, [], ◌∷◌, ◌++◌, map, length, take, drop, set, get_or, refl, sym, ap, subst, ◌∙◌, arith, length-set, IsSome, ⊎_elim}
-use Rattle.std.specs.Prelude.{Option, Some, None, slice_index_or, slice_set}
+use Rattle.std.specs.Prelude.{Option, Some, None, slice_get, slice_index_or, slice_set}
 use Rattle.std.proofs.lemmas.List.{get_or-set_same, get_or-set_other, set_comm, take_all, append-nil, length-map}
 use Rattle.std.proofs.lemmas.Bool.{cases_eq}
 use Rattle.std.specs.Option.{unwrap_or}
@@ -149,6 +149,15 @@ can_refill A (t ∷ taken) k store can =
       }),
     )
 
+-- the jobs stand in the order of their tickets
+pub tickets_from : (A : Type 0) (taken : List Taken) (k : ℕ) (store : Store) (t : ℕ) (job : CopyJob A) → slice_get (jobs_of {A = A} k store taken) t ≡ Some job → job.ticket ≡ k + t
+tickets_from A [] k store t job at = absurd (cc)
+tickets_from A (x ∷ taken) k store zero job at =
+    let first : CopyJob A = record { source = (x.from, bytes_of store x.from); target = (x.to, bytes_of store x.to); ticket = k } in
+    let is : first ≡ job = cc in
+    omega (arith, ap (λ (j : CopyJob A). j.ticket) is)
+tickets_from A (x ∷ taken) k store (suc t) job at = omega (arith, tickets_from A taken (k + 1) (without_both store x) t job at)
+
 -- every frame is home after copying as before
 pub copies_home : (taken : List Taken) (store : Store) (q : ℕ) → IsHome store q → IsHome (with_copies store taken) q
 copies_home [] store q home = home
@@ -166,36 +175,3 @@ module _ {A : Type 0} where
       let rest = can_last jobs job store can.0 in
       let is = refilled_last jobs job store in
       (rest.0, rest.1, (rest.2, subst (λ (s : Store). IsOut s j.source.0) is can.1, subst (λ (s : Store). IsOut (with_buf s j.source) j.target.0) is can.2))
-
-  -- one more job is copied
-  copies_put : (l : List (CopyJob A)) (i : ℕ) (b d : CopyJob A) → i < length l → b ≡ copied (get_or (map copied (take i l) ++ drop i l) i d) → set (map copied (take i l) ++ drop i l) i b ≡ map copied (take (suc i) l) ++ drop (suc i) l
-  copies_put [] i b d h is = absurd (omega (arith, h))
-  copies_put (x ∷ l) zero b d h is = ap (λ (y : CopyJob A). y ∷ l) is
-  copies_put (x ∷ l) (suc i) b d h is = ap (λ (ys : List (CopyJob A)). copied x ∷ ys) (copies_put l i b d (omega (arith, h)) is)
-
-  pub copies_step : (l ys : List (CopyJob A)) (i : ℕ) (b d : CopyJob A) → ys ≡ map copied (take i l) ++ drop i l → i < length l → b ≡ copied (get_or ys i d)
-      → set ys i b ≡ map copied (take (i + 1) l) ++ drop (i + 1) l
-  copies_step l ys i b d e h is =
-      let n : suc i ≡ i + 1 = omega arith in
-      ap (λ (z : List (CopyJob A)). set z i b) e ∙ copies_put l i b d h (is ∙ ap (λ (z : List (CopyJob A)). copied (get_or z i d)) e) ∙ ap (λ k. map copied (take k l) ++ drop k l) n
-
-  none_left : (l : List (CopyJob A)) (i : ℕ) → length l ≤ i → drop i l ≡ []
-  none_left [] zero h = refl
-  none_left [] (suc i) h = refl
-  none_left (x ∷ xs) zero h = absurd (omega arith)
-  none_left (x ∷ xs) (suc i) h = none_left xs i (omega arith)
-
-  -- all are copied
-  pub copies_end : (l ys : List (CopyJob A)) (i : ℕ) → ys ≡ map copied (take i l) ++ drop i l → length l ≤ i → ys ≡ map copied l
-  copies_end l ys i e h = e ∙ (ap (λ (z : List (CopyJob A)). map copied (take i l) ++ z) (none_left l i h) ∙ (append-nil (map copied (take i l)) ∙ ap (map copied) (take_all i l h)))
-
-  -- a list that was written whole
-  written_all : (xs ys : List (CopyJob A)) (n : ℕ) → n ≡ length ys → length xs ≡ length ys → take n (xs ++ drop (length xs) ys) ≡ xs
-  written_all xs ys n e same =
-      ap (λ (zs : List (CopyJob A)). take n (xs ++ zs)) (none_left ys (length xs) (omega (arith, same))) ∙ ap (take n) (append-nil xs) ∙ take_all n xs (omega (arith, e, same))
-
-  -- the jobs of moves, copied
-  pub copied_jobs : (k : ℕ) (store : Store) (taken : List Taken) (out new : List (CopyJob A)) (n : ℕ) → out ≡ jobs_of k store taken → new ≡ map copied out → n ≡ length out
-      → take n (new ++ drop (length new) out) ≡ map copied (jobs_of k store taken)
-  copied_jobs k store taken out new n is by e =
-      written_all new out n e (ap (λ (l : List (CopyJob A)). length l) by ∙ length-map out copied) ∙ by ∙ ap (map copied) is

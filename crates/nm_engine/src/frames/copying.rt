@@ -1,30 +1,41 @@
 //! Copying the pages of a run.
 
-ghost use Rattle.std.specs.Prelude.{◌≡◌, ◌+◌, ◌≤◌, ◌++◌, [], map, length, vec_len, vec_capacity};
-ghost use Rattle.nm_frames.specs.Job.{copied};
+ghost use Rattle.std.specs.Prelude.{◌≡◌, ◌+◌, ◌<◌, ◌≤◌, ◌++◌, [], length, vec_len, vec_capacity};
 ghost use Rattle.nm_engine.specs.Copies.{with_copies, CanCopy, emptied, jobs_of, refilled, CanRefill};
 
+use nm_crew::{Gate, copy_while};
 use nm_frames::{CopyJob, FrameStore};
 use nm_plan::Taken;
 use std::alloc::Allocator;
+use std::sync::Wait;
+use std::thread::Threads;
 
-/// Copies the page of each move to the frame that it takes. All pages go into a list of jobs, which has room for them and
-/// is empty before and after.
-pub(super) fn copy_pages<A: Allocator + Copy>(
+/// Copies the page of each move to the frame that it takes, with so many workers. All pages go into a list of jobs, which
+/// has room for them and comes back empty.
+pub(super) fn copy_pages<
+    R: Threads + Wait + Sync,
+    A: Allocator + Copy + Send + Sync,
+    G: Gate + Sync,
+>(
+    rt: &R,
+    alloc: A,
     frames: &mut FrameStore<A>,
     moves: &[Taken],
-    jobs: &mut Vec<CopyJob<A>, A>,
-)
+    mut jobs: Vec<CopyJob<A>, A>,
+    workers: usize,
+    gate: &G,
+) -> Vec<CopyJob<A>, A>
     requires can { CanCopy frames.old moves.now }
-    requires empty { jobs.old.items ≡ [] }
-    requires room { length moves.now ≤ vec_capacity jobs.old }
+    requires empty { jobs.items ≡ [] }
+    requires room { length moves.now ≤ vec_capacity jobs }
+    requires workers { (0 < workers) × (workers ≤ 64) }
     ensures frames { frames.new ≡ with_copies frames.old moves.now }
-    ensures empty { jobs.new.items ≡ [] }
-    ensures room { vec_capacity jobs.new ≡ vec_capacity jobs.old }
+    ensures empty { result.items ≡ [] }
 {
-    take_out_each(frames, moves, jobs);
-    copy_each(jobs.as_mut_slice());
-    put_back_each(frames, jobs);
+    take_out_each(frames, moves, &mut jobs);
+    let (mut copied, ()) = copy_while(rt, alloc, jobs, workers, gate, || ());
+    put_back_each(frames, &mut copied);
+    copied
 }
 
 /// Takes the bytes of both frames of each move out, as a job at the end of a list that has room for it.
@@ -51,21 +62,11 @@ fn take_out_each<A: Allocator + Copy>(
     }
 }
 
-/// Copies each job in turn.
-fn copy_each<A: Allocator + Copy>(jobs: &mut [CopyJob<A>])
-    ensures { jobs.new ≡ map copied jobs.old }
-{
-    for job in jobs {
-        job.copy();
-    }
-}
-
 /// Puts the bytes of both frames of each job back home, and empties the list.
 fn put_back_each<A: Allocator + Copy>(frames: &mut FrameStore<A>, jobs: &mut Vec<CopyJob<A>, A>)
     requires { CanRefill frames.old jobs.old.items }
     ensures frames { frames.new ≡ refilled frames.old jobs.old.items }
     ensures empty { jobs.new.items ≡ [] }
-    ensures room { vec_capacity jobs.new ≡ vec_capacity jobs.old }
 {
     while let Some(job) = jobs.pop() {
         let CopyJob { source, target, .. } = job;

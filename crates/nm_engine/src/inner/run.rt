@@ -12,12 +12,15 @@ ghost use Rattle.nm_engine.specs.Run.{decided, left, HasOneAll, with_all_free, f
 
 use crate::inner::Inner;
 use crate::machine::Totals;
+use nm_crew::Gate;
 use nm_plan::{Plan, Taken, plan};
-use nm_runs::{Run, classify_here};
+use nm_runs::{Run, classify};
 use nm_types::{Errno, FrameId, NodeId, Page};
 use std::alloc::{AllocError, Allocator};
+use std::sync::Wait;
+use std::thread::Threads;
 
-impl<A: Allocator + Copy> Inner<A> {
+impl<A: Allocator + Copy + Send + Sync> Inner<A> {
     /// Makes room for so many frames that a run's pages may leave.
     pub(crate) fn reserve(&mut self, count: usize) -> Result<(), AllocError>
         ensures room { OnOk result (length self.new.left + count ≤ self.new.room) }
@@ -27,31 +30,49 @@ impl<A: Allocator + Copy> Inner<A> {
     }
 
     /// The plan of a run, by the classes that its requests have now.
-    pub(crate) fn plan(&self, requests: &Run<A>) -> Result<Plan<A>, AllocError>
+    pub(crate) fn plan<R: Threads + Wait + Sync>(
+        &self,
+        rt: &R,
+        requests: &Run<A>,
+    ) -> Result<Plan<A>, AllocError>
         requires target { requests.now.target < node_count self.now.state.layout }
         requires alike { HasOneAll requests.now.wanted.items }
         ensures { IfOk result (λ plan. IsPlanOf self.now.state requests.now.target requests.now.wanted.items plan) }
     {
         prove!(self.frames.node_count() <= 64);
         let target = requests.target;
-        let classes = classify_here(self.alloc, self.frames.geometry(), &self.spaces, requests)?;
+        let classes = classify(
+            rt,
+            self.alloc,
+            self.frames.geometry(),
+            &self.spaces,
+            requests,
+        )?;
         let front = self.frames.free_front(self.alloc, target, classes.len())?;
         plan(self.alloc, classes.as_slice(), front.as_slice(), target)
     }
 
-    /// Makes moves to a node: their frames are taken, all pages are copied, and then every entry that named a frame that
-    /// a page leaves names the other.
-    pub(crate) fn carry_out(&mut self, target: NodeId, moves: &[Taken])
+    /// Makes moves to a node: their frames are taken, all pages are copied by so many workers, and then every entry that
+    /// named a frame that a page leaves names the other.
+    pub(crate) fn carry_out<R: Threads + Wait + Sync, G: Gate + Sync>(
+        &mut self,
+        rt: &R,
+        target: NodeId,
+        moves: &[Taken],
+        workers: usize,
+        gate: &G,
+    )
         requires target { target < node_count self.old.state.layout }
         requires room { length self.old.left + length moves.now ≤ self.old.room }
         requires moves { CanMove self.old.state target moves.now }
+        requires workers { (0 < workers) × (workers ≤ 64) }
         ensures state { self.new.state ≡ with_moves self.old.state target moves.now }
         ensures left { self.new.left ≡ self.old.left ++ left moves.now }
     {
         self.frames.take_fronts(target, moves.len());
-        self.frames.copy_pages(moves);
-        self.spaces.move_pages(moves);
         self.frames.vacate_each(moves);
+        self.frames.copy_pages(rt, self.alloc, moves, workers, gate);
+        self.spaces.move_pages(moves);
     }
 
     /// The run ends: its moves and failures are counted, and the frames that its pages left become free.

@@ -9,7 +9,7 @@ use Rattle.nm_engine.proofs.OneByOne.Carried.{run_by_plan}
 use Rattle.nm_engine.proofs.machine.Machine.run_flight.Goals as goal
 
 pub carry_out-requires-clause-moves : goal.carry_out-requires-clause-moves
-carry_out-requires-clause-moves g c =
+carry_out-requires-clause-moves g c κs within =
     subst (λ (x : MidRun). CanMove x.state c.args.requests.now.target c.moves-2.result.now) (sym c.in_ok-reserve.ensures.same)
     (subst (CanMove c.self.inside.inner.state c.args.requests.now.target) (sym c.moves-2.ensures) c.in_ok-plan.ensures.can)
 

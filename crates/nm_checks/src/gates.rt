@@ -1,0 +1,140 @@
+//! What the workers of a machine pass: gates that see who comes, and how often.
+
+ghost use Rattle.std.specs.Prelude.{◌<◌, ◌≤◌};
+
+use nm_crew::Gate;
+use nm_trace::run_trace;
+use std::alloc::Global;
+use std::sync::Wait;
+use std::sync::atomic::{AtomicBool, AtomicU64, Ordering};
+use std::thread::{Threads, yield_now};
+
+/// Three pages of one process, written on node 0, moved to node 1 in one run and read there.
+const TRACE: &str =
+    "{\"version\":1,\"machine\":{\"nodes\":[4,4],\"distance\":[[10,20],[20,10]]},\"steps\":[
+{\"op\":\"spawn\",\"pid\":1,\"uid\":100,\"home\":0,\"allowed\":[0,1]},
+{\"op\":\"map\",\"pid\":1,\"addr\":65536,\"pages\":3},
+{\"op\":\"write\",\"pid\":1,\"addr\":65536,\"data\":\"61\"},
+{\"op\":\"write\",\"pid\":1,\"addr\":69632,\"data\":\"62\"},
+{\"op\":\"write\",\"pid\":1,\"addr\":73728,\"data\":\"63\"},
+{\"op\":\"move_pages\",\"caller\":1,\"pid\":0,\"pages\":[65536,69632,73728],\"nodes\":[1,1,1],\"flags\":2},
+{\"op\":\"free\",\"node\":0},
+{\"op\":\"free\",\"node\":1},
+{\"op\":\"pagemap\",\"pid\":1},
+{\"op\":\"read\",\"pid\":1,\"addr\":69632,\"len\":2}]}";
+
+const REPORT: &str = "0 spawn ok
+1 map segment=0
+2 write ok
+3 write ok
+4 write ok
+5 move_pages 0: 1 1 1
+6 free 4: 3 0 1 2
+7 free 1: 7
+8 pagemap 3: 00010000=4 00011000=5 00012000=6
+9 read 6200
+";
+
+/// Lets each worker through at once, and lets others start from the first job on.
+#[derive(Drop)]
+pub(crate) struct Through;
+
+impl Gate for Through {
+    fn pass(&self, _worker: usize, _ticket: u64) {}
+}
+
+/// Holds each worker until workers 0 and 1 have both come, for at most 2^24 turns.
+#[derive(Drop)]
+struct Meeting {
+    /// Who came, a bit for each worker.
+    came: AtomicU64,
+    missed: AtomicBool,
+}
+
+impl Meeting {
+    fn new() -> Meeting {
+        Meeting {
+            came: AtomicU64::new(0),
+            missed: AtomicBool::new(false),
+        }
+    }
+
+    /// Whether both came and none waited in vain.
+    fn met(&self) -> bool {
+        self.came.load(Ordering::SeqCst) & 3 == 3 && !self.missed.load(Ordering::SeqCst)
+    }
+}
+
+impl Gate for Meeting {
+    fn pass(&self, worker: usize, _ticket: u64) {
+        if worker < 64 {
+            self.came.fetch_or(1 << worker, Ordering::SeqCst);
+        }
+        for _ in 0..1u64 << 24 {
+            if self.came.load(Ordering::SeqCst) & 3 == 3 {
+                return;
+            }
+            yield_now();
+        }
+        self.missed.store(true, Ordering::SeqCst);
+    }
+}
+
+/// Counts the caller's passes, and is spoilt by any other worker's.
+#[derive(Drop)]
+struct Alone(AtomicU64);
+
+impl Gate for Alone {
+    fn pass(&self, worker: usize, _ticket: u64) {
+        let step = if worker == 0 { 1 } else { 1000 };
+        self.0.fetch_add(step, Ordering::SeqCst);
+    }
+}
+
+/// Runs the trace with so many workers, and gives whether its report is right.
+fn reports_right<G: Gate + Sync>(
+    rt: &(impl Threads + Wait + Sync),
+    alloc: Global,
+    workers: usize,
+    gate: &G,
+) -> bool
+    requires { (0 < workers) × (workers ≤ 64) }
+{
+    let mut written = Vec::new(alloc);
+    let played = run_trace(
+        rt,
+        alloc,
+        alloc,
+        &mut TRACE.as_bytes(),
+        &mut written,
+        workers,
+        gate,
+    );
+    played.is_ok() && written.as_slice() == REPORT.as_bytes()
+}
+
+/// Two workers meet while a trace moves its pages: no machine that copies by itself gets both to the gate.
+#[test]
+fn workers_meet_in_a_trace(rt: HostRuntime) {
+    let gate = Meeting::new();
+    assert!(rt; reports_right(&rt, rt.alloc(), 2, &gate) && gate.met());
+}
+
+/// With one worker the caller copies alone: three pages, three passes.
+#[test]
+fn one_worker_is_alone(rt: HostRuntime) {
+    let gate = Alone(AtomicU64::new(0));
+    assert!(rt; reports_right(&rt, rt.alloc(), 1, &gate));
+    assert_eq!(rt; gate.0.load(Ordering::SeqCst), 3u64);
+}
+
+/// The report is the same whatever the number of workers, where others start from the first page on.
+#[test]
+fn reports_are_the_same(rt: HostRuntime) {
+    for workers in [1, 2, 3, 64] {
+        assert!(rt;
+            reports_right(&rt, rt.alloc(), workers, &Through),
+            "{workers} workers"
+        );
+    }
+}
