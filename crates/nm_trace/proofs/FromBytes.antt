@@ -10,7 +10,7 @@ use Rattle.nm_trace.specs.declared.trace_error.TraceError.TheVariants.{NotJson, 
 use Rattle.nm_trace.specs.Faults.{Plan, OfSomeBytes, trace_of, trace_within, trace_limit}
 use Rattle.nm_trace.specs.Report.{report_from}
 use Rattle.nm_trace.specs.Played.{AppendsFront, Plays, PlaysNew, Runs, IsSilent, WritesFront, report_of}
-use Rattle.nm_trace.proofs.InParts.{report_upto}
+use Rattle.nm_trace.proofs.InParts.{report_front}
 
 -- ---- a run
 
@@ -36,7 +36,7 @@ silent s t calls old new (Err BadMachine) p = absurd p
 silent s t calls old new (Err (BadStep k)) p = absurd p
 silent s t calls old new (Err ReadFault) p = absurd p
 silent s t calls old new (Err WriteFault) p = tt
-silent s t calls old new (Err (HostMemory k)) p = λ z. subst (λ (j : ℕ). Appends old new (report_from 0 s (take j calls))) z p.3
+silent s t calls old new (Err (HostMemory k)) p = λ z. subst (λ (j : ℕ). Appends old new (report_from 0 s (take j calls))) z p.1
 
 -- ---- a front of the report
 
@@ -55,17 +55,16 @@ front_played s t calls old new (Err BadMachine) p = absurd p
 front_played s t calls old new (Err (BadStep k)) p = absurd p
 front_played s t calls old new (Err ReadFault) p = absurd p
 front_played s t calls old new (Err WriteFault) p =
-    let text = report_from 0 s (take p.0 calls) in
-    let broken = p.4 in
-    let whole = report_upto s calls p.0 p.1 p.2 in (
-      text ++ broken.0,
+    let broken = p.3 in
+    let whole = report_front s calls p.0 in (
+      broken.0,
       broken.1 ++ whole.0,
-      append_assoc text broken.0 (broken.1 ++ whole.0) ∙ (ap (λ (ls : List ℕ). text ++ ls) (sym (append_assoc broken.0 broken.1 whole.0)) ∙ (ap (λ (ls : List ℕ). text ++ (ls ++ whole.0)) broken.2 ∙ whole.1)),
+      sym (append_assoc broken.0 broken.1 whole.0) ∙ ap (λ (ls : List ℕ). ls ++ whole.0) broken.2 ∙ whole.1,
       broken.4,
     )
 front_played s t calls old new (Err (HostMemory k)) p =
-    let whole = report_upto s calls k p.0 p.1 in
-    (report_from 0 s (take k calls), _, whole.1, p.3)
+    let whole = report_front s calls k in
+    (report_from 0 s (take k calls), whole.0, whole.1, p.1)
 
 -- what a run wrote is a front of the report
 pub front : (trace : Result Plan TraceError) (old new : Option (List ℕ)) (result : Result Summary TraceError) → Runs trace old new result → IfErr result (λ e. IsSilent e old new) → WritesFront trace old new

@@ -9,7 +9,7 @@ use Rattle.nm_calls.specs.Systems.{SystemState}
 use Rattle.nm_calls.specs.Calls.{Call}
 use Rattle.nm_calls.specs.Outcome.{Outcome, outcome}
 use Rattle.nm_trace.specs.Report.{text_of, report_from, state_after}
-use Rattle.nm_trace.specs.Played.{BreaksOff}
+use Rattle.nm_trace.specs.Played.{BreaksOff, HandsOn}
 use Rattle.nm_trace.proofs.Known.{appends_more}
 
 pub report_append : (k : ℕ) (s : SystemState) (xs ys : List Call) → report_from k s (xs ++ ys) ≡ report_from k s xs ++ report_from (k + length xs) (state_after s xs) ys
@@ -42,28 +42,29 @@ module _ (s : SystemState) (calls : List Call) (k : ℕ) (call : Call) (lt : k <
       ∙ (ap (λ (ls : List ℕ). report_from 0 s (take k calls) ++ ls) (append-nil (line (0 + length (take k calls))))
       ∙ ap (λ (j : ℕ). report_from 0 s (take k calls) ++ line j) len))
 
-  -- the report so far and the next line
-  pub written_more : (a b c : Option (List ℕ)) (line : List ℕ) → line ≡ text_of k call (outcome (state_after s (take k calls)) call).answer → Appends a b (report_from 0 s (take k calls)) → Appends b c line → Appends a c (report_from 0 s (take (k + 1) calls))
-  written_more a b c line e p q =
-      let text = report_from 0 s (take k calls) in
-      let is : text ++ line ≡ report_from 0 s (take (k + 1) calls) = ap (λ (ls : List ℕ). text ++ ls) e ∙ sym report_more in
-      subst (λ (ls : List ℕ). Appends a c ls) is (appends_more a b c text line p q)
+  -- what is written, and what waits with the next line
+  pub waiting_more : (text before after : List ℕ) → text ++ before ≡ report_from 0 s (take k calls) → after ≡ before ++ text_of k call (outcome (state_after s (take k calls)) call).answer → text ++ after ≡ report_from 0 s (take (k + 1) calls)
+  waiting_more text before after e is =
+      let line = text_of k call (outcome (state_after s (take k calls)) call).answer in
+      ap (λ (ls : List ℕ). text ++ ls) is ∙ sym (append_assoc text before line) ∙ ap (λ (ls : List ℕ). ls ++ line) e ∙ sym report_more
 
--- the report up to a call, its line, and what follows
-pub report_upto : (s : SystemState) (calls : List Call) (k : ℕ) (call : Call) → slice_get calls k ≡ Some call → (rest : List ℕ) × (report_from 0 s (take k calls) ++ (text_of k call (outcome (state_after s (take k calls)) call).answer ++ rest) ≡ report_from 0 s calls)
-report_upto s calls k call h =
-    let lt : k < length calls = slice_get_within calls k call h in
-    let cons : drop k calls ≡ call ∷ drop (suc k) calls = drop-cons calls k call lt ∙ ap (λ (w : Call). w ∷ drop (suc k) calls) (get_or_from_slice_get calls k call call h) in
-    let parts : take k calls ++ call ∷ drop (suc k) calls ≡ calls = ap (λ (l : List Call). take k calls ++ l) (sym cons) ∙ take-append-drop k calls in
-    let before : SystemState = state_after s (take k calls) in
-    let text : List ℕ = report_from 0 s (take k calls) in
-    let rest : ℕ → List ℕ = λ (j : ℕ). text_of j call (outcome before call).answer ++ report_from (j + 1) (outcome before call).system (drop (suc k) calls) in
-    let len : k ≡ 0 + length (take k calls) = omega (arith, length-take k calls, lt) in
-    (report_from (k + 1) (outcome before call).system (drop (suc k) calls), ap (λ (j : ℕ). text ++ rest j) len ∙ (sym (report_append 0 s (take k calls) (call ∷ drop (suc k) calls)) ∙ ap (report_from 0 s) parts))
+-- the report on some first calls is a front of the report
+pub report_front : (s : SystemState) (calls : List Call) (k : ℕ) → (rest : List ℕ) × (report_from 0 s (take k calls) ++ rest ≡ report_from 0 s calls)
+report_front s calls k = (_, sym (report_append 0 s (take k calls) (drop k calls)) ∙ ap (report_from 0 s) (take-append-drop k calls))
 
--- the report so far, and a line that breaks off
-pub broken_off : (a b c : Option (List ℕ)) (text line whole : List ℕ) → line ≡ whole → Appends a b text → BreaksOff b c [] line → BreaksOff a c text whole
-broken_off a b c text line whole e p q = (q.0, q.1, q.2 ∙ e, q.3, appends_more a b c text q.0 p q.4)
+-- what is written, and what waited and breaks off
+pub broken_off : (a b c : Option (List ℕ)) (text waiting whole : List ℕ) → text ++ waiting ≡ whole → Appends a b text → BreaksOff b c waiting → BreaksOff a c whole
+broken_off a b c text waiting whole e p q =
+    (text ++ q.0, q.1, append_assoc text q.0 q.1 ∙ ap (λ (ls : List ℕ). text ++ ls) q.2 ∙ e, q.3, appends_more a b c text q.0 p q.4)
+
+-- what is written, and what waited and is handed on
+pub handed_on : (a b c : Option (List ℕ)) (text before after whole : List ℕ) → text ++ before ≡ whole → Appends a b text → HandsOn b c before after → (more : List ℕ) × (more ++ after ≡ whole) × Appends a c more
+handed_on a b c text before after whole e p q =
+    (text ++ q.0, append_assoc text q.0 after ∙ ap (λ (ls : List ℕ). text ++ ls) q.1 ∙ e, appends_more a b c text q.0 p q.2)
+
+-- what is written, and what waited and is written whole
+pub written_whole : (a b c : Option (List ℕ)) (text waiting whole : List ℕ) → text ++ waiting ≡ whole → Appends a b text → Appends b c waiting → Appends a c whole
+written_whole a b c text waiting whole e p q = subst (λ (ls : List ℕ). Appends a c ls) e (appends_more a b c text waiting p q)
 
 -- the call of a step, at its place
 pub call_at : {S : Type 0} (call_of : S → Call) (steps : List S) (k : ℕ) (step : S) → k < length steps → step ≡ get_or steps k step → (k < length (map call_of steps)) × (call_of step ≡ get_or (map call_of steps) k (call_of step))

@@ -1,5 +1,5 @@
 -- What a play makes and leaves written, and what a run from bytes does.
-use Rattle.std.specs.Prelude.{◌≡◌, ◌⊎◌, ℕ, ◌<◌, Bool, List, [], ◌++◌, length, take, slice_get, Option, Some, Result, Ok, Err}
+use Rattle.std.specs.Prelude.{◌≡◌, ◌⊎◌, ℕ, ◌<◌, ◌≤◌, Bool, List, [], ◌++◌, length, take, slice_get, Option, Some, Result, Ok, Err}
 use Rattle.std.specs.Io.KnownBytes.{Appends}
 use Rattle.nm_calls.specs.Systems.{SystemState, system_with}
 use Rattle.nm_calls.specs.Calls.{Call, Answer}
@@ -15,24 +15,33 @@ use Rattle.nm_trace.specs.Report.{text_of, report_from, state_after}
 abbrev pub AppendsFront : Option (List ℕ) → Option (List ℕ) → List ℕ → Type 0
 AppendsFront old new text = (front : List ℕ) × (rest : List ℕ) × (front ++ rest ≡ text) × Appends old new front
 
--- known bytes grow by a text and a front of the next step's lines that is not all of them
-abbrev pub BreaksOff : Option (List ℕ) → Option (List ℕ) → List ℕ → List ℕ → Type 0
-BreaksOff old new text lines =
-    (front : List ℕ) × (rest : List ℕ) × (front ++ rest ≡ lines) × (0 < length rest) × Appends old new (text ++ front)
+-- known bytes grow by a front of the text that is not all of it
+abbrev pub BreaksOff : Option (List ℕ) → Option (List ℕ) → List ℕ → Type 0
+BreaksOff old new text = (front : List ℕ) × (rest : List ℕ) × (front ++ rest ≡ text) × (0 < length rest) × Appends old new front
+
+-- known bytes grow by a front of what waits, and the rest goes on waiting
+abbrev pub HandsOn : Option (List ℕ) → Option (List ℕ) → List ℕ → List ℕ → Type 0
+HandsOn old new before after = (text : List ℕ) × (text ++ after ≡ before) × Appends old new text
 
 -- a call that finds no memory on the host has made some first ones of its runs
 abbrev pub StopsIn : SystemState → Call → SystemState → Type 0
 StopsIn s call t = (runs : ℕ) × (policy_set : Bool) × HostLeaves s call runs policy_set t
 
--- a call is made and its lines are there; or it stopped, or was made and its lines found no memory
-abbrev pub Tells : {T E : Type 0} → (T → List ℕ) → ℕ → Result T E → SystemState → SystemState → Call → Type 0
-Tells view k (Ok text) old new call =
-    (view text ≡ text_of k call (outcome old call).answer) × (new ≡ (outcome old call).system)
-Tells view k (Err e) old new call = StopsIn old call new ⊎ (new ≡ (outcome old call).system)
+-- a call is made and its lines are behind those that waited; or it stopped, or was made and its lines found no memory
+abbrev pub Tells : {E : Type 0} → ℕ → Result (Unit {0}) E → SystemState → SystemState → Call → List ℕ → List ℕ → Type 0
+Tells k (Ok done) old new call before after =
+    (after ≡ before ++ text_of k call (outcome old call).answer) × (new ≡ (outcome old call).system)
+Tells k (Err e) old new call before after = (StopsIn old call new ⊎ (new ≡ (outcome old call).system)) × (after ≡ before)
 
--- A play makes every call and writes the report on them. Where the writer fails in the lines of step k, that step is the
--- last that was made, and the report breaks off inside its lines. Where the host has no memory for step k, the report on
--- the steps before it stands, and step k may have been made in part, or whole without its lines.
+-- after the first k calls the next one is not told: it stopped, or was made and its lines found no memory
+abbrev pub StopsAt : SystemState → List Call → ℕ → SystemState → Type 0
+StopsAt s calls k t =
+    (call : Call) × (slice_get calls k ≡ Some call)
+    × (StopsIn (state_after s (take k calls)) call t ⊎ (t ≡ (outcome (state_after s (take k calls)) call).system))
+
+-- A play makes every call and writes the report on them. Where the writer fails, some first calls were made, and the report
+-- on them breaks off. Where the host has no memory for step k, the report on the steps before it stands, and step k may have
+-- been made in part, or whole without its lines.
 abbrev pub Plays : SystemState → List Call → SystemState → Option (List ℕ) → Option (List ℕ) → Result Summary TraceError → Type 0
 Plays s calls t old new (Ok summary) =
     (summary.steps ≡ length calls) × (t ≡ state_after s calls) × Appends old new (report_from 0 s calls)
@@ -41,13 +50,9 @@ Plays s calls t old new (Err BadMachine) = ⊥
 Plays s calls t old new (Err (BadStep k)) = ⊥
 Plays s calls t old new (Err ReadFault) = ⊥
 Plays s calls t old new (Err WriteFault) =
-    (k : ℕ) × (call : Call) × (slice_get calls k ≡ Some call)
-    × (t ≡ (outcome (state_after s (take k calls)) call).system)
-    × BreaksOff old new (report_from 0 s (take k calls)) (text_of k call (outcome (state_after s (take k calls)) call).answer)
-Plays s calls t old new (Err (HostMemory k)) =
-    (call : Call) × (slice_get calls k ≡ Some call)
-    × (StopsIn (state_after s (take k calls)) call t ⊎ (t ≡ (outcome (state_after s (take k calls)) call).system))
-    × Appends old new (report_from 0 s (take k calls))
+    (k : ℕ) × (k ≤ length calls) × ((t ≡ state_after s (take k calls)) ⊎ StopsAt s calls k t)
+    × BreaksOff old new (report_from 0 s (take k calls))
+Plays s calls t old new (Err (HostMemory k)) = StopsAt s calls k t × Appends old new (report_from 0 s (take k calls))
 
 -- the report on a trace: on its steps, from a new machine on
 abbrev pub report_of : Plan → List ℕ

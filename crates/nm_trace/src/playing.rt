@@ -1,9 +1,9 @@
 //! Plays a trace and writes its report.
 
-ghost use Rattle.std.specs.Prelude.{◌≡◌, [], OnOk, OnErr, IfErr, map, string_bytes};
+ghost use Rattle.std.specs.Prelude.{◌≡◌, [], OnOk, OnErr, IfErr, map};
 ghost use Rattle.std.specs.Io.KnownBytes.{Appends};
 ghost use Rattle.nm_calls.specs.Views.{call_of};
-ghost use Rattle.nm_trace.specs.Played.{BreaksOff, Plays, Tells};
+ghost use Rattle.nm_trace.specs.Played.{BreaksOff, HandsOn, Plays, Tells};
 
 use crate::text::{refusal_text, text_of};
 use crate::trace::Trace;
@@ -15,6 +15,9 @@ use std::io::Write;
 use std::sync::Wait;
 use std::thread::Threads;
 
+/// Lines wait until there are so many bytes of them: a write to the system for each line would take longer than the line.
+const BLOCK_BYTES: usize = 65_536;
+
 /// How many steps were made.
 #[derive(Clone, Copy, Debug, PartialEq, Eq)]
 pub struct Summary {
@@ -25,7 +28,7 @@ pub struct Summary {
 /// Writes lines whole, or a front of them and a fault: the writer failed, or took no byte.
 fn write_lines<W: Write>(writer: &mut W, lines: &[u8]) -> Result<(), TraceError>
     ensures whole { OnOk result (Appends (W.contents writer.old) (W.contents writer.new) lines.now) }
-    ensures broken { OnErr result (BreaksOff (W.contents writer.old) (W.contents writer.new) [] lines.now) }
+    ensures broken { OnErr result (BreaksOff (W.contents writer.old) (W.contents writer.new) lines.now) }
     ensures fault { IfErr result (λ e. e ≡ TraceError.WriteFault) }
 {
     let mut at = 0;
@@ -40,8 +43,25 @@ fn write_lines<W: Write>(writer: &mut W, lines: &[u8]) -> Result<(), TraceError>
     Ok(())
 }
 
-/// Makes the call of step k, and gives its lines, also where it is refused. An error means that the call, or its lines,
-/// found no memory on the host.
+/// Writes the lines that wait, once they are many bytes: then none waits any more.
+fn write_blocks<W: Write, A: Allocator + Copy>(
+    writer: &mut W,
+    waiting: &mut Vec<u8, A>,
+) -> Result<(), TraceError>
+    ensures handed { OnOk result (HandsOn (W.contents writer.old) (W.contents writer.new) waiting.old.items waiting.new.items) }
+    ensures broken { OnErr result (BreaksOff (W.contents writer.old) (W.contents writer.new) waiting.old.items) }
+    ensures fault { IfErr result (λ e. e ≡ TraceError.WriteFault) }
+{
+    if waiting.len() < BLOCK_BYTES {
+        return Ok(());
+    }
+    write_lines(writer, waiting.as_slice())?;
+    waiting.clear();
+    Ok(())
+}
+
+/// Makes the call of step k, and puts its lines behind those that wait, also where it is refused. An error means that the
+/// call, or its lines, found no memory on the host: then no line is there of it.
 fn make_step<R: Threads + Wait + Sync, A: Allocator + Copy + Send + Sync, G: Gate + Sync>(
     rt: &R,
     alloc: A,
@@ -49,17 +69,19 @@ fn make_step<R: Threads + Wait + Sync, A: Allocator + Copy + Send + Sync, G: Gat
     k: usize,
     call: &Call<A>,
     gate: &G,
-) -> Result<String<A>, AllocError>
-    ensures { Tells string_bytes k result system.old system.new (call_of call.now) }
+    waiting: &mut Vec<u8, A>,
+) -> Result<(), AllocError>
+    ensures told { Tells k result system.old system.new (call_of call.now) waiting.old.items waiting.new.items }
 {
-    match system.call(rt, call, gate) {
-        Ok(answer) => text_of(alloc, k, call, &answer),
-        Err(CallError::Refused(errno)) => refusal_text(alloc, k, call, errno),
-        Err(CallError::HostMemory { .. }) => Err(AllocError),
-    }
+    let text = match system.call(rt, call, gate) {
+        Ok(answer) => text_of(alloc, k, call, &answer)?,
+        Err(CallError::Refused(errno)) => refusal_text(alloc, k, call, errno)?,
+        Err(CallError::HostMemory { .. }) => return Err(AllocError),
+    };
+    waiting.extend_from_slice(text.as_bytes())
 }
 
-/// Makes calls, from step 0 on, and writes the lines of each when it ends.
+/// Makes calls, from step 0 on, and writes their lines, so many bytes at a time.
 pub(crate) fn play_calls<
     R: Threads + Wait + Sync,
     A: Allocator + Copy + Send + Sync,
@@ -75,21 +97,29 @@ pub(crate) fn play_calls<
 ) -> Result<Summary, TraceError>
     ensures { Plays system.old (map call_of calls.now) system.new (W.contents writer.old) (W.contents writer.new) result }
 {
+    let mut waiting = Vec::new(alloc);
     for (k, call) in calls.iter().enumerate() {
-        let Ok(text) = make_step(rt, alloc, system, k, call, gate) else {
+        let Ok(()) = make_step(rt, alloc, system, k, call, gate, &mut waiting) else {
+            let Ok(()) = write_lines(writer, waiting.as_slice()) else {
+                return Err(TraceError::WriteFault);
+            };
             return Err(TraceError::HostMemory(k));
         };
-        let Ok(()) = write_lines(writer, text.as_bytes()) else {
+        let Ok(()) = write_blocks(writer, &mut waiting) else {
             return Err(TraceError::WriteFault);
         };
     }
+    let Ok(()) = write_lines(writer, waiting.as_slice()) else {
+        return Err(TraceError::WriteFault);
+    };
     Ok(Summary { steps: calls.len() })
 }
 
-/// Makes the calls of a trace on a system that has the trace's limit on runs, and writes the report on them: the lines of each step, when it ends. Answers how many steps there were.
+/// Makes the calls of a trace on a system that has the trace's limit on runs, and writes the report on them, some
+/// 64 KiB at a time. Answers how many steps there were.
 ///
-/// `WriteFault` where the writer failed or took no byte: the report breaks off inside the lines of the last step that was
-/// made. `HostMemory(k)` where the host refused memory in step k: the lines of the steps before it were written, and step
+/// `WriteFault` where the writer failed or took no byte: some first steps were made, and the report on them breaks off.
+/// `HostMemory(k)` where the host refused memory in step k: the lines of the steps before it were written, and step
 /// k was made as far as its call says, or whole and without its lines. The workers of the system pass the gate.
 pub fn play<R: Threads + Wait + Sync, A: Allocator + Copy + Send + Sync, W: Write, G: Gate + Sync>(
     rt: &R,
