@@ -35,11 +35,11 @@ fn refuse_set<'a>(
     Err(AllocError)
 }
 
-/// Puts 40 entries into a table, every third page and downwards. Gives how many refusals there were.
+/// Puts 40 entries into a table, downwards and each into a block of its own. Gives how many refusals there were.
 fn refuse_sets<'a>(heap: Heap<'a>, table: &mut PageTable<Heap<'a>>) -> Result<u64, AllocError> {
     let mut refused = 0u64;
     for page in 0..40u64 {
-        let more = refuse_set(heap, table, Vpn::new(120 - 3 * page))?;
+        let more = refuse_set(heap, table, Vpn::new(4_000_000 - 100_000 * page))?;
         refused = refused.saturating_add(more);
     }
     Ok(refused)
@@ -75,9 +75,24 @@ fn refused_tables(rt: HostRuntime) -> Result<(), Fail> {
     let heap = Refusing::new(rt.alloc());
     let mut table = PageTable::new(&heap);
     let refused = refuse_sets(&heap, &mut table)?;
-    assert!(rt; refused > 3, "{refused} refusals");
+    assert!(rt; refused > 40, "{refused} refusals");
     let all = table.entries()?;
     assert_eq!(rt; all.len(), 40usize);
     assert!(rt; refuse_entries(&heap, &table, all.as_slice()));
+    Ok(())
+}
+
+/// Where the next allocation is refused, an entry can be set in a block that has one, and in no other block.
+#[test]
+fn block_with_an_entry(rt: HostRuntime) -> Result<(), Fail> {
+    let heap = Refusing::new(rt.alloc());
+    let mut table = PageTable::new(&heap);
+    table.set(Vpn::new(0), Entry::Zero)?;
+    heap.refuse(1);
+    assert!(rt; table.set(Vpn::new(511), Entry::Zero).is_ok());
+    assert_eq!(rt; heap.asked_since(1), 0u64);
+    assert!(rt; table.set(Vpn::new(512), Entry::Zero).is_err());
+    let both = [(Vpn::new(0), Entry::Zero), (Vpn::new(511), Entry::Zero)];
+    assert!(rt; has(&table, both.as_slice())?);
     Ok(())
 }

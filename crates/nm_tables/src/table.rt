@@ -1,38 +1,42 @@
 //! A page table.
 
-ghost use Rattle.std.specs.Prelude.{◌≡◌, ◌≤◌, ◌<◌, ℕ, [], None, Some, IsSome, IfSome, IfNone, IfOk, OnOk, OnErr};
+ghost use Rattle.std.specs.Prelude.{◌≡◌, ◌≤◌, ◌<◌, ◌/◌, ℕ, [], None, Some, IsSome, IfSome, IfNone, IfOk, OnOk, OnErr};
 ghost use Rattle.std.specs.List.Sorted.{IsStrictlySortedBy};
 ghost use Rattle.std.specs.Map.{keys_of};
 ghost use Rattle.std.specs.Ordering.{nat_cmp};
-ghost use Rattle.nm_types.specs.Map.{get, set, replace, without, with_values};
+ghost use Rattle.nm_types.specs.Map.{get, set, replace, without};
 
 use crate::entry::Entry;
+use crate::leaf::Leaf;
+use crate::node::Node;
+use crate::subtree::Subtree;
 use nm_types::Vpn;
 use std::alloc::{AllocError, Allocator};
-use std::collections::BTreeMap;
 use std::marker::Model;
+
+/// The upper three levels, over the leaves.
+type Root<A> = Node<Node<Node<Leaf<A>, A>, A>, A>;
 
 /// What a process has at its page numbers. A number without an entry is absent. Contracts see the map from page number
 /// to entry.
 #[derive(Drop)]
 pub struct PageTable<A: Allocator + Copy> {
     alloc: A,
-    tree: BTreeMap<Vpn, Entry, A>,
+    root: Root<A>,
 }
 
 impl<A: Allocator + Copy> Model for PageTable<A> {
     ghost use Rattle.std.specs.Prelude.{ℕ};
-    ghost use Rattle.std.specs.List.Sorted.{IsStrictlySortedBy};
-    ghost use Rattle.std.specs.Map.{keys_of};
-    ghost use Rattle.std.specs.Ordering.{nat_cmp};
     ghost use Rattle.nm_types.specs.Map.{Map};
     ghost use Rattle.nm_tables.specs.declared.entry.Entry.{Entry};
 
     ghost Value = { Map ℕ Entry };
 
-    ghost view = { λ t. t.tree.entries };
+    ghost use Rattle.nm_tables.specs.Table.{tree_entries, IsTree};
 
-    ghost invariant = { λ t. IsStrictlySortedBy nat_cmp (keys_of t.tree.entries) };
+    ghost view = { λ t. tree_entries t.root };
+
+    ghost invariant = { λ t. IsTree t.root };
 }
 
 impl<A: Allocator + Copy> PageTable<A> {
@@ -42,7 +46,7 @@ impl<A: Allocator + Copy> PageTable<A> {
     {
         PageTable {
             alloc,
-            tree: BTreeMap::new(alloc),
+            root: Node::new(alloc),
         }
     }
 
@@ -51,7 +55,7 @@ impl<A: Allocator + Copy> PageTable<A> {
         ensures entry { result ≡ get nat_cmp self.now vpn }
         ensures ordered { IsStrictlySortedBy nat_cmp (keys_of self.now) }
     {
-        self.tree.get(&vpn).copied()
+        self.root.get(vpn)
     }
 
     /// The first entry at a page number or past it, with its page number. None where all of these are absent. It takes no
@@ -62,19 +66,19 @@ impl<A: Allocator + Copy> PageTable<A> {
         ensures none { IfNone result ((v : ℕ) → at ≤ v → get nat_cmp self.now v ≡ None) }
         ensures ordered { IsStrictlySortedBy nat_cmp (keys_of self.now) }
     {
-        let (vpn, entry) = self.tree.range(at..).next()?;
-        Some((*vpn, *entry))
+        self.root.first_from(at)
     }
 
     /// Puts an entry at a page number, in place of one that is there. Any number is taken, also one past the areas. An
-    /// error is want of memory, and means that the table is as it was.
+    /// error is want of memory: it comes only where no entry stands in the aligned block of 512 page numbers that has this
+    /// one, and means that the table is as it was.
     pub fn set(&mut self, vpn: Vpn, entry: Entry) -> Result<(), AllocError>
         ensures ok { OnOk result (self.new ≡ set nat_cmp self.old vpn entry) }
         ensures err { OnErr result (self.new ≡ self.old) }
+        ensures empty { OnErr result ((v : ℕ) → v / 512 ≡ vpn / 512 → get nat_cmp self.old v ≡ None) }
         ensures ordered { IsStrictlySortedBy nat_cmp (keys_of self.old) }
     {
-        self.tree.insert(vpn, entry)?;
-        Ok(())
+        self.root.set(self.alloc, vpn, entry)
     }
 
     /// Puts another entry at a page number that is not absent. It takes no memory.
@@ -83,10 +87,7 @@ impl<A: Allocator + Copy> PageTable<A> {
         ensures entry { self.new ≡ replace nat_cmp self.old vpn entry }
         ensures ordered { IsStrictlySortedBy nat_cmp (keys_of self.old) }
     {
-        let Some(there) = self.tree.get_mut(&vpn) else {
-            unreachable!()
-        };
-        *there = entry;
+        self.root.replace(vpn, entry);
     }
 
     /// Makes a page number absent. One that is absent stays so. It takes no memory.
@@ -94,28 +95,16 @@ impl<A: Allocator + Copy> PageTable<A> {
         ensures entry { self.new ≡ without nat_cmp self.old vpn }
         ensures ordered { IsStrictlySortedBy nat_cmp (keys_of self.old) }
     {
-        self.tree.remove(&vpn);
+        self.root.clear(vpn);
     }
 
     /// All entries with their page numbers, upwards. An error is want of memory.
-    #[tactic(auto, using(crate::proofs::Values::same_values))]
     pub fn entries(&self) -> Result<Vec<(Vpn, Entry), A>, AllocError>
         ensures all { IfOk result (λ entries. entries.items ≡ self.now) }
         ensures ordered { IsStrictlySortedBy nat_cmp (keys_of self.now) }
     {
-        list_entries(self.alloc, &self.tree)
+        let mut list = Vec::new(self.alloc);
+        self.root.list(&mut list)?;
+        Ok(list)
     }
-}
-
-/// The entries of a tree with their page numbers, upwards.
-fn list_entries<A: Allocator + Copy>(
-    alloc: A,
-    tree: &BTreeMap<Vpn, Entry, A>,
-) -> Result<Vec<(Vpn, Entry), A>, AllocError>
-    ensures all { IfOk result (λ entries. entries.items ≡ with_values (λ v e. e) tree.now.entries) }
-    ensures ordered { IsStrictlySortedBy nat_cmp (keys_of tree.now.entries) }
-{
-    tree.iter()
-        .map(|(vpn, entry)| (*vpn, *entry))
-        .collect(alloc)
 }

@@ -1,0 +1,14 @@
+use Rattle.std.proofs.Common.{◌≡◌, ◌≤◌, ℕ}
+use Rattle.std.specs.Ordering.{nat_cmp}
+use Rattle.nm_types.specs.Map.{get}
+use Rattle.nm_tables.specs.Tree.{joined}
+use Rattle.nm_tables.specs.Nodes.{shown, IsNode}
+use Rattle.nm_tables.proofs.node.NodeSubtree.first_from.Given as goal
+
+-- what is at the number or past it is in the parts that are left
+abbrev pub invariant-loop-part : goal.invariant-loop-part
+invariant-loop-part g l =
+    record {
+      kept : IsNode g.T.Subtree.whole g.T.Subtree.is_in l.part-iterator;
+      same : (v : ℕ) → l.at ≤ v → get nat_cmp (joined (shown g.T.Subtree.entries l.self.parts.entries)) v ≡ get nat_cmp (joined (shown g.T.Subtree.entries l.part-iterator)) v;
+    }

@@ -1,0 +1,64 @@
+-- An inner node: parts by their numbers, each with the entries of its own page numbers.
+use Rattle.std.proofs.Common.{◌≡◌, ℕ, ◌≤◌, ◌/◌, List, [], ◌∷◌, sym, ap, subst, ◌∙◌, arith}
+use Rattle.std.specs.List.{AllByRecursion}
+use Rattle.std.specs.List.Sorted.{IsStrictlySortedBy}
+use Rattle.std.specs.Map.{keys_of}
+use Rattle.std.specs.Ordering.{nat_cmp}
+use Rattle.nm_types.specs.Map.{Map, with_values}
+use Rattle.nm_types.proofs.Maps.{keys-values}
+use Rattle.nm_tables.specs.Tree.{joined, IsPart, AreParts}
+use Rattle.nm_tables.specs.Orders.{sorted-joined, all-append}
+
+module _ {P : Type 0} where
+  -- parts in order, each whole and of its own number
+  abbrev pub IsNode : (P → Type 0) → (P → ℕ → Type 0) → Map ℕ P → Type 0
+  IsNode whole is_in parts = IsStrictlySortedBy nat_cmp (keys_of parts) × AllByRecursion (λ e. whole e.1 × is_in e.1 e.0) parts
+
+module _ {P V : Type 0} where
+  -- the entries of each part
+  abbrev pub shown : (P → Map ℕ V) → Map ℕ P → Map ℕ (Map ℕ V)
+  shown entries parts = with_values (λ i part. entries part) parts
+
+module _ {P V : Type 0} (entries : P → Map ℕ V) (number : ℕ → ℕ) (whole : P → Type 0) (is_in : P → ℕ → Type 0)
+    (part : (x : P) (i : ℕ) → whole x → is_in x i → IsPart number i (entries x)) where
+  shown_parts : (parts : Map ℕ P) → AllByRecursion (λ e. whole e.1 × is_in e.1 e.0) parts
+      → AllByRecursion (λ e. IsPart number e.0 e.1) (shown entries parts)
+  shown_parts [] h = tt
+  shown_parts (e ∷ parts) h = (part e.1 e.0 h.0.0 h.0.1, shown_parts parts h.1)
+
+  -- what is shown of a node are parts
+  pub are_parts : (parts : Map ℕ P) → IsNode whole is_in parts → AreParts number (shown entries parts)
+  are_parts parts is = (subst (IsStrictlySortedBy nat_cmp) (sym (keys-values (λ i x. entries x) parts)) is.0, shown_parts parts is.1)
+
+  -- the entries of a node stand upwards
+  pub node_ordered : ((a b : ℕ) → a ≤ b → number a ≤ number b) → (parts : Map ℕ P) → IsNode whole is_in parts
+      → IsStrictlySortedBy nat_cmp (keys_of (joined (shown entries parts)))
+  node_ordered upwards parts is = sorted-joined number upwards (shown entries parts) (are_parts parts is)
+
+  above : (i k : ℕ) (ks : List ℕ) → AllByRecursion (λ q. number q ≡ k) ks → k / 512 ≡ i → AllByRecursion (λ q. number q / 512 ≡ i) ks
+  above i k [] h e = tt
+  above i k (q ∷ ks) h e = (ap (λ n. n / 512) h.0 ∙ e, above i k ks h.1 e)
+
+  -- the numbers of the parts say that of the node
+  node_keys : (parts : Map ℕ P) (i : ℕ) → AllByRecursion (λ e. whole e.1 × is_in e.1 e.0) parts
+      → AllByRecursion (λ k. k / 512 ≡ i) (keys_of parts)
+      → AllByRecursion (λ k. number k / 512 ≡ i) (keys_of (joined (shown entries parts)))
+  node_keys [] i h keys = tt
+  node_keys (e ∷ parts) i h keys =
+      all-append (λ k. number k / 512 ≡ i) (entries e.1) (joined (shown entries parts))
+      (above i e.0 (keys_of (entries e.1)) (part e.1 e.0 h.0.0 h.0.1).1 keys.0) (node_keys parts i h.1 keys.1)
+
+  -- the entries of a node have its number
+  pub node_part : ((a b : ℕ) → a ≤ b → number a ≤ number b) → (parts : Map ℕ P) (i : ℕ) → IsNode whole is_in parts
+      → AllByRecursion (λ k. k / 512 ≡ i) (keys_of parts)
+      → IsPart (λ k. number k / 512) i (joined (shown entries parts))
+  node_part upwards parts i is keys = (node_ordered upwards parts is, node_keys parts i is.1 keys)
+
+module _ (number : ℕ → ℕ) where
+  -- numbers that go upwards, and theirs
+  pub upwards_again : ((a b : ℕ) → a ≤ b → number a ≤ number b) → (a b : ℕ) → a ≤ b → number a / 512 ≤ number b / 512
+  upwards_again up a b l = let h = up a b l in omega (arith, h)
+
+  -- numbers that blocks share, and theirs
+  pub blocks_again : ((a b : ℕ) → a / 512 ≡ b / 512 → number a ≡ number b) → (a b : ℕ) → a / 512 ≡ b / 512 → number a / 512 ≡ number b / 512
+  blocks_again same a b e = ap (λ n. n / 512) (same a b e)

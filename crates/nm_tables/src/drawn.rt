@@ -1,0 +1,178 @@
+//! A table beside a plain list in order, through calls that are drawn.
+
+use crate::{Entry, PageTable};
+use nm_types::{FrameId, Vpn};
+use std::alloc::{AllocError, Allocator};
+use std::test::Fail;
+
+/// Numbers that look drawn, by a linear congruence.
+#[derive(Drop)]
+struct Draws {
+    state: u64,
+}
+
+impl Draws {
+    /// The next number below 2^31.
+    fn next(&mut self) -> u64 {
+        self.state = self
+            .state
+            .wrapping_mul(6_364_136_223_846_793_005)
+            .wrapping_add(1_442_695_040_888_963_407);
+        self.state >> 33
+    }
+
+    /// A page number near where words of marks, leaves, nodes, areas and the tree itself end, or past them.
+    fn vpn(&mut self) -> Vpn {
+        let near = match self.next() % 8 {
+            0 => 0u64,
+            1 => 52,
+            2 => 500,
+            3 => 262_132,
+            4 => 134_217_716,
+            5 => 34_359_738_356,
+            6 => 68_719_476_724,
+            _ => 18_446_744_073_709_551_588,
+        };
+        Vpn::new(near + self.next() % 24)
+    }
+
+    /// An entry of each kind.
+    fn entry(&mut self) -> Entry {
+        let frame = FrameId::new((self.next() % 20_000) as u32);
+        match self.next() % 3 {
+            0 => Entry::Zero,
+            1 => Entry::Frame(frame),
+            _ => Entry::Held(frame),
+        }
+    }
+}
+
+/// How many page numbers of a list are below this one.
+fn count_below(plain: &[(Vpn, Entry)], vpn: &Vpn) -> usize {
+    let mut count = 0usize;
+    for (number, _) in plain {
+        if *number < *vpn {
+            count = count.saturating_add(1);
+        }
+    }
+    count
+}
+
+/// The entry of a list at a page number.
+fn find(plain: &[(Vpn, Entry)], vpn: Vpn) -> Option<Entry> {
+    let mut found = None;
+    for (number, entry) in plain {
+        if *number == vpn {
+            found = Some(*entry);
+        }
+    }
+    found
+}
+
+/// The first entry of a list in order at a page number or past it.
+fn find_from(plain: &[(Vpn, Entry)], at: Vpn) -> Option<(Vpn, Entry)> {
+    let mut first = None;
+    for (number, entry) in plain {
+        if at <= *number && first.is_none() {
+            first = Some((*number, *entry));
+        }
+    }
+    first
+}
+
+/// Takes a page number out of a list in order.
+fn take_out<A: Allocator + Copy>(plain: &mut Vec<(Vpn, Entry), A>, vpn: &Vpn) {
+    let at = count_below(plain.as_slice(), vpn);
+    if at < plain.len() && plain[at].0 == *vpn {
+        plain.remove(at);
+    }
+}
+
+/// Puts an entry into a list in order, in place of one that is there.
+fn put<A: Allocator + Copy>(
+    plain: &mut Vec<(Vpn, Entry), A>,
+    vpn: &Vpn,
+    entry: &Entry,
+) -> Result<(), AllocError> {
+    take_out(plain, vpn);
+    let at = count_below(plain.as_slice(), vpn);
+    if at <= plain.len() {
+        plain.insert(at, (*vpn, *entry))?;
+    }
+    Ok(())
+}
+
+/// Puts an entry into a table and into a list.
+fn set_both<A: Allocator + Copy>(
+    table: &mut PageTable<A>,
+    plain: &mut Vec<(Vpn, Entry), A>,
+    vpn: &Vpn,
+    entry: &Entry,
+) -> Result<(), AllocError> {
+    table.set(*vpn, *entry)?;
+    put(plain, vpn, entry)
+}
+
+/// Puts another entry where there is one.
+fn replace_both<A: Allocator + Copy>(
+    table: &mut PageTable<A>,
+    plain: &mut Vec<(Vpn, Entry), A>,
+    vpn: &Vpn,
+    entry: &Entry,
+) -> Result<(), AllocError> {
+    let there = table.get(*vpn);
+    if there.is_none() {
+        return Ok(());
+    }
+    table.replace(*vpn, *entry);
+    put(plain, vpn, entry)
+}
+
+/// Takes an entry out of a table and out of a list.
+fn clear_both<A: Allocator + Copy>(
+    table: &mut PageTable<A>,
+    plain: &mut Vec<(Vpn, Entry), A>,
+    vpn: &Vpn,
+) {
+    table.clear(*vpn);
+    take_out(plain, vpn);
+}
+
+/// Makes one drawn change to a table and to a list.
+fn change<A: Allocator + Copy>(
+    draws: &mut Draws,
+    table: &mut PageTable<A>,
+    plain: &mut Vec<(Vpn, Entry), A>,
+) -> Result<(), AllocError> {
+    let vpn = draws.vpn();
+    let entry = draws.entry();
+    match draws.next() % 4 {
+        0 => {
+            clear_both(table, plain, &vpn);
+            Ok(())
+        }
+        1 => replace_both(table, plain, &vpn, &entry),
+        _ => set_both(table, plain, &vpn, &entry),
+    }
+}
+
+/// Whether a table answers at a page number as a list does.
+fn agrees<A: Allocator + Copy>(table: &PageTable<A>, plain: &[(Vpn, Entry)], vpn: Vpn) -> bool {
+    table.get(vpn) == find(plain, vpn) && table.first_from(vpn) == find_from(plain, vpn)
+}
+
+/// After each of 4,000 drawn changes the table answers as the list does, and in the end its entries are the list's.
+#[test]
+fn beside_a_list(rt: HostRuntime) -> Result<(), Fail> {
+    let mut draws = Draws { state: 27 };
+    let mut table = PageTable::new(rt.alloc());
+    let mut plain = Vec::new(rt.alloc());
+    for _ in 0..4000u64 {
+        change(&mut draws, &mut table, &mut plain)?;
+        let vpn = draws.vpn();
+        assert!(rt; agrees(&table, plain.as_slice(), vpn));
+    }
+    assert!(rt; plain.len() > 20);
+    assert!(rt; table.entries()?.as_slice() == plain.as_slice());
+    Ok(())
+}

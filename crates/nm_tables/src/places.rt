@@ -1,0 +1,119 @@
+//! The places of a leaf.
+
+ghost use Rattle.std.specs.Prelude.{◌≡◌, ◌≤◌, ◌<◌, ◌/◌, ℕ, IsTrue, None, Some, IfSome, IfNone};
+ghost use Rattle.nm_tables.specs.Leaves.{entry_of, stands_at};
+
+use crate::entry::Entry;
+use crate::marks::Marks;
+use nm_types::FrameId;
+
+/// The places of an aligned block of 512 page numbers. A place that names a frame has a page there, or with a mark one
+/// on its way to it. A place without a frame is absent, or with a mark the page of zeros. That is 2,184 bytes: 32 bits
+/// for the frame and two marks.
+#[derive(Drop)]
+pub(crate) struct Places {
+    pub(crate) block: u64,
+    named: Marks,
+    marked: Marks,
+    frames: [u32; 512],
+}
+
+impl Places {
+    /// The places of a block, all absent.
+    pub(crate) fn new(block: u64) -> Self
+        ensures block { result.block ≡ block }
+        ensures absent { (i : ℕ) → stands_at result i ≡ None }
+    {
+        Places {
+            block,
+            named: Marks::new(),
+            marked: Marks::new(),
+            frames: [0; 512],
+        }
+    }
+
+    /// What stands at a place.
+    pub(crate) fn get(&self, place: usize) -> Option<Entry>
+        requires { place < 512 }
+        ensures { result ≡ stands_at self.now place }
+    {
+        let marked = self.marked.has(place);
+        if self.named.has(place) {
+            let frame = FrameId::new(self.frames[place]);
+            if marked {
+                Some(Entry::Held(frame))
+            } else {
+                Some(Entry::Frame(frame))
+            }
+        } else if marked {
+            Some(Entry::Zero)
+        } else {
+            None
+        }
+    }
+
+    /// Puts an entry at a place.
+    pub(crate) fn put(&mut self, place: usize, entry: Entry)
+        requires { place < 512 }
+        ensures here { stands_at self.new place ≡ Some entry }
+        ensures others { (i : ℕ) → (i ≡ place → ⊥) → stands_at self.new i ≡ stands_at self.old i }
+        ensures block { self.new.block ≡ self.old.block }
+    {
+        match entry {
+            Entry::Zero => self.write(place, false, true, 0),
+            Entry::Frame(frame) => self.write(place, true, false, frame.number()),
+            Entry::Held(frame) => self.write(place, true, true, frame.number()),
+        }
+    }
+
+    /// Makes a place absent.
+    pub(crate) fn clear(&mut self, place: usize)
+        requires { place < 512 }
+        ensures here { stands_at self.new place ≡ None }
+        ensures others { (i : ℕ) → (i ≡ place → ⊥) → stands_at self.new i ≡ stands_at self.old i }
+        ensures block { self.new.block ≡ self.old.block }
+    {
+        self.write(place, false, false, 0);
+    }
+
+    /// Puts the parts of an entry at a place.
+    fn write(&mut self, place: usize, named: bool, marked: bool, frame: u32)
+        requires { place < 512 }
+        ensures here { stands_at self.new place ≡ entry_of named marked frame }
+        ensures others { (i : ℕ) → (i ≡ place → ⊥) → stands_at self.new i ≡ stands_at self.old i }
+        ensures block { self.new.block ≡ self.old.block }
+    {
+        self.named.put(place, named);
+        self.marked.put(place, marked);
+        self.frames[place] = frame;
+    }
+
+    /// The first entry at a place or behind it, with its place.
+    pub(crate) fn first_from(&self, from: usize) -> Option<(usize, Entry)>
+        requires { from ≤ 512 }
+        ensures some { IfSome result (λ e. (from ≤ e.0) × (e.0 < 512) × (stands_at self.now e.0 ≡ Some e.1)) }
+        ensures first { IfSome result (λ e. (i : ℕ) → from ≤ i → i < e.0 → stands_at self.now i ≡ None) }
+        ensures none { IfNone result ((i : ℕ) → from ≤ i → i < 512 → stands_at self.now i ≡ None) }
+    {
+        let mut place = from;
+        while place < 512 {
+            if place % 64 == 0 && self.is_bare_around(place) {
+                place += 64;
+            } else {
+                if let Some(entry) = self.get(place) {
+                    return Some((place, entry));
+                }
+                place += 1;
+            }
+        }
+        None
+    }
+
+    /// Whether the 64 places that share a word of marks with this one are absent.
+    fn is_bare_around(&self, place: usize) -> bool
+        requires { place < 512 }
+        ensures { IsTrue result → (i : ℕ) → i / 64 ≡ place / 64 → stands_at self.now i ≡ None }
+    {
+        self.named.has_none_around(place) && self.marked.has_none_around(place)
+    }
+}
