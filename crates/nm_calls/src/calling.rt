@@ -6,7 +6,8 @@ ghost use Rattle.nm_calls.specs.Views.{call_of, answer_of};
 
 use crate::answer::{Answer, Moved};
 use crate::call::{
-    Attachment, Batch, Call, MigrateRequest, MoveRequest, NewArea, NewProcess, Question,
+    Attachment, Batch, Call, MbindRequest, MigrateRequest, MoveRequest, NewArea, NewProcess,
+    Question,
 };
 use crate::call_error::CallError;
 use crate::system::System;
@@ -102,6 +103,26 @@ fn migrate_pages<A: Allocator + Copy + Send + Sync>(
     system.migrate_pages(*caller, *pid, *old, *new)
 }
 
+/// Sets the policy of a range.
+fn mbind<A: Allocator + Copy + Send + Sync>(
+    system: &mut System<A>,
+    request: &MbindRequest,
+) -> Result<Answer<A>, CallError>
+    ensures { Does answer_of result system.old system.new
+        (calls.Mbind request.now.caller request.now.addr request.now.len request.now.mode request.now.nodes request.now.flags) }
+{
+    let MbindRequest {
+        caller,
+        addr,
+        len,
+        mode,
+        nodes,
+        flags,
+    } = request;
+    system.mbind(*caller, *addr, *len, *mode, *nodes, *flags)?;
+    Ok(Answer::Failed(0))
+}
+
 /// Asks where pages are.
 fn query<A: Allocator + Copy + Send + Sync>(
     system: &System<A>,
@@ -155,6 +176,7 @@ impl<A: Allocator + Copy + Send + Sync> System<A> {
             }
             Call::MovePages(request) => Ok(Answer::Statuses(move_pages(self, request)?)),
             Call::MigratePages(request) => Ok(Answer::Failed(migrate_pages(self, request)?)),
+            Call::Mbind(request) => mbind(self, request),
             Call::Query(question) => Ok(Answer::Statuses(query(self, question)?)),
             Call::FreeList { node } => Ok(Answer::Frames(self.free_list(*node)?)),
             Call::Pagemap { pid } => Ok(Answer::Entries(self.pagemap(*pid)?)),
