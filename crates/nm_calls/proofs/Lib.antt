@@ -15,3 +15,8 @@ pub mod Texts
 pub mod Stretched
 pub mod Tallies
 pub mod Listed
+pub mod Passing
+pub mod Strays
+pub mod Nodes
+pub mod Ways
+pub mod Bound

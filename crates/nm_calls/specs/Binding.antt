@@ -24,6 +24,7 @@ use Rattle.nm_engine.specs.declared.ProcessInfo.{ProcessInfo}
 use Rattle.nm_engine.specs.Locating.{located_between}
 use Rattle.nm_engine.specs.Policing.{pages_of, policy_refusal, set_policy}
 use Rattle.nm_engine.specs.Refused.{first_error}
+use Rattle.nm_calls.specs.declared.binding.Binding.{Binding}
 use Rattle.nm_calls.specs.Permission.{moves_all, info_at}
 use Rattle.nm_calls.specs.Passes.{passes}
 use Rattle.nm_calls.specs.Sets.{names_no_node, usable, is_none}
@@ -71,27 +72,27 @@ is_misfit mode nodes =
     if is_none nodes then (mode == MPOL_BIND) || (mode == MPOL_INTERLEAVE)
     else (mode == MPOL_DEFAULT) || (mode == MPOL_LOCAL)
 
--- a flag or a mode that is unknown; nodes that do not fit the mode, or are none of the machine; none that can be used
-abbrev pub is_invalid : State → List ℕ → ℕ → List ℕ → ℕ → Bool
-is_invalid s allowed mode nodes flags =
-    nat_le 8 flags || nat_le 5 mode || is_misfit mode nodes || names_no_node s nodes
-    || (not (is_none nodes) && is_none (usable s allowed nodes))
+-- a mode that is unknown; nodes that do not fit it, or are none of the machine; none that can be used
+abbrev pub is_bad_set : State → List ℕ → ℕ → List ℕ → Bool
+is_bad_set s allowed mode nodes =
+    nat_le 5 mode || is_misfit mode nodes || names_no_node s nodes || (not (is_none nodes) && is_none (usable s allowed nodes))
 
--- a process, the first page number of a range and the one behind it, and its policy to be
-pub record Binding : Type 0 where
-  pub pid : ℕ
-  pub first : ℕ
-  pub end : ℕ
-  pub policy : Policy
+-- a flag that is unknown, or such a mode or set
+abbrev pub is_invalid : State → List ℕ → ℕ → List ℕ → ℕ → Bool
+is_invalid s allowed mode nodes flags = nat_le 8 flags || is_bad_set s allowed mode nodes
 
 -- pages without those that come before
 abbrev pub once : List Located → List Located
 once [] = []
 once (l ∷ ls) = l ∷ filter (λ m. not (same_page l.page m.page)) (once ls)
 
+-- the pages seen from one page number up to another that do not follow a policy, by page number
+abbrev pub strays_between : State → ℕ → ℕ → ℕ → Policy → List Located
+strays_between s pid first end policy = filter (λ l. not (follows policy l.node)) (located_between s pid first end)
+
 -- the pages seen in the range that do not follow the policy, by address, each at its lowest
 abbrev pub astray : State → Binding → List Located
-astray s b = once (filter (λ l. not (follows b.policy l.node)) (located_between s b.pid b.first b.end))
+astray s b = once (strays_between s b.pid b.first b.end b.policy)
 
 -- the nodes that a process may use, and none where there is no such process
 abbrev pub allowed_to : Option ProcessInfo → List ℕ
@@ -101,12 +102,15 @@ allowed_to caller = unwrap_or (option_map (λ (i : ProcessInfo). i.allowed) call
 abbrev pub home_of : Option ProcessInfo → ℕ
 home_of caller = unwrap_or (option_map (λ (i : ProcessInfo). i.home) caller) 0
 
+-- the page numbers of so many bytes, and their policy
+abbrev pub range_of : ℕ → ℕ → ℕ → Policy → Binding
+range_of pid address len policy =
+    let first = address / 4096 in record { pid = pid; first = first; end = first + pages_of len; policy = policy }
+
 -- what a call asks for: the set that is kept is what is online and allowed of its nodes
 abbrev pub binding : State → ℕ → ℕ → ℕ → ℕ → List ℕ → Binding
 binding s pid address len mode nodes =
-    let first = address / 4096 in
-    let kept = usable s (allowed_to (info_at s pid)) nodes in
-    record { pid = pid; first = first; end = first + pages_of len; policy = policy_of mode kept }
+    range_of pid address len (policy_of mode (usable s (allowed_to (info_at s pid)) nodes))
 
 -- no such caller; bad arguments; MPOL_MF_MOVE_ALL without privilege
 abbrev pub mode_refusal : State → Option ProcessInfo → ℕ → List ℕ → ℕ → Option Errno
@@ -119,12 +123,17 @@ mode_refusal s (Some caller) mode nodes flags =
 abbrev pub is_strictly_refused : State → Binding → ℕ → Bool
 is_strictly_refused s b flags = is_strict flags && not (moves flags) && not (length (astray s b) == 0)
 
--- no such caller, bad arguments or no privilege; a bad address; a page without an area; a page that does not follow
+-- a bad address; a page without an area; a page that does not follow
+abbrev pub range_refusal : State → ℕ → ℕ → ℕ → Policy → ℕ → Option Errno
+range_refusal s caller address len policy flags =
+    let strict = is_strictly_refused s (range_of caller address len policy) flags in
+    earlier (policy_refusal s caller address len) (first_error ((strict, Eio) ∷ []))
+
+-- no such caller, bad arguments or no privilege; then the range
 abbrev pub mbind_refusal : State → ℕ → ℕ → ℕ → ℕ → List ℕ → ℕ → Option Errno
 mbind_refusal s caller address len mode nodes flags =
-    let strict = is_strictly_refused s (binding s caller address len mode nodes) flags in
-    let late = earlier (policy_refusal s caller address len) (first_error ((strict, Eio) ∷ [])) in
-    earlier (mode_refusal s (info_at s caller) mode nodes flags) late
+    let policy = policy_of mode (usable s (allowed_to (info_at s caller)) nodes) in
+    earlier (mode_refusal s (info_at s caller) mode nodes flags) (range_refusal s caller address len policy flags)
 
 -- requests for pages at the page numbers at which a process sees them
 abbrev pub spots : ℕ → Bool → List Located → List Wanted
@@ -138,21 +147,28 @@ strays_of pages = map (λ l. record { vpn = l.vpn; page = l.page }) pages
 abbrev pub each_to : ℕ → Bool → List Sent → List Request
 each_to pid all targets = map (λ t. record { target = t.to; wanted = At pid t.vpn all }) targets
 
--- the runs that bring pages to where a policy wants them: passes for BIND, and one pass for the others
+-- the nodes that a policy tries one after another for all pages: by distance from a home node for BIND
+abbrev pub nodes_tried : State → ℕ → Policy → List ℕ
+nodes_tried s home Default = []
+nodes_tried s home (Preferred node) = node ∷ []
+nodes_tried s home (Bind nodes) = filter (is_in nodes) (zonelist s.layout s.online home)
+nodes_tried s home (Interleave nodes) = []
+nodes_tried s home Local = []
+
+-- the runs that bring pages to where a policy wants them: turns for INTERLEAVE, and passes for the others
 abbrev pub runs_by : ℕ → State → Policy → ℕ → ℕ → Bool → List Located → List Stretch
-runs_by limit s Default home pid all pages = []
-runs_by limit s (Preferred node) home pid all pages = passes limit s (node ∷ []) (spots pid all pages)
-runs_by limit s (Bind nodes) home pid all pages =
-    passes limit s (filter (is_in nodes) (zonelist s.layout s.online home)) (spots pid all pages)
 runs_by limit s (Interleave nodes) home pid all pages =
     cut_within limit (each_to pid all (by_turns nodes (strays_of pages)))
-runs_by limit s Local home pid all pages = []
+runs_by limit s policy home pid all pages = passes limit s (nodes_tried s home policy) (spots pid all pages)
 
--- the runs of a call: none without a flag to move
+-- the pages that are to move: none without a flag to move
+abbrev pub listed : State → Binding → ℕ → List Located
+listed s b flags = if moves flags then astray s b else []
+
+-- the runs of a call
 abbrev pub mbind_runs : ℕ → State → Binding → ℕ → List Stretch
 mbind_runs limit s b flags =
-    let home = home_of (info_at s b.pid) in
-    if moves flags then runs_by limit s b.policy home b.pid (moves_all flags) (astray s b) else []
+    runs_by limit s b.policy (home_of (info_at s b.pid)) b.pid (moves_all flags) (listed s b flags)
 
 -- whether a listed page does not follow the policy where it is now
 abbrev pub strays : State → Policy → Located → Bool

@@ -18,4 +18,5 @@ pub mod MigrateRows
 pub mod MigrateLaws
 pub mod Passes
 pub mod Binding
+pub mod Making
 pub mod BindingRows

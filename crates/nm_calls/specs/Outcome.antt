@@ -82,7 +82,8 @@ runs_asked y (MovePages caller pid pages nodes flags) =
     cut_within y.run_limit (requests_of (owner_of caller pid) (moves_all flags) pages nodes)
 runs_asked y (MigratePages caller pid old new) = cut_within y.run_limit (migration y.state caller pid old new)
 runs_asked y (Mbind caller addr len mode nodes flags) =
-    mbind_runs y.run_limit y.state (binding y.state caller addr len mode nodes) flags
+    let set = policed y.state caller addr len mode nodes in
+    mbind_runs y.run_limit set (binding y.state caller addr len mode nodes) flags
 runs_asked y call = []
 
 -- an answer, and the system after it

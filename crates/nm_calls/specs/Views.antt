@@ -3,7 +3,7 @@ use Rattle.nm_calls.specs.declared.call.Call as values
 use Rattle.nm_calls.specs.declared.call.Call.TheVariants as call
 use Rattle.nm_calls.specs.declared.answer.Answer as values_of_answers
 use Rattle.nm_calls.specs.declared.answer.Answer.TheVariants as answer
-use Rattle.nm_calls.specs.Calls.{Call, Spawn, MapPages, Attach, Unmap, Exit, Pin, Unpin, ReadBytes, WriteBytes, MovePages, MigratePages, Query, FreeList, Pagemap, Vmstat, NumaMaps, Answer, Done, NewSegment, TheBytes, Statuses, Failed, Frames, Entries, TheTotals, Lines}
+use Rattle.nm_calls.specs.Calls.{Call, Spawn, MapPages, Attach, Unmap, Exit, Pin, Unpin, ReadBytes, WriteBytes, MovePages, MigratePages, Mbind, Query, FreeList, Pagemap, Vmstat, NumaMaps, Answer, Done, NewSegment, TheBytes, Statuses, Failed, Frames, Entries, TheTotals, Lines}
 use Rattle.nm_calls.specs.Entries.{entries_mapped}
 use Rattle.nm_calls.specs.Maps.{lines_shown}
 
@@ -21,6 +21,8 @@ call_of (call.Write pid addr bytes) = WriteBytes pid addr bytes.items
 call_of (call.MovePages request) =
     MovePages request.caller request.pid request.batch.pages.items request.batch.nodes.items request.flags
 call_of (call.MigratePages request) = MigratePages request.caller request.pid request.old request.new
+call_of (call.Mbind request) =
+    Mbind request.caller request.addr request.len request.mode request.nodes request.flags
 call_of (call.Query question) = Query question.caller question.pid question.pages.items question.flags
 call_of (call.FreeList node) = FreeList node
 call_of (call.Pagemap pid) = Pagemap pid

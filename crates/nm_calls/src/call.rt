@@ -84,6 +84,23 @@ pub struct MigrateRequest {
     pub new: NodeMask,
 }
 
+/// A range of bytes of a process, and the policy that it is to have.
+#[derive(Clone, Copy, Debug, PartialEq, Eq)]
+pub struct MbindRequest {
+    /// Who calls, and whose range it is.
+    pub caller: Pid,
+    /// The address at which the range begins, in bytes.
+    pub addr: u64,
+    /// Its length in bytes, which is rounded up to whole pages.
+    pub len: u64,
+    /// The mode by its number: MPOL_DEFAULT is 0, MPOL_PREFERRED 1, MPOL_BIND 2, MPOL_INTERLEAVE 3, MPOL_LOCAL 4.
+    pub mode: u32,
+    /// The nodes of the policy.
+    pub nodes: NodeMask,
+    /// The flags by their bits: MPOL_MF_STRICT is 1, MPOL_MF_MOVE 2, MPOL_MF_MOVE_ALL 4.
+    pub flags: u32,
+}
+
 /// Pages that are looked at.
 #[derive(Debug, Drop)]
 pub struct Question<A: Allocator + Copy + Send + Sync> {
@@ -142,6 +159,8 @@ pub enum Call<A: Allocator + Copy + Send + Sync> {
     MovePages(MoveRequest<A>),
     /// Moves the pages of a process from nodes to nodes, as `migrate_pages(2)`.
     MigratePages(MigrateRequest),
+    /// Sets the policy of a range, as `mbind(2)`.
+    Mbind(MbindRequest),
     /// Asks where pages are, as `move_pages(2)` without nodes.
     Query(Question<A>),
     /// Asks for the free frames of a node.

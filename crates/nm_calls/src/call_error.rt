@@ -20,7 +20,7 @@ pub enum CallError {
     HostMemory {
         /// How many runs of the call were made.
         runs: usize,
-        /// Whether the call had set the policy of areas. No call does so yet: it is false.
+        /// Whether the call had set the policy of areas, as `mbind` does before its first run.
         policy_set: bool,
     },
 }

@@ -6,7 +6,8 @@ ghost use Rattle.nm_calls.specs.Views.{call_of, answer_of};
 
 use crate::answer::{Answer, Moved};
 use crate::call::{
-    Attachment, Batch, Call, MigrateRequest, MoveRequest, NewArea, NewProcess, Question,
+    Attachment, Batch, Call, MbindRequest, MigrateRequest, MoveRequest, NewArea, NewProcess,
+    Question,
 };
 use crate::call_error::CallError;
 use crate::system::System;
@@ -117,6 +118,28 @@ fn migrate_pages<R: Threads + Wait + Sync, A: Allocator + Copy + Send + Sync, G:
     system.migrate_pages(rt, *caller, *pid, *old, *new, gate)
 }
 
+/// Sets the policy of a range.
+fn mbind<R: Threads + Wait + Sync, A: Allocator + Copy + Send + Sync, G: Gate + Sync>(
+    rt: &R,
+    system: &mut System<A>,
+    request: &MbindRequest,
+    gate: &G,
+) -> Result<Answer<A>, CallError>
+    ensures { Does answer_of result system.old system.new
+        (calls.Mbind request.now.caller request.now.addr request.now.len request.now.mode request.now.nodes request.now.flags) }
+{
+    let MbindRequest {
+        caller,
+        addr,
+        len,
+        mode,
+        nodes,
+        flags,
+    } = request;
+    system.mbind(rt, *caller, *addr, *len, *mode, *nodes, *flags, gate)?;
+    Ok(Answer::Failed(0))
+}
+
 /// Asks where pages are.
 fn query<A: Allocator + Copy + Send + Sync>(
     system: &System<A>,
@@ -177,6 +200,7 @@ impl<A: Allocator + Copy + Send + Sync> System<A> {
             Call::MigratePages(request) => Ok(Answer::Failed(migrate_pages(
                 rt, self, request, gate,
             )?)),
+            Call::Mbind(request) => mbind(rt, self, request, gate),
             Call::Query(question) => Ok(Answer::Statuses(query(self, question)?)),
             Call::FreeList { node } => Ok(Answer::Frames(self.free_list(*node)?)),
             Call::Pagemap { pid } => Ok(Answer::Entries(self.pagemap(*pid)?)),

@@ -3,6 +3,7 @@
 
 mod answer;
 mod batch;
+mod binding;
 mod call;
 mod call_error;
 mod calling;
@@ -16,7 +17,8 @@ mod words;
 
 pub use answer::{Answer, Moved, PagemapEntry};
 pub use call::{
-    Attachment, Batch, Call, MigrateRequest, MoveRequest, NewArea, NewProcess, Question,
+    Attachment, Batch, Call, MbindRequest, MigrateRequest, MoveRequest, NewArea, NewProcess,
+    Question,
 };
 pub use call_error::CallError;
 pub use nm_engine::Totals;

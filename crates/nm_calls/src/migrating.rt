@@ -8,7 +8,7 @@ ghost use Rattle.nm_runs.specs.Limit.{cut_within};
 ghost use Rattle.nm_runs.specs.Targets.{Checks};
 ghost use Rattle.nm_calls.specs.Does.{Moves};
 ghost use Rattle.nm_calls.specs.Permission.{info_at};
-ghost use Rattle.nm_calls.specs.Sets.{names_no_node, usable};
+ghost use Rattle.nm_calls.specs.Sets.{usable};
 ghost use Rattle.nm_calls.specs.Migrating.{new_refusal, migrate_refusal, migration, migrate_list};
 
 use crate::answer::Moved;
@@ -34,20 +34,6 @@ pub(crate) struct Migration {
     pub(crate) all: bool,
     /// The nodes to which they go: those that were named, are online, and may be used by the process.
     pub(crate) targets: NodeMask,
-}
-
-/// Whether a node of a set is not below a count.
-fn names_no_node<A: Allocator + Copy + Send + Sync>(machine: &Machine<A>, nodes: NodeMask) -> bool
-    ensures { result ≡ names_no_node machine.now nodes }
-{
-    let count = machine.node_count();
-    let mut rest = nodes;
-    while let Some(node) = rest.take_first() {
-        if node.index() >= count {
-            return true;
-        }
-    }
-    false
 }
 
 /// The nodes to which the pages of a process may go, of those that a caller names. EPERM (one that the process may not
@@ -92,7 +78,7 @@ pub(crate) fn migration_of<A: Allocator + Copy + Send + Sync>(
     let Some(asking) = machine.process(caller) else {
         return Err(Errno::Esrch);
     };
-    if names_no_node(machine, old) || names_no_node(machine, new) {
+    if machine.names_no_node(old) || machine.names_no_node(new) {
         return Err(Errno::Einval);
     }
     let owner = owner_of(caller, pid);

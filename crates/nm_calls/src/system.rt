@@ -3,7 +3,7 @@
 ghost use Rattle.std.specs.Prelude.{◌≡◌, ◌<◌, ◌≤◌, true, IfOk, length};
 ghost use Rattle.nm_engine.specs.Audited.{audited};
 ghost use Rattle.nm_engine.specs.Sound.{IsSound};
-ghost use Rattle.nm_calls.specs.Calls.{Spawn, MapPages, Attach, Unmap, Exit, Pin, Unpin, ReadBytes, WriteBytes, MovePages, MigratePages, Query, FreeList, Pagemap, Vmstat, NumaMaps, Done, NewSegment, TheBytes, Statuses, Failed, Frames, Entries, TheTotals, Lines};
+ghost use Rattle.nm_calls.specs.Calls.{Spawn, MapPages, Attach, Unmap, Exit, Pin, Unpin, ReadBytes, WriteBytes, MovePages, MigratePages, Mbind, Query, FreeList, Pagemap, Vmstat, NumaMaps, Done, NewSegment, TheBytes, Statuses, Failed, Frames, Entries, TheTotals, Lines};
 ghost use Rattle.nm_calls.specs.Entries.{entries_mapped, entries_shown};
 ghost use Rattle.nm_calls.specs.Maps.{lines_shown};
 ghost use Rattle.nm_calls.specs.Systems.{default_limit, new_system, system_with};
@@ -12,6 +12,7 @@ ghost use Rattle.nm_calls.specs.Does.{Does, DoesOrRefuses};
 
 use crate::answer::{Moved, PagemapEntry};
 use crate::batch::{check_targets, move_batch};
+use crate::binding::{bind, ready};
 use crate::call_error::CallError;
 use crate::maps::areas_text;
 use crate::migrating::{migrate, migration_of};
@@ -294,6 +295,55 @@ impl<A: Allocator + Copy + Send + Sync> System<A> {
             gate,
         )?;
         Ok(moved.failed)
+    }
+
+    /// Sets where the new pages of `len` bytes of the caller from an address on are placed, rounded up to whole pages. The
+    /// set that is kept is what is online and allowed of `nodes`; MPOL_PREFERRED keeps its lowest node, and is as MPOL_LOCAL
+    /// without nodes. The areas are split at both ends of the range, and never merged. With MPOL_MF_MOVE (2) or
+    /// MPOL_MF_MOVE_ALL (4) the pages that the caller sees in the range and that are not where the policy wants them are
+    /// listed, each once and at its lowest address, and move: for MPOL_PREFERRED to its node; for MPOL_INTERLEAVE each to
+    /// the node whose turn it is by the page's index in its segment, by node and then by address; for MPOL_BIND in passes
+    /// over its nodes, the nearest to the caller's home first, where what finds no free frame goes on to the next node.
+    /// Each stretch of pages for one node is a run, or several where it is longer than the limit. A page that another
+    /// process sees stays, unless MPOL_MF_MOVE_ALL is given.
+    ///
+    /// Refusals in order: ESRCH (unknown caller); EINVAL (a flag beyond 7; an unknown mode; nodes with MPOL_DEFAULT or
+    /// MPOL_LOCAL, or none with MPOL_BIND or MPOL_INTERLEAVE; a node that is none of the machine; nodes of which none is
+    /// online and allowed); EPERM (MPOL_MF_MOVE_ALL without privilege); EINVAL (an address in mid-page, or a range that ends
+    /// past 2^64 - 1); then a `len` of 0 changes nothing; EFAULT (a page of the range without an area); EIO (MPOL_MF_STRICT
+    /// (1) alone, and a page that the caller sees in the range is not where the policy wants it). Each changes nothing. With
+    /// MPOL_MF_STRICT and a flag to move EIO is answered where a listed page is not where the policy wants it after the
+    /// moves: policy and moves stay. `HostMemory { runs, policy_set }` leaves the first runs made, and the policy set where
+    /// it says so.
+    #[tactic(auto, unfolding(crate::specs::Outcome::refused, crate::specs::Outcome::refused_at_once, crate::specs::Outcome::ended, crate::specs::Outcome::runs_asked, crate::specs::Outcome::start, crate::specs::Outcome::sets_policy), using(crate::proofs::Outcomes::answers, crate::proofs::Outcomes::refuses, crate::proofs::Outcomes::unchanged))]
+    pub fn mbind<R: Threads + Wait + Sync, G: Gate + Sync>(
+        &mut self,
+        rt: &R,
+        caller: Pid,
+        addr: u64,
+        len: u64,
+        mode: u32,
+        nodes: NodeMask,
+        flags: u32,
+        gate: &G,
+    ) -> Result<(), CallError>
+        ensures { Does (λ done. Failed 0) result self.old self.new (Mbind caller addr len mode nodes flags) }
+    {
+        let (asked, binding) = ready(&self.machine, caller, addr, len, mode, nodes, flags)?;
+        let limit = self.run_limit;
+        let workers = self.workers;
+        bind(
+            rt,
+            self.alloc,
+            &mut self.machine,
+            &binding,
+            asked,
+            addr,
+            len,
+            limit,
+            workers,
+            gate,
+        )
     }
 
     /// Where pages are, each named by an address in it: the number of its node, -14 (EFAULT) without an area or for the

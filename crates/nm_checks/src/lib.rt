@@ -6,6 +6,8 @@ mod areas;
 #[cfg(test)]
 mod batches;
 #[cfg(test)]
+mod bindings;
+#[cfg(test)]
 mod gates;
 #[cfg(test)]
 mod limits;

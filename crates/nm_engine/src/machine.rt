@@ -1,9 +1,10 @@
 //! The machine.
 
-ghost use Rattle.std.specs.Prelude.{◌≡◌, ◌<◌, ◌≤◌, ◌+◌, [], ◌∷◌, true, false, length, IfOk, IfSome, IfNone, OnOk, OnErr, option_map, None};
+ghost use Rattle.std.specs.Prelude.{◌≡◌, ◌<◌, ◌≤◌, ◌+◌, [], ◌∷◌, true, false, length, nat_le, IfOk, IfSome, IfNone, OnOk, OnErr, option_map, None};
+ghost use Rattle.std.specs.List.{list_any};
 ghost use Rattle.std.specs.Ordering.{nat_cmp};
-ghost use Rattle.nm_types.specs.Map.{get};
-ghost use Rattle.nm_types.specs.Layout.{node_count};
+ghost use Rattle.nm_types.specs.Map.{get, page_cmp};
+ghost use Rattle.nm_types.specs.Layout.{node_count, node_of};
 ghost use Rattle.nm_types.specs.Nodes.{is_in};
 ghost use Rattle.nm_types.specs.State.{free_list};
 ghost use Rattle.nm_engine.specs.Tables.{info_of};
@@ -104,6 +105,13 @@ impl<A: Allocator + Copy + Send + Sync> Machine<A> {
         ensures { result ≡ is_in self.now.online node }
     {
         self.inner.is_online(node)
+    }
+
+    /// Whether a set has a node that the machine has not.
+    pub fn names_no_node(&self, nodes: NodeMask) -> bool
+        ensures { result ≡ list_any (nat_le (node_count self.now.layout)) nodes }
+    {
+        self.inner.names_no_node(nodes)
     }
 
     /// What `spawn` fixed of a process, or None where there is none of this pid.
@@ -327,6 +335,13 @@ impl<A: Allocator + Copy + Send + Sync> Machine<A> {
         ensures node { IfSome result (λ e. e.node < node_count self.now.layout) }
     {
         self.inner.page_from(pid, first, end)
+    }
+
+    /// The node where a page is, or None where it has no frame. It takes no memory.
+    pub fn node_of_page(&self, page: Page) -> Option<NodeId>
+        ensures { result ≡ option_map (node_of self.now.layout) (get page_cmp self.now.place page) }
+    {
+        self.inner.node_of_page(page)
     }
 
     /// How many processes see a page. Two addresses of a process count once, and a page without a frame is seen by none.

@@ -11,7 +11,7 @@ use Rattle.nm_types.specs.Layout.{Layout}
 use Rattle.nm_types.specs.Refusal.{refusal}
 use Rattle.nm_types.specs.declared.geometry.GeometryError.{GeometryError}
 use Rattle.nm_calls.specs.Systems.{default_limit}
-use Rattle.nm_calls.specs.Calls.{Call, Spawn, MapPages, Attach, Unmap, Exit, Pin, Unpin, ReadBytes, WriteBytes, MovePages, MigratePages, Query, FreeList, Pagemap, Vmstat, NumaMaps}
+use Rattle.nm_calls.specs.Calls.{Call, Spawn, MapPages, Attach, Unmap, Exit, Pin, Unpin, ReadBytes, WriteBytes, MovePages, MigratePages, Mbind, Query, FreeList, Pagemap, Vmstat, NumaMaps}
 
 infixl 10 ◌>>=◌
 abbrev pub ◌>>=◌ : {A B : Type 0} → Option A → (A → Option B) → Option B
@@ -211,6 +211,16 @@ migrate_pages_of d = do
   new ← set_at (codes "new") d
   Some (MigratePages caller pid old new)
 
+unfoldable pub mbind_of : Data → Option Call
+mbind_of d = do
+  caller ← small_at (codes "caller") d
+  addr ← number_at (codes "addr") d
+  len ← number_at (codes "len") d
+  mode ← small_at (codes "mode") d
+  nodes ← set_at (codes "nodes") d
+  flags ← small_at (codes "flags") d
+  Some (Mbind caller addr len mode nodes flags)
+
 -- at most 16,384 pages
 unfoldable pub query_of : Data → Option Call
 query_of d = do
@@ -252,12 +262,13 @@ named op d =
     else (if bytes_eq op (codes "write") then write_of d
     else (if bytes_eq op (codes "move_pages") then move_pages_of d
     else (if bytes_eq op (codes "migrate_pages") then migrate_pages_of d
+    else (if bytes_eq op (codes "mbind") then mbind_of d
     else (if bytes_eq op (codes "query") then query_of d
     else (if bytes_eq op (codes "free") then free_of d
     else (if bytes_eq op (codes "pagemap") then pagemap_of d
     else (if bytes_eq op (codes "vmstat") then vmstat_of d
     else (if bytes_eq op (codes "numa_maps") then numa_maps_of d
-    else None)))))))))))))))
+    else None))))))))))))))))
 
 unfoldable pub step_of : Data → Option Call
 step_of d = do

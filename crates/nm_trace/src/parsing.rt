@@ -8,7 +8,8 @@ ghost use Rattle.nm_trace.specs.Gives.{Gives};
 use crate::fields::{flag, hex, number, numbers, set, small, smalls, text};
 use crate::step_error::StepError;
 use nm_calls::{
-    Attachment, Batch, Call, MigrateRequest, MoveRequest, NewArea, NewProcess, Question,
+    Attachment, Batch, Call, MbindRequest, MigrateRequest, MoveRequest, NewArea, NewProcess,
+    Question,
 };
 use nm_types::limits::MAX_BATCH;
 use nm_types::{NodeId, Pid};
@@ -150,6 +151,20 @@ fn migrate_pages<A: Allocator + Copy + Send + Sync>(value: &Value) -> Result<Cal
     }))
 }
 
+#[tactic(auto, unfolding(crate::specs::Form::mbind_of))]
+fn mbind<A: Allocator + Copy + Send + Sync>(value: &Value) -> Result<Call<A>, StepError>
+    ensures { Gives call_of result (form.mbind_of (view value.now)) }
+{
+    Ok(Call::Mbind(MbindRequest {
+        caller: Pid::new(small(value, "caller")?),
+        addr: number(value, "addr")?,
+        len: number(value, "len")?,
+        mode: small(value, "mode")?,
+        nodes: set(value, "nodes")?,
+        flags: small(value, "flags")?,
+    }))
+}
+
 #[tactic(auto, unfolding(crate::specs::Form::query_of))]
 fn query<A: Allocator + Copy + Send + Sync>(alloc: A, value: &Value) -> Result<Call<A>, StepError>
     ensures { Gives call_of result (form.query_of (view value.now)) }
@@ -223,6 +238,7 @@ fn named<A: Allocator + Copy + Send + Sync>(
         "write" => write(alloc, value),
         "move_pages" => move_pages(alloc, value),
         "migrate_pages" => migrate_pages(value),
+        "mbind" => mbind(value),
         "query" => query(alloc, value),
         "free" => free(value),
         "pagemap" => pagemap(value),

@@ -28,6 +28,7 @@ fn word<A: Allocator + Copy + Send + Sync>(call: &Call<A>) -> &'static str
         Call::Write { .. } => "write",
         Call::MovePages(_) => "move_pages",
         Call::MigratePages(_) => "migrate_pages",
+        Call::Mbind(_) => "mbind",
         Call::Query(_) => "query",
         Call::FreeList { .. } => "free",
         Call::Pagemap { .. } => "pagemap",

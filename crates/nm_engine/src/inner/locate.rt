@@ -1,17 +1,18 @@
 //! Where the pages are that a process sees.
 
-ghost use Rattle.std.specs.Prelude.{IfNone, IfSome, [], length, ◌+◌, ◌<◌, ◌∷◌, ◌≡◌, ◌≤◌};
+ghost use Rattle.std.specs.Prelude.{IfNone, IfSome, [], length, option_map, ◌+◌, ◌<◌, ◌∷◌, ◌≡◌, ◌≤◌};
 ghost use Rattle.nm_areas.specs.Lines.{lines_of};
 ghost use Rattle.nm_engine.specs.Does.{AsksLast, Tells};
 ghost use Rattle.nm_engine.specs.Locating.{located, located_between};
 ghost use Rattle.nm_engine.specs.Refused.{entries_refusal};
 ghost use Rattle.nm_runs.specs.Seen.{users};
-ghost use Rattle.nm_types.specs.Layout.{node_count};
+ghost use Rattle.nm_types.specs.Layout.{node_count, node_of};
+ghost use Rattle.nm_types.specs.Map.{get, page_cmp};
 
 use crate::inner::Inner;
 use crate::located::Located;
 use nm_areas::Line;
-use nm_types::{Errno, MachineError, Page, Pid, Seen, Sight, Vpn};
+use nm_types::{Errno, MachineError, NodeId, Page, Pid, Seen, Sight, Vpn};
 use std::alloc::Allocator;
 
 impl<A: Allocator + Copy> Inner<A> {
@@ -53,6 +54,14 @@ impl<A: Allocator + Copy> Inner<A> {
             }
         }
         None
+    }
+
+    /// The node where a page is, or None where it has no frame.
+    pub(crate) fn node_of_page(&self, page: Page) -> Option<NodeId>
+        ensures { result ≡ option_map (node_of self.now.state.layout) (get page_cmp self.now.state.place page) }
+    {
+        let frame = self.spaces.place(page)?;
+        Some(self.frames.geometry().node_of(frame))
     }
 
     /// The page of what is seen at a page number, with its node.

@@ -31,6 +31,13 @@ fn has_beyond(nodes: NodeMask, count: usize) -> bool
 }
 
 impl<A: Allocator + Copy> Inner<A> {
+    /// Whether a set has a node that the machine has not.
+    pub(crate) fn names_no_node(&self, nodes: NodeMask) -> bool
+        ensures { result ≡ list_any (nat_le (node_count self.now.state.layout)) nodes }
+    {
+        has_beyond(nodes, self.frames.node_count())
+    }
+
     /// Adds a process.
     pub(crate) fn spawn(&mut self, pid: Pid, info: ProcessInfo) -> Result<(), MachineError>
         requires { self.old.left ≡ [] }

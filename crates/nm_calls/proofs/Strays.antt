@@ -1,0 +1,85 @@
+-- Pages that are not where a policy wants them, each once.
+use Rattle.std.proofs.Common.{◌≡◌, Bool, true, false, not, ◌||◌, cond, List, [], ◌∷◌, ◌++◌, refl, sym, ap, ◌∙◌, append_assoc}
+use Rattle.std.specs.List.{filter, list_any}
+use Rattle.std.specs.BTreeMap.{is_at}
+use Rattle.std.specs.BTreeSet.{BTreeSet, Updates, contains}
+use Rattle.std.proofs.lemmas.List.{append-nil}
+use Rattle.std.proofs.lemmas.List.Folds.{list_any-append}
+use Rattle.std.proofs.lemmas.List.Elements.{filter-append}
+use Rattle.nm_types.specs.declared.page.Page.{Page}
+use Rattle.nm_types.specs.Map.{page_cmp, same_page}
+use Rattle.nm_engine.specs.declared.located.Located.{Located}
+use Rattle.nm_calls.specs.Binding.{once}
+
+-- whether a page is among some
+abbrev pub is_listed : List Located → Page → Bool
+is_listed ls p = list_any (λ l. same_page l.page p) ls
+
+-- one more, which is another page than the earlier ones, or is one of them and is left out
+once_more : (ls : List Located) (x : Located) → once (ls ++ x ∷ []) ≡ once ls ++ cond (is_listed ls x.page) [] (x ∷ [])
+once_more [] x = refl
+once_more (l ∷ ls) x =
+    let kept : Located → Bool = λ m. not (same_page l.page m.page) in
+    ap (λ ms. l ∷ filter kept ms) (once_more ls x)
+    ∙ ap (λ ms. l ∷ ms) (filter-append kept (once ls) (cond (is_listed ls x.page) [] (x ∷ [])))
+    ∙ ap (λ ms. l ∷ filter kept (once ls) ++ ms) (tail (same_page l.page x.page) (is_listed ls x.page) refl)
+  where
+    tail : (a b : Bool) → same_page l.page x.page ≡ a → filter (λ m. not (same_page l.page m.page)) (cond b [] (x ∷ [])) ≡ cond (a || b) [] (x ∷ [])
+    tail true true h = refl
+    tail true false h = ap (λ c. cond (not c) (x ∷ []) []) h
+    tail false true h = refl
+    tail false false h = ap (λ c. cond (not c) (x ∷ []) []) h
+
+-- these of all pages are listed, and their names are known; the others are left
+pub record HaveListed (all left pages : List Located) (seen : BTreeSet Page) : Type 0 where
+  pub done : List Located
+  pub joined : done ++ left ≡ all
+  pub listed : pages ≡ once done
+  pub known : (p : Page) → contains page_cmp seen p ≡ is_listed done p
+
+cond_or : (b h : Bool) → cond b true h ≡ (h || (b || false))
+cond_or true true = refl
+cond_or true false = refl
+cond_or false true = refl
+cond_or false false = refl
+
+more_known : (seen new : BTreeSet Page) (done : List Located) (x : Located) → Updates page_cmp seen new x.page true → ((p : Page) → contains page_cmp seen p ≡ is_listed done p) → (p : Page) → contains page_cmp new p ≡ is_listed (done ++ x ∷ []) p
+more_known seen new done x updates known p =
+    updates.0 p ∙ ap (λ b. cond (is_at (page_cmp x.page) p) true b) (known p)
+    ∙ cond_or (is_at (page_cmp x.page) p) (is_listed done p)
+    ∙ sym (list_any-append (λ l. same_page l.page p) done (x ∷ []))
+
+-- one that comes for the first time ..
+pub one_listed : (all left rest pages : List Located) (seen new : BTreeSet Page) (x : Located) → HaveListed all left pages seen → left ≡ x ∷ rest → Updates page_cmp seen new x.page true → contains page_cmp seen x.page ≡ false → HaveListed all rest (pages ++ x ∷ []) new
+one_listed all left rest pages seen new x h is updates first =
+    let fresh : is_listed h.done x.page ≡ false = sym (h.known x.page) ∙ first in
+    record {
+      done = h.done ++ x ∷ [];
+      joined = append_assoc h.done (x ∷ []) rest ∙ ap (λ l. h.done ++ l) (sym is) ∙ h.joined;
+      listed = ap (λ l. l ++ x ∷ []) h.listed ∙ sym (once_more h.done x ∙ ap (λ b. once h.done ++ cond b [] (x ∷ [])) fresh);
+      known = more_known seen new h.done x updates h.known;
+    }
+
+-- .. and one that came already
+pub one_again : (all left rest pages : List Located) (seen new : BTreeSet Page) (x : Located) → HaveListed all left pages seen → left ≡ x ∷ rest → Updates page_cmp seen new x.page true → contains page_cmp seen x.page ≡ true → HaveListed all rest pages new
+one_again all left rest pages seen new x h is updates again =
+    let there : is_listed h.done x.page ≡ true = sym (h.known x.page) ∙ again in
+    record {
+      done = h.done ++ x ∷ [];
+      joined = append_assoc h.done (x ∷ []) rest ∙ ap (λ l. h.done ++ l) (sym is) ∙ h.joined;
+      listed = h.listed ∙ sym (once_more h.done x ∙ ap (λ b. once h.done ++ cond b [] (x ∷ [])) there ∙ append-nil (once h.done));
+      known = more_known seen new h.done x updates h.known;
+    }
+
+-- none is left
+pub all_listed : (all left pages : List Located) (seen : BTreeSet Page) → HaveListed all left pages seen → left ≡ [] → pages ≡ once all
+all_listed all left pages seen h none =
+    h.listed ∙ ap once (sym (append-nil h.done) ∙ ap (λ l. h.done ++ l) (sym none) ∙ h.joined)
+
+pub not_true : (b : Bool) → not b ≡ true → b ≡ false
+not_true true h = let z : ⊥ = cc in absurd z
+not_true false h = refl
+
+pub not_false : (b : Bool) → not b ≡ false → b ≡ true
+not_false true h = refl
+not_false false h = let z : ⊥ = cc in absurd z

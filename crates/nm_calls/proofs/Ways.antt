@@ -1,0 +1,95 @@
+-- How the pages of a policy move.
+use Rattle.std.proofs.Common.{arith, ◌≡◌, ℕ, suc, ◌<◌, ◌≤◌, Bool, true, false, cond, List, [], ◌∷◌, ◌++◌, length, map, refl, sym, ap, subst, ◌∙◌}
+use Rattle.std.proofs.lemmas.Bool.{eqb-true}
+use Rattle.std.proofs.lemmas.List.{length-map}
+use Rattle.std.specs.Prelude.{◌==◌}
+use Rattle.std.specs.List.{AllByRecursion, filter, flat_map}
+use Rattle.nm_types.specs.declared.area.Policy.{Policy}
+use Rattle.nm_types.specs.declared.area.Policy.TheVariants.{Default, Preferred, Bind, Interleave, Local}
+use Rattle.nm_types.specs.Nodes.{is_in}
+use Rattle.nm_types.specs.State.{State}
+use Rattle.nm_areas.specs.Mapped.{Mapped}
+use Rattle.nm_policy.specs.declared.targets.Sent.{Sent}
+use Rattle.nm_policy.specs.declared.targets.Stray.{Stray}
+use Rattle.nm_policy.specs.Order.{zonelist}
+use Rattle.nm_policy.specs.Turns.{sent, sent_to, by_turns}
+use Rattle.nm_runs.specs.declared.Wanted.{Wanted}
+use Rattle.nm_runs.specs.Cut.{Request, wanted_of}
+use Rattle.nm_engine.specs.declared.located.Located.{Located}
+use Rattle.nm_engine.specs.Effect.{with_areas_of}
+use Rattle.nm_engine.specs.Run.{IsByAddress}
+use Rattle.nm_calls.specs.Passes.{passes}
+use Rattle.nm_calls.specs.Binding.{spots, each_to, nodes_tried, runs_by}
+use Rattle.nm_calls.specs.Making.{IsAlike, nodes_named}
+use Rattle.nm_calls.proofs.Lists.{of_member}
+
+module _ (P : ℕ → Type 0) where
+  sent_there : (all : List Sent) (node : ℕ) → P node → AllByRecursion (λ t. P t.to) (sent_to all node)
+  sent_there [] node h = tt
+  sent_there (t ∷ ts) node h =
+      let rest = sent_there ts node h in
+      elim (t.to == node) as (λ b. t.to == node ≡ b → AllByRecursion (λ t. P t.to) (cond b (t ∷ sent_to ts node) (sent_to ts node))) [
+        | true ↦ λ e. (subst P (sym (eqb-true t.to node e)) h, rest)
+        | false ↦ λ e. rest
+      ] refl
+
+  both : (ts us : List Sent) → AllByRecursion (λ t. P t.to) ts → AllByRecursion (λ t. P t.to) us → AllByRecursion (λ t. P t.to) (ts ++ us)
+  both [] us h k = k
+  both (t ∷ ts) us h k = (h.0, both ts us h.1 k)
+
+  sent_all : (all : List Sent) (nodes : List ℕ) → AllByRecursion P nodes → AllByRecursion (λ t. P t.to) (flat_map (sent_to all) nodes)
+  sent_all all [] h = tt
+  sent_all all (node ∷ nodes) h = both (sent_to all node) (flat_map (sent_to all) nodes) (sent_there all node h.0) (sent_all all nodes h.1)
+
+  asked_all : (pid : ℕ) (all : Bool) (ts : List Sent) → AllByRecursion (λ t. P t.to) ts → AllByRecursion (λ e. P e.target) (each_to pid all ts)
+  asked_all pid all [] h = tt
+  asked_all pid all (t ∷ ts) h = (h.0, asked_all pid all ts h.1)
+
+  -- pages that take turns go to nodes of the set ..
+  pub turns_go : (pid : ℕ) (all : Bool) (nodes : List ℕ) (pages : List Stray) → AllByRecursion P nodes → AllByRecursion (λ e. P e.target) (each_to pid all (by_turns nodes pages))
+  turns_go pid all nodes pages h = asked_all pid all (by_turns nodes pages) (sent_all (map (sent nodes) pages) nodes h)
+
+  kept_all : (ns ks : List ℕ) → AllByRecursion P ns → AllByRecursion P (filter (is_in ns) ks)
+  kept_all ns [] h = tt
+  kept_all ns (k ∷ ks) h =
+      let rest = kept_all ns ks h in
+      elim (is_in ns k) as (λ b. is_in ns k ≡ b → AllByRecursion P (cond b (k ∷ filter (is_in ns) ks) (filter (is_in ns) ks))) [
+        | true ↦ λ e. (of_member P ns k h e, rest)
+        | false ↦ λ e. rest
+      ] refl
+
+  -- and those that are tried one after another are nodes that the policy names
+  pub tried_all : (s : State) (home : ℕ) (policy : Policy) → AllByRecursion P (nodes_named policy) → AllByRecursion P (nodes_tried s home policy)
+  tried_all s home Default h = tt
+  tried_all s home (Preferred node) h = h
+  tried_all s home (Bind nodes) h = kept_all nodes (zonelist s.layout s.online home) h
+  tried_all s home (Interleave nodes) h = tt
+  tried_all s home Local h = tt
+
+-- .. and are by address, with one `all`
+pub turns_alike : (pid : ℕ) (all : Bool) (ts : List Sent) → IsAlike (wanted_of (each_to pid all ts))
+turns_alike pid all ts = (all, each ts)
+  where
+    each : (ts : List Sent) → AllByRecursion (IsByAddress all) (wanted_of (each_to pid all ts))
+    each [] = tt
+    each (t ∷ ts) = (refl, each ts)
+
+pub spots_alike : (pid : ℕ) (all : Bool) (ls : List Located) → IsAlike (spots pid all ls)
+spots_alike pid all ls = (all, each ls)
+  where
+    each : (ls : List Located) → AllByRecursion (IsByAddress all) (spots pid all ls)
+    each [] = tt
+    each (l ∷ ls) = (refl, each ls)
+
+pub spots_length : (pid : ℕ) (all : Bool) (ls : List Located) → length (spots pid all ls) ≡ length ls
+spots_length pid all [] = refl
+spots_length pid all (l ∷ ls) = ap suc (spots_length pid all ls)
+
+-- a policy other than INTERLEAVE has passes, whatever the areas
+pub passes_by : (s : State) (m : Mapped) (limit : ℕ) (policy : Policy) (home pid : ℕ) (all : Bool) (pages : List Located) → ((nodes : List ℕ) → policy ≡ Interleave nodes → ⊥)
+    → passes limit (with_areas_of s m) (nodes_tried s home policy) (spots pid all pages) ≡ runs_by limit (with_areas_of s m) policy home pid all pages
+passes_by s m limit Default home pid all pages h = refl
+passes_by s m limit (Preferred node) home pid all pages h = refl
+passes_by s m limit (Bind nodes) home pid all pages h = refl
+passes_by s m limit (Interleave nodes) home pid all pages h = absurd (h nodes refl)
+passes_by s m limit Local home pid all pages h = refl

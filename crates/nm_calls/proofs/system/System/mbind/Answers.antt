@@ -1,0 +1,29 @@
+use Rattle.std.proofs.Common.{◌≡◌, ℕ, Some, sym, subst, ◌∙◌}
+use Rattle.nm_engine.specs.Policing.{set_policy}
+use Rattle.nm_calls.specs.declared.binding.Binding.{Binding}
+use Rattle.nm_calls.specs.Calls.{Mbind, Failed}
+use Rattle.nm_calls.specs.Systems.{SystemState, in_state}
+use Rattle.nm_calls.specs.Binding.{mbind_runs}
+use Rattle.nm_calls.specs.Does.{Does}
+use Rattle.nm_calls.specs.Making.{Binds}
+use Rattle.nm_calls.specs.Binding.{mbind_refusal}
+use Rattle.nm_calls.proofs.Bound.{binds_does, refuses_mbind}
+use Rattle.nm_calls.proofs.system.System.mbind.Goals as goal
+
+pub returns : goal.returns
+returns g c =
+    let x = c.args in
+    let s = c.self.inside.machine in
+    let limit = c.self.inside.run_limit in
+    let new = c.bind.new.machine in
+    let y : SystemState = record { state = s; run_limit = limit } in
+    let call = Mbind x.caller x.addr x.len x.mode x.nodes x.flags in
+    let bound = subst (λ (f : ℕ). Binds c.bind.result s (set_policy s c.in_ok-asked.binding.pid x.addr x.len c.in_ok-asked.binding.policy) new c.in_ok-asked.binding
+    (mbind_runs limit (set_policy s c.in_ok-asked.binding.pid x.addr x.len c.in_ok-asked.binding.policy) c.in_ok-asked.binding f) f) c.in_ok-asked.ensures.flags c.bind.ensures in
+    let asked = subst (λ (b : Binding). Binds c.bind.result s (set_policy s b.pid x.addr x.len b.policy) new b (mbind_runs limit (set_policy s b.pid x.addr x.len b.policy) b x.flags) x.flags)
+    c.in_ok-asked.ensures.binding bound in
+    subst (λ (z : SystemState). Does (λ done. Failed 0) c.bind.result z (in_state y new) call) c.self.view_is
+    (binds_does y x.caller x.addr x.len x.mode x.nodes x.flags c.bind.result new c.in_ok-asked.ensures.exact asked)
+
+pub returns-in_err-asked : goal.returns-in_err-asked
+returns-in_err-asked g c = refuses_mbind c.args.self.now c.args.caller c.args.addr c.args.len c.args.mode c.args.nodes c.args.flags c.from_residual.result c.in_err-asked.field-0.0 (subst (λ (z : SystemState). mbind_refusal z.state c.args.caller c.args.addr c.args.len c.args.mode c.args.nodes c.args.flags ≡ Some c.in_err-asked.field-0.0) c.self.view_is c.in_err-asked.ensures.exact) c.from_residual.ensures

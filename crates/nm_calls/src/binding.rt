@@ -1,0 +1,777 @@
+//! The policy of a range, as `mbind(2)` sets it: what is refused, which pages move, and their runs.
+
+ghost use Rattle.std.specs.Prelude.{◌≡◌, ℕ, ◌+◌, ◌-◌, ◌^◌, ◌<◌, ◌≤◌, ◌&&◌, not, All, [], ◌∷◌, IfOk, IfSome, IfNone, IsSome, None, length, vec_capacity};
+ghost use Rattle.std.specs.List.{AllByRecursion, filter, list_any};
+ghost use Rattle.nm_types.specs.Layout.{node_count};
+ghost use Rattle.std.specs.Ordering.{int_eq};
+ghost use Rattle.nm_types.specs.declared.errno.Errno.TheVariants.{Enomem};
+ghost use Rattle.nm_types.specs.Nodes.{is_in};
+ghost use Rattle.nm_runs.specs.Status.{code};
+ghost use Rattle.nm_policy.specs.Order.{follows, zonelist};
+ghost use Rattle.nm_policy.specs.Turns.{by_turns};
+ghost use Rattle.nm_runs.specs.declared.Wanted.TheVariants.{At};
+ghost use Rattle.nm_runs.specs.Cut.{all_to, wanted_of};
+ghost use Rattle.nm_runs.specs.Limit.{cut_within};
+ghost use Rattle.nm_runs.specs.Targets.{Checks};
+ghost use Rattle.nm_areas.specs.Mapped.{Mapped};
+ghost use Rattle.nm_engine.specs.Effect.{with_areas_of};
+ghost use Rattle.nm_engine.specs.Policing.{pages_of, policy_refusal, set_policy};
+ghost use Rattle.nm_calls.specs.Permission.{info_at};
+ghost use Rattle.nm_calls.specs.Passes.{passes, without_frame};
+ghost use Rattle.nm_calls.specs.Sets.{usable};
+ghost use Rattle.nm_calls.specs.Binding.{preferred, policy_of, is_misfit, is_bad_set, moves, strays_between, astray, spots, strays_of, each_to, runs_by, nodes_tried, strays, mode_refusal, range_of, range_refusal, allowed_to, home_of, is_strict, listed, mbind_runs, mbind_refusal, binding};
+ghost use Rattle.nm_calls.specs.Making.{runs_in, IsAlike, CanGo, nodes_named, Batches, MakesRuns, later, IsCounted, Binds};
+
+use crate::batch::move_runs;
+use crate::call_error::CallError;
+use nm_crew::Gate;
+use nm_engine::{Located, Machine, ProcessInfo};
+use nm_policy::{Sent, Stray, first_touch_order, follows, mbind_targets};
+use nm_runs::{Request, Wanted, cut_within};
+use nm_types::{Errno, MoveFlags, NodeId, NodeMask, Pid, Policy, Vpn};
+use std::alloc::{AllocError, Allocator};
+use std::collections::BTreeSet;
+use std::sync::Wait;
+use std::thread::Threads;
+
+/// The modes of `mbind(2)` by their numbers.
+const MPOL_DEFAULT: u32 = 0;
+
+const MPOL_PREFERRED: u32 = 1;
+
+const MPOL_BIND: u32 = 2;
+
+const MPOL_INTERLEAVE: u32 = 3;
+
+const MPOL_LOCAL: u32 = 4;
+
+/// A range of page numbers of a process, and the policy that it is to have.
+#[derive(Clone, Copy, Debug, PartialEq, Eq)]
+pub(crate) struct Binding {
+    /// The process.
+    pub(crate) pid: Pid,
+    /// The first page number.
+    pub(crate) first: Vpn,
+    /// The one behind the last.
+    pub(crate) end: Vpn,
+    /// The policy.
+    pub(crate) policy: Policy,
+}
+
+/// The lowest node is preferred, or the nearest where there is none.
+fn preferred(nodes: NodeMask) -> Policy
+    ensures { result ≡ preferred nodes }
+{
+    match nodes.nth(0) {
+        Some(node) => Policy::Preferred(node),
+        None => Policy::Local,
+    }
+}
+
+/// The policy of a mode and a set of nodes.
+fn policy_of(mode: u32, nodes: NodeMask) -> Policy
+    ensures { result ≡ policy_of mode nodes }
+{
+    if mode == MPOL_PREFERRED {
+        preferred(nodes)
+    } else if mode == MPOL_BIND {
+        Policy::Bind(nodes)
+    } else if mode == MPOL_INTERLEAVE {
+        Policy::Interleave(nodes)
+    } else if mode == MPOL_LOCAL {
+        Policy::Local
+    } else {
+        Policy::Default
+    }
+}
+
+/// Whether a mode takes this set of nodes: MPOL_DEFAULT and MPOL_LOCAL take none, MPOL_BIND and MPOL_INTERLEAVE want some.
+fn fits(mode: u32, nodes: NodeMask) -> bool
+    ensures { result ≡ not (is_misfit mode nodes) }
+{
+    if nodes.is_empty() {
+        mode != MPOL_BIND && mode != MPOL_INTERLEAVE
+    } else {
+        mode != MPOL_DEFAULT && mode != MPOL_LOCAL
+    }
+}
+
+/// Whether a page is not where a policy wants it.
+fn is_astray(policy: &Policy, page: &Located) -> bool
+    ensures { result ≡ not (follows policy.now page.now.node) }
+{
+    !follows(*policy, page.node)
+}
+
+/// The first page that a process sees from one page number up to another and that is not where a policy wants it. It takes
+/// no memory.
+fn stray_from<A: Allocator + Copy + Send + Sync>(
+    machine: &Machine<A>,
+    pid: Pid,
+    first: Vpn,
+    end: Vpn,
+    policy: &Policy,
+) -> Option<Located>
+    ensures some { IfSome result (λ e. strays_between machine.now pid first end policy.now ≡ e ∷ strays_between machine.now pid (e.vpn + 1) end policy.now) }
+    ensures none { IfNone result (strays_between machine.now pid first end policy.now ≡ []) }
+    ensures range { IfSome result (λ e. (first ≤ e.vpn) × (e.vpn < end)) }
+{
+    let mut at = first.number();
+    while let Some(found) = machine.page_from(pid, Vpn::new(at), end) {
+        if is_astray(policy, &found) {
+            return Some(found);
+        }
+        at = found.vpn.number() + 1;
+    }
+    None
+}
+
+/// The pages that a process sees in a range and that are not where the policy wants them, by address, each at its lowest.
+/// It asks for each page of the range that the process sees, and for no page number beside.
+fn astray<A: Allocator + Copy + Send + Sync>(
+    alloc: A,
+    machine: &Machine<A>,
+    binding: Binding,
+) -> Result<Vec<Located, A>, AllocError>
+    ensures list { IfOk result (λ pages. pages.items ≡ astray machine.now binding) }
+    ensures few { IfOk result (λ pages. length pages.items ≤ binding.end - binding.first) }
+{
+    let Binding {
+        pid,
+        first,
+        end,
+        policy,
+    } = binding;
+    let mut seen = BTreeSet::new(alloc);
+    let mut pages = Vec::new(alloc);
+    let mut at = first.number();
+    while let Some(found) = stray_from(machine, pid, Vpn::new(at), end, &policy) {
+        at = found.vpn.number() + 1;
+        if seen.insert(found.page)? {
+            pages.push(found)?;
+        }
+    }
+    Ok(pages)
+}
+
+/// How pages move.
+#[derive(Debug, Drop)]
+enum Way<A: Allocator + Copy> {
+    /// All go to the first of these nodes that has a free frame: a pass for each node.
+    Passes {
+        nodes: Vec<NodeId, A>,
+        wanted: Vec<Wanted, A>,
+    },
+    /// Each goes to a node of its own.
+    Turns(Vec<Request, A>),
+}
+
+/// What is wanted of a page, at the page number at which a process sees it.
+fn spot(pid: Pid, all: bool, vpn: Vpn) -> Wanted
+    ensures { result ≡ At pid vpn all }
+{
+    Wanted::At { pid, vpn, all }
+}
+
+/// Requests for pages at the page numbers at which a process sees them.
+fn spots<A: Allocator + Copy>(
+    alloc: A,
+    pid: Pid,
+    all: bool,
+    pages: &[Located],
+) -> Result<Vec<Wanted, A>, AllocError>
+    ensures { IfOk result (λ wanted. wanted.items ≡ spots pid all pages.now) }
+{
+    pages
+        .iter()
+        .map(|page| spot(pid, all, page.vpn))
+        .collect(alloc)
+}
+
+/// A page as a stray.
+fn stray_of(page: &Located) -> Stray
+    ensures { result ≡ record { vpn = page.now.vpn; page = page.now.page } }
+{
+    Stray {
+        vpn: page.vpn,
+        page: page.page,
+    }
+}
+
+/// Pages as strays.
+fn strays_of<A: Allocator + Copy>(alloc: A, pages: &[Located]) -> Result<Vec<Stray, A>, AllocError>
+    ensures { IfOk result (λ strays. strays.items ≡ strays_of pages.now) }
+{
+    pages.iter().map(|page| stray_of(page)).collect(alloc)
+}
+
+/// The request that sends a page to its node.
+fn sent_to(pid: Pid, all: bool, page: &Sent) -> Request
+    ensures { result ≡ record { target = page.now.to; wanted = At pid page.now.vpn all } }
+{
+    Request {
+        target: page.to,
+        wanted: spot(pid, all, page.vpn),
+    }
+}
+
+/// Requests for page numbers with their nodes.
+fn each_to<A: Allocator + Copy>(
+    alloc: A,
+    pid: Pid,
+    all: bool,
+    targets: &[Sent],
+) -> Result<Vec<Request, A>, AllocError>
+    ensures { IfOk result (λ requests. requests.items ≡ each_to pid all targets.now) }
+{
+    targets
+        .iter()
+        .map(|page| sent_to(pid, all, page))
+        .collect(alloc)
+}
+
+/// Requests for pages that take turns on the nodes of a set.
+fn turns<A: Allocator + Copy>(
+    alloc: A,
+    pid: Pid,
+    all: bool,
+    nodes: NodeMask,
+    pages: &[Located],
+) -> Result<Vec<Request, A>, AllocError>
+    ensures { IfOk result (λ requests. requests.items ≡ each_to pid all (by_turns nodes (strays_of pages.now))) }
+{
+    let strays = strays_of(alloc, pages)?;
+    let targets = mbind_targets(alloc, nodes, strays.as_slice())?;
+    each_to(alloc, pid, all, targets.as_slice())
+}
+
+/// The nodes of a set that are online, by their distance from a node.
+fn by_distance<A: Allocator + Copy + Send + Sync>(
+    alloc: A,
+    machine: &Machine<A>,
+    home: NodeId,
+    nodes: NodeMask,
+) -> Result<Vec<NodeId, A>, AllocError>
+    ensures order { IfOk result (λ order. order.items ≡ filter (is_in nodes) (zonelist (machine.now.layout) machine.now.online home)) }
+    ensures few { IfOk result (λ order. length order.items ≤ 64) }
+{
+    let online = machine.online();
+    let policy = Policy::Bind(nodes);
+    prove!(online.len() <= 64);
+    let order = first_touch_order(alloc, machine.geometry(), online, home, nodes, policy, 0)?;
+    Ok(order)
+}
+
+/// The nodes that a policy tries one after another for all pages: that of MPOL_PREFERRED, and those of MPOL_BIND by their
+/// distance from a process's home node.
+fn nodes_tried<A: Allocator + Copy + Send + Sync>(
+    alloc: A,
+    machine: &Machine<A>,
+    home: NodeId,
+    policy: Policy,
+) -> Result<Vec<NodeId, A>, AllocError>
+    ensures order { IfOk result (λ nodes. nodes.items ≡ nodes_tried machine.now home policy) }
+    ensures few { IfOk result (λ nodes. length nodes.items ≤ 64) }
+{
+    match policy {
+        Policy::Preferred(node) => {
+            let mut nodes = Vec::new(alloc);
+            nodes.push(node)?;
+            Ok(nodes)
+        }
+        Policy::Bind(nodes) => by_distance(alloc, machine, home, nodes),
+        Policy::Default => Ok(Vec::new(alloc)),
+        Policy::Interleave(_) => Ok(Vec::new(alloc)),
+        Policy::Local => Ok(Vec::new(alloc)),
+    }
+}
+
+/// How pages move to where a policy wants them.
+fn way_of<A: Allocator + Copy + Send + Sync>(
+    alloc: A,
+    machine: &Machine<A>,
+    home: NodeId,
+    binding: &Binding,
+    all: bool,
+    pages: &[Located],
+) -> Result<Way<A>, AllocError>
+    requires nodes { AllByRecursion (λ n. n < node_count (machine.now.layout)) (nodes_named binding.now.policy) }
+    requires few { length pages.now ≤ 2 ^ 52 }
+    ensures runs { IfOk result (λ way. (limit : ℕ) (m : Mapped) → runs_in limit (with_areas_of machine.now m) way
+        ≡ runs_by limit (with_areas_of machine.now m) binding.now.policy home binding.now.pid all pages.now) }
+    ensures can_go { IfOk result (CanGo (node_count (machine.now.layout))) }
+{
+    let pid = binding.pid;
+    if let Policy::Interleave(nodes) = binding.policy {
+        return Ok(Way::Turns(turns(alloc, pid, all, nodes, pages)?));
+    }
+    Ok(Way::Passes {
+        nodes: nodes_tried(alloc, machine, home, binding.policy)?,
+        wanted: spots(alloc, pid, all, pages)?,
+    })
+}
+
+/// What came of a batch.
+#[derive(Debug, Drop)]
+struct Made<A: Allocator + Copy> {
+    /// How many runs it had.
+    runs: usize,
+    /// The status of each entry.
+    statuses: Vec<i32, A>,
+}
+
+/// Makes the runs of a batch, none of more entries than the limit.
+#[tactic(auto, using(crate::proofs::Trails::first_state))]
+fn make_batch<R: Threads + Wait + Sync, A: Allocator + Copy + Send + Sync, G: Gate + Sync>(
+    rt: &R,
+    alloc: A,
+    machine: &mut Machine<A>,
+    requests: &[Request],
+    limit: usize,
+    workers: usize,
+    gate: &G,
+) -> Result<Made<A>, CallError>
+    requires some { 0 < limit }
+    requires workers { (0 < workers) × (workers ≤ 64) }
+    requires targets { AllByRecursion (λ e. e.target < node_count (machine.old.layout)) requests.now }
+    requires alike { IsAlike (wanted_of requests.now) }
+    ensures { Batches result machine.old machine.new (cut_within limit requests.now)
+        (λ made ran. (made.runs ≡ length (cut_within limit requests.now)) × (made.statuses.items ≡ ran.statuses)) }
+{
+    let runs = cut_within(alloc, requests, limit)?;
+    let statuses = Vec::with_capacity(alloc, requests.len())?;
+    let moved = move_runs(rt, machine, runs.as_slice(), statuses, workers, gate)?;
+    Ok(Made {
+        runs: runs.len(),
+        statuses: moved.statuses,
+    })
+}
+
+/// The request of something for a node.
+fn to_node(node: NodeId, wanted: &Wanted) -> Request
+    ensures { result ≡ record { target = node; wanted = wanted.now } }
+{
+    Request {
+        target: node,
+        wanted: *wanted,
+    }
+}
+
+/// Requests of all that is wanted for one node.
+fn all_to<A: Allocator + Copy>(
+    alloc: A,
+    node: NodeId,
+    wanted: &[Wanted],
+) -> Result<Vec<Request, A>, AllocError>
+    ensures { IfOk result (λ requests. requests.items ≡ all_to node wanted.now) }
+{
+    wanted.iter().map(|page| to_node(node, page)).collect(alloc)
+}
+
+/// What came of a pass.
+#[derive(Debug, Drop)]
+struct Pass<A: Allocator + Copy> {
+    /// How many runs it had.
+    runs: usize,
+    /// What found no free frame.
+    left: Vec<Wanted, A>,
+}
+
+/// Whether a status is that of a page that found no free frame.
+fn is_short(status: &i32) -> bool
+    ensures { result ≡ int_eq status.now (code Enomem) }
+{
+    *status == -Errno::Enomem.number()
+}
+
+/// Puts what was wanted and found no free frame into a list that has room for it.
+fn put_without_frame<A: Allocator + Copy>(
+    wanted: &[Wanted],
+    statuses: &[i32],
+    left: &mut Vec<Wanted, A>,
+)
+    requires paired { length wanted.now ≡ length statuses.now }
+    requires empty { left.old.items ≡ [] }
+    requires room { length wanted.now ≤ vec_capacity left.old }
+    ensures { left.new.items ≡ without_frame wanted.now statuses.now }
+{
+    for (k, page) in wanted.iter().enumerate() {
+        if is_short(&statuses[k]) {
+            left.push_reserved(*page);
+        }
+    }
+}
+
+/// Makes a pass: all that is wanted goes to one node. All that is asked for is made ready before its first run starts.
+#[tactic(auto, using(crate::proofs::Trails::first_state))]
+fn make_pass<R: Threads + Wait + Sync, A: Allocator + Copy + Send + Sync, G: Gate + Sync>(
+    rt: &R,
+    alloc: A,
+    machine: &mut Machine<A>,
+    node: NodeId,
+    wanted: &[Wanted],
+    limit: usize,
+    workers: usize,
+    gate: &G,
+) -> Result<Pass<A>, CallError>
+    requires some { 0 < limit }
+    requires workers { (0 < workers) × (workers ≤ 64) }
+    requires node { node < node_count (machine.old.layout) }
+    requires alike { IsAlike wanted.now }
+    ensures { Batches result machine.old machine.new (cut_within limit (all_to node wanted.now))
+        (λ pass ran. (pass.runs ≡ length (cut_within limit (all_to node wanted.now)))
+        × (pass.left.items ≡ without_frame wanted.now ran.statuses)) }
+{
+    let requests = all_to(alloc, node, wanted)?;
+    let mut left = Vec::with_capacity(alloc, wanted.len())?;
+    let made = make_batch(
+        rt,
+        alloc,
+        machine,
+        requests.as_slice(),
+        limit,
+        workers,
+        gate,
+    )?;
+    put_without_frame(wanted, made.statuses.as_slice(), &mut left);
+    Ok(Pass {
+        runs: made.runs,
+        left,
+    })
+}
+
+/// Want of memory after more runs, and with the policy set.
+fn later(error: CallError, made: usize) -> CallError
+    requires { IsCounted error made }
+    ensures { result ≡ later error made }
+{
+    match error {
+        CallError::Refused(errno) => CallError::Refused(errno),
+        CallError::HostMemory { runs, .. } => CallError::HostMemory {
+            runs: made + runs,
+            policy_set: true,
+        },
+    }
+}
+
+/// Makes passes over nodes, until all that is wanted has a frame there.
+fn make_passes<R: Threads + Wait + Sync, A: Allocator + Copy + Send + Sync, G: Gate + Sync>(
+    rt: &R,
+    alloc: A,
+    machine: &mut Machine<A>,
+    nodes: &[NodeId],
+    wanted: Vec<Wanted, A>,
+    limit: usize,
+    workers: usize,
+    gate: &G,
+) -> Result<(), CallError>
+    requires some { 0 < limit }
+    requires workers { (0 < workers) × (workers ≤ 64) }
+    requires nodes { All (λ n. n < node_count (machine.old.layout)) nodes.now }
+    requires passes { length nodes.now ≤ 64 }
+    requires alike { IsAlike wanted.items }
+    requires pages { length wanted.items ≤ 2 ^ 52 }
+    ensures { MakesRuns result machine.old machine.new (passes limit machine.old nodes.now wanted.items) }
+{
+    let mut left = wanted;
+    let mut made = 0;
+    for node in nodes {
+        if left.is_empty() {
+            return Ok(());
+        }
+        let pass = match make_pass(
+            rt,
+            alloc,
+            machine,
+            *node,
+            left.as_slice(),
+            limit,
+            workers,
+            gate,
+        ) {
+            Ok(pass) => pass,
+            Err(error) => return Err(later(error, made)),
+        };
+        made += pass.runs;
+        left = pass.left;
+    }
+    Ok(())
+}
+
+/// Makes moves.
+fn make<R: Threads + Wait + Sync, A: Allocator + Copy + Send + Sync, G: Gate + Sync>(
+    rt: &R,
+    alloc: A,
+    machine: &mut Machine<A>,
+    way: Way<A>,
+    limit: usize,
+    workers: usize,
+    gate: &G,
+) -> Result<(), CallError>
+    requires some { 0 < limit }
+    requires workers { (0 < workers) × (workers ≤ 64) }
+    requires can_go { CanGo (node_count (machine.old.layout)) way }
+    ensures { MakesRuns result machine.old machine.new (runs_in limit machine.old way) }
+{
+    match way {
+        Way::Passes { nodes, wanted } => {
+            make_passes(
+                rt,
+                alloc,
+                machine,
+                nodes.as_slice(),
+                wanted,
+                limit,
+                workers,
+                gate,
+            )
+        }
+        Way::Turns(requests) => {
+            if requests.is_empty() {
+                return Ok(());
+            }
+            match make_batch(
+                rt,
+                alloc,
+                machine,
+                requests.as_slice(),
+                limit,
+                workers,
+                gate,
+            ) {
+                Ok(_) => Ok(()),
+                Err(error) => Err(later(error, 0)),
+            }
+        }
+    }
+}
+
+/// Whether a page is not where a policy wants it, wherever it has gone since it was found.
+fn strays_now<A: Allocator + Copy + Send + Sync>(
+    machine: &Machine<A>,
+    policy: &Policy,
+    found: &Located,
+) -> bool
+    ensures { result ≡ strays machine.now policy.now found.now }
+{
+    match machine.node_of_page(found.page) {
+        Some(node) => !follows(*policy, node),
+        None => false,
+    }
+}
+
+/// Whether one of these pages is not where a policy wants it.
+fn some_stray<A: Allocator + Copy + Send + Sync>(
+    machine: &Machine<A>,
+    policy: &Policy,
+    pages: &[Located],
+) -> bool
+    ensures { result ≡ list_any (strays machine.now policy.now) pages.now }
+{
+    pages.iter().any(|found| strays_now(machine, policy, found))
+}
+
+/// What a caller asks for with a mode, a set of nodes and flags.
+#[derive(Clone, Copy, Debug)]
+pub(crate) struct Asked {
+    /// The policy, with the nodes that are kept: those that are online and that the caller may use.
+    pub(crate) policy: Policy,
+    /// The caller's home node.
+    pub(crate) home: NodeId,
+    /// The flags.
+    pub(crate) flags: MoveFlags,
+}
+
+/// What is online of a set, and may be used by a process.
+#[tactic(auto, using(crate::proofs::Reach::usable_is))]
+fn usable<A: Allocator + Copy + Send + Sync>(
+    machine: &Machine<A>,
+    allowed: NodeMask,
+    nodes: NodeMask,
+) -> NodeMask
+    ensures { result ≡ usable machine.now allowed nodes }
+{
+    nodes.intersection(machine.online()).intersection(allowed)
+}
+
+/// Whether a mode is unknown, or nodes do not fit it, or one of them is none of the machine, or none of them is online and
+/// may be used.
+fn is_bad_set<A: Allocator + Copy + Send + Sync>(
+    machine: &Machine<A>,
+    allowed: NodeMask,
+    mode: u32,
+    nodes: NodeMask,
+) -> bool
+    ensures { result ≡ is_bad_set machine.now allowed mode nodes }
+{
+    if mode > MPOL_LOCAL || !fits(mode, nodes) || machine.names_no_node(nodes) {
+        return true;
+    }
+    nodes.len() != 0 && usable(machine, allowed, nodes).len() == 0
+}
+
+/// What a caller asks for. ESRCH (no such caller); EINVAL (a flag or a mode that is unknown, nodes that do not fit the mode,
+/// a node that is none of the machine, no node that is online and that the caller may use); EPERM (MPOL_MF_MOVE_ALL
+/// without privilege).
+fn asked_of<A: Allocator + Copy + Send + Sync>(
+    machine: &Machine<A>,
+    caller: Pid,
+    mode: u32,
+    nodes: NodeMask,
+    flags: u32,
+) -> Result<Asked, Errno>
+    ensures exact { Checks result (mode_refusal machine.now (info_at machine.now caller) mode nodes flags) }
+    ensures policy { IfOk result (λ asked. asked.policy ≡ policy_of mode (usable machine.now (allowed_to (info_at machine.now caller)) nodes)) }
+    ensures home { IfOk result (λ asked. asked.home ≡ home_of (info_at machine.now caller)) }
+    ensures flags { IfOk result (λ asked. asked.flags ≡ flags) }
+    ensures nodes { IfOk result (λ asked. AllByRecursion (λ n. n < node_count (machine.now.layout)) (nodes_named asked.policy)) }
+{
+    let Some(asking) = machine.process(caller) else {
+        return Err(Errno::Esrch);
+    };
+    let ProcessInfo {
+        allowed,
+        home,
+        privileged,
+        ..
+    } = asking;
+    let flags = MoveFlags::from_bits(flags).ok_or(Errno::Einval)?;
+    if is_bad_set(machine, allowed, mode, nodes) {
+        return Err(Errno::Einval);
+    }
+    if flags.moves_all() && !privileged {
+        return Err(Errno::Eperm);
+    }
+    Ok(Asked {
+        policy: policy_of(mode, usable(machine, allowed, nodes)),
+        home,
+        flags,
+    })
+}
+
+/// Whether flags ask for moves.
+fn wants_moves(flags: MoveFlags) -> bool
+    ensures { result ≡ moves flags }
+{
+    flags.moves() || flags.moves_all()
+}
+
+/// The range of a policy. EINVAL and EFAULT as for `Machine::check_policy`; EIO (MPOL_MF_STRICT alone, and a page that the
+/// caller sees in the range is not where the policy wants it).
+fn binding_of<A: Allocator + Copy + Send + Sync>(
+    machine: &Machine<A>,
+    caller: Pid,
+    addr: u64,
+    len: u64,
+    policy: Policy,
+    flags: MoveFlags,
+) -> Result<Binding, Errno>
+    ensures exact { Checks result (range_refusal machine.now caller addr len policy flags) }
+    ensures range { IfOk result (λ b. b ≡ range_of caller addr len policy) }
+{
+    machine.check_policy(caller, addr, len)?;
+    let first = Vpn::of_address(addr);
+    let end = Vpn::new(first.number() + len.div_ceil(4096));
+    if flags.is_strict()
+        && !wants_moves(flags)
+        && stray_from(machine, caller, first, end, &policy).is_some()
+    {
+        return Err(Errno::Eio);
+    }
+    Ok(Binding {
+        pid: caller,
+        first,
+        end,
+        policy,
+    })
+}
+
+/// What a call asks for, and the range of its policy. The refusals of `asked_of`, and then those of `binding_of`.
+pub(crate) fn ready<A: Allocator + Copy + Send + Sync>(
+    machine: &Machine<A>,
+    caller: Pid,
+    addr: u64,
+    len: u64,
+    mode: u32,
+    nodes: NodeMask,
+    flags: u32,
+) -> Result<(Asked, Binding), Errno>
+    ensures exact { Checks result (mbind_refusal machine.now caller addr len mode nodes flags) }
+    ensures free { IfOk result (λ r. policy_refusal machine.now caller addr len ≡ None) }
+    ensures binding { IfOk result (λ r. r.1 ≡ binding machine.now caller addr len mode nodes) }
+    ensures home { IfOk result (λ r. r.0.home ≡ home_of (info_at machine.now caller)) }
+    ensures flags { IfOk result (λ r. r.0.flags ≡ flags) }
+    ensures nodes { IfOk result (λ r. AllByRecursion (λ n. n < node_count (machine.now.layout)) (nodes_named r.1.policy)) }
+    ensures few { IfOk result (λ r. r.1.end - r.1.first ≤ 2 ^ 52) }
+{
+    let asked = asked_of(machine, caller, mode, nodes, flags)?;
+    let Asked { policy, flags, .. } = asked;
+    let binding = binding_of(machine, caller, addr, len, policy, flags)?;
+    Ok((asked, binding))
+}
+
+/// The pages that are to move: none without a flag to move.
+fn listed<A: Allocator + Copy + Send + Sync>(
+    alloc: A,
+    machine: &Machine<A>,
+    binding: &Binding,
+    flags: MoveFlags,
+) -> Result<Vec<Located, A>, AllocError>
+    ensures list { IfOk result (λ pages. pages.items ≡ listed machine.now binding.now flags) }
+    ensures few { IfOk result (λ pages. length pages.items ≤ binding.now.end - binding.now.first) }
+{
+    if wants_moves(flags) {
+        return astray(alloc, machine, *binding);
+    }
+    Ok(Vec::new(alloc))
+}
+
+/// Whether MPOL_MF_STRICT asks for an error, since one of these pages is not where a policy wants it.
+fn is_late<A: Allocator + Copy + Send + Sync>(
+    machine: &Machine<A>,
+    policy: &Policy,
+    pages: &[Located],
+    flags: MoveFlags,
+) -> bool
+    ensures { result ≡ (is_strict flags && list_any (strays machine.now policy.now) pages.now) }
+{
+    flags.is_strict() && some_stray(machine, policy, pages)
+}
+
+/// Sets a policy, and moves the pages of its range that are not where it wants them, where the flags ask for it. All that is
+/// asked for before the policy is set is made ready before. EIO (MPOL_MF_STRICT and a flag to move, and a page is not where
+/// the policy wants it after the moves, which stay).
+pub(crate) fn bind<R: Threads + Wait + Sync, A: Allocator + Copy + Send + Sync, G: Gate + Sync>(
+    rt: &R,
+    alloc: A,
+    machine: &mut Machine<A>,
+    binding: &Binding,
+    asked: Asked,
+    addr: u64,
+    len: u64,
+    limit: usize,
+    workers: usize,
+    gate: &G,
+) -> Result<(), CallError>
+    requires some { 0 < limit }
+    requires workers { (0 < workers) × (workers ≤ 64) }
+    requires free { policy_refusal machine.old binding.now.pid addr len ≡ None }
+    requires nodes { AllByRecursion (λ n. n < node_count (machine.old.layout)) (nodes_named binding.now.policy) }
+    requires home { asked.home ≡ home_of (info_at machine.old binding.now.pid) }
+    requires few { binding.now.end - binding.now.first ≤ 2 ^ 52 }
+    ensures { Binds result machine.old (set_policy machine.old binding.now.pid addr len binding.now.policy) machine.new binding.now
+        (mbind_runs limit (set_policy machine.old binding.now.pid addr len binding.now.policy) binding.now asked.flags) asked.flags }
+{
+    let Asked { home, flags, .. } = asked;
+    let all = flags.moves_all();
+    let pages = listed(alloc, machine, binding, flags)?;
+    let way = way_of(alloc, machine, home, binding, all, pages.as_slice())?;
+    machine.set_policy(binding.pid, addr, len, binding.policy)?;
+    if let Err(error) = make(rt, alloc, machine, way, limit, workers, gate) {
+        return Err(error);
+    }
+    if is_late(machine, &binding.policy, pages.as_slice(), flags) {
+        return Err(CallError::Refused(Errno::Eio));
+    }
+    Ok(())
+}
