@@ -21,14 +21,6 @@ use Rattle.nm_calls.specs.Making.{Stops, Fails, Binds}
 use Rattle.nm_calls.proofs.Trails.{states_are}
 use Rattle.nm_calls.proofs.Outcomes.{answers, refuses}
 
-some_none : (e : Errno) → Some e ≡ None → ⊥
-some_none e h = let z : ⊥ = cc in absurd z
-
--- where the earlier of two refusals is none, neither is one
-pub neither : (a b : Option Errno) → earlier a b ≡ None → (a ≡ None) × (b ≡ None)
-neither None b h = (refl, h)
-neither (Some e) b h = absurd (some_none e h)
-
 -- a length of 64 bits has at most 2^52 pages
 pub pages_few : (first len : ℕ) → len < 2 ^ 64 → first + pages_of len - first ≤ 2 ^ 52
 pages_few first len lt = omega (arith, lt)

@@ -5,7 +5,7 @@ use Rattle.nm_types.specs.Layout.{node_count}
 use Rattle.nm_runs.specs.Targets.{earlier}
 use Rattle.nm_calls.specs.Binding.{range_of, range_refusal, mbind_refusal}
 use Rattle.nm_calls.specs.Making.{nodes_named}
-use Rattle.nm_calls.proofs.Bound.{neither, pages_few}
+use Rattle.nm_calls.proofs.Bound.{pages_few}
 use Rattle.nm_calls.proofs.binding.ready.Goals as goal
 
 pub returns-clause-few : goal.returns-clause-few
