@@ -158,6 +158,18 @@ def told_pages(size):
     return trace([8192, 8192], steps + [numa_maps()] * 50)
 
 
+def bind(node):
+    return '{"op":"mbind","caller":1,"addr":0,"len":%d,"mode":2,"nodes":[%d],"flags":2}' % (2**34 * PAGE, node)
+
+
+def bound_pages(size):
+    """One area of 2^34 pages, of which so many thousand are touched, far from one another, and bound to the other node 50
+    times: those that are not there move as far as it has room."""
+    steps = [map_step(0, 2**34)]
+    steps += [write(PAGE * (number * 7919 * 1021 % 2**34)) for number in range(size * 1000)]
+    return trace([8192, 8192], steps + [bind(1 - number % 2) for number in range(50)])
+
+
 def many_areas(size):
     """So many thousand areas of one page, each touched when it is made."""
     steps = []
@@ -294,6 +306,7 @@ KINDS = {
     long_batches: 2,
     sparse_touches: 16,
     told_pages: 2,
+    bound_pages: 2,
     many_areas: 7,
     many_runs: 4,
     shared_moves: 50,

@@ -1,33 +1,23 @@
 -- What a call that sets a policy comes to.
-use Rattle.std.proofs.Common.{◌≡◌, ◌<◌, ◌≤◌, ◌+◌, ◌^◌, ℕ, Bool, true, false, ◌&&◌, Option, Some, None, List, [], ◌∷◌, inl, inr, length, refl, sym, ap, subst, ◌∙◌, arith, slice_index_or, Result, Ok, Err}
-use Rattle.std.specs.Prelude.{◌/◌, ◌-◌}
+use Rattle.std.proofs.Common.{◌≡◌, ◌<◌, ◌≤◌, ◌+◌, ◌^◌, ℕ, Bool, true, false, ◌&&◌, Some, None, List, [], inl, inr, length, refl, sym, ap, subst, ◌∙◌, arith, slice_index_or, Result, Ok, Err}
+use Rattle.std.specs.Prelude.{◌-◌}
 use Rattle.std.specs.Result.{IsErr, IsErrAnd}
 use Rattle.std.proofs.lemmas.Bool.{false≢true}
 use Rattle.nm_types.specs.declared.errno.Errno.{Errno}
-use Rattle.nm_types.specs.declared.errno.Errno.TheVariants.{Eio}
 use Rattle.nm_types.specs.State.{State}
 use Rattle.nm_runs.specs.Cut.{Stretch}
-use Rattle.nm_runs.specs.Targets.{earlier}
 use Rattle.nm_engine.specs.Batch.{runs_from}
-use Rattle.nm_engine.specs.Policing.{set_policy, pages_of}
+use Rattle.nm_engine.specs.Policing.{pages_of}
 use Rattle.nm_calls.specs.declared.call_error.CallError.{CallError}
 use Rattle.nm_calls.specs.declared.call_error.CallError.TheVariants.{Refused, HostMemory}
 use Rattle.nm_calls.specs.Calls.{Call, Mbind, Refusal, Failed}
 use Rattle.nm_calls.specs.Systems.{SystemState, in_state}
 use Rattle.nm_calls.specs.Binding.{mbind_refusal, binding, mbind_runs, policed, tells_late, still_strays}
-use Rattle.nm_calls.specs.Outcome.{refused, refused_at_once, start, started, sets_policy, runs_asked, runs_of, runs_unless, ended, outcome, late_answer, leaves, states_of, trail, after_runs}
+use Rattle.nm_calls.specs.Outcome.{refused, refused_at_once, start, started, sets_policy, runs_asked, runs_of, runs_unless, ended, outcome, late_answer, leaves, states_of, trail}
 use Rattle.nm_calls.specs.Does.{Does, LeavesSome}
-use Rattle.nm_calls.specs.Making.{Stops, Fails, Binds}
+use Rattle.nm_calls.specs.Making.{Stops, Binds}
 use Rattle.nm_calls.proofs.Trails.{states_are}
 use Rattle.nm_calls.proofs.Outcomes.{answers, refuses}
-
-some_none : (e : Errno) → Some e ≡ None → ⊥
-some_none e h = let z : ⊥ = cc in absurd z
-
--- where the earlier of two refusals is none, neither is one
-pub neither : (a b : Option Errno) → earlier a b ≡ None → (a ≡ None) × (b ≡ None)
-neither None b h = (refl, h)
-neither (Some e) b h = absurd (some_none e h)
 
 -- a length of 64 bits has at most 2^52 pages
 pub pages_few : (first len : ℕ) → len < 2 ^ 64 → first + pages_of len - first ≤ 2 ^ 52

@@ -10,7 +10,7 @@ use Rattle.nm_runs.specs.Status.{code}
 use Rattle.nm_runs.specs.Cut.{Request, Stretch, all_to, joined, size_of, wanted_of}
 use Rattle.nm_runs.specs.Limit.{cut_within}
 use Rattle.nm_runs.proofs.Pieces.{each_limit_cuts}
-use Rattle.std.specs.Prelude.{◌-◌, ◌^◌, ◌==◌, drop, Err}
+use Rattle.std.specs.Prelude.{◌^◌, ◌==◌, drop, Err}
 use Rattle.std.proofs.lemmas.Bool.{eqb-true, eq-eqb, cases_lt}
 use Rattle.nm_types.proofs.Cases.{true_false}
 use Rattle.std.proofs.Math.Seq.{drop-cons}

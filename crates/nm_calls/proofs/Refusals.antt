@@ -1,5 +1,5 @@
 -- A call that is refused leaves the system as it was.
-use Rattle.std.proofs.Common.{◌≡◌, Bool, true, false, Option, Some, None, List, [], refl, ap, sym, inl, inr, ◌∙◌}
+use Rattle.std.proofs.Common.{◌≡◌, Bool, true, false, Option, Some, None, [], refl, ap, sym, inl, inr, ◌∙◌}
 use Rattle.std.proofs.lemmas.Bool.{true≢false}
 use Rattle.nm_types.specs.declared.errno.Errno.{Errno}
 use Rattle.nm_engine.specs.Touch as engine
@@ -8,7 +8,7 @@ use Rattle.nm_engine.specs.Run.{Ran}
 use Rattle.nm_engine.specs.Batch.{runs_from}
 use Rattle.nm_calls.specs.Calls.{Call, Spawn, MapPages, Attach, Unmap, Exit, Pin, Unpin, ReadBytes, WriteBytes, MovePages, MigratePages, Query, FreeList, Pagemap, Vmstat, NumaMaps, Mbind, Answer, Refusal, Done, Held, Failed, NewSegment, TheBytes, Statuses, Frames, Entries, TheTotals, Lines}
 use Rattle.nm_calls.specs.Systems.{SystemState}
-use Rattle.nm_calls.specs.Outcome.{Outcome, refusal_in, shown, refused, start, runs_asked, ended, unless, late_answer}
+use Rattle.nm_calls.specs.Outcome.{refusal_in, shown, refused, start, runs_asked, ended, unless, late_answer}
 use Rattle.std.specs.Prelude.{◌⊎◌, ◌&&◌, if◌then◌else◌}
 use Rattle.nm_types.specs.declared.errno.Errno.TheVariants.{Eio}
 use Rattle.nm_calls.specs.Binding.{binding, still_strays, tells_late}

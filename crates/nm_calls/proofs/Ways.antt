@@ -1,7 +1,6 @@
 -- How the pages of a policy move.
-use Rattle.std.proofs.Common.{arith, ◌≡◌, ℕ, suc, ◌<◌, ◌≤◌, Bool, true, false, cond, List, [], ◌∷◌, ◌++◌, length, map, refl, sym, ap, subst, ◌∙◌}
+use Rattle.std.proofs.Common.{◌≡◌, ℕ, suc, Bool, true, false, cond, List, [], ◌∷◌, ◌++◌, length, map, refl, sym, ap, subst}
 use Rattle.std.proofs.lemmas.Bool.{eqb-true}
-use Rattle.std.proofs.lemmas.List.{length-map}
 use Rattle.std.specs.Prelude.{◌==◌}
 use Rattle.std.specs.List.{AllByRecursion, filter, flat_map}
 use Rattle.nm_types.specs.declared.area.Policy.{Policy}
@@ -13,8 +12,7 @@ use Rattle.nm_policy.specs.declared.targets.Sent.{Sent}
 use Rattle.nm_policy.specs.declared.targets.Stray.{Stray}
 use Rattle.nm_policy.specs.Order.{zonelist}
 use Rattle.nm_policy.specs.Turns.{sent, sent_to, by_turns}
-use Rattle.nm_runs.specs.declared.Wanted.{Wanted}
-use Rattle.nm_runs.specs.Cut.{Request, wanted_of}
+use Rattle.nm_runs.specs.Cut.{wanted_of}
 use Rattle.nm_engine.specs.declared.located.Located.{Located}
 use Rattle.nm_engine.specs.Effect.{with_areas_of}
 use Rattle.nm_engine.specs.Run.{IsByAddress}

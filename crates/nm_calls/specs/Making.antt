@@ -10,14 +10,13 @@ use Rattle.nm_runs.specs.Cut.{Stretch, wanted_of}
 use Rattle.nm_runs.specs.Limit.{cut_within}
 use Rattle.nm_engine.specs.Run.{Ran, IsByAddress}
 use Rattle.nm_engine.specs.Batch.{runs_from}
-use Rattle.nm_engine.specs.Policing.{set_policy}
 use Rattle.nm_calls.specs.declared.binding.Binding.{Binding}
 use Rattle.nm_calls.specs.declared.binding.Way.{Way}
 use Rattle.nm_calls.specs.declared.binding.Way.TheVariants.{Passes, Turns}
 use Rattle.nm_calls.specs.declared.call_error.CallError.{CallError}
 use Rattle.nm_calls.specs.declared.call_error.CallError.TheVariants.{Refused, HostMemory}
 use Rattle.nm_calls.specs.Passes.{passes}
-use Rattle.nm_calls.specs.Binding.{mbind_runs, still_strays, tells_late}
+use Rattle.nm_calls.specs.Binding.{still_strays, tells_late}
 use Rattle.nm_calls.specs.Outcome.{states_of}
 
 -- the runs of moves

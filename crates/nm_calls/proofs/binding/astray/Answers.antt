@@ -1,4 +1,4 @@
-use Rattle.std.proofs.Common.{◌≡◌, ℕ, List, ◌≤◌, ◌+◌, ◌-◌, ◌++◌, ◌∷◌, [], length, sym, ap, subst, ◌∙◌, arith, length-append}
+use Rattle.std.proofs.Common.{ℕ, List, ◌+◌, ◌∷◌, [], length, sym, ap, subst, ◌∙◌, arith, length-append}
 use Rattle.nm_engine.specs.declared.located.Located.{Located}
 use Rattle.nm_calls.specs.Binding.{strays_between}
 use Rattle.nm_calls.proofs.Strays.{HaveListed, one_listed, one_again, not_true, not_false}

@@ -1,4 +1,4 @@
-use Rattle.std.proofs.Common.{◌≡◌, ◌≤◌, ◌+◌, ◌-◌, length}
+use Rattle.std.proofs.Common.{◌≤◌, ◌-◌, length}
 use Rattle.nm_calls.specs.Binding.{strays_between}
 use Rattle.nm_calls.proofs.Strays.{HaveListed}
 use Rattle.nm_calls.proofs.binding.astray.Given as goal

@@ -1,4 +1,4 @@
-use Rattle.std.proofs.Common.{◌≡◌, ◌<◌, [], length, ap, sym, subst, refl, ◌∙◌}
+use Rattle.std.proofs.Common.{◌<◌, [], length, ap, sym, subst, ◌∙◌}
 use Rattle.nm_runs.specs.Limit.{cut_within}
 use Rattle.std.proofs.lemmas.List.{append-nil}
 use Rattle.nm_calls.specs.Making.{Stops, runs_in}

@@ -1,7 +1,6 @@
-use Rattle.std.proofs.Common.{arith, ◌<◌, ap, ◌∙◌, length}
+use Rattle.std.proofs.Common.{arith, ap, ◌∙◌}
 use Rattle.nm_types.specs.Layout.{node_count}
 use Rattle.nm_runs.specs.Cut.{stretches_of}
-use Rattle.nm_runs.specs.Limit.{cut_within}
 use Rattle.nm_calls.proofs.Requests.{run_targets, run_entries, run_kinds}
 use Rattle.nm_calls.proofs.Passing.{alike_requests}
 use Rattle.nm_calls.proofs.binding.make_batch.Goals as goal

@@ -1,4 +1,4 @@
-use Rattle.std.proofs.Common.{◌≡◌, ◌<◌, ap, sym, subst, ◌∙◌, length}
+use Rattle.std.proofs.Common.{◌<◌, ap, sym, subst, ◌∙◌, length}
 use Rattle.std.specs.List.{AllByRecursion}
 use Rattle.nm_types.specs.Layout.{node_count}
 use Rattle.nm_runs.specs.Cut.{wanted_of}

@@ -1,14 +1,11 @@
-use Rattle.std.proofs.Common.{◌≡◌, ◌<◌, ◌≤◌, ◌+◌, ◌++◌, ◌∷◌, [], List, drop, length, ap, sym, subst, refl, ◌∙◌, arith}
-use Rattle.std.proofs.Math.Seq.{drop-cons}
+use Rattle.std.proofs.Common.{◌<◌, ◌+◌, [], drop, length, ap, sym, subst, ◌∙◌, arith}
 use Rattle.nm_types.specs.Layout.{node_count}
-use Rattle.nm_types.specs.State.{State}
-use Rattle.nm_runs.specs.declared.Wanted.{Wanted}
-use Rattle.nm_runs.specs.Cut.{Stretch, all_to}
+use Rattle.nm_runs.specs.Cut.{all_to}
 use Rattle.nm_runs.specs.Limit.{cut_within}
 use Rattle.nm_engine.specs.Batch.{runs_from}
 use Rattle.nm_calls.specs.Passes.{passes, without_frame}
 use Rattle.nm_calls.specs.Making.{IsAlike}
-use Rattle.nm_calls.proofs.Passing.{HavePassed, none_passed, more_passed, all_passed, passes_none, passes_at, few_runs, some_run_of, to_node_length, counted_later, stopped_later, alike_left, fewer_left, runs_layout, nothing_is, something_is}
+use Rattle.nm_calls.proofs.Passing.{HavePassed, more_passed, all_passed, passes_none, passes_at, few_runs, some_run_of, to_node_length, counted_later, stopped_later, alike_left, fewer_left, runs_layout, nothing_is, something_is}
 use Rattle.nm_calls.proofs.binding.make_passes.Goals as goal
 
 pub returns-then-is_empty : goal.returns-then-is_empty

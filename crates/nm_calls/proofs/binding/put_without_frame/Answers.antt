@@ -1,4 +1,4 @@
-use Rattle.std.proofs.Common.{pos, ◌≡◌, ◌≤◌, ◌++◌, ◌∷◌, [], cond, length, take, sym, ap, subst, ◌∙◌, arith, vec_capacity, length-append}
+use Rattle.std.proofs.Common.{pos, ◌≤◌, ◌++◌, ◌∷◌, [], cond, length, take, sym, ap, subst, ◌∙◌, arith, vec_capacity, length-append}
 use Rattle.std.proofs.lemmas.List.{append-nil}
 use Rattle.nm_calls.specs.Passes.{without_frame}
 use Rattle.nm_calls.proofs.Passing.{one_more_left}

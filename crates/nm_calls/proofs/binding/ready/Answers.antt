@@ -1,11 +1,6 @@
-use Rattle.std.proofs.Common.{◌≡◌, ◌<◌, ◌≤◌, ◌^◌, None, ap, sym, subst, ◌∙◌}
+use Rattle.std.proofs.Common.{◌≤◌, ◌^◌, sym, subst}
 use Rattle.std.specs.Prelude.{◌-◌}
-use Rattle.std.specs.List.{AllByRecursion}
-use Rattle.nm_types.specs.Layout.{node_count}
-use Rattle.nm_runs.specs.Targets.{earlier}
-use Rattle.nm_calls.specs.Binding.{range_of, range_refusal, mbind_refusal}
-use Rattle.nm_calls.specs.Making.{nodes_named}
-use Rattle.nm_calls.proofs.Bound.{neither, pages_few}
+use Rattle.nm_calls.proofs.Bound.{pages_few}
 use Rattle.nm_calls.proofs.binding.ready.Goals as goal
 
 pub returns-clause-few : goal.returns-clause-few

@@ -1,5 +1,4 @@
-use Rattle.std.proofs.Common.{◌≡◌, ◌<◌, ◌≤◌, ◌^◌, ap, sym, subst, ◌∙◌, arith, length}
-use Rattle.std.specs.Prelude.{All}
+use Rattle.std.proofs.Common.{◌<◌, ap, sym, subst, ◌∙◌, arith, length}
 use Rattle.std.specs.List.{AllByRecursion}
 use Rattle.std.proofs.lemmas.List.Elements.{All-from_recursion}
 use Rattle.nm_types.specs.Layout.{node_count}
@@ -7,7 +6,7 @@ use Rattle.nm_runs.specs.Cut.{wanted_of}
 use Rattle.nm_policy.specs.Turns.{by_turns}
 use Rattle.nm_engine.specs.Effect.{with_areas_of}
 use Rattle.nm_calls.specs.Passes.{passes}
-use Rattle.nm_calls.specs.Binding.{nodes_tried, strays_of, each_to}
+use Rattle.nm_calls.specs.Binding.{nodes_tried, strays_of}
 use Rattle.nm_calls.specs.Making.{IsAlike, nodes_named}
 use Rattle.nm_calls.proofs.Ways.{turns_go, turns_alike, tried_all, spots_alike, spots_length, passes_by}
 use Rattle.nm_calls.proofs.binding.way_of.Goals as goal

@@ -1,4 +1,4 @@
-use Rattle.std.proofs.Common.{◌≡◌, ℕ, Some, sym, subst, ◌∙◌}
+use Rattle.std.proofs.Common.{◌≡◌, ℕ, Some, subst}
 use Rattle.nm_engine.specs.Policing.{set_policy}
 use Rattle.nm_calls.specs.declared.binding.Binding.{Binding}
 use Rattle.nm_calls.specs.Calls.{Mbind, Failed}
