@@ -1,5 +1,6 @@
 pub mod Joined
 pub mod Bits
+pub mod Words
 pub mod Changed
 pub mod Nodes
 pub mod Walks

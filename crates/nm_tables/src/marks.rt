@@ -1,6 +1,7 @@
 //! Marks at the places of a leaf.
 
-ghost use Rattle.std.specs.Prelude.{◌≡◌, ◌<◌, ◌/◌, ◌==◌, ℕ, false, IsTrue, if◌then◌else◌};
+ghost use Rattle.std.specs.Prelude.{◌≡◌, ◌<◌, ◌+◌, ◌%◌, ◌==◌, ℕ, false, if◌then◌else◌};
+ghost use Rattle.std.specs.Int.{bit_at};
 ghost use Rattle.nm_tables.specs.Marks.{is_marked};
 
 /// Which of the 512 places of a leaf are marked: a bit for each.
@@ -25,12 +26,12 @@ impl Marks {
         (self.words[place / 64] >> (place % 64)) & 1 == 1
     }
 
-    /// Whether no place of the 64 that share a word with this one is marked.
-    pub(crate) fn has_none_around(&self, place: usize) -> bool
+    /// The marks from a place to the end of its word, its own in the lowest bit.
+    pub(crate) fn rest_of_word(&self, place: usize) -> u64
         requires { place < 512 }
-        ensures { IsTrue result → (i : ℕ) → i / 64 ≡ place / 64 → is_marked self.now.words i ≡ false }
+        ensures { (j : ℕ) → place % 64 + j < 64 → is_marked self.now.words (place + j) ≡ (bit_at result j == 1) }
     {
-        self.words[place / 64] == 0
+        self.words[place / 64] >> (place % 64)
     }
 
     /// Marks a place, or takes its mark away.

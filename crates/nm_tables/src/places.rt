@@ -1,6 +1,6 @@
 //! The places of a leaf.
 
-ghost use Rattle.std.specs.Prelude.{◌≡◌, ◌≤◌, ◌<◌, ◌/◌, ℕ, IsTrue, None, Some, IfSome, IfNone};
+ghost use Rattle.std.specs.Prelude.{◌≡◌, ◌≤◌, ◌<◌, ◌+◌, ℕ, None, Some, IfSome, IfNone};
 ghost use Rattle.nm_tables.specs.Leaves.{entry_of, stands_at};
 
 use crate::entry::Entry;
@@ -97,8 +97,9 @@ impl Places {
     {
         let mut place = from;
         while place < 512 {
-            if place % 64 == 0 && self.is_bare_around(place) {
-                place += 64;
+            let absent = self.count_absent(place);
+            if absent > 0 {
+                place += absent;
             } else {
                 if let Some(entry) = self.get(place) {
                     return Some((place, entry));
@@ -109,11 +110,17 @@ impl Places {
         None
     }
 
-    /// Whether the 64 places that share a word of marks with this one are absent.
-    fn is_bare_around(&self, place: usize) -> bool
+    /// How many places from this one on are absent, counted to the end of its word of marks.
+    fn count_absent(&self, place: usize) -> usize
         requires { place < 512 }
-        ensures { IsTrue result → (i : ℕ) → i / 64 ≡ place / 64 → stands_at self.now i ≡ None }
+        ensures absent { (i : ℕ) → place ≤ i → i < place + result → stands_at self.now i ≡ None }
+        ensures fits { place + result ≤ 512 }
     {
-        self.named.has_none_around(place) && self.marked.has_none_around(place)
+        let left = 64 - place % 64;
+        let word = self.named.rest_of_word(place) | self.marked.rest_of_word(place);
+        if word == 0 {
+            return left;
+        }
+        left.min(word.trailing_zeros() as usize)
     }
 }
