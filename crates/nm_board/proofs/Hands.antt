@@ -165,12 +165,12 @@ module _ {A : Type 0} where
 
   pub gives_at : (jobs : List (CopyJob A)) (slots id : ℕ) (m n : Mine A) (j laid : CopyJob A) (shares : ℕ) (past : Bool) → Fits m shares past → slice_get (tickets m.1) 0 ≡ Some j.ticket
       → get_elem? jobs j.ticket ≡ some laid → j ≡ copied laid
-      → n ≡ (m.0, (j.ticket, Some j) ∷ rest m.1) → Allows (IsKept jobs) slots id n 1 (λ k. (k + 1) % 2 ^ 64) (Gives (step slots 1 1 0 Opt.none) n)
+      → n ≡ (m.0, (j.ticket, Some j) ∷ rest m.1) → Allows (IsKept jobs) slots id n 8 (λ k. (k + 1) % 2 ^ 64) (Gives (step slots 8 1 0 Opt.none) n)
   gives_at jobs slots id m n j laid shares past f last here is now =
       let top = front_is m.1 j.ticket last in
       let less = out_drawn m j.ticket shares past top.0 (rest m.1) f top.1 in
       let now' : n ≡ (m.0, (j.ticket, Some (copied laid)) ∷ rest m.1) = now ∙ ap (λ (x : CopyJob A). (m.0, (j.ticket, Some x) ∷ rest m.1)) is in
-      subst (λ (z : Mine A). Allows (IsKept jobs) slots id z 1 (λ k. (k + 1) % 2 ^ 64) (Gives (step slots 1 1 0 Opt.none) z)) (sym now') (gives_back jobs slots id j.ticket m.0 laid (rest m.1) here less.0 less.1)
+      subst (λ (z : Mine A). Allows (IsKept jobs) slots id z 8 (λ k. (k + 1) % 2 ^ 64) (Gives (step slots 8 1 0 Opt.none) z)) (sym now') (gives_back jobs slots id j.ticket m.0 laid (rest m.1) here less.0 less.1)
 
   pub gave_is : (m n r : Mine A) (t : ℕ) (y : Option (CopyJob A)) → n ≡ (m.0, (t, y) ∷ rest m.1) → r ≡ (record n.0 { done = n.0.done ++ front n.1 }, rest n.1) → r ≡ (record m.0 { done = m.0.done ++ t ∷ [] }, rest m.1)
   gave_is m n r t y e f = f ∙ ap (λ (z : Mine A). (record z.0 { done = z.0.done ++ front z.1 }, rest z.1)) e

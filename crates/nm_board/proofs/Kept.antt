@@ -10,7 +10,7 @@ use Rattle.nm_frames.specs.declared.job.CopyJob.{CopyJob}
 use Rattle.nm_frames.specs.Job.{copied}
 use Rattle.nm_board.specs.declared.view.View.{View}
 use Rattle.nm_board.specs.Tickets.{times, once_below}
-use Rattle.nm_board.specs.Rule.{total, past_shares, IsHand, Keeps, spent_view}
+use Rattle.nm_board.specs.Rule.{words_of, total, past_shares, IsHand, Keeps, spent_view}
 use Rattle.nm_board.specs.Steps.{both}
 use Rattle.nm_board.proofs.Sums.{total_set, total_has, total_le, total_whole}
 use Rattle.nm_board.proofs.Counts.{times_append, once_le, hit_other, once_next, lt_get, once_lt, not_once, min_stays, past_le, within_more, back_set, or_case}
@@ -47,7 +47,7 @@ module _ {A : Type 0} where
   -- the rule after the draw of the next ticket
   pub keeps_draw : (jobs : List (CopyJob A)) (ws : List ℕ) (homes : List (Opt.Option (Option (CopyJob A)))) (vs : List (View A)) (next given id : ℕ) (v : View A)
       → Keeps jobs ws homes vs next given → get_elem? vs id ≡ some v → 0 < v.shares → v.past_end ≡ false → next < length jobs
-      → Keeps jobs ((next + 1) ∷ given ∷ []) (set homes next Opt.none) (set vs id (record v { drawn = v.drawn ++ next ∷ [] })) (next + 1) given
+      → Keeps jobs (words_of (next + 1) given) (set homes next Opt.none) (set vs id (record v { drawn = v.drawn ++ next ∷ [] })) (next + 1) given
   keeps_draw jobs ws homes vs next given id v k at some_share is_open lt =
       let w : View A = record v { drawn = v.drawn ++ next ∷ [] } in
       let put = λ (f : View A → ℕ). total_set f vs id v w at in record {
@@ -83,7 +83,7 @@ module _ {A : Type 0} where
   -- the rule after a draw that finds no ticket
   pub keeps_past : (jobs : List (CopyJob A)) (ws : List ℕ) (homes : List (Opt.Option (Option (CopyJob A)))) (vs : List (View A)) (next given id : ℕ) (v : View A)
       → Keeps jobs ws homes vs next given → get_elem? vs id ≡ some v → 0 < v.shares → v.past_end ≡ false → length jobs ≤ next
-      → Keeps jobs ((next + 1) ∷ given ∷ []) homes (set vs id (record v { past_end = true })) (next + 1) given
+      → Keeps jobs (words_of (next + 1) given) homes (set vs id (record v { past_end = true })) (next + 1) given
   keeps_past jobs ws homes vs next given id v k at some_share is_open le =
       let w : View A = record v { past_end = true } in
       let put = λ (f : View A → ℕ). total_set f vs id v w at in record {
@@ -134,7 +134,7 @@ module _ {A : Type 0} where
   -- the rule after a ticket was given back
   pub keeps_give : (jobs : List (CopyJob A)) (ws : List ℕ) (homes : List (Opt.Option (Option (CopyJob A)))) (vs : List (View A)) (next given id t : ℕ) (v : View A) (j : CopyJob A)
       → Keeps jobs ws homes vs next given → get_elem? vs id ≡ some v → get_elem? jobs t ≡ some j → times t v.done < times t v.drawn → length v.done < length v.drawn
-      → (given + 1 ≤ length jobs) × Keeps jobs (next ∷ (given + 1) ∷ []) (set homes t (some (Some (copied j)))) (set vs id (record v { done = v.done ++ t ∷ [] })) next (given + 1)
+      → (given + 1 ≤ length jobs) × Keeps jobs (words_of next (given + 1)) (set homes t (some (Some (copied j)))) (set vs id (record v { done = v.done ++ t ∷ [] })) next (given + 1)
   keeps_give jobs ws homes vs next given id t v j k at job mine more =
       let w : View A = record v { done = v.done ++ t ∷ [] } in
       let put = λ (f : View A → ℕ). total_set f vs id v w at in
@@ -177,7 +177,7 @@ module _ {A : Type 0} where
 
   pub keeps_full : (jobs : List (CopyJob A)) (ws : List ℕ) (homes : List (Opt.Option (Option (CopyJob A)))) (vs : List (View A)) (next given id : ℕ) (v : View A)
       → Keeps jobs ws homes vs next given → get_elem? vs id ≡ some v → given ≡ length jobs
-      → Keeps jobs (next ∷ given ∷ []) homes (set vs id (record v { full = true })) next given
+      → Keeps jobs (words_of next given) homes (set vs id (record v { full = true })) next given
   keeps_full jobs ws homes vs next given id v k at e =
       let w : View A = record v { full = true } in
       let put = λ (f : View A → ℕ). total_set f vs id v w at in record {
@@ -195,7 +195,7 @@ module _ {A : Type 0} where
       }
 
   pub keeps_same : (jobs : List (CopyJob A)) (ws : List ℕ) (homes : List (Opt.Option (Option (CopyJob A)))) (vs : List (View A)) (next given id : ℕ) (v : View A)
-      → Keeps jobs ws homes vs next given → get_elem? vs id ≡ some v → Keeps jobs (next ∷ given ∷ []) homes (set vs id v) next given
+      → Keeps jobs ws homes vs next given → get_elem? vs id ≡ some v → Keeps jobs (words_of next given) homes (set vs id v) next given
   keeps_same jobs ws homes vs next given id v k at = subst (λ c. Keeps jobs c homes (set vs id v) next given) k.words_are (subst (λ c. Keeps jobs ws homes c next given) (sym (set_again vs id v at)) k)
 
   h_jobs : (jobs : List (CopyJob A)) (ws : List ℕ) (homes : List (Opt.Option (Option (CopyJob A)))) (vs : List (View A)) (next given id : ℕ) (v : View A)

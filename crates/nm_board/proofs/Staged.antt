@@ -113,8 +113,8 @@ module _ {A : Type 0} where
   next_after : (jobs : List (CopyJob A)) (s n : Moment A) (x : ℕ) → IsKept jobs s → n.words ≡ slice_set s.words 0 x → next_of n ≡ x
   next_after jobs s n x k e = ap (λ (w : List ℕ). slice_index w 0) (e ∙ ap (λ (w : List ℕ). slice_set w 0 x) k.2.words_are)
 
-  next_stays : (jobs : List (CopyJob A)) (s n : Moment A) (x : ℕ) → IsKept jobs s → n.words ≡ slice_set s.words 1 x → next_of n ≡ next_of s
-  next_stays jobs s n x k e = ap (λ (w : List ℕ). slice_index w 0) (e ∙ ap (λ (w : List ℕ). slice_set w 1 x) k.2.words_are) ∙ sym (next_is jobs s k)
+  next_stays : (jobs : List (CopyJob A)) (s n : Moment A) (x : ℕ) → IsKept jobs s → n.words ≡ slice_set s.words 8 x → next_of n ≡ next_of s
+  next_stays jobs s n x k e = ap (λ (w : List ℕ). slice_index w 0) (e ∙ ap (λ (w : List ℕ). slice_set w 8 x) k.2.words_are) ∙ sym (next_is jobs s k)
 
   -- a hand that still has the ticket after a change of one view
   hand_stays : (old new : List (View A)) (hand g t : ℕ) (v w : View A) → get_elem? old hand ≡ some v → new ≡ set old hand w → (times t v.done ≡ 0 → 0 < times t v.drawn → (0 < times t w.drawn) × (times t w.done ≡ 0))

@@ -12,7 +12,7 @@ use Rattle.nm_frames.specs.declared.job.CopyJob.{CopyJob}
 use Rattle.nm_frames.specs.Job.{copied}
 use Rattle.nm_board.specs.declared.view.View.{View}
 use Rattle.nm_board.specs.Tickets.{times}
-use Rattle.nm_board.specs.Rule.{past_shares, IsHand, Keeps, IsKept, first_view, spent_view}
+use Rattle.nm_board.specs.Rule.{words_of, past_shares, IsHand, Keeps, IsKept, first_view, spent_view}
 use Rattle.nm_board.specs.Steps.{Mine, Draws, Gives, Counts, Looks, less, part, both}
 use Rattle.nm_board.proofs.Kept.{hands_set, keeps_draw, keeps_past, next_small, keeps_give, keeps_full, keeps_same, each, twice, whole, both_hand, spent_is, first_is}
 use Rattle.nm_board.proofs.Sums.{total_set, total_snoc, total_has}
@@ -27,7 +27,7 @@ module _ {A : Type 0} where
 
   draws_here : (jobs : List (CopyJob A)) (slots id : ℕ) (m : Mine A) (ws : List ℕ) (homes : List (Opt.Option (Option (CopyJob A)))) (views : List (View A)) (next given : ℕ)
       → Keeps jobs ws homes views next given → 0 < m.0.shares → m.0.past_end ≡ false → get_elem? views id ≡ some m.0 → Dec (next < length jobs)
-      → Goes jobs homes views id m.1 (((next + 1) % 2 ^ 64) ∷ given ∷ []) (Draws (step slots 0 1 0 Opt.none) m next)
+      → Goes jobs homes views id m.1 (words_of ((next + 1) % 2 ^ 64) given) (Draws (step slots 0 1 0 Opt.none) m next)
   draws_here jobs slots id m ws homes views next given k some_share is_open at (yes lt) =
       let found = get_lt jobs next lt in
       let mine = (k.hands id m.0 at).jobs_are some_share in
@@ -60,7 +60,7 @@ module _ {A : Type 0} where
           below = (λ h. absurd (ge (omega (arith, ap length mine))));
           past = (λ h. record {
             now = refl;
-            each = each jobs ((next + 1) ∷ given ∷ []) homes (set views id w) (next + 1) given id w kept (set_here views id w (lt_get views id m.0 at));
+            each = each jobs (words_of (next + 1) given) homes (set views id w) (next + 1) given id w kept (set_here views id w (lt_get views id m.0 at));
           });
         },
       )
@@ -73,7 +73,7 @@ module _ {A : Type 0} where
   gives_here : (jobs : List (CopyJob A)) (slots id t : ℕ) (v : View A) (j : CopyJob A) (tail : List (ℕ × Option (CopyJob A))) (ws : List ℕ) (homes : List (Opt.Option (Option (CopyJob A))))
       (views : List (View A)) (next given : ℕ)
       → Keeps jobs ws homes views next given → get_elem? jobs t ≡ some j → times t v.done < times t v.drawn → length v.done < length v.drawn → get_elem? views id ≡ some v
-      → Goes jobs homes views id ((t, Some (copied j)) ∷ tail) (next ∷ ((given + 1) % 2 ^ 64) ∷ []) (Gives (step slots 1 1 0 Opt.none) (v, (t, Some (copied j)) ∷ tail) given)
+      → Goes jobs homes views id ((t, Some (copied j)) ∷ tail) (words_of next ((given + 1) % 2 ^ 64)) (Gives (step slots 8 1 0 Opt.none) (v, (t, Some (copied j)) ∷ tail) given)
   gives_here jobs slots id t v j tail ws homes views next given k job mine more at =
       let kept = keeps_give jobs ws homes views next given id t v j k at job mine more in
       let small = step_is given (let a = kept.0 in let b = k.few in omega arith) in (
@@ -86,15 +86,15 @@ module _ {A : Type 0} where
 
   pub gives_back : (jobs : List (CopyJob A)) (slots id t : ℕ) (v : View A) (j : CopyJob A) (tail : List (ℕ × Option (CopyJob A)))
       → get_elem? jobs t ≡ some j → times t v.done < times t v.drawn → length v.done < length v.drawn
-      → Allows (IsKept jobs) slots id (v, (t, Some (copied j)) ∷ tail) 1 (λ n. (n + 1) % 2 ^ 64) (Gives (step slots 1 1 0 Opt.none) (v, (t, Some (copied j)) ∷ tail))
+      → Allows (IsKept jobs) slots id (v, (t, Some (copied j)) ∷ tail) 8 (λ n. (n + 1) % 2 ^ 64) (Gives (step slots 8 1 0 Opt.none) (v, (t, Some (copied j)) ∷ tail))
   gives_back jobs slots id t v j tail job mine more s held len at bound =
-      let P : List ℕ → Type 0 = λ c. Goes jobs s.homes s.views id ((t, Some (copied j)) ∷ tail) (slice_set c 1 ((slice_index c 1 + 1) % 2 ^ 64))
-      (Gives (step slots 1 1 0 Opt.none) (v, (t, Some (copied j)) ∷ tail) (slice_index c 1)) in
+      let P : List ℕ → Type 0 = λ c. Goes jobs s.homes s.views id ((t, Some (copied j)) ∷ tail) (slice_set c 8 ((slice_index c 8 + 1) % 2 ^ 64))
+      (Gives (step slots 8 1 0 Opt.none) (v, (t, Some (copied j)) ∷ tail) (slice_index c 8)) in
       subst P (sym held.2.words_are) (gives_here jobs slots id t v j tail s.words s.homes s.views held.0 held.1 held.2 job mine more at)
 
   counts_here : (jobs : List (CopyJob A)) (slots id : ℕ) (m : Mine A) (ws : List ℕ) (homes : List (Opt.Option (Option (CopyJob A)))) (views : List (View A)) (next given : ℕ)
       → Keeps jobs ws homes views next given → 0 < m.0.shares → get_elem? views id ≡ some m.0 → Dec (given ≡ length m.0.jobs)
-      → Goes jobs homes views id m.1 (next ∷ given ∷ []) (Counts (step slots 1 0 0 Opt.none) m given)
+      → Goes jobs homes views id m.1 (words_of next given) (Counts (step slots 8 0 0 Opt.none) m given)
   counts_here jobs slots id m ws homes views next given k some_share at (yes e) = (
     record m.0 { full = true },
     keeps,
@@ -110,14 +110,14 @@ module _ {A : Type 0} where
     record { all = (λ e. absurd (ne e)); some_out = (λ _. refl); whole = whole jobs ws homes views next given id m.0 k at },
   )
 
-  pub counts : (jobs : List (CopyJob A)) (slots id : ℕ) (m : Mine A) → 0 < m.0.shares → Allows (IsKept jobs) slots id m 1 (λ n. n) (Counts (step slots 1 0 0 Opt.none) m)
+  pub counts : (jobs : List (CopyJob A)) (slots id : ℕ) (m : Mine A) → 0 < m.0.shares → Allows (IsKept jobs) slots id m 8 (λ n. n) (Counts (step slots 8 0 0 Opt.none) m)
   counts jobs slots id m some_share s held len at bound =
-      let P : List ℕ → Type 0 = λ c. Goes jobs s.homes s.views id m.1 (slice_set c 1 (slice_index c 1)) (Counts (step slots 1 0 0 Opt.none) m (slice_index c 1)) in
+      let P : List ℕ → Type 0 = λ c. Goes jobs s.homes s.views id m.1 (slice_set c 8 (slice_index c 8)) (Counts (step slots 8 0 0 Opt.none) m (slice_index c 8)) in
       subst P (sym held.2.words_are) (counts_here jobs slots id m s.words s.homes s.views held.0 held.1 held.2 some_share at (ℕ_discrete held.1 (length m.0.jobs)))
 
   looks_here : (jobs : List (CopyJob A)) (slots id : ℕ) (m : Mine A) (ws : List ℕ) (homes : List (Opt.Option (Option (CopyJob A)))) (views : List (View A)) (next given : ℕ)
       → Keeps jobs ws homes views next given → get_elem? views id ≡ some m.0
-      → Goes jobs homes views id m.1 (next ∷ given ∷ []) (Looks (step slots 1 0 0 Opt.none) m given)
+      → Goes jobs homes views id m.1 (words_of next given) (Looks (step slots 8 0 0 Opt.none) m given)
   looks_here jobs slots id m ws homes views next given k at = (
     m.0,
     keeps,
@@ -131,9 +131,9 @@ module _ {A : Type 0} where
     },
   )
 
-  pub looks : (jobs : List (CopyJob A)) (slots id : ℕ) (m : Mine A) → Allows (IsKept jobs) slots id m 1 (λ n. n) (Looks (step slots 1 0 0 Opt.none) m)
+  pub looks : (jobs : List (CopyJob A)) (slots id : ℕ) (m : Mine A) → Allows (IsKept jobs) slots id m 8 (λ n. n) (Looks (step slots 8 0 0 Opt.none) m)
   looks jobs slots id m s held len at bound =
-      let P : List ℕ → Type 0 = λ c. Goes jobs s.homes s.views id m.1 (slice_set c 1 (slice_index c 1)) (Looks (step slots 1 0 0 Opt.none) m (slice_index c 1)) in
+      let P : List ℕ → Type 0 = λ c. Goes jobs s.homes s.views id m.1 (slice_set c 8 (slice_index c 8)) (Looks (step slots 8 0 0 Opt.none) m (slice_index c 8)) in
       subst P (sym held.2.words_are) (looks_here jobs slots id m s.words s.homes s.views held.0 held.1 held.2 at)
 
   pub splits : (jobs : List (CopyJob A)) (n id : ℕ) (v : View A) → 0 < n → n < v.shares → Splits (IsKept jobs) id v (less n v) (part n v)
@@ -204,8 +204,8 @@ module _ {A : Type 0} where
         },
       )
 
-  pub opens : (jobs : List (CopyJob A)) (slots : List (Option (CopyJob A))) → slots ≡ map Some jobs → length jobs < 2 ^ 63 → IsKept jobs (opening (0 ∷ 0 ∷ []) slots (first_view jobs))
-  opens jobs slots is small = subst (λ (z : List (Option (CopyJob A))). IsKept jobs (opening (0 ∷ 0 ∷ []) z (first_view jobs))) (sym is) (
+  pub opens : (jobs : List (CopyJob A)) (slots : List (Option (CopyJob A))) → slots ≡ map Some jobs → length jobs < 2 ^ 63 → IsKept jobs (opening (words_of 0 0) slots (first_view jobs))
+  opens jobs slots is small = subst (λ (z : List (Option (CopyJob A))). IsKept jobs (opening (words_of 0 0) z (first_view jobs))) (sym is) (
     0,
     0,
     record {

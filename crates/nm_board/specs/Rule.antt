@@ -30,10 +30,14 @@ pub record IsHand {A : Type 0} (jobs : List (CopyJob A)) (next given : ℕ) (v :
   -- one that was joined into another has no share and no ticket
   pub spent : v.shares ≡ 0 → (v.drawn ≡ []) × (v.done ≡ [])
 
+-- the words: `next` first and `given` last, with 64 bytes from one to the other, so that they share no line of a cache
+abbrev pub words_of : ℕ → ℕ → List ℕ
+words_of next given = next ∷ 0 ∷ 0 ∷ 0 ∷ 0 ∷ 0 ∷ 0 ∷ 0 ∷ given ∷ []
+
 -- what holds of the words `next` and `given`, the slots at home and the hands
 pub record Keeps {A : Type 0} (jobs : List (CopyJob A)) (words : List ℕ) (homes : List (Opt.Option (Option (CopyJob A))))
     (views : List (View A)) (next given : ℕ) : Type 0 where
-  pub words_are : words ≡ next ∷ given ∷ []
+  pub words_are : words ≡ words_of next given
   pub few : length jobs < 2 ^ 63
   pub slots : length homes ≡ length jobs
   pub shares : total (λ v. v.shares) views ≡ 64

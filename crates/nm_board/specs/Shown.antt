@@ -88,7 +88,7 @@ pub record IsShort {A : Type 0} (hand : Holding A) : Type 0 where
 
 -- the fields of a board: the numbers of its words and slots, its jobs, and the room in which it gives them back
 pub record IsBoard {A : Type 0} (board : Laying A) (room capacity : ℕ) : Type 0 where
-  pub words : board.id.words ≡ 2
+  pub words : board.id.words ≡ 9
   pub slots : board.id.slots ≡ length board.jobs
   pub few : length board.jobs < 2 ^ 63
   pub in_order : InTicketOrder board.jobs

@@ -25,7 +25,7 @@ abbrev pub next_of : {A : Type 0} → Moment A → ℕ
 next_of s = slice_index s.words 0
 
 abbrev pub given_of : {A : Type 0} → Moment A → ℕ
-given_of s = slice_index s.words 1
+given_of s = slice_index s.words 8
 
 -- what a board shows of the job of ticket t: it lies where no draw has come so far; a hand has it that drew it and has
 -- not given it back; it is given where some hand gave it back
@@ -75,7 +75,7 @@ LateDrawTakesNone A = (jobs : List (CopyJob A)) (hand : ℕ) (old new : Moment A
 abbrev pub GiveReturnsTheLast : Type 0 → Type 0
 GiveReturnsTheLast A = (jobs : List (CopyJob A)) (hand t : ℕ) (job : Option (CopyJob A)) (old new : Moment A) (me now : Mine A)
     → (s : Step (Option (CopyJob A)))
-    → Moves jobs hand 1 (given_of old + 1) old new me now → Gives s me (given_of old) now → me.1 ≡ (t, job) ∷ rest me.1
+    → Moves jobs hand 8 (given_of old + 1) old new me now → Gives s me (given_of old) now → me.1 ≡ (t, job) ∷ rest me.1
     → Turns old new t (InHand hand) Given
 
 -- a split changes no job's stage

@@ -20,7 +20,11 @@ use std::snapshot::Snapshot;
 pub(crate) const NEXT: usize = 0;
 
 /// The word that counts the jobs that were given back.
-pub(crate) const GIVEN: usize = 1;
+pub(crate) const GIVEN: usize = 8;
+
+/// The words of a new board. Between the two that count lie 64 bytes: threads that draw and threads that give back do not
+/// wait for one line of the cache.
+const WORDS: [u64; 9] = [0; 9];
 
 /// How many shares there are of a board, which its hands have together.
 pub(crate) const SHARES: u64 = 64;
@@ -71,7 +75,7 @@ impl<A: Allocator + Copy> Board<A> {
         let Ok(slots) = into_slots(alloc, &mut room) else {
             return Err(room);
         };
-        match Table::new(alloc, &[0, 0], slots, &laid) {
+        match Table::new(alloc, &WORDS, slots, &laid) {
             Ok((table, seat)) => Ok((
                 Board { table, room },
                 Hand {

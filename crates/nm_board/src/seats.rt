@@ -46,7 +46,7 @@ pub(crate) fn cut<N: Amount, A: Allocator + Copy>(
     shares: u64,
 ) -> Seat<Slot<A>, View<A>>
     requires amount { shares ≡ N.amount }
-    requires table { (seat.old.table_id ≡ shelf.now.table_id) × (shelf.now.table_id.words ≡ 2) }
+    requires table { (seat.old.table_id ≡ shelf.now.table_id) × (shelf.now.table_id.words ≡ 9) }
     requires shares { (0 < shares) × (shares < seat.old.me.0.shares) }
     ensures table { (seat.new.table_id ≡ seat.old.table_id) × (result.table_id ≡ seat.old.table_id) }
     ensures left { seat.new.me ≡ (less shares seat.old.me.0, seat.old.me.1) }

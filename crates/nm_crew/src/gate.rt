@@ -1,7 +1,7 @@
 //! What each worker passes before it copies.
 
 /// From how many jobs on an open gate lets a second worker start.
-const OPEN_FROM: usize = 64;
+const OPEN_FROM: usize = 1024;
 
 /// Is passed by each worker between its draw of a job and the copying of it. What a gate does changes no job.
 pub trait Gate {
@@ -14,7 +14,8 @@ pub trait Gate {
     }
 }
 
-/// Lets each worker through at once. A second worker starts from 64 jobs on.
+/// Lets each worker through at once. A second worker starts from 1,024 jobs on: the start and the end of a thread take as
+/// long as the copying of some hundred pages.
 pub struct OpenGate;
 
 impl Gate for OpenGate {

@@ -293,7 +293,7 @@ impl<A: Allocator + Copy + Send + Sync> Machine<A> {
         ensures state { OnOk result (self.new ≡ (run self.old requests.now.target requests.now.wanted.items []).state) }
         ensures err { OnErr result (self.new ≡ self.old) }
     {
-        let plan = self.inner.plan(rt, requests)?;
+        let plan = self.inner.plan(rt, requests, workers)?;
         self.inner.reserve(plan.moves().len())?;
         self.inner
             .carry_out(rt, requests.target, plan.moves(), workers, gate);

@@ -12,7 +12,7 @@ use std::alloc::{AllocError, Allocator};
 use std::thread::Threads;
 
 /// A thread looks at no fewer requests than this: a shorter run is not worth a thread's start.
-const PIECE: usize = 1024;
+const PIECE: usize = 4096;
 
 /// What is to be done with a request for what is seen so, where a page that several processes see moves only if all are
 /// asked for.

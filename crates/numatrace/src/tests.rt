@@ -1,4 +1,4 @@
-use crate::words::{run_words, unread_words};
+use crate::words::{read_words, run_words, unread_words};
 use nm_refusing::Refusing;
 use std::alloc::{AllocError, Global};
 use std::io;
@@ -580,6 +580,23 @@ const TAKEN: [&[&str]; 7] = [
     &["--workers", "64"],
     &["--workers=064"],
 ];
+
+/// How many workers words ask for, in the order of `TAKEN`.
+const ASKED: [usize; 7] = [4, 1, 2, 4, 4, 64, 64];
+
+#[test]
+fn reads_how_many_workers(rt: HostRuntime) -> Result<(), Fail> {
+    let alloc = rt.alloc();
+    for (more, asked) in TAKEN.iter().zip(&ASKED) {
+        let mut words = no_words(alloc)?;
+        for word in *more {
+            words.push(String::from_str(alloc, *word)?)?;
+        }
+        let read = read_words(alloc, words.as_slice());
+        assert!(rt; read.ok() == Some(*asked), "at {more:?}");
+    }
+    Ok(())
+}
 
 /// The report is the same whatever the number of workers.
 #[test]

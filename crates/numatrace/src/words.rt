@@ -31,7 +31,7 @@ const STREAM_FAULT: u8 = 4;
 const WORKERS: usize = 4;
 
 /// How many workers the words ask for: 1 to 64 by `--workers`, and 4 where it is not given. Any other word is refused.
-fn read_words(heap: Global, words: &[String]) -> Result<usize, Error>
+pub(crate) fn read_words(heap: Global, words: &[String]) -> Result<usize, Error>
     ensures { IfOk result (λ workers. (0 < workers) × (workers ≤ 64)) }
 {
     let workers = Arg::new(heap, "workers")

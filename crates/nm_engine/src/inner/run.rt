@@ -1,11 +1,12 @@
 //! Runs: pages that move to one node, one after another.
 
-ghost use Rattle.std.specs.Prelude.{◌≡◌, ◌+◌, ◌<◌, ◌≤◌, [], ◌∷◌, ◌++◌, length, Some, IfOk, OnOk};
+ghost use Rattle.std.specs.Prelude.{◌≡◌, ◌+◌, ◌<◌, ◌≤◌, ◌^◌, [], ◌∷◌, ◌++◌, map, length, Some, IfOk, OnOk};
 ghost use Rattle.std.specs.Bool.{OnTrue, OnFalse};
 ghost use Rattle.nm_types.specs.Layout.{node_count};
 ghost use Rattle.nm_types.specs.Map.{get, page_cmp};
 ghost use Rattle.nm_types.specs.State.{free_list};
 ghost use Rattle.nm_runs.specs.declared.Class.TheVariants.{Move};
+ghost use Rattle.nm_runs.specs.Shown.{class_shown, ShowsItsFrames};
 ghost use Rattle.nm_engine.specs.Laws.{with_moves};
 ghost use Rattle.nm_engine.specs.Moves.{CanMove, IsPlanOf};
 ghost use Rattle.nm_engine.specs.Run.{decided, left, HasOneAll, with_all_free, failures, counted};
@@ -14,8 +15,8 @@ use crate::inner::Inner;
 use crate::machine::Totals;
 use nm_crew::Gate;
 use nm_plan::{Plan, Taken, plan};
-use nm_runs::{Run, classify};
-use nm_types::{Errno, FrameId, NodeId, Page};
+use nm_runs::{Class, Run, classify, classify_here};
+use nm_types::{Errno, FrameId, Geometry, NodeId, Page, PageView};
 use std::alloc::{AllocError, Allocator};
 use std::sync::Wait;
 use std::thread::Threads;
@@ -34,6 +35,7 @@ impl<A: Allocator + Copy + Send + Sync> Inner<A> {
         &self,
         rt: &R,
         requests: &Run<A>,
+        workers: usize,
     ) -> Result<Plan<A>, AllocError>
         requires target { requests.now.target < node_count self.now.state.layout }
         requires alike { HasOneAll requests.now.wanted.items }
@@ -41,12 +43,13 @@ impl<A: Allocator + Copy + Send + Sync> Inner<A> {
     {
         prove!(self.frames.node_count() <= 64);
         let target = requests.target;
-        let classes = classify(
+        let classes = classes(
             rt,
             self.alloc,
             self.frames.geometry(),
             &self.spaces,
             requests,
+            workers,
         )?;
         let front = self.frames.free_front(self.alloc, target, classes.len())?;
         plan(self.alloc, classes.as_slice(), front.as_slice(), target)
@@ -91,6 +94,27 @@ impl<A: Allocator + Copy + Send + Sync> Inner<A> {
             moved: before.saturating_add(moved),
             failed: failed_before.saturating_add(failed),
         };
+    }
+}
+
+/// What is to be done with each request of a run, in its order, by a look at what it names. With one worker the caller
+/// looks alone; else several threads look where the run is long.
+fn classes<R: Threads + Sync, A: Allocator + Copy + Send + Sync, V: PageView + Sync>(
+    rt: &R,
+    alloc: A,
+    geometry: &Geometry<A>,
+    view: &V,
+    run: &Run<A>,
+    workers: usize,
+) -> Result<Vec<Class, A>, AllocError>
+    requires target { run.now.target < 2 ^ 31 }
+    requires frames { ShowsItsFrames geometry.now (V.seen_at view.now) (V.placed_at view.now) }
+    ensures { IfOk result (λ classes. classes.items ≡ map (class_shown geometry.now (V.seen_at view.now) (V.placed_at view.now) run.now.target) run.now.wanted.items) }
+{
+    if workers > 1 {
+        classify(rt, alloc, geometry, view, run)
+    } else {
+        classify_here(alloc, geometry, view, run)
     }
 }
 
