@@ -92,10 +92,10 @@ module _ {A : Type 0} (s : Search A) (ts : List Taken) (t : Taken) (h : Finds s 
   -- one of the few
   pub one_of_few : length ts < s.ascending + 8 → Finds {A = A} s (ts ++ t ∷ [])
   one_of_few few = record {
-      within = omega (arith, h.within, longer);
-      ascends = first_kept;
-      later = λ p. h.later p ∙ ap (λ (us : List Taken). has_moved us p) (few_past s.ascending ts (omega arith) ∙ sym (few_past s.ascending (ts ++ t ∷ []) (omega (arith, longer))));
-    }
+    within = omega (arith, h.within, longer);
+    ascends = first_kept;
+    later = λ p. h.later p ∙ ap (λ (us : List Taken). has_moved us p) (few_past s.ascending ts (omega arith) ∙ sym (few_past s.ascending (ts ++ t ∷ []) (omega (arith, longer))));
+  }
 
   cond_or : (b h : Bool) → cond b true h ≡ (h || (b || false))
   cond_or true true = refl
@@ -114,8 +114,8 @@ module _ {A : Type 0} (s : Search A) (ts : List Taken) (t : Taken) (h : Finds s 
         within = omega (arith, h.within, longer);
         ascends = first_kept;
         later = λ p.
-        updates.0 p ∙ ap (λ b. cond (is_at (page_cmp t.page) p) true b) (h.later p)
-        ∙ cond_or (is_at (page_cmp t.page) p) (has_moved (past_few s.ascending ts) p)
-        ∙ ap (λ b. has_moved (past_few s.ascending ts) p || (b || false)) (same_back t.page p)
-        ∙ sym (behind p);
+            updates.0 p ∙ ap (λ b. cond (is_at (page_cmp t.page) p) true b) (h.later p)
+            ∙ cond_or (is_at (page_cmp t.page) p) (has_moved (past_few s.ascending ts) p)
+            ∙ ap (λ b. has_moved (past_few s.ascending ts) p || (b || false)) (same_back t.page p)
+            ∙ sym (behind p);
       }

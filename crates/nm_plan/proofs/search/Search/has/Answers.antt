@@ -24,9 +24,9 @@ returns-then-is_among g c =
     elim c.if-is_among_ascending.branch [
       | then-is_among_ascending w ↦ c.if-is_among.true ∙ sym (in_parts ts n p true (has_moved (take 8 (drop n ts)) p) (front ∙ w.if-is_among_ascending.true) refl)
       | else-is_among_ascending w ↦
-        let few : has_moved (take 8 (drop n ts)) p ≡ w.is_among.result =
-        ap (λ (us : List Taken). has_moved us p) (sym (ap (take c.min-few.result) c.split_at.ensures.back ∙ first_few (drop n ts) c.min-few.result (c.min-few.ensures ∙ ap (λ (us : List Taken). min (length us) 8) c.split_at.ensures.back))) ∙ sym w.is_among.ensures in
-        c.if-is_among.true ∙ sym (in_parts ts n p false true (front ∙ w.if-is_among_ascending.false) (few ∙ sym w.value-is ∙ c.if-is_among.true))
+          let few : has_moved (take 8 (drop n ts)) p ≡ w.is_among.result =
+          ap (λ (us : List Taken). has_moved us p) (sym (ap (take c.min-few.result) c.split_at.ensures.back ∙ first_few (drop n ts) c.min-few.result (c.min-few.ensures ∙ ap (λ (us : List Taken). min (length us) 8) c.split_at.ensures.back))) ∙ sym w.is_among.ensures in
+          c.if-is_among.true ∙ sym (in_parts ts n p false true (front ∙ w.if-is_among_ascending.false) (few ∙ sym w.value-is ∙ c.if-is_among.true))
     ]
 
 pub returns-else-is_among : goal.returns-else-is_among
@@ -38,7 +38,7 @@ returns-else-is_among g c =
     elim c.if-is_among_ascending.branch [
       | then-is_among_ascending w ↦ absurd (true≢false (sym w.if-is_among_ascending.true ∙ sym w.value-is ∙ c.if-is_among.false))
       | else-is_among_ascending w ↦
-        let few : has_moved (take 8 (drop n ts)) p ≡ w.is_among.result =
-        ap (λ (us : List Taken). has_moved us p) (sym (ap (take c.min-few.result) c.split_at.ensures.back ∙ first_few (drop n ts) c.min-few.result (c.min-few.ensures ∙ ap (λ (us : List Taken). min (length us) 8) c.split_at.ensures.back))) ∙ sym w.is_among.ensures in
-        c.contains.ensures ∙ c.requires.later p ∙ sym (in_parts ts n p false false (front ∙ w.if-is_among_ascending.false) (few ∙ sym w.value-is ∙ c.if-is_among.false))
+          let few : has_moved (take 8 (drop n ts)) p ≡ w.is_among.result =
+          ap (λ (us : List Taken). has_moved us p) (sym (ap (take c.min-few.result) c.split_at.ensures.back ∙ first_few (drop n ts) c.min-few.result (c.min-few.ensures ∙ ap (λ (us : List Taken). min (length us) 8) c.split_at.ensures.back))) ∙ sym w.is_among.ensures in
+          c.contains.ensures ∙ c.requires.later p ∙ sym (in_parts ts n p false false (front ∙ w.if-is_among_ascending.false) (few ∙ sym w.value-is ∙ c.if-is_among.false))
     ]
