@@ -1,0 +1,336 @@
+#!/usr/bin/env python3
+"""Checks tools/why.py: what it says of good and bad traces, and that the program's tests tell the same of them."""
+import glob
+import importlib.util
+import json
+import os
+import re
+import subprocess
+import sys
+import tempfile
+
+ROOT = os.path.dirname(os.path.dirname(os.path.abspath(__file__)))
+U32 = "wanted is a whole number from 0 to 4,294,967,295, in digits alone"
+U64 = "wanted is a whole number from 0 to 18,446,744,073,709,551,615, in digits alone"
+NODE = "wanted is a whole number from 0 to 63, in digits alone"
+LIMIT = "wanted is a whole number from 1 to 16,384, in digits alone"
+DISTANCE = "wanted is a whole number from 10 to 255, in digits alone"
+FLAG = "wanted is true or false"
+HEX = "wanted is a text of hexadecimal digits, an even number of them"
+BATCH = "wanted is a list of at most 16,384 elements"
+MOST_NODES = "wanted is a list of at most 64 elements"
+OPS = "wanted is one of spawn, map, attach, unmap, exit, pin, unpin, read, write, move_pages, migrate_pages, mbind, query, free, pagemap, numa_maps, vmstat"
+
+# The first example with one place changed, and what is said of it.
+CHANGED = [
+    ('"version":1', '"version":2,"version":1', "good"),
+    ('"version":1', '"version":1,"run_limit":"none","note":[{}]', "good"),
+    ('"version":1', '"version":2,"run_limit":1', "good"),
+    ('"version":1', '"version":2,"run_limit":16384', "good"),
+    ('"version":1', '"version":1,"note":"\\ud83d\\ude00 \\\\ud800 [[[ NaN 1e999"', "good"),
+    ('"version":1', '"version":1,"note":[-0,1e308,-1.5e-999,0e999]', "good"),
+    ('"steps"', ' "st\\u0065ps"\t\r\n', "good"),
+    ('"allowed":[0,1]', '"allowed":[1,63,1,0],"privileged":true', "good"),
+    ('"allowed":[0,1]', '"allowed":[]', "good"),
+    ('"pages":3', '"pages":18446744073709551615,"shared":false,"shard":7', "good"),
+    ('"data":"61"', '"data":""', "good"),
+    ('"data":"61"', '"data":"aF"', "good"),
+    ('"uid":100', '"uid":4294967295', "good"),
+    ('"uid":100', '"uid":1.5,"uid":0', "good"),
+    ('"op":"free","node":0', '"op":"vmstat"', "good"),
+    ('"nodes":[4,4]', '"nodes":[16383,1]', "good"),
+    ('[10,20],[20,10]', '[10,11],[255,10]', "good"),
+    # No JSON.
+    ('"version":1', '"version":01', "not JSON: line 1, column 13: expecting ',' delimiter"),
+    ('"version":1', '"version":+1', "not JSON: line 1, column 12: expecting value"),
+    ('"version":1', '"version":NaN', "not JSON: line 1, column 12: NaN is no JSON"),
+    ('"version":1', '"version":-Infinity', "not JSON: line 1, column 12: -Infinity is no JSON"),
+    ('"version":1', '"version":1,"n":[Infinity]', "not JSON: line 1, column 19: Infinity is no JSON"),
+    ('"version":1', '"version":1e999,"version":1', "not JSON: line 1, column 12: a number beyond those of 64-bit floating point"),
+    ('"version":1', '"version":1,"n":-1%s' % ("0" * 309), "not JSON: line 1, column 18: a number beyond those of 64-bit floating point"),
+    ('"version":1', '"version":1,"n":"\\ud800"', "not JSON: line 1, column 18: half of a surrogate pair"),
+    ('"version":1', '"version":1,"\\uDFFF\\uD800":0', "not JSON: line 1, column 14: half of a surrogate pair"),
+    ('"version":1', '"version":1,"n":"a\tb"', "not JSON: line 1, column 20: invalid control character at"),
+    ('"version":1', '"version":True', "not JSON: line 1, column 12: expecting value"),
+    ('"version"', "'version'", "not JSON: line 1, column 2: expecting property name enclosed in double quotes"),
+    ('"op":"map"', '"op":"map" NaN', "not JSON: line 3, column 13: NaN is no JSON"),
+    # No machine.
+    ('"version":1', '"other":1', "bad machine: version is missing: wanted is a whole number from 1 to 2, in digits alone"),
+    ('"version":1', '"version":0', "bad machine: version is 0: wanted is a whole number from 1 to 2, in digits alone"),
+    ('"version":1', '"version":3', "bad machine: version is 3: wanted is a whole number from 1 to 2, in digits alone"),
+    ('"version":1', '"version":1.0', "bad machine: version is 1.0: wanted is a whole number from 1 to 2, in digits alone"),
+    ('"version":1', '"version":1e0', "bad machine: version is 1e0: wanted is a whole number from 1 to 2, in digits alone"),
+    ('"version":1', '"version":true', "bad machine: version is true: wanted is a whole number from 1 to 2, in digits alone"),
+    ('"version":1', '"version":"1"', 'bad machine: version is "1": wanted is a whole number from 1 to 2, in digits alone'),
+    ('"version":1', '"version":2', "bad machine: run_limit is missing: " + LIMIT),
+    ('"version":1', '"version":2,"run_limit":0', "bad machine: run_limit is 0: " + LIMIT),
+    ('"version":1', '"version":2,"run_limit":16385', "bad machine: run_limit is 16385: " + LIMIT),
+    ('"version":1', '"version":2,"run_limit":null', "bad machine: run_limit is null: " + LIMIT),
+    ('"machine"', '"engine"', "bad machine: machine is missing: wanted is an object"),
+    ('"nodes":[4,4]', '"nods":[4,4]', "bad machine: machine.nodes is missing: " + MOST_NODES),
+    ('"nodes":[4,4]', '"nodes":8', "bad machine: machine.nodes is 8: " + MOST_NODES),
+    ('"nodes":[4,4]', '"nodes":[]', "bad machine: machine.nodes has 0 elements: wanted is at least one"),
+    ('"nodes":[4,4]', '"nodes":[4,0]', "bad machine: machine.nodes[1] is 0: " + LIMIT),
+    ('"nodes":[4,4]', '"nodes":[4,16385]', "bad machine: machine.nodes[1] is 16385: " + LIMIT),
+    ('"nodes":[4,4]', '"nodes":[16384,1]', "bad machine: machine.nodes has 16,385 frames together: wanted are at most 16,384"),
+    ('"nodes":[4,4]', '"nodes":[4,4,4]', "bad machine: machine.distance has 2 rows: wanted is one for each of 3 nodes"),
+    ('"distance":', '"distances":', "bad machine: machine.distance is missing: " + MOST_NODES),
+    ('[10,20],[20,10]', '[10,20],20', "bad machine: machine.distance[1] is 20: " + MOST_NODES),
+    ('[10,20],[20,10]', '[10,20],[]', "bad machine: machine.distance[1] has 0 elements: wanted is at least one"),
+    ('[10,20],[20,10]', '[10,20],[20]', "bad machine: machine.distance[1] has 1 element: wanted is one for each of 2 nodes"),
+    ('[10,20],[20,10]', '[10,256],[20,10]', "bad machine: machine.distance[0][1] is 256: " + DISTANCE),
+    ('[10,20],[20,10]', '[10,10],[20,10]',
+     "bad machine: machine.distance[0][1] is 10: wanted is 11 to 255, the distance to another node"),
+    ('[10,20],[20,10]', '[10,20],[20,11]',
+     "bad machine: machine.distance[1][1] is 11: wanted is 10, the distance of a node to itself"),
+    ('"steps"', '"step"', "bad machine: steps is missing: wanted is a list"),
+    ('"steps":[', '"steps":{},"other":[', "bad machine: steps is an object: wanted is a list"),
+    # No step.
+    ('"op":"spawn"', '"op":"fork"', 'bad step 0: op is "fork": ' + OPS),
+    ('"op":"spawn"', '"op":"u32"', 'bad step 0: op is "u32": ' + OPS),
+    ('"op":"spawn"', '"op":["spawn"]', "bad step 0: op is a list: " + OPS),
+    ('"op":"spawn",', "", "bad step 0: op is missing: wanted is the name of a step"),
+    ('"uid":100', '"uid":4294967296', "bad step 0: spawn: uid is 4294967296: " + U32),
+    ('"uid":100', '"uid":-0', "bad step 0: spawn: uid is -0: " + U32),
+    ('"uid":100', '"uid":1e2', "bad step 0: spawn: uid is 1e2: " + U32),
+    ('"uid":100', '"uid":null', "bad step 0: spawn: uid is null: " + U32),
+    ('"home":0', '"home":"0"', 'bad step 0: spawn: home is "0": ' + U32),
+    ('"allowed":[0,1]', '"allowed":[0,64]', "bad step 0: spawn: allowed[1] is 64: " + NODE),
+    ('"allowed":[0,1]', '"allowed":3', "bad step 0: spawn: allowed is 3: wanted is a list"),
+    ('"allowed":[0,1]', '"allowed":[0,1],"privileged":null', "bad step 0: spawn: privileged is null: " + FLAG),
+    ('"pages":3', '"pages":[3]', "bad step 1: map: pages is a list: " + U64),
+    ('"pages":3', '"page":3', "bad step 1: map: pages is missing: " + U64),
+    ('"pages":3', '"pages":3,"shared":1', "bad step 1: map: shared is 1: " + FLAG),
+    ('"addr":65536,"pages"', '"addr":"0x10000","pages"', 'bad step 1: map: addr is "0x10000": ' + U64),
+    ('"data":"61"', '"data":"6"', 'bad step 2: write: data is "6": ' + HEX),
+    ('"data":"62"', '"data":"6g"', 'bad step 3: write: data is "6g": ' + HEX),
+    ('"data":"62"', '"data":"62\\n"', 'bad step 3: write: data is "62\\n": ' + HEX),
+    ('"data":"62"', '"data":62', "bad step 3: write: data is 62: " + HEX),
+    ('"nodes":[1,1,1]', '"nodes":[1,1]', "bad step 5: move_pages: nodes has 2 elements: wanted are 3, as many as pages has"),
+    ('"nodes":[1,1,1]', '"nodes":[1,4294967296,1]', "bad step 5: move_pages: nodes[1] is 4294967296: " + U32),
+    ('"nodes":[1,1,1]', '"node":[1,1,1]', "bad step 5: move_pages: nodes is missing: " + BATCH),
+    ('"pages":[65536', '"pages":[6.5e4', "bad step 5: move_pages: pages[0] is 6.5e4: " + U64),
+    ('"flags":2', '"flags":-2', "bad step 5: move_pages: flags is -2: " + U32),
+    ('"caller":1', '"caller":false', "bad step 5: move_pages: caller is false: " + U32),
+    ('"op":"free","node":0', '"op":"free"', "bad step 6: free: node is missing: " + U32),
+    ('"op":"free","node":0', '"op":"Free","node":0', 'bad step 6: op is "Free": ' + OPS),
+    ('"len":2', '"len":18446744073709551616', "bad step 9: read: len is 18446744073709551616: " + U64),
+    ('"len":2', '"len":%s' % ("9" * 300), "bad step 9: read: len is %s..: " % ("9" * 40) + U64),
+]
+
+# A step by itself, and what is said of it behind "bad step 0: ".
+STEPS = [
+    ("7", "the step is 7: wanted is an object"),
+    ('["op","vmstat"]', "the step is a list: wanted is an object"),
+    ("null", "the step is null: wanted is an object"),
+    ('{"op":"attach","pid":1,"addr":0,"segment":0,"pages":1}', "attach: offset is missing: " + U64),
+    ('{"op":"attach","pid":1,"addr":0,"segment":-1,"offset":0,"pages":1}', "attach: segment is -1: " + U64),
+    ('{"op":"unmap","pid":1,"addr":0}', "unmap: pages is missing: " + U64),
+    ('{"op":"unmap","pid":1,"addr":0.0,"pages":1}', "unmap: addr is 0.0: " + U64),
+    ('{"op":"exit"}', "exit: pid is missing: " + U32),
+    ('{"op":"exit","pid":4294967296}', "exit: pid is 4294967296: " + U32),
+    ('{"op":"pin","pid":1}', "pin: addr is missing: " + U64),
+    ('{"op":"pin","pid":{},"addr":0}', "pin: pid is an object: " + U32),
+    ('{"op":"unpin","addr":0}', "unpin: pid is missing: " + U32),
+    ('{"op":"unpin","pid":1,"addr":18446744073709551616}', "unpin: addr is 18446744073709551616: " + U64),
+    ('{"op":"read","pid":1,"addr":0}', "read: len is missing: " + U64),
+    ('{"op":"write","pid":1,"addr":0}', "write: data is missing: " + HEX),
+    ('{"op":"write","pid":1,"addr":0,"data":"0x61"}', 'write: data is "0x61": ' + HEX),
+    ('{"op":"write","pid":1,"addr":0,"data":"\u0661\u0661"}', 'write: data is "\\u0661\\u0661": ' + HEX),
+    ('{"op":"move_pages","caller":1,"pid":0,"pages":65536,"nodes":[1],"flags":2}', "move_pages: pages is 65536: " + BATCH),
+    ('{"op":"move_pages","caller":1,"pid":0,"pages":[],"nodes":[1],"flags":2}',
+     "move_pages: nodes has 1 element: wanted are 0, as many as pages has"),
+    ('{"op":"migrate_pages","caller":1,"pid":0,"old":[0]}', "migrate_pages: new is missing: wanted is a list"),
+    ('{"op":"migrate_pages","caller":1,"pid":0,"old":[64],"new":[1]}', "migrate_pages: old[0] is 64: " + NODE),
+    ('{"op":"migrate_pages","caller":1,"pid":0,"old":"0","new":[1]}', 'migrate_pages: old is "0": wanted is a list'),
+    ('{"op":"migrate_pages","pid":0,"old":[0],"new":[1]}', "migrate_pages: caller is missing: " + U32),
+    ('{"op":"mbind","caller":1,"addr":0,"len":4096,"mode":"bind","nodes":[],"flags":0}', 'mbind: mode is "bind": ' + U32),
+    ('{"op":"mbind","caller":1,"addr":0,"len":4096,"mode":2,"nodes":[true],"flags":0}', "mbind: nodes[0] is true: " + NODE),
+    ('{"op":"mbind","caller":1,"addr":0,"len":4096,"mode":2,"nodes":[0]}', "mbind: flags is missing: " + U32),
+    ('{"op":"mbind","caller":1,"addr":0,"len":-4096,"mode":2,"nodes":[0],"flags":0}', "mbind: len is -4096: " + U64),
+    ('{"op":"mbind","caller":1,"addr":0,"mode":4294967296,"nodes":[0],"flags":0}', "mbind: len is missing: " + U64),
+    ('{"op":"query","caller":1,"pid":0,"pages":[0]}', "query: flags is missing: " + U32),
+    ('{"op":"query","caller":1,"pid":0,"pages":["0"],"flags":0}', 'query: pages[0] is "0": ' + U64),
+    ('{"op":"query","caller":1,"pid":0,"flags":0}', "query: pages is missing: " + BATCH),
+    ('{"op":"free","node":4294967296}', "free: node is 4294967296: " + U32),
+    ('{"op":"pagemap"}', "pagemap: pid is missing: " + U32),
+    ('{"op":"pagemap","pid":[1]}', "pagemap: pid is a list: " + U32),
+    ('{"op":"numa_maps"}', "numa_maps: pid is missing: " + U32),
+    ('{"op":"numa_maps","pid":1.0}', "numa_maps: pid is 1.0: " + U32),
+    ('{"op":"vm_stat"}', 'op is "vm_stat": ' + OPS),
+    ('{"op":null}', "op is null: " + OPS),
+]
+
+# Other bytes, and what is said of them.
+WHOLE = [
+    (b"", "not JSON: line 1, column 1: expecting value"),
+    (b"\xef\xbb\xbf[]", "not JSON: line 1, column 1: unexpected UTF-8 BOM (decode using utf-8-sig)"),
+    (b'\n["\xc3\xa4\xff"]', "not JSON: line 2, column 4: no UTF-8"),
+    (b'["\xed\xa0\x80"]', "not JSON: line 1, column 3: no UTF-8"),
+    (b'["\xc0\x80"]', "not JSON: line 1, column 3: no UTF-8"),
+    (b"\xff\xfe[\x00]\x00", "not JSON: line 1, column 1: no UTF-8"),
+    (b"[] .", "not JSON: line 1, column 4: extra data"),
+    (b"[]\x00", "not JSON: line 1, column 3: extra data"),
+    (b"\xc2\xa0[]", "not JSON: line 1, column 1: expecting value"),
+    (b"[" * 127 + b"]" * 127, "bad machine: the top is a list: wanted is an object"),
+    (b"[" * 127 + b"0" + b"]" * 127, "bad machine: the top is a list: wanted is an object"),
+    (b"[" * 128 + b"]" * 128, "not JSON: line 1, column 128: more than 127 levels"),
+    (b"[" * 100000, "not JSON: line 1, column 128: more than 127 levels"),
+    (b'{"a":' * 127 + b"0" + b"}" * 127, "bad machine: version is missing: wanted is a whole number from 1 to 2, in digits alone"),
+    (b'{"a":' * 128 + b"0" + b"}" * 128, "not JSON: line 1, column 636: more than 127 levels"),
+    (b'["' + b"[" * 128 + b'"]', "bad machine: the top is a list: wanted is an object"),
+    (b"7", "bad machine: the top is 7: wanted is an object"),
+    (b"null", "bad machine: the top is null: wanted is an object"),
+    (b'"' + b"a" * 50 + b'"', 'bad machine: the top is "%s..: wanted is an object' % ("a" * 39)),
+    (b" " * 16777216, "not JSON: line 1, column 16777217: expecting value"),
+    (b" " * 16777217, "read fault: the trace has more than 16,777,216 bytes"),
+]
+
+
+def loaded(name):
+    """A script of the repository as a module."""
+    spec = importlib.util.spec_from_file_location(os.path.basename(name)[:-3] + "_of_" + os.path.dirname(name), os.path.join(ROOT, name))
+    module = importlib.util.module_from_spec(spec)
+    spec.loader.exec_module(module)
+    return module
+
+
+WHY = loaded("tools/why.py")
+
+
+def read(name):
+    with open(os.path.join(ROOT, name), encoding="utf-8") as file:
+        return file.read()
+
+
+def changed(text, old, new):
+    if old not in text:
+        sys.exit(f"tests/why.py: {old} is not in the trace")
+    return text.replace(old, new, 1)
+
+
+def expect(trace, line, what=None):
+    """Ends where something else is said of a trace, given as text or bytes."""
+    told = WHY.verdict(trace if isinstance(trace, bytes) else trace.encode())
+    if told != line:
+        sys.exit(f"tests/why.py: of {what or trace[:200]} is said\n  {told}\nand not\n  {line}")
+
+
+def trace_of(sizes, rows, steps):
+    return json.dumps({"version": 1, "machine": {"nodes": sizes, "distance": rows}, "steps": steps})
+
+
+def square(count):
+    return [[10 if own == to else 20 for to in range(count)] for own in range(count)]
+
+
+def batch(op, pages, nodes):
+    """A step with so many pages, and so many nodes where it takes nodes."""
+    step = {"op": op, "caller": 1, "pid": 0, "pages": [0] * pages, "flags": 0}
+    return {**step, "nodes": [0] * nodes} if op == "move_pages" else step
+
+
+def check_limits():
+    """The numbers that bound machines and batches, on both sides."""
+    expect(trace_of([256] * 64, square(64), []), "good")
+    expect(trace_of([1] * 65, square(65), []), "bad machine: machine.nodes has 65 elements: " + MOST_NODES)
+    expect(trace_of([1] * 64, square(65), []), "bad machine: machine.distance has 65 elements: " + MOST_NODES)
+    expect(trace_of([1] * 64, square(64)[:63], []), "bad machine: machine.distance has 63 rows: wanted is one for each of 64 nodes")
+    expect(trace_of([257] + [256] * 63, square(64), []),
+           "bad machine: machine.nodes has 16,385 frames together: wanted are at most 16,384")
+    expect(trace_of([16384], [[10]], [batch("move_pages", 16384, 16384), batch("query", 16384, 0)]), "good")
+    expect(trace_of([1], [[10]], [batch("move_pages", 16385, 16385)]), "bad step 0: move_pages: pages has 16,385 elements: " + BATCH)
+    expect(trace_of([1], [[10]], [batch("move_pages", 16384, 16385)]), "bad step 0: move_pages: nodes has 16,385 elements: " + BATCH)
+    expect(trace_of([1], [[10]], [batch("move_pages", 16384, 16383)]),
+           "bad step 0: move_pages: nodes has 16,383 elements: wanted are 16,384, as many as pages has")
+    expect(trace_of([1], [[10]], [{"op": "vmstat"}, batch("query", 16385, 0)]), "bad step 1: query: pages has 16,385 elements: " + BATCH)
+
+
+def check_order():
+    """The machine is told before steps, and the first bad step before others."""
+    text = changed(read("examples/three_pages.json"), '"data":"62"', '"data":"6"')
+    text = changed(text, '"op":"free"', '"op":"offline"')
+    expect(text, 'bad step 3: write: data is "6": ' + HEX)
+    expect(changed(text, "[4,4]", "[4,0]"), "bad machine: machine.nodes[1] is 0: " + LIMIT)
+    expect(changed(changed(text, "[4,4]", "[4,0]"), '"version":1', '"version":1,"n":1e999'),
+           "not JSON: line 1, column 18: a number beyond those of 64-bit floating point")
+
+
+def literals(text):
+    """The literals of Rust in a text that JSON reads as well."""
+    return [json.loads(literal, strict=False) for literal in re.findall(r'"(?:[^"\\]|\\.)*"', text, re.S)]
+
+
+def check_program():
+    """The beginning of each line is what the program's own tests say that it tells."""
+    source = read("crates/numatrace/src/tests.rt")
+    trace = literals(re.search(r"const TRACE: &str =(.*?);\n", source, re.S)[1])[0]
+    count, table = re.search(r"const FAULTS: \[\(&str, &str, &str\); (\d+)\] = \[(.*?)\n\];", source, re.S).groups()
+    words = literals(table)
+    if len(words) != 3 * int(count):
+        sys.exit("tests/why.py: the table of faults in crates/numatrace/src/tests.rt is not read right")
+    for old, new, text in zip(words[0::3], words[1::3], words[2::3]):
+        line = WHY.verdict(changed(trace, old, new).encode())
+        if not line.startswith(text + ": "):
+            sys.exit(f"tests/why.py: of {new} for {old} is said\n  {line}\nand by the program\n  {text}")
+    count, table = re.search(r"const SAME: \[\(&str, &str\); (\d+)\] = \[(.*?)\n\];", source, re.S).groups()
+    words = literals(table)
+    if len(words) != 2 * int(count):
+        sys.exit("tests/why.py: the table of spellings in crates/numatrace/src/tests.rt is not read right")
+    for old, new in zip(words[0::2], words[1::2]):
+        expect(changed(trace, old, new), "good", new)
+
+
+def check_schema():
+    """What the schema's test has as good is good, and what it has as bad is a bad machine or a bad step."""
+    text, schema = read("examples/three_pages.json"), loaded("tests/schema.py")
+    for old, new in schema.SAME:
+        expect(changed(text, old, new), "good", new)
+    for old, new in schema.FAULTS:
+        line = WHY.verdict(changed(text, old, new).encode())
+        if not re.match(r"bad (machine|step \d+): ", line):
+            sys.exit(f"tests/why.py: of {new} for {old} is said\n  {line}")
+
+
+def run(*words):
+    """Status, standard output and standard error of the tool."""
+    ran = subprocess.run([os.path.join(ROOT, "tools/why.py"), *words], capture_output=True, text=True, check=False)
+    return ran.returncode, ran.stdout, ran.stderr
+
+
+def check_command():
+    """Statuses and streams."""
+    good = os.path.join(ROOT, "examples/three_pages.json")
+    with tempfile.TemporaryDirectory() as there:
+        bad = os.path.join(there, "bad.json")
+        with open(bad, "w", encoding="utf-8") as file:
+            file.write("[]")
+        missing = os.path.join(there, "missing.json")
+        ran = [run(good), run(bad), run(missing), run(), run(good, bad)]
+    usage = (1, "", "why.py: wanted is one word, the path of a trace\n")
+    wanted = [(0, "good\n", ""), (2, "bad machine: the top is a list: wanted is an object\n", ""),
+              (1, "", f"why.py: {missing}: No such file or directory\n"), usage, usage]
+    if ran != wanted:
+        sys.exit(f"tests/why.py: the tool ran as {ran}")
+
+
+def main():
+    for path in sorted(glob.glob(os.path.join(ROOT, "examples/*.json")) + glob.glob(os.path.join(ROOT, "tests/traces/*.json"))):
+        with open(path, "rb") as file:
+            expect(file.read(), "good", path)
+    text = read("examples/three_pages.json")
+    for old, new, line in CHANGED:
+        expect(changed(text, old, new), line, f"{new} for {old}")
+    for step, line in STEPS:
+        expect('{"version":1,"machine":{"nodes":[1],"distance":[[10]]},"steps":[%s]}' % step, "bad step 0: " + line)
+    for data, line in WHOLE:
+        expect(data, line)
+    check_limits()
+    check_order()
+    check_program()
+    check_schema()
+    check_command()
+
+
+if __name__ == "__main__":
+    main()
