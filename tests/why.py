@@ -187,6 +187,9 @@ WHOLE = [
 ]
 
 
+sys.dont_write_bytecode = True
+
+
 def loaded(name):
     """A script of the repository as a module."""
     spec = importlib.util.spec_from_file_location(os.path.basename(name)[:-3] + "_of_" + os.path.dirname(name), os.path.join(ROOT, name))

@@ -1,0 +1,344 @@
+#!/usr/bin/env python3
+"""Checks tools/picture.py: what it draws of reports, with and without their traces, that nothing overlaps or leaves the
+picture, that docs/ has the picture that it draws now, and what it says of bad input."""
+import glob
+import json
+import os
+import re
+import subprocess
+import sys
+import tempfile
+import xml.etree.ElementTree as ElementTree
+from collections import Counter, namedtuple
+
+ROOT = os.path.dirname(os.path.dirname(os.path.abspath(__file__)))
+SHOWN = "docs/chain_of_nodes.svg", "examples/chain_of_nodes"
+Box = namedtuple("Box", "left top right bottom")
+Square = namedtuple("Square", "box kind tip")
+
+sys.dont_write_bytecode = True
+sys.path.insert(0, os.path.join(ROOT, "tools"))
+import picture  # noqa: E402
+
+# Reports by hand, each with whether its trace is given, and the squares of its picture: column by column, by frame.
+TWO_NODES = '{"version":1,"machine":{"nodes":[2,3],"distance":[[10,20],[20,10]]},"steps":[%s]}'
+SPAWN = '{"op":"spawn","pid":%d,"uid":1,"home":0,"allowed":[0]}'
+LOOKS = '{"op":"free","node":0},{"op":"free","node":1},{"op":"pagemap","pid":7},{"op":"pagemap","pid":8}'
+DRAWN = [
+    # A list makes the other frames of its node not free; a page of two processes; the page of zeros is no frame.
+    ("0 free 1: 1\n1 free 2: 4 2\n2 pagemap 2: 00010000=3 00011000=zero\n3 pagemap 1: 7fffffffe000=3\n", LOOKS, [
+        "taken frame 0: not free; no pagemap line here shows its page",
+        "free frame 1: free, number 1 of its node's list",
+        "free frame 2: free, number 2 of its node's list",
+        "held frame 3: page 10 of process 7, page 7fffffffe of process 8",
+        "free frame 4: free, number 1 of its node's list"]),
+    # The same without the trace: frame 0 is not named, and frame 1 may be on the node of the others.
+    ("0 free 1: 1\n1 free 2: 4 2\n2 pagemap 2: 00010000=3 00011000=zero\n3 pagemap 1: 7fffffffe000=3\n", None, [
+        "free frame 1: free, number 1 of its node's list",
+        "free frame 2: free, number 2 of its node's list",
+        "held frame 3: page 10 of the process of step 2, page 7fffffffe of the process of step 3",
+        "free frame 4: free, number 1 of its node's list"]),
+    # A pagemap line alone tells of its frames; what is between two columns is not carried over.
+    ("0 pagemap 1: 00010000=0\n1 write ok\n2 free 0:\n",
+     '{"op":"pagemap","pid":7},{"op":"write","pid":7,"addr":0,"data":"61"},{"op":"free","node":0}', [
+         "held frame 0: page 10 of process 7", "unknown frame 1: not known", "nothing",
+         "taken frame 0: not free; no pagemap line here shows its page",
+         "taken frame 1: not free; no pagemap line here shows its page", "nothing"]),
+    # Looks, refusals and new areas part no moment; mbind's EIO does.
+    ("0 free 2: 0 1\n1 map segment=0\n2 write error EFAULT\n3 vmstat pgmigrate_success 0 pgmigrate_fail 0\n4 free 3: 2 3 4\n"
+     "5 mbind error EINVAL\n6 numa_maps 1\n00010000 default\n7 query 0: -2\n8 free 2: 0 1\n9 mbind error EIO\n10 free 2: 1 0\n", None, [
+         "free frame 0: free, number 1 of its node's list", "free frame 1: free, number 2 of its node's list",
+         "free frame 2: free, number 1 of its node's list", "free frame 3: free, number 2 of its node's list",
+         "free frame 4: free, number 3 of its node's list",
+         "free frame 0: free, number 2 of its node's list", "free frame 1: free, number 1 of its node's list", "nothing"]),
+    # A refused look tells nothing.
+    ("0 free error EINVAL\n1 pagemap error ESRCH\n", None, []),
+    ("", None, []),
+]
+
+# Reports that are none, and what is said of them.
+BAD = [
+    ("0 free 1: 1", "the last line has no line feed: the report was cut"),
+    ("1 free 1: 1\n", "line 1: wanted is the line of step 0"),
+    ("00 free 1: 1\n", "line 1: wanted is the line of step 0"),
+    ("0 free 1: 1\n0 free 1: 1\n", "line 2: wanted is the line of step 1"),
+    ("0 fork ok\n", "line 1: wanted is the line of step 0"),
+    ("0 spawn ok\r\n1 fork\r\n", "line 2: wanted is the line of step 1"),
+    ("\n", "line 1: wanted is the line of step 0"),
+    ("{\"version\":1}\n", "line 1: wanted is the line of step 0"),
+    ("0 numa_maps 2\n00010000 default\n", "1 line of numa_maps is missing: the report was cut"),
+    ("0 numa_maps 9\n00010000 default\n", "8 lines of numa_maps are missing: the report was cut"),
+    ("0 numa_maps x\n", "line 1: wanted is a number of areas"),
+    ("0 free 2: 1\n", "line 1: wanted is a list behind the count of its items"),
+    ("0 free 1:1\n", "line 1: wanted is a list behind the count of its items"),
+    ("0 free 1: 1 \n", "line 1: wanted is a list behind the count of its items"),
+    ("0 free ok\n", "line 1: wanted is a list behind the count of its items"),
+    ("0 free 1: 01\n", "line 1: 01 is no item of this list"),
+    ("0 free 1: 16384\n", "line 1: 16384 is no item of this list"),
+    ("0 free 1: zero\n", "line 1: zero is no item of this list"),
+    ("0 free 2: 3 3\n", "line 1: frame 3 stands twice"),
+    ("0 free 1: 3\n1 free 2: 4 3\n", "line 2: frame 3 stands twice"),
+    ("0 pagemap 1: 10000=1\n", "line 1: 10000=1 is no item of this list"),
+    ("0 pagemap 1: 00010000=99999\n", "line 1: 00010000=99999 is no item of this list"),
+    ("0 pagemap 1: 00010001=1\n", "line 1: 00010001=1 is no item of this list"),
+    ("0 pagemap 1: 0001000A=1\n", "line 1: 0001000A=1 is no item of this list"),
+    ("0 pagemap 2: 00011000=1 00010000=2\n", "line 1: the entries do not go up"),
+    ("0 free 1: 3\n1 pagemap 1: 00010000=3\n", "steps 0 to 1: frame 3 is both free and held"),
+]
+
+# Reports that are not of the trace beside them.
+OTHER = [
+    ("0 free 1: 1\n", '{"op":"pagemap","pid":1}', "line 1: the trace has another step 0"),
+    ("0 free 1: 1\n1 free 0:\n", '{"op":"free","node":0}', "line 2: the trace has another step 1"),
+    ("0 free 1: 1\n", '{"op":"free","node":1}', "line 1: frame 1 is not on node 1 of the trace"),
+    ("0 free 1: 1\n", '{"op":"free","node":64}', "line 1: node 64 is none of the trace"),
+    ("0 free 0:\n", '{"op":"free","node":2}', "line 1: node 2 is none of the trace"),
+    ("0 pagemap 1: 00010000=5\n", '{"op":"pagemap","pid":1}', "line 1: frame 5 is none of the trace"),
+    ("0 free 0:\n", '{"op":"free"}', "TRACE: bad step 0: free: node is missing: wanted is a whole number from 0 to 4,294,967,295, in digits alone"),
+]
+
+
+def fail(words):
+    sys.exit("tests/picture.py: " + words)
+
+
+# ---- what a picture shows
+
+
+def attribute(element, name):
+    return float(element.get(name, "0"))
+
+
+def box_of_rect(element):
+    left, top = attribute(element, "x"), attribute(element, "y")
+    return Box(left, top, left + attribute(element, "width"), top + attribute(element, "height"))
+
+
+def box_of_text(element):
+    """Room for a text: letters of this font are some 0.6 of its size wide."""
+    size, x, y = attribute(element, "font-size"), attribute(element, "x"), attribute(element, "y")
+    width = 0.6 * size * len(element.text)
+    left = x - {"start": 0, "middle": width / 2, "end": width}[element.get("text-anchor")]
+    return Box(left, y - 0.75 * size, left + width, y + 0.2 * size)
+
+
+def named(element, name):
+    return element.tag == "{http://www.w3.org/2000/svg}" + name
+
+
+def squares_of(svg):
+    """The squares of frames, and the boxes of which nothing is known."""
+    groups = [element for element in svg if named(element, "g") and element.get("class") != "zeros"]
+    boxes = [box_of_rect([part for part in group if named(part, "rect")][-1]) for group in groups]
+    return [Square(box, group.get("class"), "" if named(group[0], "rect") else group[0].text) for box, group in zip(boxes, groups)]
+
+
+def in_columns(squares):
+    """The squares column by column, and in each by frame: a column's squares stand apart from those of others by the gap."""
+    columns = []
+    for square in sorted(squares, key=lambda square: square.box.left):
+        if not columns or square.box.left > max(other.box.right for other in columns[-1]) + picture.GAP / 2:
+            columns.append([])
+        columns[-1].append(square)
+    return [square for column in columns for square in sorted(column, key=lambda square: (square.box.top, square.box.left))]
+
+
+def check_apart(what, boxes):
+    """No two boxes overlap. Each is laid into the fields of a grid that it meets, and compared with those that lie there."""
+    fields = {}
+    for box in boxes:
+        met = {(x, y) for x in range(int(box.left) // 40, int(box.right) // 40 + 1) for y in range(int(box.top) // 40, int(box.bottom) // 40 + 1)}
+        for other in {other for field in met for other in fields.get(field, ())}:
+            if min(box.right, other.right) - max(box.left, other.left) > 0.01 and min(box.bottom, other.bottom) - max(box.top, other.top) > 0.01:
+                fail(f"{what}: {box} and {other} overlap")
+        for field in met:
+            fields.setdefault(field, []).append(box)
+
+
+def check_geometry(what, svg):
+    """All lies inside the view box; texts lie apart, squares lie apart, and no other text lies on a square."""
+    width, height = (float(number) for number in svg.get("viewBox").split()[2:])
+    texts = [box_of_text(element) for element in svg.iter() if named(element, "text")]
+    free_texts = [box_of_text(element) for element in svg if named(element, "text")]
+    squares = [square.box for square in squares_of(svg)]
+    for box in texts + [box_of_rect(element) for element in svg.iter() if named(element, "rect")]:
+        if box.left < 0 or box.top < 0 or box.right > width or box.bottom > height:
+            fail(f"{what}: {box} is not inside {width} by {height}")
+    check_apart(what, texts)
+    check_apart(what, squares + free_texts)
+    for group in svg:
+        if named(group, "g") and group.get("class") != "zeros":
+            around = box_of_rect([part for part in group if named(part, "rect")][-1])
+            for box in [box_of_text(part) for part in group if named(part, "text")]:
+                if box.left < around.left or box.right > around.right or box.top < around.top or box.bottom > around.bottom:
+                    fail(f"{what}: the text of {around} leaves it")
+
+
+# ---- the checks
+
+
+def written(there, name, text):
+    path = os.path.join(there, name)
+    with open(path, "w", encoding="utf-8") as file:
+        file.write(text)
+    return path
+
+
+def check_drawn(there):
+    for text, steps, wanted in DRAWN:
+        report = written(there, "some.report", text)
+        trace = written(there, "some.json", TWO_NODES % steps) if steps is not None else None
+        svg = ElementTree.fromstring(picture.picture_of(report, trace))
+        check_geometry(text, svg)
+        told = [f"{square.kind} {square.tip}".strip() for square in in_columns(squares_of(svg))]
+        if told != wanted:
+            fail(f"of {text!r} is drawn\n  {told}\nand not\n  {wanted}")
+        words = " ".join(element.text for element in svg if named(element, "text"))
+        if ("where pages are is not known" in words) != (not wanted):
+            fail(f"of {text!r} is written {words}")
+
+
+def told_by(path):
+    """How often a report tells of a frame what a square says of it, counted from its lines alone: each moment counts a free
+    frame, or a page of a frame, once."""
+    found, moment = Counter(), set()
+    with open(path, encoding="utf-8") as file:
+        for line in file.read().split("\n"):
+            k, op, answer = (line.split(" ", 2) + ["", "", ""])[:3]
+            if op in ("unmap", "exit", "read", "write", "move_pages", "migrate_pages", "mbind") and (op == "mbind" or "error" not in answer):
+                found.update(moment)
+                moment = set()
+            if op == "free" and "error" not in answer:
+                moment |= {("free", int(frame), place) for place, frame in enumerate(answer.split()[1:], 1)}
+            if op == "pagemap" and "error" not in answer:
+                entries = [entry.split("=") for entry in answer.split()[1:]]
+                moment |= {("held", int(frame), int(address, 16) // 4096, int(k)) for address, frame in entries if frame != "zero"}
+    found.update(moment)
+    return found
+
+
+def shown_by(svg):
+    """The same, from the squares of a picture that was drawn without a trace."""
+    found = Counter()
+    for square in squares_of(svg):
+        if square.kind == "free":
+            found[("free", *(int(number) for number in re.fullmatch(r"frame (\d+): free, number (\d+) of its node's list", square.tip).groups()))] += 1
+        if square.kind == "held":
+            frame, pages = square.tip.split(": ")
+            for page in pages.split(", "):
+                number, step = re.fullmatch(r"page ([0-9a-f]+) of the process of step (\d+)", page).groups()
+                found[("held", int(frame.removeprefix("frame ")), int(number, 16), int(step))] += 1
+    return found
+
+
+def check_reports():
+    """Each report of the repository is drawn as it tells, with and without its trace."""
+    for path in sorted(glob.glob(os.path.join(ROOT, "examples/*.report")) + glob.glob(os.path.join(ROOT, "tests/traces/*.report"))):
+        trace = path.removesuffix(".report") + ".json"
+        plain, full = (ElementTree.fromstring(picture.picture_of(path, given)) for given in (None, trace))
+        check_geometry(path, plain)
+        check_geometry(path + " with its trace", full)
+        if shown_by(plain) != told_by(path):
+            fail(f"{path} is not drawn as it tells")
+        kinds = [Counter(square.kind for square in squares_of(svg)) for svg in (plain, full)]
+        if any(kinds[0][kind] != kinds[1][kind] for kind in ("free", "held")) or kinds[0]["taken"]:
+            fail(f"{path} tells other frames with its trace: {kinds}")
+
+
+def large(nodes, frames, processes):
+    """A report and a trace in which frame f is free where f mod (processes + 1) is 0, and else held by process f mod (processes + 1)."""
+    lines, steps = [], []
+    for node in range(nodes - 1):
+        free = [frame for frame in range(node * frames, (node + 1) * frames) if frame % (processes + 1) == 0]
+        lines.append(f"{len(steps)} free {len(free)}:" + "".join(f" {frame}" for frame in free))
+        steps.append({"op": "free", "node": node})
+    for process in range(1, processes + 1):
+        held = range(process, nodes * frames, processes + 1)
+        lines.append(f"{len(steps)} pagemap {len(held)}:" + "".join(f" {(16 + at) << 12:08x}={frame}" for at, frame in enumerate(held)))
+        steps.append({"op": "pagemap", "pid": process})
+    rows = [[10 if own == to else 20 for to in range(nodes)] for own in range(nodes)]
+    trace = {"version": 1, "machine": {"nodes": [frames] * nodes, "distance": rows}, "steps": steps}
+    return "".join(line + "\n" for line in lines), json.dumps(trace)
+
+
+def check_large(there):
+    """Machines of many nodes and frames, with more processes than colours. Of the last node's free frames nothing is told."""
+    for nodes, frames, processes in [(1, 1, 1), (4, 64, 3), (17, 9, 2), (64, 1, 3), (64, 16, 12), (64, 256, 3), (2, 8192, 1)]:
+        report, trace = large(nodes, frames, processes)
+        paths = written(there, "large.report", report), written(there, "large.json", trace)
+        free = sum(frame % (processes + 1) == 0 for frame in range((nodes - 1) * frames))
+        held = sum(frame % (processes + 1) != 0 for frame in range(nodes * frames))
+        for given in (None, paths[1]):
+            svg = ElementTree.fromstring(picture.picture_of(paths[0], given))
+            check_geometry(f"{nodes} nodes of {frames} frames", svg)
+            kinds = Counter(square.kind for square in squares_of(svg))
+            if (kinds["free"], kinds["held"], kinds["taken"]) != (free, held, 0):
+                fail(f"{nodes} nodes of {frames} frames are drawn as {kinds}")
+
+
+def run(*words):
+    """Status, standard output and standard error of the tool."""
+    ran = subprocess.run([os.path.join(ROOT, "tools/picture.py"), *words], capture_output=True, check=False)
+    return ran.returncode, ran.stdout.decode(), ran.stderr.decode()
+
+
+def said_of(report, trace):
+    try:
+        picture.picture_of(report, trace)
+    except picture.Bad as fault:
+        return str(fault)
+    return None
+
+
+def check_bad(there):
+    """Each bad report and trace is told of."""
+    for text, line in BAD:
+        report = written(there, "bad.report", text)
+        if said_of(report, None) != line:
+            fail(f"of {text!r} is said {said_of(report, None)}, and not {line}")
+    for text, steps, line in OTHER:
+        report, trace = written(there, "bad.report", text), written(there, "bad.json", TWO_NODES % steps)
+        if said_of(report, trace) != line.replace("TRACE", trace):
+            fail(f"of {text!r} and {steps} is said {said_of(report, trace)}, and not {line}")
+
+
+def check_command(there):
+    """Statuses and streams: one line and status 2 for what is bad, and nothing on standard output."""
+    report = written(there, "a&b\n.report", "0 free 1: 1\n")
+    status, out, err = run(report)
+    if (status, err) != (0, "") or "a&amp;b?.report" not in out or ElementTree.fromstring(out) is None:
+        fail(f"a picture ends with {status} and {err}")
+    bad, other = written(there, "bad.report", "0 free 2: 1\n"), os.path.join(there, "none\nsuch")
+    bytes_in_it = os.path.join(there, "bytes.report")
+    with open(bytes_in_it, "wb") as file:
+        file.write(b"0 spawn ok\n1 \xff\n")
+    usage = "wanted is REPORT, or REPORT --trace TRACE"
+    for words, line in [([], usage), ([bad, "--trace"], usage), ([bad, bad], usage), (["--trace", bad, bad], usage),
+                        ([bad], "line 1: wanted is a list behind the count of its items"),
+                        ([bytes_in_it], f"{bytes_in_it}: byte 13 is none of a report"),
+                        ([other], f"{other}: No such file or directory".replace("\n", "?")),
+                        ([bad, "--trace", bad], f"{bad}: not JSON: line 1, column 3: extra data")]:
+        if run(*words) != (2, "", f"picture.py: {line}\n"):
+            fail(f"the tool ran with {words} as {run(*words)}")
+
+
+def check_shown():
+    """The picture in docs/ is what the tool draws."""
+    path, example = (os.path.join(ROOT, name) for name in SHOWN)
+    with open(path, encoding="utf-8") as file:
+        if file.read() != picture.picture_of(example + ".report", example + ".json"):
+            fail(f"{SHOWN[0]} is not what tools/picture.py draws of {SHOWN[1]}.report with its trace")
+
+
+def main():
+    with tempfile.TemporaryDirectory() as there:
+        check_drawn(there)
+        check_bad(there)
+        check_large(there)
+        check_command(there)
+    check_reports()
+    check_shown()
+
+
+if __name__ == "__main__":
+    main()
