@@ -94,7 +94,8 @@ OTHER = [
     ("0 free 1: 1\n", '{"op":"free","node":64}', "line 1: node 64 is none of the trace"),
     ("0 free 0:\n", '{"op":"free","node":2}', "line 1: node 2 is none of the trace"),
     ("0 pagemap 1: 00010000=5\n", '{"op":"pagemap","pid":1}', "line 1: frame 5 is none of the trace"),
-    ("0 free 0:\n", '{"op":"free"}', "TRACE: bad step 0: free: node is missing: wanted is a whole number from 0 to 4,294,967,295, in digits alone"),
+    ("0 free 0:\n", '{"op":"free"}', "TRACE: bad step 0: free: node is missing: wanted is a whole number from 0 to 4,294,967,295, "
+     "in digits alone"),
 ]
 
 
@@ -147,9 +148,11 @@ def check_apart(what, boxes):
     """No two boxes overlap. Each is laid into the fields of a grid that it meets, and compared with those that lie there."""
     fields = {}
     for box in boxes:
-        met = {(x, y) for x in range(int(box.left) // 40, int(box.right) // 40 + 1) for y in range(int(box.top) // 40, int(box.bottom) // 40 + 1)}
+        across, down = range(int(box.left) // 40, int(box.right) // 40 + 1), range(int(box.top) // 40, int(box.bottom) // 40 + 1)
+        met = {(x, y) for x in across for y in down}
         for other in {other for field in met for other in fields.get(field, ())}:
-            if min(box.right, other.right) - max(box.left, other.left) > 0.01 and min(box.bottom, other.bottom) - max(box.top, other.top) > 0.01:
+            both = Box(max(box.left, other.left), max(box.top, other.top), min(box.right, other.right), min(box.bottom, other.bottom))
+            if both.right - both.left > 0.01 and both.bottom - both.top > 0.01:
                 fail(f"{what}: {box} and {other} overlap")
         for field in met:
             fields.setdefault(field, []).append(box)
@@ -205,7 +208,8 @@ def told_by(path):
     with open(path, encoding="utf-8") as file:
         for line in file.read().split("\n"):
             k, op, answer = (line.split(" ", 2) + ["", "", ""])[:3]
-            if op in ("unmap", "exit", "read", "write", "move_pages", "migrate_pages", "mbind") and (op == "mbind" or "error" not in answer):
+            changes = op in ("unmap", "exit", "read", "write", "move_pages", "migrate_pages") and "error" not in answer
+            if changes or op == "mbind" and ("error" not in answer or answer == "error EIO"):
                 found.update(moment)
                 moment = set()
             if op == "free" and "error" not in answer:
@@ -222,7 +226,8 @@ def shown_by(svg):
     found = Counter()
     for square in squares_of(svg):
         if square.kind == "free":
-            found[("free", *(int(number) for number in re.fullmatch(r"frame (\d+): free, number (\d+) of its node's list", square.tip).groups()))] += 1
+            frame, place = re.fullmatch(r"frame (\d+): free, number (\d+) of its node's list", square.tip).groups()
+            found[("free", int(frame), int(place))] += 1
         if square.kind == "held":
             frame, pages = square.tip.split(": ")
             for page in pages.split(", "):

@@ -19,7 +19,10 @@ FLAG = "wanted is true or false"
 HEX = "wanted is a text of hexadecimal digits, an even number of them"
 BATCH = "wanted is a list of at most 16,384 elements"
 MOST_NODES = "wanted is a list of at most 64 elements"
-OPS = "wanted is one of spawn, map, attach, unmap, exit, pin, unpin, read, write, move_pages, migrate_pages, mbind, query, free, pagemap, numa_maps, vmstat"
+OPS = (
+    "wanted is one of spawn, map, attach, unmap, exit, pin, unpin, read, write, move_pages, migrate_pages, mbind, query, free, "
+    "pagemap, numa_maps, vmstat"
+)
 
 # The first example with one place changed, and what is said of it.
 CHANGED = [

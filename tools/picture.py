@@ -32,6 +32,17 @@ UNTOLD, TAKEN, FREE, INK, PALE = "#9db8d2", "#c6c6c6", "#eef5e6", "#222222", "#6
 
 Band = namedtuple("Band", "name frames node")  # its frames upwards; the node is None where it is not known
 Grid = namedtuple("Grid", "across width height")  # how many squares a row has, and how wide and high one is
+DARK, DASHED = ' stroke="#444444"', ' stroke="#9a9a9a" stroke-dasharray="2 2"'
+BORDERS = {"free": ' stroke="#7d8a70"', "held": DARK, "taken": DARK, "unknown": DASHED}
+ABOUT = (
+    "A column is a moment at which the report looks, a square a frame. The number in a square is its page's: the address in "
+    "hexadecimal without the last three digits; a plus tells of further addresses. Point at a square for all that is known of it."
+)
+NO_TRACE = (
+    "Only frames that the report names are shown. Without the trace neither nodes nor processes are known: a band \"one node\" "
+    "has frames that lists of free frames show to be together, and two such bands may be on one node; of the others the node is "
+    "not told."
+)
 
 
 class Bad(Exception):
@@ -232,7 +243,8 @@ class Picture:
         self.colours[None] = UNTOLD
 
     def text(self, x, y, size, words, anchor="start", ink=INK):
-        self.parts.append(f'<text x="{x:g}" y="{y:g}" font-size="{size}" text-anchor="{anchor}" fill="{ink}">{html.escape(words)}</text>')
+        place = f'x="{x:g}" y="{y:g}" font-size="{size}" text-anchor="{anchor}"'
+        self.parts.append(f'<text {place} fill="{ink}">{html.escape(words)}</text>')
 
     def rect(self, x, y, width, height, fill, more=""):
         self.parts.append(f'<rect x="{x:g}" y="{y:g}" width="{width:g}" height="{height:g}" fill="{fill}"{more}/>')
@@ -243,8 +255,7 @@ class Picture:
         stripes = list(processes)[:4]
         for k, process in enumerate(stripes):
             self.rect(x + k * width / len(stripes), y, width / len(stripes), height, self.colours[process])
-        line = ' stroke="#9a9a9a" stroke-dasharray="2 2"' if kind == "unknown" else ' stroke="#7d8a70"' if kind == "free" else ' stroke="#444444"'
-        self.rect(x, y, width, height, "none" if stripes else fill, line)
+        self.rect(x, y, width, height, "none" if stripes else fill, BORDERS[kind])
 
     def frame(self, x, y, grid, frame, square, processes):
         """A frame with its tooltip, its number and its text as far as there is room."""
@@ -256,13 +267,16 @@ class Picture:
             self.text(x + 4, y + 10, 7, str(frame), ink=ink)
         size = 10 if grid.width >= 40 else 8
         if words and grid.width >= 20 and len(words) * size * 0.68 <= width:
-            self.text(x + grid.width / 2, y + grid.height - (6 if size == 10 else 7), size, words, "middle", ink)
+            foot = y + grid.height - (6 if size == 10 else 7)
+            self.text(x + grid.width / 2, foot, size, words, "middle", ink)
         self.parts.append("</g>")
 
     def whole(self, width, height, name):
-        head = f'<svg xmlns="http://www.w3.org/2000/svg" viewBox="0 0 {width:g} {height:g}" width="{width:g}" height="{height:g}" font-family="{FONT}" role="img">'
+        size = f'width="{width:g}" height="{height:g}"'
+        space = f'xmlns="http://www.w3.org/2000/svg" viewBox="0 0 {width:g} {height:g}"'
+        head = f'<svg {space} {size} font-family="{FONT}" role="img">'
         title = f"<title>{html.escape(name)}</title>"
-        return "\n".join([head, title, f'<rect width="{width:g}" height="{height:g}" fill="#ffffff"/>', *self.parts, "</svg>"]) + "\n"
+        return "\n".join([head, title, f'<rect {size} fill="#ffffff"/>', *self.parts, "</svg>"]) + "\n"
 
 
 def rows_in(band, grid):
@@ -275,7 +289,7 @@ def draw_cell(picture, x, y, grid, band, moment):
     if all(kind == "unknown" for kind, _, _ in squares):
         width, height = min(len(squares), grid.across) * grid.width, rows_in(band, grid) * grid.height
         picture.parts.append('<g class="nothing">')
-        picture.rect(x + 1, y + 1, max(width, 90) - 2, height - 2, "none", ' stroke="#9a9a9a" stroke-dasharray="2 2"')
+        picture.rect(x + 1, y + 1, max(width, 90) - 2, height - 2, "none", BORDERS["unknown"])
         picture.text(x + max(width, 90) / 2, y + height / 2 + 3, 8, "nothing is known", "middle", PALE)
         picture.parts.append("</g>")
         return
@@ -338,17 +352,21 @@ def notes_of(moments, machine, processes):
     """What the picture's reader should know, by sentences."""
     if not moments:
         return ["This report has no line of free or pagemap with a list: where pages are is not known."]
-    notes = ["A column is a moment at which the report looks, a square a frame. The number in a square is its page's: the address in hexadecimal without the last three digits; a plus tells of further addresses. Point at a square for all that is known of it."]
-    if machine is None:
-        notes += ["Only frames that the report names are shown. Without the trace neither nodes nor processes are known: a band \"one node\" has frames that lists of free frames show to be together, and two such bands may be on one node; of the others the node is not told."]
+    notes = [ABOUT] if machine else [ABOUT, NO_TRACE]
     if len(processes) > len(COLOURS):
         notes += ["There are more processes than colours: a square's tooltip names its processes."]
     return notes
 
 
+def processes_of(moments):
+    """The processes of which pages are drawn, where they are known."""
+    pages = [page for moment in moments for held in moment.held.values() for page in held]
+    return sorted({process for process, _, _ in pages if process is not None})
+
+
 def drawing(name, moments, machine):
     """The SVG of a report."""
-    processes = sorted({page[0] for moment in moments for pages in moment.held.values() for page in pages if page[0] is not None})
+    processes = processes_of(moments)
     picture, bands = Picture(processes), bands_of(moments, machine) if moments else []
     grid = grid_of(bands)
     column = max(min(grid.across, max((len(band.frames) for band in bands), default=1)) * grid.width, 130)
@@ -366,7 +384,8 @@ def drawing(name, moments, machine):
     for k, moment in enumerate(moments):
         draw_zeros(picture, LEFT + k * (column + GAP), y + 8, moment)
     y += 20 if any(moment.zeros for moment in moments) else 0
-    for line in [line for note in notes_of(moments, machine, processes) for line in textwrap.wrap(note, int((width - 2 * EDGE) / 6))]:
+    letters = int((width - 2 * EDGE) / 6)
+    for line in [line for note in notes_of(moments, machine, processes) for line in textwrap.wrap(note, letters)]:
         picture.text(EDGE, y + 12, 9, line, ink=PALE)
         y += 14
     return picture.whole(width, y + 16, name)
