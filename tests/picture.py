@@ -51,6 +51,8 @@ DRAWN = [
          "free frame 2: free, number 1 of its node's list", "free frame 3: free, number 2 of its node's list",
          "free frame 4: free, number 3 of its node's list",
          "free frame 0: free, number 2 of its node's list", "free frame 1: free, number 1 of its node's list", "nothing"]),
+    # A page's number stands in its square where there is room for it.
+    ("0 pagemap 1: 7fffffffe000=16383\n", None, ["held frame 16383: page 7fffffffe of the process of step 0"]),
     # A refused look tells nothing.
     ("0 free error EINVAL\n1 pagemap error ESRCH\n", None, []),
     ("", None, []),
@@ -83,6 +85,7 @@ BAD = [
     ("0 pagemap 1: 00010001=1\n", "line 1: 00010001=1 is no item of this list"),
     ("0 pagemap 1: 0001000A=1\n", "line 1: 0001000A=1 is no item of this list"),
     ("0 pagemap 2: 00011000=1 00010000=2\n", "line 1: the entries do not go up"),
+    ("0 pagemap 2: 00010000=1 00010000=2\n", "line 1: the entries do not go up"),
     ("0 free 1: 3\n1 pagemap 1: 00010000=3\n", "steps 0 to 1: frame 3 is both free and held"),
 ]
 
@@ -279,6 +282,8 @@ def check_large(there):
             kinds = Counter(square.kind for square in squares_of(svg))
             if (kinds["free"], kinds["held"], kinds["taken"]) != (free, held, 0):
                 fail(f"{nodes} nodes of {frames} frames are drawn as {kinds}")
+            if given and float(svg.get("height")) > 40 * nodes + 20 * nodes * frames / 16 + 200:
+                fail(f"{nodes} nodes of {frames} frames take {svg.get('height')} points from top to bottom")
 
 
 def run(*words):
@@ -305,6 +310,12 @@ def check_bad(there):
         report, trace = written(there, "bad.report", text), written(there, "bad.json", TWO_NODES % steps)
         if said_of(report, trace) != line.replace("TRACE", trace):
             fail(f"of {text!r} and {steps} is said {said_of(report, trace)}, and not {line}")
+
+
+def check_names(there):
+    """The picture has room for the name of its report."""
+    report = written(there, 60 * "name" + ".report", "0 free 1: 1\n")
+    check_geometry("a long name", ElementTree.fromstring(picture.picture_of(report, None)))
 
 
 def check_command(there):
@@ -340,6 +351,7 @@ def main():
         check_drawn(there)
         check_bad(there)
         check_large(there)
+        check_names(there)
         check_command(there)
     check_reports()
     check_shown()

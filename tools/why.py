@@ -19,8 +19,8 @@ TOKENS = re.compile(r'"[^"\\]*(?:\\.[^"\\]*)*"|-?[0-9][0-9.eE+-]*|[\[\]{}]|-?Inf
 SURROGATE = re.compile("[\ud800-\udfff]")
 
 
-class NoU64:
-    """A number of JSON that is no whole number from 0 to 2^64 - 1 in digits alone, with its text."""
+class Other:
+    """A number of JSON that is not written in at most 20 digits alone, which no key takes, with its text."""
 
     def __init__(self, text):
         self.text = text
@@ -30,9 +30,8 @@ class NoU64:
 
 
 def integer(text):
-    """An integer of JSON. Long ones are not turned into a number, which takes long."""
-    digits = text.isascii() and text.isdigit() and len(text) <= 20
-    return int(text) if digits and int(text) < 2**64 else NoU64(text)
+    """An integer of JSON. One of many digits is not turned into a number: Python takes long for it, or refuses."""
+    return int(text) if text.isascii() and text.isdigit() and len(text) <= 20 else Other(text)
 
 
 def token_fault(token):
@@ -78,7 +77,7 @@ def read_json(data):
     faults = [found for found in [strict_fault(text)] if found]
     value = None
     try:
-        value = json.loads(text, parse_int=integer, parse_float=NoU64)
+        value = json.loads(text, parse_int=integer, parse_float=Other)
     except json.JSONDecodeError as error:
         faults.append((error.pos, error.msg[0].lower() + error.msg[1:]))
     except RecursionError:
@@ -96,7 +95,7 @@ def shown(value):
     """A value for people, short and on one line."""
     if isinstance(value, (list, dict)):
         return "a list" if isinstance(value, list) else "an object"
-    text = value.text if isinstance(value, NoU64) else json.dumps(value)
+    text = value.text if isinstance(value, Other) else json.dumps(value)
     return text if len(text) <= 40 else text[:40] + ".."
 
 
@@ -155,11 +154,9 @@ class Form:
     def keys_fault(self, front, schema, value):
         """The first fault of an object's keys, each named behind the front."""
         for key, part in schema["properties"].items():
-            fault = None
-            if key in value:
-                fault = None if key == "op" else self.fault(front + key, part, value[key])
-            elif key in schema["required"]:
-                fault = f"{front}{key} is missing: wanted is {wanted(self.resolved(part))}"
+            if key not in value and key in schema["required"]:
+                return f"{front}{key} is missing: wanted is {wanted(self.resolved(part))}"
+            fault = self.fault(front + key, part, value[key]) if key in value else None
             if fault:
                 return fault
         return None
