@@ -312,6 +312,53 @@ def check_bad(there):
             fail(f"of {text!r} and {steps} is said {said_of(report, trace)}, and not {line}")
 
 
+def check_steps(there):
+    """--steps draws the moments that look at one of its steps, and a process keeps its colour."""
+    text = "0 pagemap 1: 00010000=0\n1 write ok\n2 pagemap 1: 00010000=1\n3 free 1: 0\n4 read 00\n5 free 2: 0 1\n"
+    report = written(there, "steps.report", text)
+    trace = written(there, "steps.json", TWO_NODES % ",".join([
+        '{"op":"pagemap","pid":7}', '{"op":"write","pid":8,"addr":0,"data":"61"}', '{"op":"pagemap","pid":8}', '{"op":"free","node":0}',
+        '{"op":"read","pid":8,"addr":0,"len":1}', '{"op":"free","node":0}', '{"op":"vmstat"}']))
+    for steps, heads in [("0-9", ["step 0", "steps 2 to 3", "step 5"]), ("1-2", ["steps 2 to 3"]), ("3-3", ["steps 2 to 3"]),
+                         ("4-5", ["step 5"]), ("0-2", ["step 0", "steps 2 to 3"]), ("6-9", []), ("3-1", []), ("4-4", [])]:
+        svg = ElementTree.fromstring(picture.picture_of(report, trace, steps))
+        check_geometry(f"steps {steps}", svg)
+        words = [element.text for element in svg if named(element, "text")]
+        if [word for word in words if re.fullmatch("step.* [0-9]+", word)] != heads:
+            fail(f"of the steps {steps} is written {words}")
+        if not any(word.startswith("The report tells of 6 of the 7 steps of its trace.") for word in words):
+            fail(f"that the report ends before its trace is not written: {words}")
+        fills = {part.get("fill") for group in svg if group.get("class") == "held" for part in group if named(part, "rect")}
+        if steps == "1-2" and ("process 7" in words or "process 8" not in words):
+            fail(f"the legend has other processes than the picture: {words}")
+        if steps == "1-2" and fills != {"none", picture.COLOURS[1]}:
+            fail(f"a process changes its colour: {fills}")
+
+
+def check_shared(there):
+    """A square has a stripe for each process that sees its page, and a process that is looked at twice counts once."""
+    text = "0 pagemap 1: 00010000=0\n1 pagemap 2: 00010000=0 00011000=zero\n2 pagemap 2: 00010000=0 00011000=zero\n"
+    look = '{"op":"pagemap","pid":%d}'
+    trace = written(there, "shared.json", TWO_NODES % ",".join([look % 7, look % 8, look % 8]))
+    svg = ElementTree.fromstring(picture.picture_of(written(there, "shared.report", text), trace))
+    check_geometry("a shared page", svg)
+    groups = {group.get("class"): group for group in svg if named(group, "g") and group.get("class") in ("held", "zeros")}
+    fills = [part.get("fill") for part in groups["held"] if named(part, "rect")]
+    if fills != [picture.COLOURS[0], picture.COLOURS[1], "none"]:
+        fail(f"a page of two processes has the colours {fills}")
+    told = [groups["held"][0].text] + [part.text for part in groups["zeros"]]
+    if told != ["frame 0: page 10 of process 7, page 10 of process 8", "page 11 of process 8", "page of zeros: 1 entry"]:
+        fail(f"of a page of two processes and the page of zeros is told {told}")
+
+
+def check_most(there):
+    """A picture has at most 200,000 squares."""
+    text = "".join(f"{2 * k} free 1: {k}\n{2 * k + 1} write ok\n" for k in range(448))
+    if said_of(written(there, "most.report", text), None) != (
+            "the picture would have 200,704 squares, and at most 200,000 are drawn: --steps picks moments"):
+        fail("a picture of too many squares is drawn")
+
+
 def check_names(there):
     """The picture has room for the name of its report."""
     report = written(there, 60 * "name" + ".report", "0 free 1: 1\n")
@@ -328,8 +375,12 @@ def check_command(there):
     bytes_in_it = os.path.join(there, "bytes.report")
     with open(bytes_in_it, "wb") as file:
         file.write(b"0 spawn ok\n1 \xff\n")
-    usage = "wanted is REPORT, or REPORT --trace TRACE"
-    for words, line in [([], usage), ([bad, "--trace"], usage), ([bad, bad], usage), (["--trace", bad, bad], usage),
+    usage = "wanted is REPORT, and with it --trace TRACE or --steps A-B or both"
+    steps = "--steps wants the numbers of two steps, as 5-20"
+    for words, line in [([], usage), ([bad, "--trace"], usage), ([bad, bad], usage), (["--trace", bad], usage),
+                        ([bad, "--size", bad], usage),
+                        ([bad, "--steps", "1-2", "--steps", "1-2"], usage), ([report, "--steps", "5"], steps),
+                        ([report, "--steps", ""], steps), ([report, "--steps", "-1-5"], steps),
                         ([bad], "line 1: wanted is a list behind the count of its items"),
                         ([bytes_in_it], f"{bytes_in_it}: byte 13 is none of a report"),
                         ([other], f"{other}: No such file or directory".replace("\n", "?")),
@@ -351,6 +402,9 @@ def main():
         check_drawn(there)
         check_bad(there)
         check_large(there)
+        check_steps(there)
+        check_shared(there)
+        check_most(there)
         check_names(there)
         check_command(there)
     check_reports()

@@ -1,10 +1,13 @@
 #!/usr/bin/env python3
-"""Draws where pages are, as a report tells it: tools/picture.py REPORT [--trace TRACE] writes an SVG on standard output.
+"""Draws where pages are, as a report tells it, as an SVG on standard output:
+
+    tools/picture.py REPORT [--trace TRACE] [--steps A-B]
 
 A column is a moment at which the report shows `free` or `pagemap` lines with nothing between them that moves a page or
 takes or frees a frame. A band is a node, and a square in it a frame: free, held by a page, or not known. A report alone tells
 neither the node of a `free` line nor the process of a `pagemap` line; with its trace the picture has both, and all frames of
-the machine. What is not known is drawn as not known. A bad report or trace is told of in one line, with status 2."""
+the machine. --steps draws the moments alone that look at a step from A to B. What is not known is drawn as not known. A bad
+report or trace is told of in one line, with status 2."""
 import html
 import os
 import re
@@ -20,10 +23,10 @@ LIST = re.compile(r"(0|[1-9][0-9]*):((?: \S+)*)")
 NUMBER = re.compile(r"0|[1-9][0-9]*")
 FRAME = re.compile(r"(?P<frame>0|[1-9][0-9]{0,4})")
 ENTRY = re.compile(r"(?P<page>[0-9a-f]{5,9})000=(?:zero|(?P<frame>0|[1-9][0-9]{0,4}))")
-OPS = set("spawn map attach unmap exit pin unpin read write move_pages migrate_pages mbind query free pagemap numa_maps vmstat".split())
-# What may move a page, or take or free a frame.
-CHANGES = {"unmap", "exit", "read", "write", "move_pages", "migrate_pages", "mbind"}
-MOST_FRAMES = 16384
+# The steps that move no page, and neither take nor free a frame. Any other may.
+KEEPS = {"spawn", "map", "attach", "pin", "unpin", "query", "free", "pagemap", "numa_maps", "vmstat"}
+USAGE = "wanted is REPORT, and with it --trace TRACE or --steps A-B or both"
+MOST_FRAMES, MOST_SQUARES = 16384, 200000
 LEFT, GAP, EDGE = 150, 24, 12
 FONT = "DejaVu Sans, Verdana, sans-serif"
 COLOURS = ["#7fb3e6", "#f2b35e", "#7fcf9f", "#e39ac4", "#cdb94f", "#a79be8", "#6fd0d6", "#e58f7b"]
@@ -56,13 +59,13 @@ def report_lines(text):
     """The lines of a report but for those behind `numa_maps`: for each its number in the file, its op and its answer."""
     if text and not text.endswith("\n"):
         raise Bad("the last line has no line feed: the report was cut")
-    lines, skipped = [], 0
+    lines, skipped, ops = [], 0, why.Form().steps
     for number, line in enumerate(text.split("\n")[:-1], 1):
         if skipped:
             skipped -= 1
             continue
         match = LINE.fullmatch(line)
-        if not match or match[2] not in OPS or match[1] != str(len(lines)):
+        if not match or match[2] not in ops or match[1] != str(len(lines)):
             raise Bad(f"line {number}: wanted is the line of step {len(lines)}")
         if match[2] == "numa_maps" and not match[3].startswith("error "):
             if not NUMBER.fullmatch(match[3]):
@@ -115,7 +118,7 @@ class Moment:
         self.after = after  # the step that may have changed something last, and its op
         self.steps = []  # the steps that look
         self.free = {}  # by frame: its place in its node's list, from 1
-        self.held = {}  # by frame: the pages that it holds, as (process or None, page number, step)
+        self.held = {}  # by frame: the pages that it holds, as (process, page number, None), or (None, page number, step)
         self.zeros = []  # where the page of zeros is seen, likewise
         self.lists = []  # for each list of free frames its lowest and its highest, where it has one
         self.nodes = set()  # the nodes whose list is told, where they are known
@@ -139,7 +142,7 @@ class Moment:
     def add_pagemap(self, k, number, answer, machine):
         below = -1
         for match in items_of(number, answer, ENTRY):
-            page = (machine and machine.steps[k]["pid"], int(match["page"], 16), k)
+            page = (machine.steps[k]["pid"], int(match["page"], 16), None) if machine else (None, int(match["page"], 16), k)
             if page[1] <= below:
                 raise Bad(f"line {number}: the entries do not go up")
             below = page[1]
@@ -161,7 +164,7 @@ def moments_of(lines, machine):
             now.add_free(k, number, answer, machine)
         elif op == "pagemap" and not refused:
             now.add_pagemap(k, number, answer, machine)
-        elif op in CHANGES and (not refused or (op, answer) == ("mbind", "error EIO")):
+        elif op not in KEEPS and (not refused or (op, answer) == ("mbind", "error EIO")):
             found.append(now)
             now = Moment((k, op))
     found = [moment for moment in found + [now] if moment.steps]
@@ -213,16 +216,17 @@ def page_text(pages):
     return f"{numbers[0]:x}" + ("+" if len(numbers) > 1 else "")
 
 
-def seen_text(page):
-    process, number, step = page
-    return f"page {number:x} of " + (f"process {process}" if process is not None else f"the process of step {step}")
+def seen_texts(pages):
+    """Where pages are seen, each once. A process that the report looks at twice is one where the trace tells its number."""
+    pages = sorted(set(pages), key=lambda page: (page[0] or 0, page[1], page[2] or 0))
+    seen = [(number, f"the process of step {step}" if process is None else f"process {process}") for process, number, step in pages]
+    return ", ".join(f"page {number:x} of {process}" for number, process in seen)
 
 
 def square_of(moment, frame, node):
     """The class, the text and the tooltip of a frame's square."""
     if frame in moment.held:
-        pages = sorted(set(moment.held[frame]), key=lambda page: (page[0] or 0, page[1], page[2]))
-        return "held", page_text(pages), f"frame {frame}: " + ", ".join(seen_text(page) for page in pages)
+        return "held", page_text(moment.held[frame]), f"frame {frame}: " + seen_texts(moment.held[frame])
     if frame in moment.free:
         place = moment.free[frame]
         return "free", f"#{place}", f"frame {frame}: free, number {place} of its node's list"
@@ -318,17 +322,16 @@ def draw_zeros(picture, x, y, moment):
     """How many entries are the page of zeros, which no square is."""
     count = len(set(moment.zeros))
     if count:
-        tip = ", ".join(seen_text(page) for page in moment.zeros)
-        picture.parts.append(f'<g class="zeros"><title>{html.escape(tip)}</title>')
+        picture.parts.append(f'<g class="zeros"><title>{html.escape(seen_texts(moment.zeros))}</title>')
         picture.text(x, y, 8, f"page of zeros: {count} " + ("entry" if count == 1 else "entries"))
         picture.parts.append("</g>")
 
 
-def legend_of(picture, moments, machine):
+def legend_of(moments, machine):
     """The kinds of squares, each with the processes of its stripes and its words."""
     items = [("free", (), "free; #1 is taken next")]
     if machine:
-        items += [("held", (process,), f"process {process}") for process in picture.colours if process is not None]
+        items += [("held", (process,), f"process {process}") for process in processes_of(moments)]
         items += [("taken", (), "not free, page not shown")]
     else:
         items += [("held", (None,), "held by a page")]
@@ -348,13 +351,15 @@ def draw_legend(picture, y, width, items):
     return y + 14
 
 
-def notes_of(moments, machine, processes):
-    """What the picture's reader should know, by sentences."""
-    if not moments:
-        return ["This report has no line of free or pagemap with a list: where pages are is not known."]
-    notes = [ABOUT] if machine else [ABOUT, NO_TRACE]
-    if len(processes) > len(COLOURS):
+def notes_of(moments, machine, processes, count):
+    """What the picture's reader should know, by sentences, of a report on so many steps."""
+    notes = [ABOUT] if moments else ["There is no line of free or pagemap with a list: where pages are is not known."]
+    if moments and not machine:
+        notes += [NO_TRACE]
+    if moments and len(processes) > len(COLOURS):
         notes += ["There are more processes than colours: a square's tooltip names its processes."]
+    if machine and count < len(machine.steps):
+        notes += [f"The report tells of {count:,} of the {len(machine.steps):,} steps of its trace."]
     return notes
 
 
@@ -364,15 +369,22 @@ def processes_of(moments):
     return sorted({process for process, _, _ in pages if process is not None})
 
 
-def drawing(name, moments, machine):
-    """The SVG of a report."""
-    processes = processes_of(moments)
+def check_size(moments, bands):
+    """Refuses a picture that no program could show."""
+    count = len(moments) * sum(len(band.frames) for band in bands)
+    if count > MOST_SQUARES:
+        raise Bad(f"the picture would have {count:,} squares, and at most {MOST_SQUARES:,} are drawn: --steps picks moments")
+
+
+def drawing(name, moments, machine, processes, count):
+    """The SVG of some moments of a report on so many steps."""
     picture, bands = Picture(processes), bands_of(moments, machine) if moments else []
+    check_size(moments, bands)
     grid = grid_of(bands)
     column = max(min(grid.across, max((len(band.frames) for band in bands), default=1)) * grid.width, 130)
     width = max(LEFT + len(moments) * (column + GAP) + EDGE, 2 * EDGE + len(name) * 10, 640)
     picture.text(EDGE, 26, 15, name)
-    y = draw_legend(picture, 40, width, legend_of(picture, moments, machine)) + 30 if moments else 50
+    y = draw_legend(picture, 40, width, legend_of(moments, machine)) + 30 if moments else 50
     for k, moment in enumerate(moments):
         draw_head(picture, LEFT + k * (column + GAP), y, moment)
     y += 24
@@ -385,7 +397,8 @@ def drawing(name, moments, machine):
         draw_zeros(picture, LEFT + k * (column + GAP), y + 8, moment)
     y += 20 if any(moment.zeros for moment in moments) else 0
     letters = int((width - 2 * EDGE) / 6)
-    for line in [line for note in notes_of(moments, machine, processes) for line in textwrap.wrap(note, letters)]:
+    notes = notes_of(moments, machine, processes, count)
+    for line in [line for note in notes for line in textwrap.wrap(note, letters)]:
         picture.text(EDGE, y + 12, 9, line, ink=PALE)
         y += 14
     return picture.whole(width, y + 16, name)
@@ -406,8 +419,16 @@ def read_file(path):
         raise Bad(f"{path}: {error.strerror}") from error
 
 
-def picture_of(path, trace):
-    """The SVG of the report at a path, with its trace where one is given."""
+def picked(moments, steps):
+    """The moments that look at a step of a range as "5-20"."""
+    match = re.fullmatch("([0-9]{1,20})-([0-9]{1,20})", steps)
+    if not match:
+        raise Bad("--steps wants the numbers of two steps, as 5-20")
+    return [moment for moment in moments if moment.steps[0] <= int(match[2]) and int(match[1]) <= moment.steps[-1]]
+
+
+def picture_of(path, trace=None, steps=None):
+    """The SVG of the report at a path, with its trace and a range of steps where they are given."""
     name = printable(os.path.basename(path))
     machine = Machine(trace) if trace else None
     try:
@@ -417,15 +438,27 @@ def picture_of(path, trace):
         moments = moments_of(lines, machine)
     except UnicodeDecodeError as error:
         raise Bad(f"{path}: byte {error.start} is none of a report") from error
-    return drawing(name, moments, machine)
+    return drawing(name, picked(moments, steps) if steps is not None else moments, machine, processes_of(moments), len(lines))
+
+
+def options_of(words):
+    """The report, and what the options say."""
+    found, words = {}, list(words)
+    while words:
+        word = words.pop(0)
+        key = word if word.startswith("--") else "REPORT"
+        if key in found or key not in ("REPORT", "--trace", "--steps") or key != "REPORT" and not words:
+            raise Bad(USAGE)
+        found[key] = word if key == "REPORT" else words.pop(0)
+    if "REPORT" not in found:
+        raise Bad(USAGE)
+    return found
 
 
 def main(words):
-    trace = words[2] if len(words) == 3 and words[1] == "--trace" else None
     try:
-        if not trace and len(words) != 1:
-            raise Bad("wanted is REPORT, or REPORT --trace TRACE")
-        sys.stdout.buffer.write(picture_of(words[0], trace).encode())
+        found = options_of(words)
+        sys.stdout.buffer.write(picture_of(found["REPORT"], found.get("--trace"), found.get("--steps")).encode())
     except Bad as fault:
         print(f"picture.py: {printable(str(fault))}", file=sys.stderr)
         return 2
