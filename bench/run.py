@@ -1,7 +1,10 @@
 #!/usr/bin/env python3
 """Times the built program on each kind of trace at 1, 2, 4 and 8 times its smallest size, and writes the table of
-docs/PERFORMANCE.md: seconds of processor time (the best of five runs), peak memory, and how the time grows. Words name
-kinds, if not all are wanted. `./build` makes the program."""
+docs/PERFORMANCE.md: seconds of processor time (the best of five runs), peak memory, and how the time grows. With
+`--against PROGRAM` it plays each kind at its greatest size on that program and on the built one in turn, and tells the least
+seconds and the peak memory of both, so that a change for the worse is seen. Words name kinds, if not all are wanted.
+`./build` makes the program."""
+import argparse
 import math
 import os
 import subprocess
@@ -20,10 +23,10 @@ def make_trace(kind, size, path):
         subprocess.run([sys.executable, os.path.join(ROOT, "bench/traces.py"), kind, str(size)], stdout=trace, check=True)
 
 
-def run_once(path):
+def run_once(path, program=PROGRAM):
     """Seconds of processor time, in the program and in the kernel for it, and peak memory in KiB of one run."""
     with open(path, "rb") as trace, open(os.devnull, "wb") as out:
-        child = subprocess.Popen([PROGRAM], stdin=trace, stdout=out)
+        child = subprocess.Popen([program], stdin=trace, stdout=out)
         _, status, used = os.wait4(child.pid, 0)
     if status != 0:
         sys.exit("bench/run.py: the program ended with status %d" % os.waitstatus_to_exitcode(status))
@@ -38,25 +41,55 @@ def exponent(times):
     return sum((x - mean_x) * (y - mean_y) for x, y in points) / sum((x - mean_x) ** 2 for x, _ in points)
 
 
-def main():
-    wanted = sys.argv[1:] or [kind.__name__ for kind in traces.KINDS]
+def compare(other, kinds):
+    """Plays the greatest trace of each kind on two programs in turn, and writes a table."""
+    print("| Trace | Size | Other, seconds | Built, seconds | Built by other | Other, memory | Built, memory |")
+    print("|---|---|---|---|---|---|---|")
+    with tempfile.TemporaryDirectory() as folder:
+        path = os.path.join(folder, "trace.json")
+        for kind in kinds:
+            size = traces.KINDS[kind] * 8
+            make_trace(kind.__name__, size, path)
+            runs = [(run_once(path, other), run_once(path)) for _ in range(9)]
+            seconds = [min(run[k][0] for run in runs) for k in (0, 1)]
+            memory = [max(run[k][1] for run in runs) / 1024 for k in (0, 1)]
+            print("| `%s` | %d | %.2f | %.2f | %.2f | %.0f MiB | %.0f MiB |" % (
+                kind.__name__, size, seconds[0], seconds[1], seconds[1] / seconds[0], memory[0], memory[1]))
+
+
+def measure(kinds):
+    """Plays each kind at four sizes, and writes the table."""
     print("| Trace | Size | MiB | Seconds | Peak memory | Growth |")
     print("|---|---|---|---|---|---|")
     with tempfile.TemporaryDirectory() as folder:
         path = os.path.join(folder, "trace.json")
-        for kind, smallest in traces.KINDS.items():
-            if kind.__name__ not in wanted:
-                continue
+        for kind in kinds:
             times = []
             for factor in (1, 2, 4, 8):
-                make_trace(kind.__name__, smallest * factor, path)
+                make_trace(kind.__name__, traces.KINDS[kind] * factor, path)
                 runs = [run_once(path) for _ in range(5)]
                 seconds = min(run[0] for run in runs)
                 times.append((factor, seconds))
                 growth = "%.2f" % exponent(times) if factor == 8 else ""
                 size = os.path.getsize(path) / 2**20
                 memory = max(run[1] for run in runs) / 1024
-                print("| `%s` | %d | %.1f | %.2f | %.0f MiB | %s |" % (kind.__name__, smallest * factor, size, seconds, memory, growth))
+                print("| `%s` | %d | %.1f | %.2f | %.0f MiB | %s |" % (
+                    kind.__name__, traces.KINDS[kind] * factor, size, seconds, memory, growth))
+
+
+def main():
+    words = argparse.ArgumentParser(description=__doc__.split("\n")[0])
+    words.add_argument("--against", metavar="PROGRAM", help="an earlier build of the program")
+    words.add_argument("kinds", nargs="*", metavar="KIND", help="a kind of trace: " + ", ".join(it.__name__ for it in traces.KINDS))
+    given = words.parse_args()
+    unknown = set(given.kinds) - {kind.__name__ for kind in traces.KINDS}
+    if unknown:
+        words.error("no kind of trace: " + ", ".join(sorted(unknown)))
+    kinds = [kind for kind in traces.KINDS if not given.kinds or kind.__name__ in given.kinds]
+    if given.against:
+        compare(os.path.abspath(given.against), kinds)
+    else:
+        measure(kinds)
 
 
 if __name__ == "__main__":
