@@ -10,9 +10,9 @@ use Rattle.std.proofs.lemmas.Map.Made.{length-le_from_is_member}
 use Rattle.std.proofs.lemmas.Cmp.{nat_eq_equiv}
 use Rattle.nm_types.specs.Layout.{owner}
 use Rattle.nm_types.specs.Nodes.{up_from, is_in}
-use Rattle.nm_nodes.specs.Pool.{Pool, IsPool, all_frames, list_of, with_list, new_pool, appended, without_front}
+use Rattle.nm_nodes.specs.Pool.{Pool, IsPool, all_frames, list_of, with_list, new_pool, appended, prepended, without_front}
 use Rattle.nm_nodes.specs.Lists.{sizes_of, lists_of, pool_of}
-use Rattle.nm_nodes.proofs.Stretches.{sum-cons, owner_first, owner_later, length-all_frames, length_of_stretch, distinct_stretch, owner_is, owner_has, owner-lt}
+use Rattle.nm_nodes.proofs.Stretches.{sum-cons, owner_first, owner_later, length-all_frames, length_of_stretch, distinct_stretch, owner_is, owner_has, owner-lt, is_in-cons}
 
 -- what holds of a list's new element at its place and of the old ones elsewhere
 at_set : {X : Type 0} (P : X → Type 0) (xs : List X) (i k : ℕ) (v d : X) → i < length xs → (k ≡ i → P v) → P (get_or xs k d) → P (get_or (set xs i v) k d)
@@ -90,6 +90,16 @@ IsPool-appended p frame is within apart =
 apart_from : (n : ℕ) (ns : List ℕ) → is_in ns n ≡ false → AllByRecursion (λ m. eqb n m ≡ false) ns
 apart_from n [] h = tt
 apart_from n (m ∷ ns) h = let parts = or_parts (eqb m n) (is_in ns n) h in (nat_eq_equiv.symm n m ∙ parts.0, apart_from n ns parts.1)
+
+-- a frame more at the front
+pub IsPool-prepended : (p : Pool) (frame : ℕ) → IsPool p → frame < sum p.sizes → is_in (list_of p (owner p.sizes frame)) frame ≡ false → IsPool (prepended p frame)
+IsPool-prepended p frame is within apart =
+    let node : ℕ = owner p.sizes frame in
+    let ns : List ℕ = list_of p node in
+    IsPool-with_list p node (frame ∷ ns) is (omega (arith, owner-lt p.sizes frame within, is.as_many))
+    (λ q h. ⊎_elim (λ e. subst (λ k. k < sum p.sizes) e within) (λ old. is.in_machine node q old) (is_in-cons frame ns q h))
+    (λ q h. ⊎_elim (λ e. ap (owner p.sizes) (sym e)) (λ old. is.own node q old) (is_in-cons frame ns q h))
+    (IsDistinct-cons eqb frame ns (apart_from frame ns apart) (is.distinct node))
 
 -- a list that lacks a frame of its node is shorter than the node's stretch
 pub has_room : (p : Pool) (frame : ℕ) → IsPool p → frame < sum p.sizes → is_in (list_of p (owner p.sizes frame)) frame ≡ false

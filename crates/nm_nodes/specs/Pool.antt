@@ -35,6 +35,10 @@ without_front p node = with_list p node (drop 1 (list_of p node))
 abbrev pub appended : Pool → ℕ → Pool
 appended p frame = let node = owner p.sizes frame in with_list p node (list_of p node ++ frame ∷ [])
 
+-- the pool with a frame more at the front of its own node's list
+abbrev pub prepended : Pool → ℕ → Pool
+prepended p frame = let node = owner p.sizes frame in with_list p node (frame ∷ list_of p node)
+
 -- each node has a list, whose frames are its own, and none stands in it twice
 pub record IsPool (p : Pool) : Type 0 where
   pub as_many : length p.lists ≡ length p.sizes

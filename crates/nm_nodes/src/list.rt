@@ -88,6 +88,14 @@ impl<A: Allocator + Copy> FreeList<A> {
     {
         self.frames.push_back_reserved(frame);
     }
+
+    /// Puts a frame before the others, where there is room.
+    pub fn prepend(&mut self, frame: FrameId)
+        requires { length self.old.1 < self.old.0 }
+        ensures { self.new ≡ (self.old.0, frame ∷ self.old.1) }
+    {
+        self.frames.push_front_reserved(frame);
+    }
 }
 
 /// Takes so many frames from the front of a queue, or all where there are fewer, into a list that has room for them.

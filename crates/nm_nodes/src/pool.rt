@@ -3,7 +3,7 @@
 ghost use Rattle.std.specs.Prelude.{◌≡◌, ◌<◌, ◌≤◌, ◌+◌, ◌++◌, false, length, sum, take, drop, slice_get, vec_len, vec_capacity, IfOk};
 ghost use Rattle.nm_types.specs.Layout.{Layout, owner};
 ghost use Rattle.nm_types.specs.Nodes.{is_in};
-ghost use Rattle.nm_nodes.specs.Pool.{Pool, IsPool, list_of, new_pool, with_list, without_front, appended};
+ghost use Rattle.nm_nodes.specs.Pool.{Pool, IsPool, list_of, new_pool, with_list, without_front, appended, prepended};
 ghost use Rattle.nm_nodes.specs.Lists.{sizes_of};
 
 use crate::list::FreeList;
@@ -91,6 +91,16 @@ impl<A: Allocator + Copy> NodePool<A> {
     {
         let node = owner_of(self.lists.as_slice(), frame);
         self.lists[node].append(frame);
+    }
+
+    /// Puts a frame of the machine that is not free at the front of its own node's list. It takes no memory.
+    pub fn prepend(&mut self, frame: FrameId)
+        requires in_machine { frame < sum self.old.sizes }
+        requires taken { is_in (list_of self.old (owner self.old.sizes frame)) frame ≡ false }
+        ensures { self.new ≡ prepended self.old frame }
+    {
+        let node = owner_of(self.lists.as_slice(), frame);
+        self.lists[node].prepend(frame);
     }
 }
 

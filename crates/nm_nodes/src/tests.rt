@@ -50,3 +50,21 @@ fn fronts_are_taken_in_order(rt: HostRuntime) -> Result<(), Fail> {
     assert_eq!(rt; pool.free_count(node), 0usize);
     Ok(())
 }
+
+/// A frame that is put back at the front is the next that is taken.
+#[test]
+fn a_frame_is_put_back_at_the_front(rt: HostRuntime) -> Result<(), Fail> {
+    let alloc = rt.alloc();
+    let distances = vec![in alloc; vec![in alloc; 10u8, 20]?, vec![in alloc; 20u8, 10]?]?;
+    let geometry = Geometry::new(vec![in alloc; 2u32, 3]?, distances)?;
+    let mut pool = NodePool::new(alloc, &geometry)?;
+    let first = NodeId::new(0);
+    let second = NodeId::new(1);
+    assert_eq!(rt; pool.take_front(second), Some(FrameId::new(2)));
+    pool.prepend(FrameId::new(2));
+    assert_eq!(rt; pool.nth(second, 0), Some(FrameId::new(2)));
+    assert_eq!(rt; pool.nth(second, 1), Some(FrameId::new(3)));
+    assert_eq!(rt; pool.free_count(second), 3usize);
+    assert_eq!(rt; pool.free_count(first), 2usize);
+    Ok(())
+}
