@@ -7,5 +7,6 @@ pub mod Removed
 pub mod Touched
 pub mod Remapped
 pub mod Tabled
+pub mod Unseen
 pub mod Counted
 pub mod Looked

@@ -1,5 +1,5 @@
 -- The address spaces of all processes: what processes see, the areas, and the frames and pins of pages.
-use Rattle.std.specs.Prelude.{ℕ, ◌==◌, [], if◌then◌else◌}
+use Rattle.std.specs.Prelude.{ℕ, Bool, ◌==◌, [], if◌then◌else◌}
 use Rattle.std.specs.Option.{unwrap_or}
 use Rattle.std.specs.Ordering.{nat_cmp}
 use Rattle.std.specs.List.{fold}
@@ -8,7 +8,7 @@ use Rattle.nm_types.specs.declared.area.Area.{Area}
 use Rattle.nm_types.specs.declared.area.Segment.{Segment}
 use Rattle.nm_types.specs.declared.sight.Sight.{Sight}
 use Rattle.nm_types.specs.declared.sight.Sight.TheVariants.{ZeroPage, Sees}
-use Rattle.nm_types.specs.Map.{Map, get, set, replace, with_values, page_cmp}
+use Rattle.nm_types.specs.Map.{Map, get, set, replace, without, with_values, page_cmp}
 use Rattle.nm_types.specs.State.{Process, page_at}
 use Rattle.nm_tables.specs.declared.entry.Entry.{Entry}
 use Rattle.nm_tables.specs.declared.entry.Entry.TheVariants.{Zero, Frame, Held}
@@ -17,7 +17,7 @@ use Rattle.nm_areas.specs.Mapped.{Mapped}
 use Rattle.nm_areas.specs.Removed.{areas_left, segments_left, pages_gone, place_left}
 use Rattle.nm_rmap.specs.Mappers.{Mappers, frame_pins}
 use Rattle.nm_engine.specs.ProcessTable.{Task}
-use Rattle.nm_engine.specs.Tables.{seeing, blind_between}
+use Rattle.nm_engine.specs.Tables.{seeing, blind_at, seeing_before, blind_between}
 use Rattle.std.specs.Prelude.{length}
 
 pub record SpacesView : Type 0 where
@@ -92,6 +92,19 @@ with_mapped y m = record y { areas = m.areas; segments = m.segments; next = m.ne
 -- a process sees this at a page number from now on
 abbrev pub with_seen : SpacesView → ℕ → Process → ℕ → Sight → SpacesView
 with_seen y pid p v sight = record y { processes = replace nat_cmp y.processes pid (seeing p v sight) }
+
+-- a process sees nothing at a page number from now on
+abbrev pub without_seen : SpacesView → ℕ → Process → ℕ → SpacesView
+without_seen y pid p v = record y { processes = replace nat_cmp y.processes pid (blind_at p v) }
+
+-- a process sees the page of zeros at a page number from now on, or nothing
+abbrev pub with_before : SpacesView → ℕ → Process → ℕ → Bool → SpacesView
+with_before y pid p v zero = record y { processes = replace nat_cmp y.processes pid (seeing_before p v zero) }
+
+-- a page has no frame and no pins any more
+abbrev pub without_page : SpacesView → Page → SpacesView
+without_page y page =
+    record y { place = without page_cmp y.place page; pins = without page_cmp y.pins page }
 
 -- a page gets a frame, and a process sees it
 abbrev pub with_new_page : SpacesView → ℕ → Process → ℕ → Page → ℕ → SpacesView

@@ -37,3 +37,4 @@ pub mod Audited
 pub mod Policing
 pub mod Sights
 pub mod Locating
+pub mod Undo

@@ -1,5 +1,5 @@
 -- What ties page tables, areas and the reverse map to one another.
-use Rattle.std.specs.Prelude.{◌≡◌, ℕ, ◌<◌, ◌==◌, nat_lt, nat_le, Bool, true, not, ◌&&◌, List, length, Some}
+use Rattle.std.specs.Prelude.{◌≡◌, ℕ, ◌<◌, ◌==◌, nat_lt, nat_le, Bool, true, not, ◌&&◌, List, length, Option, Some}
 use Rattle.std.specs.BTreeMap.{is_at}
 use Rattle.std.specs.List.{AllByRecursion, list_any}
 use Rattle.std.specs.List.Sorted.{IsStrictlySortedBy}
@@ -8,6 +8,7 @@ use Rattle.std.specs.Ordering.{nat_cmp}
 use Rattle.nm_types.specs.declared.page.Page.{Page}
 use Rattle.nm_types.specs.Map.{Map, get, page_cmp, spot_cmp}
 use Rattle.nm_types.specs.State.{page_at}
+use Rattle.nm_tables.specs.declared.entry.Entry.{Entry}
 use Rattle.nm_tables.specs.declared.entry.Entry.TheVariants.{Held}
 use Rattle.nm_areas.specs.Mapped.{Mapped}
 use Rattle.nm_rmap.specs.Mappers.{Mappers, mappers_of, frame_pins}
@@ -48,5 +49,17 @@ pub record IsCleared (r t : Mappers) (pid first end : ℕ) (tasks : Map ℕ Task
       (f : ℕ) (spot : ℕ × ℕ) →
       has_spot (mappers_of t f) spot
       ≡ (has_spot (mappers_of r f) spot && not (is_between pid first end spot && names f (entry_at tasks spot.0 spot.1)))
+  pub frames : length t.mappings ≡ length r.mappings
+  pub pins : t.pins ≡ r.pins
+
+-- a mapper of a frame goes, if the entry names one
+abbrev pub IsLess : Mappers → Mappers → ℕ × ℕ → Option Entry → Type 0
+IsLess r t spot o =
+    (g : ℕ) (s : ℕ × ℕ) →
+    has_spot (mappers_of t g) s ≡ (has_spot (mappers_of r g) s && not (is_at (spot_cmp s) spot && names g o))
+
+-- the mappers without the one that an entry was
+pub record IsWithout (r t : Mappers) (spot : ℕ × ℕ) (o : Option Entry) : Type 0 where
+  pub less : IsLess r t spot o
   pub frames : length t.mappings ≡ length r.mappings
   pub pins : t.pins ≡ r.pins

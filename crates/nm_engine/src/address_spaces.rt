@@ -25,6 +25,7 @@ ghost use Rattle.nm_engine.specs.Moves.{CanRemap, all_moved};
 ghost use Rattle.nm_engine.specs.AddressSpaces.{no_spaces, mapped_of, with_mapped, with_seen, with_new_page, with_moved, pins_here, with_pins_of, without_range};
 
 mod areas;
+mod back;
 mod walk;
 
 use crate::process::ProcessInfo;

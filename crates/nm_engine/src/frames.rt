@@ -2,7 +2,7 @@
 
 ghost use Rattle.std.specs.Prelude.{◌≡◌, ◌≢◌, ◌+◌, ◌<◌, ◌≤◌, [], ◌∷◌, ◌++◌, length, vec_capacity, vec_len, Some, IfOk, OnOk, replicate, take, drop, slice_get, slice_set};
 ghost use Rattle.nm_types.specs.Layout.{node_count, frame_count, node_of};
-ghost use Rattle.nm_nodes.specs.Pool.{list_of, with_list, appended};
+ghost use Rattle.nm_nodes.specs.Pool.{list_of, with_list, appended, prepended};
 ghost use Rattle.nm_engine.specs.Copies.{CanCopy, with_copies};
 ghost use Rattle.nm_engine.specs.Run.{left};
 ghost use Rattle.nm_frames.specs.Store.{IsHome, bytes_of, overwrite};
@@ -231,6 +231,14 @@ impl<A: Allocator + Copy> Frames<A> {
         ensures { self.new ≡ record (self.old) { free = (appended (pool_of self.old) frame).lists } }
     {
         self.nodes.append(frame);
+    }
+
+    /// A frame becomes free, at the front of its own node's list. It takes no memory.
+    pub(crate) fn free_first(&mut self, frame: FrameId)
+        requires { CanFree (pool_of self.old) (frame ∷ []) }
+        ensures { self.new ≡ record (self.old) { free = (prepended (pool_of self.old) frame).lists } }
+    {
+        self.nodes.prepend(frame);
     }
 
     /// Whether each frame stands once, in its own node's list or among the places of pages.

@@ -14,6 +14,7 @@ mod query;
 mod resolved;
 mod run;
 mod touch;
+mod undo;
 
 use crate::address_spaces::AddressSpaces;
 use crate::frames::Frames;

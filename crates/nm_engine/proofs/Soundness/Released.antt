@@ -78,11 +78,11 @@ release_frames s l p frame h placed =
       own = own_set s.layout s.free node (free_list s node ++ frame ∷ []) at h.own (all_push (λ f. node_of s.layout f ≡ node) (free_list s node) frame (h.own node) refl);
     }
 
-get-without : (m : Map Page ℕ) (p q : Page) → IsStrictlySortedBy page_cmp (keys_of m) → get page_cmp (without page_cmp m p) q ≡ cond (is_eq (page_cmp p q)) None (get page_cmp m q)
+pub get-without : (m : Map Page ℕ) (p q : Page) → IsStrictlySortedBy page_cmp (keys_of m) → get page_cmp (without page_cmp m p) q ≡ cond (is_eq (page_cmp p q)) None (get page_cmp m q)
 get-without m p q sorted = lookup-remove_entry (eq_by_cmp_equiv page_cmp_total) (is_at (page_cmp p)) (λ x y h. ap is_eq (page_cmp_total.congr p x y (equal _ h))) q m (IsDistinct-from_sorted page_cmp (keys_of m) sorted)
 
 -- another page keeps its place
-other_placed : (m : Map Page ℕ) (p q : Page) → IsStrictlySortedBy page_cmp (keys_of m) → (p ≡ q → ⊥) → get page_cmp (without page_cmp m p) q ≡ get page_cmp m q
+pub other_placed : (m : Map Page ℕ) (p q : Page) → IsStrictlySortedBy page_cmp (keys_of m) → (p ≡ q → ⊥) → get page_cmp (without page_cmp m p) q ≡ get page_cmp m q
 other_placed m p q sorted other = get-without m p q sorted ∙ ap (λ b. cond b None (get page_cmp m q)) (false_from_ne_true _ (λ b. other (exact_page p q (equal _ b))))
 
 tied : (p q : Page) → p ≡ q → page_cmp p q ≡ Equal

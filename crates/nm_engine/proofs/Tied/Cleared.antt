@@ -25,7 +25,7 @@ use Rattle.nm_areas.specs.Mapped.{Mapped}
 use Rattle.nm_rmap.specs.Mappers.{Mappers, mappers_of, without_mapper}
 use Rattle.nm_engine.specs.ProcessTable.{Task, entry_at, entry_in, names, without_entry, cleared_between, cleared}
 use Rattle.nm_engine.specs.AddressSpaces.{SpacesView, spaces_view, process_of, sight_of}
-use Rattle.nm_engine.specs.Tied.{IsTied, IsCleared, has_spot, is_between}
+use Rattle.nm_engine.specs.Tied.{IsTied, IsCleared, IsLess, IsWithout, has_spot, is_between}
 use Rattle.nm_types.proofs.Maps.{equal, agree, get-values, get-replace, spot_cmp_total, with_values-without}
 use Rattle.nm_types.proofs.Keys.{keys-replace, sorted-without, All-get}
 use Rattle.nm_engine.proofs.Tied.Tabled.{same_tables}
@@ -343,20 +343,10 @@ has-remove (x ∷ l) s q h =
           ] refl
     ] refl
 
--- a mapper of a frame goes, if the entry names one
-abbrev IsLess : Mappers → Mappers → ℕ × ℕ → Option Entry → Type 0
-IsLess r t spot o = (g : ℕ) (s : ℕ × ℕ) → has_spot (mappers_of t g) s ≡ (has_spot (mappers_of r g) s && not (same_spot s spot && names g o))
-
 less_false : (b c : Bool) → b ≡ (b && not (c && false))
 less_false true true = refl
 less_false true false = refl
 less_false false c = refl
-
--- the mappers without the one that an entry was
-pub record IsWithout (r t : Mappers) (spot : ℕ × ℕ) (o : Option Entry) : Type 0 where
-  pub less : IsLess r t spot o
-  pub frames : length t.mappings ≡ length r.mappings
-  pub pins : t.pins ≡ r.pins
 
 pub less_zero : (r t : Mappers) (spot : ℕ × ℕ) (e : Entry) → e ≡ Zero → t ≡ r → IsWithout r t spot (Some e)
 less_zero r t spot e entry is =

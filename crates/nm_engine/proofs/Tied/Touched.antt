@@ -120,7 +120,7 @@ dropped_again r f s below none =
     ∙ set-get_or r.mappings f [])
 
 -- a table whose entry is set is a process whose sight is set
-set_entry_shows : (areas : Map (ℕ × ℕ) Area) (tasks : Map ℕ Task) (pid : ℕ) (t : Task) (v : ℕ) (e : Entry)
+pub set_entry_shows : (areas : Map (ℕ × ℕ) Area) (tasks : Map ℕ Task) (pid : ℕ) (t : Task) (v : ℕ) (e : Entry)
     → with_values (process_of areas) (replace nat_cmp tasks pid (with_entry t v e)) ≡ replace nat_cmp (with_values (process_of areas) tasks) pid (seeing (process_of areas pid t) v (sight_of areas pid v e))
 set_entry_shows areas tasks pid t v e =
     with_values-replace exact_unsigned (process_of areas) tasks pid (with_entry t v e)
