@@ -12,3 +12,4 @@ pub mod Free
 pub mod Copies
 pub mod Carried
 pub mod Touches
+pub mod Undone

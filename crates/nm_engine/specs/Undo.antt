@@ -76,3 +76,8 @@ noted pid v page None place frame =
 abbrev pub with_undo : List Undo → Option Undo → List Undo
 with_undo us None = us
 with_undo us (Some u) = us ++ u ∷ []
+
+-- what could be taken back can be taken back still, and that gives what it gave
+abbrev pub IsStillUndone : List ℕ → State → List Undo → State → List Undo → Type 0
+IsStillUndone left old undos new more =
+    CanUndo old left undos → CanUndo new left more × (all_undone new more ≡ all_undone old undos)

@@ -116,7 +116,7 @@ pub record IsFreeing (g : Layout) (place : Map Page ℕ) (free : List (List ℕ)
   pub taken : is_in (slice_index_or free (owner g.sizes frame) []) frame ≡ false
   pub next : FramesAreOnce g place (slice_set free (owner g.sizes frame) (slice_index_or free (owner g.sizes frame) [] ++ frame ∷ [])) left
 
-not_in : (xs : List ℕ) (f : ℕ) → times f xs ≡ 0 → is_in xs f ≡ false
+pub not_in : (xs : List ℕ) (f : ℕ) → times f xs ≡ 0 → is_in xs f ≡ false
 not_in [] f e = refl
 not_in (x ∷ xs) f e =
     elim (x == f) as (λ b. (x == f) ≡ b → (b || is_in xs f) ≡ false) [

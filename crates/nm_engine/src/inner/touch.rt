@@ -55,7 +55,7 @@ impl<A: Allocator + Copy> Inner<A> {
     }
 
     /// Where so many bytes of a process stand, or the first refusal.
-    fn resolve(&self, pid: Pid, addr: u64, len: u64) -> Result<Resolved, Errno>
+    pub(crate) fn resolve(&self, pid: Pid, addr: u64, len: u64) -> Result<Resolved, Errno>
         ensures ok { IfOk result (λ t. (p : Process) × (a : Placed) × (spot self.now.state pid addr len ≡ Ok (spot_at t p a)) × IsResolved self.now.state t p a) }
         ensures pid { IfOk result (λ t. t.pid ≡ pid) }
         ensures page { IfOk result (λ t. t.vpn ≡ addr / 4096) }
@@ -88,7 +88,7 @@ impl<A: Allocator + Copy> Inner<A> {
 
     /// What a read or a write does before it comes to the bytes. Gives the frame of the page that the process then sees,
     /// or None where it sees the page of zeros.
-    fn touch(&mut self, t: Resolved, writes: bool) -> Result<Option<FrameId>, MachineError>
+    pub(crate) fn touch(&mut self, t: Resolved, writes: bool) -> Result<Option<FrameId>, MachineError>
         requires { (p : Process) × (a : Placed) × IsResolved self.old.state t p a }
         ensures touches { (p : Process) (a : Placed) → IsResolved self.old.state t p a → Touches result self.old.state self.new.state (touched_entry self.old.state (spot_at t p a) writes (get nat_cmp p.sees t.vpn)) }
         ensures frame { IfOk result (λ frame. frame ≡ frame_seen self.new.state t.pid t.vpn) }

@@ -1,9 +1,21 @@
-//! How a touch is taken back.
+//! Touches that can be taken back.
 
-ghost use Rattle.std.specs.Prelude.{◌≡◌};
-ghost use Rattle.nm_engine.specs.Undo.{noted};
+ghost use Rattle.std.specs.Prelude.{◌≡◌, ◌+◌, ◌≤◌, [], true, vec_len, vec_capacity, Some, None, IfOk, IfNone, IsSome, OnErr, OnOk};
+ghost use Rattle.std.specs.Ordering.{nat_cmp};
+ghost use Rattle.nm_types.specs.declared.sight.Sight.TheVariants.{ZeroPage};
+ghost use Rattle.nm_types.specs.Map.{get, page_cmp};
+ghost use Rattle.nm_types.specs.State.{Process, Placed, page_at};
+ghost use Rattle.nm_runs.specs.Seen.{sight_at};
+ghost use Rattle.nm_engine.specs.Touch.{touched_entry};
+ghost use Rattle.nm_engine.specs.MidRun.{spot_at, IsResolved, with_state};
+ghost use Rattle.nm_engine.specs.Does.{Touches};
+ghost use Rattle.nm_engine.specs.Seeing.{frame_seen};
+ghost use Rattle.nm_engine.specs.Undo.{CanUndo, IsUndoable, IsStillUndone, undone, all_undone, noted, with_undo};
 
-use nm_types::{FrameId, Page, Pid, Sight, Vpn};
+use crate::inner::Inner;
+use crate::inner::resolved::Resolved;
+use nm_types::{FrameId, MachineError, Page, Pid, Sight, Vpn};
+use std::alloc::Allocator;
 
 /// How a touch of a process at a page number is taken back.
 #[derive(Clone, Copy)]
@@ -14,4 +26,110 @@ pub(crate) struct Undo {
     pub(crate) zero: bool,
     /// The page that got a frame, and the frame.
     pub(crate) given: Option<(Page, FrameId)>,
+}
+
+impl<A: Allocator + Copy> Inner<A> {
+    /// What a read or a write does before it comes to the bytes, noted behind what was noted so far. Where it is refused
+    /// or the host has no memory, nothing is noted.
+    pub(crate) fn touch_noted(
+        &mut self,
+        t: Resolved,
+        writes: bool,
+        undos: &mut Vec<Undo, A>,
+    ) -> Result<Option<FrameId>, MachineError>
+        requires { (p : Process) × (a : Placed) × IsResolved self.old.state t p a }
+        ensures touches { (p : Process) (a : Placed) → IsResolved self.old.state t p a → Touches result self.old.state self.new.state (touched_entry self.old.state (spot_at t p a) writes (get nat_cmp p.sees t.vpn)) }
+        ensures frame { IfOk result (λ frame. frame ≡ frame_seen self.new.state t.pid t.vpn) }
+        ensures some { IfOk result (λ frame. writes ≡ true → IsSome frame) }
+        ensures zeros { IfOk result (λ frame. IfNone frame (sight_at self.new.state t.pid t.vpn ≡ Some ZeroPage)) }
+        ensures same { self.new ≡ with_state self.old self.new.state }
+        ensures noted { IfOk result (λ frame. undos.new.items ≡ with_undo undos.old.items (noted t.pid t.vpn t.page (sight_at self.old.state t.pid t.vpn) (get page_cmp self.old.state.place t.page) frame)) }
+        ensures err { OnErr result (undos.new.items ≡ undos.old.items) }
+        ensures back { IsStillUndone self.old.left self.old.state undos.old.items self.new.state undos.new.items }
+    {
+        undos.reserve(1)?;
+        let pid = t.pid;
+        let vpn = t.vpn;
+        let page = t.page;
+        let seen = self.sight(pid, vpn, page);
+        let place = self.place(page);
+        let frame = self.touch(t, writes)?;
+        if let Some(undo) = noted(pid, vpn, page, seen, place, frame) {
+            undos.push_reserved(undo);
+        }
+        Ok(frame)
+    }
+
+    /// What a process sees at a page number where an area shows this page.
+    fn sight(&self, pid: Pid, vpn: Vpn, page: Page) -> Option<Sight>
+        requires { page_at self.now.state.areas pid vpn ≡ Some page }
+        ensures { result ≡ sight_at self.now.state pid vpn }
+    {
+        self.spaces.sight(pid, vpn, page)
+    }
+
+    /// The frame in which a page stands.
+    fn place(&self, page: Page) -> Option<FrameId>
+        ensures { result ≡ get page_cmp self.now.state.place page }
+    {
+        self.spaces.place(page)
+    }
+
+    /// Touches are taken back, the last one first. It takes no memory.
+    pub(crate) fn take_back(&mut self, undos: &mut Vec<Undo, A>)
+        requires { CanUndo self.old.state self.old.left undos.old.items }
+        ensures back { self.new ≡ with_state self.old (all_undone self.old.state undos.old.items) }
+        ensures none { undos.new.items ≡ [] }
+    {
+        while let Some(undo) = undos.pop() {
+            self.undo(undo);
+        }
+    }
+
+    /// A touch is taken back. It takes no memory.
+    fn undo(&mut self, undo: Undo)
+        requires { IsUndoable self.old.state self.old.left undo }
+        ensures { self.new ≡ with_state self.old (undone self.old.state undo) }
+    {
+        let Undo { pid, vpn, zero, given } = undo;
+        self.spaces.see_before(pid, vpn, zero);
+        let Some(given) = given else {
+            return;
+        };
+        self.spaces.unplace(given.0);
+        self.frames.free_first(given.1);
+    }
+}
+
+/// How a touch is taken back that found this there: what was seen, and the page's frame. It gave this frame.
+fn noted(
+    pid: Pid,
+    vpn: Vpn,
+    page: Page,
+    seen: Option<Sight>,
+    place: Option<FrameId>,
+    frame: Option<FrameId>,
+) -> Option<Undo>
+    ensures { result ≡ noted pid vpn page seen place frame }
+{
+    let zero = match seen {
+        None => false,
+        Some(sight) => match sight {
+            Sight::Sees(_) => return None,
+            Sight::ZeroPage => true,
+        },
+    };
+    if zero && frame.is_none() {
+        return None;
+    }
+    let given = match place {
+        Some(_) => None,
+        None => frame.map(|frame| (page, frame)),
+    };
+    Some(Undo {
+        pid,
+        vpn,
+        zero,
+        given,
+    })
 }
