@@ -4,3 +4,4 @@ pub mod Together
 pub mod OneByOne
 pub mod Seen
 pub mod InFlight
+pub mod Early

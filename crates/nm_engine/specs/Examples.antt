@@ -1,4 +1,5 @@
 -- The machines and processes of the worked examples.
+pub mod Early
 pub mod Interleaved
 pub mod Moving
 pub mod Sharing

@@ -38,3 +38,5 @@ pub mod Policing
 pub mod Sights
 pub mod Locating
 pub mod Undo
+pub mod Early
+pub mod Phases

@@ -3,6 +3,8 @@
 ghost use Rattle.nm_engine.specs.Laws.{DecidingKeepsMemory, FreeingKeepsMemory, BatchKeepsMemory, ReadingKeepsMemory, WritingIsExact, PolicyKeepsMemory, LooksSuffice, LooksAreBounded, SoundIsAudited, PlanIsOneByOne, AccessIsSound, RunIsSound, BatchIsSound, NewIsSound, SpawnIsSound, MapIsSound, AttachIsSound, PinIsSound, UnpinIsSound, PolicyIsSound, UnmapIsSound, ExitIsSound};
 ghost use Rattle.nm_engine.specs.Interleavings.{EverySoundStateIsRead, EveryRunCanEnd, EveryOrderIsTheRun, EveryBufferIsInOneHand, HeldIsExact};
 ghost use Rattle.nm_engine.specs.Examples.Interleaved.{StartIsRead, BothOrdersEndAlike, InTheMiddle, TwoWorkersCopy, NotAllowed};
+ghost use Rattle.nm_engine.specs.Phases.{TouchesComeFirst, MovesComeLater};
+ghost use Rattle.nm_engine.specs.Examples.Early.{PagesAreReadyFirst};
 ghost use Rattle.nm_engine.specs.Examples.Starts.{StartsAreSound};
 ghost use Rattle.nm_engine.specs.Examples.Moving.{ThreePagesMove, MovedPageReads, EmptyBatchDoesNothing, OnePageTwiceMovesOnce, ShortageStopsTwoOfFour, LaterRunTakesFrameOfEarlier, EarlierRunFindsNone, PageGoesAndComesHome};
 ghost use Rattle.nm_engine.specs.Examples.Sharing.{TwoAddressesAreOneProcess, SharedPageStays, SharedPageIsOnTarget, SharedPageMovesForBoth};
@@ -130,6 +132,15 @@ pub fn interleavings()
     ensures orders { EveryOrderIsTheRun }
     ensures hands { EveryBufferIsInOneHand }
     ensures held { HeldIsExact }
+{}
+
+/// Accesses in flight may be made in two steps: all that they come to is touched before a page moves, in their order, and
+/// then the bytes of pages that do not move are read and written. It is as if they were made one after another while the
+/// pages of the run move.
+pub fn touches_come_first()
+    ensures first { TouchesComeFirst }
+    ensures later { MovesComeLater }
+    ensures ready { PagesAreReadyFirst }
 {}
 
 /// A worked example of the events of a run.
