@@ -1,5 +1,5 @@
 -- Page tables, areas and the reverse map when what was seen goes again.
-use Rattle.std.proofs.Common.{◌≡◌, ℕ, ◌<◌, List, Bool, true, false, not, ◌&&◌, cond, refl, sym, ap, subst, ◌∙◌}
+use Rattle.std.proofs.Common.{◌≡◌, ℕ, ◌<◌, Bool, true, false, not, ◌&&◌, cond, refl, sym, ap, subst, ◌∙◌}
 use Rattle.std.specs.Prelude.{Option, Some, None, IsSome, length, ◌==◌}
 use Rattle.std.specs.Option.{option_map, unwrap_or}
 use Rattle.std.specs.List.{AllByRecursion}
@@ -13,7 +13,6 @@ use Rattle.nm_types.specs.declared.page.Page.{Page}
 use Rattle.nm_types.specs.declared.area.Area.{Area}
 use Rattle.nm_types.specs.declared.sight.Sight.TheVariants.{ZeroPage, Sees}
 use Rattle.nm_types.specs.Map.{Map, get, replace, without, with_values, page_cmp}
-use Rattle.nm_types.specs.State.{Process}
 use Rattle.nm_types.proofs.Cases.{true_false, none_some, some_is}
 use Rattle.nm_types.proofs.Maps.{equal, get-replace, replace_is_set, with_values-replace, with_values-without}
 use Rattle.nm_types.proofs.Keys.{keys-replace, All-replace, All-get, sorted-set, sorted-without}
@@ -23,8 +22,7 @@ use Rattle.nm_tables.specs.declared.entry.Entry.TheVariants.{Zero, Frame, Held}
 use Rattle.nm_areas.specs.Mapped.{Mapped}
 use Rattle.nm_areas.specs.Effect.{without_frame}
 use Rattle.nm_rmap.specs.Mappers.{Mappers, mappers_of, frame_pins}
-use Rattle.nm_engine.specs.Tables.{blind_at}
-use Rattle.nm_engine.specs.ProcessTable.{Task, entry_at, entry_in, names, with_entry, without_entry, with_other_entry, replaced, replaced_in}
+use Rattle.nm_engine.specs.ProcessTable.{Task, entry_at, entry_in, names, with_entry, without_entry, replaced, replaced_in}
 use Rattle.nm_engine.specs.AddressSpaces.{SpacesView, spaces_view, process_of, sight_of, page_here, pins_in, with_seen, without_seen, without_page}
 use Rattle.nm_engine.specs.Tied.{IsTied, IsWithout, has_spot}
 use Rattle.nm_engine.proofs.Soundness.Released.{get-without, other_placed}

@@ -1,6 +1,6 @@
 -- Touches that are taken back leave what was there.
 use Rattle.std.proofs.Common.{◌≡◌, ℕ, ◌<◌, List, [], ◌∷◌, ◌++◌, Bool, true, false, cond, length, refl, sym, ap, subst, ◌∙◌, arith}
-use Rattle.std.specs.Prelude.{Option, Some, None, IsSome, Result, Ok, Err, drop, replicate, slice_index, slice_index_or, slice_set, if◌then◌else◌, ◌==◌}
+use Rattle.std.specs.Prelude.{Option, Some, None, IsSome, Result, Ok, Err, drop, replicate, slice_index, slice_index_or, slice_set, if◌then◌else◌}
 use Rattle.std.specs.Option.{unwrap_or}
 use Rattle.std.specs.BTreeMap.{is_at}
 use Rattle.std.specs.List.{AllByRecursion}
@@ -17,34 +17,38 @@ use Rattle.nm_types.specs.declared.errno.Errno.{Errno}
 use Rattle.nm_types.specs.declared.sight.Sight.{Sight}
 use Rattle.nm_types.specs.declared.sight.Sight.TheVariants.{ZeroPage, Sees}
 use Rattle.nm_types.specs.Layout.{owner, node_of, frame_count}
-use Rattle.nm_types.specs.Map.{Map, get, set, replace, without, page_cmp}
-use Rattle.nm_types.specs.State.{Process, State, free_list}
-use Rattle.nm_types.proofs.Cases.{none_is_not}
+use Rattle.nm_types.specs.Map.{Map, get, set, replace, page_cmp}
+use Rattle.nm_types.specs.State.{Process, State, Placed, free_list, page_of}
+use Rattle.nm_types.proofs.Cases.{none_is_not, some_is}
 use Rattle.nm_types.proofs.Maps.{page_cmp_total, exact_page, equal, get-set, get-replace, without-set, with_values-without}
 use Rattle.nm_types.proofs.Keys.{All-get, sorted-set, some_from_keys}
 use Rattle.nm_runs.specs.Seen.{sight_in, sight_at}
 use Rattle.nm_areas.specs.Lines.{is_shared}
 use Rattle.nm_nodes.specs.Pool.{prepended}
 use Rattle.nm_policy.specs.Order.{first_touch_order}
+use Rattle.nm_engine.specs.declared.inner.resolved.Resolved.{Resolved}
 use Rattle.nm_engine.specs.declared.inner.undo.Undo.{Undo}
 use Rattle.nm_frames.specs.Store.{bytes_of}
 use Rattle.nm_engine.specs.AddressSpaces.{SpacesView, with_before, without_page}
 use Rattle.nm_engine.specs.Frames.{FramesView, CanFree, pool_of}
-use Rattle.nm_engine.specs.MidRun.{IsKept}
+use Rattle.nm_engine.specs.MidRun.{IsKept, IsResolved, spot_at}
 use Rattle.nm_engine.specs.Shown.{shown_by}
 use Rattle.nm_engine.specs.Seeing.{frame_of, frame_seen}
 use Rattle.nm_engine.specs.Sound.{holders, IsSoundMidRun}
 use Rattle.nm_engine.specs.Tables.{seeing_before}
+use Rattle.nm_types.specs.declared.machine_error.MachineError.{MachineError}
+use Rattle.nm_types.specs.declared.machine_error.MachineError.TheVariants as error
+use Rattle.nm_engine.specs.Does.{Touches}
 use Rattle.nm_engine.specs.Touch.{Spot, shown_at, with_sight, first_free, allocated, filled, joined, touched_entry}
 use Rattle.nm_engine.specs.Undo.{seen_before, given_back, undone, all_undone, IsGiven, IsUndoable, CanUndo, IsStillUndone, given_now, noted, with_undo}
-use Rattle.nm_engine.proofs.Seen.Sights.{IsSpot, sight_here}
+use Rattle.nm_engine.proofs.Seen.Sights.{IsSpot, page_at_spot, sight_here}
 use Rattle.nm_engine.proofs.Soundness.Allocated.{placed_front}
 use Rattle.nm_engine.proofs.Soundness.Once.{counted_place}
-use Rattle.nm_engine.proofs.Soundness.Touched.{has_front, private_unplaced}
+use Rattle.nm_engine.proofs.Soundness.Touched.{private_unplaced}
 use Rattle.nm_engine.proofs.Tied.Tabled.{same_tables, replace_twice}
 use Rattle.nm_engine.proofs.Together.Free.{front_is, part_of, not_in}
 use Rattle.nm_engine.proofs.Together.Shows.{front_got}
-use Rattle.nm_engine.proofs.Together.Touches.{found_free, short_list, get_set_same, none_sees, place_in_range}
+use Rattle.nm_engine.proofs.Together.Touches.{found_free, short_list, get_set_same, none_sees, zero_sees, place_in_range, spot_there}
 
 -- ---- one touch more
 
@@ -72,6 +76,11 @@ still_undone s l new us (Some u) h can = (can_push new l us u h.0 (subst (λ t. 
 
 pub same_undone : (s : State) (l : List ℕ) (new : State) (us more : List Undo) → new ≡ s → more ≡ us → IsStillUndone l s us new more
 same_undone s l new us more e m can = (subst (λ t. CanUndo t l more) (sym e) (subst (CanUndo s l) (sym m) can), (λ i. all_undone (e i) (m i)))
+
+-- what was refused changed nothing
+pub touches_err : (e : MachineError) (old new : State) (found : Result State Errno) → Touches {T = Option ℕ} (Err e) old new found → new ≡ old
+touches_err (error.Refused e) old new found h = h.1
+touches_err error.HostMemory old new found h = h
 
 -- ---- maps and lists that are as they were
 
@@ -282,14 +291,30 @@ module _ (s : State) (l : List ℕ) (at : Spot) (h : IsSoundMidRun s l) (i : IsS
             subst (λ o. IsTakenBack s l new (noted at.pid at.vpn (shown_at at) (Some ZeroPage) (get page_cmp s.place (shown_at at)) o)) (sym nothing) (sym is)
       ] found
 
+zero_unplaced : (s : State) (l : List ℕ) (at : Spot) → IsSoundMidRun s l → IsSpot s at → sight_at s at.pid at.vpn ≡ Some ZeroPage → get page_cmp s.place (shown_at at) ≡ None
+zero_unplaced s l at h i e =
+    let zero = h.zeros at.pid at.vpn e in
+    let same : zero.0 ≡ shown_at at = some_is (sym zero.1 ∙ page_at_spot s at i) in
+    private_unplaced s l at h i (zero_sees e) (ap (λ (q : Page). is_shared s.segments q.segment) (sym same) ∙ zero.2)
+
 -- whatever was seen
-pub touch_back : (s : State) (l : List ℕ) (at : Spot) (writes : Bool) (o : Option Sight) (new : State) (frame : Option ℕ) → IsSoundMidRun s l → IsSpot s at → sight_at s at.pid at.vpn ≡ o
-    → (o ≡ Some ZeroPage → get page_cmp s.place (shown_at at) ≡ None) → touched_entry s at writes o ≡ Ok new → frame ≡ frame_seen new at.pid at.vpn
+touch_back : (s : State) (l : List ℕ) (at : Spot) (writes : Bool) (o : Option Sight) (new : State) (frame : Option ℕ) → IsSoundMidRun s l → IsSpot s at → sight_at s at.pid at.vpn ≡ o
+    → touched_entry s at writes o ≡ Ok new → frame ≡ frame_seen new at.pid at.vpn
     → IsTakenBack s l new (noted at.pid at.vpn (shown_at at) o (get page_cmp s.place (shown_at at)) frame)
 unfolding IsTakenBack
-touch_back s l at writes None new frame h i e unplaced found seen = absent_back s l at h i writes new frame (sym (here_is s l at h i) ∙ e) found seen
-touch_back s l at writes (Some ZeroPage) new frame h i e unplaced found seen = zero_back s l at h i writes new frame (sym (here_is s l at h i) ∙ e) (unplaced refl) found seen
-touch_back s l at writes (Some (Sees q)) new frame h i e unplaced found seen = sym (ok_is found)
+touch_back s l at writes None new frame h i e found seen = absent_back s l at h i writes new frame (sym (here_is s l at h i) ∙ e) found seen
+touch_back s l at writes (Some ZeroPage) new frame h i e found seen = zero_back s l at h i writes new frame (sym (here_is s l at h i) ∙ e) (zero_unplaced s l at h i e) found seen
+touch_back s l at writes (Some (Sees q)) new frame h i e found seen = sym (ok_is found)
+
+-- the same of a touch that was looked up
+pub touched_back : (s : State) (l : List ℕ) (t : Resolved) (p : Process) (a : Placed) (writes : Bool) (new : State) (frame : Option ℕ) → IsSoundMidRun s l → IsResolved s t p a
+    → touched_entry s (spot_at t p a) writes (get nat_cmp p.sees t.vpn) ≡ Ok new → frame ≡ frame_seen new t.pid t.vpn
+    → IsTakenBack s l new (noted t.pid t.vpn t.page (sight_at s t.pid t.vpn) (get page_cmp s.place t.page) frame)
+touched_back s l t p a writes new frame h r found seen =
+    let e : sight_at s t.pid t.vpn ≡ get nat_cmp p.sees t.vpn = ap (λ o. sight_in o t.vpn) r.known in
+    subst (λ q. IsTakenBack s l new (noted t.pid t.vpn q (sight_at s t.pid t.vpn) (get page_cmp s.place q) frame)) r.page
+    (subst (λ o. IsTakenBack s l new (noted t.pid t.vpn (page_of a t.vpn) o (get page_cmp s.place (page_of a t.vpn)) frame)) (sym e)
+    (touch_back s l (spot_at t p a) writes (get nat_cmp p.sees t.vpn) new frame h (spot_there s t p a r) e found seen))
 
 -- ---- the parts
 

@@ -88,7 +88,11 @@ impl<A: Allocator + Copy> Inner<A> {
 
     /// What a read or a write does before it comes to the bytes. Gives the frame of the page that the process then sees,
     /// or None where it sees the page of zeros.
-    pub(crate) fn touch(&mut self, t: Resolved, writes: bool) -> Result<Option<FrameId>, MachineError>
+    pub(crate) fn touch(
+        &mut self,
+        t: Resolved,
+        writes: bool,
+    ) -> Result<Option<FrameId>, MachineError>
         requires { (p : Process) × (a : Placed) × IsResolved self.old.state t p a }
         ensures touches { (p : Process) (a : Placed) → IsResolved self.old.state t p a → Touches result self.old.state self.new.state (touched_entry self.old.state (spot_at t p a) writes (get nat_cmp p.sees t.vpn)) }
         ensures frame { IfOk result (λ frame. frame ≡ frame_seen self.new.state t.pid t.vpn) }

@@ -10,6 +10,7 @@ ghost use Rattle.nm_engine.specs.Touch.{touched_entry};
 ghost use Rattle.nm_engine.specs.MidRun.{spot_at, IsResolved, with_state};
 ghost use Rattle.nm_engine.specs.Does.{Touches};
 ghost use Rattle.nm_engine.specs.Seeing.{frame_seen};
+ghost use Rattle.nm_engine.specs.Sound.{IsSoundMidRun};
 ghost use Rattle.nm_engine.specs.Undo.{CanUndo, IsUndoable, IsStillUndone, undone, all_undone, noted, with_undo};
 
 use crate::inner::Inner;
@@ -26,6 +27,16 @@ pub(crate) struct Undo {
     pub(crate) zero: bool,
     /// The page that got a frame, and the frame.
     pub(crate) given: Option<(Page, FrameId)>,
+}
+
+/// What is there before a touch: what the process sees there, and the frame of the page that is shown there.
+#[derive(Clone, Copy)]
+struct Before {
+    pid: Pid,
+    vpn: Vpn,
+    page: Page,
+    seen: Option<Sight>,
+    place: Option<FrameId>,
 }
 
 impl<A: Allocator + Copy> Inner<A> {
@@ -48,31 +59,25 @@ impl<A: Allocator + Copy> Inner<A> {
         ensures back { IsStillUndone self.old.left self.old.state undos.old.items self.new.state undos.new.items }
     {
         undos.reserve(1)?;
-        let pid = t.pid;
-        let vpn = t.vpn;
-        let page = t.page;
-        let seen = self.sight(pid, vpn, page);
-        let place = self.place(page);
+        let before = self.before(&t);
         let frame = self.touch(t, writes)?;
-        if let Some(undo) = noted(pid, vpn, page, seen, place, frame) {
-            undos.push_reserved(undo);
-        }
+        note(undos, before, &frame);
         Ok(frame)
     }
 
-    /// What a process sees at a page number where an area shows this page.
-    fn sight(&self, pid: Pid, vpn: Vpn, page: Page) -> Option<Sight>
-        requires { page_at self.now.state.areas pid vpn ≡ Some page }
-        ensures { result ≡ sight_at self.now.state pid vpn }
+    /// What is there before a touch.
+    fn before(&self, t: &Resolved) -> Before
+        requires { page_at self.now.state.areas t.now.pid t.now.vpn ≡ Some t.now.page }
+        ensures is { result ≡ record { pid = t.now.pid; vpn = t.now.vpn; page = t.now.page; seen = sight_at self.now.state t.now.pid t.now.vpn; place = get page_cmp self.now.state.place t.now.page } }
+        ensures sound { IsSoundMidRun self.now.state self.now.left }
     {
-        self.spaces.sight(pid, vpn, page)
-    }
-
-    /// The frame in which a page stands.
-    fn place(&self, page: Page) -> Option<FrameId>
-        ensures { result ≡ get page_cmp self.now.state.place page }
-    {
-        self.spaces.place(page)
+        Before {
+            pid: t.pid,
+            vpn: t.vpn,
+            page: t.page,
+            seen: self.spaces.sight(t.pid, t.vpn, t.page),
+            place: self.spaces.place(t.page),
+        }
     }
 
     /// Touches are taken back, the last one first. It takes no memory.
@@ -80,6 +85,7 @@ impl<A: Allocator + Copy> Inner<A> {
         requires { CanUndo self.old.state self.old.left undos.old.items }
         ensures back { self.new ≡ with_state self.old (all_undone self.old.state undos.old.items) }
         ensures none { undos.new.items ≡ [] }
+        ensures room { vec_capacity undos.new ≡ vec_capacity undos.old }
     {
         while let Some(undo) = undos.pop() {
             self.undo(undo);
@@ -91,7 +97,12 @@ impl<A: Allocator + Copy> Inner<A> {
         requires { IsUndoable self.old.state self.old.left undo }
         ensures { self.new ≡ with_state self.old (undone self.old.state undo) }
     {
-        let Undo { pid, vpn, zero, given } = undo;
+        let Undo {
+            pid,
+            vpn,
+            zero,
+            given,
+        } = undo;
         self.spaces.see_before(pid, vpn, zero);
         let Some(given) = given else {
             return;
@@ -101,17 +112,27 @@ impl<A: Allocator + Copy> Inner<A> {
     }
 }
 
-/// How a touch is taken back that found this there: what was seen, and the page's frame. It gave this frame.
-fn noted(
-    pid: Pid,
-    vpn: Vpn,
-    page: Page,
-    seen: Option<Sight>,
-    place: Option<FrameId>,
-    frame: Option<FrameId>,
-) -> Option<Undo>
-    ensures { result ≡ noted pid vpn page seen place frame }
+/// Notes how a touch that gave this frame is taken back, where there is anything to take back.
+fn note<A: Allocator + Copy>(undos: &mut Vec<Undo, A>, before: Before, frame: &Option<FrameId>)
+    requires { vec_len undos.old + 1 ≤ vec_capacity undos.old }
+    ensures { undos.new.items ≡ with_undo undos.old.items (noted before.pid before.vpn before.page before.seen before.place frame.now) }
 {
+    if let Some(undo) = noted(before, *frame) {
+        undos.push_reserved(undo);
+    }
+}
+
+/// How a touch that gave this frame is taken back, where there is anything to take back.
+fn noted(before: Before, frame: Option<FrameId>) -> Option<Undo>
+    ensures { result ≡ noted before.pid before.vpn before.page before.seen before.place frame }
+{
+    let Before {
+        pid,
+        vpn,
+        page,
+        seen,
+        place,
+    } = before;
     let zero = match seen {
         None => false,
         Some(sight) => match sight {

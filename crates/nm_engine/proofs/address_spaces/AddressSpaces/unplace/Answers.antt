@@ -1,5 +1,5 @@
-use Rattle.std.proofs.Common.{ℕ, ◌≡◌, refl, sym, subst, ap, ◌∙◌}
-use Rattle.std.specs.Prelude.{IsSome, Some}
+use Rattle.std.proofs.Common.{sym, subst, ap, ◌∙◌}
+use Rattle.std.specs.Prelude.{IsSome}
 use Rattle.nm_types.specs.Map.{get, page_cmp}
 use Rattle.nm_areas.specs.Mapped.{Mapped}
 use Rattle.nm_engine.specs.AddressSpaces.{SpacesView, spaces_view}

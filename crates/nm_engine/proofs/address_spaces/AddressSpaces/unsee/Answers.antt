@@ -1,4 +1,4 @@
-use Rattle.std.proofs.Common.{ℕ, ◌≡◌, refl, sym, subst, ap, ◌∙◌}
+use Rattle.std.proofs.Common.{ℕ, refl, sym, subst, ap, ◌∙◌}
 use Rattle.std.specs.Prelude.{IsSome}
 use Rattle.nm_types.specs.Map.{Map}
 use Rattle.nm_engine.specs.ProcessTable.{Task}

@@ -1,4 +1,4 @@
-use Rattle.std.proofs.Common.{◌≡◌, ap, sym, subst, ◌∙◌, refl, eq-eqb}
+use Rattle.std.proofs.Common.{ap, sym, subst, ◌∙◌, refl, eq-eqb}
 use Rattle.std.specs.Prelude.{Option, Some}
 use Rattle.nm_tables.specs.declared.entry.Entry.{Entry}
 use Rattle.nm_engine.specs.ProcessTable.{entry_at, names}

@@ -1,11 +1,9 @@
-use Rattle.std.proofs.Common.{◌≡◌, ℕ, List, [], ◌∷◌, ◌++◌, ap, sym, subst, ◌∙◌}
+use Rattle.std.proofs.Common.{List, ap, sym, subst, ◌∙◌}
 use Rattle.nm_engine.specs.declared.inner.undo.Undo.{Undo}
 use Rattle.nm_engine.specs.MidRun.{MidRun, with_state}
 use Rattle.nm_engine.specs.Undo.{CanUndo, all_undone}
 use Rattle.nm_engine.proofs.Together.Undone.{all_undone-push, can_pop}
-use Rattle.nm_engine.proofs.inner.Inner.take_back.Given.{Over}
 use Rattle.nm_engine.proofs.inner.Inner.take_back.Goals as goal
-
 
 pub undo-requires : goal.undo-requires
 undo-requires g c =
@@ -24,4 +22,5 @@ loop-undo-preserved g c =
           ∙ ap (with_state s) (sym (all_undone-push s.state rest c.in-Some.undo))
           ∙ ap (λ (us : List Undo). with_state s (all_undone s.state us)) (sym c.in-Some.ensures.items)
           ∙ c.loop-undo.invariant.back;
+      room = c.in-Some.ensures.capacity ∙ c.loop-undo.invariant.room;
     }

@@ -1,4 +1,4 @@
-use Rattle.std.proofs.Common.{◌≡◌, ℕ, List, [], ap, sym, subst, ◌∙◌, Option, Some, IsSome}
+use Rattle.std.proofs.Common.{ℕ, ap, sym, subst, ◌∙◌, Option, IsSome}
 use Rattle.std.specs.Ordering.{nat_cmp}
 use Rattle.nm_types.specs.declared.page.Page.{Page}
 use Rattle.nm_types.specs.Map.{get, page_cmp}
