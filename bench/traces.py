@@ -170,6 +170,17 @@ def bound_pages(size):
     return trace([8192, 8192], steps + [bind(1 - number % 2) for number in range(50)])
 
 
+def evacuated_node(size):
+    """So many thousand pages of two processes on a node that goes offline and comes back, and the other after it, 50 times
+    together: each time all pages go to the other node."""
+    second = BASE + PAGE * 500 * size
+    steps = [share(BASE, 500 * size), spawn(2, [0, 1]), attach(BASE, 0, 500 * size, 2), map_step(second, 500 * size)]
+    steps += [write(BASE + PAGE * page) for page in range(1000 * size)] + [read(BASE + PAGE * page, 2) for page in range(500 * size)]
+    for number in range(50):
+        steps += ['{"op":"%s","node":%d}' % (op, number % 2) for op in ("offline", "online")]
+    return trace([8192, 8192], steps)
+
+
 def many_areas(size):
     """So many thousand areas of one page, each touched when it is made."""
     steps = []
@@ -307,6 +318,7 @@ KINDS = {
     sparse_touches: 16,
     told_pages: 2,
     bound_pages: 2,
+    evacuated_node: 1,
     many_areas: 7,
     many_runs: 4,
     shared_moves: 50,

@@ -211,8 +211,8 @@ def told_by(path):
     with open(path, encoding="utf-8") as file:
         for line in file.read().split("\n"):
             k, op, answer = (line.split(" ", 2) + ["", "", ""])[:3]
-            changes = op in ("unmap", "exit", "read", "write", "move_pages", "migrate_pages") and "error" not in answer
-            if changes or op == "mbind" and ("error" not in answer or answer == "error EIO"):
+            changes = op in ("unmap", "exit", "read", "write", "move_pages", "migrate_pages", "offline") and "error" not in answer
+            if changes or (op, answer) == ("offline", "error EBUSY") or op == "mbind" and ("error" not in answer or answer == "error EIO"):
                 found.update(moment)
                 moment = set()
             if op == "free" and "error" not in answer:

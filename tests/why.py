@@ -20,7 +20,8 @@ HEX = "wanted is a text of hexadecimal digits, an even number of them"
 BATCH = "wanted is a list of at most 16,384 elements"
 MOST_NODES = "wanted is a list of at most 64 elements"
 OPS = (
-    "wanted is one of spawn, map, attach, unmap, exit, pin, unpin, read, write, move_pages, migrate_pages, mbind, query, free, "
+    "wanted is one of spawn, map, attach, unmap, exit, pin, unpin, read, write, move_pages, migrate_pages, mbind, offline, "
+    "online, query, free, "
     "pagemap, numa_maps, vmstat"
 )
 
@@ -156,6 +157,8 @@ STEPS = [
     ('{"op":"query","caller":1,"pid":0,"pages":["0"],"flags":0}', 'query: pages[0] is "0": ' + U64),
     ('{"op":"query","caller":1,"pid":0,"flags":0}', "query: pages is missing: " + BATCH),
     ('{"op":"free","node":4294967296}', "free: node is 4294967296: " + U32),
+    ('{"op":"offline"}', "offline: node is missing: " + U32),
+    ('{"op":"online","node":-1}', "online: node is -1: " + U32),
     ('{"op":"pagemap"}', "pagemap: pid is missing: " + U32),
     ('{"op":"pagemap","pid":[1]}', "pagemap: pid is a list: " + U32),
     ('{"op":"numa_maps"}', "numa_maps: pid is missing: " + U32),
@@ -258,7 +261,7 @@ def check_limits():
 def check_order():
     """The machine is told before steps, and the first bad step before others."""
     text = changed(read("examples/three_pages.json"), '"data":"62"', '"data":"6"')
-    text = changed(text, '"op":"free"', '"op":"offline"')
+    text = changed(text, '"op":"free"', '"op":"unplug"')
     expect(text, 'bad step 3: write: data is "6": ' + HEX)
     expect(changed(text, "[4,4]", "[4,0]"), "bad machine: machine.nodes[1] is 0: " + LIMIT)
     expect(changed(changed(text, "[4,4]", "[4,0]"), '"version":1', '"version":1,"n":1e999'),

@@ -23,8 +23,10 @@ LIST = re.compile(r"(0|[1-9][0-9]*):((?: \S+)*)")
 NUMBER = re.compile(r"0|[1-9][0-9]*")
 FRAME = re.compile(r"(?P<frame>0|[1-9][0-9]{0,4})")
 ENTRY = re.compile(r"(?P<page>[0-9a-f]{5,9})000=(?:zero|(?P<frame>0|[1-9][0-9]{0,4}))")
+# The refusals that may come after moves.
+LATE = {("mbind", "error EIO"), ("offline", "error EBUSY")}
 # The steps that move no page, and neither take nor free a frame. Any other may.
-KEEPS = {"spawn", "map", "attach", "pin", "unpin", "query", "free", "pagemap", "numa_maps", "vmstat"}
+KEEPS = {"spawn", "map", "attach", "pin", "unpin", "online", "query", "free", "pagemap", "numa_maps", "vmstat"}
 USAGE = "wanted is REPORT, and with it --trace TRACE or --steps A-B or both"
 MOST_FRAMES, MOST_SQUARES = 16384, 200000
 LEFT, GAP, EDGE = 150, 24, 12
@@ -164,7 +166,7 @@ def moments_of(lines, machine):
             now.add_free(k, number, answer, machine)
         elif op == "pagemap" and not refused:
             now.add_pagemap(k, number, answer, machine)
-        elif op not in KEEPS and (not refused or (op, answer) == ("mbind", "error EIO")):
+        elif op not in KEEPS and (not refused or (op, answer) in LATE):
             found.append(now)
             now = Moment((k, op))
     found = [moment for moment in found + [now] if moment.steps]

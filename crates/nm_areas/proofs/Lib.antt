@@ -19,3 +19,4 @@ pub mod Gone
 pub mod Letting
 pub mod Roomy
 pub mod Shown
+pub mod Values

@@ -4,7 +4,7 @@ ghost use Rattle.std.specs.Prelude.{ℕ, ◌≡◌, ◌≤◌, ◌<◌, ◌+◌,
 ghost use Rattle.std.specs.List.Sorted.{IsStrictlySortedBy};
 ghost use Rattle.std.specs.Map.{keys_of, values_of};
 ghost use Rattle.nm_types.specs.declared.page.Page.{Page};
-ghost use Rattle.nm_types.specs.Map.{get, page_cmp};
+ghost use Rattle.nm_types.specs.Map.{get, page_cmp, with_values};
 ghost use Rattle.nm_types.specs.State.{page_of, page_at};
 ghost use Rattle.nm_areas.specs.Effect.{with_frame, moved, without_frame};
 ghost use Rattle.nm_areas.specs.Mapped.{IsMapped, mapped};
@@ -40,6 +40,14 @@ impl<A: Allocator + Copy> Areas<A> {
         ensures { IfOk result (λ frames. frames.items ≡ values_of self.now.place) }
     {
         list_frames(self.alloc, &self.places)
+    }
+
+    /// The pages that have a frame, by segment and index, each with its frame. An error is want of memory.
+    #[tactic(auto, using(crate::proofs::Values::same_values))]
+    pub fn placed(&self) -> Result<Vec<(Page, FrameId), A>, AllocError>
+        ensures { IfOk result (λ placed. placed.items ≡ self.now.place) }
+    {
+        list_placed(self.alloc, &self.places)
     }
 
     /// A page has this frame from now on. An error means that nothing has changed.
@@ -128,4 +136,17 @@ fn list_frames<A: Allocator + Copy>(
     ensures { IfOk result (λ frames. frames.items ≡ values_of places.now.entries) }
 {
     places.values().copied().collect(alloc)
+}
+
+/// The pages that have a frame, in their order, each with its frame.
+fn list_placed<A: Allocator + Copy>(
+    alloc: A,
+    places: &BTreeMap<Page, FrameId, A>,
+) -> Result<Vec<(Page, FrameId), A>, AllocError>
+    ensures { IfOk result (λ placed. placed.items ≡ with_values (λ page frame. frame) places.now.entries) }
+{
+    places
+        .iter()
+        .map(|(page, frame)| (*page, *frame))
+        .collect(alloc)
 }

@@ -63,7 +63,7 @@ module _ (y : SystemState) (caller addr len mode : ℕ) (nodes : List ℕ) (flag
       (ap (λ b. leaves y (late_answer b) (runs_from 0 first runs []).state) strays ∙ ap (λ s. leaves y (late_answer late) s) (sym is))
 
   stopped_at : (k : ℕ) (policy_set : Bool) (new : State) → mbind_refusal y.state caller addr len mode nodes flags ≡ None
-      → Stops (HostMemory k policy_set) first new runs → LeavesSome y asks k policy_set (in_state y new)
+      → Stops true (HostMemory k policy_set) first new runs → LeavesSome y asks k policy_set (in_state y new)
   stopped_at k policy_set new h made =
       let lt = made.1 in
       let few : k < length (runs_of y asks) = subst (λ rs. k < length rs) (sym (runs_are h)) lt in

@@ -20,3 +20,5 @@ pub mod Strays
 pub mod Nodes
 pub mod Ways
 pub mod Bound
+pub mod Emptied
+pub mod Unasked

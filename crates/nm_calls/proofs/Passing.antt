@@ -1,5 +1,5 @@
 -- Passes, one after another.
-use Rattle.std.proofs.Common.{arith, ⊎_elim, ◌≡◌, ℕ, zero, suc, ℤ, ◌+◌, ◌<◌, ◌≤◌, Bool, true, false, cond, List, [], ◌∷◌, ◌++◌, length, map, take, refl, sym, ap, subst, ◌∙◌, append_assoc, length-append, slice_index_or}
+use Rattle.std.proofs.Common.{arith, ⊎_elim, inl, inr, ◌≡◌, ℕ, zero, suc, ℤ, ◌+◌, ◌<◌, ◌≤◌, Bool, true, false, cond, List, [], ◌∷◌, ◌++◌, length, map, take, refl, sym, ap, subst, ◌∙◌, append_assoc, length-append, slice_index_or}
 use Rattle.std.proofs.lemmas.List.{length-map, take-append-le}
 use Rattle.std.specs.List.{AllByRecursion, filter, zip}
 use Rattle.std.specs.Ordering.{int_eq}
@@ -14,13 +14,13 @@ use Rattle.std.specs.Prelude.{◌^◌, ◌==◌, drop, Err}
 use Rattle.std.proofs.lemmas.Bool.{eqb-true, eq-eqb, cases_lt}
 use Rattle.nm_types.proofs.Cases.{true_false}
 use Rattle.std.proofs.Math.Seq.{drop-cons}
-use Rattle.nm_engine.specs.Run.{Ran, run, IsByAddress}
+use Rattle.nm_engine.specs.Run.{Ran, run, IsByAddress, IsByPage, HasOneAll}
 use Rattle.nm_engine.specs.Batch.{runs_from}
 use Rattle.nm_calls.specs.Outcome.{states_of}
 use Rattle.nm_calls.specs.Passes.{passes, without_frame}
 use Rattle.nm_calls.specs.declared.call_error.CallError.{CallError}
 use Rattle.nm_calls.specs.declared.call_error.CallError.TheVariants.{Refused, HostMemory}
-use Rattle.nm_calls.specs.Making.{IsAlike, Batches, Stops, IsCounted, later}
+use Rattle.nm_calls.specs.Making.{Batches, Stops, IsCounted, later}
 use Rattle.nm_calls.proofs.Lengths.{run_layout, run_length}
 use Rattle.nm_calls.proofs.Trails.{states_are}
 
@@ -114,8 +114,9 @@ all_left P (w ∷ ws) (z ∷ zs) h =
       | false ↦ rest
     ]
 
-pub alike_left : (ws : List Wanted) (zs : List ℤ) → IsAlike ws → IsAlike (without_frame ws zs)
-alike_left ws zs h = (h.0, all_left (IsByAddress h.0) ws zs h.1)
+pub alike_left : (ws : List Wanted) (zs : List ℤ) → HasOneAll ws → HasOneAll (without_frame ws zs)
+alike_left ws zs (inl h) = inl (h.0, all_left (IsByAddress h.0) ws zs h.1)
+alike_left ws zs (inr h) = inr (all_left IsByPage ws zs h)
 
 runs_few : (rs : List Stretch) → AllByRecursion (λ r. 0 < size_of r) rs → length rs ≤ length (joined rs)
 runs_few [] h = omega arith
@@ -154,11 +155,6 @@ to_node_wanted node (w ∷ ws) = ap (λ l. w ∷ l) (to_node_wanted node ws)
 pub to_node_below : (count node : ℕ) (ws : List Wanted) → node < count → AllByRecursion (λ e. e.target < count) (all_to node ws)
 to_node_below count node [] lt = tt
 to_node_below count node (w ∷ ws) lt = (lt, to_node_below count node ws lt)
-
--- what requests want is by address, and so is each of them
-pub alike_requests : (all : Bool) (es : List Request) → AllByRecursion (IsByAddress all) (wanted_of es) → AllByRecursion (λ e. IsByAddress all e.wanted) es
-alike_requests all [] h = tt
-alike_requests all (e ∷ es) h = (h.0, alike_requests all es h.1)
 
 -- runs keep the nodes
 pub runs_layout : (k : ℕ) (s : State) (rs : List Stretch) → (runs_from k s rs []).state.layout ≡ s.layout
@@ -215,13 +211,13 @@ pub counted_later : {T : Type 0} (e : CallError) (old new : State) (runs : List 
 counted_later (Refused x) old new runs Gives made h room = tt
 counted_later (HostMemory k policy_set) old new runs Gives made h room = let few = h.1 in omega (arith, few, room)
 
-pub stopped_later : {T : Type 0} (e f : CallError) (start s t : State) (all runs rest : List Stretch) (Gives : T → Ran → Type 0) (made : ℕ) → Batches (Err e) s t runs Gives → HavePassed start all (runs ++ rest) s made → 0 < length runs → f ≡ later e made
-    → Stops f start t all
-stopped_later (Refused x) f start s t all runs rest Gives made h passed some is = absurd h
-stopped_later (HostMemory k policy_set) f start s t all runs rest Gives made h passed some is =
+pub stopped_later : {T : Type 0} (set : Bool) (e f : CallError) (start s t : State) (all runs rest : List Stretch) (Gives : T → Ran → Type 0) (made : ℕ) → Batches (Err e) s t runs Gives → HavePassed start all (runs ++ rest) s made → 0 < length runs → f ≡ later e made set
+    → Stops set f start t all
+stopped_later set (Refused x) f start s t all runs rest Gives made h passed some is = absurd h
+stopped_later set (HostMemory k policy_set) f start s t all runs rest Gives made h passed some is =
     let few = h.1 in
     let after = stopped start all runs rest s t made k passed (omega (arith, few, some)) h.2 in
-    subst (λ f. Stops f start t all) (sym is) (refl, after.0, after.1)
+    subst (λ f. Stops set f start t all) (sym is) (refl, after.0, after.1)
 
 -- nothing is left
 pub nothing_is : {X : Type 0} (xs : List X) (n : ℕ) → n ≡ length xs → (n == 0) ≡ true → xs ≡ []

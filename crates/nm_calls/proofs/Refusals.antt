@@ -1,17 +1,19 @@
 -- A call that is refused leaves the system as it was.
-use Rattle.std.proofs.Common.{◌≡◌, Bool, true, false, Option, Some, None, [], refl, ap, sym, inl, inr, ◌∙◌}
+use Rattle.std.proofs.Common.{◌≡◌, ℕ, Bool, true, false, Option, Some, None, [], refl, ap, sym, inl, inr, ◌∙◌}
 use Rattle.std.proofs.lemmas.Bool.{true≢false}
 use Rattle.nm_types.specs.declared.errno.Errno.{Errno}
 use Rattle.nm_engine.specs.Touch as engine
 use Rattle.nm_engine.specs.Touch.{read, write}
 use Rattle.nm_engine.specs.Run.{Ran}
 use Rattle.nm_engine.specs.Batch.{runs_from}
-use Rattle.nm_calls.specs.Calls.{Call, Spawn, MapPages, Attach, Unmap, Exit, Pin, Unpin, ReadBytes, WriteBytes, MovePages, MigratePages, Query, FreeList, Pagemap, Vmstat, NumaMaps, Mbind, Answer, Refusal, Done, Held, Failed, NewSegment, TheBytes, Statuses, Frames, Entries, TheTotals, Lines}
+use Rattle.nm_calls.specs.Calls.{Call, Spawn, MapPages, Attach, Unmap, Exit, Pin, Unpin, ReadBytes, WriteBytes, MovePages, MigratePages, Query, FreeList, Pagemap, Vmstat, NumaMaps, Mbind, Offline, Online, Answer, Refusal, Done, Held, Failed, NewSegment, TheBytes, Statuses, Frames, Entries, TheTotals, Lines}
 use Rattle.nm_calls.specs.Systems.{SystemState}
-use Rattle.nm_calls.specs.Outcome.{refusal_in, shown, refused, start, runs_asked, ended, unless, late_answer}
+use Rattle.nm_calls.specs.Outcome.{refusal_in, shown, refused, start, runs_asked, ended, unless, late_answer, emptied}
 use Rattle.std.specs.Prelude.{◌⊎◌, ◌&&◌, if◌then◌else◌}
-use Rattle.nm_types.specs.declared.errno.Errno.TheVariants.{Eio}
+use Rattle.nm_types.specs.declared.errno.Errno.TheVariants.{Eio, Ebusy}
 use Rattle.nm_calls.specs.Binding.{binding, still_strays, tells_late}
+use Rattle.nm_types.specs.State.{State}
+use Rattle.nm_calls.specs.Offlining.{still_on}
 use Rattle.nm_calls.specs.Laws.{late_refusal}
 use Rattle.nm_calls.specs.Laws.{RefusalsChangeNothing}
 
@@ -60,6 +62,10 @@ late_error true true e h = ap error_of h
 late_error true false e h = absurd (no_error (Failed 0) e refl h)
 late_error false strays e h = absurd (no_error (Failed 0) e refl h)
 
+busy_error : (y : SystemState) (node : ℕ) (s : State) (stays : Bool) (e : Errno) → (emptied y node s stays).answer ≡ Refusal e → Some Ebusy ≡ Some e
+busy_error y node s true e h = ap error_of h
+busy_error y node s false e h = absurd (no_error Done e refl h)
+
 -- a call that is not refused at first answers no refusal, but for the late one
 call_answers : (y : SystemState) (call : Call) (made : Ran) (e : Errno) → refused y.state call ≡ None → (ended y call made).answer ≡ Refusal e → late_refusal call ≡ Some e
 unfolding ended refused
@@ -77,6 +83,8 @@ call_answers y (MigratePages caller pid old new) made e h is = absurd (no_error 
 call_answers y (Query caller pid pages flags) made e h is = absurd (no_error _ e refl is)
 call_answers y (Mbind caller addr len mode nodes flags) made e h is =
     late_error (tells_late flags) (still_strays y.state made.state (binding y.state caller addr len mode nodes)) e is
+call_answers y (Offline node) made e h is = busy_error y node made.state (still_on y.state made.state node) e is
+call_answers y (Online node) made e h is = absurd (no_error Done e refl is)
 call_answers y (FreeList node) made e h is = absurd (no_error _ e refl is)
 call_answers y (Pagemap pid) made e h is = absurd (no_error _ e refl is)
 call_answers y Vmstat made e h is = absurd (no_error _ e refl is)

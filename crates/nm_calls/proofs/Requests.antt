@@ -1,15 +1,15 @@
 -- What the runs of a batch have of its requests.
-use Rattle.std.proofs.Common.{arith, ◌≡◌, ℕ, suc, ◌<◌, ◌≤◌, inl, Bool, List, [], ◌∷◌, ◌++◌, length, refl, sym, ap, ◌∙◌, slice_index_or, zero, length-append, subst}
+use Rattle.std.proofs.Common.{arith, ◌≡◌, ℕ, suc, ◌<◌, ◌≤◌, inl, inr, Bool, List, [], ◌∷◌, ◌++◌, length, refl, sym, ap, ◌∙◌, slice_index_or, zero, length-append, subst}
 use Rattle.std.proofs.lemmas.List.{length-map}
 use Rattle.std.specs.Prelude.{slice_index}
 use Rattle.std.proofs.lemmas.List.Sums.{sum_by-cons}
 use Rattle.std.specs.List.{AllByRecursion, sum_by}
 use Rattle.nm_runs.specs.declared.Run.{Run}
 use Rattle.nm_runs.specs.declared.Wanted.{Wanted}
-use Rattle.nm_runs.specs.Cut.{Request, Stretch, all_to, joined, size_of, stretches_of}
+use Rattle.nm_runs.specs.Cut.{Request, Stretch, all_to, joined, size_of, stretches_of, wanted_of}
 use Rattle.nm_runs.specs.Limit.{cut_within}
 use Rattle.nm_runs.proofs.Pieces.{each_limit_cuts}
-use Rattle.nm_engine.specs.Run.{IsByAddress, HasOneAll}
+use Rattle.nm_engine.specs.Run.{IsByAddress, IsByPage, HasOneAll}
 use Rattle.nm_engine.proofs.OneByOne.Alike.{each_has_one_all}
 use Rattle.nm_calls.specs.Batch.{requests_of}
 
@@ -100,18 +100,33 @@ batch_alike pid all [] ns = tt
 batch_alike pid all (p ∷ ps) [] = tt
 batch_alike pid all (p ∷ ps) (m ∷ ns) = (refl, batch_alike pid all ps ns)
 
-run_alike : (all : Bool) (target : ℕ) (wanted : List Wanted) → AllByRecursion (λ e. IsByAddress all e.wanted) (all_to target wanted) → AllByRecursion (IsByAddress all) wanted
-run_alike all target [] h = tt
-run_alike all target (w ∷ ws) h = (h.0, run_alike all target ws h.1)
+-- what holds of all that is wanted of some requests ..
+module _ (Q : Wanted → Type 0) (kind : (ws : List Wanted) → AllByRecursion Q ws → HasOneAll ws) where
+  each_wanted : (es : List Request) → AllByRecursion Q (wanted_of es) → AllByRecursion (λ e. Q e.wanted) es
+  each_wanted [] h = tt
+  each_wanted (e ∷ es) h = (h.0, each_wanted es h.1)
 
-all_alike : (all : Bool) (rs : List Stretch) → AllByRecursion (OfRun (λ e. IsByAddress all e.wanted)) rs → AllByRecursion (λ r. HasOneAll r.wanted) rs
-all_alike all [] h = tt
-all_alike all (r ∷ rs) h = (inl (all, run_alike all r.target r.wanted h.0), all_alike all rs h.1)
+  run_wanted : (target : ℕ) (wanted : List Wanted) → AllByRecursion (λ e. Q e.wanted) (all_to target wanted) → AllByRecursion Q wanted
+  run_wanted target [] h = tt
+  run_wanted target (w ∷ ws) h = (h.0, run_wanted target ws h.1)
+
+  all_alike : (rs : List Stretch) → AllByRecursion (OfRun (λ e. Q e.wanted)) rs → AllByRecursion (λ r. HasOneAll r.wanted) rs
+  all_alike [] h = tt
+  all_alike (r ∷ rs) h = (kind r.wanted (run_wanted r.target r.wanted h.0), all_alike rs h.1)
+
+  -- .. holds of what is wanted of their runs
+  kinds : {A : Type 0} (limit : ℕ) (es : List Request) (runs : List (Run A)) → 0 < limit → stretches_of runs ≡ cut_within limit es → AllByRecursion (λ e. Q e.wanted) es → (k : ℕ) (d : Run A) → k < length runs → HasOneAll (slice_index_or runs k d).wanted.items
+  kinds limit es runs some e h = each_has_one_all runs (rw e (all_alike (cut_within limit es) (of_runs (λ e. Q e.wanted) limit es some h)))
 
 -- where requests have one `all`, each of their runs has it
 pub run_kinds : {A : Type 0} (limit : ℕ) (all : Bool) (es : List Request) (runs : List (Run A)) → 0 < limit → stretches_of runs ≡ cut_within limit es → AllByRecursion (λ e. IsByAddress all e.wanted) es → (k : ℕ) (d : Run A) → k < length runs → HasOneAll (slice_index_or runs k d).wanted.items
-run_kinds limit all es runs some e h =
-    each_has_one_all runs (rw e (all_alike all (cut_within limit es) (of_runs (λ e. IsByAddress all e.wanted) limit es some h)))
+run_kinds limit all es runs some e h = kinds (IsByAddress all) (λ ws h. inl (all, h)) limit es runs some e h
+
+-- where they have one `all`, or are by page, so are those of each run
+pub runs_like : {A : Type 0} (limit : ℕ) (es : List Request) (runs : List (Run A)) → 0 < limit → stretches_of runs ≡ cut_within limit es → HasOneAll (wanted_of es) → (k : ℕ) (d : Run A) → k < length runs → HasOneAll (slice_index_or runs k d).wanted.items
+runs_like limit es runs some e (inl h) =
+    kinds (IsByAddress h.0) (λ ws k. inl (h.0, k)) limit es runs some e (each_wanted (IsByAddress h.0) (λ ws k. inl (h.0, k)) es h.1)
+runs_like limit es runs some e (inr h) = kinds IsByPage (λ ws k. inr k) limit es runs some e (each_wanted IsByPage (λ ws k. inr k) es h)
 
 -- .. and so are those of each of its runs
 pub runs_alike : {A : Type 0} (limit pid : ℕ) (all : Bool) (ps ns : List ℕ) (runs : List (Run A)) → 0 < limit → stretches_of runs ≡ cut_within limit (requests_of pid all ps ns) → (k : ℕ) (d : Run A) → k < length runs → HasOneAll (slice_index_or runs k d).wanted.items

@@ -1,5 +1,5 @@
 -- How the pages of a policy move.
-use Rattle.std.proofs.Common.{◌≡◌, ℕ, suc, Bool, true, false, cond, List, [], ◌∷◌, ◌++◌, length, map, refl, sym, ap, subst}
+use Rattle.std.proofs.Common.{◌≡◌, ℕ, suc, Bool, true, false, cond, List, [], ◌∷◌, ◌++◌, length, map, inl, refl, sym, ap, subst}
 use Rattle.std.proofs.lemmas.Bool.{eqb-true}
 use Rattle.std.specs.Prelude.{◌==◌}
 use Rattle.std.specs.List.{AllByRecursion, filter, flat_map}
@@ -15,10 +15,10 @@ use Rattle.nm_policy.specs.Turns.{sent, sent_to, by_turns}
 use Rattle.nm_runs.specs.Cut.{wanted_of}
 use Rattle.nm_engine.specs.declared.located.Located.{Located}
 use Rattle.nm_engine.specs.Effect.{with_areas_of}
-use Rattle.nm_engine.specs.Run.{IsByAddress}
+use Rattle.nm_engine.specs.Run.{IsByAddress, HasOneAll}
 use Rattle.nm_calls.specs.Passes.{passes}
 use Rattle.nm_calls.specs.Binding.{spots, each_to, nodes_tried, runs_by}
-use Rattle.nm_calls.specs.Making.{IsAlike, nodes_named}
+use Rattle.nm_calls.specs.Making.{nodes_named}
 use Rattle.nm_calls.proofs.Lists.{of_member}
 
 module _ (P : ℕ → Type 0) where
@@ -65,15 +65,15 @@ module _ (P : ℕ → Type 0) where
   tried_all s home Local h = tt
 
 -- .. and are by address, with one `all`
-pub turns_alike : (pid : ℕ) (all : Bool) (ts : List Sent) → IsAlike (wanted_of (each_to pid all ts))
-turns_alike pid all ts = (all, each ts)
+pub turns_alike : (pid : ℕ) (all : Bool) (ts : List Sent) → HasOneAll (wanted_of (each_to pid all ts))
+turns_alike pid all ts = inl (all, each ts)
   where
     each : (ts : List Sent) → AllByRecursion (IsByAddress all) (wanted_of (each_to pid all ts))
     each [] = tt
     each (t ∷ ts) = (refl, each ts)
 
-pub spots_alike : (pid : ℕ) (all : Bool) (ls : List Located) → IsAlike (spots pid all ls)
-spots_alike pid all ls = (all, each ls)
+pub spots_alike : (pid : ℕ) (all : Bool) (ls : List Located) → HasOneAll (spots pid all ls)
+spots_alike pid all ls = inl (all, each ls)
   where
     each : (ls : List Located) → AllByRecursion (IsByAddress all) (spots pid all ls)
     each [] = tt

@@ -17,6 +17,8 @@ pub data Call : Type 0 where
   MigratePages : (caller pid : ℕ) (old new : List ℕ) → Call
   Query : (caller pid : ℕ) (pages : List ℕ) (flags : ℕ) → Call
   Mbind : (caller addr len mode : ℕ) (nodes : List ℕ) (flags : ℕ) → Call
+  Offline : (node : ℕ) → Call
+  Online : (node : ℕ) → Call
   FreeList : (node : ℕ) → Call
   Pagemap : (pid : ℕ) → Call
   Vmstat : Call

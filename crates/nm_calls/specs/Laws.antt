@@ -3,18 +3,20 @@ use Rattle.std.specs.Prelude.{◌≡◌, ◌⊎◌, ℕ, ◌≤◌, [], length, 
 use Rattle.nm_types.specs.declared.errno.Errno.{Errno}
 use Rattle.nm_types.specs.State.{State}
 use Rattle.nm_engine.specs.Batch.{runs_from}
-use Rattle.nm_calls.specs.Calls.{Call, Mbind, Refusal}
+use Rattle.nm_calls.specs.Calls.{Call, Mbind, Offline, Refusal}
 use Rattle.nm_calls.specs.Systems.{SystemState}
 use Rattle.nm_calls.specs.Outcome.{refused, start, started, outcome, runs_of, trail}
 use Rattle.nm_calls.specs.Binding.{tells_late}
-use Rattle.nm_types.specs.declared.errno.Errno.TheVariants.{Eio}
+use Rattle.nm_types.specs.declared.errno.Errno.TheVariants.{Eio, Ebusy}
 
 -- the refusal that may come after the runs of a call
 abbrev pub late_refusal : Call → Option Errno
 late_refusal (Mbind caller addr len mode nodes flags) = if tells_late flags then Some Eio else None
+late_refusal (Offline node) = Some Ebusy
 late_refusal call = None
 
--- a call that is refused leaves the system as it was, but for EIO of mbind with MPOL_MF_STRICT and a flag to move
+-- a call that is refused leaves the system as it was, but for EIO of mbind with MPOL_MF_STRICT and a flag to move, and
+-- EBUSY of offline
 abbrev pub RefusalsChangeNothing : Type 0
 RefusalsChangeNothing =
     (y : SystemState) (call : Call) (e : Errno) → (outcome y call).answer ≡ Refusal e →

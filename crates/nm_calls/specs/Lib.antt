@@ -18,5 +18,7 @@ pub mod MigrateRows
 pub mod MigrateLaws
 pub mod Passes
 pub mod Binding
+pub mod Offlining
 pub mod Making
 pub mod BindingRows
+pub mod OfflineRows

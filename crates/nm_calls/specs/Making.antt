@@ -1,15 +1,16 @@
--- The moves of mbind(2) that are made ready before its policy is set, and what comes of them.
+-- The moves of a call that are made ready before its first run, and what comes of them.
 use Rattle.std.specs.Prelude.{◌≡◌, ◌⊎◌, ℕ, ◌+◌, ◌-◌, ◌^◌, ◌<◌, ◌≤◌, Bool, true, false, ◌&&◌, All, List, [], ◌∷◌, length, slice_index_or, Result, Ok, Err}
 use Rattle.std.specs.List.{AllByRecursion}
 use Rattle.nm_types.specs.declared.area.Policy.{Policy}
 use Rattle.nm_types.specs.declared.area.Policy.TheVariants.{Default, Preferred, Bind, Interleave, Local}
-use Rattle.nm_types.specs.declared.errno.Errno.TheVariants.{Eio}
+use Rattle.nm_types.specs.declared.errno.Errno.TheVariants.{Eio, Ebusy}
 use Rattle.nm_types.specs.State.{State}
 use Rattle.nm_runs.specs.declared.Wanted.{Wanted}
 use Rattle.nm_runs.specs.Cut.{Stretch, wanted_of}
 use Rattle.nm_runs.specs.Limit.{cut_within}
-use Rattle.nm_engine.specs.Run.{Ran, IsByAddress}
+use Rattle.nm_engine.specs.Run.{Ran, HasOneAll}
 use Rattle.nm_engine.specs.Batch.{runs_from}
+use Rattle.nm_engine.specs.Effect.{set_online}
 use Rattle.nm_calls.specs.declared.binding.Binding.{Binding}
 use Rattle.nm_calls.specs.declared.binding.Way.{Way}
 use Rattle.nm_calls.specs.declared.binding.Way.TheVariants.{Passes, Turns}
@@ -17,6 +18,7 @@ use Rattle.nm_calls.specs.declared.call_error.CallError.{CallError}
 use Rattle.nm_calls.specs.declared.call_error.CallError.TheVariants.{Refused, HostMemory}
 use Rattle.nm_calls.specs.Passes.{passes}
 use Rattle.nm_calls.specs.Binding.{still_strays, tells_late}
+use Rattle.nm_calls.specs.Offlining.{still_on}
 use Rattle.nm_calls.specs.Outcome.{states_of}
 
 -- the runs of moves
@@ -24,15 +26,11 @@ abbrev pub runs_in : {A : Type 0} → ℕ → State → Way A → List Stretch
 runs_in limit s (Passes nodes wanted) = passes limit s nodes.items wanted.items
 runs_in limit s (Turns requests) = cut_within limit requests.items
 
--- requests by address, all of which move pages that others see, or none of which
-abbrev pub IsAlike : List Wanted → Type 0
-IsAlike wanted = (all : Bool) × AllByRecursion (IsByAddress all) wanted
-
 -- the nodes are below a count and few, and so are the pages
 abbrev pub CanGo : {A : Type 0} → ℕ → Way A → Type 0
 CanGo count (Passes nodes wanted) =
-    All (λ n. n < count) nodes.items × (length nodes.items ≤ 64) × IsAlike wanted.items × (length wanted.items ≤ 2 ^ 52)
-CanGo count (Turns requests) = AllByRecursion (λ e. e.target < count) requests.items × IsAlike (wanted_of requests.items)
+    All (λ n. n < count) nodes.items × (length nodes.items ≤ 64) × HasOneAll wanted.items × (length wanted.items ≤ 2 ^ 52)
+CanGo count (Turns requests) = AllByRecursion (λ e. e.target < count) requests.items × HasOneAll (wanted_of requests.items)
 
 -- the nodes that a policy names
 abbrev pub nodes_named : Policy → List ℕ
@@ -49,21 +47,21 @@ Batches (Err (Refused e)) old new runs Gives = ⊥
 Batches (Err (HostMemory k policy_set)) old new runs Gives =
     (policy_set ≡ false) × (k ≤ length runs - 1) × (new ≡ slice_index_or (states_of old runs) k old)
 
--- the policy is set, and the host has no memory for one of some runs, after those before it
-abbrev pub Stops : CallError → State → State → List Stretch → Type 0
-Stops (Refused e) old new runs = ⊥
-Stops (HostMemory k policy_set) old new runs =
-    (policy_set ≡ true) × (k < length runs) × (new ≡ slice_index_or (states_of old runs) k old)
+-- the host has no memory for one of some runs, after those before it; and whether a policy is set before them
+abbrev pub Stops : Bool → CallError → State → State → List Stretch → Type 0
+Stops set (Refused e) old new runs = ⊥
+Stops set (HostMemory k policy_set) old new runs =
+    (policy_set ≡ set) × (k < length runs) × (new ≡ slice_index_or (states_of old runs) k old)
 
--- the policy is set, and runs are made, or the host has no memory for one of them
-abbrev pub MakesRuns : {T : Type 0} → Result T CallError → State → State → List Stretch → Type 0
-MakesRuns (Ok done) old new runs = new ≡ (runs_from 0 old runs []).state
-MakesRuns (Err e) old new runs = Stops e old new runs
+-- runs are made, or the host has no memory for one of them; and whether a policy is set before them
+abbrev pub MakesRuns : {T : Type 0} → Bool → Result T CallError → State → State → List Stretch → Type 0
+MakesRuns set (Ok done) old new runs = new ≡ (runs_from 0 old runs []).state
+MakesRuns set (Err e) old new runs = Stops set e old new runs
 
--- want of memory after more runs, and with the policy set
-abbrev pub later : CallError → ℕ → CallError
-later (Refused e) made = Refused e
-later (HostMemory k policy_set) made = HostMemory (made + k) true
+-- want of memory after more runs, and whether a policy is set
+abbrev pub later : CallError → ℕ → Bool → CallError
+later (Refused e) made set = Refused e
+later (HostMemory k policy_set) made set = HostMemory (made + k) set
 
 -- so many runs can be counted
 abbrev pub IsCounted : CallError → ℕ → Type 0
@@ -76,7 +74,7 @@ Fails (Refused e) old set new b runs flags =
     let made = runs_from 0 set runs [] in
     ((tells_late flags && still_strays old made.state b) ≡ true) × (e ≡ Eio) × (new ≡ made.state)
 Fails (HostMemory k policy_set) old set new b runs flags =
-    ((k ≡ 0) × (policy_set ≡ false) × (new ≡ old)) ⊎ Stops (HostMemory k policy_set) set new runs
+    ((k ≡ 0) × (policy_set ≡ false) × (new ≡ old)) ⊎ Stops true (HostMemory k policy_set) set new runs
 
 -- what a call that is not refused at first comes to
 abbrev pub Binds : {T : Type 0} → Result T CallError → State → State → State → Binding → List Stretch → ℕ → Type 0
@@ -84,3 +82,17 @@ Binds (Ok done) old set new b runs flags =
     let made = runs_from 0 set runs [] in
     ((tells_late flags && still_strays old made.state b) ≡ false) × (new ≡ made.state)
 Binds (Err e) old set new b runs flags = Fails e old set new b runs flags
+
+-- a page stays, or the host has no memory: before the first run, or for one of them
+abbrev pub Keeps : CallError → State → State → ℕ → List Stretch → Type 0
+Keeps (Refused e) old new node runs =
+    let made = runs_from 0 old runs [] in (still_on old made.state node ≡ true) × (e ≡ Ebusy) × (new ≡ made.state)
+Keeps (HostMemory k policy_set) old new node runs =
+    ((k ≡ 0) × (policy_set ≡ false) × (new ≡ old)) ⊎ Stops false (HostMemory k policy_set) old new runs
+
+-- what comes of a node that is to be emptied: it is offline, or as it was
+abbrev pub Empties : {T : Type 0} → Result T CallError → State → State → ℕ → List Stretch → Type 0
+Empties (Ok done) old new node runs =
+    let made = runs_from 0 old runs [] in
+    (still_on old made.state node ≡ false) × (new ≡ set_online made.state node false)
+Empties (Err e) old new node runs = Keeps e old new node runs

@@ -6,20 +6,21 @@ use Rattle.nm_runs.specs.Cut.{Stretch}
 use Rattle.nm_runs.specs.Limit.{cut_within}
 use Rattle.nm_engine.specs.Touch.{read, write, spot_refusal}
 use Rattle.nm_engine.specs.Touch as engine
-use Rattle.nm_engine.specs.Effect.{spawn, map_new, attach, unmap, exit, pin, unpin}
+use Rattle.nm_engine.specs.Effect.{set_online, spawn, map_new, attach, unmap, exit, pin, unpin}
 use Rattle.nm_engine.specs.Refused.{spawn_refusal, map_refusal, attach_refusal, unmap_refusal, exit_refusal, pin_refusal, unpin_refusal, list_refusal, entries_refusal}
 use Rattle.nm_engine.specs.Run.{Ran, run}
 use Rattle.nm_engine.specs.Batch.{runs_from, answer_of}
 use Rattle.nm_engine.specs.Entries.{entries_of}
 use Rattle.nm_engine.specs.Asking.{node_status}
-use Rattle.nm_calls.specs.Calls.{Call, Spawn, MapPages, Attach, Unmap, Exit, Pin, Unpin, ReadBytes, WriteBytes, MovePages, MigratePages, Query, FreeList, Pagemap, Vmstat, NumaMaps, Mbind, Answer, Refusal, Done, Held, NewSegment, TheBytes, Statuses, Failed, Frames, Entries, TheTotals, Lines}
+use Rattle.nm_calls.specs.Calls.{Call, Spawn, MapPages, Attach, Unmap, Exit, Pin, Unpin, ReadBytes, WriteBytes, MovePages, MigratePages, Query, FreeList, Pagemap, Vmstat, NumaMaps, Mbind, Offline, Online, Answer, Refusal, Done, Held, NewSegment, TheBytes, Statuses, Failed, Frames, Entries, TheTotals, Lines}
 use Rattle.nm_calls.specs.Entries.{entries_shown}
 use Rattle.nm_calls.specs.Maps.{numa_maps}
 use Rattle.nm_calls.specs.Permission.{query_refusal, moves_all, owner_of}
-use Rattle.nm_types.specs.declared.errno.Errno.TheVariants.{Eio}
+use Rattle.nm_types.specs.declared.errno.Errno.TheVariants.{Eio, Ebusy}
 use Rattle.nm_calls.specs.Batch.{move_refusal, requests_of}
 use Rattle.nm_calls.specs.Migrating.{migrate_refusal, migration}
 use Rattle.nm_calls.specs.Binding.{mbind_refusal, policed, binding, mbind_runs, still_strays, tells_late}
+use Rattle.nm_calls.specs.Offlining.{offline_refusal, offline_runs, still_on, online_refusal}
 use Rattle.nm_calls.specs.Systems.{SystemState, in_state}
 
 -- why an access is refused
@@ -55,6 +56,8 @@ refused s (MovePages caller pid pages nodes flags) = move_refusal s caller pid n
 refused s (MigratePages caller pid old new) = migrate_refusal s caller pid old new
 refused s (Query caller pid pages flags) = query_refusal s caller pid flags
 refused s (Mbind caller addr len mode nodes flags) = mbind_refusal s caller addr len mode nodes flags
+refused s (Offline node) = offline_refusal s node
+refused s (Online node) = online_refusal s node
 refused s (FreeList node) = list_refusal s node
 refused s (Pagemap pid) = entries_refusal s pid
 refused s Vmstat = None
@@ -84,6 +87,7 @@ runs_asked y (MigratePages caller pid old new) = cut_within y.run_limit (migrati
 runs_asked y (Mbind caller addr len mode nodes flags) =
     let set = policed y.state caller addr len mode nodes in
     mbind_runs y.run_limit set (binding y.state caller addr len mode nodes) flags
+runs_asked y (Offline node) = offline_runs y.run_limit y.state node
 runs_asked y call = []
 
 -- an answer, and the system after it
@@ -99,8 +103,12 @@ leaves y answer s = record { answer = answer; system = in_state y s }
 abbrev pub late_answer : Bool → Answer
 late_answer late = if late then Refusal Eio else Failed 0
 
+-- a node with a page that stays is online still; else it is offline
+abbrev pub emptied : SystemState → ℕ → State → Bool → Outcome
+emptied y node s stays = if stays then leaves y (Refusal Ebusy) s else leaves y Done (set_online s node false)
+
 -- what a call that is not refused at first answers once its runs are made, and the system then: mbind tells of a page that
--- does not follow its policy still, and the moves stay
+-- does not follow its policy still, offline of one that stays, and the moves stay
 unfoldable pub ended : SystemState → Call → Ran → Outcome
 ended y (Spawn pid uid home allowed privileged) made = leaves y Done (spawn y.state pid uid home allowed privileged)
 ended y (MapPages pid addr pages shared) made =
@@ -121,6 +129,8 @@ ended y (Query caller pid pages flags) made =
 ended y (Mbind caller addr len mode nodes flags) made =
     let strays = still_strays y.state made.state (binding y.state caller addr len mode nodes) in
     leaves y (late_answer (tells_late flags && strays)) made.state
+ended y (Offline node) made = emptied y node made.state (still_on y.state made.state node)
+ended y (Online node) made = leaves y Done (set_online y.state node true)
 ended y (FreeList node) made = leaves y (Frames (free_list y.state node)) y.state
 ended y (Pagemap pid) made = leaves y (Entries (entries_shown (entries_of y.state pid))) y.state
 ended y Vmstat made = leaves y (TheTotals y.state.moved y.state.failed) y.state

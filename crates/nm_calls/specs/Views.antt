@@ -3,7 +3,7 @@ use Rattle.nm_calls.specs.declared.call.Call as values
 use Rattle.nm_calls.specs.declared.call.Call.TheVariants as call
 use Rattle.nm_calls.specs.declared.answer.Answer as values_of_answers
 use Rattle.nm_calls.specs.declared.answer.Answer.TheVariants as answer
-use Rattle.nm_calls.specs.Calls.{Call, Spawn, MapPages, Attach, Unmap, Exit, Pin, Unpin, ReadBytes, WriteBytes, MovePages, MigratePages, Mbind, Query, FreeList, Pagemap, Vmstat, NumaMaps, Answer, Done, NewSegment, TheBytes, Statuses, Failed, Frames, Entries, TheTotals, Lines}
+use Rattle.nm_calls.specs.Calls.{Call, Spawn, MapPages, Attach, Unmap, Exit, Pin, Unpin, ReadBytes, WriteBytes, MovePages, MigratePages, Mbind, Offline, Online, Query, FreeList, Pagemap, Vmstat, NumaMaps, Answer, Done, NewSegment, TheBytes, Statuses, Failed, Frames, Entries, TheTotals, Lines}
 use Rattle.nm_calls.specs.Entries.{entries_mapped}
 use Rattle.nm_calls.specs.Maps.{lines_shown}
 
@@ -23,6 +23,8 @@ call_of (call.MovePages request) =
 call_of (call.MigratePages request) = MigratePages request.caller request.pid request.old request.new
 call_of (call.Mbind request) =
     Mbind request.caller request.addr request.len request.mode request.nodes request.flags
+call_of (call.Offline node) = Offline node
+call_of (call.Online node) = Online node
 call_of (call.Query question) = Query question.caller question.pid question.pages.items question.flags
 call_of (call.FreeList node) = FreeList node
 call_of (call.Pagemap pid) = Pagemap pid

@@ -1,33 +1,28 @@
 //! The policy of a range, as `mbind(2)` sets it: what is refused, which pages move, and their runs.
 
-ghost use Rattle.std.specs.Prelude.{◌≡◌, ℕ, ◌+◌, ◌-◌, ◌^◌, ◌<◌, ◌≤◌, ◌&&◌, not, All, [], ◌∷◌, IfOk, IfSome, IfNone, IsSome, None, length, vec_capacity};
+ghost use Rattle.std.specs.Prelude.{◌≡◌, ℕ, ◌+◌, ◌-◌, ◌^◌, ◌<◌, ◌≤◌, ◌&&◌, not, All, [], ◌∷◌, IfOk, IfSome, IfNone, IsSome, None, length, true};
 ghost use Rattle.std.specs.List.{AllByRecursion, filter, list_any};
 ghost use Rattle.nm_types.specs.Layout.{node_count};
-ghost use Rattle.std.specs.Ordering.{int_eq};
-ghost use Rattle.nm_types.specs.declared.errno.Errno.TheVariants.{Enomem};
 ghost use Rattle.nm_types.specs.Nodes.{is_in};
-ghost use Rattle.nm_runs.specs.Status.{code};
 ghost use Rattle.nm_policy.specs.Order.{follows, zonelist};
 ghost use Rattle.nm_policy.specs.Turns.{by_turns};
 ghost use Rattle.nm_runs.specs.declared.Wanted.TheVariants.{At};
-ghost use Rattle.nm_runs.specs.Cut.{all_to, wanted_of};
-ghost use Rattle.nm_runs.specs.Limit.{cut_within};
 ghost use Rattle.nm_runs.specs.Targets.{Checks};
 ghost use Rattle.nm_areas.specs.Mapped.{Mapped};
 ghost use Rattle.nm_engine.specs.Effect.{with_areas_of};
 ghost use Rattle.nm_engine.specs.Policing.{pages_of, policy_refusal, set_policy};
 ghost use Rattle.nm_calls.specs.Permission.{info_at};
-ghost use Rattle.nm_calls.specs.Passes.{passes, without_frame};
+ghost use Rattle.nm_calls.specs.Passes.{passes};
 ghost use Rattle.nm_calls.specs.Sets.{usable};
 ghost use Rattle.nm_calls.specs.Binding.{preferred, policy_of, is_misfit, is_bad_set, moves, strays_between, astray, spots, strays_of, each_to, runs_by, nodes_tried, strays, mode_refusal, range_of, range_refusal, allowed_to, home_of, is_strict, listed, mbind_runs, mbind_refusal, binding};
-ghost use Rattle.nm_calls.specs.Making.{runs_in, IsAlike, CanGo, nodes_named, Batches, MakesRuns, later, IsCounted, Binds};
+ghost use Rattle.nm_calls.specs.Making.{runs_in, CanGo, nodes_named, MakesRuns, Binds};
 
-use crate::batch::move_runs;
 use crate::call_error::CallError;
+use crate::passes::{later, make_batch, make_passes};
 use nm_crew::Gate;
 use nm_engine::{Located, Machine, ProcessInfo};
 use nm_policy::{Sent, Stray, first_touch_order, follows, mbind_targets};
-use nm_runs::{Request, Wanted, cut_within};
+use nm_runs::{Request, Wanted};
 use nm_types::{Errno, MoveFlags, NodeId, NodeMask, Pid, Policy, Vpn};
 use std::alloc::{AllocError, Allocator};
 use std::collections::BTreeSet;
@@ -311,193 +306,6 @@ fn way_of<A: Allocator + Copy + Send + Sync>(
     })
 }
 
-/// What came of a batch.
-#[derive(Debug, Drop)]
-struct Made<A: Allocator + Copy> {
-    /// How many runs it had.
-    runs: usize,
-    /// The status of each entry.
-    statuses: Vec<i32, A>,
-}
-
-/// Makes the runs of a batch, none of more entries than the limit.
-#[tactic(auto, using(crate::proofs::Trails::first_state))]
-fn make_batch<R: Threads + Wait + Sync, A: Allocator + Copy + Send + Sync, G: Gate + Sync>(
-    rt: &R,
-    alloc: A,
-    machine: &mut Machine<A>,
-    requests: &[Request],
-    limit: usize,
-    workers: usize,
-    gate: &G,
-) -> Result<Made<A>, CallError>
-    requires some { 0 < limit }
-    requires workers { (0 < workers) × (workers ≤ 64) }
-    requires targets { AllByRecursion (λ e. e.target < node_count (machine.old.layout)) requests.now }
-    requires alike { IsAlike (wanted_of requests.now) }
-    ensures { Batches result machine.old machine.new (cut_within limit requests.now)
-        (λ made ran. (made.runs ≡ length (cut_within limit requests.now)) × (made.statuses.items ≡ ran.statuses)) }
-{
-    let runs = cut_within(alloc, requests, limit)?;
-    let statuses = Vec::with_capacity(alloc, requests.len())?;
-    let moved = move_runs(rt, machine, runs.as_slice(), statuses, workers, gate)?;
-    Ok(Made {
-        runs: runs.len(),
-        statuses: moved.statuses,
-    })
-}
-
-/// The request of something for a node.
-fn to_node(node: NodeId, wanted: &Wanted) -> Request
-    ensures { result ≡ record { target = node; wanted = wanted.now } }
-{
-    Request {
-        target: node,
-        wanted: *wanted,
-    }
-}
-
-/// Requests of all that is wanted for one node.
-fn all_to<A: Allocator + Copy>(
-    alloc: A,
-    node: NodeId,
-    wanted: &[Wanted],
-) -> Result<Vec<Request, A>, AllocError>
-    ensures { IfOk result (λ requests. requests.items ≡ all_to node wanted.now) }
-{
-    wanted.iter().map(|page| to_node(node, page)).collect(alloc)
-}
-
-/// What came of a pass.
-#[derive(Debug, Drop)]
-struct Pass<A: Allocator + Copy> {
-    /// How many runs it had.
-    runs: usize,
-    /// What found no free frame.
-    left: Vec<Wanted, A>,
-}
-
-/// Whether a status is that of a page that found no free frame.
-fn is_short(status: &i32) -> bool
-    ensures { result ≡ int_eq status.now (code Enomem) }
-{
-    *status == -Errno::Enomem.number()
-}
-
-/// Puts what was wanted and found no free frame into a list that has room for it.
-fn put_without_frame<A: Allocator + Copy>(
-    wanted: &[Wanted],
-    statuses: &[i32],
-    left: &mut Vec<Wanted, A>,
-)
-    requires paired { length wanted.now ≡ length statuses.now }
-    requires empty { left.old.items ≡ [] }
-    requires room { length wanted.now ≤ vec_capacity left.old }
-    ensures { left.new.items ≡ without_frame wanted.now statuses.now }
-{
-    for (k, page) in wanted.iter().enumerate() {
-        if is_short(&statuses[k]) {
-            left.push_reserved(*page);
-        }
-    }
-}
-
-/// Makes a pass: all that is wanted goes to one node. All that is asked for is made ready before its first run starts.
-#[tactic(auto, using(crate::proofs::Trails::first_state))]
-fn make_pass<R: Threads + Wait + Sync, A: Allocator + Copy + Send + Sync, G: Gate + Sync>(
-    rt: &R,
-    alloc: A,
-    machine: &mut Machine<A>,
-    node: NodeId,
-    wanted: &[Wanted],
-    limit: usize,
-    workers: usize,
-    gate: &G,
-) -> Result<Pass<A>, CallError>
-    requires some { 0 < limit }
-    requires workers { (0 < workers) × (workers ≤ 64) }
-    requires node { node < node_count (machine.old.layout) }
-    requires alike { IsAlike wanted.now }
-    ensures { Batches result machine.old machine.new (cut_within limit (all_to node wanted.now))
-        (λ pass ran. (pass.runs ≡ length (cut_within limit (all_to node wanted.now)))
-        × (pass.left.items ≡ without_frame wanted.now ran.statuses)) }
-{
-    let requests = all_to(alloc, node, wanted)?;
-    let mut left = Vec::with_capacity(alloc, wanted.len())?;
-    let made = make_batch(
-        rt,
-        alloc,
-        machine,
-        requests.as_slice(),
-        limit,
-        workers,
-        gate,
-    )?;
-    put_without_frame(wanted, made.statuses.as_slice(), &mut left);
-    Ok(Pass {
-        runs: made.runs,
-        left,
-    })
-}
-
-/// Want of memory after more runs, and with the policy set.
-fn later(error: CallError, made: usize) -> CallError
-    requires { IsCounted error made }
-    ensures { result ≡ later error made }
-{
-    match error {
-        CallError::Refused(errno) => CallError::Refused(errno),
-        CallError::HostMemory { runs, .. } => CallError::HostMemory {
-            runs: made + runs,
-            policy_set: true,
-        },
-    }
-}
-
-/// Makes passes over nodes, until all that is wanted has a frame there.
-fn make_passes<R: Threads + Wait + Sync, A: Allocator + Copy + Send + Sync, G: Gate + Sync>(
-    rt: &R,
-    alloc: A,
-    machine: &mut Machine<A>,
-    nodes: &[NodeId],
-    wanted: Vec<Wanted, A>,
-    limit: usize,
-    workers: usize,
-    gate: &G,
-) -> Result<(), CallError>
-    requires some { 0 < limit }
-    requires workers { (0 < workers) × (workers ≤ 64) }
-    requires nodes { All (λ n. n < node_count (machine.old.layout)) nodes.now }
-    requires passes { length nodes.now ≤ 64 }
-    requires alike { IsAlike wanted.items }
-    requires pages { length wanted.items ≤ 2 ^ 52 }
-    ensures { MakesRuns result machine.old machine.new (passes limit machine.old nodes.now wanted.items) }
-{
-    let mut left = wanted;
-    let mut made = 0;
-    for node in nodes {
-        if left.is_empty() {
-            return Ok(());
-        }
-        let pass = match make_pass(
-            rt,
-            alloc,
-            machine,
-            *node,
-            left.as_slice(),
-            limit,
-            workers,
-            gate,
-        ) {
-            Ok(pass) => pass,
-            Err(error) => return Err(later(error, made)),
-        };
-        made += pass.runs;
-        left = pass.left;
-    }
-    Ok(())
-}
-
 /// Makes moves.
 fn make<R: Threads + Wait + Sync, A: Allocator + Copy + Send + Sync, G: Gate + Sync>(
     rt: &R,
@@ -511,7 +319,7 @@ fn make<R: Threads + Wait + Sync, A: Allocator + Copy + Send + Sync, G: Gate + S
     requires some { 0 < limit }
     requires workers { (0 < workers) × (workers ≤ 64) }
     requires can_go { CanGo (node_count (machine.old.layout)) way }
-    ensures { MakesRuns result machine.old machine.new (runs_in limit machine.old way) }
+    ensures { MakesRuns true result machine.old machine.new (runs_in limit machine.old way) }
 {
     match way {
         Way::Passes { nodes, wanted } => {
@@ -521,6 +329,7 @@ fn make<R: Threads + Wait + Sync, A: Allocator + Copy + Send + Sync, G: Gate + S
                 machine,
                 nodes.as_slice(),
                 wanted,
+                true,
                 limit,
                 workers,
                 gate,
@@ -540,7 +349,7 @@ fn make<R: Threads + Wait + Sync, A: Allocator + Copy + Send + Sync, G: Gate + S
                 gate,
             ) {
                 Ok(_) => Ok(()),
-                Err(error) => Err(later(error, 0)),
+                Err(error) => Err(later(error, 0, true)),
             }
         }
     }

@@ -161,6 +161,14 @@ pub enum Call<A: Allocator + Copy + Send + Sync> {
     MigratePages(MigrateRequest),
     /// Sets the policy of a range, as `mbind(2)`.
     Mbind(MbindRequest),
+    /// Empties a node and takes it offline.
+    Offline {
+        node: NodeId,
+    },
+    /// Brings a node online.
+    Online {
+        node: NodeId,
+    },
     /// Asks where pages are, as `move_pages(2)` without nodes.
     Query(Question<A>),
     /// Asks for the free frames of a node.

@@ -201,6 +201,14 @@ impl<A: Allocator + Copy + Send + Sync> System<A> {
                 rt, self, request, gate,
             )?)),
             Call::Mbind(request) => mbind(rt, self, request, gate),
+            Call::Offline { node } => {
+                self.offline(rt, *node, gate)?;
+                Ok(Answer::Done)
+            }
+            Call::Online { node } => {
+                self.online(*node)?;
+                Ok(Answer::Done)
+            }
             Call::Query(question) => Ok(Answer::Statuses(query(self, question)?)),
             Call::FreeList { node } => Ok(Answer::Frames(self.free_list(*node)?)),
             Call::Pagemap { pid } => Ok(Answer::Entries(self.pagemap(*pid)?)),

@@ -4,9 +4,12 @@ ghost use Rattle.nm_calls.specs.Laws.{RefusalsChangeNothing, TrailIsAfterRuns};
 ghost use Rattle.nm_calls.specs.MigrateLaws.{EachPageIsListedOnce, RunsGoToNodesOnline};
 ghost use Rattle.nm_calls.specs.MigrateRows.{EachPageGoesOnce, HalfWay, TwoOfFourGo, SharedPageGoesByPrivilege, MigrationsAreRefused, NothingMigrates, SizesOfWhatIsKept, PageIsListedOnce, RunsHaveALimit};
 ghost use Rattle.nm_calls.specs.Binding.{NoStrayIsListedTwice};
+ghost use Rattle.nm_calls.specs.Offlining.{RunsIgnoreOnline};
+ghost use Rattle.nm_calls.specs.OfflineRows.{PagesLeaveTheNode, NothingIsTakenOffline, PinnedPageKeepsItsNode, PassesGoByDistance, UnseenPageMoves, SharedPageLeavesItsNode, OfflineNodesAreNotKept, NearestNodeFirst, LastNodeStays, PagesGoBySegment};
 ghost use Rattle.nm_calls.specs.BindingRows.{PinnedPageIsTold, StrictAloneRefuses, StayingIsNoError, LinesAreSplit, NewPagesTakeTurns, BoundPagesGoNowhereElse, SecondPassTakesTheRest, FollowersStay, StrayPagesTakeTurns, BindingsAreRefused, LastByteCounts, TurnsGoByIndex, StrayIsListedOnce, SharedPagesMoveWithAll, SetsAsText, BothProcessesAreCounted, LastPage};
 
-/// A call that is refused leaves the system as it was, but for EIO of mbind(2) with MPOL_MF_STRICT and a flag to move.
+/// A call that is refused leaves the system as it was, but for EIO of mbind(2) with MPOL_MF_STRICT and a flag to move, and
+/// EBUSY of a node that is to go offline.
 pub fn refusals_change_nothing()
     ensures { RefusalsChangeNothing }
 {}
@@ -56,6 +59,26 @@ pub fn policies_move_pages()
 /// mbind(2) lists no page twice.
 pub fn each_page_is_listed_once()
     ensures { NoStrayIsListedTwice }
+{}
+
+/// Runs and passes are the same whatever set of nodes is online: it is all one whether a node goes offline before its pages
+/// leave it, or after.
+pub fn runs_ignore_online()
+    ensures { RunsIgnoreOnline }
+{}
+
+/// Worked examples of nodes that go offline and come online.
+pub fn nodes_go_offline()
+    ensures pages_leave_the_node { PagesLeaveTheNode }
+    ensures nothing_is_taken_offline { NothingIsTakenOffline }
+    ensures pinned_page_keeps_its_node { PinnedPageKeepsItsNode }
+    ensures passes_go_by_distance { PassesGoByDistance }
+    ensures unseen_page_moves { UnseenPageMoves }
+    ensures shared_page_leaves_its_node { SharedPageLeavesItsNode }
+    ensures offline_nodes_are_not_kept { OfflineNodesAreNotKept }
+    ensures nearest_node_first { NearestNodeFirst }
+    ensures last_node_stays { LastNodeStays }
+    ensures pages_go_by_segment { PagesGoBySegment }
 {}
 
 /// Worked examples of areas as text.

@@ -11,6 +11,8 @@ pub mod laws;
 mod listing;
 mod maps;
 mod migrating;
+mod offlining;
+mod passes;
 mod permission;
 mod system;
 mod words;

@@ -3,7 +3,7 @@
 ghost use Rattle.std.specs.Prelude.{◌≡◌, ◌<◌, ◌≤◌, true, IfOk, length};
 ghost use Rattle.nm_engine.specs.Audited.{audited};
 ghost use Rattle.nm_engine.specs.Sound.{IsSound};
-ghost use Rattle.nm_calls.specs.Calls.{Spawn, MapPages, Attach, Unmap, Exit, Pin, Unpin, ReadBytes, WriteBytes, MovePages, MigratePages, Mbind, Query, FreeList, Pagemap, Vmstat, NumaMaps, Done, NewSegment, TheBytes, Statuses, Failed, Frames, Entries, TheTotals, Lines};
+ghost use Rattle.nm_calls.specs.Calls.{Spawn, MapPages, Attach, Unmap, Exit, Pin, Unpin, ReadBytes, WriteBytes, MovePages, MigratePages, Mbind, Offline, Online, Query, FreeList, Pagemap, Vmstat, NumaMaps, Done, NewSegment, TheBytes, Statuses, Failed, Frames, Entries, TheTotals, Lines};
 ghost use Rattle.nm_calls.specs.Entries.{entries_mapped, entries_shown};
 ghost use Rattle.nm_calls.specs.Maps.{lines_shown};
 ghost use Rattle.nm_calls.specs.Systems.{default_limit, new_system, system_with};
@@ -16,6 +16,7 @@ use crate::binding::{bind, ready};
 use crate::call_error::CallError;
 use crate::maps::areas_text;
 use crate::migrating::{migrate, migration_of};
+use crate::offlining::{check_offline, empty};
 use crate::permission::{Permit, permit_of};
 use nm_crew::Gate;
 use nm_engine::{Entry, Machine, Totals};
@@ -344,6 +345,54 @@ impl<A: Allocator + Copy + Send + Sync> System<A> {
             workers,
             gate,
         )
+    }
+
+    /// Takes a node offline: its pages, by segment and index, go to the other nodes that are online, in passes by their
+    /// distance from it and by number where that is the same, whoever sees them and whatever is allowed. A pinned page
+    /// stays; what finds no free frame goes on to the next node. Each pass is a run, or several where it is longer than the
+    /// limit. Nothing is taken from a node that is offline; its free frames stay its own, and so do those that become free.
+    /// A node that is offline already is left as it is.
+    ///
+    /// Refusals in order: EINVAL (no such node); EBUSY (no other node is online). EBUSY is also answered where a page of the
+    /// node stays: what moved has moved, and the node is online. `HostMemory { runs, .. }` leaves the first runs made, and the
+    /// node online.
+    #[tactic(auto, unfolding(crate::specs::Outcome::refused, crate::specs::Outcome::refused_at_once, crate::specs::Outcome::ended, crate::specs::Outcome::runs_asked, crate::specs::Outcome::start, crate::specs::Outcome::sets_policy), using(crate::proofs::Outcomes::answers, crate::proofs::Outcomes::refuses, crate::proofs::Outcomes::unchanged))]
+    pub fn offline<R: Threads + Wait + Sync, G: Gate + Sync>(
+        &mut self,
+        rt: &R,
+        node: NodeId,
+        gate: &G,
+    ) -> Result<(), CallError>
+        ensures { Does (λ done. Done) result self.old self.new (Offline node) }
+    {
+        check_offline(&self.machine, node)?;
+        if !self.machine.is_online(node) {
+            return Ok(());
+        }
+        let limit = self.run_limit;
+        let workers = self.workers;
+        empty(
+            rt,
+            self.alloc,
+            &mut self.machine,
+            node,
+            limit,
+            workers,
+            gate,
+        )
+    }
+
+    /// Brings a node online, and takes no memory: its free frames may be taken again, and pages may go there. One that is
+    /// online already is left as it is. Refusal: EINVAL (no such node).
+    #[tactic(auto, unfolding(crate::specs::Outcome::refused, crate::specs::Outcome::refused_at_once, crate::specs::Outcome::ended, crate::specs::Outcome::runs_asked, crate::specs::Outcome::start, crate::specs::Outcome::sets_policy), using(crate::proofs::Outcomes::answers, crate::proofs::Outcomes::refuses, crate::proofs::Outcomes::unchanged))]
+    pub fn online(&mut self, node: NodeId) -> Result<(), Errno>
+        ensures { DoesOrRefuses (λ done. Done) result self.old self.new (Online node) }
+    {
+        if node.index() >= self.machine.node_count() {
+            return Err(Errno::Einval);
+        }
+        self.machine.set_online(node, true);
+        Ok(())
     }
 
     /// Where pages are, each named by an address in it: the number of its node, -14 (EFAULT) without an area or for the

@@ -6,6 +6,8 @@ pub mod Gone
 pub mod Moved
 pub mod New
 pub mod Once
+pub mod Online
+pub mod Placed
 pub mod Policed
 pub mod Ran
 pub mod Released

@@ -2,8 +2,9 @@
 use Rattle.std.specs.Prelude.{ℕ, ◌+◌, ◌-◌, ◌/◌, ◌^◌, ◌==◌, Bool, List, [], Option, Some, None, if◌then◌else◌}
 use Rattle.std.specs.Ordering.{nat_cmp}
 use Rattle.std.specs.List.{fold}
+use Rattle.std.specs.BTreeSet.{insert_key}
 use Rattle.nm_types.specs.declared.page.Page.{Page}
-use Rattle.nm_types.specs.Nodes.{up_from}
+use Rattle.nm_types.specs.Nodes.{up_from, without_node}
 use Rattle.nm_types.specs.Map.{get, set, replace, without, with_values, page_cmp}
 use Rattle.nm_types.specs.Layout.{Layout, node_count}
 use Rattle.nm_types.specs.declared.sight.Sight.{Sight}
@@ -36,6 +37,11 @@ new_machine g =
       moved = 0;
       failed = 0;
     }
+
+-- a node goes online, or offline
+abbrev pub set_online : State → ℕ → Bool → State
+set_online s node online =
+    record s { online = if online then insert_key nat_cmp s.online node else without_node s.online node }
 
 -- a process that has touched nothing
 abbrev pub spawn : State → ℕ → ℕ → ℕ → List ℕ → Bool → State

@@ -1,6 +1,7 @@
--- Where the pages are that a process sees.
-use Rattle.std.specs.Prelude.{ℕ, List, [], ◌∷◌, Option, Some, None}
-use Rattle.std.specs.List.{flat_map}
+-- Where pages are.
+use Rattle.std.specs.Prelude.{ℕ, ◌==◌, List, [], ◌∷◌, Option, Some, None}
+use Rattle.std.specs.List.{filter, flat_map}
+use Rattle.std.specs.Map.{keys_of}
 use Rattle.nm_types.specs.declared.page.Page.{Page}
 use Rattle.nm_types.specs.declared.sight.Sight.{Sight}
 use Rattle.nm_types.specs.declared.sight.Sight.TheVariants.{ZeroPage, Sees}
@@ -27,3 +28,7 @@ located_in g place sees = flat_map (λ e. located g place e.0 e.1) sees
 -- the pages that a process sees from one page number up to another, by page number, with their nodes
 abbrev pub located_between : State → ℕ → ℕ → ℕ → List Located
 located_between s pid first end = located_in s.layout s.place (sights_between s pid first end)
+
+-- the pages on a node, by segment and index
+abbrev pub placed_on : State → ℕ → List Page
+placed_on s node = keys_of (filter (λ e. node_of s.layout e.1 == node) s.place)

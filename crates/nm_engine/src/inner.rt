@@ -8,6 +8,7 @@ ghost use Rattle.nm_engine.specs.Effect.{new_machine};
 mod areas;
 mod locate;
 mod nodes;
+mod online;
 mod pins;
 mod process;
 mod query;

@@ -10,14 +10,14 @@ ghost use Rattle.nm_types.specs.State.{free_list};
 ghost use Rattle.nm_engine.specs.Tables.{info_of};
 ghost use Rattle.nm_engine.specs.Touch.{Bytes, Done, read, write, spot_refusal};
 ghost use Rattle.nm_engine.specs.Run.{run, HasOneAll};
-ghost use Rattle.nm_engine.specs.Effect.{new_machine, spawn, map_new, attach, pin, unpin, unmap, exit};
+ghost use Rattle.nm_engine.specs.Effect.{new_machine, set_online, spawn, map_new, attach, pin, unpin, unmap, exit};
 ghost use Rattle.nm_engine.specs.Refused.{spawn_refusal, map_refusal, attach_refusal, pin_refusal, unpin_refusal, unmap_refusal, exit_refusal, list_refusal, entries_refusal};
 ghost use Rattle.nm_engine.specs.Policing.{policy_refusal, set_policy};
 ghost use Rattle.nm_areas.specs.Lines.{lines_of};
 ghost use Rattle.nm_runs.specs.Seen.{users};
 ghost use Rattle.nm_runs.specs.Targets.{Checks};
 ghost use Rattle.nm_engine.specs.Entries.{entries_of};
-ghost use Rattle.nm_engine.specs.Locating.{located_between};
+ghost use Rattle.nm_engine.specs.Locating.{located_between, placed_on};
 ghost use Rattle.nm_engine.specs.Audited.{audited};
 ghost use Rattle.nm_engine.specs.Asking.{node_status};
 ghost use Rattle.nm_engine.specs.Sound.{IsSound};
@@ -112,6 +112,24 @@ impl<A: Allocator + Copy + Send + Sync> Machine<A> {
         ensures { result ≡ list_any (nat_le (node_count self.now.layout)) nodes }
     {
         self.inner.names_no_node(nodes)
+    }
+
+    /// A node of the machine goes online, or offline, as often as it is asked for: pages stay where they are, and so do
+    /// free frames. It takes no memory.
+    pub fn set_online(&mut self, node: NodeId, online: bool)
+        requires { node < node_count self.old.layout }
+        ensures { self.new ≡ set_online self.old node online }
+    {
+        self.inner.set_online(node, online);
+    }
+
+    /// The pages on a node, by segment and index: at most 16,384, and none where there is no such node. An error is want of
+    /// memory.
+    pub fn pages_on(&self, node: NodeId) -> Result<Vec<Page, A>, AllocError>
+        ensures list { IfOk result (λ pages. pages.items ≡ placed_on self.now node) }
+        ensures few { IfOk result (λ pages. length pages.items ≤ 16384) }
+    {
+        self.inner.pages_on(node)
     }
 
     /// What `spawn` fixed of a process, or None where there is none of this pid.

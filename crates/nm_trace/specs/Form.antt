@@ -11,7 +11,7 @@ use Rattle.nm_types.specs.Layout.{Layout}
 use Rattle.nm_types.specs.Refusal.{refusal}
 use Rattle.nm_types.specs.declared.geometry.GeometryError.{GeometryError}
 use Rattle.nm_calls.specs.Systems.{default_limit}
-use Rattle.nm_calls.specs.Calls.{Call, Spawn, MapPages, Attach, Unmap, Exit, Pin, Unpin, ReadBytes, WriteBytes, MovePages, MigratePages, Mbind, Query, FreeList, Pagemap, Vmstat, NumaMaps}
+use Rattle.nm_calls.specs.Calls.{Call, Spawn, MapPages, Attach, Unmap, Exit, Pin, Unpin, ReadBytes, WriteBytes, MovePages, MigratePages, Mbind, Offline, Online, Query, FreeList, Pagemap, Vmstat, NumaMaps}
 
 infixl 10 ◌>>=◌
 abbrev pub ◌>>=◌ : {A B : Type 0} → Option A → (A → Option B) → Option B
@@ -221,6 +221,16 @@ mbind_of d = do
   flags ← small_at (codes "flags") d
   Some (Mbind caller addr len mode nodes flags)
 
+unfoldable pub offline_of : Data → Option Call
+offline_of d = do
+  node ← small_at (codes "node") d
+  Some (Offline node)
+
+unfoldable pub online_of : Data → Option Call
+online_of d = do
+  node ← small_at (codes "node") d
+  Some (Online node)
+
 -- at most 16,384 pages
 unfoldable pub query_of : Data → Option Call
 query_of d = do
@@ -263,12 +273,14 @@ named op d =
     else (if bytes_eq op (codes "move_pages") then move_pages_of d
     else (if bytes_eq op (codes "migrate_pages") then migrate_pages_of d
     else (if bytes_eq op (codes "mbind") then mbind_of d
+    else (if bytes_eq op (codes "offline") then offline_of d
+    else (if bytes_eq op (codes "online") then online_of d
     else (if bytes_eq op (codes "query") then query_of d
     else (if bytes_eq op (codes "free") then free_of d
     else (if bytes_eq op (codes "pagemap") then pagemap_of d
     else (if bytes_eq op (codes "vmstat") then vmstat_of d
     else (if bytes_eq op (codes "numa_maps") then numa_maps_of d
-    else None))))))))))))))))
+    else None))))))))))))))))))
 
 unfoldable pub step_of : Data → Option Call
 step_of d = do

@@ -6,7 +6,7 @@ use Rattle.hex.specs.Hex.{encode_lower}
 use Rattle.nm_types.specs.Names.{name_of}
 use Rattle.nm_calls.specs.Maps.{address_text}
 use Rattle.nm_calls.specs.Systems.{SystemState}
-use Rattle.nm_calls.specs.Calls.{Call, Spawn, MapPages, Attach, Unmap, Exit, Pin, Unpin, ReadBytes, WriteBytes, MovePages, MigratePages, Query, FreeList, Pagemap, Vmstat, NumaMaps, Mbind, Answer, Refusal, Done, Held, NewSegment, TheBytes, Statuses, Failed, Frames, Entries, TheTotals, Lines}
+use Rattle.nm_calls.specs.Calls.{Call, Spawn, MapPages, Attach, Unmap, Exit, Pin, Unpin, ReadBytes, WriteBytes, MovePages, MigratePages, Query, FreeList, Pagemap, Vmstat, NumaMaps, Mbind, Offline, Online, Answer, Refusal, Done, Held, NewSegment, TheBytes, Statuses, Failed, Frames, Entries, TheTotals, Lines}
 use Rattle.nm_calls.specs.Outcome.{Outcome, outcome}
 
 -- the word of a call
@@ -24,6 +24,8 @@ word_of (MovePages caller pid pages nodes flags) = codes "move_pages"
 word_of (MigratePages caller pid old new) = codes "migrate_pages"
 word_of (Query caller pid pages flags) = codes "query"
 word_of (Mbind caller addr len mode nodes flags) = codes "mbind"
+word_of (Offline node) = codes "offline"
+word_of (Online node) = codes "online"
 word_of (FreeList node) = codes "free"
 word_of (Pagemap pid) = codes "pagemap"
 word_of Vmstat = codes "vmstat"

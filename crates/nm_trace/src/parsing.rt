@@ -165,6 +165,24 @@ fn mbind<A: Allocator + Copy + Send + Sync>(value: &Value) -> Result<Call<A>, St
     }))
 }
 
+#[tactic(auto, unfolding(crate::specs::Form::offline_of))]
+fn offline<A: Allocator + Copy + Send + Sync>(value: &Value) -> Result<Call<A>, StepError>
+    ensures { Gives call_of result (form.offline_of (view value.now)) }
+{
+    Ok(Call::Offline {
+        node: NodeId::new(small(value, "node")?),
+    })
+}
+
+#[tactic(auto, unfolding(crate::specs::Form::online_of))]
+fn online<A: Allocator + Copy + Send + Sync>(value: &Value) -> Result<Call<A>, StepError>
+    ensures { Gives call_of result (form.online_of (view value.now)) }
+{
+    Ok(Call::Online {
+        node: NodeId::new(small(value, "node")?),
+    })
+}
+
 #[tactic(auto, unfolding(crate::specs::Form::query_of))]
 fn query<A: Allocator + Copy + Send + Sync>(alloc: A, value: &Value) -> Result<Call<A>, StepError>
     ensures { Gives call_of result (form.query_of (view value.now)) }
@@ -239,6 +257,8 @@ fn named<A: Allocator + Copy + Send + Sync>(
         "move_pages" => move_pages(alloc, value),
         "migrate_pages" => migrate_pages(value),
         "mbind" => mbind(value),
+        "offline" => offline(value),
+        "online" => online(value),
         "query" => query(alloc, value),
         "free" => free(value),
         "pagemap" => pagemap(value),

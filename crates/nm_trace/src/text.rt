@@ -29,6 +29,8 @@ fn word<A: Allocator + Copy + Send + Sync>(call: &Call<A>) -> &'static str
         Call::MovePages(_) => "move_pages",
         Call::MigratePages(_) => "migrate_pages",
         Call::Mbind(_) => "mbind",
+        Call::Offline { .. } => "offline",
+        Call::Online { .. } => "online",
         Call::Query(_) => "query",
         Call::FreeList { .. } => "free",
         Call::Pagemap { .. } => "pagemap",

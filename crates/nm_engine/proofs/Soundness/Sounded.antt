@@ -20,7 +20,7 @@ all_true test [] h = refl
 all_true test (x ∷ xs) h = and_from _ _ h.0 (all_true test xs h.1)
 
 -- what holds of all that stand in a list
-all_counted : (P : ℕ → Type 0) (xs : List ℕ) → ((f : ℕ) → 1 ≤ times f xs → P f) → AllByRecursion P xs
+pub all_counted : (P : ℕ → Type 0) (xs : List ℕ) → ((f : ℕ) → 1 ≤ times f xs → P f) → AllByRecursion P xs
 all_counted P [] h = tt
 all_counted P (x ∷ xs) h =
     let one : here x x ≡ 1 = ap (λ b. cond b 1 0) (eq-eqb x x refl) in (

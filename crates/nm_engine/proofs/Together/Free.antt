@@ -40,7 +40,7 @@ counted_below a b c f n e some =
       | false ↦ λ t k. absurd (omega (arith, k, some))
     ] refl e
 
-counted_once : (a b c : ℕ) (t : Bool) → a + b + c ≡ cond t 1 0 → a + b + c ≤ 1
+pub counted_once : (a b c : ℕ) (t : Bool) → a + b + c ≡ cond t 1 0 → a + b + c ≤ 1
 counted_once a b c true e = omega (arith, e)
 counted_once a b c false e = omega (arith, e)
 

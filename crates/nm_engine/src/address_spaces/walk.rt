@@ -9,7 +9,7 @@ ghost use Rattle.nm_types.specs.Map.{get};
 use crate::address_spaces::AddressSpaces;
 use nm_areas::Line;
 use nm_tables::Entry;
-use nm_types::{Pid, Sight, Vpn};
+use nm_types::{FrameId, Page, Pid, Sight, Vpn};
 use std::alloc::{AllocError, Allocator};
 
 impl<A: Allocator + Copy> AddressSpaces<A> {
@@ -18,6 +18,13 @@ impl<A: Allocator + Copy> AddressSpaces<A> {
         ensures { IfOk result (λ lines. lines.items ≡ lines_of self.now.segments self.now.areas pid) }
     {
         self.areas.lines(pid)
+    }
+
+    /// The pages that have a frame, by segment and index, each with its frame.
+    pub(crate) fn placed(&self) -> Result<Vec<(Page, FrameId), A>, AllocError>
+        ensures { IfOk result (λ placed. placed.items ≡ self.now.place) }
+    {
+        self.areas.placed()
     }
 
     /// What a process sees first from one page number up to another, with its page number.

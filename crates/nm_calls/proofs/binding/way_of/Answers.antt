@@ -5,9 +5,10 @@ use Rattle.nm_types.specs.Layout.{node_count}
 use Rattle.nm_runs.specs.Cut.{wanted_of}
 use Rattle.nm_policy.specs.Turns.{by_turns}
 use Rattle.nm_engine.specs.Effect.{with_areas_of}
+use Rattle.nm_engine.specs.Run.{HasOneAll}
 use Rattle.nm_calls.specs.Passes.{passes}
 use Rattle.nm_calls.specs.Binding.{nodes_tried, strays_of}
-use Rattle.nm_calls.specs.Making.{IsAlike, nodes_named}
+use Rattle.nm_calls.specs.Making.{nodes_named}
 use Rattle.nm_calls.proofs.Ways.{turns_go, turns_alike, tried_all, spots_alike, spots_length, passes_by}
 use Rattle.nm_calls.proofs.binding.way_of.Goals as goal
 
@@ -19,7 +20,7 @@ returns-in-Interleave-clause-can_go g c =
     let strays = strays_of c.args.pages.now in
     let is = sym c.in_ok-turns.ensures in
     let named = subst (λ p. AllByRecursion (λ m. m < n) (nodes_named p)) c.in-Interleave.is c.requires.nodes in
-    (subst (AllByRecursion (λ e. e.target < n)) is (turns_go (λ m. m < n) b.pid c.args.all nodes strays named), subst (λ es. IsAlike (wanted_of es)) is (turns_alike b.pid c.args.all (by_turns nodes strays)))
+    (subst (AllByRecursion (λ e. e.target < n)) is (turns_go (λ m. m < n) b.pid c.args.all nodes strays named), subst (λ es. HasOneAll (wanted_of es)) is (turns_alike b.pid c.args.all (by_turns nodes strays)))
 
 pub returns : goal.returns
 returns g c =
@@ -35,7 +36,7 @@ returns g c =
       can_go = (
         All-from_recursion (λ m. m < n) c.in_ok-nodes_tried.field-0.items (subst (AllByRecursion (λ m. m < n)) (sym order) (tried_all (λ m. m < n) s c.args.home b.policy c.requires.nodes)),
         c.in_ok-nodes_tried.ensures.few,
-        subst IsAlike (sym wanted) (spots_alike b.pid c.args.all c.args.pages.now),
+        subst HasOneAll (sym wanted) (spots_alike b.pid c.args.all c.args.pages.now),
         omega (arith, few, c.requires.few),
       );
     }

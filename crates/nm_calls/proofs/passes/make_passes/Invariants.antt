@@ -1,14 +1,14 @@
 use Rattle.std.proofs.Common.{◌≡◌, ◌≤◌, ◌*◌, ◌^◌, drop, length}
 use Rattle.nm_types.specs.Layout.{node_count}
 use Rattle.nm_calls.specs.Passes.{passes}
-use Rattle.nm_calls.specs.Making.{IsAlike}
+use Rattle.nm_engine.specs.Run.{HasOneAll}
 use Rattle.nm_calls.proofs.Passing.{HavePassed}
-use Rattle.nm_calls.proofs.binding.make_passes.Given as goal
+use Rattle.nm_calls.proofs.passes.make_passes.Given as goal
 
 abbrev pub invariant-loop-node : goal.invariant-loop-node
 invariant-loop-node g l = record {
   nodes : node_count l.machine.layout ≡ node_count l.fn.machine.layout;
-  alike : IsAlike l.left.items;
+  alike : HasOneAll l.left.items;
   few : length l.left.items ≤ 2 ^ 52;
   counted : l.made ≤ l.node-index * 2 ^ 52;
   passed : HavePassed l.fn.machine (passes l.limit l.fn.machine l.nodes l.fn.wanted.items) (passes l.limit l.machine (drop l.node-index l.nodes) l.left.items) l.machine l.made;

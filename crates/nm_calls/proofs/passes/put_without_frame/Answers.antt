@@ -2,8 +2,8 @@ use Rattle.std.proofs.Common.{pos, ◌≤◌, ◌++◌, ◌∷◌, [], cond, len
 use Rattle.std.proofs.lemmas.List.{append-nil}
 use Rattle.nm_calls.specs.Passes.{without_frame}
 use Rattle.nm_calls.proofs.Passing.{one_more_left}
-use Rattle.nm_calls.proofs.binding.put_without_frame.Goals.{then-is_short, else-is_short}
-use Rattle.nm_calls.proofs.binding.put_without_frame.Goals as goal
+use Rattle.nm_calls.proofs.passes.put_without_frame.Goals.{then-is_short, else-is_short}
+use Rattle.nm_calls.proofs.passes.put_without_frame.Goals as goal
 
 pub loop-k-preserved : goal.loop-k-preserved
 loop-k-preserved g c =

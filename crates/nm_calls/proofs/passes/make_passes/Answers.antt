@@ -4,9 +4,9 @@ use Rattle.nm_runs.specs.Cut.{all_to}
 use Rattle.nm_runs.specs.Limit.{cut_within}
 use Rattle.nm_engine.specs.Batch.{runs_from}
 use Rattle.nm_calls.specs.Passes.{passes, without_frame}
-use Rattle.nm_calls.specs.Making.{IsAlike}
+use Rattle.nm_engine.specs.Run.{HasOneAll}
 use Rattle.nm_calls.proofs.Passing.{HavePassed, more_passed, all_passed, passes_none, passes_at, few_runs, some_run_of, to_node_length, counted_later, stopped_later, alike_left, fewer_left, runs_layout, nothing_is, something_is}
-use Rattle.nm_calls.proofs.binding.make_passes.Goals as goal
+use Rattle.nm_calls.proofs.passes.make_passes.Goals as goal
 
 pub returns-then-is_empty : goal.returns-then-is_empty
 returns-then-is_empty g c =
@@ -43,7 +43,7 @@ returns-in-Err g c =
     let passed = subst (λ l. HavePassed x.machine.now all l s c.loop-node.made) here c.loop-node.invariant.passed in
     let some : 0 < length ws = subst (λ l. 0 < length l) (sym c.as_slice.ensures.value) (something_is _ _ c.loop-node.left.ok.0 (sym c.is_empty.ensures ∙ c.if-is_empty.false)) in
     let has = some_run_of x.limit (all_to node ws) c.requires.some (omega (arith, some, to_node_length node ws)) in
-    stopped_later c.in-Err.error c.later.result x.machine.now s c.make_pass.new.machine all runs rest _ c.loop-node.made c.in-Err.ensures passed has c.later.ensures
+    stopped_later x.policy_set c.in-Err.error c.later.result x.machine.now s c.make_pass.new.machine all runs rest _ c.loop-node.made c.in-Err.ensures passed has c.later.ensures
 
 pub overflow_add-made : goal.overflow_add-made
 overflow_add-made g c =
@@ -84,9 +84,12 @@ loop-node-preserved g c =
     let less = ap length kept in
     record {
       nodes = ap (λ t. node_count t.layout) state ∙ ap node_count (runs_layout 0 s runs) ∙ inv.nodes;
-      alike = subst IsAlike (sym kept) (alike_left ws made.statuses (subst IsAlike (sym value) inv.alike));
+      alike = subst HasOneAll (sym kept) (alike_left ws made.statuses (subst HasOneAll (sym value) inv.alike));
       few = omega (arith, less, left, same, inv.few);
       counted = omega (arith, count, few, len, same, inv.few, inv.counted);
       passed = subst (λ l. HavePassed x.machine.now all l new (c.loop-node.made + c.in-Ok.pass.runs)) rest
           (subst (λ n. HavePassed x.machine.now all behind new (c.loop-node.made + n)) (sym count) more);
     }
+
+pub make_pass-requires-clause-alike : goal.make_pass-requires-clause-alike
+make_pass-requires-clause-alike g c κs within = subst HasOneAll (sym c.as_slice.ensures.value) c.loop-node.invariant.alike

@@ -1,0 +1,19 @@
+use Rattle.std.proofs.Common.{◌≡◌, sym, subst, ◌∙◌}
+use Rattle.nm_calls.specs.Calls.{Offline, Done}
+use Rattle.nm_calls.specs.Systems.{SystemState, in_state}
+use Rattle.nm_calls.specs.Outcome.{Outcome, outcome}
+use Rattle.nm_calls.specs.Does.{Does}
+use Rattle.nm_calls.proofs.Emptied.{empties_does, stays_offline}
+use Rattle.nm_calls.proofs.system.System.offline.Goals as goal
+
+pub returns-then-not-is_online : goal.returns-then-not-is_online
+returns-then-not-is_online g c =
+    let y : SystemState = record { state = c.self.inside.machine; run_limit = c.self.inside.run_limit } in
+    subst (λ (z : SystemState). outcome z (Offline c.args.node) ≡ record { answer = Done; system = z }) c.self.view_is
+    (stays_offline y c.args.node c.in_ok-check_offline.ensures.exact (sym c.is_online.ensures ∙ c.if-not-is_online.true))
+
+pub returns : goal.returns
+returns g c =
+    let y : SystemState = record { state = c.self.inside.machine; run_limit = c.self.inside.run_limit } in
+    subst (λ (z : SystemState). Does (λ done. Done) c.empty.result z (in_state y c.empty.new.machine) (Offline c.args.node)) c.self.view_is
+    (empties_does y c.args.node c.empty.result c.empty.new.machine c.in_ok-check_offline.ensures.exact c.empty.ensures)

@@ -1,0 +1,75 @@
+//! Nodes that go online and offline, and the pages on them.
+
+ghost use Rattle.std.specs.BTreeSet.{insert_key};
+ghost use Rattle.std.specs.List.{filter};
+ghost use Rattle.std.specs.Map.{keys_of};
+ghost use Rattle.std.specs.Ordering.{nat_cmp};
+ghost use Rattle.std.specs.Prelude.{All, IfOk, if◌then◌else◌, length, ◌<◌, ◌==◌, ◌≡◌, ◌≤◌};
+ghost use Rattle.nm_engine.specs.Effect.{set_online};
+ghost use Rattle.nm_engine.specs.Locating.{placed_on};
+ghost use Rattle.nm_engine.specs.MidRun.{with_state};
+ghost use Rattle.nm_types.specs.Layout.{frame_count, node_count, node_of};
+ghost use Rattle.nm_types.specs.Nodes.{IsNodeSet, without_node};
+
+use crate::inner::Inner;
+use nm_types::{FrameId, Geometry, NodeId, NodeMask, Page};
+use std::alloc::{AllocError, Allocator};
+
+impl<A: Allocator + Copy> Inner<A> {
+    /// A node goes online, or offline.
+    pub(crate) fn set_online(&mut self, node: NodeId, online: bool)
+        requires { node < node_count self.old.state.layout }
+        ensures state { self.new.state ≡ set_online self.old.state node online }
+        ensures same { self.new ≡ with_state self.old self.new.state }
+    {
+        prove!(self.frames.node_count() <= 64);
+        self.online = changed(self.online, node, online);
+    }
+
+    /// The pages on a node, by segment and index.
+    pub(crate) fn pages_on(&self, node: NodeId) -> Result<Vec<Page, A>, AllocError>
+        ensures list { IfOk result (λ pages. pages.items ≡ placed_on self.now.state node) }
+        ensures few { IfOk result (λ pages. length pages.items ≤ 16384) }
+    {
+        let placed = self.spaces.placed()?;
+        let geometry = self.frames.geometry();
+        prove!(geometry.node_count() <= 64);
+        let pages = pages_among(self.alloc, geometry, placed.as_slice(), node)?;
+        Ok(pages)
+    }
+}
+
+/// A set of nodes with one in it, or without it.
+fn changed(nodes: NodeMask, node: NodeId, is_in: bool) -> NodeMask
+    requires { node < 64 }
+    ensures nodes { result ≡ (if is_in then insert_key nat_cmp nodes node else without_node nodes node) }
+    ensures set { IsNodeSet result }
+{
+    let mut changed = nodes;
+    if is_in {
+        changed.insert(node);
+    } else {
+        changed.remove(node);
+    }
+    prove!(changed.len() <= 64);
+    changed
+}
+
+/// Of pages with their frames those that are on a node.
+fn pages_among<A: Allocator + Copy>(
+    alloc: A,
+    geometry: &Geometry<A>,
+    placed: &[(Page, FrameId)],
+    node: NodeId,
+) -> Result<Vec<Page, A>, AllocError>
+    requires { All (λ e. e.1 < frame_count geometry.now) placed.now }
+    ensures { IfOk result (λ pages. pages.items ≡ keys_of (filter (λ e. node_of geometry.now e.1 == node) placed.now)) }
+{
+    let mut pages = Vec::new(alloc);
+    for (page, frame) in placed {
+        if geometry.node_of(*frame) == node {
+            pages.push(*page)?;
+        }
+    }
+    Ok(pages)
+}
