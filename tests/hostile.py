@@ -6,6 +6,7 @@ examples/ and tests/traces/, the greatest that there are, and streams that fail 
 the schema of traces, says of each trace what the program has to say. Nothing is printed where all is well; else what
 differs, and then the status is 1. With --times it tells what each part took. The traces are the same each time."""
 import argparse
+import collections
 import glob
 import importlib.util
 import json
@@ -25,9 +26,11 @@ sys.dont_write_bytecode = True
 ROOT = os.path.dirname(os.path.dirname(os.path.abspath(__file__)))
 PROGRAM = os.path.join(ROOT, "crates/numatrace/out/numatrace")
 MUTATED = 10000
+MOST_BYTES = 16777216
+# What one run may take: seconds of the processor, and KiB of memory. Waiting for a processor is not counted, but ends in time.
 MOST_SECONDS = 10
 MOST_KIB = 1200 * 1000 * 1000 // 1024
-MOST_BYTES = 16777216
+MOST_WAIT = 120
 SETTINGS = {"program": PROGRAM}
 
 
@@ -61,25 +64,25 @@ FIRST_REPORT = text_of("examples/three_pages.report").encode()
 def play(data, words=()):
     """Status, standard output and standard error of the program on a trace."""
     try:
-        ran = subprocess.run([SETTINGS["program"], *words], input=data, capture_output=True, timeout=MOST_SECONDS, check=False)
+        ran = subprocess.run([SETTINGS["program"], *words], input=data, capture_output=True, timeout=MOST_WAIT, check=False)
     except subprocess.TimeoutExpired as late:
-        raise Fault(f"more than {MOST_SECONDS} seconds") from late
+        raise Fault(f"no end after {MOST_WAIT} seconds") from late
     return ran.returncode, ran.stdout, ran.stderr
 
 
 def is_report(out, steps):
     """Whether lines are those of these steps: one for each, behind that of numa_maps as many as it says, and behind others
     those of accesses in flight."""
-    lines = out.decode("ascii").split("\n")
+    lines = out.decode("ascii", "replace").split("\n")
     at = 0
     for k, step in enumerate(steps):
-        words = lines[at].split(" ")
+        words = lines[at].split(" ") if at < len(lines) else []
         if words[:2] != [str(k), step["op"]]:
             return False
         at += 1
         if step["op"] == "numa_maps" and words[2] != "error":
             at += int(words[2])
-        while lines[at].startswith(f"{k}."):
+        while at < len(lines) and lines[at].startswith(f"{k}."):
             at += 1
     return lines[at:] == [""]
 
@@ -177,7 +180,7 @@ def served(pieces, broken=False):
             ours.send(piece)
     finally:
         ours.close()
-    out, err = child.communicate(timeout=MOST_SECONDS)
+    out, err = child.communicate(timeout=MOST_WAIT)
     return child.returncode, out, err
 
 
@@ -209,7 +212,7 @@ def written(data, most):
         trace.write(data)
         trace.seek(0)
         ran = subprocess.run([SETTINGS["program"]], stdin=trace, stdout=out, stderr=subprocess.PIPE, restore_signals=False,
-                             preexec_fn=lambda: limited(most), timeout=MOST_SECONDS, check=False)
+                             preexec_fn=lambda: limited(most), timeout=MOST_WAIT, check=False)
         out.seek(0)
         return ran.returncode, ran.stderr, out.read()
 
@@ -447,10 +450,7 @@ LONG = [
     (NOTE + b"[{}", b",{}", b"]}", "good"),
     (NOTE + b"[0", b",0", b"]}", "good"),
     (NOTE + b'[""', b',""', b"]}", "good"),
-    (NOTE + b"[0", b',{"":0}', b"]}", "good"),
     (NOTE + b"[0", b",[0]", b"]}", "good"),
-    (NOTE + b"[0", b"," + b"[" * 125 + b"]" * 125, b"]}", "good"),
-    (NOTE + b"[0", b"," + b'{"":' * 125 + b"0" + b"}" * 125, b"]}", "good"),
     (b"", b"[", b"", "not JSON"),
     (b"", b'{"":', b"", "not JSON"),
     (NOTE + b'"', b"a", b'"}', "good"),
@@ -471,10 +471,23 @@ LONG = [
 ]
 
 
-def check_long(place):
-    front, piece, back, verdict = LONG[place]
+# Shapes that take more memory than that: the value of JSON has a kilobyte for each object that has a key.
+HEAVY = [
+    (NOTE + b"[0", b',{"":0}', b"]}", "good"),
+    (NOTE + b"[0", b"," + b"[" * 125 + b"]" * 125, b"]}", "good"),
+    (NOTE + b"[0", b"," + b'{"":' * 125 + b"0" + b"}" * 125, b"]}", "good"),
+]
+MOST_KIB_OF_HEAVY = 3000 * 1000 * 1000 // 1024
+
+
+def check_long(shape):
+    front, piece, back, verdict = shape
     data, pieces = longest(front, piece, back)
     check_trace(data, verdict=verdict.format(pieces=pieces))
+
+
+def check_heavy(shape):
+    check_long(shape)
 
 
 def check_great(make):
@@ -499,7 +512,6 @@ def with_edges(schema, edge):
 def edges():
     """For each field of each step, and each number at an edge, a trace that has the number there."""
     form = WHY.Form()
-    plain = {"u32": "1", "u64": "65536", "set": "[0,1]", "data": '"61"'}
     for op, schema in form.steps.items():
         parts = {key: part for key, part in schema["properties"].items() if key != "op"}
         usual = {key: with_edges(part, "1") or ("true" if form.resolved(part)["type"] == "boolean" else '"61"') for key, part in parts.items()}
@@ -509,7 +521,6 @@ def edges():
                 if value is not None:
                     pairs = "".join(f',"{name}":{value if name == key else usual[name]}' for name in parts)
                     yield FIRST[: FIRST.index('{"op":"move_pages"')] + '{"op":"%s"%s}]}' % (op, pairs)
-    del plain
     for old in ['"version":1', '"nodes":[4', '"distance":[[10', '"distance":[[10,20']:
         for edge in EDGES:
             yield changed(old, re.sub("[0-9]+$", edge, old))
@@ -524,15 +535,22 @@ def check_edge(trace):
 
 
 def tried(item):
-    """One check: what differs, or how the trace ended."""
+    """One check: what differs, or how the trace ended, with the seconds of the processor and the KiB that it took; the KiB are
+    the most that any check of this process has taken."""
     check, argument = item
+    before = resource.getrusage(resource.RUSAGE_CHILDREN)
     try:
         ended_as = check(argument)
-        kib = resource.getrusage(resource.RUSAGE_CHILDREN).ru_maxrss
-        fault = f"{kib // 1000} MB of memory" if kib > MOST_KIB else None
-        return fault, ended_as, kib
-    except Fault as differs:
-        return str(differs), None, 0
+    except (Fault, OSError) as differs:
+        return str(differs), None, 0, 0
+    used = resource.getrusage(resource.RUSAGE_CHILDREN)
+    seconds = used.ru_utime + used.ru_stime - before.ru_utime - before.ru_stime
+    fault = None
+    if used.ru_maxrss > (MOST_KIB_OF_HEAVY if check is check_heavy else MOST_KIB):
+        fault = f"{used.ru_maxrss * 1024 // 1000000} MB of memory"
+    elif seconds > MOST_SECONDS and check not in (check_table, check_streams):
+        fault = f"{seconds:.1f} seconds"
+    return fault, ended_as, seconds, used.ru_maxrss
 
 
 def check_streams(_):
@@ -555,7 +573,7 @@ def parts():
     yield "table and streams", [(check_table, None), (check_streams, None)], None
     yield "fronts", fronts, None
     yield "edges", [(check_edge, trace) for trace in edges()], None
-    yield "greatest", great + [(check_long, place) for place in range(len(LONG))], 1
+    yield "greatest", great + [(check_long, shape) for shape in LONG] + [(check_heavy, shape) for shape in HEAVY], 1
     yield "mutated", [(check_mutated, number) for number in range(MUTATED)], None
 
 
@@ -564,13 +582,13 @@ def run_part(name, checks, most):
     begun = time.monotonic()
     with multiprocessing.Pool(maxtasksperchild=most) as pool:
         results = pool.map(tried, checks, chunksize=1 if most else max(1, min(50, len(checks) // 16)))
-    for (check, argument), (fault, _, _) in zip(checks, results):
+    for (check, argument), (fault, *_) in zip(checks, results):
         if fault:
             sys.exit(f"tests/hostile.py: {check.__name__}, {str(argument)[:300]}: {fault}")
-    ends = {}
-    for _, ended_as, _ in results:
-        ends[ended_as] = ends.get(ended_as, 0) + 1
-    return f"{name}: {len(checks)} in {time.monotonic() - begun:.1f} s, {max(kib for _, _, kib in results) // 1000} MB; {ends}"
+    ends = collections.Counter(str(ended_as) for _, ended_as, _, _ in results)
+    longest_run, most_memory = (max(result[place] for result in results) for place in (2, 3))
+    return (f"{name}: {len(checks)} in {time.monotonic() - begun:.1f} s, none over {longest_run:.1f} s of the processor and "
+            f"{most_memory * 1024 // 1000000} MB; {dict(ends)}")
 
 
 def main():
