@@ -1,6 +1,6 @@
 #!/usr/bin/env python3
 """Hands the built program what an enemy would: bad traces, one cut after each byte, 10,000 that are mutated from those of
-examples/ and tests/traces/, the greatest that there are, and streams that fail or move a byte at a time.
+examples/ and tests/traces/, the greatest that there are, streams that fail or move a byte at a time, and little memory.
 
 `tests/hostile.py [PROGRAM]` takes crates/numatrace/out/numatrace, as `rt ci` and `./build` leave it. tools/why.py, which knows
 the schema of traces, says of each trace what the program has to say. Nothing is printed where all is well; else what
@@ -548,7 +548,7 @@ def tried(item):
     fault = None
     if used.ru_maxrss > (MOST_KIB_OF_HEAVY if check is check_heavy else MOST_KIB):
         fault = f"{used.ru_maxrss * 1024 // 1000000} MB of memory"
-    elif seconds > MOST_SECONDS and check not in (check_table, check_streams):
+    elif seconds > MOST_SECONDS and check not in (check_table, check_streams, check_memory):
         fault = f"{seconds:.1f} seconds"
     return fault, ended_as, seconds, used.ru_maxrss
 
@@ -562,6 +562,32 @@ def check_streams(_):
     check_closed_writers()
 
 
+def within(data, most, words):
+    """Status, standard output and standard error with so many bytes of addresses."""
+    ran = subprocess.run([SETTINGS["program"], *words], input=data, capture_output=True, timeout=MOST_WAIT, check=False,
+                         preexec_fn=lambda: resource.setrlimit(resource.RLIMIT_AS, (most, most)))
+    return ran.returncode, ran.stdout, ran.stderr
+
+
+def check_memory(_):
+    """Little memory, so that threads are refused, and then the trace itself: the whole report, or a front with as many steps
+    as are told."""
+    with tempfile.TemporaryDirectory() as there:
+        paths = [os.path.join(there, "trace"), os.path.join(there, "report")]
+        subprocess.run([os.path.join(ROOT, "tests/long_run.py"), *paths], check=True)
+        data, report = (open(path, "rb").read() for path in paths)
+    ends = set()
+    for most in [*range(8192, 28672, 256), *range(32768, 655360, 32768)]:
+        status, out, err = within(data, most << 10, ["--workers", "64"])
+        lines = out.count(b"\n")
+        refused = (3, f"numatrace: host memory refused after {lines} steps\n".encode())
+        if (status, err) not in ((0, b""), refused) or (out != report if status == 0 else not report.startswith(out)):
+            raise Fault(f"with {most} KiB: status {status}, {len(out)} bytes and {err[:200]!r}")
+        ends.add(status)
+    if ends != {0, 3}:
+        raise Fault(f"memory was refused never or always: {ends}")
+
+
 def check_table(_):
     check_bad()
 
@@ -570,7 +596,7 @@ def parts():
     """Each part: its name, its checks, and how many of them one process makes."""
     fronts = [(check_front, length) for length in range(len(FIRST))]
     great = [(check_great, make) for make in (whole_nodes, whole_batches, whole_table)]
-    yield "table and streams", [(check_table, None), (check_streams, None)], None
+    yield "table and streams", [(check_table, None), (check_streams, None), (check_memory, None)], 1
     yield "fronts", fronts, None
     yield "edges", [(check_edge, trace) for trace in edges()], None
     yield "greatest", great + [(check_long, shape) for shape in LONG] + [(check_heavy, shape) for shape in HEAVY], 1
