@@ -279,19 +279,41 @@ fn refused_threads(rt: HostRuntime) -> Result<(), Fail> {
     Ok(())
 }
 
-/// Where memory is refused, each allocation in turn, all jobs come back copied.
+/// Where memory is refused, each allocation in turn until none is, all jobs come back copied: the board's memory, and then
+/// that of the list of hands. The caller copies them alone.
 #[test]
 fn refused_memory(rt: HostRuntime) -> Result<(), Fail> {
     let heap = Refusing::new(rt.alloc());
-    for number in 1..5u64 {
+    let mut refused = 0u64;
+    for number in 1..100u64 {
+        let gate = Seen(AtomicU64::new(0));
         let jobs = jobs(&heap, 3)?;
         heap.refuse(number);
-        let (jobs, answer) = copy_while(&rt, &heap, jobs, 2, &Through, || 7);
+        let (jobs, answer) = copy_while(&rt, &heap, jobs, 2, &gate, || 7);
+        let met = heap.asked_since(number) >= number;
         heap.refuse(0);
         assert!(rt;
             answer == 7 && are_copied(jobs.as_slice(), 3),
             "without allocation {number}"
         );
+        if !met {
+            break;
+        }
+        assert_eq!(rt; gate.0.load(Ordering::SeqCst), 1u64);
+        refused = number;
     }
+    assert_eq!(rt; refused, 4u64);
+    Ok(())
+}
+
+/// Two jobs are not worth a second worker's start where the gate is open: they are copied without memory.
+#[test]
+fn no_memory_for_two_jobs(rt: HostRuntime) -> Result<(), Fail> {
+    let heap = Refusing::new(rt.alloc());
+    let jobs = jobs(&heap, 2)?;
+    heap.refuse(1);
+    let (jobs, answer) = copy_while(&rt, &heap, jobs, 2, &OpenGate, || 7);
+    assert_eq!(rt; heap.asked_since(1), 0u64);
+    assert!(rt; answer == 7 && are_copied(jobs.as_slice(), 2));
     Ok(())
 }

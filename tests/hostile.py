@@ -1,0 +1,643 @@
+#!/usr/bin/env python3
+"""Hands the built program what an enemy would: bad traces, one cut after each byte, 10,000 that are mutated from those of
+examples/ and tests/traces/, the greatest that there are, streams that fail or move a byte at a time, and little memory.
+
+`tests/hostile.py [PROGRAM]` takes crates/numatrace/out/numatrace, as `rt ci` and `./build` leave it. tools/why.py, which knows
+the schema of traces, says of each trace what the program has to say. Nothing is printed where all is well; else what
+differs, and then the status is 1. With --times it tells what each part took. The traces are the same each time."""
+import argparse
+import collections
+import glob
+import importlib.util
+import json
+import multiprocessing
+import os
+import random
+import re
+import resource
+import signal
+import socket
+import subprocess
+import sys
+import tempfile
+import time
+
+sys.dont_write_bytecode = True
+ROOT = os.path.dirname(os.path.dirname(os.path.abspath(__file__)))
+PROGRAM = os.path.join(ROOT, "crates/numatrace/out/numatrace")
+MUTATED = 10000
+MOST_BYTES = 16777216
+# What one run may take: seconds of the processor, and KiB of memory. Waiting for a processor is not counted, but ends in time.
+MOST_SECONDS = 10
+MOST_KIB = 1200 * 1000 * 1000 // 1024
+MOST_WAIT = 120
+SETTINGS = {"program": PROGRAM}
+
+
+class Fault(Exception):
+    """What differs from what should be."""
+
+
+def loaded(name):
+    """A script of the repository as a module."""
+    spec = importlib.util.spec_from_file_location(os.path.basename(name)[:-3], os.path.join(ROOT, name))
+    module = importlib.util.module_from_spec(spec)
+    spec.loader.exec_module(module)
+    return module
+
+
+WHY = loaded("tools/why.py")
+
+
+def text_of(name):
+    with open(os.path.join(ROOT, name), encoding="utf-8") as file:
+        return file.read()
+
+
+FIRST = text_of("examples/three_pages.json").rstrip("\n")
+FIRST_REPORT = text_of("examples/three_pages.report").encode()
+
+
+# ---- one run
+
+
+def play(data, words=()):
+    """Status, standard output and standard error of the program on a trace."""
+    try:
+        ran = subprocess.run([SETTINGS["program"], *words], input=data, capture_output=True, timeout=MOST_WAIT, check=False)
+    except subprocess.TimeoutExpired as late:
+        raise Fault(f"no end after {MOST_WAIT} seconds") from late
+    return ran.returncode, ran.stdout, ran.stderr
+
+
+def is_report(out, steps):
+    """Whether lines are those of these steps: one for each, behind that of numa_maps as many as it says, and behind others
+    those of accesses in flight."""
+    lines = out.decode("ascii", "replace").split("\n")
+    at = 0
+    for k, step in enumerate(steps):
+        words = lines[at].split(" ") if at < len(lines) else []
+        if words[:2] != [str(k), step["op"]]:
+            return False
+        at += 1
+        if step["op"] == "numa_maps" and words[2] != "error":
+            at += int(words[2])
+        while at < len(lines) and lines[at].startswith(f"{k}."):
+            at += 1
+    return lines[at:] == [""]
+
+
+def told(verdict):
+    """Status and standard error for what tools/why.py says of a trace."""
+    if verdict == "good":
+        return 0, b""
+    head = verdict.split(":")[0]
+    return (4 if head == "read fault" else 2), f"numatrace: {head}\n".encode()
+
+
+def check_trace(data, words=(), verdict=None):
+    """Fails where the program says something else of a trace than it should. Gives how it ended."""
+    verdict = verdict or WHY.verdict(data)
+    status, out, err = play(data, words)
+    if (status, err) != told(verdict):
+        raise Fault(f"status {status} and {err[:200]!r}, where tools/why.py says: {verdict[:200]}")
+    if status != 0:
+        if out:
+            raise Fault("something was written before the fault")
+    elif len(data) < 1 << 20 and not is_report(out, json.loads(data)["steps"]):
+        raise Fault("the lines are not those of the steps")
+    return verdict.split(" ")[1] if status == 2 else str(status)
+
+
+# ---- bad traces, and one that is cut
+
+
+def changed(old, new):
+    if FIRST.count(old) < 1:
+        raise Fault(f"{old} is not in the first example")
+    return FIRST.replace(old, new, 1)
+
+
+# The first example with one place changed, and its fault.
+BAD = [
+    ('"version":1', '"version":3', "bad machine"),
+    ('"steps":[', '"stages":[', "bad machine"),
+    ('[10,20],[20,10]', '[10,10],[20,10]', "bad machine"),
+    ('"nodes":[4,4]', '"nodes":[4,0]', "bad machine"),
+    ('"op":"write","pid":1,', '"op":"write",', "bad step 2"),
+    ('"nodes":[1,1,1]', '"nodes":[1,1]', "bad step 5"),
+    ('"data":"62"', '"data":"6"', "bad step 3"),
+    ('"pid":1', '"pid":1.5', "bad step 0"),
+    ('"allowed":[0,1]', '"allowed":[64]', "bad step 0"),
+    ('"addr":65536', '"addr":18446744073709551616', "bad step 1"),
+]
+
+# Whole traces and their faults.
+WHOLE = [
+    (b"", "not JSON"),
+    (b"[]", "bad machine"),
+    (b"[" * 200 + b"]" * 200, "not JSON"),
+    (FIRST.encode().replace(b'"op":"spawn"', b'"op":"spa\xffwn"', 1), "not JSON"),
+    (changed('"op":"map"', '"op":"jump"').replace('"op":"write","pid":1', '"op":"write","pid":-1', 1).encode(), "bad step 1"),
+    (b" " * (MOST_BYTES + 1), "read fault"),
+    (FIRST.encode().ljust(MOST_BYTES + 1), "read fault"),
+]
+
+
+def check_bad():
+    """The faults of a trace, and an address that is none; a trace of the greatest length, and one that is longer."""
+    for old, new, fault in BAD:
+        WHOLE.append((changed(old, new).encode(), fault))
+    for data, fault in WHOLE:
+        check_trace(data, verdict=fault)
+    high = changed('"addr":65536', '"addr":18446744073709551615').encode()
+    status, out, _ = play(high)
+    if status != 0 or out.split(b"\n")[1] != b"1 map error EINVAL":
+        raise Fault("the highest address is not refused by the call")
+    longest = FIRST.encode().ljust(MOST_BYTES)
+    if play(longest) != (0, FIRST_REPORT, b""):
+        raise Fault("the trace of the greatest length does not give its report")
+
+
+def check_front(length):
+    """A trace that is cut is no JSON."""
+    check_trace(FIRST.encode()[:length], verdict="not JSON")
+
+
+# ---- streams
+
+
+def served(pieces, broken=False):
+    """What the program answers where each call of its reader gets one of these pieces, and where it fails then if it is to
+    break."""
+    ours, its = socket.socketpair(socket.AF_UNIX, socket.SOCK_SEQPACKET)
+    child = subprocess.Popen([SETTINGS["program"]], stdin=its, stdout=subprocess.PIPE, stderr=subprocess.PIPE)
+    if broken:
+        its.send(b"unread")  # What our end never reads makes its close an error of the other end.
+    its.close()
+    try:
+        for piece in pieces:
+            ours.send(piece)
+    finally:
+        ours.close()
+    out, err = child.communicate(timeout=MOST_WAIT)
+    return child.returncode, out, err
+
+
+def check_reader():
+    """A reader that gives a byte a call, and one that fails after so many bytes."""
+    data = FIRST.encode()
+    pieces = [data[at : at + 1] for at in range(len(data))]
+    if served(pieces) != (0, FIRST_REPORT, b""):
+        raise Fault("a trace that comes a byte at a time does not give its report")
+    for count in [0, 1, 2, 100, len(data) - 1, len(data)]:
+        if served(pieces[:count], broken=True) != (4, b"", b"numatrace: read fault\n"):
+            raise Fault(f"a reader that fails after {count} bytes is not told as a read fault")
+    folder = os.open(ROOT, os.O_RDONLY)
+    ran = subprocess.run([SETTINGS["program"]], stdin=folder, capture_output=True, check=False)
+    os.close(folder)
+    if (ran.returncode, ran.stdout, ran.stderr) != (4, b"", b"numatrace: read fault\n"):
+        raise Fault("a folder as input is not told as a read fault")
+
+
+def limited(most):
+    """Lets a child write no file longer than this: the write that passes it is short, and the next fails."""
+    signal.signal(signal.SIGXFSZ, signal.SIG_IGN)
+    resource.setrlimit(resource.RLIMIT_FSIZE, (most, most))
+
+
+def written(data, most):
+    """Status and standard error where standard output is a file that may have so many bytes, and what is in it then."""
+    with tempfile.TemporaryFile() as trace, tempfile.TemporaryFile() as out:
+        trace.write(data)
+        trace.seek(0)
+        ran = subprocess.run([SETTINGS["program"]], stdin=trace, stdout=out, stderr=subprocess.PIPE, restore_signals=False,
+                             preexec_fn=lambda: limited(most), timeout=MOST_WAIT, check=False)
+        out.seek(0)
+        return ran.returncode, ran.stderr, out.read()
+
+
+def check_writer(data, report, places):
+    """Writers that take so many bytes and then fail: what was written is a front of the report."""
+    for most in places:
+        fault = (4, b"numatrace: write fault\n", report[:most])
+        if written(data, most) != (fault if most < len(report) else (0, b"", report)):
+            raise Fault(f"a writer that takes {most} of {len(report)} bytes is told as {written(data, most)[:2]}")
+
+
+def check_closed_writers():
+    """A full device, and a pipe that nobody reads."""
+    ends = os.pipe()
+    os.close(ends[0])
+    with open("/dev/full", "wb") as full, os.fdopen(ends[1], "wb") as pipe:
+        for out in (full, pipe):
+            ran = subprocess.run([SETTINGS["program"]], input=FIRST.encode(), stdout=out, stderr=subprocess.PIPE, check=False)
+            if (ran.returncode, ran.stderr) != (4, b"numatrace: write fault\n"):
+                raise Fault(f"a writer that fails at once is told as {ran.returncode}, {ran.stderr!r}")
+
+
+# ---- mutated traces
+
+# Values of JSON, and what is none.
+ODD = """0 1 2 -1 -0 1.0 1e0 1E+2 0.5 63 64 255 256 4095 4096 4097 16384 16385 65535 65536 65537 2147483647 2147483648 4294967295
+4294967296 140737488351232 140737488355327 140737488355328 9223372036854775807 9223372036854775808 18446744073709547520
+18446744073709551615 18446744073709551616 99999999999999999999999999 1e308 1e-999 1e999 -1e999 0e999999999999 true false null
+"" "0" "61" "6" "6g" "AaFf" "\\ud83d\\ude00" "\\ud800" "\\udc00\\ud800" "\\u0000" "\\x" [] {} [0] [0,1] [64] [-1] [1.5] [[]] [null]
+{"op":"vmstat"} {"op":1} NaN Infinity - 01 +1 1. .5 0x10 'a' tru nul [1,] {"a":1,} {"a"} {1:1} //""".split()
+ODD += ["1" + "0" * 308, "1" + "0" * 309, "7" * 400, "0." + "0" * 5000 + "1", '"' + "61" * 4096 + '"', '"' + "61" * 4097 + '"']
+ODD += ["[" * depth + "]" * depth for depth in (100, 123, 124, 125, 126, 127, 128, 200)]
+ODD += ['{"a":' * depth + "0" + "}" * depth for depth in (100, 124, 125, 126, 127, 128)]
+OPS = list(WHY.Form().steps)
+KEYS = """version machine nodes distance steps run_limit op pid uid home allowed privileged addr pages shared segment offset len data
+caller flags old new mode node during run note""".split()
+TOKEN = re.compile(r'"[^"\\]*(?:\\.[^"\\]*)*"|-?[0-9][0-9.eE+-]*|true|false|null|[\[\]{}:,]')
+KEY = re.compile(r'"[a-z_]+":')
+PAIR = re.compile(r'"[a-z_]+":(?:"[^"]*"|[0-9]+|true|false|null|\[[0-9,]*\]),?')
+
+
+def put(text, match, new):
+    return text[: match.start()] + new + text[match.end() :]
+
+
+def values(text):
+    """The tokens of a text that are values and no keys."""
+    found = [match for match in TOKEN.finditer(text) if match[0] not in "[]{}:,"]
+    return [match for match in found if text[match.end() : match.end() + 1] != ":"]
+
+
+def odd_value(rng, text, _):
+    return put(text, rng.choice(values(text)), rng.choice(ODD))
+
+
+def near_number(rng, text, _):
+    """A number a little off, or another one of the trace."""
+    numbers = [match for match in values(text) if match[0].isdigit()]
+    match = rng.choice(numbers)
+    number = int(match[0])
+    return put(text, match, str(rng.choice([number + 1, max(number, 1) - 1, number * 2, number + 4096, int(rng.choice(numbers)[0])])))
+
+
+def other_key(rng, text, _):
+    return put(text, rng.choice(list(KEY.finditer(text))), f'"{rng.choice(KEYS)}":')
+
+
+def without_pair(rng, text, _):
+    return put(text, rng.choice(list(PAIR.finditer(text))), "")
+
+
+def twice(rng, text, _):
+    """A key that stands twice, the other value before it or behind it."""
+    match = rng.choice(list(PAIR.finditer(text)))
+    pair = match[0].rstrip(",")
+    other = pair.split(":")[0] + ":" + rng.choice(ODD)
+    both = rng.choice([f"{other},{pair}", f"{pair},{other}"])
+    return put(text, match, both + match[0][len(pair) :])
+
+
+def note(rng, text, _):
+    """A key that is ignored."""
+    match = rng.choice(list(re.finditer(r"\{", text)))
+    return put(text, match, '{"%s":%s,' % (rng.choice(["note", "during", "Op", "op ", ""]), rng.choice(ODD)))
+
+
+def other_op(rng, text, _):
+    found = list(re.finditer(r'"op":"[a-z_]+"', text))
+    return put(text, rng.choice(found), f'"op":"{rng.choice(OPS)}"') if found else text
+
+
+def other_steps(rng, text, others):
+    """Steps left out, made twice, in another order, or taken from another trace."""
+    try:
+        top = json.loads(text)
+        steps = top["steps"]
+        more = json.loads(rng.choice(others))["steps"]
+        for _ in range(rng.randint(1, 6)):
+            at = rng.randrange(len(steps) + 1)
+            steps[at : at + rng.randint(0, 2)] = rng.choice([steps[: rng.randint(0, 4)], rng.sample(more, min(len(more), 2)), []])
+        if rng.random() < 0.3:
+            rng.shuffle(steps)
+        return json.dumps(top, separators=(",", ":"))
+    except (ValueError, TypeError, KeyError, RecursionError):
+        return text
+
+
+def spelt(rng, text, _):
+    """A letter of a text by its number, or white space between tokens."""
+    match = rng.choice(list(TOKEN.finditer(text)))
+    token = match[0]
+    if len(token) > 2 and token[0] == '"' and "\\" not in token:
+        at = rng.randrange(1, len(token) - 1)
+        return put(text, match, token[:at] + f"\\u{ord(token[at]):04x}" + token[at + 1 :])
+    return put(text, match, rng.choice([" ", "\t", "\r\n", "\v", "\u00a0", "\ufeff"]) + token)
+
+
+def broken(rng, text, others):
+    """Characters lost, doubled, changed or taken from another trace, or the end cut off."""
+    at, end = sorted(rng.randrange(len(text) + 1) for _ in range(2))
+    end = min(end, at + rng.choice([1, 1, 2, 8, 100]))
+    other = rng.choice(others)
+    into = rng.choice(["", text[at:end] * 2, chr(rng.randrange(128)), rng.choice('[]{}",:0\\'), other[at:end], "\u00e4"])
+    return text[:at] if rng.random() < 0.1 else text[:at] + into + text[end:]
+
+
+MUTATIONS = [odd_value] * 5 + [near_number] * 4 + [other_steps] * 4 + [twice] * 2
+MUTATIONS += [other_key, without_pair, note, other_op, spelt, broken]
+
+
+def mutated(number, texts):
+    """The mutated trace of a number, as bytes."""
+    rng = random.Random(number)
+    text = rng.choice(texts)
+    for _ in range(rng.choice([1, 1, 1, 2, 3, 5])):
+        try:
+            text = rng.choice(MUTATIONS)(rng, text, texts)
+        except IndexError:  # Nothing of that kind is left.
+            break
+    data = text.encode("utf-8", "surrogatepass")
+    if rng.random() < 0.05 and data:
+        at = rng.randrange(len(data))
+        data = data[:at] + bytes([rng.randrange(256)]) + data[at + rng.randrange(2) :]
+    return data
+
+
+def check_mutated(number):
+    return check_trace(mutated(number, SETTINGS["texts"]), ("--workers", str(1 + number % 64)))
+
+
+# ---- the greatest that there are
+
+
+def square(count):
+    return [[10 if own == to else 20 for to in range(count)] for own in range(count)]
+
+
+def trace_of(sizes, steps, **top):
+    machine = {"nodes": sizes, "distance": square(len(sizes))}
+    return json.dumps({"version": 1, "machine": machine, "steps": steps, **top}, separators=(",", ":")).encode()
+
+
+def spawn(pid, nodes, **more):
+    return {"op": "spawn", "pid": pid, "uid": 0, "home": 0, "allowed": list(range(nodes)), **more}
+
+
+def filled(pid, count, **more):
+    """A process that maps so many pages and writes each."""
+    steps = [{"op": "map", "pid": pid, "addr": 65536, "pages": count, **more}]
+    return steps + [{"op": "write", "pid": pid, "addr": 65536 + 4096 * page, "data": "61"} for page in range(count)]
+
+
+def batch(op, pages, **more):
+    return {"op": op, "caller": 1, "pid": 0, "pages": pages, "flags": 0, **more}
+
+
+def ended(pid):
+    """What is looked at in the end, and a process that goes with all that it has."""
+    looks = [{"op": "pagemap", "pid": pid}, {"op": "numa_maps", "pid": pid}, {"op": "vmstat"}]
+    return looks + [{"op": "exit", "pid": pid}, {"op": "free", "node": 0}]
+
+
+def whole_nodes():
+    """64 nodes of 256 frames, all pages of a process: moved to nodes in turn, each entry a run, there and back by node, and
+    bound in turns."""
+    pages = [65536 + 4096 * page for page in range(8192)]
+    turns = [page % 64 for page in range(8192)]
+    steps = [spawn(1, 64), *filled(1, 8192), batch("move_pages", pages, nodes=turns)]
+    low, high = list(range(32)), list(range(32, 64))
+    steps += [{"op": "migrate_pages", "caller": 1, "pid": 0, "old": old, "new": new} for old, new in [(low, high), (high, low)] * 4]
+    for mode, nodes in [(3, low), (2, high), (1, [63]), (3, list(range(64))), (2, [5])]:
+        steps.append({"op": "mbind", "caller": 1, "addr": 65536, "len": 4096 * 8192, "mode": mode, "nodes": nodes, "flags": 3})
+    return trace_of([256] * 64, steps + ended(1))
+
+
+def whole_batches():
+    """16,384 entries in a step: pages that are not there, one page, pages downwards, and a page of each second kind, so that
+    each entry is a run."""
+    down = [65536 + 4096 * page for page in reversed(range(8192))]
+    both = [address for address in down for _ in range(2)]
+    steps = [spawn(1, 2), *filled(1, 8192), batch("query", [4096 * page for page in range(16384)]), batch("query", both)]
+    for nodes in [[1] * 16384, [0] * 16384, [1, 0] * 8192, [0, 1] * 8192]:
+        steps.append(batch("move_pages", both, nodes=nodes))
+    steps.append(batch("move_pages", [65536] * 16384, nodes=[1, 0] * 8192))
+    return trace_of([8192, 8192], steps + ended(1), version=2, run_limit=1)
+
+
+def whole_table():
+    """1,024 processes that all see 60 pages of one segment, which move with all of them, and go one after another; one process
+    more is refused."""
+    steps = [spawn(pid, 2, privileged=pid == 1) for pid in range(1, 1026)] + filled(1, 60, shared=True)
+    window = {"op": "attach", "addr": 65536, "segment": 0, "offset": 0, "pages": 60}
+    steps += [{**window, "pid": pid} for pid in range(2, 1025)]
+    steps += [{"op": "read", "pid": pid, "addr": 65536 + 4096 * page, "len": 1} for pid in range(2, 1025) for page in range(60)]
+    pages = [65536 + 4096 * page for page in range(60)]
+    for node in (1, 0, 1):
+        steps.append(batch("move_pages", pages, nodes=[node] * 60, flags=4) | {"flags": 4})
+    steps += [{"op": "numa_maps", "pid": 7}, {"op": "exit", "pid": 1}]
+    return trace_of([64, 64], steps + [{"op": "exit", "pid": pid} for pid in range(2, 1025)] + [{"op": "free", "node": 1}])
+
+
+def longest(front, piece, back):
+    """A trace as long as a trace may be, the pieces between the two ends and blanks behind them, and how many pieces."""
+    room = (MOST_BYTES - len(front) - len(back)) // len(piece)
+    return (front + piece * room + back).ljust(MOST_BYTES), room
+
+
+NOTE = FIRST.encode()[:-1] + b',"note":'
+SMALL = b'{"version":1,"machine":{"nodes":[1],"distance":[[10]]},"steps":['
+
+# Traces as long as a trace may be, in the shapes that take most of a reader: front, piece, back, and what is to be said.
+LONG = [
+    (NOTE + b"[[]", b",[]", b"]}", "good"),
+    (NOTE + b"[{}", b",{}", b"]}", "good"),
+    (NOTE + b"[0", b",0", b"]}", "good"),
+    (NOTE + b'[""', b',""', b"]}", "good"),
+    (NOTE + b"[0", b",[0]", b"]}", "good"),
+    (b"", b"[", b"", "not JSON"),
+    (b"", b'{"":', b"", "not JSON"),
+    (NOTE + b'"', b"a", b'"}', "good"),
+    (NOTE + b'"', b"\\u0000", b'"}', "good"),
+    (NOTE + b'{"', b"\\u20ac", b'":0}}', "good"),
+    (NOTE + b'{"a":0', b',"a":0', b"}}", "good"),
+    (NOTE + b"9", b"9", b"}", "not JSON"),
+    (NOTE + b"0.", b"7", b"}", "good"),
+    (NOTE + b"0.1e-", b"9", b"}", "good"),
+    (SMALL + b'{"op":"exit","pid":1.', b"7", b"}]}", "bad step 0"),
+    (SMALL + b'{"op":"vmstat","data":"', b"61", b'"}]}', "good"),
+    (SMALL + b"0", b",0", b"]}", "bad step 0"),
+    (SMALL, b'{"op":"vmstat"},', b"0]}", "bad step {pieces}"),
+    (SMALL + b'{"op":"vmstat"}', b',{"op":"vmstat"}', b"]}", "good"),
+    (SMALL + b'{"op":"vmstat"}', b',{"op":"exit","pid":0}', b"]}", "good"),
+    (b'{"version":1,"machine":{"nodes":[1],"distance":[[10]', b",[10]", b']},"steps":[]}', "bad machine"),
+    (b'{"version":1,"machine":{"nodes":[1', b",1", b'],"distance":[[10]]},"steps":[]}', "bad machine"),
+]
+
+
+# Shapes that take more memory than that: the value of JSON has a kilobyte for each object that has a key.
+HEAVY = [
+    (NOTE + b"[0", b',{"":0}', b"]}", "good"),
+    (NOTE + b"[0", b"," + b"[" * 125 + b"]" * 125, b"]}", "good"),
+    (NOTE + b"[0", b"," + b'{"":' * 125 + b"0" + b"}" * 125, b"]}", "good"),
+]
+MOST_KIB_OF_HEAVY = 3000 * 1000 * 1000 // 1024
+
+
+def check_long(shape):
+    front, piece, back, verdict = shape
+    data, pieces = longest(front, piece, back)
+    check_trace(data, verdict=verdict.format(pieces=pieces))
+
+
+def check_heavy(shape):
+    check_long(shape)
+
+
+def check_great(make):
+    check_trace(make())
+
+
+# ---- numbers at the edges of their ranges, in each field
+
+EDGES = ["0", "63", "64", "2147483648", "4294967295", "4294967296", "9223372036854775807", "9223372036854775808"]
+EDGES += ["18446744073709551615", "18446744073709551616", "-1", "1.0"]
+
+
+def with_edges(schema, edge):
+    """A value that fits a part of the schema, with the number at its edge in it, or None where it takes no number."""
+    if "$ref" in schema:
+        return with_edges(WHY.Form().resolved(schema), edge)
+    if schema["type"] == "integer":
+        return edge
+    return f"[{with_edges(schema['items'], edge)}]" if schema["type"] == "array" else None
+
+
+def edges():
+    """For each field of each step, and each number at an edge, a trace that has the number there."""
+    form = WHY.Form()
+    for op, schema in form.steps.items():
+        parts = {key: part for key, part in schema["properties"].items() if key != "op"}
+        usual = {key: with_edges(part, "1") or ("true" if form.resolved(part)["type"] == "boolean" else '"61"') for key, part in parts.items()}
+        for key, part in parts.items():
+            for edge in EDGES:
+                value = with_edges(part, edge)
+                if value is not None:
+                    pairs = "".join(f',"{name}":{value if name == key else usual[name]}' for name in parts)
+                    yield FIRST[: FIRST.index('{"op":"move_pages"')] + '{"op":"%s"%s}]}' % (op, pairs)
+    for old in ['"version":1', '"nodes":[4', '"distance":[[10', '"distance":[[10,20']:
+        for edge in EDGES:
+            yield changed(old, re.sub("[0-9]+$", edge, old))
+            yield changed('"version":1', f'"version":2,"run_limit":{edge}')
+
+
+def check_edge(trace):
+    check_trace(trace.encode())
+
+
+# ---- all of it
+
+
+def tried(item):
+    """One check: what differs, or how the trace ended, with the seconds of the processor and the KiB that it took; the KiB are
+    the most that any check of this process has taken."""
+    check, argument = item
+    before = resource.getrusage(resource.RUSAGE_CHILDREN)
+    try:
+        ended_as = check(argument)
+    except (Fault, OSError) as differs:
+        return str(differs), None, 0, 0
+    used = resource.getrusage(resource.RUSAGE_CHILDREN)
+    seconds = used.ru_utime + used.ru_stime - before.ru_utime - before.ru_stime
+    fault = None
+    if used.ru_maxrss > (MOST_KIB_OF_HEAVY if check is check_heavy else MOST_KIB):
+        fault = f"{used.ru_maxrss * 1024 // 1000000} MB of memory"
+    elif seconds > MOST_SECONDS and check not in (check_table, check_streams, check_memory):
+        fault = f"{seconds:.1f} seconds"
+    return fault, ended_as, seconds, used.ru_maxrss
+
+
+def check_streams(_):
+    check_reader()
+    check_writer(FIRST.encode(), FIRST_REPORT, range(len(FIRST_REPORT) + 1))
+    steps = [{"op": "vmstat"}] * 5000
+    report = b"".join(b"%d vmstat pgmigrate_success 0 pgmigrate_fail 0\n" % k for k in range(5000))
+    check_writer(trace_of([1], steps), report, [*range(0, len(report), 4099), 65535, 65536, 65537, len(report)])
+    check_closed_writers()
+
+
+def within(data, most, words):
+    """Status, standard output and standard error with so many bytes of addresses."""
+    ran = subprocess.run([SETTINGS["program"], *words], input=data, capture_output=True, timeout=MOST_WAIT, check=False,
+                         preexec_fn=lambda: resource.setrlimit(resource.RLIMIT_AS, (most, most)))
+    return ran.returncode, ran.stdout, ran.stderr
+
+
+def check_memory(_):
+    """Little memory, so that threads are refused, and then the trace itself: the whole report, or a front with as many steps
+    as are told."""
+    with tempfile.TemporaryDirectory() as there:
+        paths = [os.path.join(there, "trace"), os.path.join(there, "report")]
+        subprocess.run([os.path.join(ROOT, "tests/long_run.py"), *paths], check=True)
+        data, report = (open(path, "rb").read() for path in paths)
+    ends = set()
+    for most in [*range(8192, 28672, 256), *range(32768, 655360, 32768)]:
+        status, out, err = within(data, most << 10, ["--workers", "64"])
+        lines = out.count(b"\n")
+        refused = (3, f"numatrace: host memory refused after {lines} steps\n".encode())
+        if (status, err) not in ((0, b""), refused) or (out != report if status == 0 else not report.startswith(out)):
+            raise Fault(f"with {most} KiB: status {status}, {len(out)} bytes and {err[:200]!r}")
+        ends.add(status)
+    if ends != {0, 3}:
+        raise Fault(f"memory was refused never or always: {ends}")
+
+
+def check_table(_):
+    check_bad()
+
+
+def parts():
+    """Each part: its name, its checks, and how many of them one process makes."""
+    fronts = [(check_front, length) for length in range(len(FIRST))]
+    great = [(check_great, make) for make in (whole_nodes, whole_batches, whole_table)]
+    yield "table and streams", [(check_table, None), (check_streams, None), (check_memory, None)], 1
+    yield "fronts", fronts, None
+    yield "edges", [(check_edge, trace) for trace in edges()], None
+    yield "greatest", great + [(check_long, shape) for shape in LONG] + [(check_heavy, shape) for shape in HEAVY], 1
+    yield "mutated", [(check_mutated, number) for number in range(MUTATED)], None
+
+
+def run_part(name, checks, most):
+    """Makes the checks of a part side by side. Ends where one fails."""
+    begun = time.monotonic()
+    with multiprocessing.Pool(maxtasksperchild=most) as pool:
+        results = pool.map(tried, checks, chunksize=1 if most else max(1, min(50, len(checks) // 16)))
+    for (check, argument), (fault, *_) in zip(checks, results):
+        if fault:
+            sys.exit(f"tests/hostile.py: {check.__name__}, {str(argument)[:300]}: {fault}")
+    ends = collections.Counter(str(ended_as) for _, ended_as, _, _ in results)
+    longest_run, most_memory = (max(result[place] for result in results) for place in (2, 3))
+    return (f"{name}: {len(checks)} in {time.monotonic() - begun:.1f} s, none over {longest_run:.1f} s of the processor and "
+            f"{most_memory * 1024 // 1000000} MB; {dict(ends)}")
+
+
+def main():
+    words = argparse.ArgumentParser(description=__doc__.split("\n", maxsplit=1)[0])
+    words.add_argument("program", nargs="?", default=PROGRAM)
+    words.add_argument("--times", action="store_true", help="tell what each part took")
+    words.add_argument("--trace", type=int, help="write the mutated trace of this number, and play none")
+    words.add_argument("--part", help="make this part alone")
+    asked = words.parse_args()
+    traces = sorted(glob.glob(os.path.join(ROOT, "examples/*.json")) + glob.glob(os.path.join(ROOT, "tests/traces/*.json")))
+    SETTINGS["program"] = os.path.abspath(asked.program)
+    SETTINGS["texts"] = [text_of(path) for path in traces if os.path.getsize(path) < 20000]
+    if asked.trace is not None:
+        sys.stdout.buffer.write(mutated(asked.trace, SETTINGS["texts"]))
+        return
+    if not os.access(SETTINGS["program"], os.X_OK):
+        sys.exit(f"tests/hostile.py: there is no program {asked.program}: ./build makes it")
+    for name, checks, most in parts():
+        if asked.part in (None, name):
+            line = run_part(name, checks, most)
+            if asked.times:
+                print(line, flush=True)
+
+
+if __name__ == "__main__":
+    main()
