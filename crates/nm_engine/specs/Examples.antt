@@ -7,6 +7,7 @@ pub mod Letting
 pub mod Deciding
 pub mod Setting
 pub mod Starts
+pub mod Undoing
 use Rattle.std.specs.Prelude.{ℕ, ◌/◌, ℤ, Bool, true, false, List, [], ◌∷◌, map, Option}
 use Rattle.nm_types.specs.Layout.{Layout}
 use Rattle.nm_types.specs.State.{State}

@@ -9,6 +9,7 @@ ghost use Rattle.nm_engine.specs.Examples.Starts.{StartsAreSound};
 ghost use Rattle.nm_engine.specs.Examples.Moving.{ThreePagesMove, MovedPageReads, EmptyBatchDoesNothing, OnePageTwiceMovesOnce, ShortageStopsTwoOfFour, LaterRunTakesFrameOfEarlier, EarlierRunFindsNone, PageGoesAndComesHome};
 ghost use Rattle.nm_engine.specs.Examples.Sharing.{TwoAddressesAreOneProcess, SharedPageStays, SharedPageIsOnTarget, SharedPageMovesForBoth};
 ghost use Rattle.nm_engine.specs.Examples.Letting.{OnlyTheMovingPageIsHeld, EachHasItsStatus, PinnedPageKeepsItsArea, UnmappedPagesAreFree, LastAreaFreesThePage};
+ghost use Rattle.nm_engine.specs.Examples.Undoing.{TouchesAreTakenBack, SharedPageKeepsItsFrame};
 ghost use Rattle.nm_engine.specs.Examples.Setting.{MiddlePageIsSplitOff, NewPagesFollowThePolicy, LengthsRoundUp, AreasAreNotMerged, OthersKeepTheirAreas, RangesAreRefused};
 ghost use Rattle.nm_engine.specs.Examples.Deciding.{NodesAreOrderedByDistance, PolicyOrdersTheNodes, PlanResolvesRepeats, PlanWithoutFrames, PlanWithoutRequests};
 
@@ -99,6 +100,12 @@ pub fn pages_live_while_covered()
     ensures pinned_page_keeps_its_area { PinnedPageKeepsItsArea }
     ensures unmapped_pages_are_free { UnmappedPagesAreFree }
     ensures last_area_frees_the_page { LastAreaFreesThePage }
+{}
+
+/// Worked examples of touches that are taken back.
+pub fn touches_are_taken_back()
+    ensures touches_are_taken_back { TouchesAreTakenBack }
+    ensures shared_page_keeps_its_frame { SharedPageKeepsItsFrame }
 {}
 
 /// Worked examples of policies that are set for a range of addresses.
