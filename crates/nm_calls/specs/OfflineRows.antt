@@ -65,7 +65,9 @@ PinnedPageKeepsItsNode =
 
 -- three pages on node 0 of three, the second pinned; node 1 has one frame
 abbrev pub three_on_narrow : State
-three_on_narrow = pin (wrote (wrote (wrote (map_new (spawn (new_machine narrow) 1 100 0 (0 ∷ 1 ∷ 2 ∷ []) false) 1 A 3 false) 1 A 0x61) 1 B 0x62) 1 C 0x63) 1 B
+three_on_narrow =
+    let s = map_new (spawn (new_machine narrow) 1 100 0 (0 ∷ 1 ∷ 2 ∷ []) false) 1 A 3 false in
+    pin (wrote (wrote (wrote s 1 A 0x61) 1 B 0x62) 1 C 0x63) 1 B
 
 -- what node 1 has no room for goes to node 2, but not what is pinned; and between the two passes
 abbrev pub PassesGoByDistance : Type 0

@@ -12,6 +12,7 @@ use crate::call::{
 use crate::call_error::CallError;
 use crate::system::System;
 use nm_crew::Gate;
+use nm_types::NodeId;
 use std::alloc::Allocator;
 use std::sync::Wait;
 use std::thread::Threads;
@@ -140,6 +141,30 @@ fn mbind<R: Threads + Wait + Sync, A: Allocator + Copy + Send + Sync, G: Gate + 
     Ok(Answer::Failed(0))
 }
 
+/// Takes a node offline.
+fn offline<R: Threads + Wait + Sync, A: Allocator + Copy + Send + Sync, G: Gate + Sync>(
+    rt: &R,
+    system: &mut System<A>,
+    node: NodeId,
+    gate: &G,
+) -> Result<Answer<A>, CallError>
+    ensures { Does answer_of result system.old system.new (calls.Offline node) }
+{
+    system.offline(rt, node, gate)?;
+    Ok(Answer::Done)
+}
+
+/// Brings a node online.
+fn online<A: Allocator + Copy + Send + Sync>(
+    system: &mut System<A>,
+    node: NodeId,
+) -> Result<Answer<A>, CallError>
+    ensures { Does answer_of result system.old system.new (calls.Online node) }
+{
+    system.online(node)?;
+    Ok(Answer::Done)
+}
+
 /// Asks where pages are.
 fn query<A: Allocator + Copy + Send + Sync>(
     system: &System<A>,
@@ -201,14 +226,8 @@ impl<A: Allocator + Copy + Send + Sync> System<A> {
                 rt, self, request, gate,
             )?)),
             Call::Mbind(request) => mbind(rt, self, request, gate),
-            Call::Offline { node } => {
-                self.offline(rt, *node, gate)?;
-                Ok(Answer::Done)
-            }
-            Call::Online { node } => {
-                self.online(*node)?;
-                Ok(Answer::Done)
-            }
+            Call::Offline { node } => offline(rt, self, *node, gate),
+            Call::Online { node } => online(self, *node),
             Call::Query(question) => Ok(Answer::Statuses(query(self, question)?)),
             Call::FreeList { node } => Ok(Answer::Frames(self.free_list(*node)?)),
             Call::Pagemap { pid } => Ok(Answer::Entries(self.pagemap(*pid)?)),
