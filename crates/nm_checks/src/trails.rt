@@ -30,14 +30,12 @@ enum Asking {
 }
 
 /// Three nodes, the second of so many frames and the others of four, each at distance 20 from the others.
-fn three_nodes(heap: Heap<'_>, second: u32) -> Result<System<Heap<'_>>, AllocError> {
-    let rows = vec![in heap;
-        vec![in heap; 10u8, 20u8, 20u8]?,
-        vec![in heap; 20u8, 10u8, 20u8]?,
-        vec![in heap; 20u8, 20u8, 10u8]?,
-    ]?;
-    let sizes = vec![in heap; 4u32, second, 4u32]?;
-    match Geometry::new(sizes, rows) {
+fn three_nodes(heap: Heap<'_>, frames: u32) -> Result<System<Heap<'_>>, AllocError> {
+    let first = vec![in heap; 10u8, 20u8, 20u8]?;
+    let second = vec![in heap; 20u8, 10u8, 20u8]?;
+    let third = vec![in heap; 20u8, 20u8, 10u8]?;
+    let sizes = vec![in heap; 4u32, frames, 4u32]?;
+    match Geometry::new(sizes, vec![in heap; first, second, third]?) {
         Ok(geometry) => System::new(heap, geometry, 2),
         Err(_) => Err(AllocError),
     }
@@ -94,26 +92,38 @@ fn spread(
     Ok(())
 }
 
+/// The system on which a call is made, new.
+fn system_for(heap: Heap<'_>, asking: Asking) -> Result<System<Heap<'_>>, AllocError> {
+    match asking {
+        Asking::FromNodes => three_nodes(heap, 4),
+        Asking::Bound => three_nodes(heap, 1),
+        _ => two_nodes(heap),
+    }
+}
+
+/// Makes processes and pages for the call.
+fn prepare(
+    rt: &(impl Threads + Wait + Sync),
+    system: &mut System<Heap<'_>>,
+    asking: Asking,
+) -> Result<(), CallError> {
+    match asking {
+        Asking::Three => fill(system, both_nodes(), 3),
+        Asking::Shared => share(system),
+        Asking::SharedByAll => share(system),
+        Asking::FromNodes => spread(rt, system),
+        Asking::Bound => fill(system, all_nodes(), 2),
+    }
+}
+
 /// The system on which a call is made.
 fn begin<'a>(
     rt: &(impl Threads + Wait + Sync),
     heap: Heap<'a>,
     asking: Asking,
 ) -> Result<System<Heap<'a>>, CallError> {
-    let mut system = match asking {
-        Asking::Three => two_nodes(heap)?,
-        Asking::Shared => two_nodes(heap)?,
-        Asking::SharedByAll => two_nodes(heap)?,
-        Asking::FromNodes => three_nodes(heap, 4)?,
-        Asking::Bound => three_nodes(heap, 1)?,
-    };
-    match asking {
-        Asking::Three => fill(&mut system, both_nodes(), 3)?,
-        Asking::Shared => share(&mut system)?,
-        Asking::SharedByAll => share(&mut system)?,
-        Asking::FromNodes => spread(rt, &mut system)?,
-        Asking::Bound => fill(&mut system, all_nodes(), 2)?,
-    }
+    let mut system = system_for(heap, asking)?;
+    prepare(rt, &mut system, asking)?;
     Ok(system)
 }
 
