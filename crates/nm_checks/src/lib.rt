@@ -6,11 +6,15 @@ mod areas;
 #[cfg(test)]
 mod batches;
 #[cfg(test)]
+mod bindings;
+#[cfg(test)]
 mod gates;
 #[cfg(test)]
 mod limits;
 #[cfg(test)]
 mod machine;
+#[cfg(test)]
+mod migrations;
 #[cfg(test)]
 mod plain;
 #[cfg(test)]
@@ -25,5 +29,3 @@ mod same_calls;
 mod tables;
 #[cfg(test)]
 mod traces;
-#[cfg(test)]
-mod trails;

@@ -508,13 +508,11 @@ fn reads_16777216_bytes(rt: HostRuntime) -> Result<(), Fail> {
     Ok(())
 }
 
-/// A writer that takes a byte a call, and after so many calls fails or takes none: what it took is a front of the report, and
-/// all of it where it takes all.
 #[test]
 fn fails_with_its_writer(rt: HostRuntime) -> Result<(), Fail> {
     let alloc = rt.alloc();
     let words = no_words(alloc)?;
-    for calls in 0..=REPORT.len() {
+    for calls in 0..REPORT.len() {
         for fails in [false, true] {
             let mut out = Narrow {
                 taken: Vec::new(alloc),
@@ -532,14 +530,8 @@ fn fails_with_its_writer(rt: HostRuntime) -> Result<(), Fail> {
                 &mut out,
                 &mut err,
             );
-            let whole = calls == REPORT.len();
-            let told = if whole {
-                b"".as_slice()
-            } else {
-                b"numatrace: write fault\n".as_slice()
-            };
-            assert_eq!(rt; status, if whole { 0 } else { 4 });
-            assert_eq!(rt; err.as_slice(), told);
+            assert_eq!(rt; status, 4);
+            assert_eq!(rt; err.as_slice(), b"numatrace: write fault\n".as_slice());
             assert!(rt; REPORT.as_bytes().starts_with(out.taken.as_slice()));
             assert_eq!(rt; out.taken.len(), calls);
         }
