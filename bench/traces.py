@@ -46,9 +46,14 @@ def read(address, pid=1):
     return '{"op":"read","pid":%d,"addr":%d,"len":1}' % (pid, address)
 
 
-def move(addresses, nodes, caller=1, pid=0, flags=2):
-    form = '{"op":"move_pages","caller":%d,"pid":%d,"pages":%s,"nodes":%s,"flags":%d}'
-    return form % (caller, pid, addresses, nodes, flags)
+def move(addresses, nodes, caller=1, pid=0, flags=2, more=""):
+    form = '{"op":"move_pages","caller":%d,"pid":%d,"pages":%s,"nodes":%s,"flags":%d%s}'
+    return form % (caller, pid, addresses, nodes, flags, more)
+
+
+def during(accesses):
+    """The key of accesses in flight, each a run and the step that it is as."""
+    return ',"during":[%s]' % ",".join('{"run":%d,%s' % (run, step[1:]) for run, step in accesses)
 
 
 def move_to(addresses, node):
@@ -199,6 +204,33 @@ def many_runs(size):
     return trace([8192, 8192], steps)
 
 
+def accesses_in_a_run(size):
+    """One run of 4,096 pages with so many thousand accesses in flight: in turn a read of a page that moves, which is held, and
+    a read and a write of one of 1,024 pages that stay."""
+    pages = [BASE + PAGE * page for page in range(5120)]
+    steps = [map_step(BASE, 5120)] + [write(page) for page in pages]
+    accesses = []
+    for number in range(size * 1000):
+        stays = pages[4096 + number * 7919 % 1024]
+        accesses.append((0, [read(pages[number * 7919 % 4096]), read(stays), write(stays)][number % 3]))
+    return trace([8192, 8192], steps + [move(pages[:4096], [1] * 4096, more=during(accesses))])
+
+
+def accesses_in_many_runs(size):
+    """One batch of so many thousand pages whose entries name two nodes in turn, so that each is a run of its own, with 16
+    accesses in flight in each, in no order of runs: in turn a read of a page that moves, which is held, and a read and a
+    write of one of 64 pages that stay."""
+    count = size * 1000
+    pages, stay = ([BASE + PAGE * page for page in part] for part in (range(count), range(count, count + 64)))
+    steps = [map_step(BASE, count + 64)] + [write(page) for page in pages + stay]
+    steps.append(move(pages, [page % 2 for page in range(count)]))
+    accesses = []
+    for number in range(16 * count):
+        run, stays = number * 7919 % count, stay[number % 64]
+        accesses.append((run, [read(pages[run]), read(stays), write(stays)][number % 3]))
+    return trace([8192, 8192], steps + [move(pages, [(page + 1) % 2 for page in range(count)], more=during(accesses))])
+
+
 def shared_by(count):
     """A shared segment of 64 pages that process 1 maps and writes, and so many others attach and read, and the pages'
     addresses. Process 1000 is privileged and has nothing."""
@@ -321,6 +353,8 @@ KINDS = {
     evacuated_node: 1,
     many_areas: 7,
     many_runs: 4,
+    accesses_in_a_run: 16,
+    accesses_in_many_runs: 1,
     shared_moves: 50,
     sharers: 25,
     churn: 5,

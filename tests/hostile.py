@@ -71,8 +71,8 @@ def play(data, words=()):
 
 
 def is_report(out, steps):
-    """Whether lines are those of these steps: one for each, behind that of numa_maps as many as it says, and behind others
-    those of accesses in flight."""
+    """Whether lines are those of these steps: one for each, behind that of numa_maps as many as it says, and behind that of a
+    batch that is not refused one for each access in flight."""
     lines = out.decode("ascii", "replace").split("\n")
     at = 0
     for k, step in enumerate(steps):
@@ -82,8 +82,11 @@ def is_report(out, steps):
         at += 1
         if step["op"] == "numa_maps" and words[2] != "error":
             at += int(words[2])
-        while at < len(lines) and lines[at].startswith(f"{k}."):
-            at += 1
+        if step["op"] == "move_pages" and words[2] != "error":
+            wanted = [[f"{k}.{j}", access["op"]] for j, access in enumerate(step.get("during", []))]
+            if [line.split(" ")[:2] for line in lines[at : at + len(wanted)]] != wanted:
+                return False
+            at += len(wanted)
     return lines[at:] == [""]
 
 
@@ -132,6 +135,19 @@ BAD = [
     ('"addr":65536', '"addr":18446744073709551616', "bad step 1"),
 ]
 
+# What stands in `during` of the first example's batch, which has one run: bad steps all.
+DURING = [
+    "null", "{}", "7", "[7]", "[null]", "[[]]", "[{}]", '[{"op":"pin","pid":1,"addr":65536,"run":0}]',
+    '[{"pid":1,"addr":65536,"len":1,"run":0}]', '[{"op":"read","addr":65536,"len":1,"run":0}]', '[{"op":"read","pid":1,"len":1,"run":0}]',
+    '[{"op":"read","pid":1,"addr":65536,"run":0}]', '[{"op":"read","pid":1,"addr":65536,"len":1}]',
+    '[{"op":"write","pid":1,"addr":65536,"len":1,"run":0}]', '[{"op":"write","pid":1,"addr":65536,"data":"6","run":0}]',
+    '[{"op":"write","pid":1,"addr":65536,"data":"6g","run":0}]', '[{"op":"read","pid":1,"addr":65536,"len":1,"run":null}]',
+    '[{"op":"read","pid":1,"addr":65536,"len":1,"run":-1}]', '[{"op":"read","pid":1,"addr":65536,"len":1,"run":0.0}]',
+    '[{"op":"read","pid":1,"addr":65536,"len":1,"run":1}]', '[{"op":"read","pid":1,"addr":65536,"len":1,"run":18446744073709551615}]',
+    '[{"op":"read","pid":1,"addr":65536,"len":1,"run":18446744073709551616}]',
+    '[{"op":"read","pid":1,"addr":65536,"len":1,"run":0},{"op":"read","pid":1,"addr":65536,"len":1,"run":1}]',
+]
+
 # Whole traces and their faults.
 WHOLE = [
     (b"", "not JSON"),
@@ -146,6 +162,8 @@ WHOLE = [
 
 def check_bad():
     """The faults of a trace, and an address that is none; a trace of the greatest length, and one that is longer."""
+    for during in DURING:
+        WHOLE.append((changed('"flags":2', '"flags":2,"during":' + during).encode(), "bad step 5"))
     for old, new, fault in BAD:
         WHOLE.append((changed(old, new).encode(), fault))
     for data, fault in WHOLE:
@@ -297,7 +315,7 @@ def twice(rng, text, _):
 def note(rng, text, _):
     """A key that is ignored."""
     match = rng.choice(list(re.finditer(r"\{", text)))
-    return put(text, match, '{"%s":%s,' % (rng.choice(["note", "during", "Op", "op ", ""]), rng.choice(ODD)))
+    return put(text, match, '{"%s":%s,' % (rng.choice(["note", "During", "Op", "op ", ""]), rng.choice(ODD)))
 
 
 def other_op(rng, text, _):
@@ -321,6 +339,15 @@ def other_steps(rng, text, others):
         return text
 
 
+def in_flight(rng, text, others):
+    """Accesses in flight of a batch: reads and writes of the trace or another one, good or nearly so."""
+    flags = rng.choice(list(re.finditer(r'"flags":[0-9]+', text)))
+    found = re.findall(r'\{"op":"(?:read|write)","pid":[^{}]*\}', text + rng.choice(others))
+    made = [access[:-1] + f',"run":{rng.choice(["0", "0", "0", "0", "1", "2", rng.choice(ODD)])}}}' for access in found if rng.random() < 0.9]
+    made = rng.sample(made, min(len(made), rng.choice([0, 1, 2, 3, 8]))) + rng.choice([[], [], [], [rng.choice(ODD)]])
+    return put(text, flags, flags[0] + f',"during":[{",".join(made)}]')
+
+
 def spelt(rng, text, _):
     """A letter of a text by its number, or white space between tokens."""
     match = rng.choice(list(TOKEN.finditer(text)))
@@ -340,7 +367,7 @@ def broken(rng, text, others):
     return text[:at] if rng.random() < 0.1 else text[:at] + into + text[end:]
 
 
-MUTATIONS = [odd_value] * 5 + [near_number] * 4 + [other_steps] * 4 + [twice] * 2
+MUTATIONS = [odd_value] * 5 + [near_number] * 4 + [other_steps] * 4 + [twice] * 2 + [in_flight] * 2
 MUTATIONS += [other_key, without_pair, note, other_op, spelt, broken]
 
 
@@ -421,6 +448,21 @@ def whole_batches():
     return trace_of([8192, 8192], steps + ended(1), version=2, run_limit=1)
 
 
+def whole_flight():
+    """16,384 runs of one entry with 200,000 accesses in flight in no order of runs, and then one run with held accesses, those
+    of pages without a frame until none is left, and refused ones."""
+    pages = [65536 + 4096 * page for page in range(8192)]
+    steps = [spawn(1, 2), *filled(1, 8192), {"op": "map", "pid": 1, "addr": 1 << 32, "pages": 1 << 20}]
+    reads = [{"op": "read", "pid": 1, "addr": pages[k % 8192], "len": 1, "run": k * 7919 % 16384} for k in range(200000)]
+    steps.append(batch("move_pages", [address for address in pages for _ in range(2)], nodes=[1, 0] * 8192, during=reads))
+    touch = {"pid": 1, "run": 0, "len": 1, "data": "61"}
+    far = [{**touch, "op": op, "addr": (1 << 32) + 4096 * 97 * k} for op in ("read", "write") for k in range(9000)]
+    held = [{"op": "write", "pid": 1, "addr": address, "data": "62", "run": 0} for address in pages]
+    lost = [{"op": "read", "pid": pid, "addr": 4096, "len": 1, "run": 0} for pid in (1, 2)]
+    steps.append(batch("move_pages", pages[:4096], nodes=[1] * 4096, during=held + far + lost))
+    return trace_of([8193, 8191], steps + ended(1))
+
+
 def whole_table():
     """1,024 processes that all see 60 pages of one segment, which move with all of them, and go one after another; one process
     more is refused."""
@@ -444,6 +486,9 @@ def longest(front, piece, back):
 NOTE = FIRST.encode()[:-1] + b',"note":'
 SMALL = b'{"version":1,"machine":{"nodes":[1],"distance":[[10]]},"steps":['
 
+BATCH = b'{"op":"move_pages","caller":1,"pid":0,"pages":[0],"nodes":[0],"flags":2,"during":['
+READ = b'{"run":0,"op":"read","pid":1,"addr":0,"len":1}'
+
 # Traces as long as a trace may be, in the shapes that take most of a reader: front, piece, back, and what is to be said.
 LONG = [
     (NOTE + b"[[]", b",[]", b"]}", "good"),
@@ -466,6 +511,9 @@ LONG = [
     (SMALL, b'{"op":"vmstat"},', b"0]}", "bad step {pieces}"),
     (SMALL + b'{"op":"vmstat"}', b',{"op":"vmstat"}', b"]}", "good"),
     (SMALL + b'{"op":"vmstat"}', b',{"op":"exit","pid":0}', b"]}", "good"),
+    (SMALL + BATCH + READ, b"," + READ, b"]}]}", "good"),
+    (SMALL + BATCH + READ, b"," + READ, b",0]}]}", "bad step 0"),
+    (SMALL + json.dumps(spawn(1, 1)).encode() + b"," + BATCH + READ, b"," + READ, b"]}]}", "good"),
     (b'{"version":1,"machine":{"nodes":[1],"distance":[[10]', b",[10]", b']},"steps":[]}', "bad machine"),
     (b'{"version":1,"machine":{"nodes":[1', b",1", b'],"distance":[[10]]},"steps":[]}', "bad machine"),
 ]
@@ -504,23 +552,38 @@ def with_edges(schema, edge):
     """A value that fits a part of the schema, with the number at its edge in it, or None where it takes no number."""
     if "$ref" in schema:
         return with_edges(WHY.Form().resolved(schema), edge)
-    if schema["type"] == "integer":
-        return edge
-    return f"[{with_edges(schema['items'], edge)}]" if schema["type"] == "array" else None
+    if "oneOf" in schema or schema["type"] != "array":
+        return edge if schema.get("type") == "integer" else None
+    item = with_edges(schema["items"], edge)
+    return item and f"[{item}]"
+
+
+def usual(schema):
+    """A value that fits a part of the schema."""
+    schema = WHY.Form().resolved(schema)
+    return with_edges(schema, "1") or {"boolean": "true", "string": '"61"', "array": "[]"}[schema["type"]]
+
+
+def edges_of(op, schema):
+    """An object of this op for each of its fields and each number at an edge."""
+    parts = {key: part for key, part in schema["properties"].items() if key != "op"}
+    for key, part in parts.items():
+        for edge in EDGES:
+            value = with_edges(part, edge)
+            if value is not None:
+                pairs = "".join(f',"{name}":{value if name == key else usual(other)}' for name, other in parts.items())
+                yield '{"op":"%s"%s}' % (op, pairs)
 
 
 def edges():
     """For each field of each step, and each number at an edge, a trace that has the number there."""
-    form = WHY.Form()
+    form, front = WHY.Form(), FIRST[: FIRST.index('{"op":"move_pages"')]
     for op, schema in form.steps.items():
-        parts = {key: part for key, part in schema["properties"].items() if key != "op"}
-        usual = {key: with_edges(part, "1") or ("true" if form.resolved(part)["type"] == "boolean" else '"61"') for key, part in parts.items()}
-        for key, part in parts.items():
-            for edge in EDGES:
-                value = with_edges(part, edge)
-                if value is not None:
-                    pairs = "".join(f',"{name}":{value if name == key else usual[name]}' for name in parts)
-                    yield FIRST[: FIRST.index('{"op":"move_pages"')] + '{"op":"%s"%s}]}' % (op, pairs)
+        for step in edges_of(op, schema):
+            yield front + step + "]}"
+    for op, schema in form.ops(form.top["$defs"]["access"]).items():
+        for access in edges_of(op, schema):
+            yield changed('"nodes":[1,1,1],"flags":2', '"nodes":[1,0,1],"flags":2,"during":[%s]' % access)
     for old in ['"version":1', '"nodes":[4', '"distance":[[10', '"distance":[[10,20']:
         for edge in EDGES:
             yield changed(old, re.sub("[0-9]+$", edge, old))
@@ -579,8 +642,8 @@ def check_memory(_):
     ends = set()
     for most in [*range(8192, 28672, 256), *range(32768, 655360, 32768)]:
         status, out, err = within(data, most << 10, ["--workers", "64"])
-        lines = out.count(b"\n")
-        refused = (3, f"numatrace: host memory refused after {lines} steps\n".encode())
+        made = sum(b"." not in line.split(b" ")[0] for line in out.split(b"\n")[:-1])
+        refused = (3, f"numatrace: host memory refused after {made} steps\n".encode())
         if (status, err) not in ((0, b""), refused) or (out != report if status == 0 else not report.startswith(out)):
             raise Fault(f"with {most} KiB: status {status}, {len(out)} bytes and {err[:200]!r}")
         ends.add(status)
@@ -595,7 +658,7 @@ def check_table(_):
 def parts():
     """Each part: its name, its checks, and how many of them one process makes."""
     fronts = [(check_front, length) for length in range(len(FIRST))]
-    great = [(check_great, make) for make in (whole_nodes, whole_batches, whole_table)]
+    great = [(check_great, make) for make in (whole_nodes, whole_batches, whole_flight, whole_table)]
     yield "table and streams", [(check_table, None), (check_streams, None), (check_memory, None)], 1
     yield "fronts", fronts, None
     yield "edges", [(check_edge, trace) for trace in edges()], None

@@ -12,6 +12,7 @@ import xml.etree.ElementTree as ElementTree
 from collections import Counter, namedtuple
 
 ROOT = os.path.dirname(os.path.dirname(os.path.abspath(__file__)))
+NO_SQUARES = ("zeros", "flight")
 SHOWN = "docs/chain_of_nodes.svg", "examples/chain_of_nodes"
 Box = namedtuple("Box", "left top right bottom")
 Square = namedtuple("Square", "box kind tip")
@@ -51,6 +52,13 @@ DRAWN = [
          "free frame 2: free, number 1 of its node's list", "free frame 3: free, number 2 of its node's list",
          "free frame 4: free, number 3 of its node's list",
          "free frame 0: free, number 2 of its node's list", "free frame 1: free, number 1 of its node's list", "nothing"]),
+    # Lines of accesses in flight belong to their batch, and part no moment more than it does.
+    ("0 free 2: 0 1\n1 move_pages 0: 1\n1.0 read held\n1.1 write ok\n1.2 read 0aff\n1.3 write error ENOMEM\n2 free 2: 1 0\n",
+     '{"op":"free","node":0},{"op":"move_pages","caller":1,"pid":0,"pages":[0],"nodes":[1],"flags":2,"during":['
+     '{"run":0,"op":"read","pid":1,"addr":0,"len":1},{"run":0,"op":"write","pid":1,"addr":0,"data":"61"},'
+     '{"run":0,"op":"read","pid":1,"addr":0,"len":2},{"run":0,"op":"write","pid":1,"addr":0,"data":"61"}]},{"op":"free","node":0}', [
+         "free frame 0: free, number 1 of its node's list", "free frame 1: free, number 2 of its node's list", "nothing",
+         "free frame 0: free, number 2 of its node's list", "free frame 1: free, number 1 of its node's list", "nothing"]),
     # A page's number stands in its square where there is room for it.
     ("0 pagemap 1: 7fffffffe000=16383\n", None, ["held frame 16383: page 7fffffffe of the process of step 0"]),
     # A refused look tells nothing.
@@ -87,7 +95,29 @@ BAD = [
     ("0 pagemap 2: 00011000=1 00010000=2\n", "line 1: the entries do not go up"),
     ("0 pagemap 2: 00010000=1 00010000=2\n", "line 1: the entries do not go up"),
     ("0 free 1: 3\n1 pagemap 1: 00010000=3\n", "steps 0 to 1: frame 3 is both free and held"),
+    ("0.0 read held\n", "line 1: wanted is the line of step 0"),
+    ("0 read 61\n0.0 read held\n", "line 2: wanted is the line of step 1"),
+    ("0 migrate_pages 0\n0.0 read held\n", "line 2: wanted is the line of step 1"),
+    ("0 move_pages error ENODEV\n0.0 read held\n", "line 2: wanted is the line of step 1"),
+    ("0 move_pages 0: 1\n1.0 read held\n", "line 2: wanted is the line of step 1"),
+    ("0 move_pages 0: 1\n0.1 read held\n", "line 2: wanted is the line of step 1"),
+    ("0 move_pages 0: 1\n0.00 read held\n", "line 2: wanted is the line of step 1"),
+    ("0 move_pages 0: 1\n0.0 read held\n0.0 read held\n", "line 3: wanted is the line of step 1"),
+    ("0 move_pages 0: 1\n0.0 read held\n0.2 read held\n", "line 3: wanted is the line of step 1"),
+    ("0 move_pages 0: 1\n0.0 read held\n1 vmstat x\n0.1 read held\n", "line 4: wanted is the line of step 2"),
+    ("0 move_pages 0: 1\n0.0 read ok\n", "line 2: wanted is the line of step 1"),
+    ("0 move_pages 0: 1\n0.0 read 6\n", "line 2: wanted is the line of step 1"),
+    ("0 move_pages 0: 1\n0.0 read 6A\n", "line 2: wanted is the line of step 1"),
+    ("0 move_pages 0: 1\n0.0 read \n", "line 2: wanted is the line of step 1"),
+    ("0 move_pages 0: 1\n0.0 write 61\n", "line 2: wanted is the line of step 1"),
+    ("0 move_pages 0: 1\n0.0 write held \n", "line 2: wanted is the line of step 1"),
+    ("0 move_pages 0: 1\n0.0 pin ok\n", "line 2: wanted is the line of step 1"),
+    ("0 move_pages 0: 1\n0.0 write error\n", "line 2: wanted is the line of step 1"),
 ]
+
+FLIGHT = ('{"op":"move_pages","caller":1,"pid":0,"pages":[0],"nodes":[1],"flags":2,"during":[{"run":0,"op":"read","pid":1,"addr":0,"len":1},'
+          '{"run":0,"op":"write","pid":1,"addr":0,"data":"61"}]}')
+OTHERS = "line 1: the trace has other accesses in flight in step 0"
 
 # Reports that are not of the trace beside them.
 OTHER = [
@@ -97,6 +127,12 @@ OTHER = [
     ("0 free 1: 1\n", '{"op":"free","node":64}', "line 1: node 64 is none of the trace"),
     ("0 free 0:\n", '{"op":"free","node":2}', "line 1: node 2 is none of the trace"),
     ("0 pagemap 1: 00010000=5\n", '{"op":"pagemap","pid":1}', "line 1: frame 5 is none of the trace"),
+    ("0 move_pages 0: 1\n0.0 write held\n", FLIGHT, OTHERS),
+    ("0 move_pages 0: 1\n0.0 read held\n0.1 read held\n", FLIGHT, OTHERS),
+    ("0 move_pages 0: 1\n0.0 read held\n0.1 write held\n0.2 write held\n", FLIGHT, OTHERS),
+    ("0 move_pages 0: 1\n0.0 read held\n1 vmstat x\n", FLIGHT + ',{"op":"vmstat"}', OTHERS),
+    ("0 move_pages 0: 1\n1 vmstat x\n", FLIGHT + ',{"op":"vmstat"}', OTHERS),
+    ("0 move_pages 0: 1\n0.0 read held\n", FLIGHT.replace("during", "later"), OTHERS),
     ("0 free 0:\n", '{"op":"free"}', "TRACE: bad step 0: free: node is missing: wanted is a whole number from 0 to 4,294,967,295, "
      "in digits alone"),
 ]
@@ -132,7 +168,7 @@ def named(element, name):
 
 def squares_of(svg):
     """The squares of frames, and the boxes of which nothing is known."""
-    groups = [element for element in svg if named(element, "g") and element.get("class") != "zeros"]
+    groups = [element for element in svg if named(element, "g") and element.get("class") not in NO_SQUARES]
     boxes = [box_of_rect([part for part in group if named(part, "rect")][-1]) for group in groups]
     return [Square(box, group.get("class"), "" if named(group[0], "rect") else group[0].text) for box, group in zip(boxes, groups)]
 
@@ -173,7 +209,7 @@ def check_geometry(what, svg):
     check_apart(what, texts)
     check_apart(what, squares + free_texts)
     for group in svg:
-        if named(group, "g") and group.get("class") != "zeros":
+        if named(group, "g") and group.get("class") not in NO_SQUARES:
             around = box_of_rect([part for part in group if named(part, "rect")][-1])
             for box in [box_of_text(part) for part in group if named(part, "text")]:
                 if box.left < around.left or box.right > around.right or box.top < around.top or box.bottom > around.bottom:
@@ -351,6 +387,29 @@ def check_shared(there):
         fail(f"of a page of two processes and the page of zeros is told {told}")
 
 
+def check_flight(there):
+    """A column tells of the accesses in flight of the batch before it, and a tooltip of 20 of them."""
+    access = '{"run":0,"op":"read","pid":1,"addr":0,"len":40}'
+    batch = '{"op":"move_pages","caller":1,"pid":0,"pages":[0],"nodes":[1],"flags":2,"during":[%s]}'
+    looks = "".join(f"{k} free 2: 0 1\n{k + 1} move_pages 0: 1\n{lines}" for k, lines in [
+        (0, "1.0 read held\n1.1 read held\n1.2 read " + 40 * "61" + "\n"), (2, ""), (4, "5.0 read error ESRCH\n"),
+        (6, "".join(f"7.{j} read held\n" for j in range(1234)))])
+    steps = ",".join('{"op":"free","node":0},' + batch % ",".join([access] * count) for count in (3, 0, 1, 1234))
+    report = written(there, "flight.report", looks + "8 free 2: 0 1\n")
+    wanted = [("in flight: 3, held: 2", "1.0 read held, 1.1 read held, 1.2 read " + 25 * "61" + "6.."),
+              ("in flight: 1", "5.0 read error ESRCH"),
+              ("in flight: 1234, held: 1234", ", ".join(f"7.{j} read held" for j in range(20)) + ", and 1,214 more")]
+    for trace in (None, written(there, "flight.json", TWO_NODES % (steps + ',{"op":"free","node":0}'))):
+        svg = ElementTree.fromstring(picture.picture_of(report, trace))
+        check_geometry("accesses in flight", svg)
+        told = [(group[1].text, group[0].text) for group in svg if named(group, "g") and group.get("class") == "flight"]
+        if told != wanted:
+            fail(f"of accesses in flight is told {told}")
+    front = written(there, "front.report", looks[: looks.index("1.1 ")])
+    if len(squares_of(ElementTree.fromstring(picture.picture_of(front, trace)))) == 0:
+        fail("a report that ends among accesses in flight is not drawn")
+
+
 def check_most(there):
     """A picture has at most 200,000 squares."""
     text = "".join(f"{2 * k} free 1: {k}\n{2 * k + 1} write ok\n" for k in range(448))
@@ -404,6 +463,7 @@ def main():
         check_large(there)
         check_steps(there)
         check_shared(there)
+        check_flight(there)
         check_most(there)
         check_names(there)
         check_command(there)

@@ -16,6 +16,15 @@ SAME = [
     ('"version":1', '"version":1,"run_limit":"none"'),
     ('"version":1', '"version":2,"run_limit":1'),
     ('"version":1', '"version":2,"run_limit":16384'),
+    ('"flags":2', '"flags":2,"during":[]'),
+    ('"op":"free"', '"during":null,"op":"free"'),
+]
+
+# The same, where the program makes accesses in flight besides.
+MORE = [
+    ('"flags":2', '"flags":2,"during":[{"run":0,"op":"read","pid":1,"addr":65536,"len":1}]'),
+    ('"flags":2', '"flags":2,"during":[{"run":0,"op":"write","pid":4294967295,"addr":18446744073709551615,"data":"aF","len":null}]'),
+    ('"flags":2', '"during":[{"op":"read","pid":1,"addr":0,"len":0,"run":0,"data":6},{"op":"write","pid":1,"addr":0,"data":"","run":0}],"flags":2'),
 ]
 
 # The first example with one place changed, each of which the program tells of as a bad machine or a bad step.
@@ -52,6 +61,19 @@ FAULTS = [
     ('"flags":2', '"flags":4294967296'),
     ('"len":2', '"len":18446744073709551616'),
     ('"pages":[65536', '"pages":["65536"'),
+    ('"flags":2', '"flags":2,"during":null'),
+    ('"flags":2', '"flags":2,"during":{}'),
+    ('"flags":2', '"flags":2,"during":[7]'),
+    ('"flags":2', '"flags":2,"during":[{"run":0,"op":"vmstat"}]'),
+    ('"flags":2', '"flags":2,"during":[{"run":0,"op":"pin","pid":1,"addr":65536}]'),
+    ('"flags":2', '"flags":2,"during":[{"run":0,"pid":1,"addr":65536,"len":1}]'),
+    ('"flags":2', '"flags":2,"during":[{"op":"read","pid":1,"addr":65536,"len":1}]'),
+    ('"flags":2', '"flags":2,"during":[{"run":0,"op":"write","pid":1,"addr":65536,"len":1}]'),
+    ('"flags":2', '"flags":2,"during":[{"run":0,"op":"write","pid":1,"addr":65536,"data":"6"}]'),
+    ('"flags":2', '"flags":2,"during":[{"run":-1,"op":"read","pid":1,"addr":65536,"len":1}]'),
+    ('"flags":2', '"flags":2,"during":[{"run":0.0,"op":"read","pid":1,"addr":65536,"len":1}]'),
+    ('"flags":2', '"flags":2,"during":[{"run":18446744073709551616,"op":"read","pid":1,"addr":65536,"len":1}]'),
+    ('"flags":2', '"flags":2,"during":[{"run":0,"op":"read","pid":4294967296,"addr":65536,"len":1}]'),
 ]
 
 
@@ -132,7 +154,7 @@ def main():
             sys.exit("tests/schema.py: %s does not fit the schema: %s" % (os.path.relpath(path, ROOT), fault))
     with open(os.path.join(ROOT, "examples/three_pages.json"), encoding="utf-8") as file:
         text = file.read()
-    for old, new in SAME:
+    for old, new in SAME + MORE:
         if fault_of(schema, json.loads(text.replace(old, new, 1)), schema) is not None:
             sys.exit("tests/schema.py: the schema refuses %s for %s" % (new, old))
     for old, new in FAULTS:

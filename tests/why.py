@@ -25,6 +25,8 @@ OPS = (
     "pagemap, numa_maps, vmstat"
 )
 
+ACCESS = "wanted is one of read, write"
+
 # The first example with one place changed, and what is said of it.
 CHANGED = [
     ('"version":1', '"version":2,"version":1', "good"),
@@ -93,7 +95,7 @@ CHANGED = [
     ('"op":"spawn"', '"op":"fork"', 'bad step 0: op is "fork": ' + OPS),
     ('"op":"spawn"', '"op":"u32"', 'bad step 0: op is "u32": ' + OPS),
     ('"op":"spawn"', '"op":["spawn"]', "bad step 0: op is a list: " + OPS),
-    ('"op":"spawn",', "", "bad step 0: op is missing: wanted is the name of a step"),
+    ('"op":"spawn",', "", "bad step 0: op is missing: " + OPS),
     ('"uid":100', '"uid":4294967296', "bad step 0: spawn: uid is 4294967296: " + U32),
     ('"uid":100', '"uid":-0', "bad step 0: spawn: uid is -0: " + U32),
     ('"uid":100', '"uid":1e2', "bad step 0: spawn: uid is 1e2: " + U32),
@@ -116,6 +118,13 @@ CHANGED = [
     ('"pages":[65536', '"pages":[6.5e4', "bad step 5: move_pages: pages[0] is 6.5e4: " + U64),
     ('"flags":2', '"flags":-2', "bad step 5: move_pages: flags is -2: " + U32),
     ('"caller":1', '"caller":false', "bad step 5: move_pages: caller is false: " + U32),
+    ('"flags":2', '"flags":2,"during":[]', "good"),
+    ('"flags":2', '"flags":2,"during":[{"run":0,"op":"read","pid":1,"addr":65536,"len":1}]', "good"),
+    ('"flags":2', '"flags":2,"during":[{"run":1,"op":"read","pid":1,"addr":65536,"len":1}]',
+     "bad step 5: move_pages: during[0].run is 1: wanted is a number below 1, the number of runs"),
+    ('"flags":2', '"flags":2,"during":null', "bad step 5: move_pages: during is null: wanted is a list"),
+    ('"op":"free","node":0', '"op":"free","node":0,"during":null', "good"),
+    ('"op":"write"', '"op":"write","during":[7]', "good"),
     ('"op":"free","node":0', '"op":"free"', "bad step 6: free: node is missing: " + U32),
     ('"op":"free","node":0', '"op":"Free","node":0', 'bad step 6: op is "Free": ' + OPS),
     ('"len":2', '"len":18446744073709551616', "bad step 9: read: len is 18446744073709551616: " + U64),
@@ -165,6 +174,74 @@ STEPS = [
     ('{"op":"numa_maps","pid":1.0}', "numa_maps: pid is 1.0: " + U32),
     ('{"op":"vm_stat"}', 'op is "vm_stat": ' + OPS),
     ('{"op":null}', "op is null: " + OPS),
+]
+
+# What stands in `during` of a step with two runs, and what is said of it behind "bad step 0: move_pages: ".
+DURING = [
+    ("[]", None),
+    ('[{"op":"read","pid":1,"addr":0,"len":1,"run":0}]', None),
+    ('[{"op":"read","pid":1,"addr":0,"len":1,"run":1},{"op":"write","pid":0,"addr":1,"data":"","run":0}]', None),
+    ('[{"op":"read","pid":4294967295,"addr":18446744073709551615,"len":18446744073709551615,"run":1,"data":null,"note":[]}]', None),
+    ('[{"op":"write","pid":1,"addr":0,"data":"aF00","run":0,"len":-1}]', None),
+    ('[{"op":"read","pid":1,"addr":0,"len":1,"run":2,"run":1}]', None),
+    ("null", "during is null: wanted is a list"),
+    ("false", "during is false: wanted is a list"),
+    ("0", "during is 0: wanted is a list"),
+    ('"read"', 'during is "read": wanted is a list'),
+    ('{"op":"read","pid":1,"addr":0,"len":1,"run":0}', "during is an object: wanted is a list"),
+    ("[null]", "during[0] is null: wanted is an object"),
+    ("[7]", "during[0] is 7: wanted is an object"),
+    ("[[]]", "during[0] is a list: wanted is an object"),
+    ('["read"]', 'during[0] is "read": wanted is an object'),
+    ("[{}]", "during[0].op is missing: " + ACCESS),
+    ('[{"pid":1,"addr":0,"len":1,"run":0}]', "during[0].op is missing: " + ACCESS),
+    ('[{"op":null,"pid":1,"addr":0,"len":1,"run":0}]', "during[0].op is null: " + ACCESS),
+    ('[{"op":["read"],"pid":1,"addr":0,"len":1,"run":0}]', "during[0].op is a list: " + ACCESS),
+    ('[{"op":"Read","pid":1,"addr":0,"len":1,"run":0}]', 'during[0].op is "Read": ' + ACCESS),
+    ('[{"op":"vmstat","run":0}]', 'during[0].op is "vmstat": ' + ACCESS),
+    ('[{"op":"pin","pid":1,"addr":0,"run":0}]', 'during[0].op is "pin": ' + ACCESS),
+    ('[{"op":"read","addr":0,"len":1,"run":0}]', "during[0].pid is missing: " + U32),
+    ('[{"op":"read","pid":1,"len":1,"run":0}]', "during[0].addr is missing: " + U64),
+    ('[{"op":"read","pid":1,"addr":0,"run":0}]', "during[0].len is missing: " + U64),
+    ('[{"op":"read","pid":1,"addr":0,"data":"61","run":0}]', "during[0].len is missing: " + U64),
+    ('[{"op":"write","pid":1,"addr":0,"run":0}]', "during[0].data is missing: " + HEX),
+    ('[{"op":"write","pid":1,"addr":0,"len":1,"run":0}]', "during[0].data is missing: " + HEX),
+    ('[{"op":"read","pid":1,"addr":0,"len":1}]', "during[0].run is missing: " + U64),
+    ('[{"op":"write","pid":1,"addr":0,"data":"61"}]', "during[0].run is missing: " + U64),
+    ('[{"op":"read","pid":4294967296,"addr":0,"len":1,"run":0}]', "during[0].pid is 4294967296: " + U32),
+    ('[{"op":"read","pid":1,"addr":"0x0","len":1,"run":0}]', 'during[0].addr is "0x0": ' + U64),
+    ('[{"op":"read","pid":1,"addr":0,"len":18446744073709551616,"run":0}]', "during[0].len is 18446744073709551616: " + U64),
+    ('[{"op":"write","pid":1,"addr":0,"data":"6","run":0}]', 'during[0].data is "6": ' + HEX),
+    ('[{"op":"write","pid":1,"addr":0,"data":"6g","run":0}]', 'during[0].data is "6g": ' + HEX),
+    ('[{"op":"write","pid":1,"addr":0,"data":"0x61","run":0}]', 'during[0].data is "0x61": ' + HEX),
+    ('[{"op":"write","pid":1,"addr":0,"data":[97],"run":0}]', "during[0].data is a list: " + HEX),
+    ('[{"op":"write","pid":1,"addr":0,"data":null,"run":0}]', "during[0].data is null: " + HEX),
+    ('[{"op":"read","pid":1,"addr":0,"len":1,"run":-1}]', "during[0].run is -1: " + U64),
+    ('[{"op":"read","pid":1,"addr":0,"len":1,"run":-0}]', "during[0].run is -0: " + U64),
+    ('[{"op":"read","pid":1,"addr":0,"len":1,"run":0.0}]', "during[0].run is 0.0: " + U64),
+    ('[{"op":"read","pid":1,"addr":0,"len":1,"run":0.5}]', "during[0].run is 0.5: " + U64),
+    ('[{"op":"read","pid":1,"addr":0,"len":1,"run":1e0}]', "during[0].run is 1e0: " + U64),
+    ('[{"op":"read","pid":1,"addr":0,"len":1,"run":"0"}]', 'during[0].run is "0": ' + U64),
+    ('[{"op":"read","pid":1,"addr":0,"len":1,"run":null}]', "during[0].run is null: " + U64),
+    ('[{"op":"read","pid":1,"addr":0,"len":1,"run":true}]', "during[0].run is true: " + U64),
+    ('[{"op":"read","pid":1,"addr":0,"len":1,"run":[0]}]', "during[0].run is a list: " + U64),
+    ('[{"op":"read","pid":1,"addr":0,"len":1,"run":18446744073709551616}]', "during[0].run is 18446744073709551616: " + U64),
+    ('[{"op":"read","pid":1,"addr":0,"len":1,"run":2}]', "during[0].run is 2: wanted is a number below 2, the number of runs"),
+    ('[{"op":"read","pid":1,"addr":0,"len":1,"run":4294967296}]',
+     "during[0].run is 4294967296: wanted is a number below 2, the number of runs"),
+    ('[{"op":"write","pid":1,"addr":0,"data":"61","run":18446744073709551615}]',
+     "during[0].run is 18446744073709551615: wanted is a number below 2, the number of runs"),
+    ('[{"op":"read","pid":1,"addr":0,"len":1,"run":1},{"op":"read","pid":1,"addr":0,"len":1,"run":2},7]',
+     "during[2] is 7: wanted is an object"),
+    ('[{"op":"read","pid":1,"addr":0,"len":1,"run":1},{"op":"read","pid":1,"addr":0,"len":1,"run":2}]',
+     "during[1].run is 2: wanted is a number below 2, the number of runs"),
+]
+
+# The nodes of a batch, the limit on runs where there is one, and how many runs that makes.
+RUNS = [
+    ([], None, 0), ([], 1, 0), ([1], None, 1), ([1, 1, 0, 1, 1], None, 3), ([1, 1, 1], 2, 2), ([1, 1, 0, 1, 1], 1, 5), ([1] * 4, 2, 2),
+    ([1] * 5, 2, 3), ([0, 1, 0], 16384, 3), ([64, 4294967295, 4294967295], None, 2), ([0] * 16384, None, 1), ([0] * 16384, 16383, 2),
+    ([0, 1] * 8192, None, 16384), ([0] * 16384, 1, 16384),
 ]
 
 # Other bytes, and what is said of them.
@@ -258,6 +335,19 @@ def check_limits():
     expect(trace_of([1], [[10]], [{"op": "vmstat"}, batch("query", 16385, 0)]), "bad step 1: query: pages has 16,385 elements: " + BATCH)
 
 
+def check_runs():
+    """The run of an access in flight is one of the step's, which the nodes and the limit alone tell, whoever calls."""
+    for nodes, limit, runs in RUNS:
+        access = {"op": "read", "pid": 1, "addr": 0, "len": 1}
+        for run in (0, runs - 1, runs, 2**64 - 1):
+            step = {"op": "move_pages", "caller": 0, "pid": 0, "pages": [0] * len(nodes), "nodes": nodes, "flags": 1,
+                    "during": [{**access, "run": max(run, 0)}]}
+            version = {"version": 1, "run_limit": 1} if limit is None else {"version": 2, "run_limit": limit}
+            most = f"a number below {runs:,}, the number of runs" if runs else "no access, as the step has no run"
+            expect(json.dumps({**version, "machine": {"nodes": [1], "distance": [[10]]}, "steps": [step]}),
+                   "good" if 0 <= run < runs else f"bad step 0: move_pages: during[0].run is {max(run, 0)}: wanted is {most}")
+
+
 def check_order():
     """The machine is told before steps, and the first bad step before others."""
     text = changed(read("examples/three_pages.json"), '"data":"62"', '"data":"6"')
@@ -296,7 +386,7 @@ def check_program():
 def check_schema():
     """What the schema's test has as good is good, and what it has as bad is a bad machine or a bad step."""
     text, schema = read("examples/three_pages.json"), loaded("tests/schema.py")
-    for old, new in schema.SAME:
+    for old, new in schema.SAME + schema.MORE:
         expect(changed(text, old, new), "good", new)
     for old, new in schema.FAULTS:
         line = WHY.verdict(changed(text, old, new).encode())
@@ -335,9 +425,14 @@ def main():
         expect(changed(text, old, new), line, f"{new} for {old}")
     for step, line in STEPS:
         expect('{"version":1,"machine":{"nodes":[1],"distance":[[10]]},"steps":[%s]}' % step, "bad step 0: " + line)
+    batch_of_two = '{"op":"move_pages","caller":1,"pid":0,"pages":[0,0],"nodes":[1,0],"flags":2,"during":%s}'
+    for during, line in DURING:
+        expect('{"version":1,"machine":{"nodes":[1],"distance":[[10]]},"steps":[%s]}' % (batch_of_two % during),
+               f"bad step 0: move_pages: {line}" if line else "good")
     for data, line in WHOLE:
         expect(data, line)
     check_limits()
+    check_runs()
     check_order()
     check_program()
     check_schema()

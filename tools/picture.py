@@ -4,7 +4,7 @@
     tools/picture.py REPORT [--trace TRACE] [--steps A-B]
 
 A column is a moment at which the report shows `free` or `pagemap` lines with nothing between them that moves a page or
-takes or frees a frame. A band is a node, and a square in it a frame: free, held by a page, or not known. A report alone tells
+takes or frees a frame; over it stands how many accesses in flight the batch before it had, and how many were held. A band is a node, and a square in it a frame: free, held by a page, or not known. A report alone tells
 neither the node of a `free` line nor the process of a `pagemap` line; with its trace the picture has both, and all frames of
 the machine. --steps draws the moments alone that look at a step from A to B. What is not known is drawn as not known. A bad
 report or trace is told of in one line, with status 2."""
@@ -19,6 +19,8 @@ from itertools import groupby
 import why
 
 LINE = re.compile(r"(0|[1-9][0-9]*) ([a-z_]+) (.*)")
+# The line of an access in flight: its step, its number, and what it answers.
+FLIGHT = re.compile(r"(0|[1-9][0-9]*)\.(0|[1-9][0-9]*) (read (?:(?:[0-9a-f]{2})+|held|error [A-Z]+)|write (?:ok|held|error [A-Z]+))")
 LIST = re.compile(r"(0|[1-9][0-9]*):((?: \S+)*)")
 NUMBER = re.compile(r"0|[1-9][0-9]*")
 FRAME = re.compile(r"(?P<frame>0|[1-9][0-9]{0,4})")
@@ -29,12 +31,14 @@ LATE = {("mbind", "error EIO"), ("offline", "error EBUSY")}
 KEEPS = {"spawn", "map", "attach", "pin", "unpin", "online", "query", "free", "pagemap", "numa_maps", "vmstat"}
 USAGE = "wanted is REPORT, and with it --trace TRACE or --steps A-B or both"
 MOST_FRAMES, MOST_SQUARES = 16384, 200000
+MOST_TOLD, MOST_LETTERS = 20, 60  # of the accesses in flight in a tooltip, and of one of them
 LEFT, GAP, EDGE = 150, 24, 12
 FONT = "DejaVu Sans, Verdana, sans-serif"
 COLOURS = ["#7fb3e6", "#f2b35e", "#7fcf9f", "#e39ac4", "#cdb94f", "#a79be8", "#6fd0d6", "#e58f7b"]
 UNTOLD, TAKEN, FREE, INK, PALE = "#9db8d2", "#c6c6c6", "#eef5e6", "#222222", "#6b6b6b"
 
 
+Line = namedtuple("Line", "number op answer flight")  # its number in the file, and the lines of accesses in flight behind it
 Band = namedtuple("Band", "name frames node")  # its frames upwards; the node is None where it is not known
 Grid = namedtuple("Grid", "across width height")  # how many squares a row has, and how wide and high one is
 DARK, DASHED = ' stroke="#444444"', ' stroke="#9a9a9a" stroke-dasharray="2 2"'
@@ -57,14 +61,29 @@ class Bad(Exception):
 # ---- reading
 
 
+def is_refused(line):
+    return line.answer.startswith("error ")
+
+
+def is_access(text, lines):
+    """Whether a line is that of the next access in flight behind the lines before it."""
+    match = FLIGHT.fullmatch(text)
+    if not match or not lines or lines[-1].op != "move_pages" or is_refused(lines[-1]):
+        return False
+    return (match[1], match[2]) == (str(len(lines) - 1), str(len(lines[-1].flight)))
+
+
 def report_lines(text):
-    """The lines of a report but for those behind `numa_maps`: for each its number in the file, its op and its answer."""
+    """The lines of the steps of a report."""
     if text and not text.endswith("\n"):
         raise Bad("the last line has no line feed: the report was cut")
     lines, skipped, ops = [], 0, why.Form().steps
     for number, line in enumerate(text.split("\n")[:-1], 1):
         if skipped:
             skipped -= 1
+            continue
+        if is_access(line, lines):
+            lines[-1].flight.append(line)
             continue
         match = LINE.fullmatch(line)
         if not match or match[2] not in ops or match[1] != str(len(lines)):
@@ -73,7 +92,7 @@ def report_lines(text):
             if not NUMBER.fullmatch(match[3]):
                 raise Bad(f"line {number}: wanted is a number of areas")
             skipped = int(match[3])
-        lines.append((number, match[2], match[3]))
+        lines.append(Line(number, match[2], match[3], []))
     if skipped:
         raise Bad(f"{skipped} line{' of numa_maps is' if skipped == 1 else 's of numa_maps are'} missing: the report was cut")
     return lines
@@ -108,16 +127,22 @@ class Machine:
 
     def check(self, lines):
         """Refuses the report of another trace, as far as the names of steps tell."""
-        for k, (number, op, _) in enumerate(lines):
-            if k >= len(self.steps) or self.steps[k]["op"] != op:
-                raise Bad(f"line {number}: the trace has another step {k}")
+        for k, line in enumerate(lines):
+            if k >= len(self.steps) or self.steps[k]["op"] != line.op:
+                raise Bad(f"line {line.number}: the trace has another step {k}")
+            if line.op == "move_pages" and not is_refused(line):
+                told = [access.split(" ")[1] for access in line.flight]
+                wanted = [access["op"] for access in self.steps[k].get("during", [])]
+                if told != (wanted[: len(told)] if k + 1 == len(lines) else wanted):
+                    raise Bad(f"line {line.number}: the trace has other accesses in flight in step {k}")
 
 
 class Moment:
     """What the report tells of frames between two changes."""
 
-    def __init__(self, after):
+    def __init__(self, after, flight=()):
         self.after = after  # the step that may have changed something last, and its op
+        self.flight = flight  # the lines of its accesses in flight
         self.steps = []  # the steps that look
         self.free = {}  # by frame: its place in its node's list, from 1
         self.held = {}  # by frame: the pages that it holds, as (process, page number, None), or (None, page number, step)
@@ -160,15 +185,15 @@ class Moment:
 def moments_of(lines, machine):
     """The moments at which a report shows something."""
     found, now = [], Moment(None)
-    for k, (number, op, answer) in enumerate(lines):
-        refused = answer.startswith("error ")
-        if op == "free" and not refused:
-            now.add_free(k, number, answer, machine)
-        elif op == "pagemap" and not refused:
-            now.add_pagemap(k, number, answer, machine)
-        elif op not in KEEPS and (not refused or (op, answer) in LATE):
+    for k, line in enumerate(lines):
+        refused = is_refused(line)
+        if line.op == "free" and not refused:
+            now.add_free(k, line.number, line.answer, machine)
+        elif line.op == "pagemap" and not refused:
+            now.add_pagemap(k, line.number, line.answer, machine)
+        elif line.op not in KEEPS and (not refused or (line.op, line.answer) in LATE):
             found.append(now)
-            now = Moment((k, op))
+            now = Moment((k, line.op), line.flight)
     found = [moment for moment in found + [now] if moment.steps]
     for moment in found:
         both = sorted(set(moment.free) & set(moment.held))
@@ -320,6 +345,17 @@ def draw_head(picture, x, y, moment):
     picture.text(x, y + 13, 8, f"after {moment.after[0]} {moment.after[1]}" if moment.after else "at first", ink=PALE)
 
 
+def draw_flight(picture, x, y, moment):
+    """How many accesses in flight there were before this moment, and how many of them were held."""
+    if moment.flight:
+        told = [line if len(line) <= MOST_LETTERS else line[:MOST_LETTERS] + ".." for line in moment.flight[:MOST_TOLD]]
+        more = [f"and {len(moment.flight) - MOST_TOLD:,} more"] if len(moment.flight) > MOST_TOLD else []
+        held = sum(line.endswith(" held") for line in moment.flight)
+        picture.parts.append(f'<g class="flight"><title>{html.escape(", ".join(told + more))}</title>')
+        picture.text(x, y, 8, f"in flight: {len(moment.flight)}" + (f", held: {held}" if held else ""), ink=PALE)
+        picture.parts.append("</g>")
+
+
 def draw_zeros(picture, x, y, moment):
     """How many entries are the page of zeros, which no square is."""
     count = len(set(moment.zeros))
@@ -389,7 +425,8 @@ def drawing(name, moments, machine, processes, count):
     y = draw_legend(picture, 40, width, legend_of(moments, machine)) + 30 if moments else 50
     for k, moment in enumerate(moments):
         draw_head(picture, LEFT + k * (column + GAP), y, moment)
-    y += 24
+        draw_flight(picture, LEFT + k * (column + GAP), y + 25, moment)
+    y += 36 if any(moment.flight for moment in moments) else 24
     for band in bands:
         draw_name(picture, y, grid, band)
         for k, moment in enumerate(moments):

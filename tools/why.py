@@ -8,12 +8,14 @@ import json
 import os
 import re
 import sys
+from itertools import groupby
 
 ROOT = os.path.dirname(os.path.dirname(os.path.abspath(__file__)))
 SCHEMA = os.path.join(ROOT, "docs/trace.schema.json")
 MOST_BYTES = 16777216
 MOST_LEVELS = 127
 MOST_FRAMES = 16384
+MOST_ENTRIES = 16384
 TYPES = {"object": dict, "array": list, "string": str, "boolean": bool, "integer": int}
 TOKENS = re.compile(r'"[^"\\]*(?:\\.[^"\\]*)*"|-?[0-9][0-9.eE+-]*|[\[\]{}]|-?Infinity|NaN', re.S)
 SURROGATE = re.compile("[\ud800-\udfff]")
@@ -132,15 +134,22 @@ class Form:
     def __init__(self):
         with open(SCHEMA, encoding="utf-8") as file:
             self.top = json.load(file)
-        parts = [self.resolved(part) for part in self.top["$defs"]["step"]["oneOf"]]
-        self.steps = {part["properties"]["op"]["const"]: part for part in parts}
+        self.steps = self.ops(self.top["$defs"]["step"])
 
     def resolved(self, schema):
         return self.top["$defs"][schema["$ref"].removeprefix("#/$defs/")] if "$ref" in schema else schema
 
+    def ops(self, schema):
+        """The forms of an object, by their op."""
+        parts = [self.resolved(part) for part in schema["oneOf"]]
+        return {part["properties"]["op"]["const"]: part for part in parts}
+
     def fault(self, name, schema, value):
         """The first fault of the value of a name, or of a part of it."""
         schema = self.resolved(schema)
+        if "oneOf" in schema:
+            ops, front = self.ops(schema), name + "."
+            return op_fault(name, front, ops, value) or self.keys_fault(front, ops[value["op"]], value)
         if not is_wanted(schema, value):
             if isinstance(value, list) and schema["type"] == "array":
                 return f"{name} has {elements(value)}: wanted is {'at least one' if not value else wanted(schema)}"
@@ -160,6 +169,17 @@ class Form:
             if fault:
                 return fault
         return None
+
+
+def op_fault(name, front, ops, value):
+    """The fault of a value that is to be an object with one of these ops. Keys are named behind the front."""
+    if not isinstance(value, dict):
+        return f"{name} is {shown(value)}: wanted is an object"
+    if "op" not in value:
+        return f"{front}op is missing: wanted is one of {', '.join(ops)}"
+    if not isinstance(value["op"], str) or value["op"] not in ops:
+        return f"{front}op is {shown(value['op'])}: wanted is one of {', '.join(ops)}"
+    return None
 
 
 # ---- what a schema cannot say
@@ -219,21 +239,33 @@ def machine_fault(form, top):
     return None
 
 
-def step_fault(form, step):
-    """The first fault of a step."""
-    if not isinstance(step, dict):
-        return f"the step is {shown(step)}: wanted is an object"
-    if "op" not in step:
-        return "op is missing: wanted is the name of a step"
-    op = step["op"]
-    if not isinstance(op, str) or op not in form.steps:
-        return f"op is {shown(op)}: wanted is one of {', '.join(form.steps)}"
-    fault = form.keys_fault("", form.steps[op], step)
-    if fault:
-        return f"{op}: {fault}"
-    if op == "move_pages" and len(step["pages"]) != len(step["nodes"]):
-        return f"move_pages: nodes has {elements(step['nodes'])}: wanted are {len(step['pages']):,}, as many as pages has"
+def run_count(nodes, limit):
+    """How many runs a batch has whose entries go to these nodes: each stretch of one node, cut where it is too long."""
+    return sum(-(-sum(1 for _ in stretch) // limit) for _, stretch in groupby(nodes))
+
+
+def batch_fault(step, limit):
+    """The first fault of a move_pages step that fits the schema, where a run has at most so many entries."""
+    if len(step["pages"]) != len(step["nodes"]):
+        return f"nodes has {elements(step['nodes'])}: wanted are {len(step['pages']):,}, as many as pages has"
+    runs = run_count(step["nodes"], limit)
+    for j, access in enumerate(step.get("during", [])):
+        if access["run"] >= runs:
+            most = f"a number below {runs:,}, the number of runs" if runs else "no access, as the step has no run"
+            return f"during[{j}].run is {access['run']}: wanted is {most}"
     return None
+
+
+def step_fault(form, step, limit):
+    """The first fault of a step of a trace in which a run has at most so many entries."""
+    fault = op_fault("the step", "", form.steps, step)
+    if fault:
+        return fault
+    op = step["op"]
+    fault = form.keys_fault("", form.steps[op], step)
+    if not fault and op == "move_pages":
+        fault = batch_fault(step, limit)
+    return f"{op}: {fault}" if fault else None
 
 
 def verdict(data):
@@ -247,8 +279,9 @@ def verdict(data):
     fault = machine_fault(form, top)
     if fault:
         return "bad machine: " + fault
+    limit = top["run_limit"] if top["version"] == 2 else MOST_ENTRIES
     for k, step in enumerate(top["steps"]):
-        fault = step_fault(form, step)
+        fault = step_fault(form, step, limit)
         if fault:
             return f"bad step {k}: {fault}"
     return "good"

@@ -13,7 +13,7 @@ use Rattle.nm_calls.specs.declared.call_error.CallError.TheVariants.{Refused, Ho
 use Rattle.nm_calls.specs.Calls.{Call, Mbind, Refusal, Failed}
 use Rattle.nm_calls.specs.Systems.{SystemState, in_state}
 use Rattle.nm_calls.specs.Binding.{mbind_refusal, binding, mbind_runs, policed, tells_late, still_strays}
-use Rattle.nm_calls.specs.Outcome.{refused, refused_at_once, start, started, sets_policy, runs_asked, runs_of, runs_unless, ended, outcome, late_answer, leaves, states_of, trail}
+use Rattle.nm_calls.specs.Outcome.{refused, refused_at_once, start, started, sets_policy, runs_asked, accesses_asked, runs_of, runs_unless, ended, outcome, late_answer, leaves, states_of, trail}
 use Rattle.nm_calls.specs.Does.{Does, LeavesSome}
 use Rattle.nm_calls.specs.Making.{Stops, Binds}
 use Rattle.nm_calls.proofs.Trails.{states_are}
@@ -50,14 +50,14 @@ module _ (y : SystemState) (caller addr len mode : ℕ) (nodes : List ℕ) (flag
   runs_are h = ap (λ o. runs_unless o runs) h
 
   trail_is : mbind_refusal y.state caller addr len mode nodes flags ≡ None → trail y asks ≡ states_of first runs
-  unfolding refused runs_asked start
+  unfolding refused runs_asked start accesses_asked
   trail_is h = ap (λ o. states_of (started o y.state first) (runs_unless o runs)) h
 
   -- where the pages stray, or do not
   answered : (late : Bool) (new : State) → mbind_refusal y.state caller addr len mode nodes flags ≡ None
       → (tells_late flags && still_strays y.state (runs_from 0 first runs []).state (binding y.state caller addr len mode nodes)) ≡ late → new ≡ (runs_from 0 first runs []).state
       → outcome y asks ≡ record { answer = late_answer late; system = in_state y new }
-  unfolding refused runs_asked start ended
+  unfolding refused runs_asked start ended accesses_asked
   answered late new h strays is =
       answers y asks (record { answer = late_answer late; system = in_state y new }) h
       (ap (λ b. leaves y (late_answer b) (runs_from 0 first runs []).state) strays ∙ ap (λ s. leaves y (late_answer late) s) (sym is))
@@ -68,7 +68,7 @@ module _ (y : SystemState) (caller addr len mode : ℕ) (nodes : List ℕ) (flag
       let lt = made.1 in
       let few : k < length (runs_of y asks) = subst (λ rs. k < length rs) (sym (runs_are h)) lt in
       let there : slice_index_or (states_of first runs) k first ≡ slice_index_or (trail y asks) k y.state =
-      states_are 0 first runs k first (omega (arith, lt)) ∙ sym (states_are 0 first runs k y.state (omega (arith, lt)))
+      states_are 0 first runs [] k first (omega (arith, lt)) ∙ sym (states_are 0 first runs [] k y.state (omega (arith, lt)))
       ∙ sym (ap (λ ss. slice_index_or ss k y.state) (trail_is h)) in
       inr (few, made.0 ∙ sym sets, ap (in_state y) (made.2 ∙ there))
 

@@ -24,7 +24,7 @@ use Rattle.nm_calls.specs.Migrating.{is_on}
 use Rattle.nm_calls.specs.Passes.{passes}
 use Rattle.nm_calls.specs.Systems.{SystemState, in_state}
 use Rattle.nm_calls.specs.Offlining.{offline_refusal, offline_runs, refuges, still_on}
-use Rattle.nm_calls.specs.Outcome.{refused, refused_at_once, start, started, sets_policy, runs_asked, runs_of, runs_unless, ended, emptied, outcome, states_of, trail}
+use Rattle.nm_calls.specs.Outcome.{refused, refused_at_once, start, started, sets_policy, runs_asked, accesses_asked, runs_of, runs_unless, ended, emptied, outcome, states_of, trail}
 use Rattle.nm_calls.specs.Does.{Does, LeavesSome}
 use Rattle.nm_calls.specs.Making.{Stops, Empties}
 use Rattle.nm_calls.proofs.Trails.{states_are}
@@ -88,13 +88,13 @@ module _ (y : SystemState) (node : ℕ) where
   runs_are h = ap (λ o. runs_unless o runs) h
 
   trail_is : offline_refusal y.state node ≡ None → trail y asks ≡ states_of y.state runs
-  unfolding refused runs_asked start
+  unfolding refused runs_asked start accesses_asked
   trail_is h = ap (λ o. states_of (started o y.state y.state) (runs_unless o runs)) h ∙ refl
 
   -- where a page stays, or none does
   answered : (stays : Bool) → offline_refusal y.state node ≡ None → still_on y.state (runs_from 0 y.state runs []).state node ≡ stays
       → outcome y asks ≡ emptied y node (runs_from 0 y.state runs []).state stays
-  unfolding refused runs_asked start ended
+  unfolding refused runs_asked start ended accesses_asked
   answered stays h is = answers y asks (emptied y node (runs_from 0 y.state runs []).state stays) h (ap (emptied y node (runs_from 0 y.state runs []).state) is)
 
   stopped_at : (k : ℕ) (policy_set : Bool) (new : State) → offline_refusal y.state node ≡ None

@@ -1,11 +1,19 @@
 -- How many statuses a run gives, which keeps the nodes.
-use Rattle.std.proofs.Common.{◌≡◌, ℕ, suc, List, [], ◌∷◌, length, refl, ap, ◌∙◌}
+use Rattle.std.proofs.Common.{◌≡◌, ℕ, suc, Bool, true, false, List, [], ◌∷◌, length, map, Option, Some, None, Result, Ok, Err, refl, ap, ◌∙◌}
+use Rattle.std.specs.Prelude.{◌/◌, ◌%◌, if◌then◌else◌}
+use Rattle.nm_types.specs.declared.errno.Errno.{Errno}
+use Rattle.nm_types.specs.declared.sight.Sight.{Sight}
+use Rattle.nm_types.specs.declared.sight.Sight.TheVariants.{ZeroPage, Sees}
 use Rattle.nm_types.specs.declared.page.Page.{Page}
 use Rattle.nm_types.specs.State.{State, free_list}
 use Rattle.nm_runs.specs.declared.Class.{Class}
 use Rattle.nm_runs.specs.declared.Class.TheVariants.{Status, Move}
 use Rattle.nm_runs.specs.declared.Wanted.{Wanted}
 use Rattle.nm_runs.specs.Status.{status_or_move}
+use Rattle.nm_runs.specs.Seen.{sight_at}
+use Rattle.nm_engine.specs.Touch.{Access, Read, Write, Held, Answered, access, touch, read_after, write_after, with_bytes}
+use Rattle.nm_engine.specs.Flight.{is_held, spot_of_access, in_flight, all_in_flight}
+use Rattle.nm_engine.proofs.Early.Seen.{Shows, touch_shows}
 use Rattle.nm_engine.specs.Run.{one, each, run, decided, moved_page, with_free, with_all_free, left}
 
 each_length : (s : State) (target : ℕ) (ws : List Wanted) → length (each s target ws).statuses ≡ length ws
@@ -13,8 +21,8 @@ each_length s target [] = refl
 each_length s target (w ∷ ws) = ap suc (each_length (one s target w).state target ws)
 
 -- a run gives a status for each request
-pub run_length : (s : State) (target : ℕ) (ws : List Wanted) → length (run s target ws []).statuses ≡ length ws
-run_length s target ws = each_length s target ws
+pub run_length : (s : State) (target : ℕ) (ws : List Wanted) (accesses : List Access) → length (run s target ws accesses).statuses ≡ length ws
+run_length s target ws accesses = each_length s target ws
 
 moved_layout : (s : State) (target : ℕ) (page : Page) (from : ℕ) (free : List ℕ) → (moved_page s target page from free).state.layout ≡ s.layout
 moved_layout s target page from [] = refl
@@ -32,6 +40,38 @@ freed_layout : (s : State) (frames : List ℕ) → (with_all_free s frames).layo
 freed_layout s [] = refl
 freed_layout s (frame ∷ frames) = freed_layout (with_free s frame) frames
 
+with_bytes_layout : (s : State) (o : Option Sight) (i : ℕ) (new : List ℕ) → (with_bytes s o i new).layout ≡ s.layout
+with_bytes_layout s None i new = refl
+with_bytes_layout s (Some ZeroPage) i new = refl
+with_bytes_layout s (Some (Sees page)) i new = refl
+
+read_layout : (s : State) (pid address len : ℕ) (r : Result State Errno) → Shows s pid (address / 4096) r → (read_after s pid address len r).state.layout ≡ s.layout
+unfolding Shows
+read_layout s pid address len (Err e) shows = refl
+read_layout s pid address len (Ok t) shows = shows.2
+
+write_layout : (s : State) (pid address : ℕ) (new : List ℕ) (r : Result State Errno) → Shows s pid (address / 4096) r → (write_after s pid address new r).state.layout ≡ s.layout
+unfolding Shows
+write_layout s pid address new (Err e) shows = refl
+write_layout s pid address new (Ok t) shows = with_bytes_layout t (sight_at t pid (address / 4096)) (address % 4096) new ∙ shows.2
+
+access_layout : (s : State) (a : Access) → (access s a).state.layout ≡ s.layout
+access_layout s (Read pid address len) = read_layout s pid address len (touch s pid address len false) (touch_shows s pid address len false)
+access_layout s (Write pid address new) = write_layout s pid address new (touch s pid address (length new) true) (touch_shows s pid address (length new) true)
+
+abbrev state_of : Answered → State
+state_of a = a.state
+
+-- accesses in flight keep the nodes
+flight_layout : (moved : List Page) (accesses : List Access) (s : State) → (all_in_flight s moved accesses).state.layout ≡ s.layout
+flight_layout moved [] s = refl
+flight_layout moved (a ∷ accesses) s =
+    flight_layout moved accesses (in_flight s moved a).state
+    ∙ elim (is_held moved (spot_of_access s a)) as (λ b. (state_of (if b then record { state = s; answer = Held } else access s a)).layout ≡ s.layout) [ true ↦ refl | false ↦ access_layout s a ]
+
 -- a run keeps the nodes
-pub run_layout : (s : State) (target : ℕ) (ws : List Wanted) → (run s target ws []).state.layout ≡ s.layout
-run_layout s target ws = freed_layout (each s target ws).state (left (each s target ws).taken) ∙ each_layout s target ws
+pub run_layout : (s : State) (target : ℕ) (ws : List Wanted) (accesses : List Access) → (run s target ws accesses).state.layout ≡ s.layout
+run_layout s target ws accesses =
+    let moves = each s target ws in
+    let moved = map (λ t. t.page) moves.taken in
+    freed_layout (all_in_flight moves.state moved accesses).state (left moves.taken) ∙ flight_layout moved accesses moves.state ∙ each_layout s target ws

@@ -1,3 +1,5 @@
+pub mod Places
+pub mod Meanwhile
 pub mod Lengths
 pub mod Stretches
 pub mod Targets

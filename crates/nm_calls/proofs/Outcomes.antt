@@ -7,10 +7,10 @@ use Rattle.nm_runs.specs.Cut.{Stretch}
 use Rattle.nm_engine.specs.Batch.{runs_from}
 use Rattle.nm_calls.specs.Calls.{Call, Refusal}
 use Rattle.nm_calls.specs.Systems.{SystemState, in_state}
-use Rattle.nm_calls.specs.Outcome.{Outcome, refused, refused_at_once, start, started, sets_policy, runs_asked, runs_of, runs_unless, ended, outcome, states_of, trail}
+use Rattle.nm_calls.specs.Outcome.{Outcome, refused, refused_at_once, start, started, sets_policy, runs_asked, runs_of, runs_unless, accesses_asked, ended, outcome, states_from, trail}
 use Rattle.nm_calls.specs.Does.{LeavesSome, HostLeaves}
 
-pub answers : (y : SystemState) (call : Call) (o : Outcome) → refused y.state call ≡ None → ended y call (runs_from 0 (start y call) (runs_asked y call) []) ≡ o → outcome y call ≡ o
+pub answers : (y : SystemState) (call : Call) (o : Outcome) → refused y.state call ≡ None → ended y call (runs_from 0 (start y call) (runs_asked y call) (accesses_asked call)) ≡ o → outcome y call ≡ o
 answers y call o none is = rw none is
 
 pub refuses : (y : SystemState) (call : Call) (e : Errno) → refused y.state call ≡ Some e → outcome y call ≡ record { answer = Refusal e; system = y }
@@ -20,16 +20,17 @@ refuses y call e is = rw is refl
 pub unchanged : (y : SystemState) (call : Call) (runs : ℕ) (policy_set : Bool) (new : SystemState) → refused_at_once y.state call ≡ None → runs ≡ 0 → policy_set ≡ false → new ≡ y → HostLeaves y call runs policy_set new
 unchanged y call runs policy_set new at_once none unset same = (at_once, inl (none, unset, same))
 
-some_left : (y : SystemState) (call : Call) (rs : List Stretch) (runs : ℕ) (s : State) → refused y.state call ≡ None → runs_asked y call ≡ rs → start y call ≡ y.state → sets_policy call ≡ false → runs ≤ length rs - 1 → s ≡ slice_index_or (states_of y.state rs) runs y.state → LeavesSome y call runs false (in_state y s)
+some_left : (y : SystemState) (call : Call) (rs : List Stretch) (runs : ℕ) (s : State) → refused y.state call ≡ None → runs_asked y call ≡ rs → start y call ≡ y.state → sets_policy call ≡ false → runs ≤ length rs - 1 → s ≡ slice_index_or (states_from 0 y.state rs (accesses_asked call)) runs y.state → LeavesSome y call runs false (in_state y s)
 some_left y call [] runs s none asked from unset few is =
     let zero_is : runs ≡ 0 = omega (arith, few) in
-    inl (zero_is, refl, ap (in_state y) (is ∙ ap (λ n. slice_index_or (states_of y.state []) n y.state) zero_is))
+    inl (zero_is, refl, ap (in_state y) (is ∙ ap (λ n. slice_index_or (states_from 0 y.state [] (accesses_asked call)) n y.state) zero_is))
 some_left y call (r ∷ rs) runs s none asked from unset few is =
     let n : length (runs_of y call) ≡ suc (length rs) = ap (λ o. length (runs_unless o (runs_asked y call))) none ∙ ap length asked in
-    let there : slice_index_or (states_of y.state (r ∷ rs)) runs y.state ≡ slice_index_or (trail y call) runs y.state =
-    sym (ap (λ o. slice_index_or (states_of (started o y.state (start y call)) (runs_unless o (runs_asked y call))) runs y.state) none
-    ∙ ap (λ s. slice_index_or (states_of s (runs_asked y call)) runs y.state) from ∙ ap (λ rs. slice_index_or (states_of y.state rs) runs y.state) asked) in
+    let during = accesses_asked call in
+    let there : slice_index_or (states_from 0 y.state (r ∷ rs) during) runs y.state ≡ slice_index_or (trail y call) runs y.state =
+    sym (ap (λ o. slice_index_or (states_from 0 (started o y.state (start y call)) (runs_unless o (runs_asked y call)) during) runs y.state) none
+    ∙ ap (λ s. slice_index_or (states_from 0 s (runs_asked y call) during) runs y.state) from ∙ ap (λ rs. slice_index_or (states_from 0 y.state rs during) runs y.state) asked) in
     inr (omega (arith, n, few), sym unset, ap (in_state y) (is ∙ there))
 
-pub host_leaves : (y : SystemState) (call : Call) (runs : ℕ) (policy_set : Bool) (s : State) → refused y.state call ≡ None → refused_at_once y.state call ≡ None → start y call ≡ y.state → sets_policy call ≡ false → policy_set ≡ false → runs ≤ length (runs_asked y call) - 1 → s ≡ slice_index_or (states_of y.state (runs_asked y call)) runs y.state → HostLeaves y call runs policy_set (in_state y s)
+pub host_leaves : (y : SystemState) (call : Call) (runs : ℕ) (policy_set : Bool) (s : State) → refused y.state call ≡ None → refused_at_once y.state call ≡ None → start y call ≡ y.state → sets_policy call ≡ false → policy_set ≡ false → runs ≤ length (runs_asked y call) - 1 → s ≡ slice_index_or (states_from 0 y.state (runs_asked y call) (accesses_asked call)) runs y.state → HostLeaves y call runs policy_set (in_state y s)
 host_leaves y call runs policy_set s none at_once from unset given few is = (at_once, subst (λ b. LeavesSome y call runs b (in_state y s)) (sym given) (some_left y call (runs_asked y call) runs s none refl from unset few is))

@@ -81,11 +81,11 @@ stopped start all runs rest s t made k h lt is =
     ap (λ n. take (n + k) all) (sym h.counted) ∙ ap (take (length h.front + k)) (sym h.joined) ∙ take_behind h.front (runs ++ rest) k
     ∙ ap (λ l. h.front ++ l) (take-append-le k runs rest (omega (arith, lt))) in (
       few,
-      is ∙ states_are 0 s runs k s (omega (arith, lt))
+      is ∙ states_are 0 s runs [] k s (omega (arith, lt))
           ∙ ap (λ u. (runs_from 0 u (take k runs) []).state) h.state_is
           ∙ sym (joined_state 0 start h.front (take k runs))
           ∙ sym (ap (λ l. (runs_from 0 start l []).state) front)
-          ∙ sym (states_are 0 start all (made + k) start (omega (arith, few))),
+          ∙ sym (states_are 0 start all [] (made + k) start (omega (arith, few))),
     )
 
 -- passes for nothing have no run
@@ -159,7 +159,7 @@ to_node_below count node (w ∷ ws) lt = (lt, to_node_below count node ws lt)
 -- runs keep the nodes
 pub runs_layout : (k : ℕ) (s : State) (rs : List Stretch) → (runs_from k s rs []).state.layout ≡ s.layout
 runs_layout k s [] = refl
-runs_layout k s (r ∷ rs) = runs_layout (k + 1) (run s r.target r.wanted []).state rs ∙ run_layout s r.target r.wanted
+runs_layout k s (r ∷ rs) = runs_layout (k + 1) (run s r.target r.wanted []).state rs ∙ run_layout s r.target r.wanted []
 
 -- one request more
 left_upto : (ws : List Wanted) (zs : List ℤ) (k : ℕ) (w : Wanted) (d : ℤ) → k < length ws → length ws ≡ length zs → w ≡ slice_index_or ws k w
@@ -196,7 +196,7 @@ runs_statuses k s [] = refl
 runs_statuses k s (r ∷ rs) =
     let made = run s r.target r.wanted [] in
     let parts = length-append made.statuses (runs_from (k + 1) made.state rs []).statuses in
-    let own = run_length s r.target r.wanted in
+    let own = run_length s r.target r.wanted [] in
     let rest = runs_statuses (k + 1) made.state rs in
     let requests = length-append (all_to r.target r.wanted) (joined rs) in
     let first = to_node_length r.target r.wanted in

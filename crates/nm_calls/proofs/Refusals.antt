@@ -8,7 +8,7 @@ use Rattle.nm_engine.specs.Run.{Ran}
 use Rattle.nm_engine.specs.Batch.{runs_from}
 use Rattle.nm_calls.specs.Calls.{Call, Spawn, MapPages, Attach, Unmap, Exit, Pin, Unpin, ReadBytes, WriteBytes, MovePages, MigratePages, Query, FreeList, Pagemap, Vmstat, NumaMaps, Mbind, Offline, Online, Answer, Refusal, Done, Held, Failed, NewSegment, TheBytes, Statuses, Frames, Entries, TheTotals, Lines}
 use Rattle.nm_calls.specs.Systems.{SystemState}
-use Rattle.nm_calls.specs.Outcome.{refusal_in, shown, refused, start, runs_asked, ended, unless, late_answer, emptied}
+use Rattle.nm_calls.specs.Outcome.{refusal_in, shown, refused, start, runs_asked, accesses_asked, ended, unless, late_answer, emptied}
 use Rattle.std.specs.Prelude.{◌⊎◌, ◌&&◌, if◌then◌else◌}
 use Rattle.nm_types.specs.declared.errno.Errno.TheVariants.{Eio, Ebusy}
 use Rattle.nm_calls.specs.Binding.{binding, still_strays, tells_late}
@@ -24,7 +24,7 @@ is_refusal (Failed failed) = false
 is_refusal Held = false
 is_refusal (NewSegment segment) = false
 is_refusal (TheBytes bytes) = false
-is_refusal (Statuses failed statuses) = false
+is_refusal (Statuses failed statuses answers) = false
 is_refusal (Frames frames) = false
 is_refusal (Entries entries) = false
 is_refusal (TheTotals moved failed) = false
@@ -48,7 +48,7 @@ error_of (Failed failed) = None
 error_of Held = None
 error_of (NewSegment segment) = None
 error_of (TheBytes bytes) = None
-error_of (Statuses failed statuses) = None
+error_of (Statuses failed statuses answers) = None
 error_of (Frames frames) = None
 error_of (Entries entries) = None
 error_of (TheTotals moved failed) = None
@@ -78,7 +78,7 @@ call_answers y (Pin pid addr) made e h is = absurd (no_error Done e refl is)
 call_answers y (Unpin pid addr) made e h is = absurd (no_error Done e refl is)
 call_answers y (ReadBytes pid addr len) made e h is = absurd (no_error (shown (read y.state pid addr len).answer) e (access_answers (read y.state pid addr len).answer h) is)
 call_answers y (WriteBytes pid addr bytes) made e h is = absurd (no_error (shown (write y.state pid addr bytes).answer) e (access_answers (write y.state pid addr bytes).answer h) is)
-call_answers y (MovePages caller pid pages nodes flags) made e h is = absurd (no_error _ e refl is)
+call_answers y (MovePages caller pid pages nodes flags during) made e h is = absurd (no_error _ e refl is)
 call_answers y (MigratePages caller pid old new) made e h is = absurd (no_error _ e refl is)
 call_answers y (Query caller pid pages flags) made e h is = absurd (no_error _ e refl is)
 call_answers y (Mbind caller addr len mode nodes flags) made e h is =
@@ -95,4 +95,4 @@ by_refusal y call made (Some d) e r h = inl refl
 by_refusal y call made None e r h = inr (call_answers y call made e r h)
 
 pub refusals_change_nothing : RefusalsChangeNothing
-refusals_change_nothing y call e h = by_refusal y call (runs_from 0 (start y call) (runs_asked y call) []) (refused y.state call) e refl h
+refusals_change_nothing y call e h = by_refusal y call (runs_from 0 (start y call) (runs_asked y call) (accesses_asked call)) (refused y.state call) e refl h

@@ -8,37 +8,48 @@ use Rattle.std.specs.Prelude.{◌-◌}
 use Rattle.nm_types.specs.State.{State}
 use Rattle.nm_runs.specs.declared.Run.{Run}
 use Rattle.nm_runs.specs.Cut.{Stretch, stretches_of}
-use Rattle.nm_engine.specs.Run.{run}
-use Rattle.nm_engine.specs.Batch.{runs_from}
+use Rattle.nm_engine.specs.Touch.{Access, AccessAnswer}
+use Rattle.nm_engine.specs.Run.{Ran, run}
+use Rattle.nm_engine.specs.Batch.{accesses_of, runs_from}
+use Rattle.nm_calls.proofs.Meanwhile.{append_none}
 
--- k runs of a batch are made, and these are left
-pub record HaveRun (start : State) (all left : List Stretch) (k : ℕ) (s : State) (statuses : List ℤ) : Type 0 where
+-- k runs of a batch are made, each with its accesses, and these are left
+pub record HaveRun (start : State) (all left : List Stretch) (during : List (ℕ × Access)) (k : ℕ) (s : State) (statuses : List ℤ) (answers : List (List AccessAnswer)) : Type 0 where
   pub counted : k + length left ≡ length all
-  pub statuses_are : statuses ++ (runs_from k s left []).statuses ≡ (runs_from 0 start all []).statuses
-  pub state_is : (runs_from k s left []).state ≡ (runs_from 0 start all []).state
-  pub front_is : (n : ℕ) → (runs_from k s (take n left) []).state ≡ (runs_from 0 start (take (k + n) all) []).state
+  pub statuses_are : statuses ++ (runs_from k s left during).statuses ≡ (runs_from 0 start all during).statuses
+  pub answers_are : answers ++ (runs_from k s left during).answers ≡ (runs_from 0 start all during).answers
+  pub state_is : (runs_from k s left during).state ≡ (runs_from 0 start all during).state
+  pub front_is : (n : ℕ) → (runs_from k s (take n left) during).state ≡ (runs_from 0 start (take (k + n) all) during).state
 
-pub none_run : (start : State) (all left : List Stretch) (k : ℕ) (statuses : List ℤ) → left ≡ all → k ≡ 0 → statuses ≡ [] → HaveRun start all left k start statuses
-none_run start all left k statuses hl hk hs = rw hl (rw hk (rw hs (record { counted = omega arith; statuses_are = refl; state_is = refl; front_is = λ n. ap (λ j. (runs_from 0 start (take j all) []).state) (omega arith) })))
+pub none_run : (start : State) (all left : List Stretch) (during : List (ℕ × Access)) (k : ℕ) (statuses : List ℤ) (answers : List (List AccessAnswer)) → left ≡ all → k ≡ 0 → statuses ≡ [] → answers ≡ [] → HaveRun start all left during k start statuses answers
+none_run start all left during k statuses answers hl hk hs ha = rw hl (rw hk (rw hs (rw ha (record { counted = omega arith; statuses_are = refl; answers_are = refl; state_is = refl; front_is = λ n. ap (λ j. (runs_from 0 start (take j all) during).state) (omega arith) }))))
 
-pub one_more_run : (start : State) (all left : List Stretch) (k : ℕ) (s : State) (statuses : List ℤ) (r : Stretch) (rest : List Stretch) → left ≡ r ∷ rest → HaveRun start all left k s statuses → HaveRun start all rest (k + 1) (run s r.target r.wanted []).state (statuses ++ (run s r.target r.wanted []).statuses)
-one_more_run start all left k s statuses r rest e h =
-    let now = run s r.target r.wanted [] in
+pub one_more_run : (start : State) (all left : List Stretch) (during : List (ℕ × Access)) (k : ℕ) (s : State) (statuses : List ℤ) (answers : List (List AccessAnswer)) (r : Stretch) (rest : List Stretch) → left ≡ r ∷ rest → HaveRun start all left during k s statuses answers
+    → let now = run s r.target r.wanted (accesses_of k during) in HaveRun start all rest during (k + 1) now.state (statuses ++ now.statuses) (answers ++ now.answers)
+one_more_run start all left during k s statuses answers r rest e h =
+    let now = run s r.target r.wanted (accesses_of k during) in
     let count : length left ≡ suc (length rest) = ap length e in
+    let then = runs_from (k + 1) now.state rest during in
     record {
       counted = omega (arith, count, h.counted);
-      statuses_are = append_assoc statuses now.statuses (runs_from (k + 1) now.state rest []).statuses ∙ ap (λ l. statuses ++ (runs_from k s l []).statuses) (sym e) ∙ h.statuses_are;
-      state_is = ap (λ l. (runs_from k s l []).state) (sym e) ∙ h.state_is;
-      front_is = λ n. ap (λ l. (runs_from k s (take (suc n) l) []).state) (sym e) ∙ h.front_is (suc n) ∙ ap (λ j. (runs_from 0 start (take j all) []).state) (omega arith);
+      statuses_are = append_assoc statuses now.statuses then.statuses ∙ ap (λ l. statuses ++ (runs_from k s l during).statuses) (sym e) ∙ h.statuses_are;
+      answers_are = append_assoc answers now.answers then.answers ∙ ap (λ l. answers ++ (runs_from k s l during).answers) (sym e) ∙ h.answers_are;
+      state_is = ap (λ l. (runs_from k s l during).state) (sym e) ∙ h.state_is;
+      front_is = λ n. ap (λ l. (runs_from k s (take (suc n) l) during).state) (sym e) ∙ h.front_is (suc n) ∙ ap (λ j. (runs_from 0 start (take j all) during).state) (omega arith);
     }
 
 -- where nothing is left
-pub all_run : (start : State) (all left : List Stretch) (k : ℕ) (s : State) (statuses : List ℤ) → left ≡ [] → HaveRun start all left k s statuses → (statuses ≡ (runs_from 0 start all []).statuses) × (s ≡ (runs_from 0 start all []).state)
-all_run start all left k s statuses e h = (grind (arith, common_steps, ap (λ l. statuses ++ (runs_from k s l []).statuses) e, h.statuses_are), ap (λ l. (runs_from k s l []).state) (sym e) ∙ h.state_is)
+pub all_run : (start : State) (all left : List Stretch) (during : List (ℕ × Access)) (k : ℕ) (s : State) (statuses : List ℤ) (answers : List (List AccessAnswer)) → left ≡ [] → HaveRun start all left during k s statuses answers
+    → let made = runs_from 0 start all during in (statuses ≡ made.statuses) × (answers ≡ made.answers) × (s ≡ made.state)
+all_run start all left during k s statuses answers e h = (
+  sym (append_none statuses) ∙ ap (λ l. statuses ++ (runs_from k s l during).statuses) (sym e) ∙ h.statuses_are,
+  sym (append_none answers) ∙ ap (λ l. answers ++ (runs_from k s l during).answers) (sym e) ∙ h.answers_are,
+  ap (λ l. (runs_from k s l during).state) (sym e) ∙ h.state_is,
+)
 
 -- the state after so many runs
-pub some_run : (start : State) (all left : List Stretch) (k : ℕ) (s : State) (statuses : List ℤ) → HaveRun start all left k s statuses → s ≡ (runs_from 0 start (take k all) []).state
-some_run start all left k s statuses h = h.front_is 0 ∙ ap (λ j. (runs_from 0 start (take j all) []).state) (omega arith)
+pub some_run : (start : State) (all left : List Stretch) (during : List (ℕ × Access)) (k : ℕ) (s : State) (statuses : List ℤ) (answers : List (List AccessAnswer)) → HaveRun start all left during k s statuses answers → s ≡ (runs_from 0 start (take k all) during).state
+some_run start all left during k s statuses answers h = h.front_is 0 ∙ ap (λ j. (runs_from 0 start (take j all) during).state) (omega arith)
 
 -- the first of the runs that are left, and those behind it
 pub next_left : {A : Type 0} (runs : List (Run A)) (k : ℕ) (run : Run A) → k < length runs → run ≡ slice_index_or runs k run → drop k runs ≡ run ∷ drop (k + 1) runs

@@ -2,22 +2,23 @@
 use Rattle.std.proofs.Common.{arith, ◌≡◌, ℕ, zero, suc, ◌+◌, ◌≤◌, List, [], ◌∷◌, length, take, refl, slice_index_or}
 use Rattle.nm_types.specs.State.{State}
 use Rattle.nm_runs.specs.Cut.{Stretch}
+use Rattle.nm_engine.specs.Touch.{Access}
 use Rattle.nm_engine.specs.Run.{run}
-use Rattle.nm_engine.specs.Batch.{runs_from}
-use Rattle.nm_calls.specs.Outcome.{states_of, runs_of, refused, start, started}
+use Rattle.nm_engine.specs.Batch.{accesses_of, runs_from}
+use Rattle.nm_calls.specs.Outcome.{states_from, states_of, runs_of, accesses_asked, refused, start, started}
 use Rattle.nm_calls.specs.Laws.{TrailIsAfterRuns}
 
 -- .. whatever the number of the first of them
-pub states_are : (k : ℕ) (s : State) (rs : List Stretch) (n : ℕ) (d : State) → n ≤ length rs → slice_index_or (states_of s rs) n d ≡ (runs_from k s (take n rs) []).state
-states_are k s [] zero d h = refl
-states_are k s [] (suc n) d h = absurd (omega (arith, h))
-states_are k s (r ∷ rs) zero d h = refl
-states_are k s (r ∷ rs) (suc n) d h = states_are (k + 1) (run s r.target r.wanted []).state rs n d (omega (arith, h))
+pub states_are : (k : ℕ) (s : State) (rs : List Stretch) (during : List (ℕ × Access)) (n : ℕ) (d : State) → n ≤ length rs → slice_index_or (states_from k s rs during) n d ≡ (runs_from k s (take n rs) during).state
+states_are k s [] during zero d h = refl
+states_are k s [] during (suc n) d h = absurd (omega (arith, h))
+states_are k s (r ∷ rs) during zero d h = refl
+states_are k s (r ∷ rs) during (suc n) d h = states_are (k + 1) (run s r.target r.wanted (accesses_of k during)).state rs during n d (omega (arith, h))
 
 pub trail_is_after_runs : TrailIsAfterRuns
-trail_is_after_runs y call n d h = states_are 0 (started (refused y.state call) y.state (start y call)) (runs_of y call) n d h
+trail_is_after_runs y call n d h = states_are 0 (started (refused y.state call) y.state (start y call)) (runs_of y call) (accesses_asked call) n d h
 
 -- before the first run it is the state as it was
-pub first_state : (s : State) (rs : List Stretch) → s ≡ slice_index_or (states_of s rs) 0 s
-first_state s [] = refl
-first_state s (r ∷ rs) = refl
+pub first_state : (s : State) (rs : List Stretch) (during : List (ℕ × Access)) → s ≡ slice_index_or (states_from 0 s rs during) 0 s
+first_state s [] during = refl
+first_state s (r ∷ rs) during = refl

@@ -1,6 +1,7 @@
 -- What can be asked of the machine, and what it answers.
 use Rattle.std.specs.Prelude.{ℕ, ℤ, Bool, List, Option}
 use Rattle.nm_types.specs.declared.errno.Errno.{Errno}
+use Rattle.nm_engine.specs.Touch.{Access, AccessAnswer}
 
 -- a call and its arguments; a set of nodes is the list of its nodes upwards
 pub data Call : Type 0 where
@@ -13,7 +14,8 @@ pub data Call : Type 0 where
   Unpin : (pid addr : ℕ) → Call
   ReadBytes : (pid addr len : ℕ) → Call
   WriteBytes : (pid addr : ℕ) (bytes : List ℕ) → Call
-  MovePages : (caller pid : ℕ) (pages nodes : List ℕ) (flags : ℕ) → Call
+  -- while pages move, accesses are made, each in the run of its number
+  MovePages : (caller pid : ℕ) (pages nodes : List ℕ) (flags : ℕ) (during : List (ℕ × Access)) → Call
   MigratePages : (caller pid : ℕ) (old new : List ℕ) → Call
   Query : (caller pid : ℕ) (pages : List ℕ) (flags : ℕ) → Call
   Mbind : (caller addr len mode : ℕ) (nodes : List ℕ) (flags : ℕ) → Call
@@ -34,8 +36,8 @@ pub data Answer : Type 0 where
   TheBytes : List ℕ → Answer
   -- how many entries failed
   Failed : (failed : ℕ) → Answer
-  -- the same, and the status of each entry
-  Statuses : (failed : ℕ) → List ℤ → Answer
+  -- the same, the status of each entry, and the answers to the accesses that were made meanwhile
+  Statuses : (failed : ℕ) → List ℤ → (answers : List AccessAnswer) → Answer
   -- frames, the front first
   Frames : List ℕ → Answer
   -- page numbers and the frame at each, or none for the page of zeros

@@ -1,15 +1,18 @@
 -- How what a call answers and does is told by its definition.
-use Rattle.std.specs.Prelude.{◌≡◌, ◌⊎◌, ℕ, ◌<◌, ◌≤◌, ◌-◌, Bool, false, List, [], length, slice_index_or, None, Result, Ok, Err}
+use Rattle.std.specs.Prelude.{◌≡◌, ◌⊎◌, ℕ, ◌<◌, ◌≤◌, ◌-◌, Bool, false, List, length, map, slice_index_or, None, Result, Ok, Err}
 use Rattle.nm_types.specs.declared.errno.Errno.{Errno}
 use Rattle.nm_types.specs.State.{State}
 use Rattle.nm_runs.specs.Cut.{Stretch}
+use Rattle.nm_engine.specs.Touch.{Access}
 use Rattle.nm_engine.specs.Batch.{runs_from, answer_of}
+use Rattle.nm_engine.specs.Answering.{answer_shown}
 use Rattle.nm_calls.specs.declared.call_error.CallError.{CallError}
 use Rattle.nm_calls.specs.declared.call_error.CallError.TheVariants.{Refused, HostMemory}
 use Rattle.nm_calls.specs.declared.answer.Moved.{Moved}
 use Rattle.nm_calls.specs.Calls.{Call, Answer, Refusal}
+use Rattle.nm_calls.specs.During.{runs_named, in_order}
 use Rattle.nm_calls.specs.Systems.{SystemState}
-use Rattle.nm_calls.specs.Outcome.{refused_at_once, outcome, sets_policy, runs_of, after_runs, states_of}
+use Rattle.nm_calls.specs.Outcome.{refused_at_once, outcome, sets_policy, runs_of, after_runs, states_from}
 
 -- a host without memory leaves the system as it was, or as it is after some first ones of the runs, with the policy set,
 -- and never after the last
@@ -34,11 +37,13 @@ abbrev pub DoesOrRefuses : {T : Type 0} → (T → Answer) → Result T Errno �
 DoesOrRefuses view (Ok value) old new call = outcome old call ≡ record { answer = view value; system = new }
 DoesOrRefuses view (Err e) old new call = outcome old call ≡ record { answer = Refusal e; system = new }
 
--- the runs of a batch: they are made, or the host has no memory for one of them, after those before it
-abbrev pub Moves : {A : Type 0} → Result (Moved A) CallError → State → State → List Stretch → Type 0
-Moves (Ok moved) old new stretches =
-    let made = runs_from 0 old stretches [] in
-    (moved.statuses.items ≡ made.statuses) × (moved.failed ≡ answer_of made) × (new ≡ made.state)
-Moves (Err (Refused e)) old new stretches = ⊥
-Moves (Err (HostMemory runs policy_set)) old new stretches =
-    (policy_set ≡ false) × (runs ≤ length stretches - 1) × (new ≡ slice_index_or (states_of old stretches) runs old)
+-- the runs of a batch, each with its accesses: they are made, or the host has no memory for one of them, after those before it
+abbrev pub Moves : {A : Type 0} → Result (Moved A) CallError → State → State → List Stretch → List (ℕ × Access) → Type 0
+Moves (Ok moved) old new stretches during =
+    let made = runs_from 0 old stretches during in
+    (moved.statuses.items ≡ made.statuses) × (moved.failed ≡ answer_of made)
+    × (map answer_shown moved.answers.items ≡ in_order (runs_named during) made.answers) × (new ≡ made.state)
+Moves (Err (Refused e)) old new stretches during = ⊥
+Moves (Err (HostMemory runs policy_set)) old new stretches during =
+    (policy_set ≡ false) × (runs ≤ length stretches - 1)
+    × (new ≡ slice_index_or (states_from 0 old stretches during) runs old)

@@ -1,11 +1,13 @@
 -- What holds of every call.
-use Rattle.std.specs.Prelude.{◌≡◌, ◌⊎◌, ℕ, ◌≤◌, [], length, take, slice_index_or, Option, Some, None, if◌then◌else◌}
+use Rattle.std.specs.Prelude.{◌≡◌, ◌⊎◌, ℕ, ◌≤◌, List, [], length, take, slice_index_or, Option, Some, None, if◌then◌else◌}
 use Rattle.nm_types.specs.declared.errno.Errno.{Errno}
 use Rattle.nm_types.specs.State.{State}
 use Rattle.nm_engine.specs.Batch.{runs_from}
 use Rattle.nm_calls.specs.Calls.{Call, Mbind, Offline, Refusal}
+use Rattle.nm_engine.specs.Touch.{AccessAnswer}
+use Rattle.nm_calls.specs.During.{in_order, by_place}
 use Rattle.nm_calls.specs.Systems.{SystemState}
-use Rattle.nm_calls.specs.Outcome.{refused, start, started, outcome, runs_of, trail}
+use Rattle.nm_calls.specs.Outcome.{refused, start, started, outcome, runs_of, accesses_asked, trail}
 use Rattle.nm_calls.specs.Binding.{tells_late}
 use Rattle.nm_types.specs.declared.errno.Errno.TheVariants.{Eio, Ebusy}
 
@@ -27,4 +29,9 @@ abbrev pub TrailIsAfterRuns : Type 0
 TrailIsAfterRuns =
     (y : SystemState) (call : Call) (n : ℕ) (d : State) → n ≤ length (runs_of y call) →
     let first = started (refused y.state call) y.state (start y call) in
-    slice_index_or (trail y call) n d ≡ (runs_from 0 first (take n (runs_of y call)) []).state
+    slice_index_or (trail y call) n d ≡ (runs_from 0 first (take n (runs_of y call)) (accesses_asked call)).state
+
+-- the answers to accesses in flight go by place
+abbrev pub AnswersGoByPlace : Type 0
+AnswersGoByPlace =
+    (runs : List ℕ) (answers : List (List AccessAnswer)) → in_order runs answers ≡ by_place [] runs answers

@@ -1,4 +1,6 @@
 pub mod Calls
+pub mod During
+pub mod DuringRows
 pub mod Errors
 pub mod Maps
 pub mod Tallied

@@ -36,7 +36,7 @@ PagesLeaveTheNode =
       failed = 0;
       frames = Some 4 ∷ Some 5 ∷ Some 6 ∷ [];
     })
-    × (refused first_offline (MovePages 1 0 (A ∷ []) (0 ∷ []) 2) ≡ Some Enodev)
+    × (refused first_offline (MovePages 1 0 (A ∷ []) (0 ∷ []) 2 []) ≡ Some Enodev)
 
 -- two pages more, of which the first takes the last frame
 abbrev pub filled_up : State

@@ -1,15 +1,15 @@
 -- Which call is refused, what the others answer, and the state after each, also where the host refuses memory.
-use Rattle.std.specs.Prelude.{ℕ, ℤ, ◌/◌, Bool, true, false, ◌&&◌, if◌then◌else◌, List, [], ◌∷◌, length, map, slice_index_or, Option, Some, None}
+use Rattle.std.specs.Prelude.{ℕ, ℤ, ◌+◌, ◌/◌, Bool, true, false, ◌&&◌, if◌then◌else◌, List, [], ◌∷◌, length, map, slice_index_or, Option, Some, None}
 use Rattle.nm_types.specs.declared.errno.Errno.{Errno}
 use Rattle.nm_types.specs.State.{State, free_list}
 use Rattle.nm_runs.specs.Cut.{Stretch}
 use Rattle.nm_runs.specs.Limit.{cut_within}
-use Rattle.nm_engine.specs.Touch.{read, write, spot_refusal}
+use Rattle.nm_engine.specs.Touch.{Access, read, write, spot_refusal}
 use Rattle.nm_engine.specs.Touch as engine
 use Rattle.nm_engine.specs.Effect.{set_online, spawn, map_new, attach, unmap, exit, pin, unpin}
 use Rattle.nm_engine.specs.Refused.{spawn_refusal, map_refusal, attach_refusal, unmap_refusal, exit_refusal, pin_refusal, unpin_refusal, list_refusal, entries_refusal}
 use Rattle.nm_engine.specs.Run.{Ran, run}
-use Rattle.nm_engine.specs.Batch.{runs_from, answer_of}
+use Rattle.nm_engine.specs.Batch.{accesses_of, runs_from, answer_of}
 use Rattle.nm_engine.specs.Entries.{entries_of}
 use Rattle.nm_engine.specs.Asking.{node_status}
 use Rattle.nm_calls.specs.Calls.{Call, Spawn, MapPages, Attach, Unmap, Exit, Pin, Unpin, ReadBytes, WriteBytes, MovePages, MigratePages, Query, FreeList, Pagemap, Vmstat, NumaMaps, Mbind, Offline, Online, Answer, Refusal, Done, Held, NewSegment, TheBytes, Statuses, Failed, Frames, Entries, TheTotals, Lines}
@@ -18,6 +18,7 @@ use Rattle.nm_calls.specs.Maps.{numa_maps}
 use Rattle.nm_calls.specs.Permission.{query_refusal, moves_all, owner_of}
 use Rattle.nm_types.specs.declared.errno.Errno.TheVariants.{Eio, Ebusy}
 use Rattle.nm_calls.specs.Batch.{move_refusal, requests_of}
+use Rattle.nm_calls.specs.During.{runs_named, in_order}
 use Rattle.nm_calls.specs.Migrating.{migrate_refusal, migration}
 use Rattle.nm_calls.specs.Binding.{mbind_refusal, policed, binding, mbind_runs, still_strays, tells_late}
 use Rattle.nm_calls.specs.Offlining.{offline_refusal, offline_runs, still_on, online_refusal}
@@ -52,7 +53,7 @@ refused s (Pin pid addr) = pin_refusal s pid addr
 refused s (Unpin pid addr) = unpin_refusal s pid addr
 refused s (ReadBytes pid addr len) = refusal_in (read s pid addr len).answer
 refused s (WriteBytes pid addr bytes) = refusal_in (write s pid addr bytes).answer
-refused s (MovePages caller pid pages nodes flags) = move_refusal s caller pid nodes flags
+refused s (MovePages caller pid pages nodes flags during) = move_refusal s caller pid nodes flags
 refused s (MigratePages caller pid old new) = migrate_refusal s caller pid old new
 refused s (Query caller pid pages flags) = query_refusal s caller pid flags
 refused s (Mbind caller addr len mode nodes flags) = mbind_refusal s caller addr len mode nodes flags
@@ -81,7 +82,7 @@ sets_policy call = false
 
 -- the runs that a call makes, where it is not refused; one that moves no pages makes none
 unfoldable pub runs_asked : SystemState → Call → List Stretch
-runs_asked y (MovePages caller pid pages nodes flags) =
+runs_asked y (MovePages caller pid pages nodes flags during) =
     cut_within y.run_limit (requests_of (owner_of caller pid) (moves_all flags) pages nodes)
 runs_asked y (MigratePages caller pid old new) = cut_within y.run_limit (migration y.state caller pid old new)
 runs_asked y (Mbind caller addr len mode nodes flags) =
@@ -89,6 +90,11 @@ runs_asked y (Mbind caller addr len mode nodes flags) =
     mbind_runs y.run_limit set (binding y.state caller addr len mode nodes) flags
 runs_asked y (Offline node) = offline_runs y.run_limit y.state node
 runs_asked y call = []
+
+-- the accesses that are made while pages move, each with the number of its run
+unfoldable pub accesses_asked : Call → List (ℕ × Access)
+accesses_asked (MovePages caller pid pages nodes flags during) = during
+accesses_asked call = []
 
 -- an answer, and the system after it
 pub record Outcome : Type 0 where
@@ -122,10 +128,11 @@ ended y (ReadBytes pid addr len) made =
     let access = read y.state pid addr len in leaves y (shown access.answer) access.state
 ended y (WriteBytes pid addr bytes) made =
     let access = write y.state pid addr bytes in leaves y (shown access.answer) access.state
-ended y (MovePages caller pid pages nodes flags) made = leaves y (Statuses (answer_of made) made.statuses) made.state
+ended y (MovePages caller pid pages nodes flags during) made =
+    leaves y (Statuses (answer_of made) made.statuses (in_order (runs_named during) made.answers)) made.state
 ended y (MigratePages caller pid old new) made = leaves y (Failed (answer_of made)) made.state
 ended y (Query caller pid pages flags) made =
-    leaves y (Statuses 0 (statuses_of y.state (owner_of caller pid) pages)) y.state
+    leaves y (Statuses 0 (statuses_of y.state (owner_of caller pid) pages) []) y.state
 ended y (Mbind caller addr len mode nodes flags) made =
     let strays = still_strays y.state made.state (binding y.state caller addr len mode nodes) in
     leaves y (late_answer (tells_late flags && strays)) made.state
@@ -143,7 +150,9 @@ unless None y o = o
 
 -- what a call answers, and the system after it; one that is refused at first changes nothing
 abbrev pub outcome : SystemState → Call → Outcome
-outcome y call = unless (refused y.state call) y (ended y call (runs_from 0 (start y call) (runs_asked y call) []))
+outcome y call =
+    let made = runs_from 0 (start y call) (runs_asked y call) (accesses_asked call) in
+    unless (refused y.state call) y (ended y call made)
 
 -- no runs, unless there is no refusal
 abbrev pub runs_unless : Option Errno → List Stretch → List Stretch
@@ -154,10 +163,15 @@ runs_unless None runs = runs
 abbrev pub runs_of : SystemState → Call → List Stretch
 runs_of y call = runs_unless (refused y.state call) (runs_asked y call)
 
--- the states before, between and after runs
+-- the states before, between and after runs, with numbers from k on, each with its accesses
+abbrev pub states_from : ℕ → State → List Stretch → List (ℕ × Access) → List State
+states_from k s [] accesses = s ∷ []
+states_from k s (r ∷ rs) accesses =
+    s ∷ states_from (k + 1) (run s r.target r.wanted (accesses_of k accesses)).state rs accesses
+
+-- the states before, between and after runs without accesses
 abbrev pub states_of : State → List Stretch → List State
-states_of s [] = s ∷ []
-states_of s (r ∷ rs) = s ∷ states_of (run s r.target r.wanted []).state rs
+states_of s rs = states_from 0 s rs []
 
 -- the state as it was, unless there is no refusal
 abbrev pub started : Option Errno → State → State → State
@@ -166,7 +180,8 @@ started None s t = t
 
 -- the trail of a call: the states from before its first run, with the policy set, to after its last
 abbrev pub trail : SystemState → Call → List State
-trail y call = states_of (started (refused y.state call) y.state (start y call)) (runs_of y call)
+trail y call =
+    states_from 0 (started (refused y.state call) y.state (start y call)) (runs_of y call) (accesses_asked call)
 
 -- the system after so many runs of a call
 abbrev pub after_runs : SystemState → Call → ℕ → SystemState

@@ -1,9 +1,12 @@
 -- Calls and their answers, without where they lie in memory.
+use Rattle.std.specs.Prelude.{map}
 use Rattle.nm_calls.specs.declared.call.Call as values
 use Rattle.nm_calls.specs.declared.call.Call.TheVariants as call
 use Rattle.nm_calls.specs.declared.answer.Answer as values_of_answers
 use Rattle.nm_calls.specs.declared.answer.Answer.TheVariants as answer
 use Rattle.nm_calls.specs.Calls.{Call, Spawn, MapPages, Attach, Unmap, Exit, Pin, Unpin, ReadBytes, WriteBytes, MovePages, MigratePages, Mbind, Offline, Online, Query, FreeList, Pagemap, Vmstat, NumaMaps, Answer, Done, NewSegment, TheBytes, Statuses, Failed, Frames, Entries, TheTotals, Lines}
+use Rattle.nm_engine.specs.Answering.{answer_shown}
+use Rattle.nm_calls.specs.During.{shown_during}
 use Rattle.nm_calls.specs.Entries.{entries_mapped}
 use Rattle.nm_calls.specs.Maps.{lines_shown}
 
@@ -20,6 +23,7 @@ call_of (call.Read pid addr len) = ReadBytes pid addr len
 call_of (call.Write pid addr bytes) = WriteBytes pid addr bytes.items
 call_of (call.MovePages request) =
     MovePages request.caller request.pid request.batch.pages.items request.batch.nodes.items request.flags
+    (shown_during request.during.items)
 call_of (call.MigratePages request) = MigratePages request.caller request.pid request.old request.new
 call_of (call.Mbind request) =
     Mbind request.caller request.addr request.len request.mode request.nodes request.flags
@@ -36,7 +40,7 @@ abbrev pub answer_of : {A : Type 0} → values_of_answers.Answer A → Answer
 answer_of answer.Done = Done
 answer_of (answer.Segment segment) = NewSegment segment
 answer_of (answer.Bytes bytes) = TheBytes bytes.items
-answer_of (answer.Statuses moved) = Statuses moved.failed moved.statuses.items
+answer_of (answer.Statuses moved) = Statuses moved.failed moved.statuses.items (map answer_shown moved.answers.items)
 answer_of (answer.Failed failed) = Failed failed
 answer_of (answer.Frames frames) = Frames frames.items
 answer_of (answer.Entries entries) = Entries (entries_mapped entries.items)

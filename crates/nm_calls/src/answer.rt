@@ -1,6 +1,6 @@
 //! What calls answer.
 
-use nm_engine::Totals;
+use nm_engine::{AccessAnswer, Totals};
 use nm_types::{FrameId, Vpn};
 use std::alloc::Allocator;
 
@@ -11,6 +11,9 @@ pub struct Moved<A: Allocator + Copy + Send + Sync> {
     pub failed: usize,
     /// The status of each entry: the node where its page is, or an error's number with a minus sign.
     pub statuses: Vec<i32, A>,
+    /// The answers to the accesses that were made while pages moved, in the order in which they were asked for. One of a run
+    /// that the call does not make has none.
+    pub answers: Vec<AccessAnswer<A>, A>,
 }
 
 /// An entry of a process, at a page number.

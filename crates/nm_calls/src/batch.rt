@@ -6,14 +6,17 @@ ghost use Rattle.nm_types.specs.Layout.{node_count};
 ghost use Rattle.nm_types.specs.Nodes.{is_in};
 ghost use Rattle.nm_runs.specs.declared.Wanted.TheVariants.{At};
 ghost use Rattle.nm_runs.specs.Cut.{stretches_of};
-ghost use Rattle.nm_runs.specs.Limit.{cut_within};
+ghost use Rattle.nm_runs.specs.Limit.{cut_within, run_count};
 ghost use Rattle.nm_runs.specs.Targets.{first_refusal, Checks};
 ghost use Rattle.nm_engine.specs.Run.{failures, HasOneAll};
 ghost use Rattle.nm_calls.specs.Batch.{requests_of};
 ghost use Rattle.nm_calls.specs.Does.{Moves};
+ghost use Rattle.nm_calls.specs.During.{shown_during};
 
 use crate::answer::Moved;
+use crate::call::InFlight;
 use crate::call_error::CallError;
+use crate::during::{by_run, in_order};
 use nm_crew::Gate;
 use nm_engine::Machine;
 use nm_runs::{Request, Run, Wanted, check_batch, cut_within};
@@ -77,6 +80,14 @@ fn requests_of<A: Allocator + Copy + Send + Sync>(
         .collect(alloc)
 }
 
+/// How many runs a batch of pages for these nodes has, none of more entries than the limit. It takes no memory.
+pub fn run_count(nodes: &[u32], limit: usize) -> usize
+    requires { 0 < limit }
+    ensures { result ≡ run_count limit nodes.now }
+{
+    nm_runs::run_count(nodes, limit)
+}
+
 /// How many entries failed.
 fn failures(statuses: &[i32]) -> usize
     ensures { result ≡ failures statuses.now }
@@ -88,15 +99,19 @@ fn failures(statuses: &[i32]) -> usize
 }
 
 /// Makes runs one after another, whose pages so many workers copy, and puts the statuses into a list that has room for
-/// them. An error means that the host refused memory after so many runs.
+/// them. The accesses are made meanwhile, each in the run of its number. All that is asked for them is made ready before the
+/// first run starts, but for what a run itself wants. An error means that the host refused memory after so many runs.
+#[tactic(auto, using(crate::proofs::Trails::first_state))]
 pub(crate) fn move_runs<
     R: Threads + Wait + Sync,
     A: Allocator + Copy + Send + Sync,
     G: Gate + Sync,
 >(
     rt: &R,
+    alloc: A,
     machine: &mut Machine<A>,
     runs: &[Run<A>],
+    during: &[InFlight<A>],
     mut statuses: Vec<i32, A>,
     workers: usize,
     gate: &G,
@@ -106,20 +121,27 @@ pub(crate) fn move_runs<
     requires empty { statuses.items ≡ [] }
     requires room { sum_by (λ run. length run.wanted.items) runs.now ≤ vec_capacity statuses }
     requires workers { (0 < workers) × (workers ≤ 64) }
-    ensures { Moves result machine.old machine.new (stretches_of runs.now) }
+    ensures { Moves result machine.old machine.new (stretches_of runs.now) (shown_during during.now) }
 {
+    let accesses = by_run(alloc, during, runs.len())?;
+    let mut told = Vec::with_capacity(alloc, runs.len())?;
+    let answers = Vec::with_capacity(alloc, during.len())?;
     for (k, run) in runs.iter().enumerate() {
-        let Ok(answered) = machine.run_flight(rt, run, workers, gate) else {
+        let Ok(flown) = machine.run_flight(rt, run, accesses[k].as_slice(), workers, gate) else {
             return Err(CallError::HostMemory {
                 runs: k,
                 policy_set: false,
             });
         };
-        statuses.extend_from_slice(answered.as_slice()).unwrap();
+        statuses
+            .extend_from_slice(flown.statuses.as_slice())
+            .unwrap();
+        told.push_reserved(flown.answers.into_iter());
     }
     Ok(Moved {
         failed: failures(statuses.as_slice()),
         statuses,
+        answers: in_order(during, told, answers),
     })
 }
 
@@ -139,6 +161,7 @@ pub(crate) fn move_batch<
     all: bool,
     pages: &[u64],
     nodes: &[u32],
+    during: &[InFlight<A>],
     limit: usize,
     workers: usize,
     gate: &G,
@@ -147,10 +170,11 @@ pub(crate) fn move_batch<
     requires nodes { EachIndex nodes.now (λ k. slice_index nodes.now k < node_count machine.old.layout) }
     requires paired { length pages.now ≡ length nodes.now }
     requires workers { (0 < workers) × (workers ≤ 64) }
-    ensures { Moves result machine.old machine.new (cut_within limit (requests_of pid all pages.now nodes.now)) }
+    ensures { Moves result machine.old machine.new (cut_within limit (requests_of pid all pages.now nodes.now)) (shown_during during.now) }
 {
     let requests = requests_of(alloc, pid, all, pages, nodes)?;
     let runs = cut_within(alloc, requests.as_slice(), limit)?;
     let statuses = Vec::with_capacity(alloc, pages.len())?;
-    move_runs(rt, machine, runs.as_slice(), statuses, workers, gate)
+    let runs = runs.as_slice();
+    move_runs(rt, alloc, machine, runs, during, statuses, workers, gate)
 }

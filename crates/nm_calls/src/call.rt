@@ -2,7 +2,7 @@
 
 ghost use Rattle.std.specs.Prelude.{◌≡◌, length};
 
-use nm_types::{NodeId, NodeMask, Pid};
+use nm_types::{Access, NodeId, NodeMask, Pid};
 use std::alloc::Allocator;
 
 /// What a new process is.
@@ -58,6 +58,16 @@ pub struct Batch<A: Allocator + Copy + Send + Sync> {
     pub ghost paired: { length pages.items ≡ length nodes.items },
 }
 
+/// A read or a write that is made while the pages of a run move.
+#[derive(Debug, Drop)]
+pub struct InFlight<A: Allocator + Copy + Send + Sync> {
+    /// The number of the run in its call, from 0. It is to be below `run_count`: an access of a run that the call does not
+    /// make has no answer, and the answers behind it move up.
+    pub run: usize,
+    /// What is read or written.
+    pub access: Access<A>,
+}
+
 /// Pages that are to move.
 #[derive(Debug, Drop)]
 pub struct MoveRequest<A: Allocator + Copy + Send + Sync> {
@@ -69,6 +79,8 @@ pub struct MoveRequest<A: Allocator + Copy + Send + Sync> {
     pub batch: Batch<A>,
     /// The flags by their bits: MPOL_MF_MOVE is 2, MPOL_MF_MOVE_ALL is 4.
     pub flags: u32,
+    /// The accesses that are made meanwhile: those of a run one after another, in the order of the list.
+    pub during: Vec<InFlight<A>, A>,
 }
 
 /// Nodes from which pages of a process are to move, and nodes to which they are to go.

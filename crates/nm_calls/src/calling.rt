@@ -1,7 +1,10 @@
 //! Calls that are given as values.
 
+ghost use Rattle.std.specs.Prelude.{map};
+ghost use Rattle.nm_engine.specs.Answering.{answer_shown};
 ghost use Rattle.nm_calls.specs.Calls as calls;
 ghost use Rattle.nm_calls.specs.Does.{Does};
+ghost use Rattle.nm_calls.specs.During.{shown_during};
 ghost use Rattle.nm_calls.specs.Views.{call_of, answer_of};
 
 use crate::answer::{Answer, Moved};
@@ -79,14 +82,15 @@ fn move_pages<R: Threads + Wait + Sync, A: Allocator + Copy + Send + Sync, G: Ga
     request: &MoveRequest<A>,
     gate: &G,
 ) -> Result<Moved<A>, CallError>
-    ensures { Does (λ moved. calls.Statuses moved.failed moved.statuses.items) result system.old system.new
-        (calls.MovePages request.now.caller request.now.pid request.now.batch.pages.items request.now.batch.nodes.items request.now.flags) }
+    ensures { Does (λ moved. calls.Statuses moved.failed moved.statuses.items (map answer_shown moved.answers.items)) result system.old system.new
+        (calls.MovePages request.now.caller request.now.pid request.now.batch.pages.items request.now.batch.nodes.items request.now.flags (shown_during request.now.during.items)) }
 {
     let MoveRequest {
         caller,
         pid,
         batch,
         flags,
+        during,
     } = request;
     let Batch { pages, nodes } = batch;
     system.move_pages(
@@ -96,6 +100,7 @@ fn move_pages<R: Threads + Wait + Sync, A: Allocator + Copy + Send + Sync, G: Ga
         pages.as_slice(),
         nodes.as_slice(),
         *flags,
+        during.as_slice(),
         gate,
     )
 }
@@ -170,7 +175,7 @@ fn query<A: Allocator + Copy + Send + Sync>(
     system: &System<A>,
     question: &Question<A>,
 ) -> Result<Moved<A>, CallError>
-    ensures { Does (λ moved. calls.Statuses moved.failed moved.statuses.items) result system.now system.now
+    ensures { Does (λ moved. calls.Statuses moved.failed moved.statuses.items (map answer_shown moved.answers.items)) result system.now system.now
         (calls.Query question.now.caller question.now.pid question.now.pages.items question.now.flags) }
 {
     let Question {
@@ -182,6 +187,7 @@ fn query<A: Allocator + Copy + Send + Sync>(
     Ok(Moved {
         failed: 0,
         statuses: system.query(*caller, *pid, pages.as_slice(), *flags)?,
+        answers: Vec::new(system.allocator()),
     })
 }
 

@@ -1,11 +1,12 @@
 //! What holds of every call, as the contracts of functions that do nothing.
 
-ghost use Rattle.nm_calls.specs.Laws.{RefusalsChangeNothing, TrailIsAfterRuns};
+ghost use Rattle.nm_calls.specs.Laws.{RefusalsChangeNothing, TrailIsAfterRuns, AnswersGoByPlace};
 ghost use Rattle.nm_calls.specs.MigrateLaws.{EachPageIsListedOnce, RunsGoToNodesOnline};
 ghost use Rattle.nm_calls.specs.MigrateRows.{EachPageGoesOnce, HalfWay, TwoOfFourGo, SharedPageGoesByPrivilege, MigrationsAreRefused, NothingMigrates, SizesOfWhatIsKept, PageIsListedOnce, RunsHaveALimit};
 ghost use Rattle.nm_calls.specs.Binding.{NoStrayIsListedTwice};
 ghost use Rattle.nm_calls.specs.Offlining.{RunsIgnoreOnline};
 ghost use Rattle.nm_calls.specs.OfflineRows.{PagesLeaveTheNode, NothingIsTakenOffline, PinnedPageKeepsItsNode, PassesGoByDistance, UnseenPageMoves, SharedPageLeavesItsNode, OfflineNodesAreNotKept, NearestNodeFirst, LastNodeStays, PagesGoBySegment};
+ghost use Rattle.nm_calls.specs.DuringRows.{FramesAreReserved, AccessFindsNoFrame, HeldAtEachAddress, RefusedBeforeHeld, RefusedCallsMakeNone, AnsweredInOrder, LimitMakesRuns};
 ghost use Rattle.nm_calls.specs.BindingRows.{PinnedPageIsTold, StrictAloneRefuses, StayingIsNoError, LinesAreSplit, NewPagesTakeTurns, BoundPagesGoNowhereElse, SecondPassTakesTheRest, FollowersStay, StrayPagesTakeTurns, BindingsAreRefused, LastByteCounts, TurnsGoByIndex, StrayIsListedOnce, SharedPagesMoveWithAll, SetsAsText, BothProcessesAreCounted, LastPage};
 
 /// A call that is refused leaves the system as it was, but for EIO of mbind(2) with MPOL_MF_STRICT and a flag to move, and
@@ -86,4 +87,21 @@ pub fn areas_are_told()
     ensures sets_as_text { SetsAsText }
     ensures both_processes_are_counted { BothProcessesAreCounted }
     ensures last_page { LastPage }
+{}
+
+/// The answer to an access in flight is that of its run's answers whose place is the number of accesses before it that name
+/// the same run.
+pub fn answers_go_by_place()
+    ensures { AnswersGoByPlace }
+{}
+
+/// Worked examples of accesses that are made while pages move.
+pub fn accesses_meet_moves()
+    ensures frames_are_reserved { FramesAreReserved }
+    ensures access_finds_no_frame { AccessFindsNoFrame }
+    ensures held_at_each_address { HeldAtEachAddress }
+    ensures refused_before_held { RefusedBeforeHeld }
+    ensures refused_calls_make_none { RefusedCallsMakeNone }
+    ensures answered_in_order { AnsweredInOrder }
+    ensures limit_makes_runs { LimitMakesRuns }
 {}

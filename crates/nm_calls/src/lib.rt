@@ -7,6 +7,7 @@ mod binding;
 mod call;
 mod call_error;
 mod calling;
+mod during;
 pub mod laws;
 mod listing;
 mod maps;
@@ -18,11 +19,13 @@ mod system;
 mod words;
 
 pub use answer::{Answer, Moved, PagemapEntry};
+pub use batch::run_count;
 pub use call::{
-    Attachment, Batch, Call, MbindRequest, MigrateRequest, MoveRequest, NewArea, NewProcess,
-    Question,
+    Attachment, Batch, Call, InFlight, MbindRequest, MigrateRequest, MoveRequest, NewArea,
+    NewProcess, Question,
 };
 pub use call_error::CallError;
-pub use nm_engine::Totals;
+pub use nm_engine::{AccessAnswer, Totals};
+pub use nm_types::Access;
 pub use system::System;
 pub use words::{push_address, push_number};

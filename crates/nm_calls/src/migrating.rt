@@ -1,6 +1,6 @@
 //! What moves from nodes to nodes, as by `migrate_pages(2)`: whether it may, and its runs.
 
-ghost use Rattle.std.specs.Prelude.{◌≡◌, ◌<◌, ◌≤◌, IfOk, IsSome, Some};
+ghost use Rattle.std.specs.Prelude.{◌≡◌, ◌<◌, ◌≤◌, [], IfOk, IsSome, Some};
 ghost use Rattle.std.specs.List.{AllByRecursion};
 ghost use Rattle.nm_types.specs.Layout.{node_count};
 ghost use Rattle.nm_policy.specs.Pairs.{pairs};
@@ -13,6 +13,7 @@ ghost use Rattle.nm_calls.specs.Migrating.{new_refusal, migrate_refusal, migrati
 
 use crate::answer::Moved;
 use crate::batch::move_runs;
+use crate::call::InFlight;
 use crate::call_error::CallError;
 use crate::listing::migrate_list;
 use crate::permission::{acted_on, owner_of};
@@ -110,11 +111,21 @@ pub(crate) fn migrate<R: Threads + Wait + Sync, A: Allocator + Copy + Send + Syn
     requires there { IsSome (info_at machine.old what.pid) }
     requires nodes { AllByRecursion (λ n. n < node_count machine.old.layout) what.targets }
     requires workers { (0 < workers) × (workers ≤ 64) }
-    ensures { Moves result machine.old machine.new (cut_within limit (migrate_list machine.old what.pid what.all (pairs old what.targets))) }
+    ensures { Moves result machine.old machine.new (cut_within limit (migrate_list machine.old what.pid what.all (pairs old what.targets))) [] }
 {
     let pairs = pairs(alloc, old, what.targets)?;
     let requests = migrate_list(alloc, machine, what.pid, what.all, pairs.as_slice())?;
     let runs = cut_within(alloc, requests.as_slice(), limit)?;
     let statuses = Vec::with_capacity(alloc, requests.len())?;
-    move_runs(rt, machine, runs.as_slice(), statuses, workers, gate)
+    let none: [InFlight<A>; 0] = [];
+    move_runs(
+        rt,
+        alloc,
+        machine,
+        runs.as_slice(),
+        none.as_slice(),
+        statuses,
+        workers,
+        gate,
+    )
 }

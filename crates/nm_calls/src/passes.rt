@@ -13,6 +13,7 @@ ghost use Rattle.nm_calls.specs.Passes.{passes, without_frame};
 ghost use Rattle.nm_calls.specs.Making.{Batches, MakesRuns, later, IsCounted};
 
 use crate::batch::move_runs;
+use crate::call::InFlight;
 use crate::call_error::CallError;
 use nm_crew::Gate;
 use nm_engine::Machine;
@@ -55,7 +56,17 @@ pub(crate) fn make_batch<
 {
     let runs = cut_within(alloc, requests, limit)?;
     let statuses = Vec::with_capacity(alloc, requests.len())?;
-    let moved = move_runs(rt, machine, runs.as_slice(), statuses, workers, gate)?;
+    let none: [InFlight<A>; 0] = [];
+    let moved = move_runs(
+        rt,
+        alloc,
+        machine,
+        runs.as_slice(),
+        none.as_slice(),
+        statuses,
+        workers,
+        gate,
+    )?;
     Ok(Made {
         runs: runs.len(),
         statuses: moved.statuses,

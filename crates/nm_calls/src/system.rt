@@ -1,18 +1,21 @@
 //! The machine, and the calls that processes make on it.
 
-ghost use Rattle.std.specs.Prelude.{◌≡◌, ◌<◌, ◌≤◌, true, IfOk, length};
+ghost use Rattle.std.specs.Prelude.{◌≡◌, ◌<◌, ◌≤◌, true, [], IfOk, length, map};
 ghost use Rattle.nm_engine.specs.Audited.{audited};
 ghost use Rattle.nm_engine.specs.Sound.{IsSound};
+ghost use Rattle.nm_engine.specs.Answering.{answer_shown};
 ghost use Rattle.nm_calls.specs.Calls.{Spawn, MapPages, Attach, Unmap, Exit, Pin, Unpin, ReadBytes, WriteBytes, MovePages, MigratePages, Mbind, Offline, Online, Query, FreeList, Pagemap, Vmstat, NumaMaps, Done, NewSegment, TheBytes, Statuses, Failed, Frames, Entries, TheTotals, Lines};
 ghost use Rattle.nm_calls.specs.Entries.{entries_mapped, entries_shown};
 ghost use Rattle.nm_calls.specs.Maps.{lines_shown};
 ghost use Rattle.nm_calls.specs.Systems.{default_limit, new_system, system_with};
 ghost use Rattle.nm_calls.specs.Outcome.{statuses_of, outcome};
 ghost use Rattle.nm_calls.specs.Does.{Does, DoesOrRefuses};
+ghost use Rattle.nm_calls.specs.During.{shown_during};
 
 use crate::answer::{Moved, PagemapEntry};
 use crate::batch::{check_targets, move_batch};
 use crate::binding::{bind, ready};
+use crate::call::InFlight;
 use crate::call_error::CallError;
 use crate::maps::areas_text;
 use crate::migrating::{migrate, migration_of};
@@ -115,9 +118,14 @@ impl<A: Allocator + Copy + Send + Sync> System<A> {
         })
     }
 
+    /// Where its lists are made.
+    pub(crate) fn allocator(&self) -> A {
+        self.alloc
+    }
+
     /// Makes a process. Refusals in order: EINVAL (pid 0 or alive, a home that is no node, no allowed node or one beyond
     /// the machine), ENOMEM (1,024 processes are alive).
-    #[tactic(auto, unfolding(crate::specs::Outcome::refused, crate::specs::Outcome::refused_at_once, crate::specs::Outcome::ended, crate::specs::Outcome::runs_asked, crate::specs::Outcome::start, crate::specs::Outcome::sets_policy), using(crate::proofs::Outcomes::answers, crate::proofs::Outcomes::refuses, crate::proofs::Outcomes::unchanged))]
+    #[tactic(auto, unfolding(crate::specs::Outcome::refused, crate::specs::Outcome::refused_at_once, crate::specs::Outcome::ended, crate::specs::Outcome::runs_asked, crate::specs::Outcome::start, crate::specs::Outcome::sets_policy, crate::specs::Outcome::accesses_asked), using(crate::proofs::Outcomes::answers, crate::proofs::Outcomes::refuses, crate::proofs::Outcomes::unchanged))]
     pub fn spawn(
         &mut self,
         pid: Pid,
@@ -133,7 +141,7 @@ impl<A: Allocator + Copy + Send + Sync> System<A> {
 
     /// Makes an area of so many pages over a new segment, private or shared, and answers the segment's number. Refusals in
     /// order: ESRCH; EINVAL (an address in mid-page, no page, past 2^47, an area there); ENOMEM (no segment number left).
-    #[tactic(auto, unfolding(crate::specs::Outcome::refused, crate::specs::Outcome::refused_at_once, crate::specs::Outcome::ended, crate::specs::Outcome::runs_asked, crate::specs::Outcome::start, crate::specs::Outcome::sets_policy), using(crate::proofs::Outcomes::answers, crate::proofs::Outcomes::refuses, crate::proofs::Outcomes::unchanged))]
+    #[tactic(auto, unfolding(crate::specs::Outcome::refused, crate::specs::Outcome::refused_at_once, crate::specs::Outcome::ended, crate::specs::Outcome::runs_asked, crate::specs::Outcome::start, crate::specs::Outcome::sets_policy, crate::specs::Outcome::accesses_asked), using(crate::proofs::Outcomes::answers, crate::proofs::Outcomes::refuses, crate::proofs::Outcomes::unchanged))]
     pub fn map(&mut self, pid: Pid, addr: u64, pages: u64, shared: bool) -> Result<u32, CallError>
         ensures { Does NewSegment result self.old self.new (MapPages pid addr pages shared) }
     {
@@ -143,7 +151,7 @@ impl<A: Allocator + Copy + Send + Sync> System<A> {
     /// Makes an area over so many pages of a shared segment, from an offset in pages on. Refusals in order: ESRCH; EINVAL
     /// (an address in mid-page, no page, past 2^47, an area there; or a segment that is unknown, gone or private, or ends
     /// before the area would).
-    #[tactic(auto, unfolding(crate::specs::Outcome::refused, crate::specs::Outcome::refused_at_once, crate::specs::Outcome::ended, crate::specs::Outcome::runs_asked, crate::specs::Outcome::start, crate::specs::Outcome::sets_policy), using(crate::proofs::Outcomes::answers, crate::proofs::Outcomes::refuses, crate::proofs::Outcomes::unchanged))]
+    #[tactic(auto, unfolding(crate::specs::Outcome::refused, crate::specs::Outcome::refused_at_once, crate::specs::Outcome::ended, crate::specs::Outcome::runs_asked, crate::specs::Outcome::start, crate::specs::Outcome::sets_policy, crate::specs::Outcome::accesses_asked), using(crate::proofs::Outcomes::answers, crate::proofs::Outcomes::refuses, crate::proofs::Outcomes::unchanged))]
     pub fn attach(
         &mut self,
         pid: Pid,
@@ -160,7 +168,7 @@ impl<A: Allocator + Copy + Send + Sync> System<A> {
     /// Lets go so many pages from an address on, where there may be holes. A page that no area of any process covers any
     /// more loses its frame, which goes to the end of its node's free list, by ascending address. Refusals in order:
     /// ESRCH; EINVAL (an address in mid-page, no page, past 2^47); EBUSY (an area shows a pinned page there).
-    #[tactic(auto, unfolding(crate::specs::Outcome::refused, crate::specs::Outcome::refused_at_once, crate::specs::Outcome::ended, crate::specs::Outcome::runs_asked, crate::specs::Outcome::start, crate::specs::Outcome::sets_policy), using(crate::proofs::Outcomes::answers, crate::proofs::Outcomes::refuses, crate::proofs::Outcomes::unchanged))]
+    #[tactic(auto, unfolding(crate::specs::Outcome::refused, crate::specs::Outcome::refused_at_once, crate::specs::Outcome::ended, crate::specs::Outcome::runs_asked, crate::specs::Outcome::start, crate::specs::Outcome::sets_policy, crate::specs::Outcome::accesses_asked), using(crate::proofs::Outcomes::answers, crate::proofs::Outcomes::refuses, crate::proofs::Outcomes::unchanged))]
     pub fn unmap(&mut self, pid: Pid, addr: u64, pages: u64) -> Result<(), CallError>
         ensures { Does (λ done. Done) result self.old self.new (Unmap pid addr pages) }
     {
@@ -169,7 +177,7 @@ impl<A: Allocator + Copy + Send + Sync> System<A> {
 
     /// Ends a process, which lets go all its areas as by one `unmap`. Its pid may come again. Refusals in order: ESRCH;
     /// EBUSY (an area of it shows a pinned page).
-    #[tactic(auto, unfolding(crate::specs::Outcome::refused, crate::specs::Outcome::refused_at_once, crate::specs::Outcome::ended, crate::specs::Outcome::runs_asked, crate::specs::Outcome::start, crate::specs::Outcome::sets_policy), using(crate::proofs::Outcomes::answers, crate::proofs::Outcomes::refuses, crate::proofs::Outcomes::unchanged))]
+    #[tactic(auto, unfolding(crate::specs::Outcome::refused, crate::specs::Outcome::refused_at_once, crate::specs::Outcome::ended, crate::specs::Outcome::runs_asked, crate::specs::Outcome::start, crate::specs::Outcome::sets_policy, crate::specs::Outcome::accesses_asked), using(crate::proofs::Outcomes::answers, crate::proofs::Outcomes::refuses, crate::proofs::Outcomes::unchanged))]
     pub fn exit(&mut self, pid: Pid) -> Result<(), CallError>
         ensures { Does (λ done. Done) result self.old self.new (Exit pid) }
     {
@@ -179,7 +187,7 @@ impl<A: Allocator + Copy + Send + Sync> System<A> {
     /// Pins the page at an address once more, and takes no memory: the page stays in its frame until it is unpinned as
     /// often. Refusals in order: ESRCH; EFAULT (no area, or the page of zeros); ENOENT (nothing was touched there); EBUSY
     /// (65,535 pins).
-    #[tactic(auto, unfolding(crate::specs::Outcome::refused, crate::specs::Outcome::refused_at_once, crate::specs::Outcome::ended, crate::specs::Outcome::runs_asked, crate::specs::Outcome::start, crate::specs::Outcome::sets_policy), using(crate::proofs::Outcomes::answers, crate::proofs::Outcomes::refuses, crate::proofs::Outcomes::unchanged))]
+    #[tactic(auto, unfolding(crate::specs::Outcome::refused, crate::specs::Outcome::refused_at_once, crate::specs::Outcome::ended, crate::specs::Outcome::runs_asked, crate::specs::Outcome::start, crate::specs::Outcome::sets_policy, crate::specs::Outcome::accesses_asked), using(crate::proofs::Outcomes::answers, crate::proofs::Outcomes::refuses, crate::proofs::Outcomes::unchanged))]
     pub fn pin(&mut self, pid: Pid, addr: u64) -> Result<(), Errno>
         ensures { DoesOrRefuses (λ done. Done) result self.old self.new (Pin pid addr) }
     {
@@ -188,7 +196,7 @@ impl<A: Allocator + Copy + Send + Sync> System<A> {
 
     /// Takes one pin off the page at an address, whoever pinned it, and takes no memory. Refusals in order: ESRCH, EFAULT
     /// and ENOENT as for `pin`; EINVAL (no pin).
-    #[tactic(auto, unfolding(crate::specs::Outcome::refused, crate::specs::Outcome::refused_at_once, crate::specs::Outcome::ended, crate::specs::Outcome::runs_asked, crate::specs::Outcome::start, crate::specs::Outcome::sets_policy), using(crate::proofs::Outcomes::answers, crate::proofs::Outcomes::refuses, crate::proofs::Outcomes::unchanged))]
+    #[tactic(auto, unfolding(crate::specs::Outcome::refused, crate::specs::Outcome::refused_at_once, crate::specs::Outcome::ended, crate::specs::Outcome::runs_asked, crate::specs::Outcome::start, crate::specs::Outcome::sets_policy, crate::specs::Outcome::accesses_asked), using(crate::proofs::Outcomes::answers, crate::proofs::Outcomes::refuses, crate::proofs::Outcomes::unchanged))]
     pub fn unpin(&mut self, pid: Pid, addr: u64) -> Result<(), Errno>
         ensures { DoesOrRefuses (λ done. Done) result self.old self.new (Unpin pid addr) }
     {
@@ -197,7 +205,7 @@ impl<A: Allocator + Copy + Send + Sync> System<A> {
 
     /// Reads 1 to 4,096 bytes inside one page. Refusals in order: ESRCH, EINVAL (no byte, or past the page's end),
     /// EFAULT (no area), ENOMEM (no free frame).
-    #[tactic(auto, unfolding(crate::specs::Outcome::refused, crate::specs::Outcome::refused_at_once, crate::specs::Outcome::ended, crate::specs::Outcome::runs_asked, crate::specs::Outcome::start, crate::specs::Outcome::sets_policy), using(crate::proofs::Outcomes::answers, crate::proofs::Outcomes::refuses, crate::proofs::Outcomes::unchanged))]
+    #[tactic(auto, unfolding(crate::specs::Outcome::refused, crate::specs::Outcome::refused_at_once, crate::specs::Outcome::ended, crate::specs::Outcome::runs_asked, crate::specs::Outcome::start, crate::specs::Outcome::sets_policy, crate::specs::Outcome::accesses_asked), using(crate::proofs::Outcomes::answers, crate::proofs::Outcomes::refuses, crate::proofs::Outcomes::unchanged))]
     pub fn read(&mut self, pid: Pid, addr: u64, len: u64) -> Result<Vec<u8, A>, CallError>
         ensures { Does (λ bytes. TheBytes bytes.items) result self.old self.new (ReadBytes pid addr len) }
     {
@@ -205,7 +213,7 @@ impl<A: Allocator + Copy + Send + Sync> System<A> {
     }
 
     /// Writes 1 to 4,096 bytes inside one page. Refusals as for `read`.
-    #[tactic(auto, unfolding(crate::specs::Outcome::refused, crate::specs::Outcome::refused_at_once, crate::specs::Outcome::ended, crate::specs::Outcome::runs_asked, crate::specs::Outcome::start, crate::specs::Outcome::sets_policy), using(crate::proofs::Outcomes::answers, crate::proofs::Outcomes::refuses, crate::proofs::Outcomes::unchanged))]
+    #[tactic(auto, unfolding(crate::specs::Outcome::refused, crate::specs::Outcome::refused_at_once, crate::specs::Outcome::ended, crate::specs::Outcome::runs_asked, crate::specs::Outcome::start, crate::specs::Outcome::sets_policy, crate::specs::Outcome::accesses_asked), using(crate::proofs::Outcomes::answers, crate::proofs::Outcomes::refuses, crate::proofs::Outcomes::unchanged))]
     pub fn write(&mut self, pid: Pid, addr: u64, bytes: &[u8]) -> Result<(), CallError>
         ensures { Does (λ done. Done) result self.old self.new (WriteBytes pid addr bytes.now) }
     {
@@ -214,14 +222,22 @@ impl<A: Allocator + Copy + Send + Sync> System<A> {
 
     /// Moves pages, each named by an address in it, to the node of the same place in the list. Pid 0 is the caller. Flags
     /// 0 act as MPOL_MF_MOVE (2): a page that another process sees stays; with MPOL_MF_MOVE_ALL (4) it moves. The list is
-    /// cut into its longest stretches of one target, and each is a run, or several where it is longer than the limit. Answers the status of each entry, and how many
-    /// entries failed.
+    /// cut into its longest stretches of one target, and each is a run, or several where it is longer than the limit.
+    ///
+    /// The accesses of `during` are made meanwhile, each in the run of its number, from 0: those of a run in their order,
+    /// once its frames are reserved and before those that its pages left are free. One that comes to a page which its run
+    /// moves is held, and neither reads nor writes nor fills anything: on Linux it would find a migration entry, and wait.
+    /// Held comes after ESRCH, EINVAL and EFAULT, and before ENOMEM. Any other does and answers what `read` or `write`
+    /// does.
+    ///
+    /// Answers the status of each entry, how many entries failed, and the answers to the accesses in the order of `during`.
+    /// An access of a run that the call does not make has none: `run_count` tells how many runs there are.
     ///
     /// Refusals in order, each before anything moves: ESRCH (unknown caller); EINVAL (a flag other than the two); EPERM
     /// (MPOL_MF_MOVE_ALL without privilege); ESRCH (no such process); EPERM (a process of another user, without
     /// privilege); then for the first entry that is refused ENODEV (no such node, or it is offline) before EACCES (a node
     /// that the process may not use, whoever calls). `HostMemory { runs, .. }` leaves the first runs made.
-    #[tactic(auto, unfolding(crate::specs::Outcome::refused, crate::specs::Outcome::refused_at_once, crate::specs::Outcome::ended, crate::specs::Outcome::runs_asked, crate::specs::Outcome::start, crate::specs::Outcome::sets_policy), using(crate::proofs::Outcomes::answers, crate::proofs::Outcomes::refuses, crate::proofs::Outcomes::unchanged, crate::proofs::Outcomes::host_leaves))]
+    #[tactic(auto, unfolding(crate::specs::Outcome::refused, crate::specs::Outcome::refused_at_once, crate::specs::Outcome::ended, crate::specs::Outcome::runs_asked, crate::specs::Outcome::start, crate::specs::Outcome::sets_policy, crate::specs::Outcome::accesses_asked), using(crate::proofs::Outcomes::answers, crate::proofs::Outcomes::refuses, crate::proofs::Outcomes::unchanged, crate::proofs::Outcomes::host_leaves))]
     pub fn move_pages<R: Threads + Wait + Sync, G: Gate + Sync>(
         &mut self,
         rt: &R,
@@ -230,10 +246,11 @@ impl<A: Allocator + Copy + Send + Sync> System<A> {
         pages: &[u64],
         nodes: &[u32],
         flags: u32,
+        during: &[InFlight<A>],
         gate: &G,
     ) -> Result<Moved<A>, CallError>
         requires paired { length pages.now ≡ length nodes.now }
-        ensures { Does (λ moved. Statuses moved.failed moved.statuses.items) result self.old self.new (MovePages caller pid pages.now nodes.now flags) }
+        ensures { Does (λ moved. Statuses moved.failed moved.statuses.items (map answer_shown moved.answers.items)) result self.old self.new (MovePages caller pid pages.now nodes.now flags (shown_during during.now)) }
     {
         let permit = permit_of(&self.machine, caller, pid, flags)?;
         let Permit {
@@ -252,6 +269,7 @@ impl<A: Allocator + Copy + Send + Sync> System<A> {
             all,
             pages,
             nodes,
+            during,
             limit,
             workers,
             gate,
@@ -270,7 +288,7 @@ impl<A: Allocator + Copy + Send + Sync> System<A> {
     /// ESRCH (no such process); EPERM (a process of another user, without privilege); EPERM (a node of `new` that the
     /// process may not use, without privilege); EINVAL (no node of `new` is online and may be used by the process).
     /// `HostMemory { runs, .. }` leaves the first runs made.
-    #[tactic(auto, unfolding(crate::specs::Outcome::refused, crate::specs::Outcome::refused_at_once, crate::specs::Outcome::ended, crate::specs::Outcome::runs_asked, crate::specs::Outcome::start, crate::specs::Outcome::sets_policy), using(crate::proofs::Outcomes::answers, crate::proofs::Outcomes::refuses, crate::proofs::Outcomes::unchanged, crate::proofs::Outcomes::host_leaves))]
+    #[tactic(auto, unfolding(crate::specs::Outcome::refused, crate::specs::Outcome::refused_at_once, crate::specs::Outcome::ended, crate::specs::Outcome::runs_asked, crate::specs::Outcome::start, crate::specs::Outcome::sets_policy, crate::specs::Outcome::accesses_asked), using(crate::proofs::Outcomes::answers, crate::proofs::Outcomes::refuses, crate::proofs::Outcomes::unchanged, crate::proofs::Outcomes::host_leaves))]
     pub fn migrate_pages<R: Threads + Wait + Sync, G: Gate + Sync>(
         &mut self,
         rt: &R,
@@ -316,7 +334,7 @@ impl<A: Allocator + Copy + Send + Sync> System<A> {
     /// MPOL_MF_STRICT and a flag to move EIO is answered where a listed page is not where the policy wants it after the
     /// moves: policy and moves stay. `HostMemory { runs, policy_set }` leaves the first runs made, and the policy set where
     /// it says so.
-    #[tactic(auto, unfolding(crate::specs::Outcome::refused, crate::specs::Outcome::refused_at_once, crate::specs::Outcome::ended, crate::specs::Outcome::runs_asked, crate::specs::Outcome::start, crate::specs::Outcome::sets_policy), using(crate::proofs::Outcomes::answers, crate::proofs::Outcomes::refuses, crate::proofs::Outcomes::unchanged))]
+    #[tactic(auto, unfolding(crate::specs::Outcome::refused, crate::specs::Outcome::refused_at_once, crate::specs::Outcome::ended, crate::specs::Outcome::runs_asked, crate::specs::Outcome::start, crate::specs::Outcome::sets_policy, crate::specs::Outcome::accesses_asked), using(crate::proofs::Outcomes::answers, crate::proofs::Outcomes::refuses, crate::proofs::Outcomes::unchanged))]
     pub fn mbind<R: Threads + Wait + Sync, G: Gate + Sync>(
         &mut self,
         rt: &R,
@@ -356,7 +374,7 @@ impl<A: Allocator + Copy + Send + Sync> System<A> {
     /// Refusals in order: EINVAL (no such node); EBUSY (no other node is online). EBUSY is also answered where a page of the
     /// node stays: what moved has moved, and the node is online. `HostMemory { runs, .. }` leaves the first runs made, and the
     /// node online.
-    #[tactic(auto, unfolding(crate::specs::Outcome::refused, crate::specs::Outcome::refused_at_once, crate::specs::Outcome::ended, crate::specs::Outcome::runs_asked, crate::specs::Outcome::start, crate::specs::Outcome::sets_policy), using(crate::proofs::Outcomes::answers, crate::proofs::Outcomes::refuses, crate::proofs::Outcomes::unchanged))]
+    #[tactic(auto, unfolding(crate::specs::Outcome::refused, crate::specs::Outcome::refused_at_once, crate::specs::Outcome::ended, crate::specs::Outcome::runs_asked, crate::specs::Outcome::start, crate::specs::Outcome::sets_policy, crate::specs::Outcome::accesses_asked), using(crate::proofs::Outcomes::answers, crate::proofs::Outcomes::refuses, crate::proofs::Outcomes::unchanged))]
     pub fn offline<R: Threads + Wait + Sync, G: Gate + Sync>(
         &mut self,
         rt: &R,
@@ -384,7 +402,7 @@ impl<A: Allocator + Copy + Send + Sync> System<A> {
 
     /// Brings a node online, and takes no memory: its free frames may be taken again, and pages may go there. One that is
     /// online already is left as it is. Refusal: EINVAL (no such node).
-    #[tactic(auto, unfolding(crate::specs::Outcome::refused, crate::specs::Outcome::refused_at_once, crate::specs::Outcome::ended, crate::specs::Outcome::runs_asked, crate::specs::Outcome::start, crate::specs::Outcome::sets_policy), using(crate::proofs::Outcomes::answers, crate::proofs::Outcomes::refuses, crate::proofs::Outcomes::unchanged))]
+    #[tactic(auto, unfolding(crate::specs::Outcome::refused, crate::specs::Outcome::refused_at_once, crate::specs::Outcome::ended, crate::specs::Outcome::runs_asked, crate::specs::Outcome::start, crate::specs::Outcome::sets_policy, crate::specs::Outcome::accesses_asked), using(crate::proofs::Outcomes::answers, crate::proofs::Outcomes::refuses, crate::proofs::Outcomes::unchanged))]
     pub fn online(&mut self, node: NodeId) -> Result<(), Errno>
         ensures { DoesOrRefuses (λ done. Done) result self.old self.new (Online node) }
     {
@@ -398,7 +416,7 @@ impl<A: Allocator + Copy + Send + Sync> System<A> {
     /// Where pages are, each named by an address in it: the number of its node, -14 (EFAULT) without an area or for the
     /// page of zeros, -2 (ENOENT) where nothing was touched. Pid 0 is the caller. Refusals as for `move_pages`, but for
     /// those of entries: ESRCH, EINVAL, EPERM, ESRCH, EPERM.
-    #[tactic(auto, unfolding(crate::specs::Outcome::refused, crate::specs::Outcome::refused_at_once, crate::specs::Outcome::ended, crate::specs::Outcome::runs_asked, crate::specs::Outcome::start, crate::specs::Outcome::sets_policy), using(crate::proofs::Outcomes::answers, crate::proofs::Outcomes::refuses, crate::proofs::Outcomes::unchanged))]
+    #[tactic(auto, unfolding(crate::specs::Outcome::refused, crate::specs::Outcome::refused_at_once, crate::specs::Outcome::ended, crate::specs::Outcome::runs_asked, crate::specs::Outcome::start, crate::specs::Outcome::sets_policy, crate::specs::Outcome::accesses_asked), using(crate::proofs::Outcomes::answers, crate::proofs::Outcomes::refuses, crate::proofs::Outcomes::unchanged))]
     pub fn query(
         &self,
         caller: Pid,
@@ -406,7 +424,7 @@ impl<A: Allocator + Copy + Send + Sync> System<A> {
         pages: &[u64],
         flags: u32,
     ) -> Result<Vec<i32, A>, CallError>
-        ensures { Does (λ statuses. Statuses 0 statuses.items) result self.now self.now (Query caller pid pages.now flags) }
+        ensures { Does (λ statuses. Statuses 0 statuses.items []) result self.now self.now (Query caller pid pages.now flags) }
     {
         let permit = permit_of(&self.machine, caller, pid, flags)?;
         Ok(statuses_of(self.alloc, &self.machine, permit.pid, pages)?)
@@ -430,7 +448,7 @@ impl<A: Allocator + Copy + Send + Sync> System<A> {
     /// pages in it, `anon=` and their number, `mapmax=` and the greatest number of processes that see one of them, where
     /// that is over 1, `N0=`, `N1=` .. and the number on that node, where there are some, and `kernelpagesize_kB=4`. The
     /// page of zeros is no page. Refusal: ESRCH.
-    #[tactic(auto, unfolding(crate::specs::Outcome::refused, crate::specs::Outcome::refused_at_once, crate::specs::Outcome::ended, crate::specs::Outcome::runs_asked, crate::specs::Outcome::start, crate::specs::Outcome::sets_policy), using(crate::proofs::Outcomes::answers, crate::proofs::Outcomes::refuses, crate::proofs::Outcomes::unchanged))]
+    #[tactic(auto, unfolding(crate::specs::Outcome::refused, crate::specs::Outcome::refused_at_once, crate::specs::Outcome::ended, crate::specs::Outcome::runs_asked, crate::specs::Outcome::start, crate::specs::Outcome::sets_policy, crate::specs::Outcome::accesses_asked), using(crate::proofs::Outcomes::answers, crate::proofs::Outcomes::refuses, crate::proofs::Outcomes::unchanged))]
     pub fn numa_maps(&self, pid: Pid) -> Result<Vec<String<A>, A>, CallError>
         ensures { Does (λ lines. Lines (lines_shown lines.items)) result self.now self.now (NumaMaps pid) }
     {
@@ -440,7 +458,7 @@ impl<A: Allocator + Copy + Send + Sync> System<A> {
     }
 
     /// The free frames of a node, the front first. Refusal: EINVAL (no such node).
-    #[tactic(auto, unfolding(crate::specs::Outcome::refused, crate::specs::Outcome::refused_at_once, crate::specs::Outcome::ended, crate::specs::Outcome::runs_asked, crate::specs::Outcome::start, crate::specs::Outcome::sets_policy), using(crate::proofs::Outcomes::answers, crate::proofs::Outcomes::refuses, crate::proofs::Outcomes::unchanged))]
+    #[tactic(auto, unfolding(crate::specs::Outcome::refused, crate::specs::Outcome::refused_at_once, crate::specs::Outcome::ended, crate::specs::Outcome::runs_asked, crate::specs::Outcome::start, crate::specs::Outcome::sets_policy, crate::specs::Outcome::accesses_asked), using(crate::proofs::Outcomes::answers, crate::proofs::Outcomes::refuses, crate::proofs::Outcomes::unchanged))]
     pub fn free_list(&self, node: NodeId) -> Result<Vec<FrameId, A>, CallError>
         ensures { Does (λ frames. Frames frames.items) result self.now self.now (FreeList node) }
     {
@@ -448,7 +466,7 @@ impl<A: Allocator + Copy + Send + Sync> System<A> {
     }
 
     /// The entries of a process by address: the frame of each, or the page of zeros. Refusal: ESRCH.
-    #[tactic(auto, unfolding(crate::specs::Outcome::refused, crate::specs::Outcome::refused_at_once, crate::specs::Outcome::ended, crate::specs::Outcome::runs_asked, crate::specs::Outcome::start, crate::specs::Outcome::sets_policy), using(crate::proofs::Outcomes::answers, crate::proofs::Outcomes::refuses, crate::proofs::Outcomes::unchanged))]
+    #[tactic(auto, unfolding(crate::specs::Outcome::refused, crate::specs::Outcome::refused_at_once, crate::specs::Outcome::ended, crate::specs::Outcome::runs_asked, crate::specs::Outcome::start, crate::specs::Outcome::sets_policy, crate::specs::Outcome::accesses_asked), using(crate::proofs::Outcomes::answers, crate::proofs::Outcomes::refuses, crate::proofs::Outcomes::unchanged))]
     pub fn pagemap(&self, pid: Pid) -> Result<Vec<PagemapEntry, A>, CallError>
         ensures { Does (λ mapped. Entries (entries_mapped mapped.items)) result self.now self.now (Pagemap pid) }
     {

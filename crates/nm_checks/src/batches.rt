@@ -3,7 +3,7 @@
 use crate::gates::Through;
 use crate::machine::both_nodes;
 use crate::traces::{Heap, layout, two_nodes};
-use nm_calls::{CallError, Moved, System};
+use nm_calls::{CallError, InFlight, Moved, System};
 use nm_crew::OpenGate;
 use nm_engine::Totals;
 use nm_refusing::Refusing;
@@ -37,7 +37,17 @@ fn there_and_back<'a>(
 ) -> Result<Moved<Heap<'a>>, CallError> {
     let pages = [0x10000u64, 0x10000];
     let nodes = [1u32, 0];
-    system.move_pages(rt, Pid::new(1), Pid::new(0), &pages, &nodes, 2, &Through)
+    let none: [InFlight<Heap<'a>>; 0] = [];
+    system.move_pages(
+        rt,
+        Pid::new(1),
+        Pid::new(0),
+        &pages,
+        &nodes,
+        2,
+        &none,
+        &Through,
+    )
 }
 
 /// How many runs were made before memory was refused, or None where the call answered.
@@ -133,6 +143,7 @@ fn move_two(
 ) -> Result<Attempt, CallError> {
     let mut system = one_by_one(heap)?;
     let pages = [0x10000u64, 0x11000];
+    let none: [InFlight<Heap<'_>>; 0] = [];
     heap.refuse(number);
     let runs = runs_made(system.move_pages(
         rt,
@@ -141,6 +152,7 @@ fn move_two(
         &pages,
         &[1u32; 2],
         2,
+        &none,
         &Through,
     ));
     let met = heap.asked_since(number) >= number;
@@ -186,6 +198,7 @@ fn crowd(
     system: &mut System<Heap<'_>>,
 ) -> Result<usize, CallError> {
     let pages = [0x10000u64, 0x11000, 0x12000, 0x13000];
+    let none: [InFlight<Heap<'_>>; 0] = [];
     let moved = system.move_pages(
         rt,
         Pid::new(1),
@@ -193,6 +206,7 @@ fn crowd(
         &pages,
         &[1u32; 4],
         0,
+        &none,
         &OpenGate,
     )?;
     Ok(moved.failed)
@@ -232,7 +246,17 @@ fn name_often(
     if pages.len() != nodes.len() || pages.len() > 16_384 {
         return Ok(0);
     }
-    let moved = system.move_pages(rt, Pid::new(1), Pid::new(0), &pages, &nodes, 2, &OpenGate)?;
+    let none: [InFlight<Heap<'_>>; 0] = [];
+    let moved = system.move_pages(
+        rt,
+        Pid::new(1),
+        Pid::new(0),
+        &pages,
+        &nodes,
+        2,
+        &none,
+        &OpenGate,
+    )?;
     Ok(moved.statuses.iter().filter(|status| **status == 1).count())
 }
 

@@ -8,6 +8,8 @@ mod batches;
 #[cfg(test)]
 mod bindings;
 #[cfg(test)]
+mod flights;
+#[cfg(test)]
 mod gates;
 #[cfg(test)]
 mod limits;

@@ -3,7 +3,7 @@
 use crate::gates::Through;
 use crate::machine::both_nodes;
 use crate::traces::Heap;
-use nm_calls::{CallError, System};
+use nm_calls::{CallError, InFlight, System};
 use nm_refusing::Refusing;
 use nm_types::{Geometry, NodeId, NodeMask, Pid};
 use std::alloc::AllocError;
@@ -49,7 +49,8 @@ fn two_pages<'a>(
     system.map(one, 0x10000, 2, false)?;
     system.write(one, 0x10000, [0x61u8].as_slice())?;
     system.write(one, 0x11000, [0x62u8].as_slice())?;
-    system.move_pages(rt, one, one, &[0x11000u64], &[1u32], 2, &Through)?;
+    let none: [InFlight<Heap<'a>>; 0] = [];
+    system.move_pages(rt, one, one, &[0x11000u64], &[1u32], 2, &none, &Through)?;
     Ok(system)
 }
 

@@ -4,7 +4,7 @@ ghost use Rattle.nm_engine.specs.Run.{HasOneAll};
 
 use crate::machine::{Heap, both_nodes, two_nodes};
 use nm_crew::OpenGate;
-use nm_engine::{Entry, Machine, MachineError, Totals};
+use nm_engine::{Access, Entry, Machine, MachineError, Totals};
 use nm_refusing::Refusing;
 use nm_runs::{Run, Wanted};
 use nm_types::{FrameId, NodeId, Pid, Policy, Vpn};
@@ -146,8 +146,9 @@ fn perform<'a>(
         Call::Policy(addr) => machine.set_policy(one, addr, 4096, Policy::Local),
         Call::Write(addr, byte) => machine.write(one, addr, [byte].as_slice()),
         Call::Move => {
+            let none: [Access<Heap<'a>>; 0] = [];
             if run.target.index() < machine.node_count() {
-                machine.run_flight(rt, run, 2, &OpenGate)?;
+                machine.run_flight(rt, run, &none, 2, &OpenGate)?;
             }
             Ok(())
         }

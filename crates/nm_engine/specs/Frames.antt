@@ -1,5 +1,5 @@
 -- The frames of a machine: which pages they hold, which are free, and what bytes are in them.
-use Rattle.std.specs.Prelude.{◌≡◌, ℕ, zero, suc, ◌+◌, ◌<◌, false, sum, List, [], ◌∷◌, length, slice_index, slice_index_or}
+use Rattle.std.specs.Prelude.{◌≡◌, ℕ, zero, suc, ◌+◌, ◌<◌, false, sum, List, [], ◌∷◌, ◌++◌, length, slice_index, slice_index_or}
 use Rattle.std.specs.List.{fold}
 use Rattle.nm_types.specs.declared.page.Page.{Page}
 use Rattle.nm_types.specs.Map.{Map}
@@ -55,6 +55,13 @@ abbrev pub CanFree : Pool → List ℕ → Type 0
 CanFree p [] = Unit {0}
 CanFree p (frame ∷ frames) =
     (frame < sum p.sizes) × (is_in (list_of p (owner p.sizes frame)) frame ≡ false) × CanFree (appended p frame) frames
+
+-- each of these frames, from the last to the first, is this node's and not free before it goes to the front of its list
+abbrev pub CanReturn : Pool → ℕ → List ℕ → Type 0
+CanReturn p node [] = Unit {0}
+CanReturn p node (frame ∷ frames) =
+    (frame < sum p.sizes) × (owner p.sizes frame ≡ node) × (is_in (frames ++ list_of p node) frame ≡ false)
+    × CanReturn p node frames
 
 -- the vacated frames are free
 abbrev pub all_freed : FramesView → FramesView

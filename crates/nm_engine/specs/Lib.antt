@@ -39,4 +39,6 @@ pub mod Sights
 pub mod Locating
 pub mod Undo
 pub mod Early
+pub mod Answering
+pub mod Finishing
 pub mod Phases

@@ -1,24 +1,31 @@
 //! The machine's frames: which are free, and what they hold.
 
-ghost use Rattle.std.specs.Prelude.{◌≡◌, ◌≢◌, ◌+◌, ◌<◌, ◌≤◌, [], ◌∷◌, ◌++◌, length, vec_capacity, vec_len, Some, IfOk, OnOk, replicate, take, drop, slice_get, slice_set};
+ghost use Rattle.std.specs.Prelude.{◌≡◌, ◌≢◌, ◌+◌, ◌<◌, ◌≤◌, [], ◌∷◌, ◌++◌, map, length, vec_capacity, vec_len, Some, IfOk, OnOk, replicate, take, drop, slice_get, slice_set};
 ghost use Rattle.nm_types.specs.Layout.{node_count, frame_count, node_of};
 ghost use Rattle.nm_nodes.specs.Pool.{list_of, with_list, appended, prepended};
-ghost use Rattle.nm_engine.specs.Copies.{CanCopy, with_copies};
+ghost use Rattle.std.specs.List.{AllByRecursion};
+ghost use Rattle.nm_engine.specs.Copies.{CanCopy, with_copies, emptied};
+ghost use Rattle.nm_engine.specs.Early.{tos};
+ghost use Rattle.nm_engine.specs.Finishing.{all_done, CanDo};
+ghost use Rattle.nm_engine.specs.Answering.{answer_shown, due_shown, HasRoom};
 ghost use Rattle.nm_engine.specs.Run.{left};
 ghost use Rattle.nm_frames.specs.Store.{IsHome, bytes_of, overwrite};
 ghost use Rattle.nm_engine.specs.Audited.{is_audited, numbered};
 ghost use Rattle.nm_nodes.specs.Pool.{all_frames};
-ghost use Rattle.nm_engine.specs.Frames.{HasAllFrames, free_on, pool_of, all_freed, CanFree, with_freed, stretch_of};
+ghost use Rattle.nm_engine.specs.Frames.{HasAllFrames, free_on, pool_of, all_freed, CanFree, CanReturn, with_freed, stretch_of};
 
 mod copying;
 
+use crate::address_spaces::AddressSpaces;
+use crate::answered::AccessAnswer;
 use crate::audit;
+use crate::inner::due::Due;
 use copying::copy_pages;
 use nm_crew::Gate;
 use nm_frames::{CopyJob, FrameStore};
 use nm_nodes::NodePool;
 use nm_plan::Taken;
-use nm_types::{FrameId, Geometry, NodeId};
+use nm_types::{Access, FrameId, Geometry, NodeId};
 use std::alloc::{AllocError, Allocator};
 use std::marker::Model;
 use std::mem;
@@ -182,15 +189,6 @@ impl<A: Allocator + Copy> Frames<A> {
         self.frames.zero(frame);
     }
 
-    /// Takes so many free frames of a node from the front.
-    pub(crate) fn take_fronts(&mut self, node: NodeId, count: usize)
-        requires { node < node_count self.old.layout }
-        ensures rest { self.new ≡ record (self.old) { free = slice_set self.old.free node (drop count (free_on self.old node)) } }
-        ensures shelf { HasAllFrames self.old }
-    {
-        take_fronts(&mut self.nodes, node, count);
-    }
-
     /// Makes room for so many moves of a run.
     pub(crate) fn reserve(&mut self, count: usize) -> Result<(), AllocError>
         ensures room { OnOk result (length self.new.vacated + count ≤ self.new.room) }
@@ -207,11 +205,36 @@ impl<A: Allocator + Copy> Frames<A> {
         self.vacated.len()
     }
 
-    /// The pages of these moves have left their frames, which become free at the run's end.
-    pub(crate) fn vacate_each(&mut self, moves: &[Taken])
-        requires { length self.old.vacated + length moves.now ≤ self.old.room }
-        ensures { self.new ≡ record (self.old) { vacated = self.old.vacated ++ left moves.now } }
+    /// Takes the frames of these moves, which are the front ones of a node: they are the run's until its pages stand in
+    /// them.
+    pub(crate) fn take_for(&mut self, node: NodeId, moves: &[Taken])
+        requires node { node < node_count self.old.layout }
+        requires room { length self.old.vacated + length moves.now ≤ self.old.room }
+        ensures taken { self.new ≡ record (self.old) { free = slice_set self.old.free node (drop (length moves.now) (free_on self.old node)); vacated = self.old.vacated ++ tos moves.now } }
+        ensures shelf { HasAllFrames self.old }
     {
+        take_fronts(&mut self.nodes, node, moves.len());
+        push_tos(&mut self.vacated, moves);
+    }
+
+    /// Gives the frames that were taken for these moves back to the node whose front ones they were.
+    pub(crate) fn give_back(&mut self, node: NodeId, moves: &[Taken])
+        requires node { node < node_count self.old.layout }
+        requires can { CanReturn (pool_of self.old) node (tos moves.now) }
+        ensures given { self.new ≡ record (self.old) { free = slice_set self.old.free node (tos moves.now ++ free_on self.old node); vacated = [] } }
+        ensures shelf { HasAllFrames self.old }
+    {
+        self.vacated.clear();
+        return_tos(&mut self.nodes, node, moves);
+    }
+
+    /// The pages of these moves leave their frames, which become free at the run's end, for those that were taken for them.
+    pub(crate) fn vacate_each(&mut self, moves: &[Taken])
+        requires { length moves.now ≤ self.old.room }
+        ensures vacated { self.new ≡ record (self.old) { vacated = left moves.now } }
+        ensures shelf { HasAllFrames self.old }
+    {
+        self.vacated.clear();
         push_left(&mut self.vacated, moves);
     }
 
@@ -251,22 +274,46 @@ impl<A: Allocator + Copy> Frames<A> {
 }
 
 impl<A: Allocator + Copy + Send + Sync> Frames<A> {
-    /// Copies the pages of moves to the frames that they take, with so many workers.
+    /// Copies the pages of moves to the frames that they take, with so many workers, and does meanwhile what is left to do
+    /// for accesses to other pages. The answers go into a list that has room for them.
     pub(crate) fn copy_pages<R: Threads + Wait + Sync, G: Gate + Sync>(
         &mut self,
         rt: &R,
         alloc: A,
         moves: &[Taken],
+        spaces: &AddressSpaces<A>,
+        accesses: &[Access<A>],
+        dues: Vec<Due<A>, A>,
+        answers: Vec<AccessAnswer<A>, A>,
         workers: usize,
         gate: &G,
-    )
+    ) -> Vec<AccessAnswer<A>, A>
         requires can { CanCopy self.old.frames moves.now }
-        requires room { length moves.now ≤ self.old.room }
+        requires few { length moves.now ≤ self.old.room }
+        requires due { AllByRecursion (CanDo spaces.now.place (emptied self.old.frames moves.now)) (map (due_shown accesses.now) dues.items) }
+        requires room { AllByRecursion HasRoom dues.items }
+        requires unanswered { answers.items ≡ [] }
+        requires space { vec_len dues ≤ vec_capacity answers }
         requires workers { (0 < workers) × (workers ≤ 64) }
-        ensures { self.new ≡ record (self.old) { frames = with_copies self.old.frames moves.now; room = self.new.room } }
+        ensures frames { self.new ≡ record (self.old) { frames = (all_done spaces.now.place (with_copies self.old.frames moves.now) (map (due_shown accesses.now) dues.items)).store; room = self.new.room } }
+        ensures answers { map answer_shown result.items ≡ (all_done spaces.now.place (with_copies self.old.frames moves.now) (map (due_shown accesses.now) dues.items)).answers }
     {
         let jobs = mem::replace(&mut self.jobs, Vec::new(alloc));
-        self.jobs = copy_pages(rt, alloc, &mut self.frames, moves, jobs, workers, gate);
+        let (jobs, answers) = copy_pages(
+            rt,
+            alloc,
+            &mut self.frames,
+            moves,
+            jobs,
+            spaces,
+            accesses,
+            dues,
+            answers,
+            workers,
+            gate,
+        );
+        self.jobs = jobs;
+        answers
     }
 }
 
@@ -277,6 +324,30 @@ fn take_fronts<A: Allocator + Copy>(nodes: &mut NodePool<A>, node: NodeId, count
 {
     for _ in 0..count {
         nodes.take_front(node);
+    }
+}
+
+/// Puts the frames that the pages of moves were to take back at the front of their own node's list.
+fn return_tos<A: Allocator + Copy>(nodes: &mut NodePool<A>, node: NodeId, moves: &[Taken])
+    requires node { node < length nodes.old.lists }
+    requires can { CanReturn nodes.old node (tos moves.now) }
+    ensures { nodes.new ≡ with_list nodes.old node (tos moves.now ++ list_of nodes.old node) }
+{
+    let mut left = moves.len();
+    while left > 0 {
+        left -= 1;
+        nodes.prepend(moves[left].to);
+    }
+}
+
+/// Puts the frames that the pages of moves take behind those of a list that has room for them.
+fn push_tos<A: Allocator + Copy>(taken: &mut Vec<FrameId, A>, moves: &[Taken])
+    requires { vec_len taken.old + length moves.now ≤ vec_capacity taken.old }
+    ensures items { taken.new.items ≡ taken.old.items ++ tos moves.now }
+    ensures room { vec_capacity taken.new ≡ vec_capacity taken.old }
+{
+    for t in moves {
+        taken.push_reserved(t.to);
     }
 }
 

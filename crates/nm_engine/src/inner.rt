@@ -6,6 +6,8 @@ ghost use Rattle.nm_types.specs.Nodes.{up_from};
 ghost use Rattle.nm_engine.specs.Effect.{new_machine};
 
 mod areas;
+pub(crate) mod due;
+mod flight;
 mod locate;
 mod nodes;
 mod online;

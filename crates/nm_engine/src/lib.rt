@@ -2,6 +2,7 @@
 #![tactic(auto)]
 
 mod address_spaces;
+mod answered;
 mod audit;
 mod frames;
 mod inner;
@@ -11,9 +12,10 @@ mod machine;
 mod process;
 mod process_table;
 
+pub use answered::{AccessAnswer, Flown};
 pub use located::Located;
 pub use machine::{Machine, Totals};
 pub use nm_areas::Line;
 pub use nm_tables::Entry;
-pub use nm_types::MachineError;
+pub use nm_types::{Access, MachineError};
 pub use process::ProcessInfo;

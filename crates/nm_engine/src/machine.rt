@@ -1,6 +1,6 @@
 //! The machine.
 
-ghost use Rattle.std.specs.Prelude.{◌≡◌, ◌<◌, ◌≤◌, ◌+◌, [], ◌∷◌, true, false, length, nat_le, IfOk, IfSome, IfNone, OnOk, OnErr, option_map, None};
+ghost use Rattle.std.specs.Prelude.{◌≡◌, ◌<◌, ◌≤◌, ◌+◌, [], ◌∷◌, map, true, false, length, nat_le, IfOk, IfSome, IfNone, OnOk, OnErr, option_map, None};
 ghost use Rattle.std.specs.List.{list_any};
 ghost use Rattle.std.specs.Ordering.{nat_cmp};
 ghost use Rattle.nm_types.specs.Map.{get, page_cmp};
@@ -10,6 +10,7 @@ ghost use Rattle.nm_types.specs.State.{free_list};
 ghost use Rattle.nm_engine.specs.Tables.{info_of};
 ghost use Rattle.nm_engine.specs.Touch.{Bytes, Done, read, write, spot_refusal};
 ghost use Rattle.nm_engine.specs.Run.{run, HasOneAll};
+ghost use Rattle.nm_engine.specs.Answering.{access_shown, answer_shown};
 ghost use Rattle.nm_engine.specs.Effect.{new_machine, set_online, spawn, map_new, attach, pin, unpin, unmap, exit};
 ghost use Rattle.nm_engine.specs.Refused.{spawn_refusal, map_refusal, attach_refusal, pin_refusal, unpin_refusal, unmap_refusal, exit_refusal, list_refusal, entries_refusal};
 ghost use Rattle.nm_engine.specs.Policing.{policy_refusal, set_policy};
@@ -23,6 +24,7 @@ ghost use Rattle.nm_engine.specs.Asking.{node_status};
 ghost use Rattle.nm_engine.specs.Sound.{IsSound};
 ghost use Rattle.nm_engine.specs.Does.{Makes, Alters, Tells, Accesses, AsksLast};
 
+use crate::answered::Flown;
 use crate::inner::Inner;
 use crate::located::Located;
 use crate::process::ProcessInfo;
@@ -30,7 +32,9 @@ use nm_areas::Line;
 use nm_crew::Gate;
 use nm_runs::Run;
 use nm_tables::Entry;
-use nm_types::{Errno, FrameId, Geometry, MachineError, NodeId, NodeMask, Page, Pid, Policy, Vpn};
+use nm_types::{
+    Access, Errno, FrameId, Geometry, MachineError, NodeId, NodeMask, Page, Pid, Policy, Vpn,
+};
 use std::alloc::{AllocError, Allocator};
 use std::marker::Model;
 use std::sync::Wait;
@@ -295,28 +299,49 @@ impl<A: Allocator + Copy + Send + Sync> Machine<A> {
     /// page: then their classes at the run's start are those that they have one after another. An error is want of memory,
     /// and means that the machine is as it was.
     ///
+    /// While the pages are copied, processes make accesses, one after another. Each is answered as outside a run, but that
+    /// one which comes to a page that moves in this run is held: it does nothing, also where the process has not touched the
+    /// page. ESRCH, EINVAL and EFAULT come before that. The accesses find the frames that the run took gone, and those that
+    /// its pages left not free yet.
+    ///
     /// The pages are copied by 1 to 64 workers, of which the caller is the first; each passes the gate before each copy.
     /// How many they are, and whether the host starts them, changes nothing of this. It waits for their threads to end.
     pub fn run_flight<R: Threads + Wait + Sync, G: Gate + Sync>(
         &mut self,
         rt: &R,
         requests: &Run<A>,
+        accesses: &[Access<A>],
         workers: usize,
         gate: &G,
-    ) -> Result<Vec<i32, A>, AllocError>
+    ) -> Result<Flown<A>, AllocError>
         requires target { requests.now.target < node_count self.old.layout }
         requires alike { HasOneAll requests.now.wanted.items }
         requires workers { (0 < workers) × (workers ≤ 64) }
-        ensures statuses { IfOk result (λ statuses. statuses.items ≡ (run self.old requests.now.target requests.now.wanted.items []).statuses) }
-        ensures state { OnOk result (self.new ≡ (run self.old requests.now.target requests.now.wanted.items []).state) }
+        ensures statuses { IfOk result (λ flown. flown.statuses.items ≡ (run self.old requests.now.target requests.now.wanted.items (map access_shown accesses.now)).statuses) }
+        ensures answers { IfOk result (λ flown. map answer_shown flown.answers.items ∷ [] ≡ (run self.old requests.now.target requests.now.wanted.items (map access_shown accesses.now)).answers) }
+        ensures state { OnOk result (self.new ≡ (run self.old requests.now.target requests.now.wanted.items (map access_shown accesses.now)).state) }
         ensures err { OnErr result (self.new ≡ self.old) }
     {
         let plan = self.inner.plan(rt, requests, workers)?;
-        self.inner.reserve(plan.moves().len())?;
-        self.inner
-            .carry_out(rt, requests.target, plan.moves(), workers, gate);
+        let moves = plan.moves();
+        self.inner.reserve(moves.len())?;
+        let answers = Vec::with_capacity(self.alloc, accesses.len())?;
+        let dues = self.inner.begin(requests.target, moves, accesses)?;
+        let answers = self.inner.carry_out(
+            rt,
+            requests.target,
+            moves,
+            accesses,
+            dues,
+            answers,
+            workers,
+            gate,
+        );
         self.inner.end_run(plan.statuses());
-        Ok(plan.into_statuses())
+        Ok(Flown {
+            statuses: plan.into_statuses(),
+            answers,
+        })
     }
 
     /// The free frames of a node, the front first. EINVAL where there is no such node.

@@ -1,6 +1,6 @@
 //! The bytes of all frames.
 
-ghost use Rattle.std.specs.Prelude.{◌≡◌, ◌+◌, ◌<◌, ◌≤◌, length, slice_index, slice_set, Some, None, IfOk, replicate};
+ghost use Rattle.std.specs.Prelude.{◌≡◌, [], ◌+◌, ◌<◌, ◌≤◌, length, slice_index, slice_set, Some, None, IfOk, replicate};
 ghost use Rattle.nm_frames.specs.Store.{IsHome, IsOut, AllWhole, bytes_of, overwrite};
 
 use crate::buf::FrameBuf;
@@ -37,6 +37,15 @@ impl<A: Allocator + Copy> FrameStore<A> {
             store.push(Some(bytes))?;
         }
         Ok(FrameStore { frames: store })
+    }
+
+    /// No frames. It takes no memory.
+    pub fn none(alloc: A) -> Self
+        ensures { result ≡ [] }
+    {
+        FrameStore {
+            frames: Vec::new(alloc),
+        }
     }
 
     /// How many frames there are, home or out.

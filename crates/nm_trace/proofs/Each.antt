@@ -41,8 +41,8 @@ is_done f front vs i total le so_far =
     sym so_far ∙ one
 
 -- the first item that is no step comes after one that is a step
-pub is_later : (vs : List Value) (i : ℕ) (v : Value) → i < length vs → v ≡ get_or vs i v → (call : Call) → step_of (view v) ≡ Some call → (place : ℕ) → i + first_bad (items_view (drop i vs)) ≡ place → (i + 1) + first_bad (items_view (drop (i + 1) vs)) ≡ place
-is_later vs i v lt is call h place so_far =
+pub is_later : (limit : ℕ) (vs : List Value) (i : ℕ) (v : Value) → i < length vs → v ≡ get_or vs i v → (call : Call) → step_of limit (view v) ≡ Some call → (place : ℕ) → i + first_bad limit (items_view (drop i vs)) ≡ place → (i + 1) + first_bad limit (items_view (drop (i + 1) vs)) ≡ place
+is_later limit vs i v lt is call h place so_far =
     let split : drop i vs ≡ v ∷ drop (i + 1) vs = rw (add-one, drop-cons vs i v) (ap (λ w. w ∷ drop (suc i) vs) (sym is)) in
-    let one : first_bad (items_view (drop i vs)) ≡ suc (first_bad (items_view (drop (i + 1) vs))) = rw (split, h) refl in
+    let one : first_bad limit (items_view (drop i vs)) ≡ suc (first_bad limit (items_view (drop (i + 1) vs))) = rw (split, h) refl in
     omega (arith, one, so_far)

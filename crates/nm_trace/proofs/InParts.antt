@@ -1,9 +1,7 @@
 -- Reports that grow by a line.
-use Rattle.std.proofs.Common.{◌≡◌, ℕ, suc, ◌+◌, ◌<◌, List, [], ◌∷◌, ◌++◌, length, take, drop, get_or, map, Option, Some, refl, sym, ap, ◌∙◌, subst, append_assoc, length-take, drop-cons, arith}
+use Rattle.std.proofs.Common.{◌≡◌, ℕ, suc, ◌+◌, ◌<◌, List, [], ◌∷◌, ◌++◌, length, take, drop, get_or, map, Option, refl, sym, ap, ◌∙◌, subst, append_assoc, length-take, arith}
 use Rattle.std.proofs.lemmas.List.{take_more, take-append-drop, append-nil, length-map}
-use Rattle.std.proofs.lemmas.Option.{slice_get_within, get_or_from_slice_get}
 use Rattle.std.proofs.Math.ListN.{get_or-map}
-use Rattle.std.specs.Prelude.{slice_get}
 use Rattle.std.specs.Io.KnownBytes.{Appends}
 use Rattle.nm_calls.specs.Systems.{SystemState}
 use Rattle.nm_calls.specs.Calls.{Call}

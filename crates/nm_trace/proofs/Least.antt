@@ -11,29 +11,30 @@ rest_fails : (call : Call) (rest : Option (List Call)) → (rest >>= λ xs. Some
 rest_fails call None h = refl
 rest_fails call (Some calls) h = grind (arith, h)
 
--- what is told of items, where the first of them is this
-abbrev Told : Data → Items → Option Call → Type 0
-Told d ds o =
-    let place = if is_some o then suc (first_bad ds) else 0 in
-    ((e : Data) × (item_at (item d ds) place ≡ Some e) × (step_of e ≡ None))
-    × ((k : ℕ) → k < place → (e : Data) × (item_at (item d ds) k ≡ Some e) × IsSome (step_of e))
+module _ (limit : ℕ) where
+  -- what is told of items, where the first of them is this
+  abbrev Told : Data → Items → Option Call → Type 0
+  Told d ds o =
+      let place = if is_some o then suc (first_bad limit ds) else 0 in
+      ((e : Data) × (item_at (item d ds) place ≡ Some e) × (step_of limit e ≡ None))
+      × ((k : ℕ) → k < place → (e : Data) × (item_at (item d ds) k ≡ Some e) × IsSome (step_of limit e))
 
--- what is told of the items behind the first
-abbrev ToldBehind : Items → Type 0
-ToldBehind ds =
-    ((e : Data) × (item_at ds (first_bad ds) ≡ Some e) × (step_of e ≡ None))
-    × ((k : ℕ) → k < first_bad ds → (e : Data) × (item_at ds k ≡ Some e) × IsSome (step_of e))
+  -- what is told of the items behind the first
+  abbrev ToldBehind : Items → Type 0
+  ToldBehind ds =
+      ((e : Data) × (item_at ds (first_bad limit ds) ≡ Some e) × (step_of limit e ≡ None))
+      × ((k : ℕ) → k < first_bad limit ds → (e : Data) × (item_at ds k ≡ Some e) × IsSome (step_of limit e))
 
-before : (d : Data) (ds : Items) (call : Call) → step_of d ≡ Some call → ToldBehind ds → (k : ℕ) → k < suc (first_bad ds) → (e : Data) × (item_at (item d ds) k ≡ Some e) × IsSome (step_of e)
-before d ds call is told zero lt = (d, refl, rw is refl)
-before d ds call is told (suc k) lt = told.1 k (omega (arith, lt))
+  before : (d : Data) (ds : Items) (call : Call) → step_of limit d ≡ Some call → ToldBehind ds → (k : ℕ) → k < suc (first_bad limit ds) → (e : Data) × (item_at (item d ds) k ≡ Some e) × IsSome (step_of limit e)
+  before d ds call is told zero lt = (d, refl, rw is refl)
+  before d ds call is told (suc k) lt = told.1 k (omega (arith, lt))
 
-by_step : (d : Data) (ds : Items) (o : Option Call) → step_of d ≡ o → (o >>= λ x. each step_of ds >>= λ xs. Some (x ∷ xs)) ≡ None → (each step_of ds ≡ None → ToldBehind ds) → Told d ds o
-by_step d ds None is h rest = ((d, refl, is), λ k lt. absurd (omega (arith, lt)))
-by_step d ds (Some call) is h rest =
-    let told = rest (rest_fails call (each step_of ds) h) in
-    (told.0, before d ds call is told)
+  by_step : (d : Data) (ds : Items) (o : Option Call) → step_of limit d ≡ o → (o >>= λ x. each (step_of limit) ds >>= λ xs. Some (x ∷ xs)) ≡ None → (each (step_of limit) ds ≡ None → ToldBehind ds) → Told d ds o
+  by_step d ds None is h rest = ((d, refl, is), λ k lt. absurd (omega (arith, lt)))
+  by_step d ds (Some call) is h rest =
+      let told = rest (rest_fails call (each (step_of limit) ds) h) in
+      (told.0, before d ds call is told)
 
 pub first_bad_is_least : FirstBadIsLeast
-first_bad_is_least no_items h = grind (arith, h)
-first_bad_is_least (item d ds) h = by_step d ds (step_of d) refl h (first_bad_is_least ds)
+first_bad_is_least limit no_items h = grind (arith, h)
+first_bad_is_least limit (item d ds) h = by_step limit d ds (step_of limit d) refl h (first_bad_is_least limit ds)

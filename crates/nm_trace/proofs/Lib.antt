@@ -4,4 +4,5 @@ pub mod Texts
 pub mod Known
 pub mod InParts
 pub mod FromBytes
+pub mod Lines
 pub mod Least

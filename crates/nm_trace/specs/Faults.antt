@@ -1,5 +1,5 @@
 -- Which bytes are which trace, and else the first fault.
-use Rattle.std.specs.Prelude.{◌≡◌, ℕ, suc, nat_le, List, length, ◌==◌, if◌then◌else◌, Option, None, IfSome, is_some, Result, Ok, Err, codes}
+use Rattle.std.specs.Prelude.{◌≡◌, ℕ, suc, nat_le, List, length, if◌then◌else◌, Option, None, IfSome, is_some, Result, Ok, Err, codes}
 use Rattle.std.specs.Option.{ok_or}
 use Rattle.std.specs.Str.{is_utf8}
 use Rattle.serde_json.specs.Data.{Data, Items, no_items, item}
@@ -27,20 +27,20 @@ abbrev pub ◌>>=◌ : {A B : Type 0} → Result A TraceError → (A → Result 
 abbrev pub value_of : List ℕ → Option Data
 value_of bytes = if is_utf8 bytes then read bytes else None
 
--- the place of the first item that is no step
-abbrev pub first_bad : Items → ℕ
-first_bad no_items = 0
-first_bad (item d ds) = if is_some (form.step_of d) then suc (first_bad ds) else 0
+-- the place of the first item that is no step, where a run has at most so many entries
+abbrev pub first_bad : ℕ → Items → ℕ
+first_bad limit no_items = 0
+first_bad limit (item d ds) = if is_some (form.step_of limit d) then suc (first_bad limit ds) else 0
 
-abbrev pub calls_of : Items → Result (List Call) TraceError
-calls_of ds = ok_or (form.each form.step_of ds) (BadStep (first_bad ds))
+abbrev pub calls_of : ℕ → Items → Result (List Call) TraceError
+calls_of limit ds = ok_or (form.each (form.step_of limit) ds) (BadStep (first_bad limit ds))
 
 unfoldable pub plan_of : Data → Result Plan TraceError
 plan_of d = do
   layout ← ok_or (form.machine_of d) BadMachine
   limit ← ok_or (form.limit_of d) BadMachine
   ds ← ok_or (form.items_at (codes "steps") d) BadMachine
-  calls ← calls_of ds
+  calls ← calls_of limit ds
   Ok (record { layout = layout; run_limit = limit; calls = calls })
 
 unfoldable pub trace_of : List ℕ → Result Plan TraceError

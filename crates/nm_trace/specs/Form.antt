@@ -1,5 +1,5 @@
 -- The form of a trace: which data are which machine, and which steps.
-use Rattle.std.specs.Prelude.{ℕ, ◌^◌, ◌==◌, ◌&&◌, List, [], ◌∷◌, Bool, false, length, nat_lt, nat_le, if◌then◌else◌, Option, Some, None, option_and_then, codes}
+use Rattle.std.specs.Prelude.{ℕ, ◌^◌, ◌==◌, ◌&&◌, List, [], ◌∷◌, Bool, false, length, nat_lt, nat_le, if◌then◌else◌, Option, Some, None, option_and_then, option_map, codes}
 use Rattle.std.specs.Str.{bytes_eq}
 use Rattle.std.specs.Result.{result_ok}
 use Rattle.std.specs.Ordering.{nat_cmp}
@@ -10,6 +10,8 @@ use Rattle.serde_json.specs.Find.{get, as_number, as_u64, as_bool, as_str, as_ar
 use Rattle.nm_types.specs.Layout.{Layout}
 use Rattle.nm_types.specs.Refusal.{refusal}
 use Rattle.nm_types.specs.declared.geometry.GeometryError.{GeometryError}
+use Rattle.nm_runs.specs.Limit.{run_count}
+use Rattle.nm_engine.specs.Touch.{Access, Read, Write}
 use Rattle.nm_calls.specs.Systems.{default_limit}
 use Rattle.nm_calls.specs.Calls.{Call, Spawn, MapPages, Attach, Unmap, Exit, Pin, Unpin, ReadBytes, WriteBytes, MovePages, MigratePages, Mbind, Offline, Online, Query, FreeList, Pagemap, Vmstat, NumaMaps}
 
@@ -127,6 +129,48 @@ limit_of d = do
   version ← number_at (codes "version") d
   limit_in version d
 
+-- ---- reads and writes
+
+-- what the keys of a read say
+unfoldable pub read_access : Data → Option Access
+read_access d = do
+  pid ← small_at (codes "pid") d
+  addr ← number_at (codes "addr") d
+  len ← number_at (codes "len") d
+  Some (Read pid addr len)
+
+-- what the keys of a write say
+unfoldable pub write_access : Data → Option Access
+write_access d = do
+  pid ← small_at (codes "pid") d
+  addr ← number_at (codes "addr") d
+  bytes ← hex_at (codes "data") d
+  Some (Write pid addr bytes)
+
+-- the access of this name
+unfoldable pub access_named : List ℕ → Data → Option Access
+access_named op d =
+    if bytes_eq op (codes "read") then read_access d
+    else (if bytes_eq op (codes "write") then write_access d
+    else None)
+
+-- an access in flight, and the number of its run, which is below the number of runs
+unfoldable pub in_flight : ℕ → Data → Option (ℕ × Access)
+in_flight runs d = do
+  run ← option_and_then (below runs) (number_at (codes "run") d)
+  op ← text_at (codes "op") d
+  access ← access_named op d
+  Some (run, access)
+
+-- a list of accesses in flight, and an empty one where the key is missing
+abbrev pub flights_or_none : ℕ → Option Data → Option (List (ℕ × Access))
+flights_or_none runs None = Some []
+flights_or_none runs (Some d) = option_and_then (each (in_flight runs)) (as_array d)
+
+-- the accesses in flight of a step that has so many runs
+abbrev pub during_at : ℕ → Data → Option (List (ℕ × Access))
+during_at runs d = flights_or_none runs (get (codes "during") d)
+
 -- ---- the kinds of step
 
 unfoldable pub spawn_of : Data → Option Call
@@ -179,29 +223,34 @@ unpin_of d = do
   addr ← number_at (codes "addr") d
   Some (Unpin pid addr)
 
-unfoldable pub read_of : Data → Option Call
-read_of d = do
-  pid ← small_at (codes "pid") d
-  addr ← number_at (codes "addr") d
-  len ← number_at (codes "len") d
-  Some (ReadBytes pid addr len)
+-- the step that makes an access
+abbrev pub access_step : Access → Call
+access_step (Read pid addr len) = ReadBytes pid addr len
+access_step (Write pid addr bytes) = WriteBytes pid addr bytes
 
-unfoldable pub write_of : Data → Option Call
-write_of d = do
-  pid ← small_at (codes "pid") d
-  addr ← number_at (codes "addr") d
-  bytes ← hex_at (codes "data") d
-  Some (WriteBytes pid addr bytes)
+-- the step of a read, and that of a write
+abbrev pub read_of : Data → Option Call
+read_of d = option_map access_step (read_access d)
 
--- as many nodes as pages, and at most 16,384
-unfoldable pub move_pages_of : Data → Option Call
-move_pages_of d = do
-  caller ← small_at (codes "caller") d
-  pid ← small_at (codes "pid") d
+abbrev pub write_of : Data → Option Call
+write_of d = option_map access_step (write_access d)
+
+-- pages and a node for each: as many nodes as pages, and at most 16,384
+unfoldable pub batch_of : Data → Option (List ℕ × List ℕ)
+batch_of d = do
   pages ← numbers_at (codes "pages") d
   nodes ← smalls_at (codes "nodes") d
+  if nat_le (length pages) 16384 && (length pages == length nodes) then Some (pages, nodes) else None
+
+-- the accesses in flight name runs of the batch, none of which has more entries than the limit
+unfoldable pub move_pages_of : ℕ → Data → Option Call
+move_pages_of limit d = do
+  caller ← small_at (codes "caller") d
+  pid ← small_at (codes "pid") d
+  batch ← batch_of d
   flags ← small_at (codes "flags") d
-  if nat_le (length pages) 16384 && (length pages == length nodes) then Some (MovePages caller pid pages nodes flags) else None
+  during ← during_at (run_count limit batch.1) d
+  Some (MovePages caller pid batch.0 batch.1 flags during)
 
 unfoldable pub migrate_pages_of : Data → Option Call
 migrate_pages_of d = do
@@ -258,9 +307,9 @@ numa_maps_of d = do
   pid ← small_at (codes "pid") d
   Some (NumaMaps pid)
 
--- the step of this name
-unfoldable pub named : List ℕ → Data → Option Call
-named op d =
+-- the step of this name, where a run has at most so many entries
+unfoldable pub named : ℕ → List ℕ → Data → Option Call
+named limit op d =
     if bytes_eq op (codes "spawn") then spawn_of d
     else (if bytes_eq op (codes "map") then map_of d
     else (if bytes_eq op (codes "attach") then attach_of d
@@ -270,7 +319,7 @@ named op d =
     else (if bytes_eq op (codes "unpin") then unpin_of d
     else (if bytes_eq op (codes "read") then read_of d
     else (if bytes_eq op (codes "write") then write_of d
-    else (if bytes_eq op (codes "move_pages") then move_pages_of d
+    else (if bytes_eq op (codes "move_pages") then move_pages_of limit d
     else (if bytes_eq op (codes "migrate_pages") then migrate_pages_of d
     else (if bytes_eq op (codes "mbind") then mbind_of d
     else (if bytes_eq op (codes "offline") then offline_of d
@@ -282,7 +331,7 @@ named op d =
     else (if bytes_eq op (codes "numa_maps") then numa_maps_of d
     else None))))))))))))))))))
 
-unfoldable pub step_of : Data → Option Call
-step_of d = do
+unfoldable pub step_of : ℕ → Data → Option Call
+step_of limit d = do
   op ← text_at (codes "op") d
-  named op d
+  named limit op d

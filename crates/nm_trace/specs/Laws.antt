@@ -15,9 +15,9 @@ item_at (item d ds) (suc k) = item_at ds k
 -- where not every item is a step, the one that is told is none, and each before it is one
 abbrev pub FirstBadIsLeast : Type 0
 FirstBadIsLeast =
-    (ds : Items) → each step_of ds ≡ None →
-    ((d : Data) × (item_at ds (first_bad ds) ≡ Some d) × (step_of d ≡ None))
-    × ((k : ℕ) → k < first_bad ds → (d : Data) × (item_at ds k ≡ Some d) × IsSome (step_of d))
+    (limit : ℕ) (ds : Items) → each (step_of limit) ds ≡ None →
+    ((d : Data) × (item_at ds (first_bad limit ds) ≡ Some d) × (step_of limit d ≡ None))
+    × ((k : ℕ) → k < first_bad limit ds → (d : Data) × (item_at ds k ≡ Some d) × IsSome (step_of limit d))
 
 -- three pages of one process, written on node 0, moved to node 1 and read there
 abbrev pub three_pages : Plan
@@ -30,7 +30,7 @@ three_pages = record {
       ∷ WriteBytes 1 65536 (97 ∷ [])
       ∷ WriteBytes 1 69632 (98 ∷ [])
       ∷ WriteBytes 1 73728 (99 ∷ [])
-      ∷ MovePages 1 0 (65536 ∷ 69632 ∷ 73728 ∷ []) (1 ∷ 1 ∷ 1 ∷ []) 2
+      ∷ MovePages 1 0 (65536 ∷ 69632 ∷ 73728 ∷ []) (1 ∷ 1 ∷ 1 ∷ []) 2 []
       ∷ FreeList 0
       ∷ FreeList 1
       ∷ Pagemap 1

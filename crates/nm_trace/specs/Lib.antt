@@ -5,3 +5,4 @@ pub mod Plans
 pub mod Report
 pub mod Played
 pub mod Laws
+pub mod Flights

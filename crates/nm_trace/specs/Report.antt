@@ -4,10 +4,11 @@ use Rattle.std.specs.Fmt.{signed_decimal}
 use Rattle.std.specs.List.{flat_map}
 use Rattle.hex.specs.Hex.{encode_lower}
 use Rattle.nm_types.specs.Names.{name_of}
+use Rattle.nm_engine.specs.Touch.{Access, Read, Write, AccessAnswer}
 use Rattle.nm_calls.specs.Maps.{address_text}
 use Rattle.nm_calls.specs.Systems.{SystemState}
 use Rattle.nm_calls.specs.Calls.{Call, Spawn, MapPages, Attach, Unmap, Exit, Pin, Unpin, ReadBytes, WriteBytes, MovePages, MigratePages, Query, FreeList, Pagemap, Vmstat, NumaMaps, Mbind, Offline, Online, Answer, Refusal, Done, Held, NewSegment, TheBytes, Statuses, Failed, Frames, Entries, TheTotals, Lines}
-use Rattle.nm_calls.specs.Outcome.{Outcome, outcome}
+use Rattle.nm_calls.specs.Outcome.{Outcome, accesses_asked, outcome, shown}
 
 -- the word of a call
 abbrev pub word_of : Call → List ℕ
@@ -20,7 +21,7 @@ word_of (Pin pid addr) = codes "pin"
 word_of (Unpin pid addr) = codes "unpin"
 word_of (ReadBytes pid addr len) = codes "read"
 word_of (WriteBytes pid addr bytes) = codes "write"
-word_of (MovePages caller pid pages nodes flags) = codes "move_pages"
+word_of (MovePages caller pid pages nodes flags during) = codes "move_pages"
 word_of (MigratePages caller pid old new) = codes "migrate_pages"
 word_of (Query caller pid pages flags) = codes "query"
 word_of (Mbind caller addr len mode nodes flags) = codes "mbind"
@@ -63,15 +64,41 @@ answer_text Held = codes "held"
 answer_text (NewSegment segment) = codes "segment=" ++ decimal segment
 answer_text (TheBytes bytes) = encode_lower bytes
 answer_text (Failed failed) = decimal failed
-answer_text (Statuses failed statuses) = decimal failed ++ codes ":" ++ signed_listed statuses
+answer_text (Statuses failed statuses answers) = decimal failed ++ codes ":" ++ signed_listed statuses
 answer_text (Frames frames) = decimal (length frames) ++ codes ":" ++ listed frames
 answer_text (Entries entries) = decimal (length entries) ++ codes ":" ++ flat_map entry_text entries
 answer_text (TheTotals moved failed) = totals_text moved failed
 answer_text (Lines lines) = decimal (length lines) ++ lines_behind lines
 
--- the lines of step k: one, and behind it those of an answer that has lines
+-- the word of an access
+abbrev pub access_word : Access → List ℕ
+access_word (Read pid addr len) = codes "read"
+access_word (Write pid addr bytes) = codes "write"
+
+-- the line of access j of step k
+unfoldable pub access_line : ℕ → ℕ → Access → AccessAnswer → List ℕ
+access_line k j access answer =
+    decimal k ++ codes "." ++ decimal j ++ codes " " ++ access_word access ++ codes " " ++ answer_text (shown answer) ++ codes "\n"
+
+-- the lines of the accesses of step k that have an answer, with numbers from j on
+abbrev pub access_lines : ℕ → ℕ → List (ℕ × Access) → List AccessAnswer → List ℕ
+access_lines k j during [] = []
+access_lines k j [] (answer ∷ answers) = []
+access_lines k j (flight ∷ during) (answer ∷ answers) =
+    access_line k j flight.1 answer ++ access_lines k (j + 1) during answers
+
+-- the answers to accesses in flight; a call that is refused has none
+abbrev pub answers_in : Answer → List AccessAnswer
+answers_in (Statuses failed statuses answers) = answers
+answers_in answer = []
+
+-- the line of step k; an answer of several lines has them behind it
+unfoldable pub line_of : ℕ → Call → Answer → List ℕ
+line_of k call answer = decimal k ++ codes " " ++ word_of call ++ codes " " ++ answer_text answer ++ codes "\n"
+
+-- the lines of step k: its own, and those of its accesses in flight
 unfoldable pub text_of : ℕ → Call → Answer → List ℕ
-text_of k call answer = decimal k ++ codes " " ++ word_of call ++ codes " " ++ answer_text answer ++ codes "\n"
+text_of k call answer = line_of k call answer ++ access_lines k 0 (accesses_asked call) (answers_in answer)
 
 -- the report on calls that are made one after another from a state on: the lines of each, with numbers from k on
 abbrev pub report_from : ℕ → SystemState → List Call → List ℕ

@@ -1,6 +1,7 @@
 //! Laws of faults and reports. Each function does nothing, and its contract is the law.
 
 ghost use Rattle.nm_trace.specs.Laws.{FirstBadIsLeast, ThreePagesReport};
+ghost use Rattle.nm_trace.specs.Flights.{AccessLineRows, FlightRows, ReadWhileItMoves};
 
 /// The fault that is told of a list of steps is that of the first faulty one.
 pub fn first_bad_is_least()
@@ -10,4 +11,19 @@ pub fn first_bad_is_least()
 /// The report on three pages that move to another node.
 pub fn three_pages_report()
     ensures { ThreePagesReport }
+{}
+
+/// Worked accesses in flight: which are read, and which are of another form.
+pub fn flight_rows()
+    ensures { FlightRows }
+{}
+
+/// Worked lines of accesses in flight.
+pub fn access_line_rows()
+    ensures { AccessLineRows }
+{}
+
+/// The report on a page that is read while it moves.
+pub fn read_while_it_moves()
+    ensures { ReadWhileItMoves }
 {}

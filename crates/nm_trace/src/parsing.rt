@@ -1,15 +1,18 @@
 //! Steps as JSON has them: the call that each asks for.
 
+ghost use Rattle.std.specs.Prelude.{◌≡◌, ◌<◌};
 ghost use Rattle.serde_json.specs.View.{view};
+ghost use Rattle.nm_engine.specs.Answering.{access_shown};
 ghost use Rattle.nm_trace.specs.Form as form;
 ghost use Rattle.nm_calls.specs.Views.{call_of};
 ghost use Rattle.nm_trace.specs.Gives.{Gives};
 
-use crate::fields::{flag, hex, number, numbers, set, small, smalls, text};
+use crate::during::{flights_at, read_access, write_access};
+use crate::fields::{flag, number, numbers, set, small, smalls, text};
 use crate::step_error::StepError;
 use nm_calls::{
-    Attachment, Batch, Call, MbindRequest, MigrateRequest, MoveRequest, NewArea, NewProcess,
-    Question,
+    Access, Attachment, Batch, Call, MbindRequest, MigrateRequest, MoveRequest, NewArea,
+    NewProcess, Question, run_count,
 };
 use nm_types::limits::MAX_BATCH;
 use nm_types::{NodeId, Pid};
@@ -94,48 +97,65 @@ fn unpin<A: Allocator + Copy + Send + Sync>(value: &Value) -> Result<Call<A>, St
     })
 }
 
-#[tactic(auto, unfolding(crate::specs::Form::read_of))]
+/// The step that makes an access.
+fn access_step<A: Allocator + Copy + Send + Sync>(access: Access<A>) -> Call<A>
+    ensures { call_of result ≡ form.access_step (access_shown access) }
+{
+    match access {
+        Access::Read { pid, addr, len } => Call::Read { pid, addr, len },
+        Access::Write { pid, addr, bytes } => Call::Write { pid, addr, bytes },
+    }
+}
+
 fn read<A: Allocator + Copy + Send + Sync>(value: &Value) -> Result<Call<A>, StepError>
     ensures { Gives call_of result (form.read_of (view value.now)) }
 {
-    Ok(Call::Read {
-        pid: Pid::new(small(value, "pid")?),
-        addr: number(value, "addr")?,
-        len: number(value, "len")?,
-    })
+    Ok(access_step(read_access(value)?))
 }
 
-#[tactic(auto, unfolding(crate::specs::Form::write_of))]
 fn write<A: Allocator + Copy + Send + Sync>(alloc: A, value: &Value) -> Result<Call<A>, StepError>
     ensures { Gives call_of result (form.write_of (view value.now)) }
 {
-    Ok(Call::Write {
-        pid: Pid::new(small(value, "pid")?),
-        addr: number(value, "addr")?,
-        bytes: hex(alloc, value, "data")?,
-    })
+    Ok(access_step(write_access(alloc, value)?))
+}
+
+/// Pages and a node for each.
+#[tactic(auto, unfolding(crate::specs::Form::batch_of))]
+fn batch_of<A: Allocator + Copy + Send + Sync>(
+    alloc: A,
+    value: &Value,
+) -> Result<Batch<A>, StepError>
+    ensures { Gives (λ batch. (batch.pages.items, batch.nodes.items)) result (form.batch_of (view value.now)) }
+{
+    let pages = numbers(alloc, value, "pages")?;
+    let nodes = smalls(alloc, value, "nodes")?;
+    if pages.len() > MAX_BATCH || pages.len() != nodes.len() {
+        return Err(StepError::Bad);
+    }
+    Ok(Batch { pages, nodes })
 }
 
 #[tactic(auto, unfolding(crate::specs::Form::move_pages_of))]
 fn move_pages<A: Allocator + Copy + Send + Sync>(
     alloc: A,
     value: &Value,
+    limit: usize,
 ) -> Result<Call<A>, StepError>
-    ensures { Gives call_of result (form.move_pages_of (view value.now)) }
+    requires { 0 < limit }
+    ensures { Gives call_of result (form.move_pages_of limit (view value.now)) }
 {
     let caller = small(value, "caller")?;
     let pid = small(value, "pid")?;
-    let pages = numbers(alloc, value, "pages")?;
-    let nodes = smalls(alloc, value, "nodes")?;
+    let batch = batch_of(alloc, value)?;
     let flags = small(value, "flags")?;
-    if pages.len() > MAX_BATCH || pages.len() != nodes.len() {
-        return Err(StepError::Bad);
-    }
+    let runs = run_count(batch.nodes.as_slice(), limit);
+    let during = flights_at(alloc, value, runs)?;
     Ok(Call::MovePages(MoveRequest {
         caller: Pid::new(caller),
         pid: Pid::new(pid),
-        batch: Batch { pages, nodes },
+        batch,
         flags,
+        during,
     }))
 }
 
@@ -241,8 +261,10 @@ fn named<A: Allocator + Copy + Send + Sync>(
     alloc: A,
     op: &str,
     value: &Value,
+    limit: usize,
 ) -> Result<Call<A>, StepError>
-    ensures { Gives call_of result (form.named op.now (view value.now)) }
+    requires { 0 < limit }
+    ensures { Gives call_of result (form.named limit op.now (view value.now)) }
 {
     match op {
         "spawn" => spawn(value),
@@ -254,7 +276,7 @@ fn named<A: Allocator + Copy + Send + Sync>(
         "unpin" => unpin(value),
         "read" => read(value),
         "write" => write(alloc, value),
-        "move_pages" => move_pages(alloc, value),
+        "move_pages" => move_pages(alloc, value, limit),
         "migrate_pages" => migrate_pages(value),
         "mbind" => mbind(value),
         "offline" => offline(value),
@@ -268,13 +290,15 @@ fn named<A: Allocator + Copy + Send + Sync>(
     }
 }
 
-/// The call that a step asks for.
+/// The call that a step asks for, where a run has at most so many entries.
 #[tactic(auto, unfolding(crate::specs::Form::step_of))]
 pub(crate) fn step_of<A: Allocator + Copy + Send + Sync>(
     alloc: A,
     value: &Value,
+    limit: usize,
 ) -> Result<Call<A>, StepError>
-    ensures { Gives call_of result (form.step_of (view value.now)) }
+    requires { 0 < limit }
+    ensures { Gives call_of result (form.step_of limit (view value.now)) }
 {
-    named(alloc, text(value, "op")?, value)
+    named(alloc, text(value, "op")?, value, limit)
 }

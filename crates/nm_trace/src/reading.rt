@@ -62,16 +62,18 @@ fn put<A: Allocator + Copy + Send + Sync>(
     }
 }
 
-/// The calls that the steps of a list ask for, or the first fault.
+/// The calls that the steps of a list ask for, or the first fault. A run has at most so many entries.
 fn calls_of<A: Allocator + Copy + Send + Sync>(
     alloc: A,
     values: &[Value],
+    limit: usize,
 ) -> Result<Vec<Call<A>, A>, TraceError>
-    ensures { Gives (λ v. map call_of v.items) result (faults.calls_of (items_view values.now)) }
+    requires { 0 < limit }
+    ensures { Gives (λ v. map call_of v.items) result (faults.calls_of limit (items_view values.now)) }
 {
     let mut calls = Vec::new(alloc);
     for (k, value) in values.iter().enumerate() {
-        let call = match step_of(alloc, value) {
+        let call = match step_of(alloc, value, limit) {
             Ok(call) => call,
             Err(StepError::Bad) => return Err(TraceError::BadStep(k)),
             Err(StepError::Memory) => return Err(TraceError::HostMemory(0)),
@@ -130,7 +132,7 @@ fn trace_of<A: Allocator + Copy + Send + Sync>(
     let geometry = geometry_of(alloc, value)?;
     let run_limit = run_limit_of(value)?;
     let values = values_of(value)?;
-    let calls = calls_of(alloc, values.as_slice())?;
+    let calls = calls_of(alloc, values.as_slice(), run_limit)?;
     Ok(Trace {
         geometry,
         run_limit,

@@ -1,13 +1,15 @@
-//! What calls answer, as lines of the report.
+//! What calls answer, as the lines of their steps.
 
 ghost use Rattle.std.specs.Prelude.{◌≡◌, ◌++◌, ◌∷◌, OnOk, IfOk, string_bytes, map, decimal, codes};
 ghost use Rattle.std.specs.List.{flat_map};
 ghost use Rattle.nm_types.specs.Names.{name_of};
 ghost use Rattle.nm_calls.specs.Calls.{Refusal};
 ghost use Rattle.nm_calls.specs.Maps.{lines_shown};
+ghost use Rattle.nm_calls.specs.Outcome.{accesses_asked};
 ghost use Rattle.nm_calls.specs.Views.{call_of, answer_of};
-ghost use Rattle.nm_trace.specs.Report.{word_of, listed, signed_listed, entry_text, totals_text, lines_behind, answer_text, text_of};
+ghost use Rattle.nm_trace.specs.Report.{word_of, listed, signed_listed, entry_text, totals_text, lines_behind, answer_text, line_of, text_of, access_lines, answers_in};
 
+use crate::access_lines::push_accesses;
 use nm_calls::{Answer, Call, PagemapEntry, Totals, push_address, push_number};
 use nm_types::{Errno, FrameId};
 use std::alloc::{AllocError, Allocator};
@@ -178,7 +180,50 @@ fn front_of<A: Allocator + Copy + Send + Sync>(
     Ok(line)
 }
 
-/// The lines of step k, whose call answered.
+/// The line of step k, whose call answered; behind it those of an answer of several lines.
+#[tactic(auto, unfolding(crate::specs::Report::line_of))]
+fn line_of<A: Allocator + Copy + Send + Sync>(
+    alloc: A,
+    k: usize,
+    call: &Call<A>,
+    answer: &Answer<A>,
+) -> Result<String<A>, AllocError>
+    ensures { IfOk result (λ text. string_bytes text ≡ line_of k (call_of call.now) (answer_of answer.now)) }
+{
+    let mut line = front_of(alloc, k, call)?;
+    push_answer(alloc, &mut line, answer)?;
+    line.push_str("\n")?;
+    Ok(line)
+}
+
+/// Puts the lines of the accesses of step k that were made while pages moved.
+#[tactic(auto, unfolding(nm_calls::specs::Outcome::accesses_asked))]
+fn push_flights<A: Allocator + Copy + Send + Sync>(
+    alloc: A,
+    text: &mut String<A>,
+    k: usize,
+    call: &Call<A>,
+    answer: &Answer<A>,
+) -> Result<(), AllocError>
+    ensures { OnOk result (string_bytes text.new ≡ string_bytes text.old
+        ++ access_lines k 0 (accesses_asked (call_of call.now)) (answers_in (answer_of answer.now))) }
+{
+    match call {
+        Call::MovePages(request) => match answer {
+            Answer::Statuses(moved) => push_accesses(
+                alloc,
+                text,
+                k,
+                request.during.as_slice(),
+                moved.answers.as_slice(),
+            ),
+            _ => Ok(()),
+        },
+        _ => Ok(()),
+    }
+}
+
+/// The lines of step k, whose call answered: its own, and those of the accesses that were made while pages moved.
 #[tactic(auto, unfolding(crate::specs::Report::text_of))]
 pub(crate) fn text_of<A: Allocator + Copy + Send + Sync>(
     alloc: A,
@@ -188,14 +233,13 @@ pub(crate) fn text_of<A: Allocator + Copy + Send + Sync>(
 ) -> Result<String<A>, AllocError>
     ensures { IfOk result (λ text. string_bytes text ≡ text_of k (call_of call.now) (answer_of answer.now)) }
 {
-    let mut line = front_of(alloc, k, call)?;
-    push_answer(alloc, &mut line, answer)?;
-    line.push_str("\n")?;
-    Ok(line)
+    let mut text = line_of(alloc, k, call, answer)?;
+    push_flights(alloc, &mut text, k, call, answer)?;
+    Ok(text)
 }
 
 /// The line of step k, whose call was refused.
-#[tactic(auto, unfolding(crate::specs::Report::text_of, crate::specs::Report::answer_text))]
+#[tactic(auto, unfolding(crate::specs::Report::text_of, crate::specs::Report::line_of, crate::specs::Report::answer_text))]
 pub(crate) fn refusal_text<A: Allocator + Copy + Send + Sync>(
     alloc: A,
     k: usize,

@@ -330,6 +330,38 @@ fn tells_the_fault_of_a_trace(rt: HostRuntime) -> Result<(), Fail> {
     Ok(())
 }
 
+/// Accesses in flight that are none, in the batch of the trace, which is one run.
+const NO_ACCESSES: [&str; 17] = [
+    "\"flags\":2,\"during\":null",
+    "\"flags\":2,\"during\":{}",
+    "\"flags\":2,\"during\":0",
+    "\"flags\":2,\"during\":[7]",
+    "\"flags\":2,\"during\":[null]",
+    "\"flags\":2,\"during\":[{\"op\":\"read\",\"pid\":1,\"addr\":65536,\"len\":1}]",
+    "\"flags\":2,\"during\":[{\"run\":1,\"op\":\"read\",\"pid\":1,\"addr\":65536,\"len\":1}]",
+    "\"flags\":2,\"during\":[{\"run\":-1,\"op\":\"read\",\"pid\":1,\"addr\":65536,\"len\":1}]",
+    "\"flags\":2,\"during\":[{\"run\":0.0,\"op\":\"read\",\"pid\":1,\"addr\":65536,\"len\":1}]",
+    "\"flags\":2,\"during\":[{\"run\":4294967296,\"op\":\"read\",\"pid\":1,\"addr\":65536,\"len\":1}]",
+    "\"flags\":2,\"during\":[{\"run\":18446744073709551616,\"op\":\"read\",\"pid\":1,\"addr\":65536,\"len\":1}]",
+    "\"flags\":2,\"during\":[{\"run\":0,\"pid\":1,\"addr\":65536,\"len\":1}]",
+    "\"flags\":2,\"during\":[{\"run\":0,\"op\":\"exit\",\"pid\":1}]",
+    "\"flags\":2,\"during\":[{\"run\":0,\"op\":\"read\",\"pid\":1,\"addr\":65536}]",
+    "\"flags\":2,\"during\":[{\"run\":0,\"op\":\"write\",\"pid\":1,\"addr\":65536,\"len\":1}]",
+    "\"flags\":2,\"during\":[{\"run\":0,\"op\":\"write\",\"pid\":1,\"addr\":65536,\"data\":\"6\"}]",
+    "\"flags\":2,\"during\":[{\"run\":0,\"op\":\"read\",\"pid\":1,\"addr\":65536,\"len\":1},[]]",
+];
+
+#[test]
+fn tells_the_step_of_a_bad_access(rt: HostRuntime) -> Result<(), Fail> {
+    let alloc = rt.alloc();
+    for new in NO_ACCESSES {
+        let trace = changed(alloc, TRACE, "\"flags\":2", new)?;
+        let ran = run(&rt, rt.alloc(), trace.as_bytes())?;
+        assert!(rt; is_fault(&ran, "bad step 5"), "at {new}");
+    }
+    Ok(())
+}
+
 /// Whether a run wrote nothing, and told this.
 fn is_fault(ran: &Ran, text: &str) -> bool {
     let line = ran.err.as_slice().strip_prefix(b"numatrace: ");
@@ -339,7 +371,7 @@ fn is_fault(ran: &Ran, text: &str) -> bool {
 }
 
 /// The trace with one place changed, which changes nothing.
-const SAME: [(&str, &str); 8] = [
+const SAME: [(&str, &str); 9] = [
     ("\"version\":1", "\"version\":2,\"version\":1"),
     ("\"version\":1", "\"version\":2,\"run_limit\":1"),
     ("\"version\":1", "\"version\":2,\"run_limit\":16384"),
@@ -353,8 +385,43 @@ const SAME: [(&str, &str); 8] = [
     ),
     ("\"pages\":3", "\"pages\":3,\"shared\":false"),
     ("\"pages\":3", "\"pages\":3,\"during\":7"),
+    ("\"flags\":2", "\"flags\":2,\"during\":[]"),
     ("\"steps\"", " \"st\\u0065ps\" "),
 ];
+
+/// The trace with runs of two entries at most, and a read in this run of its batch of three.
+fn read_in_run(alloc: Global, run: &str) -> Result<String, Fail> {
+    let limited = changed(
+        alloc,
+        TRACE,
+        "\"version\":1",
+        "\"version\":2,\"run_limit\":2",
+    )?;
+    let read = changed(
+        alloc,
+        "\"flags\":2,\"during\":[{\"run\":RUN,\"op\":\"read\",\"pid\":1,\"addr\":65536,\"len\":1}]",
+        "RUN",
+        run,
+    )?;
+    changed(alloc, limited.as_str(), "\"flags\":2", read.as_str())
+}
+
+#[test]
+fn counts_runs_by_the_limit(rt: HostRuntime) -> Result<(), Fail> {
+    let alloc = rt.alloc();
+    let second = read_in_run(alloc, "1")?;
+    let ran = run(&rt, rt.alloc(), second.as_bytes())?;
+    let report = changed(
+        alloc,
+        REPORT,
+        "5 move_pages 0: 1 1 1\n",
+        "5 move_pages 0: 1 1 1\n5.0 read 61\n",
+    )?;
+    assert!(rt; ran.status == 0 && ran.out.as_slice() == report.as_bytes());
+    let third = read_in_run(alloc, "2")?;
+    assert!(rt; is_fault(&run(&rt, rt.alloc(), third.as_bytes())?, "bad step 5"));
+    Ok(())
+}
 
 #[test]
 fn reads_other_spellings(rt: HostRuntime) -> Result<(), Fail> {

@@ -3,7 +3,7 @@
 use super::comparing::look_alike;
 use super::meeting::Met;
 use crate::plain::{Answer, Batch, Call, ENTRIES, KEPT, Plain, done_unless, nodes_of};
-use nm_calls::{CallError, System};
+use nm_calls::{CallError, InFlight, System};
 use nm_crew::OpenGate;
 use nm_types::{NodeId, Pid};
 use std::alloc::Global;
@@ -81,7 +81,8 @@ fn move_pages(
     let pid = Pid::new(batch.pid);
     let pages = &batch.pages[..count];
     let nodes = &batch.nodes[..count];
-    match system.move_pages(rt, caller, pid, pages, nodes, batch.flags, &OpenGate) {
+    let none: [InFlight<Global>; 0] = [];
+    match system.move_pages(rt, caller, pid, pages, nodes, batch.flags, &none, &OpenGate) {
         Ok(moved) => {
             let statuses = first_statuses(moved.statuses.as_slice());
             Answer::Statuses(moved.failed, moved.statuses.len(), statuses)

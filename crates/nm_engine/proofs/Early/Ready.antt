@@ -69,7 +69,7 @@ over_page s pid v process (Some area) at p a e =
     let same : there ≡ at = cc in
     page_at_spot s there (record { process = p; area = a }) ∙ ap (λ (x : Spot). Some (shown_at x)) same
 
-process_page : (s : State) (pid address len : ℕ) (o : Option Process) (at : Spot) → get nat_cmp s.processes pid ≡ o → spot_of s o pid address len ≡ Ok at → page_at s.areas pid (address / 4096) ≡ Some (shown_at at)
+pub process_page : (s : State) (pid address len : ℕ) (o : Option Process) (at : Spot) → get nat_cmp s.processes pid ≡ o → spot_of s o pid address len ≡ Ok at → page_at s.areas pid (address / 4096) ≡ Some (shown_at at)
 process_page s pid address len None at p e = cc
 process_page s pid address len (Some process) at p e =
     elim ((len == 0) || nat_lt 4096 (address % 4096 + len)) as (λ b. (if b then Err Einval else spot_over pid process (address / 4096) (area_over s.areas pid (address / 4096))) ≡ Ok at → page_at s.areas pid (address / 4096) ≡ Some (shown_at at)) [

@@ -114,7 +114,7 @@ is_carried (t ∷ taken) y k online moved failed target kept shelf can =
 abbrev tos : List Taken → List ℕ
 tos taken = map (λ t. t.to) taken
 
-tos_are : (taken : List Taken) (s : State) (target : ℕ) → CanMove s target taken → tos taken ≡ take (length taken) (free_list s target)
+pub tos_are : (taken : List Taken) (s : State) (target : ℕ) → CanMove s target taken → tos taken ≡ take (length taken) (free_list s target)
 tos_are [] s target can = refl
 tos_are (t ∷ taken) s target can =
     let list = free_list s target in

@@ -1,17 +1,28 @@
-//! Copying the pages of a run.
+//! Copying the pages of a run, and the accesses that are made meanwhile.
 
-ghost use Rattle.std.specs.Prelude.{◌≡◌, ◌+◌, ◌<◌, ◌≤◌, ◌++◌, [], length, vec_len, vec_capacity};
+ghost use Rattle.std.specs.Prelude.{◌≡◌, ◌+◌, ◌<◌, ◌≤◌, ◌++◌, [], map, length, slice_get, IsSome, vec_len, vec_capacity};
+ghost use Rattle.std.specs.List.{AllByRecursion};
 ghost use Rattle.nm_engine.specs.Copies.{with_copies, CanCopy, emptied, jobs_of, refilled, CanRefill};
+ghost use Rattle.nm_engine.specs.Finishing.{all_done, done_in, told_in, frame_at, CanDo};
+ghost use Rattle.nm_types.specs.Map.{get, page_cmp};
+ghost use Rattle.nm_engine.specs.Answering.{answer_shown, due_shown, written_by, HasRoom};
 
+use crate::address_spaces::AddressSpaces;
+use crate::answered::AccessAnswer;
+use crate::frames::copy_bytes;
+use crate::inner::due::Due;
 use nm_crew::{Gate, copy_while};
 use nm_frames::{CopyJob, FrameStore};
 use nm_plan::Taken;
+use nm_types::{Access, FrameId, Page};
 use std::alloc::Allocator;
+use std::mem;
 use std::sync::Wait;
 use std::thread::Threads;
 
-/// Copies the page of each move to the frame that it takes, with so many workers. All pages go into a list of jobs, which
-/// has room for them and comes back empty.
+/// Copies the page of each move to the frame that it takes, with so many workers, and does meanwhile what is left to do for
+/// accesses to other pages. All pages that move go into a list of jobs, which has room for them and comes back empty. The
+/// answers go into a list that has room for them.
 pub(super) fn copy_pages<
     R: Threads + Wait + Sync,
     A: Allocator + Copy + Send + Sync,
@@ -22,20 +33,45 @@ pub(super) fn copy_pages<
     frames: &mut FrameStore<A>,
     moves: &[Taken],
     mut jobs: Vec<CopyJob<A>, A>,
+    spaces: &AddressSpaces<A>,
+    accesses: &[Access<A>],
+    dues: Vec<Due<A>, A>,
+    answers: Vec<AccessAnswer<A>, A>,
     workers: usize,
     gate: &G,
-) -> Vec<CopyJob<A>, A>
+) -> (Vec<CopyJob<A>, A>, Vec<AccessAnswer<A>, A>)
     requires can { CanCopy frames.old moves.now }
     requires empty { jobs.items ≡ [] }
-    requires room { length moves.now ≤ vec_capacity jobs }
+    requires few { length moves.now ≤ vec_capacity jobs }
+    requires due { AllByRecursion (CanDo spaces.now.place (emptied frames.old moves.now)) (map (due_shown accesses.now) dues.items) }
+    requires room { AllByRecursion HasRoom dues.items }
+    requires unanswered { answers.items ≡ [] }
+    requires space { vec_len dues ≤ vec_capacity answers }
     requires workers { (0 < workers) × (workers ≤ 64) }
-    ensures frames { frames.new ≡ with_copies frames.old moves.now }
-    ensures empty { result.items ≡ [] }
+    ensures frames { frames.new ≡ (all_done spaces.now.place (with_copies frames.old moves.now) (map (due_shown accesses.now) dues.items)).store }
+    ensures answers { map answer_shown result.1.items ≡ (all_done spaces.now.place (with_copies frames.old moves.now) (map (due_shown accesses.now) dues.items)).answers }
+    ensures empty { result.0.items ≡ [] }
 {
     take_out_each(frames, moves, &mut jobs);
-    let (mut copied, ()) = copy_while(rt, alloc, jobs, workers, gate, || ());
+    let store = mem::replace(frames, FrameStore::none(alloc));
+    let (mut copied, (store, answers)) = copy_while(
+        rt,
+        alloc,
+        jobs,
+        workers,
+        gate,
+        move || -> (FrameStore<A>, Vec<AccessAnswer<A>, A>)
+            requires due { AllByRecursion (CanDo spaces.now.place store) (map (due_shown accesses.now) dues.items) }
+            requires room { AllByRecursion HasRoom dues.items }
+            requires unanswered { answers.items ≡ [] }
+            requires space { vec_len dues ≤ vec_capacity answers }
+            ensures store { result.0 ≡ (all_done spaces.entry.now.place store (map (due_shown accesses.entry.now) dues.items)).store }
+            ensures answers { map answer_shown result.1.items ≡ (all_done spaces.entry.now.place store (map (due_shown accesses.entry.now) dues.items)).answers }
+        { finish(store, spaces, accesses, dues, answers) },
+    );
+    *frames = store;
     put_back_each(frames, &mut copied);
-    copied
+    (copied, answers)
 }
 
 /// Takes the bytes of both frames of each move out, as a job at the end of a list that has room for it.
@@ -73,4 +109,78 @@ fn put_back_each<A: Allocator + Copy>(frames: &mut FrameStore<A>, jobs: &mut Vec
         frames.put_back(source);
         frames.put_back(target);
     }
+}
+
+/// Does what is left to do for accesses, in their order, on the bytes of the frames that are home. The answers go into a
+/// list that has room for them.
+fn finish<A: Allocator + Copy>(
+    mut store: FrameStore<A>,
+    spaces: &AddressSpaces<A>,
+    accesses: &[Access<A>],
+    dues: Vec<Due<A>, A>,
+    mut answers: Vec<AccessAnswer<A>, A>,
+) -> (FrameStore<A>, Vec<AccessAnswer<A>, A>)
+    requires due { AllByRecursion (CanDo spaces.now.place store) (map (due_shown accesses.now) dues.items) }
+    requires room { AllByRecursion HasRoom dues.items }
+    requires unanswered { answers.items ≡ [] }
+    requires space { vec_len dues ≤ vec_capacity answers }
+    ensures store { result.0 ≡ (all_done spaces.now.place store (map (due_shown accesses.now) dues.items)).store }
+    ensures answers { map answer_shown result.1.items ≡ (all_done spaces.now.place store (map (due_shown accesses.now) dues.items)).answers }
+{
+    for due in dues {
+        let answer = finish_one(&mut store, spaces, accesses, due);
+        answers.push_reserved(answer);
+    }
+    (store, answers)
+}
+
+/// Does what is left to do for one access.
+fn finish_one<A: Allocator + Copy>(
+    store: &mut FrameStore<A>,
+    spaces: &AddressSpaces<A>,
+    accesses: &[Access<A>],
+    due: Due<A>,
+) -> AccessAnswer<A>
+    requires due { CanDo spaces.now.place store.old (due_shown accesses.now due) }
+    requires room { HasRoom due }
+    ensures store { store.new ≡ done_in spaces.now.place store.old (due_shown accesses.now due) }
+    ensures answer { answer_shown result ≡ told_in spaces.now.place store.old (due_shown accesses.now due) }
+{
+    match due {
+        Due::Known(answer) => answer,
+        Due::Read {
+            page,
+            at,
+            len,
+            mut bytes,
+        } => {
+            copy_bytes(store, frame_of(spaces, page), at, len, &mut bytes);
+            AccessAnswer::Bytes(bytes)
+        }
+        Due::Write { page, at, access } => {
+            store.write(frame_of(spaces, page), at, written_by(accesses, access));
+            AccessAnswer::Done
+        }
+    }
+}
+
+/// The bytes that the access of this number writes.
+fn written_by<A: Allocator + Copy>(accesses: &[Access<A>], number: usize) -> &[u8]
+    ensures { result.now ≡ written_by (slice_get accesses.now number) }
+{
+    match accesses.get(number) {
+        Some(Access::Write { bytes, .. }) => bytes.as_slice(),
+        _ => &[],
+    }
+}
+
+/// The frame of a page that has one.
+fn frame_of<A: Allocator + Copy>(spaces: &AddressSpaces<A>, page: Page) -> FrameId
+    requires { IsSome (get page_cmp spaces.now.place page) }
+    ensures { result ≡ frame_at spaces.now.place page }
+{
+    let Some(frame) = spaces.place(page) else {
+        unreachable!()
+    };
+    frame
 }

@@ -1,6 +1,7 @@
 //! Runs: pages that move to one node, one after another.
 
-ghost use Rattle.std.specs.Prelude.{◌≡◌, ◌+◌, ◌<◌, ◌≤◌, ◌^◌, [], ◌∷◌, ◌++◌, map, length, Some, IfOk, OnOk};
+ghost use Rattle.std.specs.Prelude.{◌≡◌, ◌+◌, ◌<◌, ◌≤◌, ◌^◌, [], ◌∷◌, ◌++◌, map, length, Some, IfOk, OnOk, vec_len, vec_capacity};
+ghost use Rattle.std.specs.List.{AllByRecursion};
 ghost use Rattle.std.specs.Bool.{OnTrue, OnFalse};
 ghost use Rattle.nm_types.specs.Layout.{node_count};
 ghost use Rattle.nm_types.specs.Map.{get, page_cmp};
@@ -10,13 +11,18 @@ ghost use Rattle.nm_runs.specs.Shown.{class_shown, ShowsItsFrames};
 ghost use Rattle.nm_engine.specs.Laws.{with_moves};
 ghost use Rattle.nm_engine.specs.Moves.{CanMove, IsPlanOf};
 ghost use Rattle.nm_engine.specs.Run.{decided, left, HasOneAll, with_all_free, failures, counted};
+ghost use Rattle.nm_engine.specs.Sound.{IsSound};
+ghost use Rattle.nm_engine.specs.Early.{without_fronts, with_fronts, tos, all_made, IsDue};
+ghost use Rattle.nm_engine.specs.Answering.{answer_shown, due_shown, HasRoom};
 
+use crate::answered::AccessAnswer;
 use crate::inner::Inner;
+use crate::inner::due::Due;
 use crate::machine::Totals;
 use nm_crew::Gate;
 use nm_plan::{Plan, Taken, plan};
 use nm_runs::{Class, Run, classify, classify_here};
-use nm_types::{Errno, FrameId, Geometry, NodeId, Page, PageView};
+use nm_types::{Access, Errno, FrameId, Geometry, NodeId, Page, PageView};
 use std::alloc::{AllocError, Allocator};
 use std::sync::Wait;
 use std::thread::Threads;
@@ -55,27 +61,47 @@ impl<A: Allocator + Copy + Send + Sync> Inner<A> {
         plan(self.alloc, classes.as_slice(), front.as_slice(), target)
     }
 
-    /// Makes moves to a node: their frames are taken, all pages are copied by so many workers, and then every entry that
-    /// named a frame that a page leaves names the other.
+    /// Makes moves to a node, whose frames are taken: every entry that named a frame that a page leaves names the other, and
+    /// all pages are copied by so many workers. What is left to do for accesses to other pages is done meanwhile; the
+    /// answers go into a list that has room for them.
     pub(crate) fn carry_out<R: Threads + Wait + Sync, G: Gate + Sync>(
         &mut self,
         rt: &R,
         target: NodeId,
         moves: &[Taken],
+        accesses: &[Access<A>],
+        dues: Vec<Due<A>, A>,
+        answers: Vec<AccessAnswer<A>, A>,
         workers: usize,
         gate: &G,
-    )
+    ) -> Vec<AccessAnswer<A>, A>
         requires target { target < node_count self.old.state.layout }
-        requires room { length self.old.left + length moves.now ≤ self.old.room }
-        requires moves { CanMove self.old.state target moves.now }
+        requires few { length moves.now ≤ self.old.room }
+        requires taken { self.old.left ≡ tos moves.now }
+        requires sound { IsSound (with_fronts (self.old.state) target (tos moves.now)) }
+        requires moves { CanMove (with_fronts (self.old.state) target (tos moves.now)) target moves.now }
+        requires due { AllByRecursion (IsDue (map (λ t. t.page) moves.now) self.old.state) (map (due_shown accesses.now) dues.items) }
+        requires room { AllByRecursion HasRoom dues.items }
+        requires unanswered { answers.items ≡ [] }
+        requires space { vec_len dues ≤ vec_capacity answers }
         requires workers { (0 < workers) × (workers ≤ 64) }
-        ensures state { self.new.state ≡ with_moves self.old.state target moves.now }
-        ensures left { self.new.left ≡ self.old.left ++ left moves.now }
+        ensures state { self.new.state ≡ (all_made (with_moves (with_fronts (self.old.state) target (tos moves.now)) target moves.now) (map (due_shown accesses.now) dues.items)).state }
+        ensures answers { map answer_shown result.items ≡ (all_made (with_moves (with_fronts (self.old.state) target (tos moves.now)) target moves.now) (map (due_shown accesses.now) dues.items)).answers }
+        ensures left { self.new.left ≡ left moves.now }
     {
-        self.frames.take_fronts(target, moves.len());
         self.frames.vacate_each(moves);
-        self.frames.copy_pages(rt, self.alloc, moves, workers, gate);
         self.spaces.move_pages(moves);
+        self.frames.copy_pages(
+            rt,
+            self.alloc,
+            moves,
+            &self.spaces,
+            accesses,
+            dues,
+            answers,
+            workers,
+            gate,
+        )
     }
 
     /// The run ends: its moves and failures are counted, and the frames that its pages left become free.

@@ -196,7 +196,7 @@ fn first_free<A: Allocator + Copy>(frames: &Frames<A>, order: &[NodeId]) -> Opti
 }
 
 /// Puts so many zeros behind the bytes of a list that has room for them.
-fn push_zeros<A: Allocator + Copy>(bytes: &mut Vec<u8, A>, len: usize)
+pub(crate) fn push_zeros<A: Allocator + Copy>(bytes: &mut Vec<u8, A>, len: usize)
     requires { vec_len bytes.old + len ≤ vec_capacity bytes.old }
     ensures { bytes.new.items ≡ bytes.old.items ++ replicate len 0 }
 {

@@ -56,6 +56,7 @@ impl<A: Allocator + Copy> Inner<A> {
         ensures same { self.new ≡ with_state self.old self.new.state }
         ensures noted { IfOk result (λ frame. undos.new.items ≡ with_undo undos.old.items (noted t.pid t.vpn t.page (sight_at self.old.state t.pid t.vpn) (get page_cmp self.old.state.place t.page) frame)) }
         ensures err { OnErr result (undos.new.items ≡ undos.old.items) }
+        ensures sound { OnOk result (IsSoundMidRun self.old.state self.old.left) }
         ensures back { IsStillUndone self.old.left self.old.state undos.old.items self.new.state undos.new.items }
     {
         undos.reserve(1)?;

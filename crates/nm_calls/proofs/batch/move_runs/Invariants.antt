@@ -1,13 +1,16 @@
-use Rattle.std.proofs.Common.{◌≡◌, ◌+◌, ◌≤◌, drop, length, vec_capacity}
+use Rattle.std.proofs.Common.{◌≡◌, ◌+◌, ◌≤◌, drop, length, map, vec_capacity}
 use Rattle.std.specs.List.{sum_by}
 use Rattle.nm_types.specs.Layout.{node_count}
 use Rattle.nm_runs.specs.Cut.{stretches_of}
+use Rattle.nm_calls.specs.During.{shown_during, left_shown}
 use Rattle.nm_calls.proofs.Stretches.{HaveRun}
 use Rattle.nm_calls.proofs.batch.move_runs.Given as goal
 
 abbrev pub invariant-loop-k : goal.invariant-loop-k
 invariant-loop-k g l = record {
   room : length l.statuses.items + sum_by (λ run. length run.wanted.items) (drop l.k l.runs) ≤ vec_capacity l.statuses;
+  queues : length l.told.items ≡ l.k;
+  places : length l.runs ≤ vec_capacity l.told;
   nodes : node_count l.machine.layout ≡ node_count l.fn.machine.layout;
-  made : HaveRun l.fn.machine (stretches_of l.runs) (stretches_of (drop l.k l.runs)) l.k l.machine l.statuses.items;
+  made : HaveRun l.fn.machine (stretches_of l.runs) (stretches_of (drop l.k l.runs)) (shown_during l.during) l.k l.machine l.statuses.items (map left_shown l.told.items);
 }

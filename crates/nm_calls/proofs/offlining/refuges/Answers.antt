@@ -1,6 +1,5 @@
-use Rattle.std.proofs.Common.{ℕ, ◌<◌, ◌≤◌, ap, sym, subst, ◌∙◌, arith, length}
+use Rattle.std.proofs.Common.{ℕ, ◌<◌, ap, sym, subst, ◌∙◌, arith, length}
 use Rattle.std.specs.Prelude.{All, not, ◌==◌}
-use Rattle.std.specs.List.{AllByRecursion}
 use Rattle.std.proofs.lemmas.List.Elements.{All-from_recursion, recursion_from_All, All-filter}
 use Rattle.nm_types.specs.Layout.{Layout, node_count}
 use Rattle.nm_types.specs.Nodes.{without_node}

@@ -1,8 +1,7 @@
-use Rattle.std.proofs.Common.{◌≡◌, ◌++◌, ◌≤◌, List, ℕ, ◌+◌, length, map, take, refl, sym, ap, inl, inr, ◌∙◌, arith}
+use Rattle.std.proofs.Common.{◌≡◌, ◌++◌, List, ℕ, ◌+◌, map, take, refl, sym, ap, inl, inr, ◌∙◌, arith}
 use Rattle.std.proofs.lemmas.List.{take_all, length-map}
 use Rattle.std.proofs.lemmas.Option.{slice_get_read}
 use Rattle.nm_calls.specs.Views.{call_of}
-use Rattle.nm_calls.specs.Calls.{Call}
 use Rattle.nm_trace.specs.Report.{report_from, state_after}
 use Rattle.nm_trace.proofs.InParts.{call_at, broken_off, handed_on, written_whole, state_more, waiting_more}
 use Rattle.nm_trace.proofs.playing.play_calls.Goals as goal

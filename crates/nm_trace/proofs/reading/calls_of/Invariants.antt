@@ -8,6 +8,6 @@ use Rattle.nm_trace.proofs.reading.calls_of.Given as goal
 
 abbrev pub invariant-loop-k : goal.invariant-loop-k
 invariant-loop-k g l = record {
-  read : with_front (map call_of l.calls.items) (each step_of (items_view (drop l.k l.values))) ≡ each step_of (items_view l.values);
-  place : l.k + first_bad (items_view (drop l.k l.values)) ≡ first_bad (items_view l.values);
+  read : with_front (map call_of l.calls.items) (each (step_of l.limit) (items_view (drop l.k l.values))) ≡ each (step_of l.limit) (items_view l.values);
+  place : l.k + first_bad l.limit (items_view (drop l.k l.values)) ≡ first_bad l.limit (items_view l.values);
 }

@@ -1,7 +1,7 @@
 use Rattle.std.proofs.Common.{◌≡◌, sym, subst, ◌∙◌}
 use Rattle.nm_calls.specs.Calls.{Offline, Done}
 use Rattle.nm_calls.specs.Systems.{SystemState, in_state}
-use Rattle.nm_calls.specs.Outcome.{Outcome, outcome}
+use Rattle.nm_calls.specs.Outcome.{outcome}
 use Rattle.nm_calls.specs.Does.{Does}
 use Rattle.nm_calls.proofs.Emptied.{empties_does, stays_offline}
 use Rattle.nm_calls.proofs.system.System.offline.Goals as goal

@@ -1,65 +1,103 @@
-use Rattle.std.proofs.Common.{◌≡◌, ◌<◌, ◌++◌, length, ap, sym, subst, ◌∙◌, arith}
-use Rattle.nm_types.specs.Layout.{node_count}
+use Rattle.std.proofs.Common.{◌≡◌, ℕ, List, length, map, ap, sym, subst, ◌∙◌, arith}
+use Rattle.std.specs.List.{AllByRecursion}
+use Rattle.nm_types.specs.State.{State}
 use Rattle.nm_engine.specs.AddressSpaces.{SpacesView}
-use Rattle.nm_engine.specs.Copies.{CanCopy}
+use Rattle.nm_engine.specs.Answering.{due_shown}
+use Rattle.nm_engine.specs.Copies.{CanCopy, emptied, with_copies}
+use Rattle.nm_engine.specs.Early.{all_made, with_fronts, tos}
+use Rattle.nm_engine.specs.Finishing.{all_done, CanDo}
 use Rattle.nm_engine.specs.Frames.{FramesView}
 use Rattle.nm_engine.specs.Laws.{with_moves}
 use Rattle.nm_engine.specs.Run.{left}
 use Rattle.nm_engine.specs.MidRun.{MidRun, IsKept}
-use Rattle.nm_engine.specs.Moves.{CanMove, all_moved}
 use Rattle.nm_engine.specs.Shown.{shown_by}
-use Rattle.nm_engine.proofs.Together.Carried.{in_phases, is_carried, carried_copy}
+use Rattle.nm_engine.proofs.Early.Carrying.{spaces_then, frames_then, prepared, remap, can_copy, can_meanwhile, finished_shows, finished_told, finished_kept}
 use Rattle.nm_engine.proofs.inner.Inner.carry_out.Goals as goal
-
-pub copy_pages-requires-clause-can : goal.copy_pages-requires-clause-can
-copy_pages-requires-clause-can g c κs within =
-    let i = c.self.inside in
-    let k : FramesView = i.frames in
-    let moves = c.args.moves.now in
-    let t = c.args.target in
-    let can = subst (λ (x : MidRun). CanMove x.state t moves) (sym c.self.view_is) c.requires.moves in
-    let shelf = c.take_fronts.ensures.shelf in
-    let same = ap (λ (x : MidRun). node_count x.state.layout) c.self.view_is in
-    let inside : t < length k.free = omega (arith, same, shelf.lists, c.requires.target) in
-    let done = is_carried moves i.spaces k i.online i.totals.moved i.totals.failed t c.self.invariant shelf can in
-    subst (λ (x : FramesView). CanCopy x.frames moves) (sym (c.vacate_each.ensures ∙ ap (λ (x : FramesView). record x { vacated = x.vacated ++ left moves }) c.take_fronts.ensures.rest))
-    (carried_copy moves i.spaces k i.online i.totals.moved i.totals.failed t c.self.invariant shelf inside can done)
 
 pub move_pages-requires : goal.move_pages-requires
 move_pages-requires g c =
     let i = c.self.inside in
+    let y = i.spaces in
+    let k : FramesView = i.frames in
     let moves = c.args.moves.now in
     let t = c.args.target in
-    let can = subst (λ (x : MidRun). CanMove x.state t moves) (sym c.self.view_is) c.requires.moves in
-    (is_carried moves i.spaces i.frames i.online i.totals.moved i.totals.failed t c.self.invariant c.take_fronts.ensures.shelf can).remap
+    let dues = map (due_shown c.args.accesses.now) c.args.dues.items in
+    let h = prepared y k i.online i.totals.moved i.totals.failed t moves dues c.args.self.now c.self.view_is c.self.invariant c.vacate_each.ensures.shelf
+    c.requires.target c.requires.taken c.requires.sound c.requires.moves c.requires.due in
+    remap y k i.online i.totals.moved i.totals.failed t moves dues h
+
+pub copy_pages-requires-clause-can : goal.copy_pages-requires-clause-can
+copy_pages-requires-clause-can g c κs within =
+    let i = c.self.inside in
+    let y = i.spaces in
+    let k : FramesView = i.frames in
+    let moves = c.args.moves.now in
+    let t = c.args.target in
+    let dues = map (due_shown c.args.accesses.now) c.args.dues.items in
+    let h = prepared y k i.online i.totals.moved i.totals.failed t moves dues c.args.self.now c.self.view_is c.self.invariant c.vacate_each.ensures.shelf
+    c.requires.target c.requires.taken c.requires.sound c.requires.moves c.requires.due in
+    subst (λ (v : FramesView). CanCopy v.frames moves) (sym c.vacate_each.ensures.vacated) (can_copy y k i.online i.totals.moved i.totals.failed t moves dues h)
+
+pub copy_pages-requires-clause-due : goal.copy_pages-requires-clause-due
+copy_pages-requires-clause-due g c κs within =
+    let i = c.self.inside in
+    let y = i.spaces in
+    let k : FramesView = i.frames in
+    let moves = c.args.moves.now in
+    let t = c.args.target in
+    let dues = map (due_shown c.args.accesses.now) c.args.dues.items in
+    let h = prepared y k i.online i.totals.moved i.totals.failed t moves dues c.args.self.now c.self.view_is c.self.invariant c.vacate_each.ensures.shelf
+    c.requires.target c.requires.taken c.requires.sound c.requires.moves c.requires.due in
+    subst (λ (z : SpacesView). AllByRecursion (CanDo z.place (emptied c.vacate_each.new.self.frames moves)) dues) (sym c.move_pages.ensures)
+    (subst (λ (v : FramesView). AllByRecursion (CanDo (spaces_then y k i.online i.totals.moved i.totals.failed t moves dues).place (emptied v.frames moves)) dues) (sym c.vacate_each.ensures.vacated) (can_meanwhile y k i.online i.totals.moved i.totals.failed t moves dues h))
 
 pub invariant_of-self : goal.invariant_of-self
 invariant_of-self g c =
     let i = c.self.inside in
+    let y = i.spaces in
     let k : FramesView = i.frames in
     let moves = c.args.moves.now in
     let t = c.args.target in
-    let can = subst (λ (x : MidRun). CanMove x.state t moves) (sym c.self.view_is) c.requires.moves in
-    let shelf = c.take_fronts.ensures.shelf in
-    let same = ap (λ (x : MidRun). node_count x.state.layout) c.self.view_is in
-    let inside : t < length k.free = omega (arith, same, shelf.lists, c.requires.target) in
-    let done = is_carried moves i.spaces k i.online i.totals.moved i.totals.failed t c.self.invariant shelf can in
-    let after = in_phases moves t k _ _ _ inside c.take_fronts.ensures.rest c.vacate_each.ensures c.copy_pages.ensures in
-    subst (λ (z : SpacesView). IsKept (shown_by z c.copy_pages.new.self i.online i.totals.moved i.totals.failed) c.copy_pages.new.self.vacated z.frames) (sym c.move_pages.ensures)
-    (subst (λ (x : FramesView). IsKept (shown_by (all_moved i.spaces moves) x i.online i.totals.moved i.totals.failed) x.vacated (all_moved i.spaces moves).frames) (sym after) done.kept)
+    let dues = map (due_shown c.args.accesses.now) c.args.dues.items in
+    let h = prepared y k i.online i.totals.moved i.totals.failed t moves dues c.args.self.now c.self.view_is c.self.invariant c.vacate_each.ensures.shelf
+    c.requires.target c.requires.taken c.requires.sound c.requires.moves c.requires.due in
+    let w = c.copy_pages.new.self in
+    let is : w ≡ record k { frames = (all_done (spaces_then y k i.online i.totals.moved i.totals.failed t moves dues).place (with_copies k.frames moves) dues).store; vacated = left moves; room = w.room } =
+    c.copy_pages.ensures.frames
+    ∙ ap (λ (v : FramesView). record v { frames = (all_done c.move_pages.new.self.place (with_copies v.frames moves) dues).store; room = w.room }) c.vacate_each.ensures.vacated
+    ∙ ap (λ (z : SpacesView). record k { frames = (all_done z.place (with_copies k.frames moves) dues).store; vacated = left moves; room = w.room }) c.move_pages.ensures in
+    subst (λ (z : SpacesView). IsKept (shown_by z w i.online i.totals.moved i.totals.failed) w.vacated z.frames) (sym c.move_pages.ensures) (finished_kept y k i.online i.totals.moved i.totals.failed t moves dues h w is)
 
 pub returns-clause-state : goal.returns-clause-state
 returns-clause-state g c =
     let i = c.self.inside in
+    let y = i.spaces in
     let k : FramesView = i.frames in
     let moves = c.args.moves.now in
     let t = c.args.target in
-    let can = subst (λ (x : MidRun). CanMove x.state t moves) (sym c.self.view_is) c.requires.moves in
-    let shelf = c.take_fronts.ensures.shelf in
-    let same = ap (λ (x : MidRun). node_count x.state.layout) c.self.view_is in
-    let inside : t < length k.free = omega (arith, same, shelf.lists, c.requires.target) in
-    let done = is_carried moves i.spaces k i.online i.totals.moved i.totals.failed t c.self.invariant shelf can in
-    let after = in_phases moves t k _ _ _ inside c.take_fronts.ensures.rest c.vacate_each.ensures c.copy_pages.ensures in
-    ap (λ (z : SpacesView). shown_by z c.copy_pages.new.self i.online i.totals.moved i.totals.failed) c.move_pages.ensures
-    ∙ ap (λ (x : FramesView). shown_by (all_moved i.spaces moves) x i.online i.totals.moved i.totals.failed) after
-    ∙ done.shown ∙ ap (λ (x : MidRun). with_moves x.state t moves) c.self.view_is
+    let dues = map (due_shown c.args.accesses.now) c.args.dues.items in
+    let h = prepared y k i.online i.totals.moved i.totals.failed t moves dues c.args.self.now c.self.view_is c.self.invariant c.vacate_each.ensures.shelf
+    c.requires.target c.requires.taken c.requires.sound c.requires.moves c.requires.due in
+    let w = c.copy_pages.new.self in
+    let is : w ≡ record k { frames = (all_done (spaces_then y k i.online i.totals.moved i.totals.failed t moves dues).place (with_copies k.frames moves) dues).store; vacated = left moves; room = w.room } =
+    c.copy_pages.ensures.frames
+    ∙ ap (λ (v : FramesView). record v { frames = (all_done c.move_pages.new.self.place (with_copies v.frames moves) dues).store; room = w.room }) c.vacate_each.ensures.vacated
+    ∙ ap (λ (z : SpacesView). record k { frames = (all_done z.place (with_copies k.frames moves) dues).store; vacated = left moves; room = w.room }) c.move_pages.ensures in
+    ap (λ (z : SpacesView). shown_by z w i.online i.totals.moved i.totals.failed) c.move_pages.ensures ∙ finished_shows y k i.online i.totals.moved i.totals.failed t moves dues h w is
+    ∙ ap (λ (x : MidRun). (all_made (with_moves (with_fronts (x.state) t (tos moves)) t moves) dues).state) c.self.view_is
+
+pub returns-clause-answers : goal.returns-clause-answers
+returns-clause-answers g c =
+    let i = c.self.inside in
+    let y = i.spaces in
+    let k : FramesView = i.frames in
+    let moves = c.args.moves.now in
+    let t = c.args.target in
+    let dues = map (due_shown c.args.accesses.now) c.args.dues.items in
+    let h = prepared y k i.online i.totals.moved i.totals.failed t moves dues c.args.self.now c.self.view_is c.self.invariant c.vacate_each.ensures.shelf
+    c.requires.target c.requires.taken c.requires.sound c.requires.moves c.requires.due in
+    c.copy_pages.ensures.answers
+    ∙ ap (λ (v : FramesView). (all_done c.move_pages.new.self.place (with_copies v.frames moves) dues).answers) c.vacate_each.ensures.vacated
+    ∙ ap (λ (z : SpacesView). (all_done z.place (with_copies k.frames moves) dues).answers) c.move_pages.ensures
+    ∙ finished_told y k i.online i.totals.moved i.totals.failed t moves dues h
+    ∙ ap (λ (x : MidRun). (all_made (with_moves (with_fronts (x.state) t (tos moves)) t moves) dues).answers) c.self.view_is

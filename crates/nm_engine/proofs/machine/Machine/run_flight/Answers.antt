@@ -1,31 +1,120 @@
-use Rattle.std.proofs.Common.{◌++◌, ap, sym, subst, ◌∙◌, List, [], ℕ}
+use Rattle.std.proofs.Common.{◌≡◌, ◌<◌, List, map, length, ap, sym, subst, ◌∙◌, arith}
+use Rattle.std.specs.List.{AllByRecursion}
+use Rattle.nm_types.specs.Layout.{node_count}
 use Rattle.nm_types.specs.State.{State}
 use Rattle.nm_plan.specs.declared.Taken.{Taken}
-use Rattle.nm_engine.specs.Run.{left, each, run}
+use Rattle.nm_engine.specs.Answering.{access_shown, answer_shown, due_shown}
+use Rattle.nm_engine.specs.Early.{Due, all_made, without_fronts, with_fronts, tos, IsDue}
+use Rattle.nm_engine.specs.Flight.{AllAnswered}
 use Rattle.nm_engine.specs.Laws.{with_moves}
 use Rattle.nm_engine.specs.MidRun.{MidRun}
-use Rattle.nm_engine.specs.Moves.{CanMove}
-use Rattle.nm_engine.proofs.OneByOne.Carried.{run_by_plan}
+use Rattle.nm_engine.specs.Moves.{CanMove, IsPlanOf}
+use Rattle.nm_engine.specs.Run.{run}
+use Rattle.nm_engine.specs.Sound.{IsSound}
+use Rattle.nm_engine.specs.Touch.{Access}
+use Rattle.nm_engine.proofs.Early.Flown.{run_state, run_answers}
+use Rattle.nm_engine.proofs.Early.Phases.{pages_of, touched_all, given_back, phased}
+use Rattle.nm_engine.proofs.Early.Ready.{all_layout}
 use Rattle.nm_engine.proofs.machine.Machine.run_flight.Goals as goal
 
-pub carry_out-requires-clause-moves : goal.carry_out-requires-clause-moves
-carry_out-requires-clause-moves g c κs within =
-    subst (λ (x : MidRun). CanMove x.state c.args.requests.now.target c.moves-2.result.now) (sym c.in_ok-reserve.ensures.same)
-    (subst (CanMove c.self.inside.inner.state c.args.requests.now.target) (sym c.moves-2.ensures) c.in_ok-plan.ensures.can)
+pub carry_out-answers-requires-clause-target : goal.carry_out-answers-requires-clause-target
+carry_out-answers-requires-clause-target g c κs within =
+    let same = c.in_ok-reserve.ensures.same in
+    let nodes = ap (λ (x : MidRun). node_count x.state.layout) same ∙ ap (λ (s : State). node_count s.layout) c.self.view_is in
+    let moves : List Taken = c.moves-moves.result.now in
+    let stays = ap (λ (s : State). node_count s.layout) c.in_ok-dues.ensures.state
+    ∙ ap node_count (all_layout (pages_of moves) (map (access_shown {A = g.row.A.Denot}) c.args.accesses.now) (without_fronts c.reserve.new.self.state c.args.requests.now.target (length moves))) in
+    omega (arith, nodes, stays, c.requires.target)
 
-pub returns-clause-statuses : goal.returns-clause-statuses
-returns-clause-statuses g c =
-    c.into_statuses.ensures ∙ sym c.in_ok-plan.ensures.agrees.statuses ∙ ap (λ (s : State). (each s c.args.requests.now.target c.args.requests.now.wanted.items).statuses) c.self.view_is
+pub carry_out-answers-requires-clause-sound : goal.carry_out-answers-requires-clause-sound
+carry_out-answers-requires-clause-sound g c κs within =
+    let r = c.reserve.new.self.state in
+    let t = c.args.requests.now.target in
+    let ws = c.args.requests.now.wanted.items in
+    let p = c.in_ok-plan.plan in
+    let moves : List Taken = c.moves-moves.result.now in
+    let accesses : List Access = map (access_shown {A = g.row.A.Denot}) c.args.accesses.now in
+    let same = c.in_ok-reserve.ensures.same in
+    let h : IsPlanOf r t ws p = subst (λ (x : MidRun). IsPlanOf x.state t ws p) (sym same) c.in_ok-plan.ensures in
+    let can : CanMove r t moves = subst (CanMove r t) (sym c.moves-moves.ensures) h.can in
+    let sound = c.in_ok-dues.ensures.sound in
+    let nodes = ap (λ (x : MidRun). node_count x.state.layout) same ∙ ap (λ (s : State). node_count s.layout) c.self.view_is in
+    let ready = phased r t moves accesses sound (omega (arith, sound.frames.lists, nodes, c.requires.target)) can in
+    subst (λ (x : State). IsSound (with_fronts x t (tos moves))) (sym c.in_ok-dues.ensures.state) ready.back
+
+pub carry_out-answers-requires-clause-moves : goal.carry_out-answers-requires-clause-moves
+carry_out-answers-requires-clause-moves g c κs within =
+    let r = c.reserve.new.self.state in
+    let t = c.args.requests.now.target in
+    let ws = c.args.requests.now.wanted.items in
+    let p = c.in_ok-plan.plan in
+    let moves : List Taken = c.moves-moves.result.now in
+    let accesses : List Access = map (access_shown {A = g.row.A.Denot}) c.args.accesses.now in
+    let same = c.in_ok-reserve.ensures.same in
+    let h : IsPlanOf r t ws p = subst (λ (x : MidRun). IsPlanOf x.state t ws p) (sym same) c.in_ok-plan.ensures in
+    let can : CanMove r t moves = subst (CanMove r t) (sym c.moves-moves.ensures) h.can in
+    let sound = c.in_ok-dues.ensures.sound in
+    let nodes = ap (λ (x : MidRun). node_count x.state.layout) same ∙ ap (λ (s : State). node_count s.layout) c.self.view_is in
+    let ready = phased r t moves accesses sound (omega (arith, sound.frames.lists, nodes, c.requires.target)) can in
+    subst (λ (x : State). CanMove (with_fronts x t (tos moves)) t moves) (sym c.in_ok-dues.ensures.state) ready.can
+
+pub carry_out-answers-requires-clause-due : goal.carry_out-answers-requires-clause-due
+carry_out-answers-requires-clause-due g c κs within =
+    let r = c.reserve.new.self.state in
+    let t = c.args.requests.now.target in
+    let ws = c.args.requests.now.wanted.items in
+    let p = c.in_ok-plan.plan in
+    let moves : List Taken = c.moves-moves.result.now in
+    let accesses : List Access = map (access_shown {A = g.row.A.Denot}) c.args.accesses.now in
+    let same = c.in_ok-reserve.ensures.same in
+    let h : IsPlanOf r t ws p = subst (λ (x : MidRun). IsPlanOf x.state t ws p) (sym same) c.in_ok-plan.ensures in
+    let can : CanMove r t moves = subst (CanMove r t) (sym c.moves-moves.ensures) h.can in
+    let sound = c.in_ok-dues.ensures.sound in
+    let nodes = ap (λ (x : MidRun). node_count x.state.layout) same ∙ ap (λ (s : State). node_count s.layout) c.self.view_is in
+    let ready = phased r t moves accesses sound (omega (arith, sound.frames.lists, nodes, c.requires.target)) can in
+    subst (λ (ds : List Due). AllByRecursion (IsDue (pages_of moves) c.begin.new.self.state) ds) (sym c.in_ok-dues.ensures.dues)
+    (subst (λ (x : State). AllByRecursion (IsDue (pages_of moves) x) (touched_all r t moves accesses).dues) (sym c.in_ok-dues.ensures.state) ready.due)
+
+pub returns-clause-answers : goal.returns-clause-answers
+returns-clause-answers g c =
+    let r = c.reserve.new.self.state in
+    let t = c.args.requests.now.target in
+    let ws = c.args.requests.now.wanted.items in
+    let p = c.in_ok-plan.plan in
+    let moves : List Taken = c.moves-moves.result.now in
+    let accesses : List Access = map (access_shown {A = g.row.A.Denot}) c.args.accesses.now in
+    let same = c.in_ok-reserve.ensures.same in
+    let h : IsPlanOf r t ws p = subst (λ (x : MidRun). IsPlanOf x.state t ws p) (sym same) c.in_ok-plan.ensures in
+    let can : CanMove r t moves = subst (CanMove r t) (sym c.moves-moves.ensures) h.can in
+    let sound = c.in_ok-dues.ensures.sound in
+    let nodes = ap (λ (x : MidRun). node_count x.state.layout) same ∙ ap (λ (s : State). node_count s.layout) c.self.view_is in
+    let ready = phased r t moves accesses sound (omega (arith, sound.frames.lists, nodes, c.requires.target)) can in
+    let early = touched_all r t moves accesses in
+    let during : AllAnswered = all_made (with_moves (given_back r t moves accesses) t moves) early.dues in
+    let made : List Due → State → AllAnswered = λ ds x. all_made (with_moves (with_fronts x t (tos moves)) t moves) ds in
+    run_answers r t ws p moves accesses during h c.moves-moves.ensures ready.flight (map (answer_shown {A = g.row.A.Denot}) c.carry_out-answers.result.items)
+    (c.carry_out-answers.ensures.answers ∙ ap (λ (x : State). (made (map (due_shown c.args.accesses.now) c.in_ok-dues.dues.items) x).answers) c.in_ok-dues.ensures.state ∙ ap (λ (ds : List Due). (made ds early.state).answers) c.in_ok-dues.ensures.dues)
+    ∙ ap (λ (x : MidRun). (run x.state t ws accesses).answers) same ∙ ap (λ (s : State). (run s t ws accesses).answers) c.self.view_is
 
 pub returns-clause-state : goal.returns-clause-state
 returns-clause-state g c =
+    let r = c.reserve.new.self.state in
     let t = c.args.requests.now.target in
     let ws = c.args.requests.now.wanted.items in
-    let moves : List Taken = c.moves-2.result.now in
-    let start : State = c.self.inside.inner.state in
+    let p = c.in_ok-plan.plan in
+    let moves : List Taken = c.moves-moves.result.now in
+    let accesses : List Access = map (access_shown {A = g.row.A.Denot}) c.args.accesses.now in
     let same = c.in_ok-reserve.ensures.same in
+    let h : IsPlanOf r t ws p = subst (λ (x : MidRun). IsPlanOf x.state t ws p) (sym same) c.in_ok-plan.ensures in
+    let can : CanMove r t moves = subst (CanMove r t) (sym c.moves-moves.ensures) h.can in
+    let sound = c.in_ok-dues.ensures.sound in
+    let nodes = ap (λ (x : MidRun). node_count x.state.layout) same ∙ ap (λ (s : State). node_count s.layout) c.self.view_is in
+    let ready = phased r t moves accesses sound (omega (arith, sound.frames.lists, nodes, c.requires.target)) can in
+    let early = touched_all r t moves accesses in
+    let during : AllAnswered = all_made (with_moves (given_back r t moves accesses) t moves) early.dues in
+    let made : List Due → State → AllAnswered = λ ds x. all_made (with_moves (with_fronts x t (tos moves)) t moves) ds in
     c.end_run.ensures.state
-    ∙ run_by_plan start c.carry_out.new.self.state t ws c.in_ok-plan.plan moves c.carry_out.new.self.left c.statuses.result.now c.in_ok-plan.ensures c.moves-2.ensures c.statuses.ensures
-    (c.carry_out.ensures.state ∙ ap (λ (x : MidRun). with_moves x.state t moves) same)
-    (c.carry_out.ensures.left ∙ ap (λ (x : MidRun). x.left ++ left moves) same ∙ ap (λ (l : List ℕ). l ++ left moves) c.self.invariant)
-    ∙ ap (λ (s : State). (run s t ws []).state) c.self.view_is
+    ∙ run_state r t ws p moves accesses during h c.moves-moves.ensures ready.flight c.carry_out-answers.new.self.state c.carry_out-answers.new.self.left c.statuses.result.now
+    (c.carry_out-answers.ensures.state ∙ ap (λ (x : State). (made (map (due_shown c.args.accesses.now) c.in_ok-dues.dues.items) x).state) c.in_ok-dues.ensures.state ∙ ap (λ (ds : List Due). (made ds early.state).state) c.in_ok-dues.ensures.dues)
+    c.carry_out-answers.ensures.left c.statuses.ensures
+    ∙ ap (λ (x : MidRun). (run x.state t ws accesses).state) same ∙ ap (λ (s : State). (run s t ws accesses).state) c.self.view_is

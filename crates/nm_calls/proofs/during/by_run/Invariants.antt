@@ -1,0 +1,17 @@
+use Rattle.std.proofs.Common.{◌≡◌, ◌++◌, ◌<◌, ℕ, drop, length, map, []}
+use Rattle.nm_engine.specs.Answering.{access_shown}
+use Rattle.nm_engine.specs.Batch.{accesses_of}
+use Rattle.nm_calls.specs.During.{list_at, shown_during}
+use Rattle.nm_calls.proofs.during.by_run.Given as goal
+
+abbrev pub invariant-loop : goal.invariant-loop
+invariant-loop g l = record {
+  count : length l.lists.items ≡ l.counter;
+  empty : (k : ℕ) → list_at (map (λ list. map access_shown list.items) l.lists.items) k ≡ [];
+}
+
+abbrev pub invariant-loop-asked : goal.invariant-loop-asked
+invariant-loop-asked g l = record {
+  count : length l.lists.items ≡ l.count;
+  lists : (k : ℕ) → k < l.count → list_at (map (λ list. map access_shown list.items) l.lists.items) k ++ accesses_of k (shown_during (drop l.asked-index l.during)) ≡ accesses_of k (shown_during l.during);
+}

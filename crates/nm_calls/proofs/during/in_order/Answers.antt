@@ -1,0 +1,71 @@
+use Rattle.std.proofs.Common.{arith, ◌≡◌, ◌+◌, ◌++◌, ◌∷◌, [], List, drop, length, map, length-append, ap, refl, sym, ◌∙◌, Vec}
+use Rattle.std.specs.Prelude.{slice_set}
+use Rattle.std.proofs.lemmas.List.{map-append, length-map}
+use Rattle.nm_engine.specs.Answering.{answer_shown}
+use Rattle.nm_engine.proofs.Together.Paces.{drop_item}
+use Rattle.nm_calls.specs.During.{shown_during, runs_named, in_order, left_shown}
+use Rattle.nm_calls.proofs.Meanwhile.{unmade_told, none_told, one_told, list_there, list_after}
+use Rattle.nm_calls.proofs.during.in_order.Goals as goal
+use Rattle.nm_calls.proofs.during.in_order.Goals.{in-Some+in-Some-next, in-Some+in_default-next, in_default}
+
+no_items : {X : Type 0} (xs : List X) → length xs ≡ 0 → xs ≡ []
+no_items [] h = refl
+no_items (x ∷ xs) h = absurd (omega (arith, h))
+
+pub loop-asked-preserved : goal.loop-asked-preserved
+loop-asked-preserved g c =
+    let k = c.loop-asked.asked-index in
+    let during = c.args.during.now in
+    let asked = c.asked-item.result in
+    let next = drop_item during k asked c.loop-asked-test.true c.asked-item.is in
+    let n = ap length next in
+    let room = c.loop-asked.invariant.room in
+    let queues = c.loop-asked.told.items in
+    let told = map answer_shown c.loop-asked.answers.items in
+    let left = map left_shown queues in
+    let runs = runs_named (shown_during (drop (k + 1) during)) in
+    let all = in_order (runs_named (shown_during during)) (map left_shown c.args.told.items) in
+    let is : told ++ in_order (asked.run ∷ runs) left ≡ all =
+    ap (λ ds. told ++ in_order (runs_named (shown_during ds)) left) (sym next) ∙ c.loop-asked.invariant.told in
+    elim c.match-get_mut.branch [
+      | in-Some+in-Some-next w ↦
+          let there = w.in-Some.ensures.item in
+          let lt = there.3.0 in
+          let now = w.in-Some.left.now in
+          let items = ap (λ (v : Vec _ _). v.items) w.told-is in
+          let given = ap (λ (v : Vec _ _). v.items) w.answers-is ∙ w.push_reserved.ensures.items in
+          let len = ap length given ∙ length-append c.loop-asked.answers.items (w.in-Some-next.answer ∷ []) in
+          let capacity = ap (λ (v : Vec _ _). v.cap) w.answers-is in
+          record {
+            room = omega (arith, n, room, len, capacity, w.push_reserved.ensures.capacity);
+            told = one_told told left asked.run runs all _ _ (answer_shown w.in-Some-next.answer) (left_shown w.next.new.self)
+                (list_there left_shown queues asked.run now lt w.in-Some.ensures.value ∙ ap (map answer_shown) w.in-Some-next.ensures.items)
+                (ap (map answer_shown) given ∙ map-append answer_shown c.loop-asked.answers.items (w.in-Some-next.answer ∷ []))
+                (list_after left_shown queues _ asked.run w.next.new.self items) is;
+          }
+      | in-Some+in_default-next w ↦
+          let there = w.in-Some.ensures.item in
+          let now = w.in-Some.left.now in
+          let items = ap (λ (v : Vec _ _). v.items) w.told-is in
+          let none : w.next.new.self.rest.items ≡ [] = no_items w.next.new.self.rest.items (sym w.next.new.self.rest.ok.0 ∙ w.in_default-next.ensures.cases.1) in
+          let len = ap (λ (v : Vec _ _). length v.items) w.answers-is in
+          let capacity = ap (λ (v : Vec _ _). v.cap) w.answers-is in
+          record {
+            room = omega (arith, n, room, len, capacity);
+            told = ap (λ (v : Vec _ _). map answer_shown v.items ++ in_order runs (map left_shown c.match-get_mut.told.items)) w.answers-is
+                ∙ none_told told left asked.run runs all _
+                (list_there left_shown queues asked.run now there.3.0 w.in-Some.ensures.value ∙ ap (map answer_shown) (w.in_default-next.ensures.items ∙ none))
+                (list_after left_shown queues _ asked.run w.next.new.self items ∙ ap (λ l. slice_set left asked.run (map answer_shown l)) none) is;
+          }
+      | in_default w ↦
+          let past = w.in_default.ensures.item.3 in
+          let len = ap (λ (v : Vec _ _). length v.items) w.answers-is in
+          let capacity = ap (λ (v : Vec _ _). v.cap) w.answers-is in
+          let same = length-map queues left_shown in
+          record {
+            room = omega (arith, n, room, len, capacity);
+            told = ap (λ (v : Vec _ _). map answer_shown v.items ++ in_order runs (map left_shown c.match-get_mut.told.items)) w.answers-is
+                ∙ ap (λ (v : Vec _ _). told ++ in_order runs (map left_shown v.items)) w.told-is
+                ∙ unmade_told told left asked.run runs all (omega (arith, same, past)) is;
+          }
+    ]

@@ -1,0 +1,245 @@
+-- Pages that move, and what is left to do for accesses, all at once.
+use Rattle.std.proofs.Common.{◌≡◌, ◌≢◌, ℕ, ◌+◌, ◌<◌, ◌≤◌, List, [], ◌∷◌, ◌++◌, Bool, true, false, ◌||◌, cond, map, length, drop, refl, sym, ap, subst, ◌∙◌, arith, length-set, length-append, length-take, length-drop}
+use Rattle.std.specs.Prelude.{Option, Some, None, IsSome, nat_lt, slice_index_or, slice_set, if◌then◌else◌}
+use Rattle.std.specs.Option.{unwrap_or}
+use Rattle.std.specs.List.{AllByRecursion, list_any, sum_by}
+use Rattle.std.specs.Map.{values_of}
+use Rattle.std.specs.Ordering.{is_eq}
+use Rattle.std.specs.Cmp.{tied_itself}
+use Rattle.std.proofs.lemmas.Bool.{or_left, or_right}
+use Rattle.std.proofs.lemmas.List.{get_or-set_same, set-set, set-get_or}
+use Rattle.nm_types.specs.declared.page.Page.{Page}
+use Rattle.nm_types.specs.Layout.{frame_count, node_count}
+use Rattle.nm_types.specs.Map.{Map, get, page_cmp, same_page, with_values}
+use Rattle.nm_types.specs.State.{State}
+use Rattle.nm_types.proofs.Maps.{page_cmp_total, keys-values}
+use Rattle.nm_frames.specs.Store.{Store, IsHome, overwrite}
+use Rattle.nm_plan.specs.declared.Taken.{Taken}
+use Rattle.nm_engine.specs.AddressSpaces.{SpacesView, with_moved, table_of}
+use Rattle.nm_engine.specs.Copies.{without_both, emptied, with_copies, CanCopy}
+use Rattle.nm_engine.specs.Frames.{FramesView, HasAllFrames, free_on}
+use Rattle.nm_engine.specs.Flight.{AllAnswered}
+use Rattle.nm_engine.specs.Laws.{with_moves}
+use Rattle.nm_engine.specs.MidRun.{MidRun, IsKept}
+use Rattle.nm_engine.specs.Moves.{CanMove, CanRemap, all_moved}
+use Rattle.nm_engine.specs.Run.{left}
+use Rattle.nm_engine.specs.Shown.{shown_by, paged_frames}
+use Rattle.nm_engine.specs.Sound.{times, IsSoundMidRun, IsSound}
+use Rattle.nm_engine.specs.Early.{Due, Known, ToRead, ToWrite, at_page, with_written, made, all_made, tos, with_fronts, Touches, IsBeside, IsInside, IsDue}
+use Rattle.nm_engine.specs.Finishing.{Finished, all_done, IsIn, CanDo}
+use Rattle.nm_engine.proofs.Soundness.Frames.{here, times_cons}
+use Rattle.nm_engine.proofs.Soundness.Once.{counted_place}
+use Rattle.nm_engine.proofs.Together.Carried.{by_parts, all_carried, IsCarried, is_carried, carried_copy}
+use Rattle.nm_engine.proofs.Together.Copies.{stays_home, copies_home}
+use Rattle.nm_engine.proofs.Together.Touches.{place_in_range}
+use Rattle.nm_engine.proofs.Early.Finished.{all_done_shows, finished_as}
+use Rattle.nm_engine.proofs.Early.Kept.{beside}
+use Rattle.nm_engine.proofs.Early.Phases.{pages_of, again_list}
+
+-- ---- bytes that are written keep a machine sound
+
+all_whole : (bytes : Map Page (List ℕ)) (p : Page) (at : ℕ) (new : List ℕ) → at + length new ≤ 4096 → AllByRecursion (λ e. length e.1 ≡ 4096) bytes
+    → AllByRecursion (λ e. length e.1 ≡ 4096) (with_values (at_page p (λ old. overwrite old at new)) bytes)
+all_whole [] p at new fits whole = tt
+all_whole (e ∷ bytes) p at new fits whole = (
+  elim (same_page e.0 p) as (λ b. length (if b then overwrite e.1 at new else e.1) ≡ 4096) [
+    | true ↦ let old = whole.0 in simp (length-append, length-take, length-drop) (omega (arith, old, fits))
+    | false ↦ whole.0
+  ],
+  all_whole bytes p at new fits whole.1,
+)
+
+written_sound : (s : State) (l : List ℕ) (p : Page) (at : ℕ) (new : List ℕ) → at + length new ≤ 4096 → IsSoundMidRun s l → IsSoundMidRun (with_written s p at new) l
+written_sound s l p at new fits h =
+    record {
+      order = record { processes = h.order.processes; sees = h.order.sees; areas = h.order.areas; segments = h.order.segments; place = h.order.place };
+      apart = h.apart;
+      frames = h.frames;
+      shown = h.shown;
+      zeros = h.zeros;
+      covered = h.covered;
+      bytes = record { same_pages = keys-values (at_page p (λ old. overwrite old at new)) s.bytes ∙ h.bytes.same_pages; whole = all_whole s.bytes p at new fits h.bytes.whole };
+      pins = h.pins;
+      seen = h.seen;
+      once = h.once;
+      areas = h.areas;
+      numbers = h.numbers;
+      disjoint = h.disjoint;
+      online = h.online;
+      few = h.few;
+    }
+
+made_sound : (s : State) (l : List ℕ) (d : Due) → IsInside d → IsSoundMidRun s l → IsSoundMidRun (made s d) l
+made_sound s l (Known answer) inside h = h
+made_sound s l (ToRead page at len) inside h = h
+made_sound s l (ToWrite page at new) inside h = written_sound s l page at new inside h
+
+all_made_sound : (dues : List Due) (s : State) (l : List ℕ) → AllByRecursion IsInside dues → IsSoundMidRun s l → IsSoundMidRun (all_made s dues).state l
+all_made_sound [] s l inside h = h
+all_made_sound (d ∷ dues) s l inside h = all_made_sound dues (made s d) l inside.1 (made_sound s l d inside.0 h)
+
+all_inside : (dues : List Due) (moved : List Page) (s : State) → AllByRecursion (IsDue moved s) dues → AllByRecursion IsInside dues
+all_inside [] moved s due = tt
+all_inside (d ∷ dues) moved s due = (due.0.2, all_inside dues moved s due.1)
+
+-- ---- pages that do not move, while others do
+
+no : true ≡ false → ⊥
+no e = cc
+
+moved_beside : (taken : List Taken) (y : SpacesView) (p : Page) → list_any (same_page p) (pages_of taken) ≡ false → get page_cmp (all_moved y taken).place p ≡ get page_cmp y.place p
+moved_beside [] y p other = refl
+moved_beside (t ∷ taken) y p other =
+    moved_beside taken (with_moved y t.page t.to) p (neither (same_page p t.page) _ other)
+    ∙ beside y.place t.page p t.to (λ e. no (sym (or_left (same_page p t.page) _ (ap (λ q. same_page q t.page) e ∙ ap is_eq (tied_itself page_cmp_total t.page))) ∙ other))
+  where
+    neither : (a b : Bool) → (a || b) ≡ false → b ≡ false
+    neither true b e = absurd (no e)
+    neither false b e = e
+
+one_here : (f : ℕ) → here f f ≡ 1
+one_here f = ap (λ b. cond b 1 0) (Rattle.std.proofs.Common.eq-eqb f f refl)
+
+none_here : (f g : ℕ) (xs : List ℕ) → times f (g ∷ xs) ≡ 0 → f ≢ g
+none_here f g xs none e = let one : here f g ≡ 1 = ap (here f) (sym e) ∙ one_here f in omega (arith, none, one, times_cons f g xs)
+
+home_meanwhile : (taken : List Taken) (store : Store) (f : ℕ) → times f (left taken) ≡ 0 → times f (tos taken) ≡ 0 → IsHome store f → IsHome (emptied store taken) f
+home_meanwhile [] store f from to home = home
+home_meanwhile (t ∷ taken) store f from to home =
+    home_meanwhile taken (without_both store t) f (omega (arith, from, times_cons f t.from (left taken))) (omega (arith, to, times_cons f t.to (tos taken)))
+    (stays_home store t f (none_here f t.from (left taken) from) (none_here f t.to (tos taken) to) home)
+
+none_more : (a b c : ℕ) (t : Bool) → a + b + c ≡ cond t 1 0 → 1 ≤ a → c ≡ 0
+none_more a b c true e h = omega (arith, e, h)
+none_more a b c false e h = omega (arith, e, h)
+
+-- a frame that is a page's is none that a run has left or taken
+placed_apart : (s : State) (l : List ℕ) (p : Page) (f : ℕ) → IsSoundMidRun s l → get page_cmp s.place p ≡ Some f → times f l ≡ 0
+placed_apart s l p f h placed = none_more (times f (values_of s.place)) (sum_by (times f) s.free) (times f l) (nat_lt f (frame_count s.layout)) (h.frames.once f) (counted_place s.place p f placed)
+
+-- ---- all at once
+
+module _ (y : SpacesView) (k : FramesView) (online : List ℕ) (moved failed target : ℕ) (taken : List Taken) (dues : List Due) where
+  -- the frames as if those that are taken were a node's still
+  abbrev pub given : FramesView
+  given = record k { free = slice_set k.free target (tos taken ++ free_on k target); vacated = [] }
+
+  -- the pages moved, and copied
+  abbrev pub spaces_then : SpacesView
+  spaces_then = all_moved y taken
+
+  abbrev pub frames_then : FramesView
+  frames_then = record k { frames = with_copies k.frames taken; vacated = left taken }
+
+  abbrev pub state_given : State
+  state_given = shown_by y given online moved failed
+
+  -- what holds before
+  pub record IsPrepared : Type 0 where
+    pub kept : IsKept (shown_by y k online moved failed) k.vacated y.frames
+    pub reserved : k.vacated ≡ tos taken
+    pub shelf : HasAllFrames k
+    pub inside : target < length k.free
+    pub back : IsSound state_given
+    pub can : CanMove state_given target taken
+    pub due : AllByRecursion (IsDue (pages_of taken) (shown_by y k online moved failed)) dues
+
+  -- by what is known of the machine
+  pub prepared : (x : MidRun) → record { state = shown_by y k online moved failed; left = k.vacated; room = k.room } ≡ x → IsKept (shown_by y k online moved failed) k.vacated y.frames → HasAllFrames k
+      → target < node_count x.state.layout → x.left ≡ tos taken → IsSound (with_fronts (x.state) target (tos taken)) → CanMove (with_fronts (x.state) target (tos taken)) target taken
+      → AllByRecursion (IsDue (pages_of taken) (x.state)) dues → IsPrepared
+  prepared x is kept shelf inside taken_now sound can due =
+      let same = ap (λ (z : MidRun). node_count z.state.layout) is in
+      record {
+        kept = kept;
+        reserved = ap (λ (z : MidRun). z.left) is ∙ taken_now;
+        shelf = shelf;
+        inside = omega (arith, same, shelf.lists, inside);
+        back = subst (λ (z : MidRun). IsSound (with_fronts (z.state) target (tos taken))) (sym is) sound;
+        can = subst (λ (z : MidRun). CanMove (with_fronts (z.state) target (tos taken)) target taken) (sym is) can;
+        due = subst (λ (z : MidRun). AllByRecursion (IsDue (pages_of taken) (z.state)) dues) (sym is) due;
+      }
+
+  module _ (h : IsPrepared) where
+    shelf_given : HasAllFrames given
+    shelf_given = record { lists = length-set k.free target (tos taken ++ free_on k target) ∙ h.shelf.lists; buffers = h.shelf.buffers; home = h.shelf.home }
+
+    inside_given : target < length given.free
+    inside_given = omega (arith, h.inside, length-set k.free target (tos taken ++ free_on k target))
+
+    kept_given : IsKept state_given [] y.frames
+    kept_given = record { sound = h.back; as_many = h.kept.as_many }
+
+    done : IsCarried y given online moved failed target taken
+    done = is_carried taken y given online moved failed target kept_given shelf_given h.can
+
+    pub remap : CanRemap y taken
+    remap = done.remap
+
+    pub can_copy : CanCopy k.frames taken
+    can_copy = carried_copy taken y given online moved failed target kept_given shelf_given inside_given h.can done
+
+    all_is : all_carried target given taken ≡ frames_then
+    all_is = by_parts taken target given inside_given ∙ ap (λ (f : List (List ℕ)). record frames_then { free = f }) (again_list taken k.free target h.inside)
+
+    shows : shown_by spaces_then frames_then online moved failed ≡ with_moves state_given target taken
+    shows = ap (λ (x : FramesView). shown_by spaces_then x online moved failed) (sym all_is) ∙ done.shown
+
+    kept_then : IsKept (shown_by spaces_then frames_then online moved failed) (left taken) spaces_then.frames
+    kept_then = subst (λ (x : FramesView). IsKept (shown_by spaces_then x online moved failed) x.vacated spaces_then.frames) all_is done.kept
+
+    -- the page of what is left to do stands in a frame that is home meanwhile
+    page_in : (store : Store) → ((f : ℕ) → times f (left taken) ≡ 0 → times f (tos taken) ≡ 0 → IsHome k.frames f → IsHome store f)
+        → (p : Page) (at len : ℕ) (o : Option ℕ) → get page_cmp y.place p ≡ o → IsSome o → list_any (same_page p) (pages_of taken) ≡ false → at + len ≤ 4096 → IsIn spaces_then.place store p at len
+    page_in store homes p at len None e some other fits = cc
+    page_in store homes p at len (Some f) e some other fits =
+        let placed : get page_cmp spaces_then.place p ≡ Some f = moved_beside taken y p other ∙ e in
+        record {
+          frame = f;
+          placed = placed;
+          home = homes f (placed_apart (shown_by spaces_then frames_then online moved failed) (left taken) p f kept_then.sound placed)
+              (subst (λ (l : List ℕ). times f l ≡ 0) h.reserved (placed_apart (shown_by y k online moved failed) k.vacated p f h.kept.sound e))
+              (h.shelf.home f (place_in_range (shown_by y k online moved failed) k.vacated p f h.kept.sound e));
+          inside = fits;
+        }
+
+    one_can : (store : Store) → ((f : ℕ) → times f (left taken) ≡ 0 → times f (tos taken) ≡ 0 → IsHome k.frames f → IsHome store f)
+        → (d : Due) → IsDue (pages_of taken) (shown_by y k online moved failed) d → CanDo spaces_then.place store d
+    one_can store homes (Known answer) due = tt
+    one_can store homes (ToRead page at len) due = page_in store homes page at len (get page_cmp y.place page) refl due.0 due.1 due.2
+    one_can store homes (ToWrite page at new) due = page_in store homes page at (length new) (get page_cmp y.place page) refl due.0 due.1 due.2
+
+    all_can : (store : Store) → ((f : ℕ) → times f (left taken) ≡ 0 → times f (tos taken) ≡ 0 → IsHome k.frames f → IsHome store f)
+        → (ds : List Due) → AllByRecursion (IsDue (pages_of taken) (shown_by y k online moved failed)) ds → AllByRecursion (CanDo spaces_then.place store) ds
+    all_can store homes [] due = tt
+    all_can store homes (d ∷ ds) due = (one_can store homes d due.0, all_can store homes ds due.1)
+
+    pub can_meanwhile : AllByRecursion (CanDo spaces_then.place (emptied k.frames taken)) dues
+    can_meanwhile = all_can (emptied k.frames taken) (λ f from to home. home_meanwhile taken k.frames f from to home) dues h.due
+
+    can_after : AllByRecursion (CanDo spaces_then.place (with_copies k.frames taken)) dues
+    can_after = all_can (with_copies k.frames taken) (λ f from to home. copies_home taken k.frames f home) dues h.due
+
+    abbrev pub finished : Finished
+    finished = all_done spaces_then.place (with_copies k.frames taken) dues
+
+    both : finished_as spaces_then.processes (table_of spaces_then) online moved failed (paged_frames spaces_then frames_then) kept_then.sound.order.place kept_then.sound.apart finished ≡ all_made (with_moves state_given target taken) dues
+    both =
+        all_done_shows spaces_then.processes (table_of spaces_then) online moved failed (paged_frames spaces_then frames_then) kept_then.sound.order.place kept_then.sound.apart dues (with_copies k.frames taken) can_after
+        ∙ ap (λ (s : State). all_made s dues) shows
+
+    pub finished_shows : (z : FramesView) → z ≡ record k { frames = finished.store; vacated = left taken; room = z.room } → shown_by spaces_then z online moved failed ≡ (all_made (with_moves state_given target taken) dues).state
+    finished_shows z is = ap (λ (x : FramesView). shown_by spaces_then x online moved failed) is ∙ ap (λ (x : AllAnswered). x.state) both
+
+    pub finished_told : finished.answers ≡ (all_made (with_moves state_given target taken) dues).answers
+    finished_told = ap (λ (x : AllAnswered). x.answers) both
+
+    pub finished_kept : (z : FramesView) → z ≡ record k { frames = finished.store; vacated = left taken; room = z.room } → IsKept (shown_by spaces_then z online moved failed) z.vacated spaces_then.frames
+    finished_kept z is =
+        record {
+          sound = subst (λ (l : List ℕ). IsSoundMidRun (shown_by spaces_then z online moved failed) l) (sym (ap (λ (x : FramesView). x.vacated) is))
+              (subst (λ (s : State). IsSoundMidRun s (left taken)) (sym (finished_shows z is))
+              (all_made_sound dues (with_moves state_given target taken) (left taken) (all_inside dues (pages_of taken) (shown_by y k online moved failed) h.due)
+              (subst (λ (s : State). IsSoundMidRun s (left taken)) shows kept_then.sound)));
+          as_many = kept_then.as_many ∙ sym (ap (λ (x : FramesView). frame_count x.layout) is);
+        }

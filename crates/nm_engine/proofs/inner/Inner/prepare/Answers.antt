@@ -1,0 +1,129 @@
+use Rattle.std.proofs.Common.{◌≡◌, ◌≤◌, ℕ, ◌+◌, ◌++◌, List, [], ◌∷◌, Bool, Some, map, length, drop, refl, sym, ap, subst, ◌∙◌, arith, length-append, append_assoc}
+use Rattle.std.proofs.Math.ListN.{drop_of_length-le}
+use Rattle.std.proofs.lemmas.List.{map-append, append-nil}
+use Rattle.std.proofs.lemmas.Option.{slice_get-get_or}
+use Rattle.std.specs.List.{AllByRecursion, slice_get}
+use Rattle.nm_types.specs.State.{State}
+use Rattle.nm_engine.specs.Answering.{access_shown, due_shown, HasRoom}
+use Rattle.nm_engine.specs.Early.{Due, AllEarly, early, all_early}
+use Rattle.nm_engine.specs.MidRun.{MidRun, with_state}
+use Rattle.nm_engine.specs.Undo.{CanUndo, all_undone}
+use Rattle.nm_engine.proofs.Early.Among.{all_early_alike}
+use Rattle.nm_engine.proofs.Early.Phases.{pages_of}
+use Rattle.nm_engine.proofs.Together.Paces.{drop_item}
+use Rattle.nm_engine.proofs.inner.Inner.prepare.Goals as goal
+
+all_and_one : {X : Type 0} (P : X → Type 0) (xs : List X) (x : X) → AllByRecursion P xs → P x → AllByRecursion P (xs ++ x ∷ [])
+all_and_one P [] x all one = (one, tt)
+all_and_one P (y ∷ xs) x all one = (all.0, all_and_one P xs x all.1 one)
+
+pub loop-number-init : goal.loop-number-init
+loop-number-init g c =
+    let none = c.in_ok-dues.ensures.items in
+    let shown = map (access_shown {A = g.row.A.Denot}) c.args.accesses.now in
+    let all : AllEarly = all_early c.args.self.now.state c.in_ok-moving.moving.keys shown in
+    record {
+      state = refl;
+      dues = ap (λ ds. map (due_shown c.args.accesses.now) ds ++ all.dues) none;
+      room = subst (AllByRecursion HasRoom) (sym none) tt;
+      len = ap length none;
+      within = omega arith;
+      fits = c.in_ok-dues.ensures.capacity;
+      same = refl;
+      back = subst (λ us. CanUndo c.args.self.now.state c.args.self.now.left us × (all_undone c.args.self.now.state us ≡ c.args.self.now.state)) (sym c.new-undos.ensures.items) (tt, refl);
+    }
+
+pub push_reserved-requires : goal.push_reserved-requires
+push_reserved-requires g c =
+    let many = c.loop-number.dues.ok.0 in
+    omega (arith, many, c.loop-number.invariant.len, c.loop-number.invariant.fits, c.loop-number-test.true)
+
+pub take_back-requires : goal.take_back-requires
+take_back-requires g c =
+    let s = c.loop-number.self in
+    let left = ap (λ (x : MidRun). x.left) c.loop-number.invariant.same in
+    let can = c.touch_early.ensures.back (subst (λ (l : List ℕ). CanUndo s.state l c.loop-number.undos.items) (sym left) c.loop-number.invariant.back.0) in
+    subst (λ (l : List ℕ). CanUndo c.touch_early.new.self.state l c.touch_early.new.undos.items) (sym (ap (λ (x : MidRun). x.left) c.touch_early.ensures.same)) can.0
+
+pub returns-in-Err-clause-err : goal.returns-in-Err-clause-err
+returns-in-Err-clause-err g c =
+    let s = c.loop-number.self in
+    let n = c.touch_early.new.self in
+    let left = ap (λ (x : MidRun). x.left) c.loop-number.invariant.same in
+    let can = c.touch_early.ensures.back (subst (λ (l : List ℕ). CanUndo s.state l c.loop-number.undos.items) (sym left) c.loop-number.invariant.back.0) in
+    let then : State = all_undone n.state c.touch_early.new.undos.items in
+    c.take_back.ensures.back ∙ ap (λ (x : MidRun). with_state x then) (c.touch_early.ensures.same) ∙ ap (λ (x : MidRun). with_state x then) c.loop-number.invariant.same
+    ∙ ap (with_state c.args.self.now) (can.1 ∙ c.loop-number.invariant.back.1)
+
+pub returns-in-Err-clause-same : goal.returns-in-Err-clause-same
+returns-in-Err-clause-same g c =
+    let s = c.loop-number.self in
+    let n = c.touch_early.new.self in
+    let then : State = all_undone n.state c.touch_early.new.undos.items in
+    let whole = c.take_back.ensures.back ∙ ap (λ (x : MidRun). with_state x then) (c.touch_early.ensures.same) ∙ ap (λ (x : MidRun). with_state x then) c.loop-number.invariant.same in
+    whole ∙ ap (λ (x : MidRun). with_state c.args.self.now x.state) (sym whole)
+
+pub loop-number-preserved : goal.loop-number-preserved
+loop-number-preserved g c =
+    let accesses = c.args.accesses.now in
+    let k = c.loop-number.number in
+    let a = c.index-accesses-number.result in
+    let s = c.loop-number.self in
+    let n = c.touch_early.new.self in
+    let keys = c.in_ok-moving.moving.keys in
+    let rest = map (access_shown {A = g.row.A.Denot}) (drop (k + 1) accesses) in
+    let at = drop_item accesses k a c.loop-number-test.true c.index-accesses-number.is in
+    let here : slice_get accesses k ≡ Some a = slice_get-get_or accesses k a c.loop-number-test.true ∙ ap Some (sym c.index-accesses-number.is) in
+    let due = c.in-Ok.ensures.due accesses here in
+    let told = map (due_shown accesses) c.loop-number.dues.items in
+    let items = c.push_reserved.ensures.items in
+    let left = ap (λ (x : MidRun). x.left) c.loop-number.invariant.same in
+    let can = c.touch_early.ensures.back (subst (λ (l : List ℕ). CanUndo s.state l c.loop-number.undos.items) (sym left) c.loop-number.invariant.back.0) in
+    let more = ap length items ∙ length-append c.loop-number.dues.items _ in
+    record {
+      state = ap (λ (x : State). (all_early x keys rest).state) c.in-Ok.ensures.state ∙ ap (λ xs. (all_early s.state keys (map (access_shown {A = g.row.A.Denot}) xs)).state) (sym at) ∙ c.loop-number.invariant.state;
+      dues =
+          ap (λ ds. map (due_shown accesses) ds ++ (all_early n.state keys rest).dues) items
+          ∙ ap (λ ds. ds ++ (all_early n.state keys rest).dues) (map-append (due_shown accesses) c.loop-number.dues.items _)
+          ∙ append_assoc told _ _
+          ∙ ap (λ (x : State). told ++ due_shown accesses c.in-Ok.due ∷ (all_early x keys rest).dues) c.in-Ok.ensures.state
+          ∙ ap (λ (d : Due). told ++ d ∷ (all_early (early s.state keys (access_shown a)).state keys rest).dues) due
+          ∙ ap (λ xs. told ++ (all_early s.state keys (map (access_shown {A = g.row.A.Denot}) xs)).dues) (sym at) ∙ c.loop-number.invariant.dues;
+      room = subst (AllByRecursion HasRoom) (sym items) (all_and_one HasRoom c.loop-number.dues.items c.in-Ok.due c.loop-number.invariant.room c.in-Ok.ensures.room);
+      len = omega (arith, more, c.loop-number.invariant.len);
+      within = omega (arith, c.loop-number-test.true);
+      fits = omega (arith, c.push_reserved.ensures.capacity, c.loop-number.invariant.fits);
+      same = c.touch_early.ensures.same ∙ ap (λ (x : MidRun). with_state x n.state) c.loop-number.invariant.same;
+      back = (subst (λ (l : List ℕ). CanUndo n.state l c.touch_early.new.undos.items) left can.0, can.1 ∙ c.loop-number.invariant.back.1);
+    }
+
+pub returns-clause-state : goal.returns-clause-state
+returns-clause-state g c =
+    let accesses = c.args.accesses.now in
+    let keys = c.in_ok-moving.moving.keys in
+    let shown = map (access_shown {A = g.row.A.Denot}) accesses in
+    let ends = drop_of_length-le accesses (omega (arith, c.loop-number-test.false)) in
+    ap (λ xs. (all_early c.loop-number.self.state keys (map (access_shown {A = g.row.A.Denot}) xs)).state) (sym ends) ∙ c.loop-number.invariant.state
+    ∙ ap (λ (x : AllEarly). x.state) (all_early_alike keys (pages_of c.args.moves.now) c.in_ok-moving.ensures shown c.args.self.now.state)
+
+pub returns-clause-dues : goal.returns-clause-dues
+returns-clause-dues g c =
+    let accesses = c.args.accesses.now in
+    let keys = c.in_ok-moving.moving.keys in
+    let shown = map (access_shown {A = g.row.A.Denot}) accesses in
+    let told = map (due_shown accesses) c.loop-number.dues.items in
+    let ends = drop_of_length-le accesses (omega (arith, c.loop-number-test.false)) in
+    sym (append-nil told)
+    ∙ ap (λ xs. told ++ (all_early c.loop-number.self.state keys (map (access_shown {A = g.row.A.Denot}) xs)).dues) (sym ends) ∙ c.loop-number.invariant.dues
+    ∙ ap (λ (x : AllEarly). x.dues) (all_early_alike keys (pages_of c.args.moves.now) c.in_ok-moving.ensures shown c.args.self.now.state)
+
+pub returns-clause-room : goal.returns-clause-room
+returns-clause-room g c = c.loop-number.invariant.room
+
+pub returns-clause-len : goal.returns-clause-len
+returns-clause-len g c =
+    let many = c.loop-number.dues.ok.0 in
+    omega (arith, many, c.loop-number.invariant.len, c.loop-number.invariant.within, c.loop-number-test.false)
+
+pub returns-clause-same : goal.returns-clause-same
+returns-clause-same g c = c.loop-number.invariant.same

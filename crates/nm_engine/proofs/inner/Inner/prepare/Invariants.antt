@@ -1,0 +1,22 @@
+use Rattle.std.proofs.Common.{◌≡◌, ◌≤◌, ◌++◌, map, length, drop}
+use Rattle.std.specs.Prelude.{vec_capacity}
+use Rattle.std.specs.List.{AllByRecursion}
+use Rattle.nm_engine.specs.Answering.{access_shown, due_shown, HasRoom}
+use Rattle.nm_engine.specs.Early.{AllEarly, all_early}
+use Rattle.nm_engine.specs.MidRun.{with_state}
+use Rattle.nm_engine.specs.Undo.{CanUndo, all_undone}
+use Rattle.nm_engine.proofs.inner.Inner.prepare.Given as goal
+
+abbrev pub invariant-loop-number : goal.invariant-loop-number
+invariant-loop-number g l =
+    let rest : AllEarly = all_early l.self.state l.moving.keys (map access_shown (drop l.number l.accesses)) in
+    let all : AllEarly = all_early l.fn.self.state l.moving.keys (map access_shown l.accesses) in record {
+      state : rest.state ≡ all.state;
+      dues : map (due_shown l.accesses) l.dues.items ++ rest.dues ≡ all.dues;
+      room : AllByRecursion HasRoom l.dues.items;
+      len : length l.dues.items ≡ l.number;
+      within : l.number ≤ length l.accesses;
+      fits : length l.accesses ≤ vec_capacity l.dues;
+      same : l.self ≡ with_state l.fn.self l.self.state;
+      back : CanUndo l.self.state l.fn.self.left l.undos.items × (all_undone l.self.state l.undos.items ≡ l.fn.self.state);
+    }

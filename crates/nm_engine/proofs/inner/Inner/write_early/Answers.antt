@@ -1,0 +1,36 @@
+use Rattle.std.proofs.Common.{◌≡◌, ℕ, ◌/◌, ◌%◌, Bool, false, true, List, length, Some, Ok, refl, ap, sym, subst, ◌∙◌}
+use Rattle.std.specs.Prelude.{Option, None, IsSome, slice_get}
+use Rattle.std.specs.List.{list_any}
+use Rattle.std.specs.Ordering.{nat_cmp}
+use Rattle.nm_types.specs.declared.page.Page.{Page}
+use Rattle.nm_types.specs.Map.{get, same_page}
+use Rattle.nm_types.specs.State.{State, Process, Placed}
+use Rattle.nm_engine.specs.Answering.{written_by}
+use Rattle.nm_engine.specs.Early.{Early, ToRead, ToWrite, early}
+use Rattle.nm_engine.specs.MidRun.{MidRun, with_state}
+use Rattle.nm_engine.specs.Seeing.{frame_seen}
+use Rattle.nm_engine.specs.Touch.{Read, Write}
+use Rattle.nm_engine.proofs.Early.Noted.{read_due, write_due}
+use Rattle.nm_engine.proofs.Together.Undone.{touches_err}
+use Rattle.nm_engine.proofs.inner.Inner.write_early.Goals as goal
+
+some_frame : (o : Option ℕ) → IsSome o → (f : ℕ) × (o ≡ Some f)
+some_frame (Some f) some = (f, refl)
+some_frame None some = cc
+
+pub returns-in-Ok-touch_noted-clause-due : goal.returns-in-Ok-touch_noted-clause-due
+returns-in-Ok-touch_noted-clause-due g c accesses is =
+    let there = c.in-Ok.ensures.ok in
+    let page : c.in-Ok.resolved.page ≡ _ = sym there.3.page in
+    let free = ap (λ p. list_any (same_page p) c.args.moving.now.keys) there.3.page ∙ sym c.contains.ensures ∙ c.if-contains.false in
+    let some = some_frame c.in-Ok-touch_noted.field-0 (c.in-Ok-touch_noted.ensures.some refl) in
+    let seen = ap (λ (x : ℕ × ℕ). frame_seen c.touch_noted.new.self.state x.0 x.1) (λ i. (sym c.in-Ok.ensures.pid i, sym c.in-Ok.ensures.page i)) ∙ sym c.in-Ok-touch_noted.ensures.frame ∙ some.1 in
+    ap (λ (new : List ℕ). ToWrite c.in-Ok.resolved.page (c.args.addr % 4096) new) is
+    ∙ ap (λ p. ToWrite p (c.args.addr % 4096) c.args.bytes.now) page
+    ∙ sym (write_due c.args.self.now.state c.touch_noted.new.self.state c.args.self.now.left c.args.moving.now.keys c.args.pid c.args.addr some.0 _ c.in-Ok-touch_noted.ensures.sound free seen c.args.bytes.now there.2
+    (c.in-Ok-touch_noted.ensures.touches there.0 there.1 there.3))
+
+pub returns-in-Err-HostMemory-clause-err : goal.returns-in-Err-HostMemory-clause-err
+returns-in-Err-HostMemory-clause-err g c =
+    let there = c.in-Ok.ensures.ok in
+    c.in-Err-HostMemory.ensures.same ∙ ap (λ (s : State). with_state c.args.self.now s) (touches_err c.in-Err-HostMemory.field-0 c.args.self.now.state c.touch_noted.new.self.state _ (c.in-Err-HostMemory.ensures.touches there.0 there.1 there.3))

@@ -1,0 +1,26 @@
+//! What accesses in flight and runs answer.
+
+use nm_types::Errno;
+use std::alloc::Allocator;
+
+/// The answer to a read or a write that a process makes while pages of a run move.
+#[derive(Debug, Drop)]
+pub enum AccessAnswer<A: Allocator + Copy> {
+    /// The bytes that were read.
+    Bytes(Vec<u8, A>),
+    /// The bytes were written.
+    Done,
+    /// The page moves in this run: nothing was read, written or filled.
+    Held,
+    /// Refused, as it would be outside a run.
+    Refused(Errno),
+}
+
+/// What a run answers.
+#[derive(Debug, Drop)]
+pub struct Flown<A: Allocator + Copy> {
+    /// The status of each request: the node where its page is, or an error's number with a minus sign.
+    pub statuses: Vec<i32, A>,
+    /// The answer to each access, in the order of the accesses.
+    pub answers: Vec<AccessAnswer<A>, A>,
+}

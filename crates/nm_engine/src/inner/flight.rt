@@ -1,0 +1,226 @@
+//! Accesses that processes make while the pages of a run move: all that may grow for them grows before.
+
+ghost use Rattle.std.specs.Prelude.{◌≡◌, ◌≤◌, ◌<◌, List, [], Some, map, length, slice_get, vec_len, vec_capacity, IfOk, OnOk, OnErr};
+ghost use Rattle.std.specs.List.{AllByRecursion, list_any};
+ghost use Rattle.nm_types.specs.declared.page.Page.{Page};
+ghost use Rattle.nm_types.specs.declared.access.Access.{Access as Asked};
+ghost use Rattle.nm_types.specs.Layout.{node_count};
+ghost use Rattle.nm_types.specs.Map.{same_page};
+ghost use Rattle.nm_engine.specs.Moves.{CanMove};
+ghost use Rattle.nm_engine.specs.Sound.{IsSound};
+ghost use Rattle.nm_engine.specs.Touch.{Read, Write};
+ghost use Rattle.nm_engine.specs.MidRun.{with_state};
+ghost use Rattle.nm_engine.specs.Early.{early, all_early, without_fronts, with_fronts, tos};
+ghost use Rattle.nm_engine.specs.Undo.{IsStillUndone};
+ghost use Rattle.nm_engine.specs.Answering.{access_shown, due_shown, written_by, HasRoom};
+
+use crate::answered::AccessAnswer;
+use crate::inner::Inner;
+use crate::inner::due::Due;
+use crate::inner::touch::push_zeros;
+use crate::inner::undo::Undo;
+use nm_plan::Taken;
+use nm_types::{Access, MachineError, NodeId, Page, Pid};
+use std::alloc::{AllocError, Allocator};
+use std::collections::BTreeSet;
+
+impl<A: Allocator + Copy> Inner<A> {
+    /// Takes the frames of moves to a node, and makes ready what accesses come to while the pages are on their way. Says what
+    /// is left to do for each access then: no growth. An error is want of memory, and means that all is as it was.
+    pub(crate) fn begin(
+        &mut self,
+        target: NodeId,
+        moves: &[Taken],
+        accesses: &[Access<A>],
+    ) -> Result<Vec<Due<A>, A>, AllocError>
+        requires target { target < node_count self.old.state.layout }
+        requires room { length moves.now ≤ self.old.room }
+        requires none { self.old.left ≡ [] }
+        requires moves { CanMove self.old.state target moves.now }
+        ensures state { OnOk result (self.new.state ≡ (all_early (without_fronts self.old.state target (length moves.now)) (map (λ t. t.page) moves.now) (map access_shown accesses.now)).state) }
+        ensures dues { IfOk result (λ dues. map (due_shown accesses.now) dues.items ≡ (all_early (without_fronts self.old.state target (length moves.now)) (map (λ t. t.page) moves.now) (map access_shown accesses.now)).dues) }
+        ensures ready { IfOk result (λ dues. AllByRecursion HasRoom dues.items) }
+        ensures len { IfOk result (λ dues. vec_len dues ≡ length accesses.now) }
+        ensures left { OnOk result (self.new.left ≡ tos moves.now) }
+        ensures room { OnOk result (self.new.room ≡ self.old.room) }
+        ensures sound { IsSound self.old.state }
+        ensures err { OnErr result (self.new ≡ self.old) }
+    {
+        self.take_frames(target, moves);
+        match self.prepare(moves, accesses) {
+            Ok(dues) => Ok(dues),
+            Err(error) => {
+                self.give_back(target, moves);
+                Err(error)
+            }
+        }
+    }
+
+    /// Takes the frames of moves to a node: they are no node's any more, and the run's until its pages stand in them.
+    fn take_frames(&mut self, target: NodeId, moves: &[Taken])
+        requires target { target < node_count self.old.state.layout }
+        requires room { length moves.now ≤ self.old.room }
+        requires none { self.old.left ≡ [] }
+        requires moves { CanMove self.old.state target moves.now }
+        ensures state { self.new.state ≡ without_fronts self.old.state target (length moves.now) }
+        ensures left { self.new.left ≡ tos moves.now }
+        ensures room { self.new.room ≡ self.old.room }
+        ensures sound { IsSound self.old.state }
+    {
+        self.frames.take_for(target, moves);
+    }
+
+    /// Makes ready what accesses come to while the pages of these moves are on their way. An error is want of memory, and
+    /// means that all is as it was.
+    fn prepare(
+        &mut self,
+        moves: &[Taken],
+        accesses: &[Access<A>],
+    ) -> Result<Vec<Due<A>, A>, AllocError>
+        ensures state { OnOk result (self.new.state ≡ (all_early self.old.state (map (λ t. t.page) moves.now) (map access_shown accesses.now)).state) }
+        ensures dues { IfOk result (λ dues. map (due_shown accesses.now) dues.items ≡ (all_early self.old.state (map (λ t. t.page) moves.now) (map access_shown accesses.now)).dues) }
+        ensures room { IfOk result (λ dues. AllByRecursion HasRoom dues.items) }
+        ensures len { IfOk result (λ dues. vec_len dues ≡ length accesses.now) }
+        ensures same { self.new ≡ with_state self.old (self.new.state) }
+        ensures err { OnErr result (self.new ≡ self.old) }
+    {
+        let mut dues = Vec::with_capacity(self.alloc, accesses.len())?;
+        if accesses.is_empty() {
+            return Ok(dues);
+        }
+        let mut undos = Vec::new(self.alloc);
+        let moving = pages_of(self.alloc, moves)?;
+        for (number, access) in accesses.iter().enumerate() {
+            match self.touch_early(&moving, access, number, &mut undos) {
+                Ok(due) => dues.push_reserved(due),
+                Err(error) => {
+                    self.take_back(&mut undos);
+                    return Err(error);
+                }
+            }
+        }
+        Ok(dues)
+    }
+
+    /// Gives the frames of moves to a node back, whose pages have not moved.
+    fn give_back(&mut self, target: NodeId, moves: &[Taken])
+        requires taken { self.old.left ≡ tos moves.now }
+        requires sound { IsSound (with_fronts (self.old.state) target (tos moves.now)) }
+        requires inside { target < node_count self.old.state.layout }
+        ensures state { self.new.state ≡ with_fronts (self.old.state) target (tos moves.now) }
+        ensures left { self.new.left ≡ [] }
+        ensures room { self.new.room ≡ self.old.room }
+    {
+        self.frames.give_back(target, moves);
+    }
+
+    /// Makes ready what an access comes to, which has this number among those of the run.
+    fn touch_early(
+        &mut self,
+        moving: &BTreeSet<Page, A>,
+        access: &Access<A>,
+        number: usize,
+        undos: &mut Vec<Undo, A>,
+    ) -> Result<Due<A>, AllocError>
+        ensures state { OnOk result (self.new.state ≡ (early self.old.state moving.now.keys (access_shown access.now)).state) }
+        ensures due { IfOk result (λ due. (accesses : List (Asked _)) → slice_get accesses number ≡ Some access.now → due_shown accesses due ≡ (early self.old.state moving.now.keys (access_shown access.now)).due) }
+        ensures room { IfOk result (λ due. HasRoom due) }
+        ensures same { self.new ≡ with_state self.old (self.new.state) }
+        ensures err { OnErr result (self.new ≡ self.old) }
+        ensures back { IsStillUndone self.old.left self.old.state undos.old.items self.new.state undos.new.items }
+    {
+        match access {
+            Access::Read { pid, addr, len } => self.read_early(moving, *pid, *addr, *len, undos),
+            Access::Write { pid, addr, bytes } => {
+                self.write_early(moving, *pid, *addr, bytes.as_slice(), number, undos)
+            }
+        }
+    }
+
+    /// Makes ready what a read comes to.
+    fn read_early(
+        &mut self,
+        moving: &BTreeSet<Page, A>,
+        pid: Pid,
+        addr: u64,
+        len: u64,
+        undos: &mut Vec<Undo, A>,
+    ) -> Result<Due<A>, AllocError>
+        ensures state { OnOk result (self.new.state ≡ (early self.old.state moving.now.keys (Read pid addr len)).state) }
+        ensures due { IfOk result (λ due. (accesses : List (Asked _)) → due_shown accesses due ≡ (early self.old.state moving.now.keys (Read pid addr len)).due) }
+        ensures room { IfOk result (λ due. HasRoom due) }
+        ensures same { self.new ≡ with_state self.old (self.new.state) }
+        ensures err { OnErr result (self.new ≡ self.old) }
+        ensures back { IsStillUndone self.old.left self.old.state undos.old.items self.new.state undos.new.items }
+    {
+        let resolved = match self.resolve(pid, addr, len) {
+            Ok(resolved) => resolved,
+            Err(error) => return Ok(Due::Known(AccessAnswer::Refused(error))),
+        };
+        if moving.contains(&resolved.page) {
+            return Ok(Due::Known(AccessAnswer::Held));
+        }
+        let len = len as usize;
+        let mut bytes = Vec::with_capacity(self.alloc, len)?;
+        match self.touch_noted(resolved, false, undos) {
+            Ok(Some(_)) => Ok(Due::Read {
+                page: resolved.page,
+                at: (addr % 4096) as usize,
+                len,
+                bytes,
+            }),
+            Ok(None) => {
+                push_zeros(&mut bytes, len);
+                Ok(Due::Known(AccessAnswer::Bytes(bytes)))
+            }
+            Err(MachineError::Refused(error)) => Ok(Due::Known(AccessAnswer::Refused(error))),
+            Err(MachineError::HostMemory) => Err(AllocError),
+        }
+    }
+
+    /// Makes ready what a write comes to, which is the access of this number.
+    fn write_early(
+        &mut self,
+        moving: &BTreeSet<Page, A>,
+        pid: Pid,
+        addr: u64,
+        bytes: &[u8],
+        number: usize,
+        undos: &mut Vec<Undo, A>,
+    ) -> Result<Due<A>, AllocError>
+        ensures state { OnOk result (self.new.state ≡ (early self.old.state moving.now.keys (Write pid addr bytes.now)).state) }
+        ensures due { IfOk result (λ due. (accesses : List (Asked _)) → written_by (slice_get accesses number) ≡ bytes.now → due_shown accesses due ≡ (early self.old.state moving.now.keys (Write pid addr bytes.now)).due) }
+        ensures room { IfOk result (λ due. HasRoom due) }
+        ensures same { self.new ≡ with_state self.old (self.new.state) }
+        ensures err { OnErr result (self.new ≡ self.old) }
+        ensures back { IsStillUndone self.old.left self.old.state undos.old.items self.new.state undos.new.items }
+    {
+        let resolved = match self.resolve(pid, addr, bytes.len() as u64) {
+            Ok(resolved) => resolved,
+            Err(error) => return Ok(Due::Known(AccessAnswer::Refused(error))),
+        };
+        if moving.contains(&resolved.page) {
+            return Ok(Due::Known(AccessAnswer::Held));
+        }
+        match self.touch_noted(resolved, true, undos) {
+            Ok(_) => Ok(Due::Write {
+                page: resolved.page,
+                at: (addr % 4096) as usize,
+                access: number,
+            }),
+            Err(MachineError::Refused(error)) => Ok(Due::Known(AccessAnswer::Refused(error))),
+            Err(MachineError::HostMemory) => Err(AllocError),
+        }
+    }
+}
+
+/// The pages of moves, in order.
+fn pages_of<A: Allocator + Copy>(alloc: A, moves: &[Taken]) -> Result<BTreeSet<Page, A>, AllocError>
+    ensures { IfOk result (λ pages. (p : Page) → list_any (same_page p) pages.keys ≡ list_any (same_page p) (map (λ t. t.page) moves.now)) }
+{
+    let mut pages = BTreeSet::new(alloc);
+    for taken in moves {
+        pages.insert(taken.page)?;
+    }
+    Ok(pages)
+}

@@ -1,0 +1,16 @@
+use Rattle.std.proofs.Common.{refl}
+use Rattle.std.specs.Fmt.{digits}
+use Rattle.hex.specs.Hex.{encode_with}
+use Rattle.nm_trace.specs.Report.{access_line, answer_text}
+use Rattle.nm_trace.proofs.laws.access_line_rows.Goals as goal
+
+pub returns : goal.returns
+unfolding access_line answer_text digits encode_with
+returns c = record {
+  read = refl;
+  write = refl;
+  held = refl;
+  refused = refl;
+  in_the_order_asked = refl;
+  none_of_a_refused_call = refl;
+}
