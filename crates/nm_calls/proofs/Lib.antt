@@ -1,3 +1,4 @@
+pub mod Bytes
 pub mod Places
 pub mod Meanwhile
 pub mod Lengths

@@ -1,10 +1,14 @@
 -- What holds of every call.
-use Rattle.std.specs.Prelude.{◌≡◌, ◌⊎◌, ℕ, ◌≤◌, List, [], length, take, slice_index_or, Option, Some, None, if◌then◌else◌}
+use Rattle.std.specs.Prelude.{◌≡◌, ◌⊎◌, ℕ, ◌≤◌, Bool, true, false, List, [], length, take, slice_index_or, Option, Some, None, if◌then◌else◌}
 use Rattle.nm_types.specs.declared.errno.Errno.{Errno}
 use Rattle.nm_types.specs.State.{State}
-use Rattle.nm_engine.specs.Batch.{runs_from}
-use Rattle.nm_calls.specs.Calls.{Call, Mbind, Offline, Refusal}
+use Rattle.nm_runs.specs.Cut.{Stretch}
+use Rattle.nm_engine.specs.Memory.{mem}
 use Rattle.nm_engine.specs.Touch.{AccessAnswer}
+use Rattle.nm_engine.specs.Batch.{runs_from}
+use Rattle.nm_engine.specs.Sound.{IsSound}
+use Rattle.nm_engine.specs.Laws.{runs_written}
+use Rattle.nm_calls.specs.Calls.{Call, MovePages, MigratePages, Query, Mbind, Offline, Online, FreeList, Pagemap, Vmstat, NumaMaps, Refusal}
 use Rattle.nm_calls.specs.During.{in_order, by_place}
 use Rattle.nm_calls.specs.Systems.{SystemState}
 use Rattle.nm_calls.specs.Outcome.{refused, start, started, outcome, runs_of, accesses_asked, trail}
@@ -35,3 +39,43 @@ TrailIsAfterRuns =
 abbrev pub AnswersGoByPlace : Type 0
 AnswersGoByPlace =
     (runs : List ℕ) (answers : List (List AccessAnswer)) → in_order runs answers ≡ by_place [] runs answers
+
+-- whether a call writes nothing and changes no area but its policy: it moves pages, takes a node away or back, or looks
+abbrev pub keeps_bytes : Call → Bool
+keeps_bytes (MovePages caller pid pages nodes flags during) = true
+keeps_bytes (MigratePages caller pid old new) = true
+keeps_bytes (Query caller pid pages flags) = true
+keeps_bytes (Mbind caller addr len mode nodes flags) = true
+keeps_bytes (Offline node) = true
+keeps_bytes (Online node) = true
+keeps_bytes (FreeList node) = true
+keeps_bytes (Pagemap pid) = true
+keeps_bytes Vmstat = true
+keeps_bytes (NumaMaps pid) = true
+keeps_bytes call = false
+
+-- the bytes that a process has after runs of a call: each is that of the last write in flight which is done there, or else
+-- what it was before the call
+abbrev pub byte_after : SystemState → Call → List Stretch → ℕ → ℕ → Option ℕ
+byte_after y call runs q at =
+    let made = runs_from 0 (started (refused y.state call) y.state (start y call)) runs (accesses_asked call) in
+    runs_written y.state.areas q at (mem y.state q at) (accesses_asked call) 0 made.answers
+
+-- such a call changes no byte of any process but by writes in flight ..
+abbrev pub CallsKeepMemory : Type 0
+CallsKeepMemory =
+    (y : SystemState) (call : Call) (q at : ℕ) → IsSound y.state → keeps_bytes call ≡ true →
+    mem (outcome y call).system.state q at ≡ byte_after y call (runs_of y call) q at
+
+-- .. also on its way, where the host may leave it
+abbrev pub TrailKeepsMemory : Type 0
+TrailKeepsMemory =
+    (y : SystemState) (call : Call) (n : ℕ) (d : State) (q at : ℕ) → IsSound y.state → keeps_bytes call ≡ true →
+    n ≤ length (runs_of y call) →
+    mem (slice_index_or (trail y call) n d) q at ≡ byte_after y call (take n (runs_of y call)) q at
+
+-- and where there is none, it changes none
+abbrev pub WithoutAccessesNone : Type 0
+WithoutAccessesNone =
+    (y : SystemState) (call : Call) (runs : List Stretch) (q at : ℕ) → accesses_asked call ≡ [] →
+    byte_after y call runs q at ≡ mem y.state q at

@@ -1,6 +1,6 @@
 //! What holds of every call, as the contracts of functions that do nothing.
 
-ghost use Rattle.nm_calls.specs.Laws.{RefusalsChangeNothing, TrailIsAfterRuns, AnswersGoByPlace};
+ghost use Rattle.nm_calls.specs.Laws.{RefusalsChangeNothing, TrailIsAfterRuns, CallsKeepMemory, TrailKeepsMemory, WithoutAccessesNone, AnswersGoByPlace};
 ghost use Rattle.nm_calls.specs.MigrateLaws.{EachPageIsListedOnce, RunsGoToNodesOnline};
 ghost use Rattle.nm_calls.specs.MigrateRows.{EachPageGoesOnce, HalfWay, TwoOfFourGo, SharedPageGoesByPrivilege, MigrationsAreRefused, NothingMigrates, SizesOfWhatIsKept, PageIsListedOnce, RunsHaveALimit};
 ghost use Rattle.nm_calls.specs.Binding.{NoStrayIsListedTwice};
@@ -18,6 +18,15 @@ pub fn refusals_change_nothing()
 /// The states on the way of a call, which is what a host without memory may leave, are those after its first runs.
 pub fn trail_is_after_runs()
     ensures { TrailIsAfterRuns }
+{}
+
+/// No call that moves pages, takes a node away or back, or looks changes a byte that a process has, at its end or where the
+/// host leaves it without memory. Where accesses are made while its pages move, each byte is that of the last write which was
+/// done there, or else what it was before.
+pub fn calls_keep_memory()
+    ensures calls { CallsKeepMemory }
+    ensures trail { TrailKeepsMemory }
+    ensures none { WithoutAccessesNone }
 {}
 
 /// `migrate_pages` lists no page twice, and each of its runs goes to a node that is online.

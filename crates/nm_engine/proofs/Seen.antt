@@ -1,4 +1,5 @@
 pub mod Ranges
+pub mod Rewritten
 pub mod Sights
-pub mod Written
 pub mod Walked
+pub mod Written

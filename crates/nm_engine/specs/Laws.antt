@@ -1,27 +1,28 @@
 -- What holds of every state, run and request.
-use Rattle.std.specs.Prelude.{◌≡◌, ◌≤◌, ℕ, ◌+◌, ◌-◌, ◌/◌, ◌%◌, nat_le, nat_lt, Bool, true, false, ◌&&◌, List, [], map, length}
+use Rattle.std.specs.Prelude.{◌≡◌, ◌≤◌, ℕ, ◌+◌, ◌-◌, ◌/◌, ◌%◌, nat_le, nat_lt, Bool, true, false, ◌&&◌, List, [], ◌∷◌, map, length}
 use Rattle.std.specs.Prelude.{drop, slice_index, slice_set, Option, Some, None, if◌then◌else◌}
 use Rattle.std.specs.List.{AllByRecursion, fold}
 use Rattle.std.specs.List.Sorted.{IsStrictlySortedBy}
 use Rattle.std.specs.Map.{keys_of}
 use Rattle.std.specs.Ordering.{nat_cmp}
 use Rattle.nm_types.specs.declared.page.Page.{Page}
-use Rattle.nm_types.specs.Map.{set, page_cmp, same_page}
+use Rattle.nm_types.specs.Map.{Map, set, page_cmp, same_page}
 use Rattle.nm_types.specs.Layout.{Layout}
+use Rattle.nm_types.specs.declared.area.Area.{Area}
 use Rattle.nm_types.specs.declared.area.Policy.{Policy}
 use Rattle.nm_types.specs.State.{State, page_at, free_list}
 use Rattle.nm_runs.specs.declared.Wanted.{Wanted}
 use Rattle.nm_runs.specs.declared.Wanted.TheVariants.{At as Spot, Whole}
 use Rattle.nm_types.specs.declared.seen.Seen.TheVariants.{At}
 use Rattle.nm_runs.specs.Seen.{look}
-use Rattle.nm_runs.specs.Cut.{Request}
+use Rattle.nm_runs.specs.Cut.{Request, Stretch}
 use Rattle.nm_runs.specs.Status.{status_or_move, class_of}
 use Rattle.nm_plan.specs.declared.Taken.{Taken}
 use Rattle.nm_plan.specs.Decide.{Decisions, decide}
 use Rattle.nm_engine.specs.Memory.{mem}
-use Rattle.nm_engine.specs.Touch.{Access, Done, read, write, access}
+use Rattle.nm_engine.specs.Touch.{Access, Write, AccessAnswer, Done, read, write, access}
 use Rattle.nm_engine.specs.Run.{Progress, each, with_all_free, run}
-use Rattle.nm_engine.specs.Batch.{batch}
+use Rattle.nm_engine.specs.Batch.{accesses_of, runs_from, batch}
 use Rattle.nm_engine.specs.Audited.{audited}
 use Rattle.nm_engine.specs.Effect.{new_machine, spawn, map_new, attach, pin, unpin, unmap, exit}
 use Rattle.nm_engine.specs.Refused.{spawn_refusal, map_refusal, attach_refusal, pin_refusal}
@@ -77,14 +78,49 @@ is_one_page (Some p) (Some q) = same_page p q
 abbrev pub is_within : ℕ → ℕ → ℕ → Bool
 is_within first count at = nat_le first at && nat_lt at (first + count)
 
+-- whether so many bytes of a process from an address on, in one page, hold the byte that a process has at an address
+abbrev pub overlaps : Map (ℕ × ℕ) Area → ℕ → ℕ → ℕ → ℕ → ℕ → Bool
+overlaps areas pid address len q at =
+    is_one_page (page_at areas pid (address / 4096)) (page_at areas q (at / 4096)) && is_within (address % 4096) len (at % 4096)
+
+-- the byte that a process has at an address once an access is answered: a write that is done has put its own there
+abbrev pub written : Map (ℕ × ℕ) Area → ℕ → ℕ → Option ℕ → Access → AccessAnswer → Option ℕ
+written areas q at byte (Write pid address new) Done =
+    if overlaps areas pid address (length new) q at then Some (slice_index new (at % 4096 - address % 4096)) else byte
+written areas q at byte a answer = byte
+
+-- .. once one access after another is answered ..
+abbrev pub all_written : Map (ℕ × ℕ) Area → ℕ → ℕ → Option ℕ → List Access → List AccessAnswer → Option ℕ
+all_written areas q at byte (a ∷ accesses) (answer ∷ answers) =
+    all_written areas q at (written areas q at byte a answer) accesses answers
+all_written areas q at byte accesses answers = byte
+
+-- .. and once the accesses of one run after another are, with numbers from k on
+abbrev pub runs_written : Map (ℕ × ℕ) Area → ℕ → ℕ → Option ℕ → List (ℕ × Access) → ℕ → List (List AccessAnswer) → Option ℕ
+runs_written areas q at byte accesses k [] = byte
+runs_written areas q at byte accesses k (answers ∷ rest) =
+    runs_written areas q at (all_written areas q at byte (accesses_of k accesses) answers) accesses (k + 1) rest
+
 -- a write gives its own bytes to everyone who has the page in an area, and changes no other byte
 abbrev pub WritingIsExact : Type 0
 WritingIsExact =
     (s : State) (left : List ℕ) (pid address : ℕ) (new : List ℕ) (q at : ℕ) →
     IsSoundMidRun s left → (write s pid address new).answer ≡ Done →
-    let here = is_one_page (page_at s.areas pid (address / 4096)) (page_at s.areas q (at / 4096)) in
-    let hit = here && is_within (address % 4096) (length new) (at % 4096) in
-    mem (write s pid address new).state q at ≡ (if hit then Some (slice_index new (at % 4096 - address % 4096)) else mem s q at)
+    mem (write s pid address new).state q at ≡ written s.areas q at (mem s q at) (Write pid address new) Done
+
+-- a run keeps every byte but those of the writes in flight that are done: held and refused ones, and reads, change none
+abbrev pub RunKeepsMemory : Type 0
+RunKeepsMemory =
+    (s : State) (target : ℕ) (ws : List Wanted) (accesses : List Access) (answers : List AccessAnswer) (q at : ℕ) →
+    IsSound s → (run s target ws accesses).answers ≡ answers ∷ [] →
+    mem (run s target ws accesses).state q at ≡ all_written s.areas q at (mem s q at) accesses answers
+
+-- and so does one run after another
+abbrev pub RunsKeepMemory : Type 0
+RunsKeepMemory =
+    (s : State) (runs : List Stretch) (accesses : List (ℕ × Access)) (q at : ℕ) → IsSound s →
+    let after = runs_from 0 s runs accesses in
+    mem after.state q at ≡ runs_written s.areas q at (mem s q at) accesses 0 after.answers
 
 -- and another policy changes no page that an area shows, and no byte
 abbrev pub PolicyKeepsMemory : Type 0

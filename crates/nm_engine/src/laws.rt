@@ -1,6 +1,6 @@
 //! Laws over the definitions alone, and worked examples.
 
-ghost use Rattle.nm_engine.specs.Laws.{DecidingKeepsMemory, FreeingKeepsMemory, BatchKeepsMemory, ReadingKeepsMemory, WritingIsExact, PolicyKeepsMemory, LooksSuffice, LooksAreBounded, SoundIsAudited, PlanIsOneByOne, AccessIsSound, RunIsSound, BatchIsSound, NewIsSound, SpawnIsSound, MapIsSound, AttachIsSound, PinIsSound, UnpinIsSound, PolicyIsSound, UnmapIsSound, ExitIsSound};
+ghost use Rattle.nm_engine.specs.Laws.{DecidingKeepsMemory, FreeingKeepsMemory, BatchKeepsMemory, RunKeepsMemory, RunsKeepMemory, ReadingKeepsMemory, WritingIsExact, PolicyKeepsMemory, LooksSuffice, LooksAreBounded, SoundIsAudited, PlanIsOneByOne, AccessIsSound, RunIsSound, BatchIsSound, NewIsSound, SpawnIsSound, MapIsSound, AttachIsSound, PinIsSound, UnpinIsSound, PolicyIsSound, UnmapIsSound, ExitIsSound};
 ghost use Rattle.nm_engine.specs.Interleavings.{EverySoundStateIsRead, EveryRunCanEnd, EveryOrderIsTheRun, EveryBufferIsInOneHand, HeldIsExact};
 ghost use Rattle.nm_engine.specs.Examples.Interleaved.{StartIsRead, BothOrdersEndAlike, InTheMiddle, TwoWorkersCopy, NotAllowed};
 ghost use Rattle.nm_engine.specs.Phases.{TouchesComeFirst, MovesComeLater};
@@ -13,11 +13,14 @@ ghost use Rattle.nm_engine.specs.Examples.Undoing.{TouchesAreTakenBack, SharedPa
 ghost use Rattle.nm_engine.specs.Examples.Setting.{MiddlePageIsSplitOff, NewPagesFollowThePolicy, LengthsRoundUp, AreasAreNotMerged, OthersKeepTheirAreas, RangesAreRefused};
 ghost use Rattle.nm_engine.specs.Examples.Deciding.{NodesAreOrderedByDistance, PolicyOrdersTheNodes, PlanResolvesRepeats, PlanWithoutFrames, PlanWithoutRequests};
 
-/// No move changes a byte that a process reads: not one, and not a batch; and no read and no policy does.
+/// No move changes a byte that a process reads: not one, and not a batch; and no read and no policy does. Where accesses are
+/// made while pages move, each byte is that of the last write which was done there, or else what it was before.
 pub fn mem_stays()
     ensures decided { DecidingKeepsMemory }
     ensures freed { FreeingKeepsMemory }
     ensures batches { BatchKeepsMemory }
+    ensures runs { RunKeepsMemory }
+    ensures together { RunsKeepMemory }
     ensures read { ReadingKeepsMemory }
     ensures policies { PolicyKeepsMemory }
 {}

@@ -17,7 +17,7 @@ use Rattle.nm_engine.specs.Seeing.{frame_seen}
 use Rattle.nm_engine.specs.Sound.{IsSoundMidRun}
 use Rattle.nm_engine.specs.Early.{Due, Known, ToRead, ToWrite, Early, held_early, due_read, due_write, read_early, write_early, early}
 use Rattle.nm_engine.proofs.Together.Touches.{page_of_frame}
-use Rattle.nm_engine.proofs.Early.Seen.{Shows, touch_shows}
+use Rattle.nm_engine.proofs.Early.Seen.{touch_areas}
 use Rattle.nm_engine.proofs.Early.Later.{early_ready}
 use Rattle.nm_engine.proofs.Early.Ready.{process_page}
 
@@ -59,15 +59,10 @@ page_seen t l pid v f p h at seen =
     let same : q.0 ≡ p = some_is (sym (h.shown pid v q.0 q.1).0 ∙ at) in
     q.1 ∙ ap (λ r. Some (Sees r)) same
 
--- areas stay through a touch
-areas_read : (s t : State) (pid address len : ℕ) (writes : Bool) → touch s pid address len writes ≡ Ok t → t.areas ≡ s.areas
-unfolding Shows
-areas_read s t pid address len writes is = (subst (Shows s pid (address / 4096)) is (touch_shows s pid address len writes)).1
-
 module _ (s t : State) (l : List ℕ) (h : IsSoundMidRun t l) (pid address : ℕ) (at : Spot) (page : page_at s.areas pid (address / 4096) ≡ Some (shown_at at)) where
   shown_then : (len : ℕ) (writes : Bool) → spot s pid address len ≡ Ok at → touch s pid address len writes ≡ Ok t → page_at t.areas pid (address / 4096) ≡ Some (shown_at at)
   shown_then len writes is touches =
-      ap (λ areas. page_at areas pid (address / 4096)) (areas_read s t pid address len writes touches) ∙ page
+      ap (λ areas. page_at areas pid (address / 4096)) (touch_areas s t pid address len writes touches) ∙ page
 
   touches_so : (len : ℕ) (writes : Bool) → spot s pid address len ≡ Ok at → touched_entry s at writes (get nat_cmp at.process.sees at.vpn) ≡ Ok t → touch s pid address len writes ≡ Ok t
   touches_so len writes is touches = ap (touched s writes) is ∙ touches

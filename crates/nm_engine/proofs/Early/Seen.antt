@@ -68,3 +68,8 @@ module _ (s : State) where
 
   pub touch_shows : (pid address len : ℕ) (writes : Bool) → Shows s pid (address / 4096) (touch s pid address len writes)
   touch_shows pid address len writes = process_shows pid address len writes (get nat_cmp s.processes pid) refl
+
+-- areas stay through a touch
+pub touch_areas : (s t : State) (pid address len : ℕ) (writes : Bool) → touch s pid address len writes ≡ Ok t → t.areas ≡ s.areas
+unfolding Shows
+touch_areas s t pid address len writes is = (subst (Shows s pid (address / 4096)) is (touch_shows s pid address len writes)).1

@@ -53,7 +53,7 @@ run_keeps s target ws pid address =
     let moves = each s target ws in
     frees_keep (left moves.taken) moves.state pid address ∙ each_keeps s target ws pid address
 
-runs_keep : (k : ℕ) (s : State) (rs : List Stretch) (pid address : ℕ) → mem (runs_from k s rs []).state pid address ≡ mem s pid address
+pub runs_keep : (k : ℕ) (s : State) (rs : List Stretch) (pid address : ℕ) → mem (runs_from k s rs []).state pid address ≡ mem s pid address
 runs_keep k s [] pid address = refl
 runs_keep k s (r ∷ rs) pid address = runs_keep (k + 1) (run s r.target r.wanted []).state rs pid address ∙ run_keeps s r.target r.wanted pid address
 

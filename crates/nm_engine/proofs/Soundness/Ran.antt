@@ -13,7 +13,7 @@ use Rattle.nm_engine.specs.Sound.{IsSoundMidRun, IsSound}
 use Rattle.nm_engine.proofs.Soundness.Moved.{each_sound, freed_sound, counted_sound}
 use Rattle.nm_engine.proofs.Soundness.Touched.{access_sound}
 
-in_flight_sound : (s : State) (l : List ℕ) (moved : List Page) (a : Access) → IsSoundMidRun s l → IsSoundMidRun (in_flight s moved a).state l
+pub in_flight_sound : (s : State) (l : List ℕ) (moved : List Page) (a : Access) → IsSoundMidRun s l → IsSoundMidRun (in_flight s moved a).state l
 in_flight_sound s l moved a h =
     elim (is_held moved (spot_of_access s a)) as (λ b. IsSoundMidRun (if b then record { state = s; answer = Held } else access s a).state l) [
       | true ↦ h
