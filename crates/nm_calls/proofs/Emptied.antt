@@ -1,5 +1,5 @@
 -- What a node that goes offline comes to.
-use Rattle.std.proofs.Common.{◌≡◌, ℕ, ◌<◌, ◌≤◌, ◌+◌, Bool, true, false, cond, List, [], ◌∷◌, inl, inr, length, refl, sym, ap, subst, ◌∙◌, arith, slice_index_or, Some, None, Result, Ok, Err}
+use Rattle.std.proofs.Common.{◌≡◌, ℕ, ◌<◌, Bool, true, false, cond, List, [], ◌∷◌, inl, inr, length, refl, sym, ap, subst, ◌∙◌, slice_index_or, None, Result, Ok, Err}
 use Rattle.std.specs.Prelude.{◌==◌, not, ◌&&◌, ◌||◌, nat_lt, map, if◌then◌else◌}
 use Rattle.std.specs.List.{AllByRecursion, fold, list_any}
 use Rattle.std.proofs.lemmas.Bool.{true≢false}
@@ -27,7 +27,6 @@ use Rattle.nm_calls.specs.Offlining.{offline_refusal, offline_runs, refuges, sti
 use Rattle.nm_calls.specs.Outcome.{refused, refused_at_once, start, started, sets_policy, runs_asked, accesses_asked, runs_of, runs_unless, ended, emptied, outcome, states_of, trail}
 use Rattle.nm_calls.specs.Does.{Does, LeavesSome}
 use Rattle.nm_calls.specs.Making.{Stops, Empties}
-use Rattle.nm_calls.proofs.Trails.{states_are}
 use Rattle.nm_calls.proofs.Outcomes.{answers}
 
 -- requests by page

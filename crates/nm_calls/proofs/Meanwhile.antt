@@ -10,7 +10,7 @@ use Rattle.nm_engine.specs.Batch.{accesses_of}
 use Rattle.nm_calls.specs.During.{list_at, in_order}
 
 -- one access before others
-first_asked : (k run : ℕ) (a : Access) (rest : List (ℕ × Access)) (b : Bool) → (run == k) ≡ b → accesses_of k ((run, a) ∷ rest) ≡ cond b (a ∷ accesses_of k rest) (accesses_of k rest)
+pub first_asked : (k run : ℕ) (a : Access) (rest : List (ℕ × Access)) (b : Bool) → (run == k) ≡ b → accesses_of k ((run, a) ∷ rest) ≡ cond b (a ∷ accesses_of k rest) (accesses_of k rest)
 first_asked k run a rest true h = ap (λ b. map (λ (d : ℕ × Access). d.1) (cond b ((run, a) ∷ filter (λ d. d.0 == k) rest) (filter (λ d. d.0 == k) rest))) h
 first_asked k run a rest false h = ap (λ b. map (λ (d : ℕ × Access). d.1) (cond b ((run, a) ∷ filter (λ d. d.0 == k) rest) (filter (λ d. d.0 == k) rest))) h
 

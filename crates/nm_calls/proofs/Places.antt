@@ -1,5 +1,5 @@
 -- The answers to accesses in flight go by place.
-use Rattle.std.proofs.Common.{arith, ⊎_elim, ◌≡◌, ℕ, ◌+◌, ◌<◌, ◌≤◌, Bool, true, false, cond, List, [], ◌∷◌, ◌++◌, length, take, drop, refl, sym, ap, ◌∙◌}
+use Rattle.std.proofs.Common.{arith, ⊎_elim, ◌≡◌, ℕ, ◌+◌, ◌<◌, Bool, true, false, cond, List, [], ◌∷◌, ◌++◌, length, take, drop, refl, sym, ap, ◌∙◌}
 use Rattle.std.specs.Prelude.{◌==◌, count_by, slice_set}
 use Rattle.std.proofs.lemmas.Bool.{cases_lt, eqb-true}
 use Rattle.std.proofs.lemmas.List.{get_or-set_same, get_or-set_other, get_or_past, set_past, drop-drop}
@@ -9,11 +9,11 @@ use Rattle.nm_calls.specs.During.{list_at, in_order, by_place}
 use Rattle.nm_calls.specs.Laws.{AnswersGoByPlace}
 use Rattle.nm_calls.proofs.Meanwhile.{differ}
 
-one_more : (k run : ℕ) (before : List ℕ) (b : Bool) → (run == k) ≡ b → count_by (λ r. r == k) (run ∷ before) ≡ cond b 1 0 + count_by (λ r. r == k) before
+pub one_more : (k run : ℕ) (before : List ℕ) (b : Bool) → (run == k) ≡ b → count_by (λ r. r == k) (run ∷ before) ≡ cond b 1 0 + count_by (λ r. r == k) before
 one_more k run before b h = sum_by-cons (λ r. cond (r == k) 1 0) run before ∙ ap (λ b. cond b 1 0 + count_by (λ r. r == k) before) h
 
 -- once its front is told, the rest of a list is there
-shorter : (left : List (List AccessAnswer)) (run : ℕ) → list_at (slice_set left run (drop 1 (list_at left run))) run ≡ drop 1 (list_at left run)
+pub shorter : (left : List (List AccessAnswer)) (run : ℕ) → list_at (slice_set left run (drop 1 (list_at left run))) run ≡ drop 1 (list_at left run)
 shorter left run =
     let rest = drop 1 (list_at left run) in
     ⊎_elim

@@ -1,5 +1,5 @@
 -- A call that is refused leaves the system as it was.
-use Rattle.std.proofs.Common.{◌≡◌, ℕ, Bool, true, false, Option, Some, None, [], refl, ap, sym, inl, inr, ◌∙◌}
+use Rattle.std.proofs.Common.{◌≡◌, ℕ, Bool, true, false, Option, Some, None, refl, ap, sym, inl, inr, ◌∙◌}
 use Rattle.std.proofs.lemmas.Bool.{true≢false}
 use Rattle.nm_types.specs.declared.errno.Errno.{Errno}
 use Rattle.nm_engine.specs.Touch as engine

@@ -9,7 +9,7 @@ use Rattle.nm_types.specs.State.{State}
 use Rattle.nm_runs.specs.declared.Run.{Run}
 use Rattle.nm_runs.specs.Cut.{Stretch, stretches_of}
 use Rattle.nm_engine.specs.Touch.{Access, AccessAnswer}
-use Rattle.nm_engine.specs.Run.{Ran, run}
+use Rattle.nm_engine.specs.Run.{run}
 use Rattle.nm_engine.specs.Batch.{accesses_of, runs_from}
 use Rattle.nm_calls.proofs.Meanwhile.{append_none}
 

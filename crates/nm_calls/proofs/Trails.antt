@@ -5,7 +5,7 @@ use Rattle.nm_runs.specs.Cut.{Stretch}
 use Rattle.nm_engine.specs.Touch.{Access}
 use Rattle.nm_engine.specs.Run.{run}
 use Rattle.nm_engine.specs.Batch.{accesses_of, runs_from}
-use Rattle.nm_calls.specs.Outcome.{states_from, states_of, runs_of, accesses_asked, refused, start, started}
+use Rattle.nm_calls.specs.Outcome.{states_from, runs_of, accesses_asked, refused, start, started}
 use Rattle.nm_calls.specs.Laws.{TrailIsAfterRuns}
 
 -- .. whatever the number of the first of them

@@ -1,15 +1,16 @@
 -- What holds of every call.
-use Rattle.std.specs.Prelude.{◌≡◌, ◌⊎◌, ℕ, ◌≤◌, Bool, true, false, List, [], length, take, slice_index_or, Option, Some, None, if◌then◌else◌}
+use Rattle.std.specs.Prelude.{◌≡◌, ◌⊎◌, ℕ, ◌<◌, ◌≤◌, ℤ, Bool, true, false, List, [], length, take, slice_index_or, Option, Some, None, if◌then◌else◌}
+use Rattle.std.specs.List.{AllByRecursion}
 use Rattle.nm_types.specs.declared.errno.Errno.{Errno}
 use Rattle.nm_types.specs.State.{State}
 use Rattle.nm_runs.specs.Cut.{Stretch}
 use Rattle.nm_engine.specs.Memory.{mem}
-use Rattle.nm_engine.specs.Touch.{AccessAnswer}
+use Rattle.nm_engine.specs.Touch.{Access, AccessAnswer}
 use Rattle.nm_engine.specs.Batch.{runs_from}
 use Rattle.nm_engine.specs.Sound.{IsSound}
 use Rattle.nm_engine.specs.Laws.{runs_written}
-use Rattle.nm_calls.specs.Calls.{Call, MovePages, MigratePages, Query, Mbind, Offline, Online, FreeList, Pagemap, Vmstat, NumaMaps, Refusal}
-use Rattle.nm_calls.specs.During.{in_order, by_place}
+use Rattle.nm_calls.specs.Calls.{Call, MovePages, MigratePages, Query, Mbind, Offline, Online, FreeList, Pagemap, Vmstat, NumaMaps, Refusal, Statuses}
+use Rattle.nm_calls.specs.During.{runs_named, in_order, by_place}
 use Rattle.nm_calls.specs.Systems.{SystemState}
 use Rattle.nm_calls.specs.Outcome.{refused, start, started, outcome, runs_of, accesses_asked, trail}
 use Rattle.nm_calls.specs.Binding.{tells_late}
@@ -39,6 +40,15 @@ TrailIsAfterRuns =
 abbrev pub AnswersGoByPlace : Type 0
 AnswersGoByPlace =
     (runs : List ℕ) (answers : List (List AccessAnswer)) → in_order runs answers ≡ by_place [] runs answers
+
+-- where each access in flight names a run that is made, each is answered
+abbrev pub EachAccessIsAnswered : Type 0
+EachAccessIsAnswered =
+    (y : SystemState) (caller pid : ℕ) (pages nodes : List ℕ) (flags : ℕ) (during : List (ℕ × Access)) →
+    (failed : ℕ) (statuses : List ℤ) (answers : List AccessAnswer) →
+    let call = MovePages caller pid pages nodes flags during in
+    AllByRecursion (λ run. run < length (runs_of y call)) (runs_named during) →
+    (outcome y call).answer ≡ Statuses failed statuses answers → length answers ≡ length during
 
 -- whether a call writes nothing and changes no area but its policy: it moves pages, takes a node away or back, or looks
 abbrev pub keeps_bytes : Call → Bool

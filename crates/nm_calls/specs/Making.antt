@@ -5,7 +5,6 @@ use Rattle.nm_types.specs.declared.area.Policy.{Policy}
 use Rattle.nm_types.specs.declared.area.Policy.TheVariants.{Default, Preferred, Bind, Interleave, Local}
 use Rattle.nm_types.specs.declared.errno.Errno.TheVariants.{Eio, Ebusy}
 use Rattle.nm_types.specs.State.{State}
-use Rattle.nm_runs.specs.declared.Wanted.{Wanted}
 use Rattle.nm_runs.specs.Cut.{Stretch, wanted_of}
 use Rattle.nm_runs.specs.Limit.{cut_within}
 use Rattle.nm_engine.specs.Run.{Ran, HasOneAll}

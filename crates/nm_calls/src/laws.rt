@@ -1,6 +1,6 @@
 //! What holds of every call, as the contracts of functions that do nothing.
 
-ghost use Rattle.nm_calls.specs.Laws.{RefusalsChangeNothing, TrailIsAfterRuns, CallsKeepMemory, TrailKeepsMemory, WithoutAccessesNone, AnswersGoByPlace};
+ghost use Rattle.nm_calls.specs.Laws.{RefusalsChangeNothing, TrailIsAfterRuns, CallsKeepMemory, TrailKeepsMemory, WithoutAccessesNone, AnswersGoByPlace, EachAccessIsAnswered};
 ghost use Rattle.nm_calls.specs.MigrateLaws.{EachPageIsListedOnce, RunsGoToNodesOnline};
 ghost use Rattle.nm_calls.specs.MigrateRows.{EachPageGoesOnce, HalfWay, TwoOfFourGo, SharedPageGoesByPrivilege, MigrationsAreRefused, NothingMigrates, SizesOfWhatIsKept, PageIsListedOnce, RunsHaveALimit};
 ghost use Rattle.nm_calls.specs.Binding.{NoStrayIsListedTwice};
@@ -99,9 +99,10 @@ pub fn areas_are_told()
 {}
 
 /// The answer to an access in flight is that of its run's answers whose place is the number of accesses before it that name
-/// the same run.
+/// the same run; and where each access names a run that is made, each has one.
 pub fn answers_go_by_place()
-    ensures { AnswersGoByPlace }
+    ensures place { AnswersGoByPlace }
+    ensures each { EachAccessIsAnswered }
 {}
 
 /// Worked examples of accesses that are made while pages move.

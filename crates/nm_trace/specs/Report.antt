@@ -80,7 +80,8 @@ unfoldable pub access_line : ℕ → ℕ → Access → AccessAnswer → List �
 access_line k j access answer =
     decimal k ++ codes "." ++ decimal j ++ codes " " ++ access_word access ++ codes " " ++ answer_text (shown answer) ++ codes "\n"
 
--- the lines of the accesses of step k that have an answer, with numbers from j on
+-- the lines of the accesses of step k, each with the answer at its place, with numbers from j on. Where each access names a
+-- run that is made, there are as many answers as accesses
 abbrev pub access_lines : ℕ → ℕ → List (ℕ × Access) → List AccessAnswer → List ℕ
 access_lines k j during [] = []
 access_lines k j [] (answer ∷ answers) = []

@@ -14,7 +14,8 @@ pub struct Trace<A: Allocator + Copy + Send + Sync> {
     pub geometry: Geometry<A>,
     /// How many entries a run has at most: 1 to 16,384, which is no limit, as no batch is longer.
     pub run_limit: usize,
-    /// The calls of the steps, step 0 first.
+    /// The calls of the steps, step 0 first. Each access in flight is to name a run that its call makes (`run_count`), as those
+    /// of `read_trace` do: one of a run that is not made has no answer, and the report would tell those behind it by its number.
     pub calls: Vec<Call<A>, A>,
     pub ghost some: { 0 < run_limit },
     pub ghost within: { run_limit ≤ default_limit },

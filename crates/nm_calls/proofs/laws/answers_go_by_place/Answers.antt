@@ -1,5 +1,9 @@
+use Rattle.nm_calls.proofs.Answered.{each_access_is_answered}
 use Rattle.nm_calls.proofs.Places.{answers_go_by_place}
 use Rattle.nm_calls.proofs.laws.answers_go_by_place.Goals as goal
 
-pub returns : goal.returns
-returns c = answers_go_by_place
+pub returns-clause-place : goal.returns-clause-place
+returns-clause-place c = answers_go_by_place
+
+pub returns-clause-each : goal.returns-clause-each
+returns-clause-each c = each_access_is_answered
