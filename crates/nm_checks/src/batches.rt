@@ -1,4 +1,4 @@
-//! Batches whose memory is refused, and the totals, which no step of a trace tells.
+//! The totals that batches leave.
 
 use crate::gates::Through;
 use crate::machine::both_nodes;
@@ -30,34 +30,6 @@ pub(crate) fn three_pages(heap: Heap<'_>) -> Result<System<Heap<'_>>, CallError>
     Ok(system)
 }
 
-/// Moves the first page to node 1 and, in a second run, back to node 0.
-fn there_and_back<'a>(
-    rt: &(impl Threads + Wait + Sync),
-    system: &mut System<Heap<'a>>,
-) -> Result<Moved<Heap<'a>>, CallError> {
-    let pages = [0x10000u64, 0x10000];
-    let nodes = [1u32, 0];
-    let none: [InFlight<Heap<'a>>; 0] = [];
-    system.move_pages(
-        rt,
-        Pid::new(1),
-        Pid::new(0),
-        &pages,
-        &nodes,
-        2,
-        &none,
-        &Through,
-    )
-}
-
-/// How many runs were made before memory was refused, or None where the call answered.
-fn runs_made(answer: Result<Moved<Heap<'_>>, CallError>) -> Option<usize> {
-    match answer {
-        Err(CallError::HostMemory { runs, .. }) => Some(runs),
-        _ => None,
-    }
-}
-
 /// The frame of the first page of process 1.
 fn first_frame(system: &System<Heap<'_>>) -> Result<Option<u32>, CallError> {
     let entries = system.pagemap(Pid::new(1))?;
@@ -67,121 +39,6 @@ fn first_frame(system: &System<Heap<'_>>) -> Result<Option<u32>, CallError> {
             .and_then(|entry| entry.frame)
             .map(|frame| frame.number()),
     )
-}
-
-/// What came of a batch.
-#[derive(Clone, Copy, Debug)]
-struct Attempt {
-    /// Whether it came to the allocation that was to be refused.
-    met: bool,
-    /// The runs before the refusal.
-    runs: Option<usize>,
-    /// Where the first page is then.
-    frame: Option<u32>,
-}
-
-/// Makes the batch on a new system while the allocation of this number is refused.
-fn make_attempt(
-    rt: &(impl Threads + Wait + Sync),
-    heap: Heap<'_>,
-    number: u64,
-) -> Result<Attempt, CallError> {
-    let mut system = three_pages(heap)?;
-    heap.refuse(number);
-    let runs = runs_made(there_and_back(rt, &mut system));
-    let met = heap.asked_since(number) >= number;
-    heap.refuse(0);
-    let frame = first_frame(&system)?;
-    Ok(Attempt { met, runs, frame })
-}
-
-/// Whether the page is where it is after so many runs: it comes back to frame 3, which was free before frame 0.
-fn is_there(tried: Attempt) -> bool {
-    match tried.runs {
-        Some(0) => tried.frame == Some(0),
-        Some(1) => tried.frame == Some(4),
-        Some(_) => false,
-        None => tried.frame == Some(3),
-    }
-}
-
-/// Each allocation of a batch of two runs is refused in turn: the call tells how many runs were made, and the pages are
-/// where these leave them.
-#[test]
-fn refused_batches_tell_their_runs(rt: HostRuntime) -> Result<(), Fail> {
-    let heap = Refusing::new(rt.alloc());
-    let mut before_the_first = false;
-    let mut before_the_second = false;
-    let mut whole = false;
-    for number in 1..1000u64 {
-        let tried = make_attempt(&rt, &heap, number)?;
-        assert!(rt; is_there(tried), "allocation {number}: {tried:?}");
-        before_the_first |= tried.runs == Some(0);
-        before_the_second |= tried.runs == Some(1);
-        if !tried.met {
-            whole = tried.runs.is_none();
-            break;
-        }
-    }
-    assert!(rt; before_the_first && before_the_second && whole);
-    Ok(())
-}
-
-/// Two nodes of four frames, process 1 with three pages on node 0, and runs of at most one entry.
-fn one_by_one(heap: Heap<'_>) -> Result<System<Heap<'_>>, CallError> {
-    let geometry = layout(heap)?;
-    let mut system = System::with_run_limit(heap, geometry, 2, 1)?;
-    begin(&mut system, Pid::new(1), 0, 3)?;
-    Ok(system)
-}
-
-/// Moves the first two pages to node 1, while the allocation of this number is refused.
-fn move_two(
-    rt: &(impl Threads + Wait + Sync),
-    heap: Heap<'_>,
-    number: u64,
-) -> Result<Attempt, CallError> {
-    let mut system = one_by_one(heap)?;
-    let pages = [0x10000u64, 0x11000];
-    let none: [InFlight<Heap<'_>>; 0] = [];
-    heap.refuse(number);
-    let runs = runs_made(system.move_pages(
-        rt,
-        Pid::new(1),
-        Pid::new(0),
-        &pages,
-        &[1u32; 2],
-        2,
-        &none,
-        &Through,
-    ));
-    let met = heap.asked_since(number) >= number;
-    heap.refuse(0);
-    let frame = first_frame(&system)?;
-    Ok(Attempt { met, runs, frame })
-}
-
-/// Under a limit of one entry, two entries for one node are two runs, and a refusal of memory tells how many were made.
-#[test]
-fn limited_batches_tell_their_runs(rt: HostRuntime) -> Result<(), Fail> {
-    let heap = Refusing::new(rt.alloc());
-    let mut between = false;
-    let mut whole = false;
-    for number in 1..1000u64 {
-        let tried = move_two(&rt, &heap, number)?;
-        let there = if tried.runs == Some(0) { 0u32 } else { 4 };
-        assert!(rt;
-            tried.frame == Some(there),
-            "allocation {number}: {tried:?}"
-        );
-        between |= tried.runs == Some(1);
-        if !tried.met {
-            whole = tried.runs.is_none();
-            break;
-        }
-    }
-    assert!(rt; between && whole);
-    Ok(())
 }
 
 /// Two nodes of four frames, process 1 with four pages on node 0, and process 2 with two on node 1.

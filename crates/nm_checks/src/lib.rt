@@ -6,17 +6,11 @@ mod areas;
 #[cfg(test)]
 mod batches;
 #[cfg(test)]
-mod bindings;
-#[cfg(test)]
-mod flights;
-#[cfg(test)]
 mod gates;
 #[cfg(test)]
 mod limits;
 #[cfg(test)]
 mod machine;
-#[cfg(test)]
-mod migrations;
 #[cfg(test)]
 mod plain;
 #[cfg(test)]
@@ -31,3 +25,5 @@ mod same_calls;
 mod tables;
 #[cfg(test)]
 mod traces;
+#[cfg(test)]
+mod trails;
