@@ -468,6 +468,39 @@ fn refused_nodes_stay_online(rt: HostRuntime) -> Result<(), Fail> {
     Ok(())
 }
 
+/// The same pages, and none is pinned: the node goes offline, and a batch may not name it then.
+const GONE: &str =
+    "{\"version\":1,\"machine\":{\"nodes\":[4,1,4],\"distance\":[[10,20,20],[20,10,20],[20,20,10]]},\"steps\":[
+{\"op\":\"spawn\",\"pid\":1,\"uid\":100,\"home\":0,\"allowed\":[0,1,2]},
+{\"op\":\"map\",\"pid\":1,\"addr\":65536,\"pages\":3},
+{\"op\":\"write\",\"pid\":1,\"addr\":65536,\"data\":\"61\"},
+{\"op\":\"write\",\"pid\":1,\"addr\":69632,\"data\":\"62\"},
+{\"op\":\"write\",\"pid\":1,\"addr\":73728,\"data\":\"63\"},
+{\"op\":\"offline\",\"node\":0},
+{\"op\":\"pagemap\",\"pid\":1},
+{\"op\":\"free\",\"node\":0},
+{\"op\":\"free\",\"node\":1},
+{\"op\":\"free\",\"node\":2},
+{\"op\":\"vmstat\"},
+{\"op\":\"read\",\"pid\":1,\"addr\":69632,\"len\":1},
+{\"op\":\"move_pages\",\"caller\":1,\"pid\":0,\"pages\":[69632],\"nodes\":[0],\"flags\":2}]}";
+
+const GONE_TOLD: [&str; 3] = [
+    "| | 4 5 6 | 3 0 1 2 | | 7 8 | 3 2 | [98] | Refused(Enodev) | true",
+    "| HostMemory { runs: 0, policy_set: false } | 0 1 2 | 3 | 4 | 5 6 7 8 | 0 0 | [98] | 0: [0] | true
+| | 4 5 6 | 3 0 1 2 | | 7 8 | 3 2 | [98] | Refused(Enodev) | true",
+    "| HostMemory { runs: 1, policy_set: false } | 4 1 2 | 3 0 | | 5 6 7 8 | 1 2 | [98] | 0: [0] | true
+| | 4 5 6 | 3 0 1 2 | | 7 8 | 3 4 | [98] | Refused(Enodev) | true",
+];
+
+/// A node that is to go offline is online where a run was refused, and offline once the others are made.
+#[test]
+fn refused_nodes_go_later(rt: HostRuntime) -> Result<(), Fail> {
+    let seen = refuse(&rt, rt.alloc(), GONE, 5, GONE_TOLD.as_slice())?;
+    assert_eq!(rt; seen, 7u32);
+    Ok(())
+}
+
 /// A page that goes to node 1, and meanwhile a read of it, a read of the second page and a write to the fifth, which has
 /// no frame yet.
 const IN_FLIGHT: &str =
