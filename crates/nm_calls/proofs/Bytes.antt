@@ -1,13 +1,17 @@
--- A call that moves pages, takes a node away or back, or looks changes no byte of any process but by writes in flight.
-use Rattle.std.proofs.Common.{◌≡◌, ℕ, zero, suc, ◌+◌, Bool, true, false, List, [], ◌∷◌, take, refl, sym, ap, ◌∙◌}
+-- A call that neither writes nor lets areas come or go changes no byte of any process but by writes in flight.
+use Rattle.std.proofs.Common.{◌≡◌, ℕ, zero, suc, ◌+◌, ◌-◌, ◌/◌, Bool, true, false, List, [], ◌∷◌, take, refl, sym, ap, ◌∙◌}
 use Rattle.std.specs.Prelude.{Option, Some, None}
 use Rattle.nm_types.specs.declared.area.Area.{Area}
 use Rattle.nm_types.specs.declared.errno.Errno.{Errno}
+use Rattle.nm_types.specs.declared.sight.Sight.{Sight}
+use Rattle.nm_types.specs.declared.sight.Sight.TheVariants.{ZeroPage, Sees}
 use Rattle.nm_types.specs.Map.{Map}
 use Rattle.nm_types.specs.State.{State}
 use Rattle.nm_runs.specs.Cut.{Stretch}
+use Rattle.nm_runs.specs.Seen.{sight_at}
 use Rattle.nm_engine.specs.Memory.{mem}
 use Rattle.nm_engine.specs.Touch.{Access, AccessAnswer}
+use Rattle.nm_engine.specs.Effect.{with_pins}
 use Rattle.nm_engine.specs.Run.{Ran}
 use Rattle.nm_engine.specs.Batch.{runs_from}
 use Rattle.nm_engine.specs.Sound.{IsSound}
@@ -15,12 +19,13 @@ use Rattle.nm_engine.specs.Laws.{runs_written}
 use Rattle.nm_engine.proofs.OneByOne.Memory.{runs_keep}
 use Rattle.nm_engine.proofs.Seen.Rewritten.{runs_write}
 use Rattle.nm_engine.proofs.Soundness.Policed.{policy_keeps}
+use Rattle.nm_engine.proofs.Soundness.Touched.{reading_keeps}
 use Rattle.nm_calls.specs.Calls.{Call, Spawn, MapPages, Attach, Unmap, Exit, Pin, Unpin, ReadBytes, WriteBytes, MovePages, MigratePages, Query, FreeList, Pagemap, Vmstat, NumaMaps, Mbind, Offline, Online}
 use Rattle.nm_calls.specs.Binding.{binding, policed}
 use Rattle.nm_calls.specs.Offlining.{still_on}
 use Rattle.nm_calls.specs.Systems.{SystemState}
 use Rattle.nm_calls.specs.Outcome.{refused, start, started, runs_asked, runs_unless, accesses_asked, emptied, ended, unless}
-use Rattle.nm_calls.specs.Laws.{keeps_bytes, CallsKeepMemory, TrailKeepsMemory, WithoutAccessesNone}
+use Rattle.nm_calls.specs.Laws.{writes_or_maps, CallsKeepMemory, TrailKeepsMemory, WithoutAccessesNone}
 use Rattle.nm_calls.proofs.Trails.{trail_is_after_runs}
 
 -- where no access is made, none is written
@@ -41,16 +46,16 @@ module _ (y : SystemState) (q at : ℕ) where
   unfolding Writes
   quiet s runs same = runs_keep 0 s runs q at ∙ (same ∙ sym (none_written y.state.areas q at (mem y.state q at) 0 (runs_from 0 s runs []).answers))
 
-  runs_kept : (call : Call) (runs : List Stretch) → IsSound y.state → keeps_bytes call ≡ true → Writes (start y call) runs (accesses_asked call)
+  runs_kept : (call : Call) (runs : List Stretch) → IsSound y.state → writes_or_maps call ≡ false → Writes (start y call) runs (accesses_asked call)
   unfolding Writes start accesses_asked
-  runs_kept (Spawn pid uid home allowed privileged) runs h k = cc
+  runs_kept (Spawn pid uid home allowed privileged) runs h k = quiet y.state runs refl
   runs_kept (MapPages pid addr pages shared) runs h k = cc
   runs_kept (Attach pid addr segment offset pages) runs h k = cc
   runs_kept (Unmap pid addr pages) runs h k = cc
   runs_kept (Exit pid) runs h k = cc
-  runs_kept (Pin pid addr) runs h k = cc
-  runs_kept (Unpin pid addr) runs h k = cc
-  runs_kept (ReadBytes pid addr len) runs h k = cc
+  runs_kept (Pin pid addr) runs h k = quiet y.state runs refl
+  runs_kept (Unpin pid addr) runs h k = quiet y.state runs refl
+  runs_kept (ReadBytes pid addr len) runs h k = quiet y.state runs refl
   runs_kept (WriteBytes pid addr bytes) runs h k = cc
   runs_kept (MovePages caller pid pages nodes flags during) runs h k = runs_write y.state runs during q at h
   runs_kept (MigratePages caller pid old new) runs h k = quiet y.state runs refl
@@ -72,35 +77,40 @@ module _ (y : SystemState) (q at : ℕ) where
   emptied_kept node s true = refl
   emptied_kept node s false = refl
 
-  -- what comes behind the runs changes no byte
-  ended_kept : (call : Call) → keeps_bytes call ≡ true → mem (ended y call (made_of call)).system.state q at ≡ mem (made_of call).state q at
-  unfolding made_of start runs_asked accesses_asked ended
-  ended_kept (Spawn pid uid home allowed privileged) k = cc
-  ended_kept (MapPages pid addr pages shared) k = cc
-  ended_kept (Attach pid addr segment offset pages) k = cc
-  ended_kept (Unmap pid addr pages) k = cc
-  ended_kept (Exit pid) k = cc
-  ended_kept (Pin pid addr) k = cc
-  ended_kept (Unpin pid addr) k = cc
-  ended_kept (ReadBytes pid addr len) k = cc
-  ended_kept (WriteBytes pid addr bytes) k = cc
-  ended_kept (MovePages caller pid pages nodes flags during) k = refl
-  ended_kept (MigratePages caller pid old new) k = refl
-  ended_kept (Query caller pid pages flags) k = refl
-  ended_kept (Mbind caller addr len mode nodes flags) k = refl
-  ended_kept (Offline node) k = let made = made_of (Offline node) in emptied_kept node made.state (still_on y.state made.state node)
-  ended_kept (Online node) k = refl
-  ended_kept (FreeList node) k = refl
-  ended_kept (Pagemap pid) k = refl
-  ended_kept Vmstat k = refl
-  ended_kept (NumaMaps pid) k = refl
+  pins_kept : (s : State) (f : ℕ → ℕ) (o : Option Sight) → mem (with_pins s o f) q at ≡ mem s q at
+  pins_kept s f None = refl
+  pins_kept s f (Some ZeroPage) = refl
+  pins_kept s f (Some (Sees page)) = refl
 
-  call_kept : (call : Call) (o : Option Errno) → IsSound y.state → keeps_bytes call ≡ true → mem (unless o y (ended y call (made_of call))).system.state q at ≡ runs_written y.state.areas q at (mem y.state q at) (accesses_asked call) 0 (runs_from 0 (started o y.state (start y call)) (runs_unless o (runs_asked y call)) (accesses_asked call)).answers
+  -- what comes behind the runs changes no byte
+  ended_kept : (call : Call) → IsSound y.state → writes_or_maps call ≡ false → mem (ended y call (made_of call)).system.state q at ≡ mem (made_of call).state q at
+  unfolding made_of start runs_asked accesses_asked ended
+  ended_kept (Spawn pid uid home allowed privileged) h k = refl
+  ended_kept (MapPages pid addr pages shared) h k = cc
+  ended_kept (Attach pid addr segment offset pages) h k = cc
+  ended_kept (Unmap pid addr pages) h k = cc
+  ended_kept (Exit pid) h k = cc
+  ended_kept (Pin pid addr) h k = pins_kept y.state (λ n. n + 1) (sight_at y.state pid (addr / 4096))
+  ended_kept (Unpin pid addr) h k = pins_kept y.state (λ n. n - 1) (sight_at y.state pid (addr / 4096))
+  ended_kept (ReadBytes pid addr len) h k = reading_keeps y.state [] pid addr len h q at
+  ended_kept (WriteBytes pid addr bytes) h k = cc
+  ended_kept (MovePages caller pid pages nodes flags during) h k = refl
+  ended_kept (MigratePages caller pid old new) h k = refl
+  ended_kept (Query caller pid pages flags) h k = refl
+  ended_kept (Mbind caller addr len mode nodes flags) h k = refl
+  ended_kept (Offline node) h k = let made = made_of (Offline node) in emptied_kept node made.state (still_on y.state made.state node)
+  ended_kept (Online node) h k = refl
+  ended_kept (FreeList node) h k = refl
+  ended_kept (Pagemap pid) h k = refl
+  ended_kept Vmstat h k = refl
+  ended_kept (NumaMaps pid) h k = refl
+
+  call_kept : (call : Call) (o : Option Errno) → IsSound y.state → writes_or_maps call ≡ false → mem (unless o y (ended y call (made_of call))).system.state q at ≡ runs_written y.state.areas q at (mem y.state q at) (accesses_asked call) 0 (runs_from 0 (started o y.state (start y call)) (runs_unless o (runs_asked y call)) (accesses_asked call)).answers
   unfolding Writes made_of
   call_kept call (Some e) h k = refl
-  call_kept call None h k = ended_kept call k ∙ runs_kept call (runs_asked y call) h k
+  call_kept call None h k = ended_kept call h k ∙ runs_kept call (runs_asked y call) h k
 
-  way_kept : (call : Call) (n : ℕ) (o : Option Errno) (runs : List Stretch) → IsSound y.state → keeps_bytes call ≡ true → mem (runs_from 0 (started o y.state (start y call)) (take n (runs_unless o runs)) (accesses_asked call)).state q at ≡ runs_written y.state.areas q at (mem y.state q at) (accesses_asked call) 0 (runs_from 0 (started o y.state (start y call)) (take n (runs_unless o runs)) (accesses_asked call)).answers
+  way_kept : (call : Call) (n : ℕ) (o : Option Errno) (runs : List Stretch) → IsSound y.state → writes_or_maps call ≡ false → mem (runs_from 0 (started o y.state (start y call)) (take n (runs_unless o runs)) (accesses_asked call)).state q at ≡ runs_written y.state.areas q at (mem y.state q at) (accesses_asked call) 0 (runs_from 0 (started o y.state (start y call)) (take n (runs_unless o runs)) (accesses_asked call)).answers
   unfolding Writes
   way_kept call n (Some e) runs h k = ap (λ rs. mem (runs_from 0 y.state rs (accesses_asked call)).state q at) (none_taken n) ∙ sym (ap (λ rs. runs_written y.state.areas q at (mem y.state q at) (accesses_asked call) 0 (runs_from 0 y.state rs (accesses_asked call)).answers) (none_taken n))
   way_kept call n None runs h k = runs_kept call (take n runs) h k

@@ -9,7 +9,7 @@ use Rattle.nm_engine.specs.Touch.{Access, AccessAnswer}
 use Rattle.nm_engine.specs.Batch.{runs_from}
 use Rattle.nm_engine.specs.Sound.{IsSound}
 use Rattle.nm_engine.specs.Laws.{runs_written}
-use Rattle.nm_calls.specs.Calls.{Call, MovePages, MigratePages, Query, Mbind, Offline, Online, FreeList, Pagemap, Vmstat, NumaMaps, Refusal, Statuses}
+use Rattle.nm_calls.specs.Calls.{Call, MapPages, Attach, Unmap, Exit, WriteBytes, MovePages, Mbind, Offline, Refusal, Statuses}
 use Rattle.nm_calls.specs.During.{runs_named, in_order, by_place}
 use Rattle.nm_calls.specs.Systems.{SystemState}
 use Rattle.nm_calls.specs.Outcome.{refused, start, started, outcome, runs_of, accesses_asked, trail}
@@ -50,19 +50,14 @@ EachAccessIsAnswered =
     AllByRecursion (λ run. run < length (runs_of y call)) (runs_named during) →
     (outcome y call).answer ≡ Statuses failed statuses answers → length answers ≡ length during
 
--- whether a call writes nothing and changes no area but its policy: it moves pages, takes a node away or back, or looks
-abbrev pub keeps_bytes : Call → Bool
-keeps_bytes (MovePages caller pid pages nodes flags during) = true
-keeps_bytes (MigratePages caller pid old new) = true
-keeps_bytes (Query caller pid pages flags) = true
-keeps_bytes (Mbind caller addr len mode nodes flags) = true
-keeps_bytes (Offline node) = true
-keeps_bytes (Online node) = true
-keeps_bytes (FreeList node) = true
-keeps_bytes (Pagemap pid) = true
-keeps_bytes Vmstat = true
-keeps_bytes (NumaMaps pid) = true
-keeps_bytes call = false
+-- whether a call may write bytes of its own, or lets areas come or go
+abbrev pub writes_or_maps : Call → Bool
+writes_or_maps (MapPages pid addr pages shared) = true
+writes_or_maps (Attach pid addr segment offset pages) = true
+writes_or_maps (Unmap pid addr pages) = true
+writes_or_maps (Exit pid) = true
+writes_or_maps (WriteBytes pid addr bytes) = true
+writes_or_maps call = false
 
 -- the bytes that a process has after runs of a call: each is that of the last write in flight which is done there, or else
 -- what it was before the call
@@ -71,16 +66,16 @@ byte_after y call runs q at =
     let made = runs_from 0 (started (refused y.state call) y.state (start y call)) runs (accesses_asked call) in
     runs_written y.state.areas q at (mem y.state q at) (accesses_asked call) 0 made.answers
 
--- such a call changes no byte of any process but by writes in flight ..
+-- every other call changes no byte of any process but by writes in flight ..
 abbrev pub CallsKeepMemory : Type 0
 CallsKeepMemory =
-    (y : SystemState) (call : Call) (q at : ℕ) → IsSound y.state → keeps_bytes call ≡ true →
+    (y : SystemState) (call : Call) (q at : ℕ) → IsSound y.state → writes_or_maps call ≡ false →
     mem (outcome y call).system.state q at ≡ byte_after y call (runs_of y call) q at
 
 -- .. also on its way, where the host may leave it
 abbrev pub TrailKeepsMemory : Type 0
 TrailKeepsMemory =
-    (y : SystemState) (call : Call) (n : ℕ) (d : State) (q at : ℕ) → IsSound y.state → keeps_bytes call ≡ true →
+    (y : SystemState) (call : Call) (n : ℕ) (d : State) (q at : ℕ) → IsSound y.state → writes_or_maps call ≡ false →
     n ≤ length (runs_of y call) →
     mem (slice_index_or (trail y call) n d) q at ≡ byte_after y call (take n (runs_of y call)) q at
 

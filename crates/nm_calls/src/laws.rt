@@ -20,9 +20,9 @@ pub fn trail_is_after_runs()
     ensures { TrailIsAfterRuns }
 {}
 
-/// No call that moves pages, takes a node away or back, or looks changes a byte that a process has, at its end or where the
-/// host leaves it without memory. Where accesses are made while its pages move, each byte is that of the last write which was
-/// done there, or else what it was before.
+/// No call but a write, and those by which areas come or go, changes a byte that a process has, at its end or where the host
+/// leaves it without memory. Where accesses are made while pages move, each byte is that of the last write which was done
+/// there, or else what it was before.
 pub fn calls_keep_memory()
     ensures calls { CallsKeepMemory }
     ensures trail { TrailKeepsMemory }
