@@ -4,8 +4,6 @@
 #[cfg(test)]
 mod areas;
 #[cfg(test)]
-mod batches;
-#[cfg(test)]
 mod gates;
 #[cfg(test)]
 mod limits;
@@ -13,8 +11,6 @@ mod limits;
 mod machine;
 #[cfg(test)]
 mod plain;
-#[cfg(test)]
-mod policies;
 #[cfg(test)]
 mod refusals;
 #[cfg(test)]

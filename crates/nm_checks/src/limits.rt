@@ -1,11 +1,28 @@
 //! Limits that take many calls to reach.
 
-use crate::batches::three_pages;
-use crate::traces::Heap;
+use crate::machine::both_nodes;
+use crate::traces::{Heap, two_nodes};
 use nm_calls::{CallError, System};
 use nm_refusing::Refusing;
-use nm_types::{Errno, Pid};
+use nm_types::{Errno, NodeId, Pid};
 use std::test::Fail;
+
+/// Makes process 1 on node 0, with three pages from 0x10000 on, and writes each of them.
+fn begin(system: &mut System<Heap<'_>>) -> Result<(), CallError> {
+    system.spawn(Pid::new(1), 100, NodeId::new(0), both_nodes(), false)?;
+    system.map(Pid::new(1), 0x10000, 3, false)?;
+    for addr in [0x10000u64, 0x11000, 0x12000] {
+        system.write(Pid::new(1), addr, [0x61u8].as_slice())?;
+    }
+    Ok(())
+}
+
+/// Two nodes of four frames, and process 1 with three pages in the frames 0, 1 and 2.
+fn three_pages(heap: Heap<'_>) -> Result<System<Heap<'_>>, CallError> {
+    let mut system = two_nodes(heap)?;
+    begin(&mut system)?;
+    Ok(system)
+}
 
 /// Pins the first page so many times. Gives how many of them were done.
 fn pin_often(system: &mut System<Heap<'_>>, times: u32) -> u32 {

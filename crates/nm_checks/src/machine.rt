@@ -1,8 +1,8 @@
 //! A machine of two nodes, and what no trace tells of one.
 
-use nm_engine::{Entry, Machine, MachineError, ProcessInfo, Totals};
+use nm_engine::{Machine, MachineError, ProcessInfo};
 use nm_refusing::Refusing;
-use nm_types::{Errno, FrameId, Geometry, NodeId, NodeMask, Pid};
+use nm_types::{Errno, Geometry, NodeId, NodeMask, Pid};
 use std::alloc::{AllocError, Global};
 use std::test::Fail;
 
@@ -29,21 +29,9 @@ pub(crate) fn both_nodes() -> NodeMask {
 
 /// Makes process 1 of user 100 on node 0, which may use both nodes, with five pages from 0x10000 on. Gives their
 /// segment.
-pub(crate) fn begin(machine: &mut Machine<Heap<'_>>) -> Result<u32, MachineError> {
+fn begin(machine: &mut Machine<Heap<'_>>) -> Result<u32, MachineError> {
     machine.spawn(Pid::new(1), 100, NodeId::new(0), both_nodes(), false)?;
     machine.map(Pid::new(1), 0x10000, 5, false)
-}
-
-/// Whether process 1 has its pages, from the first on, in these frames and no further ones.
-pub(crate) fn are_in(machine: &Machine<Heap<'_>>, frames: &[u32]) -> Result<bool, MachineError> {
-    let entries = machine.entries(Pid::new(1))?;
-    Ok(
-        entries.iter().map(|(_, entry)| *entry).eq(
-            frames
-                .iter()
-                .map(|frame| Entry::Frame(FrameId::new(*frame))),
-        ),
-    )
 }
 
 /// Whether process 1 is there as it was made.
@@ -66,19 +54,5 @@ fn processes_are_known(rt: HostRuntime) -> Result<(), Fail> {
     assert!(rt; machine.process(Pid::new(2)).is_none());
     let refused = machine.map(Pid::new(2), 0x10000, 1, false);
     assert!(rt; refused.err() == Some(MachineError::Refused(Errno::Esrch)));
-    Ok(())
-}
-
-#[test]
-fn machines_begin_sound(rt: HostRuntime) -> Result<(), Fail> {
-    let heap = Refusing::new(rt.alloc());
-    let machine = two_nodes(&heap)?;
-    let none = Totals {
-        moved: 0,
-        failed: 0,
-    };
-    assert!(rt; machine.totals() == none);
-    assert!(rt; machine.is_online(NodeId::new(1)) && !machine.is_online(NodeId::new(2)));
-    assert!(rt; machine.audit()?);
     Ok(())
 }
