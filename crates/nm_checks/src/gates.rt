@@ -9,15 +9,18 @@ use std::sync::Wait;
 use std::sync::atomic::{AtomicBool, AtomicU64, Ordering};
 use std::thread::{Threads, yield_now};
 
-/// Three pages of one process, written on node 0, moved to node 1 in one run and read there.
+/// Three pages of one process, written on node 0, moved to node 1 in one run and read there. Meanwhile one of them is read,
+/// and a fourth page gets its first byte.
 const TRACE: &str =
     "{\"version\":1,\"machine\":{\"nodes\":[4,4],\"distance\":[[10,20],[20,10]]},\"steps\":[
 {\"op\":\"spawn\",\"pid\":1,\"uid\":100,\"home\":0,\"allowed\":[0,1]},
-{\"op\":\"map\",\"pid\":1,\"addr\":65536,\"pages\":3},
+{\"op\":\"map\",\"pid\":1,\"addr\":65536,\"pages\":4},
 {\"op\":\"write\",\"pid\":1,\"addr\":65536,\"data\":\"61\"},
 {\"op\":\"write\",\"pid\":1,\"addr\":69632,\"data\":\"62\"},
 {\"op\":\"write\",\"pid\":1,\"addr\":73728,\"data\":\"63\"},
-{\"op\":\"move_pages\",\"caller\":1,\"pid\":0,\"pages\":[65536,69632,73728],\"nodes\":[1,1,1],\"flags\":2},
+{\"op\":\"move_pages\",\"caller\":1,\"pid\":0,\"pages\":[65536,69632,73728],\"nodes\":[1,1,1],\"flags\":2,\"during\":[
+{\"run\":0,\"op\":\"read\",\"pid\":1,\"addr\":65536,\"len\":1},
+{\"run\":0,\"op\":\"write\",\"pid\":1,\"addr\":77824,\"data\":\"64\"}]},
 {\"op\":\"free\",\"node\":0},
 {\"op\":\"free\",\"node\":1},
 {\"op\":\"pagemap\",\"pid\":1},
@@ -29,9 +32,11 @@ const REPORT: &str = "0 spawn ok
 3 write ok
 4 write ok
 5 move_pages 0: 1 1 1
-6 free 4: 3 0 1 2
+5.0 read held
+5.1 write ok
+6 free 3: 0 1 2
 7 free 1: 7
-8 pagemap 3: 00010000=4 00011000=5 00012000=6
+8 pagemap 4: 00010000=4 00011000=5 00012000=6 00013000=3
 9 read 6200
 ";
 
@@ -113,7 +118,8 @@ fn reports_right<G: Gate + Sync>(
     played.is_ok() && written.as_slice() == REPORT.as_bytes()
 }
 
-/// Two workers meet while a trace moves its pages: no machine that copies by itself gets both to the gate.
+/// Two workers meet while a trace moves its pages, with accesses in flight: no machine that copies by itself gets both to
+/// the gate.
 #[test]
 fn workers_meet_in_a_trace(rt: HostRuntime) {
     let gate = Meeting::new();
