@@ -97,7 +97,7 @@ fn refused_runs_write_a_front(rt: HostRuntime) -> Result<(), Fail> {
 }
 
 /// Two nodes of four frames, at distance 20.
-pub(crate) fn layout(heap: Heap<'_>) -> Result<Geometry<Heap<'_>>, AllocError> {
+fn layout(heap: Heap<'_>) -> Result<Geometry<Heap<'_>>, AllocError> {
     let near = vec![in heap; 10u8, 20u8]?;
     let far = vec![in heap; 20u8, 10u8]?;
     match Geometry::new(vec![in heap; 4u32, 4u32]?, vec![in heap; near, far]?) {

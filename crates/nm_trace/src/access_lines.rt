@@ -78,7 +78,7 @@ fn access_line<A: Allocator + Copy>(
     Ok(line)
 }
 
-/// Puts the lines of the accesses of step k that have an answer, one after another.
+/// Puts the lines of the accesses of step k, one after another, each with the answer at its place.
 pub(crate) fn push_accesses<A: Allocator + Copy + Send + Sync>(
     alloc: A,
     text: &mut String<A>,
