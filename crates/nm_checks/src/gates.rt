@@ -85,6 +85,30 @@ impl Gate for Meeting {
     }
 }
 
+/// Holds worker 1 at its first page until the caller has come to an access in flight, and the caller there until worker 1
+/// has come, each for at most 2^24 turns.
+#[derive(Drop)]
+struct AccessMeeting(Meeting);
+
+impl AccessMeeting {
+    /// The bit of the caller at an access, and that of worker 1.
+    const CALLER: usize = 0;
+
+    const OTHER: usize = 1;
+}
+
+impl Gate for AccessMeeting {
+    fn pass(&self, worker: usize, _ticket: u64) {
+        if worker == AccessMeeting::OTHER {
+            self.0.pass(AccessMeeting::OTHER, 0);
+        }
+    }
+
+    fn access(&self, _number: usize) {
+        self.0.pass(AccessMeeting::CALLER, 0);
+    }
+}
+
 /// Counts the caller's passes, and is spoilt by any other worker's.
 #[derive(Drop)]
 struct Alone(AtomicU64);
@@ -124,6 +148,14 @@ fn reports_right<G: Gate + Sync>(
 fn workers_meet_in_a_trace(rt: HostRuntime) {
     let gate = Meeting::new();
     assert!(rt; reports_right(&rt, rt.alloc(), 2, &gate) && gate.met());
+}
+
+/// A worker copies while the caller makes the accesses of a run: a machine that makes them before it starts the worker, or
+/// after it has joined it, never gets both to the gate.
+#[test]
+fn accesses_are_made_while_a_worker_copies(rt: HostRuntime) {
+    let gate = AccessMeeting(Meeting::new());
+    assert!(rt; reports_right(&rt, rt.alloc(), 2, &gate) && gate.0.met());
 }
 
 /// With one worker the caller copies alone: three pages, three passes.

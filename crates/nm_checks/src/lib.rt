@@ -2,6 +2,8 @@
 #![tactic(auto)]
 
 #[cfg(test)]
+mod again;
+#[cfg(test)]
 mod areas;
 #[cfg(test)]
 mod gates;
@@ -11,8 +13,6 @@ mod limits;
 mod machine;
 #[cfg(test)]
 mod plain;
-#[cfg(test)]
-mod refusals;
 #[cfg(test)]
 mod rmap;
 #[cfg(test)]

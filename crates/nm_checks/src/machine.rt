@@ -10,7 +10,7 @@ use std::test::Fail;
 pub(crate) type Heap<'a> = &'a Refusing<Global>;
 
 /// Two nodes of four frames, at distance 20.
-pub(crate) fn two_nodes(heap: Heap<'_>) -> Result<Machine<Heap<'_>>, AllocError> {
+fn two_nodes(heap: Heap<'_>) -> Result<Machine<Heap<'_>>, AllocError> {
     let near = vec![in heap; 10u8, 20u8]?;
     let far = vec![in heap; 20u8, 10u8]?;
     match Geometry::new(vec![in heap; 4u32, 4u32]?, vec![in heap; near, far]?) {
@@ -54,5 +54,29 @@ fn processes_are_known(rt: HostRuntime) -> Result<(), Fail> {
     assert!(rt; machine.process(Pid::new(2)).is_none());
     let refused = machine.map(Pid::new(2), 0x10000, 1, false);
     assert!(rt; refused.err() == Some(MachineError::Refused(Errno::Esrch)));
+    Ok(())
+}
+
+/// Whether each allocation of a new machine, refused in turn, makes it fail. The last try, which none is refused, gives
+/// one.
+fn refuse_machines(heap: Heap<'_>) -> bool {
+    for number in 1..1000u64 {
+        heap.refuse(number);
+        let made = two_nodes(heap).is_ok();
+        if heap.asked_since(number) < number {
+            return made;
+        }
+        if made {
+            return false;
+        }
+    }
+    false
+}
+
+/// Each allocation of a new machine is refused in turn.
+#[test]
+fn refused_machines(rt: HostRuntime) -> Result<(), Fail> {
+    let heap = Refusing::new(rt.alloc());
+    assert!(rt; refuse_machines(&heap));
     Ok(())
 }

@@ -92,7 +92,7 @@ fn make<'a>(
 }
 
 /// Makes so many calls, from one of them on.
-fn make_some<'a>(
+pub(crate) fn make_some<'a>(
     rt: &(impl Threads + Wait + Sync),
     system: &mut System<Heap<'a>>,
     calls: &[Call<Heap<'a>>],
@@ -107,7 +107,7 @@ fn make_some<'a>(
 }
 
 /// Makes the calls from this number on, and puts whether the system is sound.
-fn make_rest<'a>(
+pub(crate) fn make_rest<'a>(
     rt: &(impl Threads + Wait + Sync),
     system: &mut System<Heap<'a>>,
     calls: &[Call<Heap<'a>>],
@@ -117,6 +117,21 @@ fn make_rest<'a>(
     make_some(rt, system, calls, from, calls.len(), text)?;
     let sound = system.audit()?;
     write!(text, "| {sound}")
+}
+
+/// A system on which the calls of a trace in front of this number were made. The text is empty then.
+pub(crate) fn begin<'a>(
+    rt: &(impl Threads + Wait + Sync),
+    heap: Heap<'a>,
+    trace: &Trace<Heap<'a>>,
+    asked: usize,
+    text: &mut String,
+) -> Result<System<Heap<'a>>, AllocError> {
+    let geometry = trace.geometry.clone()?;
+    let mut system = System::with_run_limit(heap, geometry, 2, trace.run_limit)?;
+    make_some(rt, &mut system, trace.calls.as_slice(), 0, asked, text)?;
+    text.clear();
+    Ok(system)
 }
 
 /// Makes the call of one number while its allocation of another is refused, and the rest with memory. Tells whether it came
@@ -164,11 +179,8 @@ fn attempt<'a>(
     number: u64,
     text: &mut String,
 ) -> Result<bool, AllocError> {
-    let geometry = trace.geometry.clone()?;
-    let mut system = System::with_run_limit(heap, geometry, 2, trace.run_limit)?;
+    let mut system = begin(rt, heap, trace, asked, text)?;
     let calls = trace.calls.as_slice();
-    make_some(rt, &mut system, calls, 0, asked, text)?;
-    text.clear();
     let met = make_refused(rt, heap, &mut system, calls, asked, number, text)?;
     make_again(rt, &mut system, calls, asked, text)?;
     Ok(met)

@@ -1,9 +1,10 @@
-//! What each worker passes before it copies.
+//! What each worker passes before it copies, and the caller before an access in flight.
 
 /// From how many jobs on an open gate lets a second worker start.
 const OPEN_FROM: usize = 1024;
 
-/// Is passed by each worker between its draw of a job and the copying of it. What a gate does changes no job.
+/// Is passed by each worker between its draw of a job and the copying of it, and by the caller before each access in
+/// flight. What a gate does changes no job.
 pub trait Gate {
     /// The worker of this number drew the job of this ticket. It copies when this returns.
     fn pass(&self, worker: usize, ticket: u64);
@@ -12,6 +13,10 @@ pub trait Gate {
     fn worth_from(&self) -> usize {
         1
     }
+
+    /// The caller, whose `work` runs beside the workers, comes to the access in flight of this number, counted from 0 in
+    /// each run. It is made when this returns.
+    fn access(&self, _number: usize) {}
 }
 
 /// Lets each worker through at once. A second worker starts from 1,024 jobs on: the start and the end of a thread take as

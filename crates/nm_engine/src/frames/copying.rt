@@ -67,7 +67,7 @@ pub(super) fn copy_pages<
             requires space { vec_len dues ≤ vec_capacity answers }
             ensures store { result.0 ≡ (all_done spaces.entry.now.place store (map (due_shown accesses.entry.now) dues.items)).store }
             ensures answers { map answer_shown result.1.items ≡ (all_done spaces.entry.now.place store (map (due_shown accesses.entry.now) dues.items)).answers }
-        { finish(store, spaces, accesses, dues, answers) },
+        { finish(store, spaces, accesses, dues, answers, gate) },
     );
     *frames = store;
     put_back_each(frames, &mut copied);
@@ -112,13 +112,14 @@ fn put_back_each<A: Allocator + Copy>(frames: &mut FrameStore<A>, jobs: &mut Vec
 }
 
 /// Does what is left to do for accesses, in their order, on the bytes of the frames that are home. The answers go into a
-/// list that has room for them.
-fn finish<A: Allocator + Copy>(
+/// list that has room for them. Each access passes the gate first.
+fn finish<A: Allocator + Copy, G: Gate>(
     mut store: FrameStore<A>,
     spaces: &AddressSpaces<A>,
     accesses: &[Access<A>],
     dues: Vec<Due<A>, A>,
     mut answers: Vec<AccessAnswer<A>, A>,
+    gate: &G,
 ) -> (FrameStore<A>, Vec<AccessAnswer<A>, A>)
     requires due { AllByRecursion (CanDo spaces.now.place store) (map (due_shown accesses.now) dues.items) }
     requires room { AllByRecursion HasRoom dues.items }
@@ -128,6 +129,7 @@ fn finish<A: Allocator + Copy>(
     ensures answers { map answer_shown result.1.items ≡ (all_done spaces.now.place store (map (due_shown accesses.now) dues.items)).answers }
 {
     for due in dues {
+        gate.access(answers.len());
         let answer = finish_one(&mut store, spaces, accesses, due);
         answers.push_reserved(answer);
     }
