@@ -4,7 +4,7 @@
 //! have to tell what they tell with memory; so the refusal left the system as it was.
 
 use crate::traces::Heap;
-use crate::trails::{begin, make_rest, make_some};
+use crate::trails::{begin, make_first, make_rest, make_some};
 use nm_calls::{Call, System};
 use nm_refusing::Refusing;
 use nm_trace::{Trace, read_trace};
@@ -16,25 +16,6 @@ use std::thread::Threads;
 
 /// What a call tells that was refused memory before it changed anything.
 const REFUSED: &str = "| HostMemory { runs: 0, policy_set: false } ";
-
-/// Makes the call of one number while its allocation of another is refused, where 0 stands for none. Tells whether it came to
-/// that allocation.
-fn make_first<'a>(
-    rt: &(impl Threads + Wait + Sync),
-    heap: Heap<'a>,
-    system: &mut System<Heap<'a>>,
-    calls: &[Call<Heap<'a>>],
-    asked: usize,
-    number: u64,
-    text: &mut String,
-) -> Result<bool, AllocError> {
-    heap.refuse(number);
-    let made = make_some(rt, system, calls, asked, 1, text);
-    let met = heap.asked_since(number) >= number;
-    heap.refuse(0);
-    made?;
-    Ok(met)
-}
 
 /// Makes the call of this number again if it was broken off before it changed anything. Puts a word if the system was not
 /// sound then.

@@ -134,9 +134,9 @@ pub(crate) fn begin<'a>(
     Ok(system)
 }
 
-/// Makes the call of one number while its allocation of another is refused, and the rest with memory. Tells whether it came
-/// to that allocation.
-fn make_refused<'a>(
+/// Makes the call of one number while its allocation of another is refused, where 0 stands for none. Tells whether it came to
+/// that allocation.
+pub(crate) fn make_first<'a>(
     rt: &(impl Threads + Wait + Sync),
     heap: Heap<'a>,
     system: &mut System<Heap<'a>>,
@@ -150,7 +150,6 @@ fn make_refused<'a>(
     let met = heap.asked_since(number) >= number;
     heap.refuse(0);
     made?;
-    make_rest(rt, system, calls, asked.saturating_add(1), text)?;
     Ok(met)
 }
 
@@ -181,7 +180,8 @@ fn attempt<'a>(
 ) -> Result<bool, AllocError> {
     let mut system = begin(rt, heap, trace, asked, text)?;
     let calls = trace.calls.as_slice();
-    let met = make_refused(rt, heap, &mut system, calls, asked, number, text)?;
+    let met = make_first(rt, heap, &mut system, calls, asked, number, text)?;
+    make_rest(rt, &mut system, calls, asked.saturating_add(1), text)?;
     make_again(rt, &mut system, calls, asked, text)?;
     Ok(met)
 }
