@@ -607,10 +607,12 @@ fn fails_with_its_writer(rt: HostRuntime) -> Result<(), Fail> {
 }
 
 /// Words that are refused: others than the option, and numbers of workers that are none from 1 to 64.
-const REFUSED: [&[&str]; 16] = [
+const REFUSED: [&[&str]; 18] = [
     &["trace.json"],
     &["--help"],
     &["-h"],
+    &["--version"],
+    &["-V"],
     &["--workers"],
     &["--workers", "0"],
     &["--workers", "65"],
@@ -634,6 +636,21 @@ fn refuses_words(rt: HostRuntime) -> Result<(), Fail> {
         assert_eq!(rt; ran.out.len(), 0);
         assert!(rt; !ran.err.is_empty());
     }
+    Ok(())
+}
+
+/// What the program tells of itself stands on standard error, as clap tells it.
+#[test]
+fn tells_of_itself(rt: HostRuntime) -> Result<(), Fail> {
+    let ran = run_with(&rt, rt.alloc(), ["--version"].as_slice(), TRACE.as_bytes())?;
+    assert_eq!(rt; ran.err.as_slice(), b"numatrace 1.0.0\n".as_slice());
+    let ran = run_with(&rt, rt.alloc(), ["--help"].as_slice(), TRACE.as_bytes())?;
+    assert!(rt;
+        ran.err
+            .as_slice()
+            .starts_with(b"Plays a trace of page migration calls")
+    );
+    assert!(rt; ran.err.as_slice().ends_with(b"what they answer.\n"));
     Ok(())
 }
 

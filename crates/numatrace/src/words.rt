@@ -30,6 +30,17 @@ const STREAM_FAULT: u8 = 4;
 /// How many workers copy where the words do not say.
 const WORKERS: usize = 4;
 
+/// What `--version` tells behind the program's name.
+const VERSION: &str = "1.0.0";
+
+/// What `--help` tells in front of the options.
+const ABOUT: &str =
+    "Plays a trace of page migration calls on a modelled NUMA machine.\nThe trace is read from standard input as JSON, and its report is written to standard output.";
+
+/// What `--help` tells behind the options.
+const STATUSES: &str =
+    "Exit status: 0 after a whole report, 2 for a bad trace or bad words, 3 where the host refused memory, 4 where reading or writing failed.\nThe man page docs/numatrace.1 has the steps of a trace and what they answer.";
+
 /// How many workers the words ask for: 1 to 64 by `--workers`, and 4 where it is not given. Any other word is refused.
 pub(crate) fn read_words(heap: Global, words: &[String]) -> Result<usize, Error>
     ensures { IfOk result (λ workers. (0 < workers) × (workers ≤ 64)) }
@@ -41,7 +52,11 @@ pub(crate) fn read_words(heap: Global, words: &[String]) -> Result<usize, Error>
         .default_value("4")
         .action(ArgAction::Set)
         .value_parser(value_parser!(usize).range(1..=64));
-    let command = Command::new(heap, "numatrace").arg(workers)?;
+    let command = Command::new(heap, "numatrace")
+        .version(VERSION)
+        .about(ABOUT)
+        .after_help(STATUSES)
+        .arg(workers)?;
     let matches = command.try_get_matches_from(words)?;
     match matches.get_one::<usize>("workers") {
         Some(count) if count > 0 && count <= 64 => Ok(count),
@@ -74,10 +89,11 @@ pub(crate) fn unread_words<E: Write>(kind: io::ErrorKind, err: &mut E) -> u8
 }
 
 /// Runs the program: reads the words, then the trace from the reader, and writes the report to `out`. `--workers N` says
-/// how many workers copy, 1 to 64, and 4 where it is not given; it changes no byte of the report. Answers the exit status: 0 after a whole report; 2 for a bad trace, for words that are refused and for `--help`; 3 where the host refused
-/// memory; 4 for a read or write fault. A fault is told on `err`, in one line or in clap's own text, and a fault of `err`
-/// does not change the status. The words are read in the memory of `heap`, as is the JSON value; all else stands in that
-/// of `alloc`.
+/// how many workers copy, 1 to 64, and 4 where it is not given; it changes no byte of the report. Answers the exit status:
+/// 0 after a whole report; 2 for a bad trace, for words that are refused, and for `--help` and `--version`; 3 where the
+/// host refused memory; 4 for a read or write fault. A fault is told on `err`, in one line or in clap's own text, and a
+/// fault of `err` does not change the status. The words are read in the memory of `heap`, as is the JSON value; all else
+/// stands in that of `alloc`.
 pub fn run_words<
     T: Threads + Wait + Sync,
     A: Allocator + Copy + Send + Sync,
