@@ -20,3 +20,4 @@ pub mod Letting
 pub mod Roomy
 pub mod Shown
 pub mod Values
+pub mod Steps
