@@ -21,3 +21,5 @@ pub mod Roomy
 pub mod Shown
 pub mod Values
 pub mod Steps
+pub mod Counted
+pub mod Stretches

@@ -3,6 +3,7 @@
 
 mod area_table;
 mod areas;
+mod counting;
 mod coverage;
 mod lines;
 mod places;
