@@ -23,3 +23,4 @@ pub mod Values
 pub mod Steps
 pub mod Counted
 pub mod Stretches
+pub mod Covered
