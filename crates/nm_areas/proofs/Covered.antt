@@ -49,9 +49,9 @@ module _ (m : Map Page Step) (areas : Map (ℕ × ℕ) Area) (pid first end : �
   was_cut now is = subst (IsCoverage m) (sym is) cut_both
 
   -- and those between have a policy
-  pub was_policed : (policy : Policy) (now : Map (ℕ × ℕ) Area) → now ≡ flat_map (repoliced pid first end policy) areas → IsCoverage m now
-  was_policed policy now is =
-      subst (IsCoverage m) (all_repoliced pid first end policy less areas some ∙ sym is)
+  pub was_policed : (policy : Policy) (n count : ℕ) (now : Map (ℕ × ℕ) Area) → end ≡ n + count → n ≡ first → now ≡ flat_map (repoliced pid first (first + count) policy) areas → IsCoverage m now
+  was_policed policy n count now sum same is =
+      subst (IsCoverage m) (all_repoliced pid first end policy less areas some ∙ ap (λ k. flat_map (repoliced pid first k policy) areas) (sum ∙ ap (λ k. k + count) same) ∙ sym is)
       (steps_same m (ends_at both) (covers_at both) _ _ cut_both
       (λ p. sym (painted_total pid first end policy p (ends_of p) (λ x. refl) both))
       (λ p. sym (painted_total pid first end policy p (covers_of p) (λ x. refl) both)))

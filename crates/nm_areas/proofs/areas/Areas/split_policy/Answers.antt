@@ -13,12 +13,10 @@ pub invariant_of-self-in-Ok : goal.invariant_of-self-in-Ok
 invariant_of-self-in-Ok g c =
     let t = c.self.inside.table in
     let a = c.args in
-    let range = c.in-Some.ensures.some in
-    let some = omega (arith, range.1, c.if-len-gt0.true) in
-    let end : c.new-end.result ≡ c.in-Some.first + c.in-Some.count = c.new-end.ensures ∙ ap (λ (n : ℕ). n + c.in-Some.count) c.number.ensures in (
-      policed_mapped t c.self.inside.places.entries c.self.invariant.0 c.set_policy.new.self a.pid _ _ a.policy some c.in-Ok.ensures.ok,
-      was_policed c.split_steps.new.steps.entries t.areas a.pid c.in-Some.first c.new-end.result (omega (arith, end, range.1, c.if-len-gt0.true)) c.self.invariant.0.whole c.in_ok-split_steps.ensures.ok a.policy c.set_policy.new.self.areas
-          (ap (λ (z : Table). z.areas) c.in-Ok.ensures.ok ∙ ap (λ (n : ℕ). flat_map (repoliced a.pid c.in-Some.first n a.policy) t.areas) (sym end)),
+    let range = c.in-Some.ensures.some in (
+      policed_mapped t c.self.inside.places.entries c.self.invariant.0 c.set_policy.new.self a.pid _ _ a.policy (omega (arith, range.1, c.if-len-gt0.true)) c.in-Ok.ensures.ok,
+      was_policed c.split_steps.new.steps.entries t.areas a.pid _ c.new-end.result (omega (arith, c.new-end.ensures, c.number.ensures, range.1, c.if-len-gt0.true)) c.self.invariant.0.whole c.in_ok-split_steps.ensures.ok a.policy _ _ c.set_policy.new.self.areas
+          c.new-end.ensures c.number.ensures (ap (λ (z : Table). z.areas) c.in-Ok.ensures.ok),
     )
 
 pub returns-in-Ok-clause-pages : goal.returns-in-Ok-clause-pages
