@@ -5,12 +5,11 @@ use Rattle.std.specs.List.{AllByRecursion, flat_map}
 use Rattle.nm_types.specs.declared.page.Page.{Page}
 use Rattle.nm_types.specs.declared.area.Area.{Area}
 use Rattle.nm_types.specs.declared.area.Policy.{Policy}
-use Rattle.nm_types.specs.Map.{Map, get, set, with_values, spot_cmp}
-use Rattle.nm_types.specs.State.{Placed}
+use Rattle.nm_types.specs.Map.{Map, get, set, spot_cmp}
 use Rattle.nm_areas.specs.declared.coverage.Step.{Step}
 use Rattle.nm_areas.specs.Coverage.{IsSteps, IsCoverage, ends_of, covers_of, ends_at, covers_at, splits_at}
 use Rattle.nm_areas.specs.Mapped.{IsMapped, IsSomePages, mapped}
-use Rattle.nm_areas.specs.Policy.{split_at, painted, repoliced}
+use Rattle.nm_areas.specs.Policy.{split_at, repoliced}
 use Rattle.nm_areas.specs.Table.{Table}
 use Rattle.nm_areas.proofs.Counted.{total_set, both_ends, both_cover, painted_total}
 use Rattle.nm_areas.proofs.Repoliced.{all_repoliced}

@@ -24,3 +24,4 @@ pub mod Steps
 pub mod Counted
 pub mod Stretches
 pub mod Covered
+mod CoverageExamples

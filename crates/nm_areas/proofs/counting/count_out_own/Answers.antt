@@ -1,9 +1,7 @@
 use Rattle.std.proofs.Common.{ℕ, ◌+◌, ◌≡◌, ap, sym, arith, ◌∙◌}
 use Rattle.std.specs.List.{filter}
-use Rattle.nm_types.specs.declared.page.Page.{Page}
-use Rattle.nm_types.specs.declared.area.Area.{Area}
 use Rattle.nm_types.specs.State.{Placed}
-use Rattle.nm_areas.specs.Coverage.{total, IsSteps, ends_of, covers_of, ends_at, covers_at}
+use Rattle.nm_areas.specs.Coverage.{total, ends_of, covers_of, ends_at, covers_at}
 use Rattle.nm_areas.specs.Mapped.{HasIndices}
 use Rattle.nm_areas.specs.Removed.{others, is_own}
 use Rattle.nm_areas.proofs.Overs.{get_among}

@@ -1,4 +1,4 @@
-use Rattle.std.proofs.Common.{arith, ◌+◌}
+use Rattle.std.proofs.Common.{arith}
 use Rattle.nm_areas.proofs.Steps.{shift_next, shift_end}
 use Rattle.nm_areas.proofs.coverage.shift.Goals as goal
 

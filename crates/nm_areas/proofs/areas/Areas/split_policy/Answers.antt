@@ -1,10 +1,8 @@
-use Rattle.std.proofs.Common.{◌≡◌, ℕ, ◌+◌, ap, sym, ◌∙◌, arith}
-use Rattle.std.specs.List.{flat_map}
+use Rattle.std.proofs.Common.{ap, ◌∙◌, arith}
 use Rattle.nm_types.specs.State.{page_at}
 use Rattle.nm_areas.specs.Table.{Table}
 use Rattle.nm_areas.specs.Mapped.{Mapped}
 use Rattle.nm_areas.proofs.Shown.{repoliced_shows}
-use Rattle.nm_areas.specs.Policy.{repoliced}
 use Rattle.nm_areas.proofs.Policed.{policed_mapped}
 use Rattle.nm_areas.proofs.Covered.{was_policed}
 use Rattle.nm_areas.proofs.areas.Areas.split_policy.Goals as goal
