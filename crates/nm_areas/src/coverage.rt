@@ -1,11 +1,10 @@
 //! How many areas cover a page.
 //!
 //! At each page where an area begins, and at the page behind the last one of an area, stands how many areas cover it.
-//! Between two such pages of a segment nothing changes, so the last of them up to a page tells of that page as well.
+//! Between two such pages of a segment nothing changes, so the last of them up to a page tells of that page as well. An
+//! area that comes asks for memory for two steps at most, and one that goes for none. Numbers are added so that they stop
+//! at the greatest one, which none reaches: there are fewer areas than 2^63.
 
-ghost use Rattle.std.specs.BTreeMap.{is_at};
-ghost use Rattle.std.specs.List.Sorted.{IsStrictlySortedBy};
-ghost use Rattle.std.specs.Map.{keys_of};
 ghost use Rattle.std.specs.Option.{option_map};
 ghost use Rattle.std.specs.Prelude.{IfNone, IfSome, None, OnErr, OnOk, Some, ℕ, ◌+◌, ◌<◌, ◌^◌, ◌≡◌, ◌≤◌, if◌then◌else◌};
 ghost use Rattle.nm_areas.specs.Coverage.{IsFlat, IsSteps, covers_of, ends_of};

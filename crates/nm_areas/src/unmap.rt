@@ -4,14 +4,13 @@ ghost use Rattle.std.specs.List.{AllByRecursion, fold, list_any};
 ghost use Rattle.std.specs.List.Sorted.{IsStrictlySortedBy};
 ghost use Rattle.std.specs.Map.{keys_of};
 ghost use Rattle.std.specs.Ordering.{nat_cmp};
-ghost use Rattle.std.specs.Prelude.{IfOk, None, OnOk, Some, false, length, min, true, vec_capacity, vec_len, ℕ, [], ◌*◌, ◌++◌, ◌+◌, ◌-◌, ◌/◌, ◌<◌, ◌^◌, ◌≡◌, ◌≤◌};
+ghost use Rattle.std.specs.Prelude.{IfOk, None, OnOk, Some, false, length, min, vec_capacity, vec_len, ℕ, [], ◌*◌, ◌++◌, ◌+◌, ◌-◌, ◌/◌, ◌<◌, ◌^◌, ◌≡◌, ◌≤◌};
 ghost use Rattle.nm_types.specs.Does.{Makes};
-ghost use Rattle.nm_areas.specs.Lines.{is_shared};
-ghost use Rattle.nm_areas.specs.Mapped.{AllShown, AreasAreApart, HasIndices, PrivateIsOnce, shows_segment};
 ghost use Rattle.nm_areas.specs.Coverage.{IsCoverage};
-ghost use Rattle.nm_areas.specs.Parts.{is_covered, pages_from};
+ghost use Rattle.nm_areas.specs.Mapped.{AllShown, HasIndices, shows_segment};
+ghost use Rattle.nm_areas.specs.Parts.{pages_from};
 ghost use Rattle.nm_areas.specs.Refused.{remove_refusal};
-ghost use Rattle.nm_areas.specs.Removed.{all_lost, frames_lost, lost, others, page_in, page_outside, pages_of_area, pages_of_own, place_left, removed, without_own};
+ghost use Rattle.nm_areas.specs.Removed.{all_lost, frames_lost, lost, others, page_outside, pages_of_area, pages_of_own, place_left, removed, without_own};
 ghost use Rattle.nm_types.specs.Map.{Map, get, page_cmp, spot_cmp, without};
 ghost use Rattle.nm_types.specs.State.{page_at};
 
