@@ -20,3 +20,8 @@ pub mod Letting
 pub mod Roomy
 pub mod Shown
 pub mod Values
+pub mod Steps
+pub mod Counted
+pub mod Stretches
+pub mod Covered
+mod CoverageExamples

@@ -1,7 +1,7 @@
 -- Pages that lose their frames, one after another.
-use Rattle.std.proofs.Common.{◌≡◌, ℕ, zero, suc, ◌+◌, ◌-◌, ◌≤◌, ◌<◌, List, [], ◌∷◌, ◌++◌, true, false, not, ◌&&◌, ◌||◌, cond, refl, sym, ap, ◌∙◌, arith, append_assoc, append-nil}
+use Rattle.std.proofs.Common.{◌≡◌, ℕ, zero, suc, ◌+◌, ◌-◌, ◌≤◌, ◌<◌, List, [], ◌∷◌, ◌++◌, true, false, cond, refl, sym, ap, ◌∙◌, arith, append_assoc, append-nil}
 use Rattle.std.specs.Prelude.{Some, None, if◌then◌else◌}
-use Rattle.std.specs.List.{list_any, flat_map, fold}
+use Rattle.std.specs.List.{flat_map, fold}
 use Rattle.std.specs.List.Sorted.{IsStrictlySortedBy}
 use Rattle.std.specs.Map.{keys_of}
 use Rattle.std.specs.Ordering.{is_eq}
@@ -9,10 +9,9 @@ use Rattle.std.proofs.lemmas.List.Sums.{fold-append}
 use Rattle.nm_types.specs.declared.page.Page.{Page}
 use Rattle.nm_types.specs.declared.area.Area.{Area}
 use Rattle.nm_types.specs.Map.{Map, get, without, page_cmp, spot_cmp}
-use Rattle.nm_types.specs.State.{Placed}
 use Rattle.nm_types.proofs.Cases.{some_none}
-use Rattle.nm_areas.specs.Parts.{pages_from, covers_page, is_covered}
-use Rattle.nm_areas.specs.Removed.{place_left, with_its_frame, lost, all_lost, is_own, others, covers_beside, pages_of_area, pages_of_own, page_in}
+use Rattle.nm_areas.specs.Parts.{pages_from, is_covered}
+use Rattle.nm_areas.specs.Removed.{place_left, with_its_frame, lost, all_lost, pages_of_area, pages_of_own, page_in}
 use Rattle.nm_areas.proofs.Own.{NoneBegins, own_next, own_none}
 
 pub without_none : (place : Map Page ℕ) (p : Page) → get page_cmp place p ≡ None → without page_cmp place p ≡ place
@@ -22,15 +21,6 @@ without_none (e ∷ place) p h =
       | true ↦ λ k. absurd (some_none k)
       | false ↦ λ k. ap (λ es. e ∷ es) (without_none place p k)
     ] h
-
--- what covers a page beside some areas
-pub any_beside : (pid first end : ℕ) (p : Page) (areas : List Placed) → list_any (covers_beside pid first end p) areas ≡ is_covered (others pid first end areas) p
-any_beside pid first end p [] = refl
-any_beside pid first end p (a ∷ areas) =
-    elim (is_own pid first end a) as (λ b. ((not b && covers_page p a) || list_any (covers_beside pid first end p) areas) ≡ list_any (covers_page p) (cond (not b) (a ∷ others pid first end areas) (others pid first end areas))) [
-      | true ↦ any_beside pid first end p areas
-      | false ↦ ap (λ c. covers_page p a || c) (any_beside pid first end p areas)
-    ]
 
 module _ (areas : Map (ℕ × ℕ) Area) where
   pub lost_append : (place : Map Page ℕ) (xs ys : List Page) → all_lost areas place (xs ++ ys) ≡ all_lost areas place xs ++ all_lost areas (fold (place_left areas) place xs) ys
@@ -149,20 +139,6 @@ module _ (areas : Map (ℕ × ℕ) Area) where
     pub all_left_next : (total : Map Page ℕ) → fold (place_left areas) place all ≡ total → fold (place_left areas) new rest ≡ total
     all_left_next total so_far =
         ap (λ m. fold (place_left areas) m rest) is ∙ sym (fold-append (place_left areas) place pages rest) ∙ ap (fold (place_left areas) place) (sym parts) ∙ so_far
-
--- a page that is not covered, and one that is
-pub page_lost : (areas : Map (ℕ × ℕ) Area) (place new : Map Page ℕ) (p : Page) (frame : ℕ) (before after : List (Page × ℕ)) → get page_cmp place p ≡ Some frame → is_covered areas p ≡ false → new ≡ without page_cmp place p → after ≡ before ++ (p, frame) ∷ []
-    → (new ≡ place_left areas place p) × (after ≡ before ++ lost areas place p)
-page_lost areas place new p frame before after has free is more = (
-  is ∙ sym (ap (λ b. if b then place else without page_cmp place p) free),
-  more ∙ ap (λ l. before ++ l) (sym (ap (λ b. if b then [] else with_its_frame p (get page_cmp place p)) free ∙ ap (with_its_frame p) has)),
-)
-
-pub page_kept : (areas : Map (ℕ × ℕ) Area) (place : Map Page ℕ) (p : Page) (before : List (Page × ℕ)) → is_covered areas p ≡ true → (place ≡ place_left areas place p) × (before ≡ before ++ lost areas place p)
-page_kept areas place p before covered = (
-  sym (ap (λ b. if b then place else without page_cmp place p) covered),
-  sym (ap (λ b. before ++ (if b then [] else with_its_frame p (get page_cmp place p))) covered ∙ append-nil before),
-)
 
 -- the areas that are still to come
 pub own_pages_next : (areas : Map (ℕ × ℕ) Area) (pid at s end : ℕ) (x : Area) → s < end → IsStrictlySortedBy spot_cmp (keys_of areas) → at ≤ s → get spot_cmp areas (pid, s) ≡ Some x → NoneBegins areas pid at s

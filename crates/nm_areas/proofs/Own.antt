@@ -45,7 +45,7 @@ filter_same test other (x ∷ areas) h =
     ∙ ap (λ l. cond (other x) (x ∷ l) l) (filter_same test other areas (λ a m. h a (inr m)))
 
 -- where both follow from one another
-same_test : (a b : Bool) → (a ≡ true → b ≡ true) → (b ≡ true → a ≡ true) → a ≡ b
+pub same_test : (a b : Bool) → (a ≡ true → b ≡ true) → (b ≡ true → a ≡ true) → a ≡ b
 same_test true b f g = sym (f refl)
 same_test false true f g = absurd (true_false (sym (g refl)))
 same_test false false f g = refl

@@ -1,5 +1,5 @@
 -- What the first keys of a segment tell.
-use Rattle.std.proofs.Common.{◌≡◌, ℕ, zero, suc, ◌≤◌, ◌<◌, List, [], ◌∷◌, Bool, true, false, not, ◌&&◌, ◌||◌, cond, refl, sym, ap, subst, ◌∙◌, arith, inl, inr, eq-eqb}
+use Rattle.std.proofs.Common.{◌≡◌, ℕ, zero, suc, ◌≤◌, ◌<◌, List, [], ◌∷◌, Bool, true, false, ◌&&◌, ◌||◌, cond, refl, sym, ap, subst, ◌∙◌, arith, inl, inr, eq-eqb}
 use Rattle.std.specs.Prelude.{Option, Some, None, ◌==◌}
 use Rattle.std.specs.BTreeMap.Range.{range_contains}
 use Rattle.std.specs.declared.ops.Bound.TheVariants.{Included, Unbounded}
@@ -12,20 +12,26 @@ use Rattle.std.specs.declared.cmp.Ordering.{Ordering}
 use Rattle.std.specs.declared.cmp.Ordering.TheVariants.{Less, Equal, Greater}
 use Rattle.std.proofs.lemmas.Bool.{eqb-true, and_parts, and_from, or_left, or_right, false_from_ne_true}
 use Rattle.std.proofs.lemmas.Map.Keys.{sorted_head, sorted_tail, le_from_not_gt}
-use Rattle.nm_types.specs.declared.page.Page.{Page}
 use Rattle.nm_types.specs.declared.area.Area.{Area}
 use Rattle.nm_types.specs.Map.{Map, get, spot_cmp}
 use Rattle.nm_types.specs.State.{Placed}
 use Rattle.nm_types.proofs.Cases.{true_false}
-use Rattle.nm_areas.specs.Index.{Key, key_cmp, is_of, IsIndex, is_passed, passes}
+use Rattle.nm_areas.specs.Index.{Key, key_cmp, is_of, IsIndex}
 use Rattle.nm_areas.specs.Mapped.{shows_segment}
-use Rattle.nm_areas.specs.Parts.{covers_page}
-use Rattle.nm_areas.specs.Removed.{is_own, covers_beside}
 use Rattle.nm_types.proofs.Maps.{spot_cmp_total, found_first, found_later}
 use Rattle.nm_areas.proofs.Parted.{Among, any_among, among_any}
 use Rattle.nm_areas.proofs.Painted.{exact_spot}
 use Rattle.nm_areas.proofs.Overs.{get_among}
 use Rattle.nm_areas.proofs.Indexed.{has, same_key, key_itself}
+
+-- whether there is an area, and it passes a test at its place
+abbrev is_passed : (Placed → Bool) → ℕ × ℕ → Option Area → Bool
+is_passed test spot None = false
+is_passed test spot (Some area) = test (spot, area)
+
+-- whether an area at that place passes a test
+abbrev passes : (Placed → Bool) → Map (ℕ × ℕ) Area → ℕ × ℕ → Bool
+passes test areas spot = is_passed test spot (get spot_cmp areas spot)
 
 -- whether an area of the first keys passes a test, as long as they are of one segment
 abbrev pub scan : ℕ → (Placed → Bool) → Map (ℕ × ℕ) Area → List Key → Bool
@@ -167,8 +173,3 @@ module _ (n pid v : ℕ) (keys found : List Key) (areas : Map (ℕ × ℕ) Area)
 
   pub shown_none : found ≡ [] → false ≡ list_any (shows_segment n) areas
   shown_none none = ap (scan n (shows_segment n) areas) (sym none) ∙ shown_tells
-
--- ---- whether a page is covered
-
-pub beside_own : (pid first end : ℕ) (p : Page) (a : Placed) → covers_beside pid first end p a ≡ true → a.1.page.segment ≡ p.segment
-beside_own pid first end p a h = eqb-true a.1.page.segment p.segment (and_parts _ _ (and_parts (not (is_own pid first end a)) (covers_page p a) h).1).0

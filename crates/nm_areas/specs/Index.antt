@@ -6,7 +6,6 @@ use Rattle.std.specs.Ordering.{nat_cmp, ordering_then}
 use Rattle.std.specs.declared.cmp.Ordering.{Ordering}
 use Rattle.nm_types.specs.declared.area.Area.{Area}
 use Rattle.nm_types.specs.Map.{Map, get, spot_cmp}
-use Rattle.nm_types.specs.State.{Placed}
 
 -- a segment, and the place of an area
 abbrev pub Key : Type 0
@@ -28,12 +27,3 @@ is_key areas k = is_of k.0 (get spot_cmp areas (k.1, k.2))
 -- the keys are those of the areas, each with its segment
 abbrev pub IsIndex : List Key → Map (ℕ × ℕ) Area → Type 0
 IsIndex keys areas = (k : Key) → list_any (is_at (key_cmp k)) keys ≡ is_key areas k
-
--- whether there is an area, and it passes a test at its place
-abbrev pub is_passed : (Placed → Bool) → ℕ × ℕ → Option Area → Bool
-is_passed test spot None = false
-is_passed test spot (Some area) = test (spot, area)
-
--- whether an area at that place passes a test
-abbrev pub passes : (Placed → Bool) → Map (ℕ × ℕ) Area → ℕ × ℕ → Bool
-passes test areas spot = is_passed test spot (get spot_cmp areas spot)

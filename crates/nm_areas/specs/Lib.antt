@@ -7,3 +7,5 @@ pub mod Refused
 pub mod Effect
 pub mod Lines
 pub mod Removed
+pub mod Shifted
+pub mod Coverage

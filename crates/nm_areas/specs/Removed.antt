@@ -8,7 +8,7 @@ use Rattle.nm_types.specs.Map.{Map, get, without, page_cmp}
 use Rattle.nm_types.specs.State.{Placed, page_at}
 use Rattle.nm_areas.specs.Table.{Table}
 use Rattle.nm_areas.specs.Mapped.{Mapped, shows_segment}
-use Rattle.nm_areas.specs.Parts.{pages_from, pages_between, parts_outside, covers_page, is_covered}
+use Rattle.nm_areas.specs.Parts.{pages_from, pages_between, parts_outside, is_covered}
 
 -- the areas without what a process has from one page number up to another
 abbrev pub areas_left : Map (ℕ × ℕ) Area → ℕ → ℕ → ℕ → Map (ℕ × ℕ) Area
@@ -77,10 +77,6 @@ abbrev pub without_own : Table → ℕ → ℕ → ℕ → Table
 without_own t pid first end =
     let areas = others pid first end t.areas in
     record t { areas = areas; segments = segments_left t.segments areas }
-
--- whether an area that does not begin in a range covers a page
-abbrev pub covers_beside : ℕ → ℕ → ℕ → Page → Placed → Bool
-covers_beside pid first end p a = not (is_own pid first end a) && covers_page p a
 
 -- all pages that an area shows
 abbrev pub pages_of_area : Area → List Page

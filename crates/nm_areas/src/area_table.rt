@@ -1,6 +1,6 @@
 //! The areas of the processes, and the segments that they show.
 
-ghost use Rattle.std.specs.Prelude.{ℕ, ◌≡◌, ◌≤◌, ◌<◌, ◌+◌, ◌^◌, [], suc, not, false, true, None, Some, IfSome, IfNone, OnOk, OnErr, IfOk, option_map};
+ghost use Rattle.std.specs.Prelude.{ℕ, ◌≡◌, ◌≤◌, ◌<◌, ◌+◌, ◌^◌, [], suc, not, false, true, None, Some, IfSome, IfNone, OnOk, OnErr, IfOk, length, option_map};
 ghost use Rattle.std.specs.Ordering.{nat_cmp};
 ghost use Rattle.std.specs.List.{AllByRecursion, list_any};
 ghost use Rattle.std.specs.List.Sorted.{IsStrictlySortedBy};
@@ -59,6 +59,14 @@ impl<A: Allocator + Copy> AreaTable<A> {
         ensures { result ≡ self.now.next }
     {
         self.next_segment
+    }
+
+    /// How many areas there are.
+    pub(crate) fn count(&self) -> usize
+        ensures count { result ≡ length self.now.areas }
+        ensures small { length self.now.areas < 2 ^ 63 }
+    {
+        self.areas.len()
     }
 
     /// The segment of a number, or None where there is none.
@@ -230,7 +238,7 @@ fn is_stretch(segment: Option<Segment>, offset: u64, pages: u64) -> bool
 }
 
 /// An area with the default policy over so many pages of a segment from an offset on.
-fn new_area(segment: u32, offset: u64, pages: u64) -> Area
+pub(crate) fn new_area(segment: u32, offset: u64, pages: u64) -> Area
     ensures { result ≡ new_area segment offset pages }
 {
     Area {

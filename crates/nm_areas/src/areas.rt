@@ -8,7 +8,9 @@ ghost use Rattle.nm_areas.specs.Lines.{is_shared};
 ghost use Rattle.nm_areas.specs.Mapped.{IsMapped};
 ghost use Rattle.nm_areas.specs.Refused.{is_range, insert_refusal, stretch_refusal};
 
-use crate::area_table::AreaTable;
+use crate::area_table::{AreaTable, new_area};
+use crate::counting::count_in;
+use crate::coverage::{Step, uncover};
 use nm_types::limits::{MAX_SEGMENTS, PAGE_NUMBERS};
 use nm_types::{Area, Errno, FrameId, MachineError, Page, Pid, Vpn};
 use std::alloc::Allocator;
@@ -17,22 +19,25 @@ use std::marker::Model;
 
 /// The areas of all processes, the segments that they show, and the frame of each page that has one. Contracts see
 /// maps: the areas by process and first page number, the segments by number, and the frames by page. No two areas of a
-/// process are over one page number, and a page of a private segment is shown at one page number alone.
+/// process are over one page number, and a page of a private segment is shown at one page number alone. Beside them
+/// stands how many areas cover a page (`coverage`), which no contract sees.
 #[derive(Drop)]
 pub struct Areas<A: Allocator + Copy> {
     pub(crate) table: AreaTable<A>,
+    pub(crate) steps: BTreeMap<Page, Step, A>,
     pub(crate) places: BTreeMap<Page, FrameId, A>,
     pub(crate) alloc: A,
 }
 
 impl<A: Allocator + Copy> Model for Areas<A> {
+    ghost use Rattle.nm_areas.specs.Coverage.{IsCoverage};
     ghost use Rattle.nm_areas.specs.Mapped.{Mapped, IsMapped, mapped};
 
     ghost Value = { Mapped };
 
     ghost view = { λ a. mapped a.table a.places.entries };
 
-    ghost invariant = { λ a. IsMapped (mapped a.table a.places.entries) };
+    ghost invariant = { λ a. IsMapped (mapped a.table a.places.entries) × IsCoverage a.steps.entries a.table.areas };
 }
 
 impl<A: Allocator + Copy> Areas<A> {
@@ -42,6 +47,7 @@ impl<A: Allocator + Copy> Areas<A> {
     {
         Areas {
             table: AreaTable::new(alloc),
+            steps: BTreeMap::new(alloc),
             places: BTreeMap::new(alloc),
             alloc,
         }
@@ -90,7 +96,13 @@ impl<A: Allocator + Copy> Areas<A> {
         if self.table.next_segment() >= MAX_SEGMENTS {
             return Err(MachineError::Refused(Errno::Enomem));
         }
-        Ok(self.table.insert(pid, first, pages, shared)?)
+        let next = self.table.next_segment();
+        count_in(&self.table, &mut self.steps, new_area(next, 0, pages))?;
+        let Ok(number) = self.table.insert(pid, first, pages, shared) else {
+            uncover(&mut self.steps, new_area(next, 0, pages));
+            return Err(MachineError::HostMemory);
+        };
+        Ok(number)
     }
 
     /// Makes an area of the process from an address on, with the default policy, over so many pages of a shared segment
@@ -119,7 +131,15 @@ impl<A: Allocator + Copy> Areas<A> {
         let Some(number) = self.table.stretch_of(segment, offset, pages) else {
             return Err(MachineError::Refused(Errno::Einval));
         };
-        self.table.attach(pid, first, number, offset, pages)?;
+        count_in(
+            &self.table,
+            &mut self.steps,
+            new_area(number, offset, pages),
+        )?;
+        let Ok(()) = self.table.attach(pid, first, number, offset, pages) else {
+            uncover(&mut self.steps, new_area(number, offset, pages));
+            return Err(MachineError::HostMemory);
+        };
         Ok(())
     }
 }

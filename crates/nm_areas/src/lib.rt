@@ -3,6 +3,8 @@
 
 mod area_table;
 mod areas;
+mod counting;
+mod coverage;
 mod lines;
 mod places;
 mod policy;

@@ -16,6 +16,7 @@ ghost use Rattle.nm_types.specs.State.{page_at};
 
 use crate::area_table::AreaTable;
 use crate::areas::Areas;
+use crate::counting::{join_steps, split_steps};
 use crate::scan::{next_area, put};
 use nm_types::{Area, Errno, MachineError, Pid, Policy, Vpn};
 use std::alloc::{AllocError, Allocator};
@@ -60,7 +61,12 @@ impl<A: Allocator + Copy> Areas<A> {
             return Err(MachineError::Refused(Errno::Efault));
         }
         if len > 0 {
-            self.table.set_policy(pid, first, count, policy)?;
+            let end = Vpn::new(first.number() + count);
+            split_steps(&self.table, &mut self.steps, pid, first, end)?;
+            let Ok(()) = self.table.set_policy(pid, first, count, policy) else {
+                join_steps(&self.table, &mut self.steps, pid, first, end);
+                return Err(MachineError::HostMemory);
+            };
         }
         Ok(())
     }

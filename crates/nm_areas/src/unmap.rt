@@ -4,19 +4,21 @@ ghost use Rattle.std.specs.List.{AllByRecursion, fold, list_any};
 ghost use Rattle.std.specs.List.Sorted.{IsStrictlySortedBy};
 ghost use Rattle.std.specs.Map.{keys_of};
 ghost use Rattle.std.specs.Ordering.{nat_cmp};
-ghost use Rattle.std.specs.Prelude.{IfOk, None, OnOk, Some, false, length, min, true, vec_capacity, vec_len, ℕ, ◌*◌, ◌++◌, ◌+◌, ◌/◌, ◌<◌, ◌^◌, ◌≡◌, ◌≤◌};
+ghost use Rattle.std.specs.Prelude.{IfOk, None, OnOk, Some, false, length, min, vec_capacity, vec_len, ℕ, [], ◌*◌, ◌++◌, ◌+◌, ◌-◌, ◌/◌, ◌<◌, ◌^◌, ◌≡◌, ◌≤◌};
 ghost use Rattle.nm_types.specs.Does.{Makes};
-ghost use Rattle.nm_areas.specs.Lines.{is_shared};
-ghost use Rattle.nm_areas.specs.Mapped.{AllShown, AreasAreApart, HasIndices, PrivateIsOnce, shows_segment};
-ghost use Rattle.nm_areas.specs.Parts.{is_covered};
+ghost use Rattle.nm_areas.specs.Coverage.{IsCoverage};
+ghost use Rattle.nm_areas.specs.Mapped.{AllShown, HasIndices, shows_segment};
+ghost use Rattle.nm_areas.specs.Parts.{pages_from};
 ghost use Rattle.nm_areas.specs.Refused.{remove_refusal};
-ghost use Rattle.nm_areas.specs.Removed.{all_lost, frames_lost, lost, others, page_in, page_outside, pages_of_area, pages_of_own, place_left, removed, without_own};
-ghost use Rattle.nm_types.specs.Map.{get, page_cmp, spot_cmp, without};
+ghost use Rattle.nm_areas.specs.Removed.{all_lost, frames_lost, lost, others, page_outside, pages_of_area, pages_of_own, place_left, removed, without_own};
+ghost use Rattle.nm_types.specs.Map.{Map, get, page_cmp, spot_cmp, without};
 ghost use Rattle.nm_types.specs.State.{page_at};
 
 use crate::area_table::AreaTable;
 use crate::areas::{Areas, stretch};
-use crate::scan::{is_covered, next_place};
+use crate::counting::{count_out_own, join_steps, split_steps};
+use crate::coverage::{Step, count_at, next_change};
+use crate::scan::next_place;
 use nm_types::{Area, Errno, FrameId, MachineError, Page, Pid, Vpn};
 use std::alloc::Allocator;
 use std::collections::BTreeMap;
@@ -47,9 +49,15 @@ impl<A: Allocator + Copy> Areas<A> {
         let end = Vpn::new(first.number() + pages);
         let most = self.places.len().min(pages as usize);
         let mut freed = Vec::with_capacity(self.alloc, most)?;
-        self.table.cut(pid, first, end)?;
+        split_steps(&self.table, &mut self.steps, pid, first, end)?;
+        let Ok(()) = self.table.cut(pid, first, end) else {
+            join_steps(&self.table, &mut self.steps, pid, first, end);
+            return Err(MachineError::HostMemory);
+        };
+        // Pages that other areas cover stay, so the counts are theirs before the first page goes.
+        count_out_own(&self.table, &mut self.steps, pid, first, end);
         self.table
-            .lose_all(pid, first, end, &mut self.places, &mut freed);
+            .lose_all(&self.steps, pid, first, end, &mut self.places, &mut freed);
         self.table.drop_own(pid, first, end);
         Ok(freed)
     }
@@ -57,9 +65,11 @@ impl<A: Allocator + Copy> Areas<A> {
 
 impl<A: Allocator + Copy> AreaTable<A> {
     /// Pages that the areas of a process show that begin from one page number up to another, and that no other area
-    /// covers, lose their frames. They are put behind those of a list that has room for them.
+    /// covers, lose their frames. They are put behind those of a list that has room for them. The steps are those of the
+    /// other areas.
     fn lose_all(
         &self,
+        steps: &BTreeMap<Page, Step, A>,
         pid: Pid,
         first: Vpn,
         end: Vpn,
@@ -67,8 +77,7 @@ impl<A: Allocator + Copy> AreaTable<A> {
         freed: &mut Vec<(Page, FrameId), A>,
     )
         requires range { first ≤ end }
-        requires apart { AreasAreApart self.now.areas }
-        requires once { PrivateIsOnce self.now.areas self.now.segments }
+        requires steps { IsCoverage steps.now.entries (others pid first end self.now.areas) }
         requires indices { AllByRecursion HasIndices self.now.areas }
         requires room { vec_len freed.old + min (length places.old.entries) (length (pages_of_own pid first end self.now.areas)) ≤ vec_capacity freed.old }
         ensures places { places.new.entries ≡ fold (place_left (others pid first end self.now.areas)) places.old.entries (pages_of_own pid first end self.now.areas) }
@@ -77,70 +86,8 @@ impl<A: Allocator + Copy> AreaTable<A> {
     {
         let mut at = first.number();
         while let Some((start, area)) = self.next_own(pid, Vpn::new(at), end) {
-            self.lose(pid, first, end, area, places, freed);
+            lose(steps, area, places, freed);
             at = start.number() + 1;
-        }
-    }
-
-    /// Pages that an area shows, and that no area covers but those of a process that begin from one page number up to
-    /// another, lose their frames. They are put behind those of a list that has room for them.
-    fn lose(
-        &self,
-        pid: Pid,
-        first: Vpn,
-        end: Vpn,
-        area: Area,
-        places: &mut BTreeMap<Page, FrameId, A>,
-        freed: &mut Vec<(Page, FrameId), A>,
-    )
-        requires ordered { IsStrictlySortedBy spot_cmp (keys_of self.now.areas) }
-        requires alone { is_shared self.now.segments area.page.segment ≡ false → (i : ℕ) → area.page.index ≤ i → i < area.page.index + area.pages → is_covered (others pid first end self.now.areas) (page_in area.page.segment i) ≡ false }
-        requires indices { area.page.index + area.pages < 2 ^ 64 }
-        requires room { vec_len freed.old + min (length places.old.entries) area.pages ≤ vec_capacity freed.old }
-        ensures places { places.new.entries ≡ fold (place_left (others pid first end self.now.areas)) places.old.entries (pages_of_area area) }
-        ensures freed { freed.new.items ≡ freed.old.items ++ all_lost (others pid first end self.now.areas) places.old.entries (pages_of_area area) }
-        ensures counted { vec_len freed.new + length places.new.entries ≡ vec_len freed.old + length places.old.entries }
-        ensures few { vec_len freed.new ≤ vec_len freed.old + area.pages }
-        ensures room { vec_capacity freed.new ≡ vec_capacity freed.old }
-    {
-        let segment = area.page.segment;
-        let alone = !self.is_shared(segment);
-        let past = area.page.index + area.pages;
-        let mut at = area.page.index;
-        while let Some((index, frame)) = next_place(places, segment, at, past) {
-            let page = Page { segment, index };
-            self.lose_page(pid, first, end, page, alone, frame, places, freed);
-            at = index + 1;
-        }
-    }
-
-    /// A page loses its frame, if no area covers it but those of a process that begin from one page number up to
-    /// another: for a page that stands alone, no area has to be looked at. Then it is put behind those of a list that has
-    /// room for it.
-    fn lose_page(
-        &self,
-        pid: Pid,
-        first: Vpn,
-        end: Vpn,
-        page: Page,
-        alone: bool,
-        frame: FrameId,
-        places: &mut BTreeMap<Page, FrameId, A>,
-        freed: &mut Vec<(Page, FrameId), A>,
-    )
-        requires ordered { IsStrictlySortedBy spot_cmp (keys_of self.now.areas) }
-        requires alone { alone ≡ true → is_covered (others pid first end self.now.areas) page ≡ false }
-        requires has { get page_cmp places.old.entries page ≡ Some frame }
-        requires room { vec_len freed.old + min (length places.old.entries) 1 ≤ vec_capacity freed.old }
-        ensures places { places.new.entries ≡ place_left (others pid first end self.now.areas) places.old.entries page }
-        ensures freed { freed.new.items ≡ freed.old.items ++ lost (others pid first end self.now.areas) places.old.entries page }
-        ensures counted { vec_len freed.new + length places.new.entries ≡ vec_len freed.old + length places.old.entries }
-        ensures few { vec_len freed.new ≤ vec_len freed.old + 1 }
-        ensures room { vec_capacity freed.new ≡ vec_capacity freed.old }
-    {
-        if alone || !is_covered(&self.areas, &self.by_segment, pid, first, end, page) {
-            places.remove(&page);
-            freed.push_reserved((page, frame));
         }
     }
 
@@ -177,4 +124,77 @@ impl<A: Allocator + Copy> AreaTable<A> {
     {
         self.segments.remove(&number);
     }
+}
+
+/// Pages that an area shows, and that none of the areas covers whose steps these are, lose their frames. They are put
+/// behind those of a list that has room for them. It goes from change to change: between two as many areas cover each
+/// page.
+fn lose<A: Allocator + Copy>(
+    steps: &BTreeMap<Page, Step, A>,
+    area: Area,
+    places: &mut BTreeMap<Page, FrameId, A>,
+    freed: &mut Vec<(Page, FrameId), A>,
+)
+    requires indices { area.page.index + area.pages < 2 ^ 64 }
+    requires room { vec_len freed.old + min (length places.old.entries) area.pages ≤ vec_capacity freed.old }
+    ensures places { (left : Map (ℕ × ℕ) Area) → IsCoverage steps.now.entries left → places.new.entries ≡ fold (place_left left) places.old.entries (pages_of_area area) }
+    ensures freed { (left : Map (ℕ × ℕ) Area) → IsCoverage steps.now.entries left → freed.new.items ≡ freed.old.items ++ all_lost left places.old.entries (pages_of_area area) }
+    ensures counted { vec_len freed.new + length places.new.entries ≡ vec_len freed.old + length places.old.entries }
+    ensures few { vec_len freed.new ≤ vec_len freed.old + area.pages }
+    ensures room { vec_capacity freed.new ≡ vec_capacity freed.old }
+{
+    let Page { segment, index } = area.page;
+    let past = index + area.pages;
+    let mut at = index;
+    while at < past {
+        let change = next_change(steps, segment, at, past);
+        let others = count_at(steps, Page { segment, index: at });
+        if others == 0 {
+            lose_stretch(segment, at, change, places, freed);
+        }
+        at = change;
+    }
+}
+
+/// The pages of a segment from an index up to another lose their frames. They are put behind those of a list that has
+/// room for them.
+fn lose_stretch<A: Allocator + Copy>(
+    segment: u32,
+    first: u64,
+    past: u64,
+    places: &mut BTreeMap<Page, FrameId, A>,
+    freed: &mut Vec<(Page, FrameId), A>,
+)
+    requires range { first ≤ past }
+    requires room { vec_len freed.old + min (length places.old.entries) (past - first) ≤ vec_capacity freed.old }
+    ensures places { places.new.entries ≡ fold (place_left []) places.old.entries (pages_from segment first (past - first)) }
+    ensures freed { freed.new.items ≡ freed.old.items ++ all_lost [] places.old.entries (pages_from segment first (past - first)) }
+    ensures counted { vec_len freed.new + length places.new.entries ≡ vec_len freed.old + length places.old.entries }
+    ensures few { vec_len freed.new ≤ vec_len freed.old + (past - first) }
+    ensures room { vec_capacity freed.new ≡ vec_capacity freed.old }
+{
+    let mut at = first;
+    while let Some((index, frame)) = next_place(places, segment, at, past) {
+        lose_page(Page { segment, index }, frame, places, freed);
+        at = index + 1;
+    }
+}
+
+/// A page loses its frame, and is put behind those of a list that has room for it.
+fn lose_page<A: Allocator + Copy>(
+    page: Page,
+    frame: FrameId,
+    places: &mut BTreeMap<Page, FrameId, A>,
+    freed: &mut Vec<(Page, FrameId), A>,
+)
+    requires has { get page_cmp places.old.entries page ≡ Some frame }
+    requires room { vec_len freed.old + min (length places.old.entries) 1 ≤ vec_capacity freed.old }
+    ensures places { places.new.entries ≡ place_left [] places.old.entries page }
+    ensures freed { freed.new.items ≡ freed.old.items ++ lost [] places.old.entries page }
+    ensures counted { vec_len freed.new + length places.new.entries ≡ vec_len freed.old + length places.old.entries }
+    ensures few { vec_len freed.new ≤ vec_len freed.old + 1 }
+    ensures room { vec_capacity freed.new ≡ vec_capacity freed.old }
+{
+    places.remove(&page);
+    freed.push_reserved((page, frame));
 }

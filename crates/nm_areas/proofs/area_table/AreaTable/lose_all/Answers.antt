@@ -5,14 +5,8 @@ use Rattle.nm_areas.specs.Removed.{others, place_left, all_lost, pages_of_own}
 use Rattle.nm_areas.proofs.Overs.{get_among}
 use Rattle.nm_areas.proofs.Parted.{All-among}
 use Rattle.nm_areas.proofs.Roomy.{own_count_next}
-use Rattle.nm_areas.proofs.Private.{none_beside}
 use Rattle.nm_areas.proofs.Lost.{own_freed_next, own_left_next, own_pages_end}
 use Rattle.nm_areas.proofs.area_table.AreaTable.lose_all.Goals as goal
-
-pub lose-requires-clause-alone : goal.lose-requires-clause-alone
-lose-requires-clause-alone g c private =
-    let some = c.in-Some.ensures.some in
-    none_beside c.args.self.now.areas c.args.self.now.segments c.args.pid c.args.first c.args.end _ _ c.requires.apart c.requires.once some.2 (omega (arith, c.loop-start.invariant.low, some.0, c.new.ensures)) some.1 private
 
 pub lose-requires-clause-indices : goal.lose-requires-clause-indices
 lose-requires-clause-indices g c =
@@ -33,10 +27,10 @@ loop-start-preserved g c =
     record {
       freed = ap (λ (n : ℕ). c.lose.new.freed.items ++ all_lost left c.lose.new.places.entries (next (n + 1))) c.number-at-in-Some.ensures
           ∙ own_freed_next left c.args.self.now.areas c.args.pid c.loop-start.at _ c.args.end _ some.1 c.next_own.ensures.ordered (omega (arith, some.0, c.new.ensures)) some.2 (λ v low high. c.in-Some.ensures.first v (omega (arith, low, c.new.ensures)) high)
-          c.loop-start.places.entries c.lose.new.places.entries c.lose.ensures.places c.loop-start.freed.items c.lose.new.freed.items _ c.lose.ensures.freed c.loop-start.invariant.freed;
+          c.loop-start.places.entries c.lose.new.places.entries (c.lose.ensures.places left c.requires.steps) c.loop-start.freed.items c.lose.new.freed.items _ (c.lose.ensures.freed left c.requires.steps) c.loop-start.invariant.freed;
       places = ap (λ (n : ℕ). fold (place_left left) c.lose.new.places.entries (next (n + 1))) c.number-at-in-Some.ensures
           ∙ own_left_next left c.args.self.now.areas c.args.pid c.loop-start.at _ c.args.end _ some.1 c.next_own.ensures.ordered (omega (arith, some.0, c.new.ensures)) some.2 (λ v low high. c.in-Some.ensures.first v (omega (arith, low, c.new.ensures)) high)
-          c.loop-start.places.entries c.lose.new.places.entries c.lose.ensures.places _ c.loop-start.invariant.places;
+          c.loop-start.places.entries c.lose.new.places.entries (c.lose.ensures.places left c.requires.steps) _ c.loop-start.invariant.places;
       room = omega (arith, c.loop-start.invariant.room, c.lose.ensures.counted, c.lose.ensures.few, c.lose.ensures.room, count, ap (λ (n : ℕ). length (next (n + 1))) c.number-at-in-Some.ensures);
       kept = omega (arith, c.loop-start.invariant.kept, c.lose.ensures.room);
       low = omega (arith, c.loop-start.invariant.low, some.0, c.new.ensures, c.number-at-in-Some.ensures);

@@ -6,14 +6,14 @@ use Rattle.nm_areas.proofs.area_table.AreaTable.lose_all.Given as goal
 
 abbrev pub invariant-loop-start : goal.invariant-loop-start
 invariant-loop-start g l =
-    let left = others l.pid l.first l.end l.self.areas in
+    let left = others l.pid l.fn.first l.end l.self.areas in
     record {
       freed : l.freed.items ++ all_lost left l.places.entries (pages_of_own l.pid l.at l.end l.self.areas)
-          ≡ l.fn.freed.items ++ all_lost left l.fn.places.entries (pages_of_own l.pid l.first l.end l.self.areas);
-      places : fold (place_left left) l.places.entries (pages_of_own l.pid l.at l.end l.self.areas) ≡ fold (place_left left) l.fn.places.entries (pages_of_own l.pid l.first l.end l.self.areas);
+          ≡ l.fn.freed.items ++ all_lost left l.fn.places.entries (pages_of_own l.pid l.fn.first l.end l.self.areas);
+      places : fold (place_left left) l.places.entries (pages_of_own l.pid l.at l.end l.self.areas) ≡ fold (place_left left) l.fn.places.entries (pages_of_own l.pid l.fn.first l.end l.self.areas);
       room : vec_len l.freed + min (length l.places.entries) (length (pages_of_own l.pid l.at l.end l.self.areas)) ≤ vec_capacity l.freed;
       kept : vec_capacity l.freed ≡ vec_capacity l.fn.freed;
-      low : l.first ≤ l.at;
+      low : l.fn.first ≤ l.at;
       up : l.at ≤ l.end;
     }
 

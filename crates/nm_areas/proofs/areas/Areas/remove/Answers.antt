@@ -1,43 +1,48 @@
-use Rattle.std.proofs.Common.{◌≡◌, ℕ, ◌+◌, ◌/◌, not, ap, ◌∙◌, arith}
+use Rattle.std.proofs.Common.{◌≡◌, ℕ, ◌+◌, ◌/◌, not, ap, sym, subst, ◌∙◌, arith}
 use Rattle.std.specs.Prelude.{Some, None, if◌then◌else◌}
 use Rattle.nm_types.specs.declared.errno.Errno.TheVariants.{Einval}
 use Rattle.nm_areas.specs.Mapped.{Mapped, mapped}
 use Rattle.nm_types.specs.State.{page_at}
 use Rattle.nm_areas.specs.Table.{Table}
+use Rattle.nm_areas.specs.Coverage.{IsCoverage}
+use Rattle.nm_areas.proofs.Covered.{was_cut}
 use Rattle.nm_areas.specs.Removed.{removed, frames_lost, page_outside}
 use Rattle.nm_areas.proofs.Shown.{left_shows}
 use Rattle.nm_areas.proofs.Roomy.{few_own}
-use Rattle.nm_areas.proofs.Private.{cut_apart, cut_once}
 use Rattle.nm_areas.proofs.Letting.{cut_indices, cut_shown, now_left, after_is, after_mapped, lost_is}
 use Rattle.nm_areas.proofs.areas.Areas.remove.Goals as goal
 
-pub lose_all-requires-clause-apart : goal.lose_all-requires-clause-apart
-lose_all-requires-clause-apart g c =
-    cut_apart c.self.inside.table c.self.inside.places.entries c.self.invariant c.args.pid c.in-Some.first c.new-end.result c.cut.new.self c.in_ok-cut.ensures.ok
-
-pub lose_all-requires-clause-once : goal.lose_all-requires-clause-once
-lose_all-requires-clause-once g c =
-    cut_once c.self.inside.table c.self.inside.places.entries c.self.invariant c.args.pid c.in-Some.first c.new-end.result c.cut.new.self c.in_ok-cut.ensures.ok
-
 pub lose_all-requires-clause-indices : goal.lose_all-requires-clause-indices
 lose_all-requires-clause-indices g c =
-    cut_indices c.self.inside.table c.self.inside.places.entries c.self.invariant c.args.pid c.in-Some.first c.new-end.result c.cut.new.self c.in_ok-cut.ensures.ok
+    cut_indices c.self.inside.table c.self.inside.places.entries c.self.invariant.0 c.args.pid c.in-Some.first c.new-end.result c.cut.new.self c.in-Ok.ensures.ok
 
 pub lose_all-requires-clause-room : goal.lose_all-requires-clause-room
 lose_all-requires-clause-room g c =
     let range = c.in-Some.ensures.some in
-    let few = few_own c.self.inside.table c.cut.new.self c.self.inside.places.entries c.args.pid c.in-Some.first c.new-end.result c.self.invariant (omega (arith, range.2, c.new-end.ensures, c.number.ensures)) c.in_ok-cut.ensures.ok in
+    let few = few_own c.self.inside.table c.cut.new.self c.self.inside.places.entries c.args.pid c.in-Some.first c.new-end.result c.self.invariant.0 (omega (arith, range.2, c.new-end.ensures, c.number.ensures)) c.in-Ok.ensures.ok in
     omega (arith, few, c.new-end.ensures, c.number.ensures, c.in_ok-freed.ensures.len, c.in_ok-freed.ensures.capacity, c.min-most.ensures, c.len.ensures.len)
 
 pub drop_own-requires-clause-shown : goal.drop_own-requires-clause-shown
 drop_own-requires-clause-shown g c =
-    cut_shown c.self.inside.table c.self.inside.places.entries c.self.invariant c.args.pid c.in-Some.first c.new-end.result c.cut.new.self c.in_ok-cut.ensures.ok
+    cut_shown c.self.inside.table c.self.inside.places.entries c.self.invariant.0 c.args.pid c.in-Some.first c.new-end.result c.cut.new.self c.in-Ok.ensures.ok
+
+pub count_out_own-requires-clause-steps : goal.count_out_own-requires-clause-steps
+count_out_own-requires-clause-steps g c =
+    let range = c.in-Some.ensures.some in
+    was_cut c.split_steps.new.steps.entries c.self.inside.table.areas c.args.pid c.in-Some.first c.new-end.result (omega (arith, range.2, c.new-end.ensures, c.number.ensures)) c.self.invariant.0.whole c.in_ok-split_steps.ensures.ok c.cut.new.self.areas
+    (ap (λ (t : Table). t.areas) c.in-Ok.ensures.ok)
+
+pub count_out_own-requires-clause-indices : goal.count_out_own-requires-clause-indices
+count_out_own-requires-clause-indices g c =
+    cut_indices c.self.inside.table c.self.inside.places.entries c.self.invariant.0 c.args.pid c.in-Some.first c.new-end.result c.cut.new.self c.in-Ok.ensures.ok
 
 pub invariant_of-self-2 : goal.invariant_of-self-2
 invariant_of-self-2 g c =
-    let range = c.in-Some.ensures.some in
-    after_mapped c.self.inside.table c.self.inside.places.entries c.self.invariant c.args.pid c.in-Some.first c.new-end.result (omega (arith, range.2, c.new-end.ensures, c.number.ensures)) c.cut.new.self c.drop_own.new.self
-    c.lose_all.new.places.entries c.in_ok-cut.ensures.ok c.drop_own.ensures c.lose_all.ensures.places
+    let range = c.in-Some.ensures.some in (
+      after_mapped c.self.inside.table c.self.inside.places.entries c.self.invariant.0 c.args.pid c.in-Some.first c.new-end.result (omega (arith, range.2, c.new-end.ensures, c.number.ensures)) c.cut.new.self c.drop_own.new.self
+          c.lose_all.new.places.entries c.in-Ok.ensures.ok c.drop_own.ensures c.lose_all.ensures.places,
+      subst (IsCoverage c.count_out_own.new.steps.entries) (sym (ap (λ (t : Table). t.areas) c.drop_own.ensures)) c.count_out_own.ensures,
+    )
 
 pub returns-clause-done : goal.returns-clause-done
 returns-clause-done g c =
@@ -45,8 +50,8 @@ returns-clause-done g c =
     let end : c.new-end.result ≡ c.args.addr / 4096 + c.args.pages = c.new-end.ensures ∙ ap (λ (n : ℕ). n + c.args.pages) (c.number.ensures ∙ range.0) in
     let before = mapped c.self.inside.table c.self.inside.places.entries in (
       ap (λ b. if not b then Some Einval else None) range.1,
-      after_is c.self.inside.table c.self.inside.places.entries c.self.invariant c.args.pid c.in-Some.first c.new-end.result (omega (arith, range.2, c.new-end.ensures, c.number.ensures)) c.cut.new.self c.drop_own.new.self
-          c.lose_all.new.places.entries c.in_ok-cut.ensures.ok c.drop_own.ensures c.lose_all.ensures.places
+      after_is c.self.inside.table c.self.inside.places.entries c.self.invariant.0 c.args.pid c.in-Some.first c.new-end.result (omega (arith, range.2, c.new-end.ensures, c.number.ensures)) c.cut.new.self c.drop_own.new.self
+          c.lose_all.new.places.entries c.in-Ok.ensures.ok c.drop_own.ensures c.lose_all.ensures.places
           ∙ ap (λ (n : ℕ). removed before c.args.pid n c.new-end.result) range.0
           ∙ ap (λ (n : ℕ). removed before c.args.pid (c.args.addr / 4096) n) end
           ∙ ap (λ (m : Mapped). removed m c.args.pid (c.args.addr / 4096) (c.args.addr / 4096 + c.args.pages)) c.self.view_is,
@@ -57,8 +62,8 @@ returns-clause-freed g c =
     let range = c.in-Some.ensures.some in
     let end : c.new-end.result ≡ c.args.addr / 4096 + c.args.pages = c.new-end.ensures ∙ ap (λ (n : ℕ). n + c.args.pages) (c.number.ensures ∙ range.0) in
     let before = mapped c.self.inside.table c.self.inside.places.entries in
-    lost_is c.self.inside.table c.self.inside.places.entries c.self.invariant c.args.pid c.in-Some.first c.new-end.result (omega (arith, range.2, c.new-end.ensures, c.number.ensures)) c.cut.new.self c.drop_own.new.self
-    c.lose_all.new.places.entries c.in_ok-cut.ensures.ok c.drop_own.ensures c.lose_all.ensures.places c.in_ok-freed.freed.items c.lose_all.new.freed.items c.in_ok-freed.ensures.items c.lose_all.ensures.freed
+    lost_is c.self.inside.table c.self.inside.places.entries c.self.invariant.0 c.args.pid c.in-Some.first c.new-end.result (omega (arith, range.2, c.new-end.ensures, c.number.ensures)) c.cut.new.self c.drop_own.new.self
+    c.lose_all.new.places.entries c.in-Ok.ensures.ok c.drop_own.ensures c.lose_all.ensures.places c.in_ok-freed.freed.items c.lose_all.new.freed.items c.in_ok-freed.ensures.items c.lose_all.ensures.freed
     ∙ ap (λ (n : ℕ). frames_lost before c.args.pid n c.new-end.result) range.0
     ∙ ap (λ (n : ℕ). frames_lost before c.args.pid (c.args.addr / 4096) n) end
     ∙ ap (λ (m : Mapped). frames_lost m c.args.pid (c.args.addr / 4096) (c.args.addr / 4096 + c.args.pages)) c.self.view_is
@@ -68,9 +73,9 @@ returns-clause-pages g c q v =
     let range = c.in-Some.ensures.some in
     let end : c.new-end.result ≡ c.args.addr / 4096 + c.args.pages = c.new-end.ensures ∙ ap (λ (n : ℕ). n + c.args.pages) (c.number.ensures ∙ range.0) in
     let areas = c.self.inside.table.areas in
-    ap (λ (t : Table). page_at t.areas q v) (now_left c.self.inside.table c.self.inside.places.entries c.self.invariant c.args.pid c.in-Some.first c.new-end.result (omega (arith, range.2, c.new-end.ensures, c.number.ensures)) c.cut.new.self c.drop_own.new.self
-    c.lose_all.new.places.entries c.in_ok-cut.ensures.ok c.drop_own.ensures c.lose_all.ensures.places)
-    ∙ left_shows c.args.pid c.in-Some.first c.new-end.result (omega (arith, c.new-end.ensures, c.number.ensures)) areas c.self.invariant.whole c.self.invariant.apart q v
+    ap (λ (t : Table). page_at t.areas q v) (now_left c.self.inside.table c.self.inside.places.entries c.self.invariant.0 c.args.pid c.in-Some.first c.new-end.result (omega (arith, range.2, c.new-end.ensures, c.number.ensures)) c.cut.new.self c.drop_own.new.self
+    c.lose_all.new.places.entries c.in-Ok.ensures.ok c.drop_own.ensures c.lose_all.ensures.places)
+    ∙ left_shows c.args.pid c.in-Some.first c.new-end.result (omega (arith, c.new-end.ensures, c.number.ensures)) areas c.self.invariant.0.whole c.self.invariant.0.apart q v
     ∙ ap (λ (n : ℕ). page_outside areas c.args.pid n c.new-end.result q v) range.0
     ∙ ap (λ (n : ℕ). page_outside areas c.args.pid (c.args.addr / 4096) n q v) end
     ∙ ap (λ (m : Mapped). page_outside m.areas c.args.pid (c.args.addr / 4096) (c.args.addr / 4096 + c.args.pages) q v) c.self.view_is

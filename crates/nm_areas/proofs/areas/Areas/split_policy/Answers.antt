@@ -4,15 +4,21 @@ use Rattle.nm_areas.specs.Table.{Table}
 use Rattle.nm_areas.specs.Mapped.{Mapped}
 use Rattle.nm_areas.proofs.Shown.{repoliced_shows}
 use Rattle.nm_areas.proofs.Policed.{policed_mapped}
+use Rattle.nm_areas.proofs.Covered.{was_policed}
 use Rattle.nm_areas.proofs.areas.Areas.split_policy.Goals as goal
 
-pub invariant_of-self : goal.invariant_of-self
-invariant_of-self g c =
-    policed_mapped c.self.inside.table c.self.inside.places.entries c.self.invariant c.set_policy.new.self c.args.pid _ _ c.args.policy
-    (omega (arith, c.in-Some.ensures.some.1, c.if-len-gt0.true)) c.in_ok-set_policy.ensures.ok
+pub invariant_of-self-in-Ok : goal.invariant_of-self-in-Ok
+invariant_of-self-in-Ok g c =
+    let t = c.self.inside.table in
+    let a = c.args in
+    let range = c.in-Some.ensures.some in (
+      policed_mapped t c.self.inside.places.entries c.self.invariant.0 c.set_policy.new.self a.pid _ _ a.policy (omega (arith, range.1, c.if-len-gt0.true)) c.in-Ok.ensures.ok,
+      was_policed c.split_steps.new.steps.entries t.areas a.pid _ c.new-end.result (omega (arith, c.new-end.ensures, c.number.ensures, range.1, c.if-len-gt0.true)) c.self.invariant.0.whole c.in_ok-split_steps.ensures.ok a.policy _ _ c.set_policy.new.self.areas
+          c.new-end.ensures c.number.ensures (ap (λ (z : Table). z.areas) c.in-Ok.ensures.ok),
+    )
 
-pub returns-in_ok-set_policy-clause-pages : goal.returns-in_ok-set_policy-clause-pages
-returns-in_ok-set_policy-clause-pages g c q v =
-    ap (λ (t : Table). page_at t.areas q v) c.in_ok-set_policy.ensures.ok
-    ∙ repoliced_shows c.args.pid _ _ c.args.policy (omega (arith, c.in-Some.ensures.some.1, c.if-len-gt0.true)) c.self.inside.table.areas c.self.invariant.whole c.self.invariant.apart q v
+pub returns-in-Ok-clause-pages : goal.returns-in-Ok-clause-pages
+returns-in-Ok-clause-pages g c q v =
+    ap (λ (t : Table). page_at t.areas q v) c.in-Ok.ensures.ok
+    ∙ repoliced_shows c.args.pid _ _ c.args.policy (omega (arith, c.in-Some.ensures.some.1, c.if-len-gt0.true)) c.self.inside.table.areas c.self.invariant.0.whole c.self.invariant.0.apart q v
     ∙ ap (λ (m : Mapped). page_at m.areas q v) c.self.view_is

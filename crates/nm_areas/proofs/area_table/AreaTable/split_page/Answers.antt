@@ -1,0 +1,45 @@
+use Rattle.std.proofs.Common.{ℕ, ◌+◌, ◌-◌, ◌≡◌, refl, ap, sym, arith, ◌∙◌}
+use Rattle.std.specs.Prelude.{if◌then◌else◌}
+use Rattle.nm_types.specs.Map.{same_page}
+use Rattle.nm_types.specs.State.{Placed}
+use Rattle.nm_types.proofs.Cases.{none_always}
+use Rattle.nm_areas.specs.Coverage.{split_of}
+use Rattle.nm_areas.specs.Mapped.{HasIndices}
+use Rattle.nm_areas.specs.Removed.{page_in}
+use Rattle.nm_areas.proofs.Parted.{All-among}
+use Rattle.nm_areas.proofs.Counted.{total_over, total_over_none, not_over, begins_there, split_there}
+use Rattle.nm_areas.proofs.Cut.{over_facts}
+use Rattle.nm_areas.proofs.area_table.AreaTable.split_page.Goals as goal
+
+pub returns-in_err-start-clause-none : goal.returns-in_err-start-clause-none
+returns-in_err-start-clause-none g c =
+    let a = c.args in
+    none_always c.from_residual.result (λ p. total_over_none (split_of a.pid a.at p) a.pid a.at (not_over a.pid a.at p) a.self.now.areas (sym c.in_err-start.ensures))
+
+pub overflow_sub-front : goal.overflow_sub-front
+overflow_sub-front g c =
+    let facts = over_facts c.args.pid c.args.at c.args.self.now.areas _ _ c.in_ok-start.ensures in
+    omega (arith, facts.1, c.number.ensures, c.number-2.ensures)
+
+pub returns-then-front-eq0-clause-none : goal.returns-then-front-eq0-clause-none
+returns-then-front-eq0-clause-none g c p =
+    let a = c.args in
+    let e : Placed = ((a.pid, c.in_ok-start.start), c.in_ok-start.area) in
+    total_over (split_of a.pid a.at p) a.pid a.at (not_over a.pid a.at p) a.self.now.areas c.requires.apart e (sym c.in_ok-start.ensures)
+    ∙ begins_there a.pid a.at p e (omega (arith, c.if-front-eq0.true, c.number.ensures, c.number-2.ensures))
+
+pub overflow_add-result : goal.overflow_add-result
+overflow_add-result g c =
+    let facts = over_facts c.args.pid c.args.at c.args.self.now.areas _ _ c.in_ok-start.ensures in
+    let few = All-among HasIndices c.args.self.now.areas _ c.requires.indices facts.0 in
+    omega (arith, few, facts.1, facts.2, c.number.ensures, c.number-2.ensures)
+
+pub returns-clause-some : goal.returns-clause-some
+returns-clause-some g c p =
+    let a = c.args in
+    let e : Placed = ((a.pid, c.in_ok-start.start), c.in_ok-start.area) in
+    let facts = over_facts a.pid a.at a.self.now.areas _ _ c.in_ok-start.ensures in
+    let same : a.at - c.in_ok-start.start ≡ c.number.result - c.number-2.result = omega (arith, c.number.ensures, c.number-2.ensures) in
+    total_over (split_of a.pid a.at p) a.pid a.at (not_over a.pid a.at p) a.self.now.areas c.requires.apart e (sym c.in_ok-start.ensures)
+    ∙ split_there a.pid a.at p e refl (omega (arith, facts.1, c.if-front-eq0.false, c.number.ensures, c.number-2.ensures)) facts.2
+    ∙ ap (λ (n : ℕ). if same_page (page_in e.1.page.segment (e.1.page.index + n)) p then 2 else 0) same

@@ -1,0 +1,60 @@
+-- How many areas cover a page, as a step function of each segment.
+use Rattle.std.specs.Prelude.{◌≡◌, ℕ, suc, ◌+◌, ◌==◌, nat_lt, ◌&&◌, List, [], ◌∷◌, Option, Some, None, if◌then◌else◌}
+use Rattle.nm_types.specs.declared.page.Page.{Page}
+use Rattle.nm_types.specs.declared.area.Area.{Area}
+use Rattle.nm_types.specs.Map.{Map, get, page_cmp, same_page}
+use Rattle.nm_types.specs.State.{Placed, covers, page_of}
+use Rattle.nm_areas.specs.declared.coverage.Step.{Step}
+use Rattle.nm_areas.specs.Parts.{shows_page}
+use Rattle.nm_areas.specs.Removed.{page_in}
+
+-- a number of each area, added up
+abbrev pub total : (Placed → ℕ) → List Placed → ℕ
+total number [] = 0
+total number (a ∷ areas) = number a + total number areas
+
+-- the page behind the last one of an area
+abbrev pub end_of : Area → Page
+end_of area = page_in area.page.segment (area.page.index + area.pages)
+
+-- how often an area begins or ends at a page
+abbrev pub ends_of : Page → Area → ℕ
+ends_of p area = (if same_page area.page p then 1 else 0) + (if same_page (end_of area) p then 1 else 0)
+
+-- 1 where an area covers a page
+abbrev pub covers_of : Page → Area → ℕ
+covers_of p area = if shows_page p area then 1 else 0
+
+-- how many areas begin or end at a page ..
+abbrev pub ends_at : Map (ℕ × ℕ) Area → Page → ℕ
+ends_at areas p = total (λ a. ends_of p a.1) areas
+
+-- .. and how many cover it
+abbrev pub covers_at : Map (ℕ × ℕ) Area → Page → ℕ
+covers_at areas p = total (λ a. covers_of p a.1) areas
+
+-- what stands at a page: nothing where no area begins or ends
+abbrev pub step_of : ℕ → ℕ → Option Step
+step_of ends covers = if ends == 0 then None else Some (record { covers = covers; ends = ends })
+
+-- steps stand exactly where something ends, with both numbers
+abbrev pub IsSteps : Map Page Step → (Page → ℕ) → (Page → ℕ) → Type 0
+IsSteps steps ends covers = (p : Page) → get page_cmp steps p ≡ step_of (ends p) (covers p)
+
+-- the steps are those of the areas
+abbrev pub IsCoverage : Map Page Step → Map (ℕ × ℕ) Area → Type 0
+IsCoverage steps areas = IsSteps steps (ends_at areas) (covers_at areas)
+
+-- where nothing ends as many cover a page as the one in front of it, and none covers the first page
+abbrev pub IsFlat : (Page → ℕ) → (Page → ℕ) → Type 0
+IsFlat ends covers =
+    ((s : ℕ) → ends (page_in s 0) ≡ 0 → covers (page_in s 0) ≡ 0)
+    × ((s i : ℕ) → ends (page_in s (suc i)) ≡ 0 → covers (page_in s (suc i)) ≡ covers (page_in s i))
+
+-- how many ends an area has more at a page when it is split at a page number: those of both parts
+abbrev pub split_of : ℕ → ℕ → Page → Placed → ℕ
+split_of pid at p a = if covers a pid at && (nat_lt a.0.1 at && same_page (page_of a at) p) then 2 else 0
+
+-- the same of all areas, of which one at most is over the page number
+abbrev pub splits_at : Map (ℕ × ℕ) Area → ℕ → ℕ → Page → ℕ
+splits_at areas pid at p = total (split_of pid at p) areas

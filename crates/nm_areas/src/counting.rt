@@ -1,0 +1,158 @@
+//! The areas of a table, counted in the steps of `coverage` as they come, are split and go.
+
+ghost use Rattle.std.specs.List.{AllByRecursion};
+ghost use Rattle.std.specs.Prelude.{IfNone, IfSome, OnErr, OnOk, ℕ, ◌+◌, ◌<◌, ◌^◌, ◌≡◌, ◌≤◌, if◌then◌else◌};
+ghost use Rattle.nm_areas.specs.Coverage.{IsCoverage, IsFlat, IsSteps, covers_at, covers_of, ends_at, ends_of, splits_at};
+ghost use Rattle.nm_areas.specs.Mapped.{AreasAreApart, HasIndices, IsSomePages};
+ghost use Rattle.nm_areas.specs.Removed.{others};
+ghost use Rattle.nm_types.specs.Map.{same_page};
+
+use crate::area_table::AreaTable;
+use crate::coverage::{Step, cover, mark, uncover, unmark};
+use nm_types::{Area, Page, Pid, Vpn};
+use std::alloc::{AllocError, Allocator};
+use std::collections::BTreeMap;
+
+/// Counts in an area that is to come to those of a table. An error means that the steps are still those of the table.
+pub(crate) fn count_in<A: Allocator + Copy>(
+    table: &AreaTable<A>,
+    steps: &mut BTreeMap<Page, Step, A>,
+    area: Area,
+) -> Result<(), AllocError>
+    requires steps { IsCoverage steps.old.entries table.now.areas }
+    requires whole { AllByRecursion IsSomePages table.now.areas }
+    requires indices { area.page.index + area.pages < 2 ^ 64 }
+    ensures ok { OnOk result (IsSteps steps.new.entries (λ p. ends_at table.now.areas p + ends_of p area) (λ p. covers_at table.now.areas p + covers_of p area)) }
+    ensures err { OnErr result (IsCoverage steps.new.entries table.now.areas) }
+{
+    // So few areas that no number of a step is too great for its type.
+    let areas = table.count();
+    prove!(areas < usize::MAX);
+    cover(steps, area)?;
+    Ok(())
+}
+
+/// Counts out the areas of a process that begin from one page number up to another, so that the steps are those of the
+/// other areas. It takes no memory.
+pub(crate) fn count_out_own<A: Allocator + Copy>(
+    table: &AreaTable<A>,
+    steps: &mut BTreeMap<Page, Step, A>,
+    pid: Pid,
+    first: Vpn,
+    end: Vpn,
+)
+    requires range { first ≤ end }
+    requires steps { IsCoverage steps.old.entries table.now.areas }
+    requires indices { AllByRecursion HasIndices table.now.areas }
+    ensures { IsCoverage steps.new.entries (others pid first end table.now.areas) }
+{
+    let mut at = first.number();
+    while let Some((start, area)) = table.next_own(pid, Vpn::new(at), end) {
+        uncover(steps, area);
+        at = start.number() + 1;
+    }
+}
+
+/// Counts what ends when the areas of a process are split at two page numbers. An error means that the steps are still
+/// those of the table.
+pub(crate) fn split_steps<A: Allocator + Copy>(
+    table: &AreaTable<A>,
+    steps: &mut BTreeMap<Page, Step, A>,
+    pid: Pid,
+    first: Vpn,
+    end: Vpn,
+) -> Result<(), AllocError>
+    requires steps { IsCoverage steps.old.entries table.now.areas }
+    requires apart { AreasAreApart table.now.areas }
+    requires whole { AllByRecursion IsSomePages table.now.areas }
+    requires indices { AllByRecursion HasIndices table.now.areas }
+    ensures ok { OnOk result (IsSteps steps.new.entries (λ p. (ends_at table.now.areas p + splits_at table.now.areas pid first p) + splits_at table.now.areas pid end p) (covers_at table.now.areas)) }
+    ensures err { OnErr result (IsCoverage steps.new.entries table.now.areas) }
+{
+    // So few areas that no number of a step is too great for its type.
+    let areas = table.count();
+    prove!(areas < usize::MAX);
+    split_step(table, steps, pid, first)?;
+    let Ok(()) = split_step(table, steps, pid, end) else {
+        join_step(table, steps, pid, first);
+        return Err(AllocError);
+    };
+    Ok(())
+}
+
+/// Takes back what `split_steps` counted, where the areas were not split. It takes no memory.
+pub(crate) fn join_steps<A: Allocator + Copy>(
+    table: &AreaTable<A>,
+    steps: &mut BTreeMap<Page, Step, A>,
+    pid: Pid,
+    first: Vpn,
+    end: Vpn,
+)
+    requires steps { IsSteps steps.old.entries (λ p. (ends_at table.now.areas p + splits_at table.now.areas pid first p) + splits_at table.now.areas pid end p) (covers_at table.now.areas) }
+    requires apart { AreasAreApart table.now.areas }
+    requires whole { AllByRecursion IsSomePages table.now.areas }
+    requires indices { AllByRecursion HasIndices table.now.areas }
+    ensures { IsCoverage steps.new.entries table.now.areas }
+{
+    join_step(table, steps, pid, end);
+    join_step(table, steps, pid, first);
+}
+
+/// Counts what ends when the areas of a process are split at a page number. An error means that nothing has changed.
+fn split_step<A: Allocator + Copy>(
+    table: &AreaTable<A>,
+    steps: &mut BTreeMap<Page, Step, A>,
+    pid: Pid,
+    at: Vpn,
+) -> Result<(), AllocError>
+    requires apart { AreasAreApart table.now.areas }
+    requires whole { AllByRecursion IsSomePages table.now.areas }
+    requires indices { AllByRecursion HasIndices table.now.areas }
+    ensures ok { OnOk result ((ends covers : Page → ℕ) → IsSteps steps.old.entries ends covers → IsFlat ends covers → ((p : Page) → ends p + 2 < 2 ^ 64) → IsSteps steps.new.entries (λ p. ends p + splits_at table.now.areas pid at p) covers) }
+    ensures err { OnErr result (steps.new.entries ≡ steps.old.entries) }
+{
+    match table.split_page(pid, at) {
+        Some(page) => mark(steps, page, 2),
+        None => Ok(()),
+    }
+}
+
+/// Takes back what `split_step` counted. It takes no memory.
+fn join_step<A: Allocator + Copy>(
+    table: &AreaTable<A>,
+    steps: &mut BTreeMap<Page, Step, A>,
+    pid: Pid,
+    at: Vpn,
+)
+    requires apart { AreasAreApart table.now.areas }
+    requires whole { AllByRecursion IsSomePages table.now.areas }
+    requires indices { AllByRecursion HasIndices table.now.areas }
+    ensures { (ends covers : Page → ℕ) → IsSteps steps.old.entries (λ p. ends p + splits_at table.now.areas pid at p) covers → IsSteps steps.new.entries ends covers }
+{
+    if let Some(page) = table.split_page(pid, at) {
+        unmark(steps, page, 2);
+    }
+}
+
+impl<A: Allocator + Copy> AreaTable<A> {
+    /// The page with which the second part begins where an area of the process is split at a page number. None where no
+    /// area is split there.
+    fn split_page(&self, pid: Pid, at: Vpn) -> Option<Page>
+        requires apart { AreasAreApart self.now.areas }
+        requires whole { AllByRecursion IsSomePages self.now.areas }
+        requires indices { AllByRecursion HasIndices self.now.areas }
+        ensures some { IfSome result (λ page. (p : Page) → splits_at self.now.areas pid at p ≡ (if same_page page p then 2 else 0)) }
+        ensures none { IfNone result ((p : Page) → splits_at self.now.areas pid at p ≡ 0) }
+    {
+        let (start, area) = self.over(pid, at)?;
+        let front = at.number() - start.number();
+        if front == 0 {
+            return None;
+        }
+        let Page { segment, index } = area.page;
+        Some(Page {
+            segment,
+            index: index + front,
+        })
+    }
+}

@@ -1,0 +1,214 @@
+//! How many areas cover a page.
+//!
+//! At each page where an area begins, and at the page behind the last one of an area, stands how many areas cover it.
+//! Between two such pages of a segment nothing changes, so the last of them up to a page tells of that page as well. An
+//! area that comes asks for memory for two steps at most, and one that goes for none. Numbers are added so that they stop
+//! at the greatest one, which none reaches: there are fewer areas than 2^63.
+
+ghost use Rattle.std.specs.Option.{option_map};
+ghost use Rattle.std.specs.Prelude.{IfNone, IfSome, None, OnErr, OnOk, Some, ℕ, ◌+◌, ◌<◌, ◌^◌, ◌≡◌, ◌≤◌, if◌then◌else◌};
+ghost use Rattle.nm_areas.specs.Coverage.{IsFlat, IsSteps, covers_of, ends_of};
+ghost use Rattle.nm_areas.specs.Removed.{page_in};
+ghost use Rattle.nm_areas.specs.Shifted.{shifted, shifted_in};
+ghost use Rattle.nm_types.specs.Map.{get, page_cmp, replace, same_page};
+
+use nm_types::{Area, Page};
+use std::alloc::{AllocError, Allocator};
+use std::collections::BTreeMap;
+
+/// What stands at a page where an area begins, or that is behind the last page of one.
+#[derive(Clone, Copy)]
+pub(crate) struct Step {
+    /// How many areas cover the page.
+    pub(crate) covers: u64,
+    /// How many areas begin there, and how many end in front of it, together.
+    pub(crate) ends: u64,
+}
+
+/// Counts an area in. An error means that nothing has changed.
+pub(crate) fn cover<A: Allocator + Copy>(
+    steps: &mut BTreeMap<Page, Step, A>,
+    area: Area,
+) -> Result<(), AllocError>
+    requires indices { area.page.index + area.pages < 2 ^ 64 }
+    ensures ok { OnOk result ((ends covers : Page → ℕ) → IsSteps steps.old.entries ends covers → IsFlat ends covers → ((p : Page) → (ends p < 2 ^ 63) × (covers p < 2 ^ 63)) → IsSteps steps.new.entries (λ p. ends p + ends_of p area) (λ p. covers p + covers_of p area)) }
+    ensures err { OnErr result ((ends covers : Page → ℕ) → IsSteps steps.old.entries ends covers → IsFlat ends covers → ((p : Page) → (ends p < 2 ^ 63) × (covers p < 2 ^ 63)) → IsSteps steps.new.entries ends covers) }
+{
+    let Page { segment, index } = area.page;
+    let past = index + area.pages;
+    let begin = Page { segment, index };
+    mark(steps, begin, 1)?;
+    let end = Page {
+        segment,
+        index: past,
+    };
+    if let Err(error) = mark(steps, end, 1) {
+        unmark(steps, begin, 1);
+        return Err(error);
+    }
+    shift(steps, segment, index, past, true);
+    Ok(())
+}
+
+/// Counts an area out that was counted in. It takes no memory.
+pub(crate) fn uncover<A: Allocator + Copy>(steps: &mut BTreeMap<Page, Step, A>, area: Area)
+    requires indices { area.page.index + area.pages < 2 ^ 64 }
+    ensures { (ends covers : Page → ℕ) → IsSteps steps.old.entries (λ p. ends p + ends_of p area) (λ p. covers p + covers_of p area) → IsSteps steps.new.entries ends covers }
+{
+    let Page { segment, index } = area.page;
+    let past = index + area.pages;
+    shift(steps, segment, index, past, false);
+    unmark(
+        steps,
+        Page {
+            segment,
+            index: past,
+        },
+        1,
+    );
+    unmark(steps, Page { segment, index }, 1);
+}
+
+/// So many areas more begin or end at a page. An error means that nothing has changed.
+pub(crate) fn mark<A: Allocator + Copy>(
+    steps: &mut BTreeMap<Page, Step, A>,
+    page: Page,
+    times: u64,
+) -> Result<(), AllocError>
+    requires some { 0 < times }
+    ensures ok { OnOk result ((ends covers : Page → ℕ) → IsSteps steps.old.entries ends covers → IsFlat ends covers → ends page + times < 2 ^ 64 → IsSteps steps.new.entries (λ p. ends p + (if same_page page p then times else 0)) covers) }
+    ensures err { OnErr result (steps.new.entries ≡ steps.old.entries) }
+{
+    let step = Step {
+        covers: count_at(steps, page),
+        ends: ends_at(steps, page).saturating_add(times),
+    };
+    steps.insert(page, step)?;
+    Ok(())
+}
+
+/// So many areas less begin or end at a page. It takes no memory.
+pub(crate) fn unmark<A: Allocator + Copy>(
+    steps: &mut BTreeMap<Page, Step, A>,
+    page: Page,
+    times: u64,
+)
+    ensures { (ends covers : Page → ℕ) → IsSteps steps.old.entries (λ p. ends p + (if same_page page p then times else 0)) covers → IsSteps steps.new.entries ends covers }
+{
+    let Some(step) = steps.get(&page).copied() else {
+        return;
+    };
+    let ends = step.ends.saturating_sub(times);
+    if ends == 0 {
+        steps.remove(&page);
+    } else {
+        let covers = step.covers;
+        put_step(steps, page, Step { covers, ends });
+    }
+}
+
+/// One area more, or one less, covers each page of a segment from an index up to another.
+fn shift<A: Allocator + Copy>(
+    steps: &mut BTreeMap<Page, Step, A>,
+    segment: u32,
+    first: u64,
+    past: u64,
+    up: bool,
+)
+    requires range { first ≤ past }
+    ensures { (p : Page) → get page_cmp steps.new.entries p ≡ option_map (shifted_in segment first past up p) (get page_cmp steps.old.entries p) }
+{
+    let mut at = first;
+    while let Some((index, step)) = next_step(steps, segment, at, past) {
+        put_step(steps, Page { segment, index }, shifted(step, up));
+        at = index + 1;
+    }
+}
+
+/// A step with one area more that covers its page, or one less.
+fn shifted(step: Step, up: bool) -> Step
+    ensures { result ≡ shifted up step }
+{
+    let covers = if up {
+        step.covers.saturating_add(1)
+    } else {
+        step.covers.saturating_sub(1)
+    };
+    Step {
+        covers,
+        ends: step.ends,
+    }
+}
+
+/// Puts another step at a page, if one is there. It takes no memory.
+fn put_step<A: Allocator + Copy>(steps: &mut BTreeMap<Page, Step, A>, page: Page, step: Step)
+    ensures { steps.new.entries ≡ replace page_cmp steps.old.entries page step }
+{
+    if let Some(there) = steps.get_mut(&page) {
+        *there = step;
+    }
+}
+
+/// How many areas cover a page.
+pub(crate) fn count_at<A: Allocator + Copy>(steps: &BTreeMap<Page, Step, A>, page: Page) -> u64
+    ensures { (ends covers : Page → ℕ) → IsSteps steps.now.entries ends covers → IsFlat ends covers → result ≡ covers page }
+{
+    match steps.range(..=page).next_back() {
+        Some((start, step)) => {
+            if start.segment == page.segment {
+                step.covers
+            } else {
+                0
+            }
+        }
+        None => 0,
+    }
+}
+
+/// How many areas begin or end at a page.
+fn ends_at<A: Allocator + Copy>(steps: &BTreeMap<Page, Step, A>, page: Page) -> u64
+    ensures { (ends covers : Page → ℕ) → IsSteps steps.now.entries ends covers → result ≡ ends page }
+{
+    match steps.get(&page) {
+        Some(step) => step.ends,
+        None => 0,
+    }
+}
+
+/// The first index behind one at which an area begins or ends, or another one if that comes first.
+pub(crate) fn next_change<A: Allocator + Copy>(
+    steps: &BTreeMap<Page, Step, A>,
+    segment: u32,
+    at: u64,
+    past: u64,
+) -> u64
+    requires { at < past }
+    ensures low { at < result }
+    ensures high { result ≤ past }
+    ensures none { (i : ℕ) → at < i → i < result → get page_cmp steps.now.entries (page_in segment i) ≡ None }
+{
+    match next_step(steps, segment, at + 1, past) {
+        Some((index, _)) => index,
+        None => past,
+    }
+}
+
+/// The first step of a segment by its index from one up to another.
+fn next_step<A: Allocator + Copy>(
+    steps: &BTreeMap<Page, Step, A>,
+    segment: u32,
+    at: u64,
+    past: u64,
+) -> Option<(u64, Step)>
+    ensures some { IfSome result (λ s. (at ≤ s.0) × (s.0 < past) × (get page_cmp steps.now.entries (page_in segment s.0) ≡ Some s.1)) }
+    ensures first { IfSome result (λ s. (i : ℕ) → at ≤ i → i < s.0 → get page_cmp steps.now.entries (page_in segment i) ≡ None) }
+    ensures none { IfNone result ((i : ℕ) → at ≤ i → i < past → get page_cmp steps.now.entries (page_in segment i) ≡ None) }
+{
+    let from = Page { segment, index: at };
+    let (page, step) = steps.range(from..).next()?;
+    if page.segment == segment && page.index < past {
+        Some((page.index, *step))
+    } else {
+        None
+    }
+}
