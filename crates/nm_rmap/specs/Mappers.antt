@@ -1,5 +1,6 @@
 -- Who names each frame, and the pins of each frame.
-use Rattle.std.specs.Prelude.{◌≡◌, ℕ, nat_eq, Bool, List, [], map, replicate, slice_index_or, slice_set}
+use Rattle.std.specs.Prelude.{◌≡◌, ℕ, nat_eq, nat_lt, Bool, List, [], map, replicate, slice_index_or, slice_set}
+use Rattle.std.specs.List.{list_any, count_by}
 use Rattle.std.specs.BTreeMap.{is_at}
 use Rattle.std.specs.BTreeSet.{insert_key}
 use Rattle.std.specs.Set.{remove_key, distinct_count, is_member}
@@ -46,6 +47,14 @@ mappers_of m frame = slice_index_or m.mappings frame []
 -- how often a frame is pinned
 abbrev pub frame_pins : Mappers → ℕ → ℕ
 frame_pins m frame = slice_index_or m.pins frame 0
+
+-- how many of these numbers of pins are of pinned frames
+abbrev pub pinned_count : List ℕ → ℕ
+pinned_count pins = count_by (λ n. nat_lt 0 n) pins
+
+-- whether any frame is pinned
+abbrev pub is_any_pinned : Mappers → Bool
+is_any_pinned m = list_any (λ n. nat_lt 0 n) m.pins
 
 -- the map with other mappers of a frame
 abbrev pub with_mappers : Mappers → ℕ → List Mapper → Mappers

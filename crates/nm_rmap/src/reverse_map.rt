@@ -4,7 +4,7 @@ ghost use Rattle.std.specs.Prelude.{◌≡◌, ◌<◌, ◌≤◌, ◌+◌, ◌-
 ghost use Rattle.std.specs.List.Sorted.{IsStrictlySortedBy};
 ghost use Rattle.nm_types.specs.declared.errno.Errno.TheVariants.{Ebusy, Einval};
 ghost use Rattle.nm_types.specs.Map.{spot_cmp};
-ghost use Rattle.nm_rmap.specs.Mappers.{IsUnused, new_map, mappers_of, frame_pins, with_pins, with_mapper, without_mapper, carried, process_count};
+ghost use Rattle.nm_rmap.specs.Mappers.{IsUnused, new_map, mappers_of, frame_pins, with_pins, with_mapper, without_mapper, carried, process_count, is_any_pinned};
 
 use crate::mappings::Mappings;
 use nm_types::limits::MAX_PINS;
@@ -20,17 +20,19 @@ pub struct ReverseMap<A: Allocator + Copy> {
     alloc: A,
     mappings: Vec<Mappings<A>, A>,
     pins: Vec<u32, A>,
+    /// How many frames have a pin.
+    pinned: usize,
 }
 
 impl<A: Allocator + Copy> Model for ReverseMap<A> {
     ghost use Rattle.std.specs.Prelude.{◌≡◌, length};
-    ghost use Rattle.nm_rmap.specs.Mappers.{Mappers};
+    ghost use Rattle.nm_rmap.specs.Mappers.{Mappers, pinned_count};
 
     ghost Value = { Mappers };
 
     ghost view = { λ m. record { mappings = m.mappings.items; pins = m.pins.items } };
 
-    ghost invariant = { λ m. length m.pins.items ≡ length m.mappings.items };
+    ghost invariant = { λ m. (length m.pins.items ≡ length m.mappings.items) × (m.pinned ≡ pinned_count m.pins.items) };
 }
 
 impl<A: Allocator + Copy> ReverseMap<A> {
@@ -48,6 +50,7 @@ impl<A: Allocator + Copy> ReverseMap<A> {
             alloc,
             mappings,
             pins,
+            pinned: 0,
         })
     }
 
@@ -121,7 +124,11 @@ impl<A: Allocator + Copy> ReverseMap<A> {
         if *pins >= MAX_PINS {
             return Err(Errno::Ebusy);
         }
+        let first = *pins == 0;
         *pins += 1;
+        if first {
+            self.pinned += 1;
+        }
         Ok(())
     }
 
@@ -137,7 +144,11 @@ impl<A: Allocator + Copy> ReverseMap<A> {
         if *pins == 0 {
             return Err(Errno::Einval);
         }
+        let last = *pins == 1;
         *pins -= 1;
+        if last {
+            self.pinned -= 1;
+        }
         Ok(())
     }
 
@@ -148,5 +159,12 @@ impl<A: Allocator + Copy> ReverseMap<A> {
         ensures as_many { length self.now.pins ≡ length self.now.mappings }
     {
         self.pins[frame.index()]
+    }
+
+    /// Whether any frame is pinned. It takes no memory.
+    pub fn has_pins(&self) -> bool
+        ensures { result ≡ is_any_pinned self.now }
+    {
+        self.pinned > 0
     }
 }

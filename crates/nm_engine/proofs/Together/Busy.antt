@@ -1,6 +1,6 @@
 -- Whether an area of a process shows a pinned page.
 use Rattle.std.proofs.Common.{◌≡◌, ℕ, suc, zero, ◌+◌, ◌-◌, ◌<◌, ◌≤◌, Bool, true, false, ◌&&◌, ◌||◌, List, [], ◌∷◌, refl, sym, ap, subst, ◌∙◌, arith, inl, inr}
-use Rattle.std.specs.Prelude.{Some, None, nat_lt, ◌==◌, max, min}
+use Rattle.std.specs.Prelude.{Some, None, nat_lt, ◌==◌, max, min, slice_index_or}
 use Rattle.std.specs.List.{list_any}
 use Rattle.std.specs.Option.{unwrap_or, option_map}
 use Rattle.std.proofs.lemmas.Bool.{or_left, or_right, eqb-true, eqb-false, eq-eqb, ltb-true, ltb-false, lt-ltb}
@@ -13,7 +13,7 @@ use Rattle.nm_rmap.specs.Mappers.{frame_pins as pins_of_frame}
 use Rattle.nm_engine.specs.ProcessTable.{Task}
 use Rattle.nm_engine.specs.AddressSpaces.{SpacesView, spaces_view, pins_here}
 use Rattle.nm_types.specs.State.{Placed, area_over, page_of, page_shown, page_at}
-use Rattle.nm_types.proofs.Cases.{none_some, some_is}
+use Rattle.nm_types.proofs.Cases.{none_some, some_is, true_false}
 use Rattle.nm_engine.specs.Effect.{pages_from, pages_between}
 use Rattle.nm_engine.specs.Refused.{shows_pinned}
 use Rattle.nm_engine.specs.Sound.{AreasAreApart}
@@ -82,6 +82,16 @@ module _ (areas : Map (ℕ × ℕ) Area) (pins : Map Page ℕ) (pid first end : 
             none v _ (omega arith) (omega (arith, lt)) (ap (λ o. page_shown o v) over ∙ ap Some page))
       ] refl)
 
+none_listed : (test : Page → Bool) (pages : List Page) → ((p : Page) → test p ≡ false) → list_any test pages ≡ false
+none_listed test [] h = refl
+none_listed test (p ∷ pages) h = ap (λ b. b || list_any test pages) (h p) ∙ none_listed test pages h
+
+-- where no frame of a list is pinned, none at a place is
+unpinned_at : (pins : List ℕ) (f : ℕ) → list_any (λ n. nat_lt 0 n) pins ≡ false → nat_lt 0 (slice_index_or pins f 0) ≡ false
+unpinned_at [] f h = refl
+unpinned_at (n ∷ pins) zero h = elim (nat_lt 0 n) as (λ b. (b || list_any (λ n. nat_lt 0 n) pins) ≡ false → b ≡ false) [ true ↦ λ e. e | false ↦ λ e. refl ] h
+unpinned_at (n ∷ pins) (suc f) h = unpinned_at pins f (elim (nat_lt 0 n) as (λ b. (b || list_any (λ n. nat_lt 0 n) pins) ≡ false → list_any (λ n. nat_lt 0 n) pins ≡ false) [ true ↦ λ e. absurd (true_false e) | false ↦ λ e. e ] h)
+
 -- ---- the pins of pages that a process shows, by the reverse map
 
 module _ (y : SpacesView) (tasks : Map ℕ Task) (m : Mapped) (r : Mappers) (is : spaces_view tasks m r ≡ y) where
@@ -133,3 +143,17 @@ module _ (y : SpacesView) (tasks : Map ℕ Task) (m : Mapped) (r : Mappers) (is 
       let same : y.areas ≡ m.areas = ap (λ (y : SpacesView). y.areas) (sym is) in
       busy_there y.areas y.pins pid first end w q (ap (λ areas. page_at areas pid w) same ∙ shown) low high
       (ap (nat_lt 0) (placed_pins q f placed) ∙ lt-ltb 0 (pins_of_frame r f) some)
+
+  -- where no frame is pinned, no page is
+  pub none_pinned : (pid first end : ℕ) → list_any (λ n. nat_lt 0 n) r.pins ≡ false → shows_pinned y.areas y.pins pid first end ≡ false
+  none_pinned pid first end h =
+      let unpinned : (p : Page) → nat_lt 0 (pins_here y p) ≡ false = λ p.
+      elim (get page_cmp m.place p) as (λ o. get page_cmp m.place p ≡ o → nat_lt 0 (pins_here y p) ≡ false) [
+        | None ↦ λ e. unplaced_pins p e
+        | Some f ↦ λ e. ap (nat_lt 0) (placed_pins p f e) ∙ unpinned_at r.pins f h
+      ] refl in
+      none_among (λ (a : Placed). (a.0.0 == pid) && list_any (λ p. nat_lt 0 (pins_here y p)) (pages_between first end a)) y.areas (λ a m.
+      elim (a.0.0 == pid) as (λ b. (b && list_any (λ p. nat_lt 0 (pins_here y p)) (pages_between first end a)) ≡ false) [
+        | false ↦ refl
+        | true ↦ none_listed (λ p. nat_lt 0 (pins_here y p)) (pages_between first end a) unpinned
+      ])

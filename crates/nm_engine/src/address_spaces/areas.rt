@@ -84,6 +84,18 @@ impl<A: Allocator + Copy> AddressSpaces<A> {
         requires { first ≤ end }
         ensures { result ≡ shows_pinned self.now.areas self.now.pins pid first end }
     {
+        if !self.rmap.has_pins() {
+            return false;
+        }
+        self.finds_pinned(pid, first, end)
+    }
+
+    /// Whether an area of a process shows a pinned page from one page number up to another, by a look at each page with a
+    /// frame there.
+    fn finds_pinned(&self, pid: Pid, first: Vpn, end: Vpn) -> bool
+        requires { first ≤ end }
+        ensures { result ≡ shows_pinned self.now.areas self.now.pins pid first end }
+    {
         let mut at = first.number();
         while let Some((vpn, frame)) = self.areas.frame_from(pid, Vpn::new(at), end) {
             if self.rmap.pins(frame) > 0 {

@@ -3,7 +3,7 @@ use Rattle.std.specs.Prelude.{Some, nat_lt}
 use Rattle.nm_types.specs.declared.page.Page.{Page}
 use Rattle.nm_types.specs.State.{page_at}
 use Rattle.nm_engine.specs.AddressSpaces.{pins_here}
-use Rattle.nm_engine.proofs.address_spaces.AddressSpaces.has_pinned.Given as goal
+use Rattle.nm_engine.proofs.address_spaces.AddressSpaces.finds_pinned.Given as goal
 
 -- no page is pinned as far as it has come
 abbrev pub invariant-loop-vpn : goal.invariant-loop-vpn
