@@ -11,7 +11,8 @@ ghost use Rattle.nm_areas.specs.Refused.{is_range, insert_refusal, stretch_refus
 use crate::area_table::{AreaTable, new_area};
 use crate::counting::count_in;
 use crate::coverage::{Step, uncover};
-use nm_types::limits::{MAX_SEGMENTS, PAGE_NUMBERS};
+use crate::ranges::range_start;
+use nm_types::limits::MAX_SEGMENTS;
 use nm_types::{Area, Errno, FrameId, MachineError, Page, Pid, Vpn};
 use std::alloc::Allocator;
 use std::collections::BTreeMap;
@@ -86,7 +87,7 @@ impl<A: Allocator + Copy> Areas<A> {
         ensures number { IfOk result (λ number. number ≡ self.old.next) }
         ensures over { OnOk result ((q v : ℕ) → area_over self.new.areas q v ≡ over_with self.old.areas ((pid, addr / 4096), new_area self.old.next 0 pages) q v) }
     {
-        let Some(first) = stretch(addr, pages) else {
+        let Some(first) = range_start(addr, pages) else {
             return Err(MachineError::Refused(Errno::Einval));
         };
         // An area in the way is told before the limit.
@@ -122,7 +123,7 @@ impl<A: Allocator + Copy> Areas<A> {
         ensures memory { result ≡ Err MachineError.HostMemory → stretch_refusal self.old pid addr segment offset pages ≡ None }
         ensures over { OnOk result ((q v : ℕ) → area_over self.new.areas q v ≡ over_with self.old.areas ((pid, addr / 4096), new_area segment offset pages) q v) }
     {
-        let Some(first) = stretch(addr, pages) else {
+        let Some(first) = range_start(addr, pages) else {
             return Err(MachineError::Refused(Errno::Einval));
         };
         if !self.table.is_free(pid, first, pages) {
@@ -141,20 +142,5 @@ impl<A: Allocator + Copy> Areas<A> {
             return Err(MachineError::HostMemory);
         };
         Ok(())
-    }
-}
-
-/// The first page number of `pages` pages from an address on, where it is a page's address and they are at least one
-/// page and end below 2^47.
-pub(crate) fn stretch(addr: u64, pages: u64) -> Option<Vpn>
-    ensures some { IfSome result (λ first. (first ≡ addr / 4096) × (is_range addr pages ≡ true) × (0 < pages) × (first + pages ≤ 2 ^ 35)) }
-    ensures none { IfNone result (is_range addr pages ≡ false) }
-{
-    let first = Vpn::of_address(addr);
-    let end = first.number().checked_add(pages)?;
-    if addr % 4096 == 0 && pages > 0 && end <= PAGE_NUMBERS {
-        Some(first)
-    } else {
-        None
     }
 }

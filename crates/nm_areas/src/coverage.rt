@@ -12,6 +12,7 @@ ghost use Rattle.nm_areas.specs.Removed.{page_in};
 ghost use Rattle.nm_areas.specs.Shifted.{shifted, shifted_in};
 ghost use Rattle.nm_types.specs.Map.{get, page_cmp, replace, same_page};
 
+use crate::scan::next_of;
 use nm_types::{Area, Page};
 use std::alloc::{AllocError, Allocator};
 use std::collections::BTreeMap;
@@ -119,7 +120,7 @@ fn shift<A: Allocator + Copy>(
     ensures { (p : Page) → get page_cmp steps.new.entries p ≡ option_map (shifted_in segment first past up p) (get page_cmp steps.old.entries p) }
 {
     let mut at = first;
-    while let Some((index, step)) = next_step(steps, segment, at, past) {
+    while let Some((index, step)) = next_of(steps, segment, at, past) {
         put_step(steps, Page { segment, index }, shifted(step, up));
         at = index + 1;
     }
@@ -187,28 +188,8 @@ pub(crate) fn next_change<A: Allocator + Copy>(
     ensures high { result ≤ past }
     ensures none { (i : ℕ) → at < i → i < result → get page_cmp steps.now.entries (page_in segment i) ≡ None }
 {
-    match next_step(steps, segment, at + 1, past) {
+    match next_of(steps, segment, at + 1, past) {
         Some((index, _)) => index,
         None => past,
-    }
-}
-
-/// The first step of a segment by its index from one up to another.
-fn next_step<A: Allocator + Copy>(
-    steps: &BTreeMap<Page, Step, A>,
-    segment: u32,
-    at: u64,
-    past: u64,
-) -> Option<(u64, Step)>
-    ensures some { IfSome result (λ s. (at ≤ s.0) × (s.0 < past) × (get page_cmp steps.now.entries (page_in segment s.0) ≡ Some s.1)) }
-    ensures first { IfSome result (λ s. (i : ℕ) → at ≤ i → i < s.0 → get page_cmp steps.now.entries (page_in segment i) ≡ None) }
-    ensures none { IfNone result ((i : ℕ) → at ≤ i → i < past → get page_cmp steps.now.entries (page_in segment i) ≡ None) }
-{
-    let from = Page { segment, index: at };
-    let (page, step) = steps.range(from..).next()?;
-    if page.segment == segment && page.index < past {
-        Some((page.index, *step))
-    } else {
-        None
     }
 }

@@ -8,6 +8,7 @@ mod coverage;
 mod lines;
 mod places;
 mod policy;
+mod ranges;
 mod scan;
 mod split;
 #[cfg(test)]
@@ -16,3 +17,4 @@ mod unmap;
 
 pub use areas::Areas;
 pub use lines::Line;
+pub use ranges::range_start;

@@ -11,7 +11,7 @@ ghost use Rattle.nm_areas.specs.Mapped.{IsMapped, mapped};
 
 use crate::area_table::AreaTable;
 use crate::areas::Areas;
-use crate::scan::next_place;
+use crate::scan::next_of;
 use nm_types::{Area, FrameId, Page, Pid, Vpn};
 use std::alloc::{AllocError, Allocator};
 use std::collections::BTreeMap;
@@ -124,7 +124,7 @@ fn frame_in<A: Allocator + Copy>(
     let Page { segment, index } = area.page;
     let front = at.number().saturating_sub(first.number());
     let back = area.pages.min(end.number() - first.number());
-    let (found, frame) = next_place(places, segment, index + front, index + back)?;
+    let (found, frame) = next_of(places, segment, index + front, index + back)?;
     Some((Vpn::new(first.number() + (found - index)), frame))
 }
 

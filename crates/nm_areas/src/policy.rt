@@ -17,6 +17,7 @@ ghost use Rattle.nm_types.specs.State.{page_at};
 use crate::area_table::AreaTable;
 use crate::areas::Areas;
 use crate::counting::{join_steps, split_steps};
+use crate::ranges::whole_pages;
 use crate::scan::{next_area, put};
 use nm_types::{Area, Errno, MachineError, Pid, Policy, Vpn};
 use std::alloc::{AllocError, Allocator};
@@ -114,20 +115,6 @@ impl<A: Allocator + Copy> AreaTable<A> {
         self.cut(pid, first, end)?;
         paint(&mut self.areas, pid, first, end, &policy);
         Ok(())
-    }
-}
-
-/// The first page number and the count of the whole pages of `len` bytes from an address on, where it is a page's address
-/// and they end below 2^64.
-fn whole_pages(addr: u64, len: u64) -> Option<(Vpn, u64)>
-    ensures some { IfSome result (λ r. (r.0 ≡ addr / 4096) × (r.1 ≡ pages_of len) × (addr % 4096 ≡ 0) × (addr + 4096 * pages_of len < 2 ^ 64)) }
-    ensures none { IfNone result (addr % 4096 ≡ 0 → 2 ^ 64 ≤ addr + 4096 * pages_of len) }
-{
-    let count = len / 4096 + if len % 4096 == 0 { 0 } else { 1 };
-    if addr % 4096 == 0 && count <= (u64::MAX - addr) / 4096 {
-        Some((Vpn::of_address(addr), count))
-    } else {
-        None
     }
 }
 

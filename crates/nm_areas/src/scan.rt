@@ -1,4 +1,4 @@
-//! Walks over areas and places, one after another.
+//! Walks over areas, and over what stands at the pages of a segment, one after another.
 
 ghost use Rattle.std.specs.List.Sorted.{IsStrictlySortedBy};
 ghost use Rattle.std.specs.Map.{keys_of};
@@ -7,7 +7,7 @@ ghost use Rattle.nm_areas.specs.Removed.{page_in};
 ghost use Rattle.nm_types.specs.Map.{get, page_cmp, replace, spot_cmp};
 
 use crate::area_table::AreaTable;
-use nm_types::{Area, FrameId, Page, Pid, Vpn};
+use nm_types::{Area, Page, Pid, Vpn};
 use std::alloc::Allocator;
 use std::collections::BTreeMap;
 
@@ -58,22 +58,22 @@ pub(crate) fn put<A: Allocator + Copy>(
     }
 }
 
-/// The first page of a segment that has a frame, by its index from one up to another, with the frame.
-pub(crate) fn next_place<A: Allocator + Copy>(
-    places: &BTreeMap<Page, FrameId, A>,
+/// The first entry of a segment by the index of its page, from one index up to another.
+pub(crate) fn next_of<V: Copy, A: Allocator + Copy>(
+    pages: &BTreeMap<Page, V, A>,
     segment: u32,
     at: u64,
     past: u64,
-) -> Option<(u64, FrameId)>
-    ensures some { IfSome result (λ p. (at ≤ p.0) × (p.0 < past) × (get page_cmp places.now.entries (page_in segment p.0) ≡ Some p.1)) }
-    ensures first { IfSome result (λ p. (i : ℕ) → at ≤ i → i < p.0 → get page_cmp places.now.entries (page_in segment i) ≡ None) }
-    ensures none { IfNone result ((i : ℕ) → at ≤ i → i < past → get page_cmp places.now.entries (page_in segment i) ≡ None) }
-    ensures ordered { IsStrictlySortedBy page_cmp (keys_of places.now.entries) }
+) -> Option<(u64, V)>
+    ensures some { IfSome result (λ p. (at ≤ p.0) × (p.0 < past) × (get page_cmp pages.now.entries (page_in segment p.0) ≡ Some p.1)) }
+    ensures first { IfSome result (λ p. (i : ℕ) → at ≤ i → i < p.0 → get page_cmp pages.now.entries (page_in segment i) ≡ None) }
+    ensures none { IfNone result ((i : ℕ) → at ≤ i → i < past → get page_cmp pages.now.entries (page_in segment i) ≡ None) }
+    ensures ordered { IsStrictlySortedBy page_cmp (keys_of pages.now.entries) }
 {
     let from = Page { segment, index: at };
-    let (page, frame) = places.range(from..).next()?;
+    let (page, value) = pages.range(from..).next()?;
     if page.segment == segment && page.index < past {
-        Some((page.index, *frame))
+        Some((page.index, *value))
     } else {
         None
     }

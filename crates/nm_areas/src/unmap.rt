@@ -15,10 +15,11 @@ ghost use Rattle.nm_types.specs.Map.{Map, get, page_cmp, spot_cmp, without};
 ghost use Rattle.nm_types.specs.State.{page_at};
 
 use crate::area_table::AreaTable;
-use crate::areas::{Areas, stretch};
+use crate::areas::Areas;
 use crate::counting::{count_out_own, join_steps, split_steps};
 use crate::coverage::{Step, count_at, next_change};
-use crate::scan::next_place;
+use crate::ranges::range_start;
+use crate::scan::next_of;
 use nm_types::{Area, Errno, FrameId, MachineError, Page, Pid, Vpn};
 use std::alloc::Allocator;
 use std::collections::BTreeMap;
@@ -43,7 +44,7 @@ impl<A: Allocator + Copy> Areas<A> {
         ensures freed { IfOk result (λ freed. freed.items ≡ frames_lost self.old pid (addr / 4096) (addr / 4096 + pages)) }
         ensures room { IfOk result (λ freed. vec_capacity freed ≤ min (length self.old.place) pages) }
     {
-        let Some(first) = stretch(addr, pages) else {
+        let Some(first) = range_start(addr, pages) else {
             return Err(MachineError::Refused(Errno::Einval));
         };
         let end = Vpn::new(first.number() + pages);
@@ -174,7 +175,7 @@ fn lose_stretch<A: Allocator + Copy>(
     ensures room { vec_capacity freed.new ≡ vec_capacity freed.old }
 {
     let mut at = first;
-    while let Some((index, frame)) = next_place(places, segment, at, past) {
+    while let Some((index, frame)) = next_of(places, segment, at, past) {
         lose_page(Page { segment, index }, frame, places, freed);
         at = index + 1;
     }

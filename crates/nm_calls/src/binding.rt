@@ -23,6 +23,7 @@ use nm_crew::Gate;
 use nm_engine::{Located, Machine, ProcessInfo};
 use nm_policy::{Sent, Stray, first_touch_order, follows, mbind_targets};
 use nm_runs::{Request, Wanted};
+use nm_types::limits::PAGE_BYTES;
 use nm_types::{Errno, MoveFlags, NodeId, NodeMask, Pid, Policy, Vpn};
 use std::alloc::{AllocError, Allocator};
 use std::collections::BTreeSet;
@@ -480,7 +481,7 @@ fn binding_of<A: Allocator + Copy + Send + Sync>(
 {
     machine.check_policy(caller, addr, len)?;
     let first = Vpn::of_address(addr);
-    let end = Vpn::new(first.number() + len.div_ceil(4096));
+    let end = Vpn::new(first.number() + len.div_ceil(PAGE_BYTES as u64));
     if flags.is_strict()
         && !wants_moves(flags)
         && stray_from(machine, caller, first, end, &policy).is_some()

@@ -10,7 +10,7 @@ use std::marker::Model;
 /// The 4,096 bytes of a frame, owned. Contracts see the list of them.
 #[derive(Debug, Drop)]
 pub struct Bytes<A: Allocator + Copy> {
-    bytes: Box<[u8; 4096], A>,
+    bytes: Box<[u8; PAGE_BYTES], A>,
 }
 
 impl<A: Allocator + Copy> Model for Bytes<A> {
@@ -28,7 +28,7 @@ impl<A: Allocator + Copy> Bytes<A> {
     pub fn zeros(alloc: A) -> Result<Self, AllocError>
         ensures { IfOk result (λ b. b ≡ replicate 4096 0) }
     {
-        let bytes = Box::new(alloc, [0; 4096])?;
+        let bytes = Box::new(alloc, [0; PAGE_BYTES])?;
         Ok(Bytes { bytes })
     }
 
@@ -44,7 +44,7 @@ impl<A: Allocator + Copy> Bytes<A> {
     pub fn clear(&mut self)
         ensures { self.new ≡ replicate 4096 0 }
     {
-        *self.bytes = [0; 4096];
+        *self.bytes = [0; PAGE_BYTES];
     }
 
     /// Puts bytes in place of those from `at` on.

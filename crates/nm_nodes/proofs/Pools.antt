@@ -176,6 +176,24 @@ module _ (rows : List (ℕ × List ℕ)) (p : Pool) (i node : ℕ) (row : ℕ ×
   pub written : (new : ℕ × List ℕ) (frames : List ℕ) → new ≡ (row.0, frames) → pool_of (set rows i new) ≡ with_list p node frames
   written new frames e = ap (λ (r : ℕ × List ℕ). pool_of (set rows i r)) e ∙ pool_of-set rows i row frames inside is ∙ ap (λ (q : Pool). with_list q i frames) shown ∙ ap (λ k. with_list p k frames) at
 
+-- the row of the node that owns a frame which is not free
+pub record OwnRow (p : Pool) (frame i : ℕ) (row : ℕ × List ℕ) : Type 0 where
+  pub at : i ≡ owner p.sizes frame
+  pub within : owner p.sizes frame < length p.lists
+  pub list : row.1 ≡ list_of p (owner p.sizes frame)
+  pub room : length row.1 < row.0
+
+pub own_row : (rows : List (ℕ × List ℕ)) (p : Pool) (frame i : ℕ) (row : ℕ × List ℕ) → pool_of rows ≡ p → IsPool (pool_of rows) → i ≡ owner (sizes_of rows) frame → row ≡ get_or rows i row
+    → frame < sum p.sizes → is_in (list_of p (owner p.sizes frame)) frame ≡ false → OwnRow p frame i row
+own_row rows p frame i row shown kept own is inside taken =
+    let pool : IsPool p = subst IsPool shown kept in
+    let node : ℕ = owner p.sizes frame in
+    let at : i ≡ node = own ∙ ap (λ (q : Pool). owner q.sizes frame) shown in
+    let within : node < length p.lists = omega (arith, owner-lt p.sizes frame inside, pool.as_many) in
+    let list : row.1 ≡ list_of p node = row_list rows p i node row shown at within is in
+    let size = row_size rows p i node row shown at within is in
+    record { at = at; within = within; list = list; room = omega (arith, ap (λ (ns : List ℕ). length ns) list, size, has_room p frame pool inside taken) }
+
 -- the rows from one on, in its own
 module _ (rows : List (ℕ × List ℕ)) (i rest : ℕ) (row : ℕ × List ℕ) (within : i < length rows) (is : row ≡ get_or rows i row) where
   parted : drop i rows ≡ row ∷ drop (i + 1) rows

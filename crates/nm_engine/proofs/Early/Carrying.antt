@@ -131,6 +131,13 @@ module _ (y : SpacesView) (k : FramesView) (online : List ℕ) (moved failed tar
   abbrev pub frames_then : FramesView
   frames_then = record k { frames = with_copies k.frames taken; vacated = left taken }
 
+  -- .. as the calls leave the frames, one after another
+  pub copied_frames : (v w : FramesView) (z : SpacesView) → v ≡ record k { vacated = left taken } → z ≡ spaces_then → w ≡ record v { frames = (all_done z.place (with_copies v.frames taken) dues).store; room = w.room }
+      → w ≡ record k { frames = (all_done spaces_then.place (with_copies k.frames taken) dues).store; vacated = left taken; room = w.room }
+  copied_frames v w z vacated remapped copied =
+      copied ∙ ap (λ (x : FramesView). record x { frames = (all_done z.place (with_copies x.frames taken) dues).store; room = w.room }) vacated
+      ∙ ap (λ (x : SpacesView). record k { frames = (all_done x.place (with_copies k.frames taken) dues).store; vacated = left taken; room = w.room }) remapped
+
   abbrev pub state_given : State
   state_given = shown_by y given online moved failed
 

@@ -10,11 +10,13 @@ use Rattle.nm_types.specs.Map.{get, set, page_cmp}
 use Rattle.nm_types.specs.State.{State, free_list}
 use Rattle.nm_types.proofs.Maps.{page_cmp_total, get-set}
 use Rattle.nm_runs.specs.declared.Class.TheVariants.{Move}
+use Rattle.nm_runs.specs.declared.Wanted.{Wanted}
 use Rattle.nm_plan.specs.declared.Taken.{Taken}
+use Rattle.nm_plan.specs.Decide.{Planned}
 use Rattle.nm_engine.specs.Touch.{Access}
 use Rattle.nm_engine.specs.Flight.{all_in_flight}
 use Rattle.nm_engine.specs.Laws.{with_move, with_moves}
-use Rattle.nm_engine.specs.Moves.{CanMove}
+use Rattle.nm_engine.specs.Moves.{CanMove, IsPlanOf}
 use Rattle.nm_engine.specs.Run.{moved_page, left}
 use Rattle.nm_engine.specs.Sound.{IsSoundMidRun, IsSound}
 use Rattle.nm_engine.specs.Early.{AllEarly, all_early, all_made, with_places, without_fronts, with_fronts, tos, IsDue}
@@ -135,3 +137,10 @@ module _ (s : State) (target : ℕ) (taken : List Taken) (accesses : List Access
             ∙ ap (λ (x : State). all_made x touched_all.dues) (sym (moves_are_places taken given_back target
             (omega (arith, within, length-set touched_all.state.free target (tos taken ++ free_list touched_all.state target))) back.order.place can_back));
       }
+
+  -- a run that is planned on the same machine can be made so
+  pub planned_phases : (r : State) (ws : List Wanted) (p : Planned) → s ≡ r → IsPlanOf r target ws p → taken ≡ p.taken → IsSound s → target < node_count r.layout → IsPlanOf s target ws p × IsPhased
+  planned_phases r ws p same plan taken_is h below =
+      let own : IsPlanOf s target ws p = subst (λ (x : State). IsPlanOf x target ws p) (sym same) plan in
+      let nodes = ap (λ (x : State). node_count x.layout) same in
+      (own, phased h (omega (arith, h.frames.lists, nodes, below)) (subst (CanMove s target) (sym taken_is) own.can))

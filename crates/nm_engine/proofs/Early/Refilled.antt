@@ -1,5 +1,5 @@
 -- What is done on the bytes that are home while others are out is done as well once those are back.
-use Rattle.std.proofs.Common.{◌≡◌, ◌≢◌, ℕ, ◌<◌, List, [], ◌∷◌, length, refl, sym, ap, subst, ◌∙◌, arith, length-set}
+use Rattle.std.proofs.Common.{◌≡◌, ◌≢◌, ℕ, ◌<◌, List, [], ◌∷◌, map, length, refl, sym, ap, subst, ◌∙◌, arith, length-set}
 use Rattle.std.specs.Prelude.{Option, Some, None, IsSome, slice_index_or, slice_set}
 use Rattle.std.specs.Option.{unwrap_or}
 use Rattle.std.specs.List.{AllByRecursion}
@@ -8,14 +8,16 @@ use Rattle.nm_types.specs.declared.page.Page.{Page}
 use Rattle.nm_types.specs.Map.{Map, get, page_cmp}
 use Rattle.nm_types.proofs.Cases.{none_some}
 use Rattle.nm_frames.specs.declared.job.CopyJob.{CopyJob}
+use Rattle.nm_frames.specs.Job.{copied}
 use Rattle.nm_frames.specs.Store.{Store, IsHome, IsOut, bytes_of, overwrite}
-use Rattle.nm_engine.specs.Copies.{with_buf, with_job, refilled, CanRefill}
+use Rattle.nm_plan.specs.declared.Taken.{Taken}
+use Rattle.nm_engine.specs.Copies.{with_buf, with_copies, with_job, emptied, jobs_of, refilled, CanCopy, CanRefill}
 use Rattle.nm_engine.specs.Frames.{stretch_of}
 use Rattle.nm_engine.specs.Touch.{AccessAnswer, Bytes}
 use Rattle.nm_engine.specs.Early.{Due, Known, ToRead, ToWrite}
 use Rattle.nm_engine.specs.Finishing.{frame_at, done_in, told_in, Finished, all_done, IsIn, CanDo}
 use Rattle.nm_engine.proofs.Together.Free.{home_bytes}
-use Rattle.nm_engine.proofs.Together.Copies.{home_set}
+use Rattle.nm_engine.proofs.Together.Copies.{can_refill, home_set, refilled_is}
 
 abbrev at : Store → ℕ → Option (List ℕ)
 at store f = slice_index_or store f None
@@ -119,3 +121,24 @@ module _ {A : Type 0} where
             ∙ ap (λ a. told_first a (all_done place (done_in place (refilled store jobs) d) dues)) now.told,
         rest.1,
       )
+
+  -- the bytes of the moves of a run, copied and back home once that is done: as if they had been copied first
+  pub record IsHomeAgain (place : Map Page ℕ) (dues : List Due) (taken : List Taken) (store now : Store) (jobs : List (CopyJob A)) : Type 0 where
+    pub can : CanRefill now jobs
+    pub is : refilled now jobs ≡ (all_done place (with_copies store taken) dues).store
+    pub told : (all_done place (emptied store taken) dues).answers ≡ (all_done place (with_copies store taken) dues).answers
+
+  pub home_again : (place : Map Page ℕ) (dues : List Due) (taken : List Taken) (k : ℕ) (store now : Store) (jobs : List (CopyJob A)) → CanCopy store taken → AllByRecursion (CanDo place (emptied store taken)) dues
+      → now ≡ (all_done place (emptied store taken) dues).store → jobs ≡ map copied (jobs_of k store taken) → IsHomeAgain place dues taken store now jobs
+  home_again place dues taken k store now jobs can doable there are =
+      let out = emptied store taken in
+      let given : List (CopyJob A) = map copied (jobs_of k store taken) in
+      let after = all_after dues place given out (can_refill A taken k store can) doable in
+      let same = ap (λ (x : Store). all_done place x dues) (refilled_is A taken k store can) in
+      record {
+        can = subst (λ (x : Store). CanRefill x jobs) (sym there) (subst (λ (js : List (CopyJob A)). CanRefill (all_done place out dues).store js) (sym are) after.1);
+        is =
+            ap (λ (x : Store). refilled x jobs) there ∙ ap (λ (js : List (CopyJob A)). refilled (all_done place out dues).store js) are
+            ∙ ap (λ (x : Finished). x.store) (after.0 ∙ same);
+        told = ap (λ (x : Finished). x.answers) (after.0 ∙ same);
+      }

@@ -11,7 +11,7 @@ use Rattle.nm_runs.specs.declared.Class.TheVariants.{Status, Move}
 use Rattle.nm_runs.specs.declared.Wanted.{Wanted}
 use Rattle.nm_runs.specs.Status.{status_or_move}
 use Rattle.nm_engine.specs.Run.{moved_page, decided, one, each, with_free, with_all_free, left, counted}
-use Rattle.nm_engine.specs.Sound.{FramesAreOnce, IsSoundMidRun}
+use Rattle.nm_engine.specs.Sound.{AreNodes, FramesAreOnce, IsSoundMidRun}
 use Rattle.nm_types.proofs.Maps.{page_cmp_total, exact_page, keys-set}
 use Rattle.nm_types.proofs.Keys.{some_from_keys}
 use Rattle.nm_engine.proofs.Soundness.Frames.{moved_frames, frame_freed, left-append, append-nil}
@@ -74,9 +74,9 @@ pub freed_sound : (frames : List ℕ) (s : State) → IsSoundMidRun s frames →
 freed_sound [] s h = h
 freed_sound (frame ∷ frames) s h = freed_sound frames (with_free s frame) (frame_freed_sound s frame frames h)
 
--- the totals are free
-pub counted_sound : (s : State) (l : List ℕ) (moved failed : ℕ) → IsSoundMidRun s l → IsSoundMidRun (counted s moved failed) l
-counted_sound s l moved failed h =
+-- the totals and the set of nodes that are online are free
+pub freely_sound : (s : State) (l nodes : List ℕ) (moved failed : ℕ) → AreNodes s.layout nodes → IsSoundMidRun s l → IsSoundMidRun (record s { online = nodes; moved = moved; failed = failed }) l
+freely_sound s l nodes moved failed are h =
     record {
       order = record { processes = h.order.processes; sees = h.order.sees; areas = h.order.areas; segments = h.order.segments; place = h.order.place };
       apart = h.apart;
@@ -91,6 +91,9 @@ counted_sound s l moved failed h =
       areas = h.areas;
       numbers = h.numbers;
       disjoint = h.disjoint;
-      online = h.online;
+      online = are;
       few = h.few;
     }
+
+pub counted_sound : (s : State) (l : List ℕ) (moved failed : ℕ) → IsSoundMidRun s l → IsSoundMidRun (counted s moved failed) l
+counted_sound s l moved failed h = freely_sound s l s.online (counted s moved failed).moved (counted s moved failed).failed h.online h

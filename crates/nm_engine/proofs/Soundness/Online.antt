@@ -10,26 +10,10 @@ use Rattle.std.proofs.lemmas.Map.Views.{All-insert_key}
 use Rattle.nm_types.specs.Nodes.{IsNodeSet, without_node}
 use Rattle.nm_types.specs.State.{State}
 use Rattle.nm_engine.specs.Sound.{AreNodes, IsSoundMidRun}
+use Rattle.nm_engine.proofs.Soundness.Moved.{freely_sound}
 
 pub online_sound : (s : State) (l nodes : List ℕ) → AreNodes s.layout nodes → IsSoundMidRun s l → IsSoundMidRun (record s { online = nodes }) l
-online_sound s l nodes are h =
-    record {
-      order = record { processes = h.order.processes; sees = h.order.sees; areas = h.order.areas; segments = h.order.segments; place = h.order.place };
-      apart = h.apart;
-      frames = h.frames;
-      shown = h.shown;
-      zeros = h.zeros;
-      covered = h.covered;
-      bytes = h.bytes;
-      pins = h.pins;
-      seen = h.seen;
-      once = h.once;
-      areas = h.areas;
-      numbers = h.numbers;
-      disjoint = h.disjoint;
-      online = are;
-      few = h.few;
-    }
+online_sound s l nodes are h = freely_sound s l nodes s.moved s.failed are h
 
 -- the node at a place of a set is no lower than the place
 at_least : (ns : List ℕ) → IsNodeSet ns → (k : ℕ) → k < length ns → k ≤ slice_index ns k

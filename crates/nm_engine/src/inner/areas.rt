@@ -13,24 +13,9 @@ ghost use Rattle.std.specs.Prelude.{IfNone, IfOk, IfSome, Some, [], false, map, 
 
 use crate::frames::Frames;
 use crate::inner::Inner;
-use nm_types::limits::PAGE_NUMBERS;
+use nm_areas::range_start;
 use nm_types::{Errno, FrameId, MachineError, Page, Pid, Policy, Vpn};
 use std::alloc::Allocator;
-
-/// The first page number of `pages` pages from an address on, where it is a page's address and they are at least one
-/// page and end below 2^47.
-fn stretch(addr: u64, pages: u64) -> Option<Vpn>
-    ensures some { IfSome result (λ first. (first ≡ addr / 4096) × (is_range addr pages ≡ true) × (0 < pages) × (first + pages ≤ 2 ^ 35)) }
-    ensures none { IfNone result (is_range addr pages ≡ false) }
-{
-    let first = Vpn::of_address(addr);
-    let end = first.number().checked_add(pages)?;
-    if addr % 4096 == 0 && pages > 0 && end <= PAGE_NUMBERS {
-        Some(first)
-    } else {
-        None
-    }
-}
 
 impl<A: Allocator + Copy> Inner<A> {
     /// Makes a segment and an area of the process over all of it.
@@ -112,7 +97,7 @@ impl<A: Allocator + Copy> Inner<A> {
         if self.spaces.info(pid).is_none() {
             return Err(MachineError::Refused(Errno::Esrch));
         }
-        let Some(first) = stretch(addr, pages) else {
+        let Some(first) = range_start(addr, pages) else {
             return Err(MachineError::Refused(Errno::Einval));
         };
         if self

@@ -20,7 +20,7 @@ use crate::inner::due::Due;
 use crate::inner::touch::push_zeros;
 use crate::inner::undo::Undo;
 use nm_plan::Taken;
-use nm_types::{Access, MachineError, NodeId, Page, Pid};
+use nm_types::{Access, MachineError, NodeId, Page, Pid, Vpn};
 use std::alloc::{AllocError, Allocator};
 use std::collections::BTreeSet;
 
@@ -165,7 +165,7 @@ impl<A: Allocator + Copy> Inner<A> {
         match self.touch_noted(resolved, false, undos) {
             Ok(Some(_)) => Ok(Due::Read {
                 page: resolved.page,
-                at: (addr % 4096) as usize,
+                at: Vpn::offset(addr),
                 len,
                 bytes,
             }),
@@ -205,7 +205,7 @@ impl<A: Allocator + Copy> Inner<A> {
         match self.touch_noted(resolved, true, undos) {
             Ok(_) => Ok(Due::Write {
                 page: resolved.page,
-                at: (addr % 4096) as usize,
+                at: Vpn::offset(addr),
                 access: number,
             }),
             Err(MachineError::Refused(error)) => Ok(Due::Known(AccessAnswer::Refused(error))),

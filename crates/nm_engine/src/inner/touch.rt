@@ -18,6 +18,7 @@ use crate::inner::Inner;
 use crate::inner::resolved::Resolved;
 use crate::process::ProcessInfo;
 use nm_policy::first_touch_order;
+use nm_types::limits::PAGE_BYTES;
 use nm_types::{Errno, FrameId, MachineError, NodeId, Page, Pid, Policy, Sight, Vpn};
 use std::alloc::{AllocError, Allocator};
 
@@ -32,9 +33,7 @@ impl<A: Allocator + Copy> Inner<A> {
         let len = len as usize;
         let mut bytes = Vec::with_capacity(self.alloc, len)?;
         match self.touch(resolved, false)? {
-            Some(frame) => self
-                .frames
-                .read(frame, (addr % 4096) as usize, len, &mut bytes),
+            Some(frame) => self.frames.read(frame, Vpn::offset(addr), len, &mut bytes),
             None => push_zeros(&mut bytes, len),
         }
         Ok(bytes)
@@ -50,7 +49,7 @@ impl<A: Allocator + Copy> Inner<A> {
         let Some(frame) = self.touch(resolved, true)? else {
             unreachable!()
         };
-        self.frames.write(frame, (addr % 4096) as usize, bytes);
+        self.frames.write(frame, Vpn::offset(addr), bytes);
         Ok(())
     }
 
@@ -65,7 +64,7 @@ impl<A: Allocator + Copy> Inner<A> {
         let Some(info) = self.spaces.info(pid) else {
             return Err(Errno::Esrch);
         };
-        if len == 0 || len > 4096 - addr % 4096 {
+        if len == 0 || len > (PAGE_BYTES - Vpn::offset(addr)) as u64 {
             return Err(Errno::Einval);
         }
         let vpn = Vpn::of_address(addr);

@@ -1,5 +1,6 @@
-ghost use Rattle.std.specs.Prelude.{◌≡◌, ℕ, ◌*◌, ◌/◌, ◌<◌, ◌^◌};
+ghost use Rattle.std.specs.Prelude.{◌≡◌, ℕ, ◌*◌, ◌/◌, ◌%◌, ◌<◌, ◌^◌};
 
+use crate::limits::PAGE_BYTES;
 use std::marker::Model;
 
 /// A virtual page number: an address divided by the 4,096 bytes of a page. Inside areas it is below 2^35.
@@ -37,7 +38,7 @@ impl Vpn {
         ensures { result ≡ address / 4096 }
     {
         Vpn {
-            number: address / 4096,
+            number: address / PAGE_BYTES as u64,
         }
     }
 
@@ -46,6 +47,14 @@ impl Vpn {
         requires { self < 2 ^ 52 }
         ensures { result ≡ self * 4096 }
     {
-        self.number * 4096
+        self.number * PAGE_BYTES as u64
+    }
+
+    /// How far an address lies behind the beginning of its page, in bytes.
+    pub const fn offset(address: u64) -> usize
+        ensures value { result ≡ address % 4096 }
+        ensures inside { result < 4096 }
+    {
+        (address % PAGE_BYTES as u64) as usize
     }
 }

@@ -11,7 +11,7 @@ use Rattle.nm_engine.specs.Laws.{with_moves}
 use Rattle.nm_engine.specs.Run.{left}
 use Rattle.nm_engine.specs.MidRun.{MidRun, IsKept}
 use Rattle.nm_engine.specs.Shown.{shown_by}
-use Rattle.nm_engine.proofs.Early.Carrying.{spaces_then, frames_then, prepared, remap, can_copy, can_meanwhile, finished_shows, finished_told, finished_kept}
+use Rattle.nm_engine.proofs.Early.Carrying.{spaces_then, copied_frames, frames_then, prepared, remap, can_copy, can_meanwhile, finished_shows, finished_told, finished_kept}
 use Rattle.nm_engine.proofs.inner.Inner.carry_out.Goals as goal
 
 pub move_pages-requires : goal.move_pages-requires
@@ -62,10 +62,7 @@ invariant_of-self g c =
     let h = prepared y k i.online i.totals.moved i.totals.failed t moves dues c.args.self.now c.self.view_is c.self.invariant c.vacate_each.ensures.shelf
     c.requires.target c.requires.taken c.requires.sound c.requires.moves c.requires.due in
     let w = c.copy_pages.new.self in
-    let is : w ≡ record k { frames = (all_done (spaces_then y k i.online i.totals.moved i.totals.failed t moves dues).place (with_copies k.frames moves) dues).store; vacated = left moves; room = w.room } =
-    c.copy_pages.ensures.frames
-    ∙ ap (λ (v : FramesView). record v { frames = (all_done c.move_pages.new.self.place (with_copies v.frames moves) dues).store; room = w.room }) c.vacate_each.ensures.vacated
-    ∙ ap (λ (z : SpacesView). record k { frames = (all_done z.place (with_copies k.frames moves) dues).store; vacated = left moves; room = w.room }) c.move_pages.ensures in
+    let is = copied_frames y k i.online i.totals.moved i.totals.failed t moves dues c.vacate_each.new.self w c.move_pages.new.self c.vacate_each.ensures.vacated c.move_pages.ensures c.copy_pages.ensures.frames in
     subst (λ (z : SpacesView). IsKept (shown_by z w i.online i.totals.moved i.totals.failed) w.vacated z.frames) (sym c.move_pages.ensures) (finished_kept y k i.online i.totals.moved i.totals.failed t moves dues h w is)
 
 pub returns-clause-state : goal.returns-clause-state
@@ -79,10 +76,7 @@ returns-clause-state g c =
     let h = prepared y k i.online i.totals.moved i.totals.failed t moves dues c.args.self.now c.self.view_is c.self.invariant c.vacate_each.ensures.shelf
     c.requires.target c.requires.taken c.requires.sound c.requires.moves c.requires.due in
     let w = c.copy_pages.new.self in
-    let is : w ≡ record k { frames = (all_done (spaces_then y k i.online i.totals.moved i.totals.failed t moves dues).place (with_copies k.frames moves) dues).store; vacated = left moves; room = w.room } =
-    c.copy_pages.ensures.frames
-    ∙ ap (λ (v : FramesView). record v { frames = (all_done c.move_pages.new.self.place (with_copies v.frames moves) dues).store; room = w.room }) c.vacate_each.ensures.vacated
-    ∙ ap (λ (z : SpacesView). record k { frames = (all_done z.place (with_copies k.frames moves) dues).store; vacated = left moves; room = w.room }) c.move_pages.ensures in
+    let is = copied_frames y k i.online i.totals.moved i.totals.failed t moves dues c.vacate_each.new.self w c.move_pages.new.self c.vacate_each.ensures.vacated c.move_pages.ensures c.copy_pages.ensures.frames in
     ap (λ (z : SpacesView). shown_by z w i.online i.totals.moved i.totals.failed) c.move_pages.ensures ∙ finished_shows y k i.online i.totals.moved i.totals.failed t moves dues h w is
     ∙ ap (λ (x : MidRun). (all_made (with_moves (with_fronts (x.state) t (tos moves)) t moves) dues).state) c.self.view_is
 

@@ -33,7 +33,7 @@ returns-clause-answer g c =
       | in-Some w ↦
           let seen = inside _ _ _ _ c.self-2.view_is (λ s. frame_seen s c.args.pid (c.args.addr / 4096) ≡ Some w.in-Some.frame)
           (ap (λ (x : ℕ × ℕ). frame_seen c.touch.new.self.state x.0 x.1) (λ i. (sym c.in_ok-resolved.ensures.pid i, sym c.in_ok-resolved.ensures.page i)) ∙ sym c.in_ok-frame.ensures.frame ∙ w.in-Some.is) in
-          ap (λ b. b.items) w.bytes-is ∙ w.read.ensures
+          ap (λ b. b.items) w.bytes-is ∙ w.read.ensures ∙ ap (λ n. c.in_ok-bytes.bytes.items ++ stretch_of (bytes_of c.self-2.inside.frames.frames w.in-Some.frame) n c.args.len) w.offset.ensures.value
           ∙ ap (λ (old : List ℕ). old ++ stretch_of (bytes_of (paged_frames c.self-2.inside.spaces c.self-2.inside.frames).frames w.in-Some.frame) (c.args.addr % 4096) c.args.len) c.in_ok-bytes.ensures.items
           ∙ sym (reads_frame c.self-2.inside.spaces.processes (table_of c.self-2.inside.spaces) (paged_frames c.self-2.inside.spaces c.self-2.inside.frames) c.self-2.inside.online c.self-2.inside.totals.moved c.self-2.inside.totals.failed _ c.self-2.invariant.sound c.args.pid c.args.addr c.args.len c.in_ok-resolved.ensures.inside w.in-Some.frame seen)
       | in-None w ↦

@@ -20,7 +20,7 @@ returns-in-Ok-Some-clause-due g c accesses =
     let page : c.in-Ok.resolved.page ≡ _ = sym there.3.page in
     let free = ap (λ p. list_any (same_page p) c.args.moving.now.keys) there.3.page ∙ sym c.contains.ensures ∙ c.if-contains.false in
     let seen = ap (λ (x : ℕ × ℕ). frame_seen c.touch_noted.new.self.state x.0 x.1) (λ i. (sym c.in-Ok.ensures.pid i, sym c.in-Ok.ensures.page i)) ∙ sym c.in-Ok-Some.ensures.frame ∙ c.in-Ok-Some.field-0-is in
-    ap (λ p. ToRead p (c.args.addr % 4096) c.args.len) page
+    ap (λ n. ToRead c.in-Ok.resolved.page n c.args.len) c.offset.ensures.value ∙ ap (λ p. ToRead p (c.args.addr % 4096) c.args.len) page
     ∙ sym (read_due c.args.self.now.state c.touch_noted.new.self.state c.args.self.now.left c.args.moving.now.keys c.args.pid c.args.addr c.in-Ok-Some.field-0-0 _ c.in-Ok-Some.ensures.sound free seen c.args.len there.2
     (c.in-Ok-Some.ensures.touches there.0 there.1 there.3))
 

@@ -30,5 +30,5 @@ returns-clause-ok g c =
     (outside _ _ _ _ c.self.view_is
     (λ s. (p : Process) × (a : Placed) × (spot s c.args.pid c.args.addr c.args.len ≡ Ok (spot_at (resolve ((c.args.pid, c.in-Some-over.first), c.in-Some-over.area)) p a)) × IsResolved s (resolve ((c.args.pid, c.in-Some-over.first), c.in-Some-over.area)) p a)
     (touched_there (shown c.self.inside.spaces.processes (table_of c.self.inside.spaces) (paged_frames c.self.inside.spaces c.self.inside.frames) c.self.inside.online c.self.inside.totals.moved c.self.inside.totals.failed) c.args.pid c.args.addr c.args.len c.of_address-vpn.result c.in-Some-over.first _
-    c.in-Some.info c.in-Some-over.area (sym c.info.ensures ∙ c.in-Some.is) c.if-len-eq0.false c.if-len-addr.false c.of_address-vpn.ensures c.in-Some-over.ensures'.over
+    c.in-Some.info c.in-Some-over.area (sym c.info.ensures ∙ c.in-Some.is) c.if-len-eq0.false (omega (arith, c.if-len-offset.false, c.offset.ensures.value)) c.of_address-vpn.ensures c.in-Some-over.ensures'.over
     (ap (λ n. c.in-Some-over.area.page.index + (c.number.result - n)) (c.number-2.ensures ∙ ap (λ (x : Placed). x.0.1) same) ∙ ap (λ n. c.in-Some-over.area.page.index + (n - c.in-Some-over.first)) c.number.ensures)))

@@ -1,4 +1,4 @@
-use Rattle.std.proofs.Common.{◌≡◌, ◌<◌, List, map, length, ap, sym, subst, ◌∙◌, arith}
+use Rattle.std.proofs.Common.{◌≡◌, List, map, length, ap, sym, subst, ◌∙◌, arith}
 use Rattle.std.specs.List.{AllByRecursion}
 use Rattle.nm_types.specs.Layout.{node_count}
 use Rattle.nm_types.specs.State.{State}
@@ -13,7 +13,7 @@ use Rattle.nm_engine.specs.Run.{run}
 use Rattle.nm_engine.specs.Sound.{IsSound}
 use Rattle.nm_engine.specs.Touch.{Access}
 use Rattle.nm_engine.proofs.Early.Flown.{run_state, run_answers}
-use Rattle.nm_engine.proofs.Early.Phases.{pages_of, touched_all, given_back, phased}
+use Rattle.nm_engine.proofs.Early.Phases.{pages_of, touched_all, given_back, planned_phases}
 use Rattle.nm_engine.proofs.Early.Ready.{all_layout}
 use Rattle.nm_engine.proofs.machine.Machine.run_flight.Goals as goal
 
@@ -31,90 +31,68 @@ carry_out-answers-requires-clause-sound g c κs within =
     let r = c.reserve.new.self.state in
     let t = c.args.requests.now.target in
     let ws = c.args.requests.now.wanted.items in
-    let p = c.in_ok-plan.plan in
     let moves : List Taken = c.moves-moves.result.now in
     let accesses : List Access = map (access_shown {A = g.row.A.Denot}) c.args.accesses.now in
-    let same = c.in_ok-reserve.ensures.same in
-    let h : IsPlanOf r t ws p = subst (λ (x : MidRun). IsPlanOf x.state t ws p) (sym same) c.in_ok-plan.ensures in
-    let can : CanMove r t moves = subst (CanMove r t) (sym c.moves-moves.ensures) h.can in
-    let sound = c.in_ok-dues.ensures.sound in
-    let nodes = ap (λ (x : MidRun). node_count x.state.layout) same ∙ ap (λ (s : State). node_count s.layout) c.self.view_is in
-    let ready = phased r t moves accesses sound (omega (arith, sound.frames.lists, nodes, c.requires.target)) can in
-    subst (λ (x : State). IsSound (with_fronts x t (tos moves))) (sym c.in_ok-dues.ensures.state) ready.back
+    let at = ap (λ (x : MidRun). x.state) c.in_ok-reserve.ensures.same ∙ c.self.view_is in
+    let plan = subst (λ (x : State). IsPlanOf x t ws c.in_ok-plan.plan) c.self.view_is c.in_ok-plan.ensures in
+    let ready = planned_phases r t moves accesses c.args.self.now ws c.in_ok-plan.plan at plan c.moves-moves.ensures c.in_ok-dues.ensures.sound c.requires.target in
+    subst (λ (x : State). IsSound (with_fronts x t (tos moves))) (sym c.in_ok-dues.ensures.state) ready.1.back
 
 pub carry_out-answers-requires-clause-moves : goal.carry_out-answers-requires-clause-moves
 carry_out-answers-requires-clause-moves g c κs within =
     let r = c.reserve.new.self.state in
     let t = c.args.requests.now.target in
     let ws = c.args.requests.now.wanted.items in
-    let p = c.in_ok-plan.plan in
     let moves : List Taken = c.moves-moves.result.now in
     let accesses : List Access = map (access_shown {A = g.row.A.Denot}) c.args.accesses.now in
-    let same = c.in_ok-reserve.ensures.same in
-    let h : IsPlanOf r t ws p = subst (λ (x : MidRun). IsPlanOf x.state t ws p) (sym same) c.in_ok-plan.ensures in
-    let can : CanMove r t moves = subst (CanMove r t) (sym c.moves-moves.ensures) h.can in
-    let sound = c.in_ok-dues.ensures.sound in
-    let nodes = ap (λ (x : MidRun). node_count x.state.layout) same ∙ ap (λ (s : State). node_count s.layout) c.self.view_is in
-    let ready = phased r t moves accesses sound (omega (arith, sound.frames.lists, nodes, c.requires.target)) can in
-    subst (λ (x : State). CanMove (with_fronts x t (tos moves)) t moves) (sym c.in_ok-dues.ensures.state) ready.can
+    let at = ap (λ (x : MidRun). x.state) c.in_ok-reserve.ensures.same ∙ c.self.view_is in
+    let plan = subst (λ (x : State). IsPlanOf x t ws c.in_ok-plan.plan) c.self.view_is c.in_ok-plan.ensures in
+    let ready = planned_phases r t moves accesses c.args.self.now ws c.in_ok-plan.plan at plan c.moves-moves.ensures c.in_ok-dues.ensures.sound c.requires.target in
+    subst (λ (x : State). CanMove (with_fronts x t (tos moves)) t moves) (sym c.in_ok-dues.ensures.state) ready.1.can
 
 pub carry_out-answers-requires-clause-due : goal.carry_out-answers-requires-clause-due
 carry_out-answers-requires-clause-due g c κs within =
     let r = c.reserve.new.self.state in
     let t = c.args.requests.now.target in
     let ws = c.args.requests.now.wanted.items in
-    let p = c.in_ok-plan.plan in
     let moves : List Taken = c.moves-moves.result.now in
     let accesses : List Access = map (access_shown {A = g.row.A.Denot}) c.args.accesses.now in
-    let same = c.in_ok-reserve.ensures.same in
-    let h : IsPlanOf r t ws p = subst (λ (x : MidRun). IsPlanOf x.state t ws p) (sym same) c.in_ok-plan.ensures in
-    let can : CanMove r t moves = subst (CanMove r t) (sym c.moves-moves.ensures) h.can in
-    let sound = c.in_ok-dues.ensures.sound in
-    let nodes = ap (λ (x : MidRun). node_count x.state.layout) same ∙ ap (λ (s : State). node_count s.layout) c.self.view_is in
-    let ready = phased r t moves accesses sound (omega (arith, sound.frames.lists, nodes, c.requires.target)) can in
+    let at = ap (λ (x : MidRun). x.state) c.in_ok-reserve.ensures.same ∙ c.self.view_is in
+    let plan = subst (λ (x : State). IsPlanOf x t ws c.in_ok-plan.plan) c.self.view_is c.in_ok-plan.ensures in
+    let ready = planned_phases r t moves accesses c.args.self.now ws c.in_ok-plan.plan at plan c.moves-moves.ensures c.in_ok-dues.ensures.sound c.requires.target in
     subst (λ (ds : List Due). AllByRecursion (IsDue (pages_of moves) c.begin.new.self.state) ds) (sym c.in_ok-dues.ensures.dues)
-    (subst (λ (x : State). AllByRecursion (IsDue (pages_of moves) x) (touched_all r t moves accesses).dues) (sym c.in_ok-dues.ensures.state) ready.due)
+    (subst (λ (x : State). AllByRecursion (IsDue (pages_of moves) x) (touched_all r t moves accesses).dues) (sym c.in_ok-dues.ensures.state) ready.1.due)
 
 pub returns-clause-answers : goal.returns-clause-answers
 returns-clause-answers g c =
     let r = c.reserve.new.self.state in
     let t = c.args.requests.now.target in
     let ws = c.args.requests.now.wanted.items in
-    let p = c.in_ok-plan.plan in
     let moves : List Taken = c.moves-moves.result.now in
     let accesses : List Access = map (access_shown {A = g.row.A.Denot}) c.args.accesses.now in
-    let same = c.in_ok-reserve.ensures.same in
-    let h : IsPlanOf r t ws p = subst (λ (x : MidRun). IsPlanOf x.state t ws p) (sym same) c.in_ok-plan.ensures in
-    let can : CanMove r t moves = subst (CanMove r t) (sym c.moves-moves.ensures) h.can in
-    let sound = c.in_ok-dues.ensures.sound in
-    let nodes = ap (λ (x : MidRun). node_count x.state.layout) same ∙ ap (λ (s : State). node_count s.layout) c.self.view_is in
-    let ready = phased r t moves accesses sound (omega (arith, sound.frames.lists, nodes, c.requires.target)) can in
+    let at = ap (λ (x : MidRun). x.state) c.in_ok-reserve.ensures.same ∙ c.self.view_is in
+    let plan = subst (λ (x : State). IsPlanOf x t ws c.in_ok-plan.plan) c.self.view_is c.in_ok-plan.ensures in
+    let ready = planned_phases r t moves accesses c.args.self.now ws c.in_ok-plan.plan at plan c.moves-moves.ensures c.in_ok-dues.ensures.sound c.requires.target in
     let early = touched_all r t moves accesses in
-    let during : AllAnswered = all_made (with_moves (given_back r t moves accesses) t moves) early.dues in
     let made : List Due → State → AllAnswered = λ ds x. all_made (with_moves (with_fronts x t (tos moves)) t moves) ds in
-    run_answers r t ws p moves accesses during h c.moves-moves.ensures ready.flight (map (answer_shown {A = g.row.A.Denot}) c.carry_out-answers.result.items)
+    run_answers r t ws c.in_ok-plan.plan moves accesses (all_made (with_moves (given_back r t moves accesses) t moves) early.dues) ready.0 c.moves-moves.ensures ready.1.flight (map (answer_shown {A = g.row.A.Denot}) c.carry_out-answers.result.items)
     (c.carry_out-answers.ensures.answers ∙ ap (λ (x : State). (made (map (due_shown c.args.accesses.now) c.in_ok-dues.dues.items) x).answers) c.in_ok-dues.ensures.state ∙ ap (λ (ds : List Due). (made ds early.state).answers) c.in_ok-dues.ensures.dues)
-    ∙ ap (λ (x : MidRun). (run x.state t ws accesses).answers) same ∙ ap (λ (s : State). (run s t ws accesses).answers) c.self.view_is
+    ∙ ap (λ (s : State). (run s t ws accesses).answers) at
 
 pub returns-clause-state : goal.returns-clause-state
 returns-clause-state g c =
     let r = c.reserve.new.self.state in
     let t = c.args.requests.now.target in
     let ws = c.args.requests.now.wanted.items in
-    let p = c.in_ok-plan.plan in
     let moves : List Taken = c.moves-moves.result.now in
     let accesses : List Access = map (access_shown {A = g.row.A.Denot}) c.args.accesses.now in
-    let same = c.in_ok-reserve.ensures.same in
-    let h : IsPlanOf r t ws p = subst (λ (x : MidRun). IsPlanOf x.state t ws p) (sym same) c.in_ok-plan.ensures in
-    let can : CanMove r t moves = subst (CanMove r t) (sym c.moves-moves.ensures) h.can in
-    let sound = c.in_ok-dues.ensures.sound in
-    let nodes = ap (λ (x : MidRun). node_count x.state.layout) same ∙ ap (λ (s : State). node_count s.layout) c.self.view_is in
-    let ready = phased r t moves accesses sound (omega (arith, sound.frames.lists, nodes, c.requires.target)) can in
-    let early = touched_all r t moves accesses in
-    let during : AllAnswered = all_made (with_moves (given_back r t moves accesses) t moves) early.dues in
+    let at = ap (λ (x : MidRun). x.state) c.in_ok-reserve.ensures.same ∙ c.self.view_is in
+    let plan = subst (λ (x : State). IsPlanOf x t ws c.in_ok-plan.plan) c.self.view_is c.in_ok-plan.ensures in
+    let ready = planned_phases r t moves accesses c.args.self.now ws c.in_ok-plan.plan at plan c.moves-moves.ensures c.in_ok-dues.ensures.sound c.requires.target in
     let made : List Due → State → AllAnswered = λ ds x. all_made (with_moves (with_fronts x t (tos moves)) t moves) ds in
+    let early = touched_all r t moves accesses in
     c.end_run.ensures.state
-    ∙ run_state r t ws p moves accesses during h c.moves-moves.ensures ready.flight c.carry_out-answers.new.self.state c.carry_out-answers.new.self.left c.statuses.result.now
+    ∙ run_state r t ws c.in_ok-plan.plan moves accesses (all_made (with_moves (given_back r t moves accesses) t moves) early.dues) ready.0 c.moves-moves.ensures ready.1.flight c.carry_out-answers.new.self.state c.carry_out-answers.new.self.left c.statuses.result.now
     (c.carry_out-answers.ensures.state ∙ ap (λ (x : State). (made (map (due_shown c.args.accesses.now) c.in_ok-dues.dues.items) x).state) c.in_ok-dues.ensures.state ∙ ap (λ (ds : List Due). (made ds early.state).state) c.in_ok-dues.ensures.dues)
     c.carry_out-answers.ensures.left c.statuses.ensures
-    ∙ ap (λ (x : MidRun). (run x.state t ws accesses).state) same ∙ ap (λ (s : State). (run s t ws accesses).state) c.self.view_is
+    ∙ ap (λ (s : State). (run s t ws accesses).state) at
