@@ -24,4 +24,6 @@ pub mod Steps
 pub mod Counted
 pub mod Stretches
 pub mod Covered
+pub mod Masked
+pub mod Alone
 mod CoverageExamples

@@ -47,7 +47,7 @@ once_same areas now segments same once pid v q w p here there private = once pid
 
 module _ (areas : Map (ℕ × ℕ) Area) where
   -- a segment that is shown is kept
-  get_kept : (segments : Map ℕ Segment) (n : ℕ) → list_any (shows_segment n) areas ≡ true → get nat_cmp (segments_left segments areas) n ≡ get nat_cmp segments n
+  pub get_kept : (segments : Map ℕ Segment) (n : ℕ) → list_any (shows_segment n) areas ≡ true → get nat_cmp (segments_left segments areas) n ≡ get nat_cmp segments n
   get_kept [] n h = refl
   get_kept (e ∷ segments) n h =
       let more = get_kept segments n h in

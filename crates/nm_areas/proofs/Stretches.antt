@@ -4,11 +4,13 @@ use Rattle.std.specs.Prelude.{None, if◌then◌else◌}
 use Rattle.std.specs.List.{fold}
 use Rattle.nm_types.specs.declared.page.Page.{Page}
 use Rattle.nm_types.specs.declared.area.Area.{Area}
+use Rattle.nm_types.specs.declared.area.Segment.{Segment}
 use Rattle.nm_types.specs.Map.{Map, get, without, page_cmp}
 use Rattle.nm_areas.specs.declared.coverage.Step.{Step}
-use Rattle.nm_areas.specs.Coverage.{IsCoverage, ends_at, covers_at}
+use Rattle.nm_areas.specs.Coverage.{step_of, IsCoverage, ends_at, covers_at}
+use Rattle.nm_areas.specs.Lines.{is_shared}
 use Rattle.nm_areas.specs.Parts.{pages_from, is_covered}
-use Rattle.nm_areas.specs.Removed.{place_left, with_its_frame, lost, all_lost, page_in}
+use Rattle.nm_areas.specs.Removed.{place_left, with_its_frame, lost, all_lost, page_in, pages_of_area}
 use Rattle.nm_areas.proofs.Counted.{areas_flat, not_covered, some_cover}
 use Rattle.nm_areas.proofs.Lost.{all_freed_next, all_left_next}
 use Rattle.nm_areas.proofs.Steps.{none_ends, flat_same}
@@ -64,12 +66,15 @@ module _ (left : Map (ℕ × ℕ) Area) (s : ℕ) where
       ∙ kept_lost place (at + 1) n (λ i low high. h i (omega (arith, low)) (omega (arith, high)))
 
 -- from one change to the next
-module _ (m : Map Page Step) (left : Map (ℕ × ℕ) Area) (cover : IsCoverage m left) (s at change past : ℕ) (low : at < change) (high : change ≤ past)
+module _ (m : Map Page Step) (segments : Map ℕ Segment) (left : Map (ℕ × ℕ) Area) (cover : IsCoverage m segments left) (s : ℕ) (shared : is_shared segments s ≡ true) (at change past : ℕ) (low : at < change) (high : change ≤ past)
     (none : (i : ℕ) → at < i → i < change → get page_cmp m (page_in s i) ≡ None) (place : Map Page ℕ) (before : List (Page × ℕ)) where
   same_count : (i : ℕ) → at ≤ i → i < change → covers_at left (page_in s i) ≡ covers_at left (page_in s at)
   same_count i from to =
       flat_same (ends_at left) (covers_at left) (areas_flat left) s at (i - at) i (omega (arith, from))
-      (λ j up down. let q = page_in s j in none_ends (ends_at left q) (covers_at left q) (sym (cover q) ∙ none j up (omega (arith, down, to))))
+      (λ j up down.
+      let q = page_in s j in
+      let here = ap (λ b. step_of (if b then ends_at left q else 0) (if b then covers_at left q else 0)) shared in
+      none_ends (ends_at left q) (covers_at left q) (sym here ∙ sym (cover q) ∙ none j up (omega (arith, down, to))))
 
   parts : pages_from s at (past - at) ≡ pages_from s at (change - at) ++ pages_from s change (past - change)
   parts = pages_parts s at change past (omega (arith, low)) high
@@ -105,3 +110,12 @@ module _ (m : Map Page Step) (left : Map (ℕ × ℕ) Area) (cover : IsCoverage 
       pub kept_places : (total : Map Page ℕ) → fold (place_left left) place (pages_from s at (past - at)) ≡ total → fold (place_left left) place (pages_from s change (past - change)) ≡ total
       kept_places total so_far =
           all_left_next left place place (pages_from s at (change - at)) (pages_from s change (past - change)) (pages_from s at (past - at)) (sym (kept_left left s place at (change - at) an_area)) parts total so_far
+
+-- none covers a page of an area
+pub alone_left : (left : Map (ℕ × ℕ) Area) (x : Area) (place : Map Page ℕ) → ((i : ℕ) → x.page.index ≤ i → i < x.page.index + x.pages → is_covered left (page_in x.page.segment i) ≡ false)
+    → fold (place_left []) place (pages_of_area x) ≡ fold (place_left left) place (pages_of_area x)
+alone_left left x place none = free_left left x.page.segment place x.page.index x.pages none
+
+pub alone_lost : (left : Map (ℕ × ℕ) Area) (x : Area) (place : Map Page ℕ) → ((i : ℕ) → x.page.index ≤ i → i < x.page.index + x.pages → is_covered left (page_in x.page.segment i) ≡ false)
+    → all_lost [] place (pages_of_area x) ≡ all_lost left place (pages_of_area x)
+alone_lost left x place none = free_lost left x.page.segment place x.page.index x.pages none

@@ -1,10 +1,12 @@
--- How many areas cover a page, as a step function of each segment.
-use Rattle.std.specs.Prelude.{◌≡◌, ℕ, suc, ◌+◌, ◌==◌, nat_lt, ◌&&◌, List, [], ◌∷◌, Option, Some, None, if◌then◌else◌}
+-- How many areas cover a page of a shared segment, as a step function of each.
+use Rattle.std.specs.Prelude.{◌≡◌, ℕ, suc, ◌+◌, ◌==◌, nat_lt, ◌&&◌, Bool, List, [], ◌∷◌, Option, Some, None, if◌then◌else◌}
 use Rattle.nm_types.specs.declared.page.Page.{Page}
 use Rattle.nm_types.specs.declared.area.Area.{Area}
+use Rattle.nm_types.specs.declared.area.Segment.{Segment}
 use Rattle.nm_types.specs.Map.{Map, get, page_cmp, same_page}
 use Rattle.nm_types.specs.State.{Placed, covers, page_of}
 use Rattle.nm_areas.specs.declared.coverage.Step.{Step}
+use Rattle.nm_areas.specs.Lines.{is_shared}
 use Rattle.nm_areas.specs.Parts.{shows_page}
 use Rattle.nm_areas.specs.Removed.{page_in}
 
@@ -41,9 +43,19 @@ step_of ends covers = if ends == 0 then None else Some (record { covers = covers
 abbrev pub IsSteps : Map Page Step → (Page → ℕ) → (Page → ℕ) → Type 0
 IsSteps steps ends covers = (p : Page) → get page_cmp steps p ≡ step_of (ends p) (covers p)
 
--- the steps are those of the areas
-abbrev pub IsCoverage : Map Page Step → Map (ℕ × ℕ) Area → Type 0
-IsCoverage steps areas = IsSteps steps (ends_at areas) (covers_at areas)
+-- a number of each page of a shared segment, and 0 for the pages of others
+abbrev pub of_shared : Map ℕ Segment → (Page → ℕ) → Page → ℕ
+of_shared segments number p = if is_shared segments p.segment then number p else 0
+
+-- the steps are those of the areas over shared segments
+abbrev pub IsCoverage : Map Page Step → Map ℕ Segment → Map (ℕ × ℕ) Area → Type 0
+IsCoverage steps segments areas = IsSteps steps (of_shared segments (ends_at areas)) (of_shared segments (covers_at areas))
+
+-- the steps of these areas, and of one more if it is over a shared segment
+abbrev pub IsWith : Map Page Step → Map ℕ Segment → Map (ℕ × ℕ) Area → Area → Bool → Type 0
+IsWith steps segments areas area shared =
+    IsSteps steps (λ p. of_shared segments (ends_at areas) p + (if shared then ends_of p area else 0))
+    (λ p. of_shared segments (covers_at areas) p + (if shared then covers_of p area else 0))
 
 -- where nothing ends as many cover a page as the one in front of it, and none covers the first page
 abbrev pub IsFlat : (Page → ℕ) → (Page → ℕ) → Type 0

@@ -1,5 +1,5 @@
 -- What is left when a process lets go a range of page numbers.
-use Rattle.std.specs.Prelude.{ℕ, ◌==◌, nat_lt, nat_le, Bool, not, ◌&&◌, List, [], ◌∷◌, ◌++◌, Option, Some, None, if◌then◌else◌}
+use Rattle.std.specs.Prelude.{◌≡◌, ℕ, ◌+◌, ◌≤◌, ◌<◌, ◌==◌, nat_lt, nat_le, Bool, false, not, ◌&&◌, List, [], ◌∷◌, ◌++◌, Option, Some, None, if◌then◌else◌}
 use Rattle.std.specs.List.{list_any, filter, flat_map, fold}
 use Rattle.nm_types.specs.declared.page.Page.{Page}
 use Rattle.nm_types.specs.declared.area.Area.{Area}
@@ -89,3 +89,8 @@ pages_of_own pid at end areas = flat_map (λ a. pages_of_area a.1) (filter (is_o
 -- a page of a segment
 abbrev pub page_in : ℕ → ℕ → Page
 page_in segment index = record { segment = segment; index = index }
+
+-- no area covers a page of this one, if its segment is private
+abbrev pub IsAlone : Map (ℕ × ℕ) Area → Area → Bool → Type 0
+IsAlone areas area shared =
+    shared ≡ false → (i : ℕ) → area.page.index ≤ i → i < area.page.index + area.pages → is_covered areas (page_in area.page.segment i) ≡ false

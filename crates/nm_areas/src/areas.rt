@@ -9,8 +9,8 @@ ghost use Rattle.nm_areas.specs.Mapped.{IsMapped};
 ghost use Rattle.nm_areas.specs.Refused.{is_range, insert_refusal, stretch_refusal};
 
 use crate::area_table::{AreaTable, new_area};
-use crate::counting::count_in;
-use crate::coverage::{Step, uncover};
+use crate::counting::{count_in, count_out};
+use crate::coverage::Step;
 use crate::ranges::range_start;
 use nm_types::limits::MAX_SEGMENTS;
 use nm_types::{Area, Errno, FrameId, MachineError, Page, Pid, Vpn};
@@ -21,7 +21,7 @@ use std::marker::Model;
 /// The areas of all processes, the segments that they show, and the frame of each page that has one. Contracts see
 /// maps: the areas by process and first page number, the segments by number, and the frames by page. No two areas of a
 /// process are over one page number, and a page of a private segment is shown at one page number alone. Beside them
-/// stands how many areas cover a page (`coverage`), which no contract sees.
+/// stands how many areas cover a page of a shared segment (`coverage`), which no contract sees.
 #[derive(Drop)]
 pub struct Areas<A: Allocator + Copy> {
     pub(crate) table: AreaTable<A>,
@@ -38,7 +38,7 @@ impl<A: Allocator + Copy> Model for Areas<A> {
 
     ghost view = { λ a. mapped a.table a.places.entries };
 
-    ghost invariant = { λ a. IsMapped (mapped a.table a.places.entries) × IsCoverage a.steps.entries a.table.areas };
+    ghost invariant = { λ a. IsMapped (mapped a.table a.places.entries) × IsCoverage a.steps.entries a.table.segments a.table.areas };
 }
 
 impl<A: Allocator + Copy> Areas<A> {
@@ -98,9 +98,14 @@ impl<A: Allocator + Copy> Areas<A> {
             return Err(MachineError::Refused(Errno::Enomem));
         }
         let next = self.table.next_segment();
-        count_in(&self.table, &mut self.steps, new_area(next, 0, pages))?;
+        count_in(
+            &self.table,
+            &mut self.steps,
+            new_area(next, 0, pages),
+            shared,
+        )?;
         let Ok(number) = self.table.insert(pid, first, pages, shared) else {
-            uncover(&mut self.steps, new_area(next, 0, pages));
+            count_out(&mut self.steps, new_area(next, 0, pages), shared);
             return Err(MachineError::HostMemory);
         };
         Ok(number)
@@ -136,9 +141,10 @@ impl<A: Allocator + Copy> Areas<A> {
             &self.table,
             &mut self.steps,
             new_area(number, offset, pages),
+            true,
         )?;
         let Ok(()) = self.table.attach(pid, first, number, offset, pages) else {
-            uncover(&mut self.steps, new_area(number, offset, pages));
+            count_out(&mut self.steps, new_area(number, offset, pages), true);
             return Err(MachineError::HostMemory);
         };
         Ok(())

@@ -1,11 +1,14 @@
-//! The areas of a table, counted in the steps of `coverage` as they come, are split and go.
+//! The areas of a table that are over shared segments, counted in the steps of `coverage` as they come, are split and go.
+//! Those over private segments are not counted, since no page of one is shown twice.
 
 ghost use Rattle.std.specs.List.{AllByRecursion};
 ghost use Rattle.std.specs.Prelude.{IfNone, IfSome, OnErr, OnOk, ℕ, ◌+◌, ◌<◌, ◌^◌, ◌≡◌, ◌≤◌, if◌then◌else◌};
-ghost use Rattle.nm_areas.specs.Coverage.{IsCoverage, IsFlat, IsSteps, covers_at, covers_of, ends_at, ends_of, splits_at};
+ghost use Rattle.nm_areas.specs.Coverage.{IsCoverage, IsFlat, IsSteps, IsWith, covers_at, covers_of, ends_at, ends_of, of_shared, splits_at};
 ghost use Rattle.nm_areas.specs.Mapped.{AreasAreApart, HasIndices, IsSomePages};
 ghost use Rattle.nm_areas.specs.Removed.{others};
-ghost use Rattle.nm_types.specs.Map.{same_page};
+ghost use Rattle.nm_types.specs.Map.{Map, same_page};
+ghost use Rattle.nm_types.specs.declared.area.Area.{Area};
+ghost use Rattle.nm_types.specs.declared.area.Segment.{Segment};
 
 use crate::area_table::AreaTable;
 use crate::coverage::{Step, cover, mark, uncover, unmark};
@@ -13,23 +16,42 @@ use nm_types::{Area, Page, Pid, Vpn};
 use std::alloc::{AllocError, Allocator};
 use std::collections::BTreeMap;
 
-/// Counts in an area that is to come to those of a table. An error means that the steps are still those of the table.
+/// Counts in an area that is to come to those of a table, if it is over a shared segment. An error means that the steps
+/// are still those of the table.
 pub(crate) fn count_in<A: Allocator + Copy>(
     table: &AreaTable<A>,
     steps: &mut BTreeMap<Page, Step, A>,
     area: Area,
+    shared: bool,
 ) -> Result<(), AllocError>
-    requires steps { IsCoverage steps.old.entries table.now.areas }
+    requires steps { IsCoverage steps.old.entries table.now.segments table.now.areas }
     requires whole { AllByRecursion IsSomePages table.now.areas }
     requires indices { area.page.index + area.pages < 2 ^ 64 }
-    ensures ok { OnOk result (IsSteps steps.new.entries (λ p. ends_at table.now.areas p + ends_of p area) (λ p. covers_at table.now.areas p + covers_of p area)) }
-    ensures err { OnErr result (IsCoverage steps.new.entries table.now.areas) }
+    ensures ok { OnOk result (IsWith steps.new.entries table.now.segments table.now.areas area shared) }
+    ensures err { OnErr result (IsCoverage steps.new.entries table.now.segments table.now.areas) }
 {
+    if !shared {
+        return Ok(());
+    }
     // So few areas that no number of a step is too great for its type.
     let areas = table.count();
     prove!(areas < usize::MAX);
     cover(steps, area)?;
     Ok(())
+}
+
+/// Counts out an area that was counted in, if it is over a shared segment. It takes no memory.
+pub(crate) fn count_out<A: Allocator + Copy>(
+    steps: &mut BTreeMap<Page, Step, A>,
+    area: Area,
+    shared: bool,
+)
+    requires indices { area.page.index + area.pages < 2 ^ 64 }
+    ensures { (segments : Map ℕ Segment) (areas : Map (ℕ × ℕ) Area) → IsWith steps.old.entries segments areas area shared → IsCoverage steps.new.entries segments areas }
+{
+    if shared {
+        uncover(steps, area);
+    }
 }
 
 /// Counts out the areas of a process that begin from one page number up to another, so that the steps are those of the
@@ -42,14 +64,28 @@ pub(crate) fn count_out_own<A: Allocator + Copy>(
     end: Vpn,
 )
     requires range { first ≤ end }
-    requires steps { IsCoverage steps.old.entries table.now.areas }
+    requires steps { IsCoverage steps.old.entries table.now.segments table.now.areas }
     requires indices { AllByRecursion HasIndices table.now.areas }
-    ensures { IsCoverage steps.new.entries (others pid first end table.now.areas) }
+    ensures { IsCoverage steps.new.entries table.now.segments (others pid first end table.now.areas) }
 {
     let mut at = first.number();
     while let Some((start, area)) = table.next_own(pid, Vpn::new(at), end) {
-        uncover(steps, area);
+        count_out_one(table, steps, area);
         at = start.number() + 1;
+    }
+}
+
+/// Counts out an area of a table, if it is over a shared segment. It takes no memory.
+fn count_out_one<A: Allocator + Copy>(
+    table: &AreaTable<A>,
+    steps: &mut BTreeMap<Page, Step, A>,
+    area: Area,
+)
+    requires indices { area.page.index + area.pages < 2 ^ 64 }
+    ensures { (ends covers : Page → ℕ) → IsSteps steps.old.entries (of_shared table.now.segments (λ p. ends p + ends_of p area)) (of_shared table.now.segments (λ p. covers p + covers_of p area)) → IsSteps steps.new.entries (of_shared table.now.segments ends) (of_shared table.now.segments covers) }
+{
+    if table.is_shared(area.page.segment) {
+        uncover(steps, area);
     }
 }
 
@@ -62,12 +98,12 @@ pub(crate) fn split_steps<A: Allocator + Copy>(
     first: Vpn,
     end: Vpn,
 ) -> Result<(), AllocError>
-    requires steps { IsCoverage steps.old.entries table.now.areas }
+    requires steps { IsCoverage steps.old.entries table.now.segments table.now.areas }
     requires apart { AreasAreApart table.now.areas }
     requires whole { AllByRecursion IsSomePages table.now.areas }
     requires indices { AllByRecursion HasIndices table.now.areas }
-    ensures ok { OnOk result (IsSteps steps.new.entries (λ p. (ends_at table.now.areas p + splits_at table.now.areas pid first p) + splits_at table.now.areas pid end p) (covers_at table.now.areas)) }
-    ensures err { OnErr result (IsCoverage steps.new.entries table.now.areas) }
+    ensures ok { OnOk result (IsSteps steps.new.entries (λ p. (of_shared table.now.segments (ends_at table.now.areas) p + of_shared table.now.segments (splits_at table.now.areas pid first) p) + of_shared table.now.segments (splits_at table.now.areas pid end) p) (of_shared table.now.segments (covers_at table.now.areas))) }
+    ensures err { OnErr result (IsCoverage steps.new.entries table.now.segments table.now.areas) }
 {
     // So few areas that no number of a step is too great for its type.
     let areas = table.count();
@@ -88,11 +124,11 @@ pub(crate) fn join_steps<A: Allocator + Copy>(
     first: Vpn,
     end: Vpn,
 )
-    requires steps { IsSteps steps.old.entries (λ p. (ends_at table.now.areas p + splits_at table.now.areas pid first p) + splits_at table.now.areas pid end p) (covers_at table.now.areas) }
+    requires steps { IsSteps steps.old.entries (λ p. (of_shared table.now.segments (ends_at table.now.areas) p + of_shared table.now.segments (splits_at table.now.areas pid first) p) + of_shared table.now.segments (splits_at table.now.areas pid end) p) (of_shared table.now.segments (covers_at table.now.areas)) }
     requires apart { AreasAreApart table.now.areas }
     requires whole { AllByRecursion IsSomePages table.now.areas }
     requires indices { AllByRecursion HasIndices table.now.areas }
-    ensures { IsCoverage steps.new.entries table.now.areas }
+    ensures { IsCoverage steps.new.entries table.now.segments table.now.areas }
 {
     join_step(table, steps, pid, end);
     join_step(table, steps, pid, first);
@@ -108,7 +144,7 @@ fn split_step<A: Allocator + Copy>(
     requires apart { AreasAreApart table.now.areas }
     requires whole { AllByRecursion IsSomePages table.now.areas }
     requires indices { AllByRecursion HasIndices table.now.areas }
-    ensures ok { OnOk result ((ends covers : Page → ℕ) → IsSteps steps.old.entries ends covers → IsFlat ends covers → ((p : Page) → ends p + 2 < 2 ^ 64) → IsSteps steps.new.entries (λ p. ends p + splits_at table.now.areas pid at p) covers) }
+    ensures ok { OnOk result ((ends covers : Page → ℕ) → IsSteps steps.old.entries ends covers → IsFlat ends covers → ((p : Page) → ends p + 2 < 2 ^ 64) → IsSteps steps.new.entries (λ p. ends p + of_shared table.now.segments (splits_at table.now.areas pid at) p) covers) }
     ensures err { OnErr result (steps.new.entries ≡ steps.old.entries) }
 {
     match table.split_page(pid, at) {
@@ -127,7 +163,7 @@ fn join_step<A: Allocator + Copy>(
     requires apart { AreasAreApart table.now.areas }
     requires whole { AllByRecursion IsSomePages table.now.areas }
     requires indices { AllByRecursion HasIndices table.now.areas }
-    ensures { (ends covers : Page → ℕ) → IsSteps steps.old.entries (λ p. ends p + splits_at table.now.areas pid at p) covers → IsSteps steps.new.entries ends covers }
+    ensures { (ends covers : Page → ℕ) → IsSteps steps.old.entries (λ p. ends p + of_shared table.now.segments (splits_at table.now.areas pid at) p) covers → IsSteps steps.new.entries ends covers }
 {
     if let Some(page) = table.split_page(pid, at) {
         unmark(steps, page, 2);
@@ -135,14 +171,14 @@ fn join_step<A: Allocator + Copy>(
 }
 
 impl<A: Allocator + Copy> AreaTable<A> {
-    /// The page with which the second part begins where an area of the process is split at a page number. None where no
-    /// area is split there.
+    /// The page with which the second part begins where an area of the process over a shared segment is split at a page
+    /// number. None where no such area is split there.
     fn split_page(&self, pid: Pid, at: Vpn) -> Option<Page>
         requires apart { AreasAreApart self.now.areas }
         requires whole { AllByRecursion IsSomePages self.now.areas }
         requires indices { AllByRecursion HasIndices self.now.areas }
-        ensures some { IfSome result (λ page. (p : Page) → splits_at self.now.areas pid at p ≡ (if same_page page p then 2 else 0)) }
-        ensures none { IfNone result ((p : Page) → splits_at self.now.areas pid at p ≡ 0) }
+        ensures some { IfSome result (λ page. (p : Page) → of_shared self.now.segments (splits_at self.now.areas pid at) p ≡ (if same_page page p then 2 else 0)) }
+        ensures none { IfNone result ((p : Page) → of_shared self.now.segments (splits_at self.now.areas pid at) p ≡ 0) }
     {
         let (start, area) = self.over(pid, at)?;
         let front = at.number() - start.number();
@@ -150,6 +186,9 @@ impl<A: Allocator + Copy> AreaTable<A> {
             return None;
         }
         let Page { segment, index } = area.page;
+        if !self.is_shared(segment) {
+            return None;
+        }
         Some(Page {
             segment,
             index: index + front,

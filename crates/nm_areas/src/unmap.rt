@@ -4,13 +4,15 @@ ghost use Rattle.std.specs.List.{AllByRecursion, fold, list_any};
 ghost use Rattle.std.specs.List.Sorted.{IsStrictlySortedBy};
 ghost use Rattle.std.specs.Map.{keys_of};
 ghost use Rattle.std.specs.Ordering.{nat_cmp};
-ghost use Rattle.std.specs.Prelude.{IfOk, None, OnOk, Some, false, length, min, vec_capacity, vec_len, ℕ, [], ◌*◌, ◌++◌, ◌+◌, ◌-◌, ◌/◌, ◌<◌, ◌^◌, ◌≡◌, ◌≤◌};
+ghost use Rattle.std.specs.Prelude.{IfOk, None, OnOk, Some, false, true, length, min, vec_capacity, vec_len, ℕ, [], ◌*◌, ◌++◌, ◌+◌, ◌-◌, ◌/◌, ◌<◌, ◌^◌, ◌≡◌, ◌≤◌};
 ghost use Rattle.nm_types.specs.Does.{Makes};
 ghost use Rattle.nm_areas.specs.Coverage.{IsCoverage};
-ghost use Rattle.nm_areas.specs.Mapped.{AllShown, HasIndices, shows_segment};
+ghost use Rattle.nm_areas.specs.Lines.{is_shared};
+ghost use Rattle.nm_areas.specs.Mapped.{AllShown, AreasAreApart, HasIndices, PrivateIsOnce, shows_segment};
 ghost use Rattle.nm_areas.specs.Parts.{pages_from};
 ghost use Rattle.nm_areas.specs.Refused.{remove_refusal};
-ghost use Rattle.nm_areas.specs.Removed.{all_lost, frames_lost, lost, others, page_outside, pages_of_area, pages_of_own, place_left, removed, without_own};
+ghost use Rattle.nm_areas.specs.Removed.{IsAlone, all_lost, frames_lost, lost, others, page_outside, pages_of_area, pages_of_own, place_left, removed, without_own};
+ghost use Rattle.nm_types.specs.declared.area.Segment.{Segment};
 ghost use Rattle.nm_types.specs.Map.{Map, get, page_cmp, spot_cmp, without};
 ghost use Rattle.nm_types.specs.State.{page_at};
 
@@ -78,7 +80,9 @@ impl<A: Allocator + Copy> AreaTable<A> {
         freed: &mut Vec<(Page, FrameId), A>,
     )
         requires range { first ≤ end }
-        requires steps { IsCoverage steps.now.entries (others pid first end self.now.areas) }
+        requires steps { IsCoverage steps.now.entries self.now.segments (others pid first end self.now.areas) }
+        requires apart { AreasAreApart self.now.areas }
+        requires once { PrivateIsOnce self.now.areas self.now.segments }
         requires indices { AllByRecursion HasIndices self.now.areas }
         requires room { vec_len freed.old + min (length places.old.entries) (length (pages_of_own pid first end self.now.areas)) ≤ vec_capacity freed.old }
         ensures places { places.new.entries ≡ fold (place_left (others pid first end self.now.areas)) places.old.entries (pages_of_own pid first end self.now.areas) }
@@ -87,7 +91,8 @@ impl<A: Allocator + Copy> AreaTable<A> {
     {
         let mut at = first.number();
         while let Some((start, area)) = self.next_own(pid, Vpn::new(at), end) {
-            lose(steps, area, places, freed);
+            let shared = self.is_shared(area.page.segment);
+            lose_area(steps, area, shared, places, freed);
             at = start.number() + 1;
         }
     }
@@ -128,8 +133,33 @@ impl<A: Allocator + Copy> AreaTable<A> {
 }
 
 /// Pages that an area shows, and that none of the areas covers whose steps these are, lose their frames. They are put
-/// behind those of a list that has room for them. It goes from change to change: between two as many areas cover each
-/// page.
+/// behind those of a list that has room for them. No other area covers a page of a private segment.
+fn lose_area<A: Allocator + Copy>(
+    steps: &BTreeMap<Page, Step, A>,
+    area: Area,
+    shared: bool,
+    places: &mut BTreeMap<Page, FrameId, A>,
+    freed: &mut Vec<(Page, FrameId), A>,
+)
+    requires indices { area.page.index + area.pages < 2 ^ 64 }
+    requires room { vec_len freed.old + min (length places.old.entries) area.pages ≤ vec_capacity freed.old }
+    ensures places { (segments : Map ℕ Segment) (left : Map (ℕ × ℕ) Area) → IsCoverage steps.now.entries segments left → shared ≡ is_shared segments area.page.segment → IsAlone left area shared → places.new.entries ≡ fold (place_left left) places.old.entries (pages_of_area area) }
+    ensures freed { (segments : Map ℕ Segment) (left : Map (ℕ × ℕ) Area) → IsCoverage steps.now.entries segments left → shared ≡ is_shared segments area.page.segment → IsAlone left area shared → freed.new.items ≡ freed.old.items ++ all_lost left places.old.entries (pages_of_area area) }
+    ensures counted { vec_len freed.new + length places.new.entries ≡ vec_len freed.old + length places.old.entries }
+    ensures few { vec_len freed.new ≤ vec_len freed.old + area.pages }
+    ensures room { vec_capacity freed.new ≡ vec_capacity freed.old }
+{
+    if shared {
+        lose(steps, area, places, freed);
+    } else {
+        let Page { segment, index } = area.page;
+        lose_stretch(segment, index, index + area.pages, places, freed);
+    }
+}
+
+/// Pages of a shared segment that an area shows, and that none of the areas covers whose steps these are, lose their
+/// frames. They are put behind those of a list that has room for them. It goes from change to change: between two as many
+/// areas cover each page.
 fn lose<A: Allocator + Copy>(
     steps: &BTreeMap<Page, Step, A>,
     area: Area,
@@ -138,8 +168,8 @@ fn lose<A: Allocator + Copy>(
 )
     requires indices { area.page.index + area.pages < 2 ^ 64 }
     requires room { vec_len freed.old + min (length places.old.entries) area.pages ≤ vec_capacity freed.old }
-    ensures places { (left : Map (ℕ × ℕ) Area) → IsCoverage steps.now.entries left → places.new.entries ≡ fold (place_left left) places.old.entries (pages_of_area area) }
-    ensures freed { (left : Map (ℕ × ℕ) Area) → IsCoverage steps.now.entries left → freed.new.items ≡ freed.old.items ++ all_lost left places.old.entries (pages_of_area area) }
+    ensures places { (segments : Map ℕ Segment) (left : Map (ℕ × ℕ) Area) → IsCoverage steps.now.entries segments left → is_shared segments area.page.segment ≡ true → places.new.entries ≡ fold (place_left left) places.old.entries (pages_of_area area) }
+    ensures freed { (segments : Map ℕ Segment) (left : Map (ℕ × ℕ) Area) → IsCoverage steps.now.entries segments left → is_shared segments area.page.segment ≡ true → freed.new.items ≡ freed.old.items ++ all_lost left places.old.entries (pages_of_area area) }
     ensures counted { vec_len freed.new + length places.new.entries ≡ vec_len freed.old + length places.old.entries }
     ensures few { vec_len freed.new ≤ vec_len freed.old + area.pages }
     ensures room { vec_capacity freed.new ≡ vec_capacity freed.old }

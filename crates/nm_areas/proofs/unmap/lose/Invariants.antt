@@ -1,18 +1,20 @@
-use Rattle.std.proofs.Common.{◌-◌, ◌+◌, ◌≡◌, ◌≤◌, ◌++◌, ℕ, length, vec_len, vec_capacity}
+use Rattle.std.proofs.Common.{◌-◌, ◌+◌, ◌≡◌, ◌≤◌, ◌++◌, ℕ, true, length, vec_len, vec_capacity}
 use Rattle.std.specs.Prelude.{min}
 use Rattle.std.specs.List.{fold}
 use Rattle.nm_types.specs.declared.area.Area.{Area}
+use Rattle.nm_types.specs.declared.area.Segment.{Segment}
 use Rattle.nm_types.specs.Map.{Map}
 use Rattle.nm_areas.specs.Coverage.{IsCoverage}
+use Rattle.nm_areas.specs.Lines.{is_shared}
 use Rattle.nm_areas.specs.Parts.{pages_from}
 use Rattle.nm_areas.specs.Removed.{place_left, all_lost, pages_of_area}
 use Rattle.nm_areas.proofs.unmap.lose.Given as goal
 
 abbrev pub invariant-loop-at : goal.invariant-loop-at
 invariant-loop-at g l = record {
-  freed : (left : Map (ℕ × ℕ) Area) → IsCoverage l.steps.entries left
+  freed : (segments : Map ℕ Segment) (left : Map (ℕ × ℕ) Area) → IsCoverage l.steps.entries segments left → is_shared segments l.segment ≡ true
       → l.freed.items ++ all_lost left l.places.entries (pages_from l.segment l.at (l.past - l.at)) ≡ l.fn.freed.items ++ all_lost left l.fn.places.entries (pages_of_area l.fn.area);
-  places : (left : Map (ℕ × ℕ) Area) → IsCoverage l.steps.entries left
+  places : (segments : Map ℕ Segment) (left : Map (ℕ × ℕ) Area) → IsCoverage l.steps.entries segments left → is_shared segments l.segment ≡ true
       → fold (place_left left) l.places.entries (pages_from l.segment l.at (l.past - l.at)) ≡ fold (place_left left) l.fn.places.entries (pages_of_area l.fn.area);
   room : vec_len l.freed + min (length l.places.entries) (l.past - l.at) ≤ vec_capacity l.freed;
   counted : vec_len l.freed + length l.places.entries ≡ vec_len l.fn.freed + length l.fn.places.entries;

@@ -5,8 +5,12 @@ use Rattle.nm_areas.specs.Mapped.{Mapped, mapped}
 use Rattle.nm_types.specs.State.{page_at}
 use Rattle.nm_areas.specs.Table.{Table}
 use Rattle.nm_areas.specs.Coverage.{IsCoverage}
+use Rattle.nm_types.specs.declared.area.Segment.{Segment}
+use Rattle.nm_types.specs.Map.{Map}
+use Rattle.nm_areas.proofs.Alone.{cut_apart, cut_once}
 use Rattle.nm_areas.proofs.Covered.{was_cut}
-use Rattle.nm_areas.specs.Removed.{removed, frames_lost, page_outside}
+use Rattle.nm_areas.proofs.Masked.{left_covered}
+use Rattle.nm_areas.specs.Removed.{removed, frames_lost, others, page_outside}
 use Rattle.nm_areas.proofs.Shown.{left_shows}
 use Rattle.nm_areas.proofs.Roomy.{few_own}
 use Rattle.nm_areas.proofs.Letting.{cut_indices, cut_shown, now_left, after_is, after_mapped, lost_is}
@@ -22,6 +26,14 @@ lose_all-requires-clause-room g c =
     let few = few_own c.self.inside.table c.cut.new.self c.self.inside.places.entries c.args.pid c.in-Some.first c.new-end.result c.self.invariant.0 (omega (arith, range.2, c.new-end.ensures, c.number.ensures)) c.in-Ok.ensures.ok in
     omega (arith, few, c.new-end.ensures, c.number.ensures, c.in_ok-freed.ensures.len, c.in_ok-freed.ensures.capacity, c.min-most.ensures, c.len.ensures.len)
 
+pub lose_all-requires-clause-apart : goal.lose_all-requires-clause-apart
+lose_all-requires-clause-apart g c =
+    cut_apart c.self.inside.table c.self.inside.places.entries c.self.invariant.0 c.args.pid c.in-Some.first c.new-end.result c.cut.new.self c.in-Ok.ensures.ok
+
+pub lose_all-requires-clause-once : goal.lose_all-requires-clause-once
+lose_all-requires-clause-once g c =
+    cut_once c.self.inside.table c.self.inside.places.entries c.self.invariant.0 c.args.pid c.in-Some.first c.new-end.result c.cut.new.self c.in-Ok.ensures.ok
+
 pub drop_own-requires-clause-shown : goal.drop_own-requires-clause-shown
 drop_own-requires-clause-shown g c =
     cut_shown c.self.inside.table c.self.inside.places.entries c.self.invariant.0 c.args.pid c.in-Some.first c.new-end.result c.cut.new.self c.in-Ok.ensures.ok
@@ -29,8 +41,10 @@ drop_own-requires-clause-shown g c =
 pub count_out_own-requires-clause-steps : goal.count_out_own-requires-clause-steps
 count_out_own-requires-clause-steps g c =
     let range = c.in-Some.ensures.some in
-    was_cut c.split_steps.new.steps.entries c.self.inside.table.areas c.args.pid c.in-Some.first c.new-end.result (omega (arith, range.2, c.new-end.ensures, c.number.ensures)) c.self.invariant.0.whole c.in_ok-split_steps.ensures.ok c.cut.new.self.areas
-    (ap (λ (t : Table). t.areas) c.in-Ok.ensures.ok)
+    let now = c.in-Ok.ensures.ok in
+    subst (λ (x : Map ℕ Segment). IsCoverage c.split_steps.new.steps.entries x c.cut.new.self.areas) (sym (ap (λ (t : Table). t.segments) now))
+    (was_cut c.split_steps.new.steps.entries c.self.inside.table.segments c.self.inside.table.areas c.args.pid c.in-Some.first c.new-end.result (omega (arith, range.2, c.new-end.ensures, c.number.ensures)) c.self.invariant.0.whole c.in_ok-split_steps.ensures.ok c.cut.new.self.areas
+    (ap (λ (t : Table). t.areas) now))
 
 pub count_out_own-requires-clause-indices : goal.count_out_own-requires-clause-indices
 count_out_own-requires-clause-indices g c =
@@ -41,7 +55,8 @@ invariant_of-self-2 g c =
     let range = c.in-Some.ensures.some in (
       after_mapped c.self.inside.table c.self.inside.places.entries c.self.invariant.0 c.args.pid c.in-Some.first c.new-end.result (omega (arith, range.2, c.new-end.ensures, c.number.ensures)) c.cut.new.self c.drop_own.new.self
           c.lose_all.new.places.entries c.in-Ok.ensures.ok c.drop_own.ensures c.lose_all.ensures.places,
-      subst (IsCoverage c.count_out_own.new.steps.entries) (sym (ap (λ (t : Table). t.areas) c.drop_own.ensures)) c.count_out_own.ensures,
+      subst (λ (t : Table). IsCoverage c.count_out_own.new.steps.entries t.segments t.areas) (sym c.drop_own.ensures)
+          (left_covered c.count_out_own.new.steps.entries c.cut.new.self.segments (others c.args.pid c.in-Some.first c.new-end.result c.cut.new.self.areas) c.count_out_own.ensures),
     )
 
 pub returns-clause-done : goal.returns-clause-done

@@ -1,4 +1,7 @@
-use Rattle.std.proofs.Common.{ap, ◌∙◌, arith}
+use Rattle.std.proofs.Common.{ℕ, ap, sym, subst, ◌∙◌, arith}
+use Rattle.nm_types.specs.declared.area.Segment.{Segment}
+use Rattle.nm_types.specs.Map.{Map}
+use Rattle.nm_areas.specs.Coverage.{IsCoverage}
 use Rattle.nm_types.specs.State.{page_at}
 use Rattle.nm_areas.specs.Table.{Table}
 use Rattle.nm_areas.specs.Mapped.{Mapped}
@@ -13,8 +16,9 @@ invariant_of-self-in-Ok g c =
     let a = c.args in
     let range = c.in-Some.ensures.some in (
       policed_mapped t c.self.inside.places.entries c.self.invariant.0 c.set_policy.new.self a.pid _ _ a.policy (omega (arith, range.1, c.if-len-gt0.true)) c.in-Ok.ensures.ok,
-      was_policed c.split_steps.new.steps.entries t.areas a.pid _ c.new-end.result (omega (arith, c.new-end.ensures, c.number.ensures, range.1, c.if-len-gt0.true)) c.self.invariant.0.whole c.in_ok-split_steps.ensures.ok a.policy _ _ c.set_policy.new.self.areas
-          c.new-end.ensures c.number.ensures (ap (λ (z : Table). z.areas) c.in-Ok.ensures.ok),
+      subst (λ (x : Map ℕ Segment). IsCoverage c.split_steps.new.steps.entries x c.set_policy.new.self.areas) (sym (ap (λ (z : Table). z.segments) c.in-Ok.ensures.ok))
+          (was_policed c.split_steps.new.steps.entries t.segments t.areas a.pid _ c.new-end.result (omega (arith, c.new-end.ensures, c.number.ensures, range.1, c.if-len-gt0.true)) c.self.invariant.0.whole c.in_ok-split_steps.ensures.ok a.policy _ _ c.set_policy.new.self.areas
+          c.new-end.ensures c.number.ensures (ap (λ (z : Table). z.areas) c.in-Ok.ensures.ok)),
     )
 
 pub returns-in-Ok-clause-pages : goal.returns-in-Ok-clause-pages
