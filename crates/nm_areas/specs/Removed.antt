@@ -93,4 +93,5 @@ page_in segment index = record { segment = segment; index = index }
 -- no area covers a page of this one, if its segment is private
 abbrev pub IsAlone : Map (ℕ × ℕ) Area → Area → Bool → Type 0
 IsAlone areas area shared =
-    shared ≡ false → (i : ℕ) → area.page.index ≤ i → i < area.page.index + area.pages → is_covered areas (page_in area.page.segment i) ≡ false
+    shared ≡ false → (i : ℕ) → area.page.index ≤ i → i < area.page.index + area.pages
+    → is_covered areas (page_in area.page.segment i) ≡ false

@@ -1,6 +1,5 @@
 -- A worked example of a view.
 use Rattle.std.specs.Prelude.{ℕ, ◌==◌, true, false, if◌then◌else◌}
-use Rattle.nm_types.specs.declared.page.Page.{Page}
 use Rattle.nm_types.specs.declared.seen.Seen.{Seen}
 use Rattle.nm_types.specs.declared.seen.Seen.TheVariants.{NoArea, Absent, Zero, At}
 

@@ -1,5 +1,5 @@
 -- A touch, and a change of other pages, may come in any order.
-use Rattle.std.proofs.Common.{◌≡◌, ℕ, ◌/◌, ◌%◌, ◌+◌, List, [], ◌∷◌, Bool, true, false, ◌||◌, cond, refl, sym, ap, subst, ◌∙◌, length}
+use Rattle.std.proofs.Common.{◌≡◌, ℕ, ◌/◌, ◌%◌, ◌+◌, List, [], ◌∷◌, Bool, true, false, ◌||◌, refl, ap, subst, ◌∙◌, length}
 use Rattle.std.specs.Prelude.{Option, Some, None, Result, Ok, Err, replicate, slice_index, ◌==◌, nat_lt, if◌then◌else◌}
 use Rattle.std.specs.Ordering.{nat_cmp}
 use Rattle.nm_types.specs.declared.page.Page.{Page}

@@ -1,13 +1,11 @@
 -- Pages that move, and what is left to do for accesses, all at once.
 use Rattle.std.proofs.Common.{◌≡◌, ◌≢◌, ℕ, ◌+◌, ◌<◌, ◌≤◌, List, [], ◌∷◌, ◌++◌, Bool, true, false, ◌||◌, cond, map, length, drop, refl, sym, ap, subst, ◌∙◌, arith, length-set, length-append, length-take, length-drop}
-use Rattle.std.specs.Prelude.{Option, Some, None, IsSome, nat_lt, slice_index_or, slice_set, if◌then◌else◌}
-use Rattle.std.specs.Option.{unwrap_or}
+use Rattle.std.specs.Prelude.{Option, Some, None, IsSome, nat_lt, slice_set, if◌then◌else◌}
 use Rattle.std.specs.List.{AllByRecursion, list_any, sum_by}
 use Rattle.std.specs.Map.{values_of}
 use Rattle.std.specs.Ordering.{is_eq}
 use Rattle.std.specs.Cmp.{tied_itself}
-use Rattle.std.proofs.lemmas.Bool.{or_left, or_right}
-use Rattle.std.proofs.lemmas.List.{get_or-set_same, set-set, set-get_or}
+use Rattle.std.proofs.lemmas.Bool.{or_left}
 use Rattle.nm_types.specs.declared.page.Page.{Page}
 use Rattle.nm_types.specs.Layout.{frame_count, node_count}
 use Rattle.nm_types.specs.Map.{Map, get, page_cmp, same_page, with_values}
@@ -25,7 +23,7 @@ use Rattle.nm_engine.specs.Moves.{CanMove, CanRemap, all_moved}
 use Rattle.nm_engine.specs.Run.{left}
 use Rattle.nm_engine.specs.Shown.{shown_by, paged_frames}
 use Rattle.nm_engine.specs.Sound.{times, IsSoundMidRun, IsSound}
-use Rattle.nm_engine.specs.Early.{Due, Known, ToRead, ToWrite, at_page, with_written, made, all_made, tos, with_fronts, Touches, IsBeside, IsInside, IsDue}
+use Rattle.nm_engine.specs.Early.{Due, Known, ToRead, ToWrite, at_page, with_written, made, all_made, tos, with_fronts, IsInside, IsDue}
 use Rattle.nm_engine.specs.Finishing.{Finished, all_done, IsIn, CanDo}
 use Rattle.nm_engine.proofs.Soundness.Frames.{here, times_cons}
 use Rattle.nm_engine.proofs.Soundness.Once.{counted_place}

@@ -1,36 +1,28 @@
 -- What is left to do for accesses, done on the bytes of frames while pages are copied.
-use Rattle.std.proofs.Common.{◌≡◌, ◌≢◌, ℕ, ◌+◌, ◌<◌, ◌≤◌, List, [], ◌∷◌, ◌++◌, Bool, true, false, cond, map, length, drop, refl, sym, ap, subst, ◌∙◌, arith, length-set, eq-eqb}
-use Rattle.std.specs.Prelude.{Option, Some, None, IsSome, slice_index_or, slice_set, if◌then◌else◌}
+use Rattle.std.proofs.Common.{◌≡◌, ℕ, ◌<◌, List, [], ◌∷◌, true, false, length, refl, sym, ap, ◌∙◌, length-set}
+use Rattle.std.specs.Prelude.{Some, None, slice_set, if◌then◌else◌}
 use Rattle.std.specs.Option.{unwrap_or, option_map}
-use Rattle.std.specs.List.{AllByRecursion, list_any, sum_by}
+use Rattle.std.specs.List.{AllByRecursion}
 use Rattle.std.specs.List.Sorted.{IsStrictlySortedBy}
-use Rattle.std.specs.Map.{keys_of, values_of}
+use Rattle.std.specs.Map.{keys_of}
 use Rattle.std.specs.Ordering.{is_eq}
 use Rattle.std.specs.Cmp.{tied_itself}
-use Rattle.std.proofs.lemmas.List.{get_or-set_same, get_or-set_other, set-set, set-get_or}
+use Rattle.std.proofs.lemmas.List.{get_or-set_same, get_or-set_other}
 use Rattle.nm_types.specs.declared.page.Page.{Page}
-use Rattle.nm_types.specs.Layout.{frame_count}
-use Rattle.nm_types.specs.Map.{Map, get, page_cmp, same_page, with_values}
-use Rattle.nm_types.specs.State.{Process, State, free_list}
+use Rattle.nm_types.specs.Map.{Map, get, page_cmp, with_values}
+use Rattle.nm_types.specs.State.{Process, State}
 use Rattle.nm_types.proofs.Cases.{some_is}
-use Rattle.nm_types.proofs.Maps.{page_cmp_total, exact_page, equal, get-values, keys-values, agree}
+use Rattle.nm_types.proofs.Maps.{page_cmp_total, exact_page, equal, get-values, agree}
 use Rattle.nm_areas.specs.Table.{Table}
 use Rattle.nm_frames.specs.Store.{Store, IsHome, bytes_of, overwrite}
-use Rattle.nm_plan.specs.declared.Taken.{Taken}
-use Rattle.nm_engine.specs.AddressSpaces.{SpacesView, table_of}
-use Rattle.nm_engine.specs.Copies.{without_both, emptied}
-use Rattle.nm_engine.specs.Frames.{FramesView, PagedFrames, stretch_of}
+use Rattle.nm_engine.specs.Frames.{PagedFrames, stretch_of}
 use Rattle.nm_engine.specs.Flight.{AllAnswered}
-use Rattle.nm_engine.specs.Laws.{with_moves}
-use Rattle.nm_engine.specs.Run.{left}
-use Rattle.nm_engine.specs.Shown.{shown, shown_by, paged_frames, bytes_in}
-use Rattle.nm_engine.specs.Sound.{times, holders, FramesAreOnce, PlacesAreApart, IsSoundMidRun}
+use Rattle.nm_engine.specs.Shown.{shown, bytes_in}
+use Rattle.nm_engine.specs.Sound.{PlacesAreApart}
 use Rattle.nm_engine.specs.Touch.{AccessAnswer, Bytes}
-use Rattle.nm_engine.specs.Early.{Due, Known, ToRead, ToWrite, at_page, made, told, all_made, tos, with_places, with_place}
-use Rattle.nm_engine.specs.Finishing.{frame_at, done_in, told_in, Finished, all_done, IsIn, CanDo}
-use Rattle.nm_engine.proofs.Soundness.Frames.{here, times_cons}
-use Rattle.nm_engine.proofs.Soundness.Once.{counted_place}
-use Rattle.nm_engine.proofs.Together.Copies.{stays_home, home_set}
+use Rattle.nm_engine.specs.Early.{Due, Known, ToRead, ToWrite, at_page, made, told, all_made}
+use Rattle.nm_engine.specs.Finishing.{frame_at, done_in, told_in, Finished, all_done, CanDo}
+use Rattle.nm_engine.proofs.Together.Copies.{home_set}
 use Rattle.nm_engine.proofs.Early.Refilled.{all_can_then}
 
 values_twice : {K V W X : Type 0} (F : K → W → X) (G : K → V → W) (m : Map K V) → with_values F (with_values G m) ≡ with_values (λ k v. F k (G k v)) m

@@ -1,7 +1,6 @@
 -- A run by its plan, with accesses, is the run.
-use Rattle.std.proofs.Common.{◌≡◌, ℕ, ℤ, List, [], ◌∷◌, map, length, refl, sym, ap, ◌∙◌}
+use Rattle.std.proofs.Common.{◌≡◌, ℕ, ℤ, List, [], ◌∷◌, map, length, sym, ap, ◌∙◌}
 use Rattle.std.proofs.lemmas.List.{length-map}
-use Rattle.nm_types.specs.declared.page.Page.{Page}
 use Rattle.nm_types.specs.State.{State}
 use Rattle.nm_runs.specs.declared.Wanted.{Wanted}
 use Rattle.nm_plan.specs.declared.Taken.{Taken}

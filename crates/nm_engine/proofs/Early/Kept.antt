@@ -9,12 +9,12 @@ use Rattle.nm_types.specs.declared.sight.Sight.{Sight}
 use Rattle.nm_types.specs.declared.sight.Sight.TheVariants.{ZeroPage, Sees}
 use Rattle.nm_types.specs.Map.{Map, get, set, page_cmp}
 use Rattle.nm_types.specs.State.{Process, State, Placed, area_over, free_list}
-use Rattle.nm_types.proofs.Cases.{some_is, some_none}
+use Rattle.nm_types.proofs.Cases.{some_is}
 use Rattle.nm_types.proofs.Maps.{page_cmp_total, exact_page, equal, get-set}
 use Rattle.nm_runs.specs.Seen.{sight_at, sight_in}
 use Rattle.nm_areas.specs.Lines.{is_shared}
 use Rattle.nm_policy.specs.Order.{first_touch_order}
-use Rattle.nm_engine.specs.Touch.{Spot, shown_at, spot_over, spot_of, first_free, with_sight, with_page, without_front, allocated, filled, joined, touched_entry, touched, touch, Access, Read, Write}
+use Rattle.nm_engine.specs.Touch.{Spot, shown_at, spot_over, spot_of, first_free, with_sight, allocated, filled, joined, touched_entry, touched, touch, Access, Read, Write}
 use Rattle.nm_engine.specs.Flight.{is_held, spot_of_access}
 use Rattle.nm_engine.specs.Sound.{IsSoundMidRun}
 use Rattle.nm_engine.specs.Early.{Early, held_early, early, read_early, write_early, access_early, all_early}

@@ -1,7 +1,7 @@
 -- To touch all pages first and come to the bytes later is to make one access after another.
-use Rattle.std.proofs.Common.{◌≡◌, ℕ, ◌/◌, ◌%◌, ◌+◌, ◌*◌, ◌≤◌, List, [], ◌∷◌, Bool, true, false, cond, refl, sym, ap, subst, ◌∙◌, length, arith}
+use Rattle.std.proofs.Common.{◌≡◌, ℕ, ◌/◌, ◌%◌, ◌+◌, ◌≤◌, List, [], ◌∷◌, true, false, refl, sym, ap, subst, ◌∙◌, length}
 use Rattle.std.specs.Prelude.{Option, Some, None, Result, Ok, Err, IsSome, replicate, slice_index, if◌then◌else◌}
-use Rattle.std.specs.Option.{unwrap_or, option_map}
+use Rattle.std.specs.Option.{unwrap_or}
 use Rattle.std.specs.List.Sorted.{IsStrictlySortedBy}
 use Rattle.std.specs.Map.{keys_of}
 use Rattle.std.specs.Ordering.{nat_cmp, is_eq}
@@ -11,22 +11,22 @@ use Rattle.nm_types.specs.declared.errno.Errno.{Errno}
 use Rattle.nm_types.specs.declared.sight.Sight.{Sight}
 use Rattle.nm_types.specs.declared.sight.Sight.TheVariants.{ZeroPage, Sees}
 use Rattle.nm_types.specs.Map.{Map, get, set, replace, page_cmp, same_page, with_values}
-use Rattle.nm_types.specs.State.{State, page_at}
+use Rattle.nm_types.specs.State.{State}
 use Rattle.nm_types.proofs.Cases.{some_is}
-use Rattle.nm_types.proofs.Maps.{page_cmp_total, exact_page, equal, get-set, get-values, with_values-set, replace_is_set, set_same, set_agree}
+use Rattle.nm_types.proofs.Maps.{page_cmp_total, exact_page, equal, with_values-set, replace_is_set, set_same, set_agree}
 use Rattle.nm_types.proofs.Keys.{some_from_keys}
 use Rattle.nm_runs.specs.Seen.{sight_at}
 use Rattle.nm_frames.specs.Store.{overwrite}
 use Rattle.nm_engine.specs.Memory.{byte_of, mem_range}
 use Rattle.nm_engine.specs.Frames.{stretch_of}
-use Rattle.nm_engine.specs.Touch.{Spot, shown_at, touch, Access, Read, Write, AccessAnswer, Bytes, Done, Held, Refused, Answered, read_after, write_after, with_bytes, access}
+use Rattle.nm_engine.specs.Touch.{Spot, shown_at, touch, Access, Read, Write, AccessAnswer, Bytes, Done, Held, Answered, read_after, write_after, with_bytes, access}
 use Rattle.nm_engine.specs.Flight.{is_held, spot_of_access, in_flight, AllAnswered, all_in_flight}
 use Rattle.nm_engine.specs.Sound.{IsSoundMidRun}
-use Rattle.nm_engine.specs.Early.{Due, held_early, Known, ToRead, ToWrite, Early, due_read, due_write, read_early, write_early, access_early, early, AllEarly, all_early, at_page, with_written, made, told, all_made, Touches}
+use Rattle.nm_engine.specs.Early.{Due, held_early, Known, ToRead, ToWrite, Early, due_read, due_write, read_early, write_early, access_early, early, AllEarly, all_early, at_page, made, told, all_made, Touches}
 use Rattle.nm_engine.proofs.Seen.Sights.{IsSpot, page_at_spot}
 use Rattle.nm_engine.proofs.Seen.Ranges.{range_here, zeros_here, parted, zero_has_none}
 use Rattle.nm_engine.proofs.Soundness.Touched.{StaysSound, touch_sound, access_sound, process_fits, private_unplaced}
-use Rattle.nm_engine.proofs.Early.Beside.{changed, Spares, all_early_too, found}
+use Rattle.nm_engine.proofs.Early.Beside.{Spares, all_early_too, found}
 use Rattle.nm_engine.proofs.Early.Kept.{IsPlaced, early_stays, all_stay}
 use Rattle.nm_engine.proofs.Early.Seen.{Shows, touch_shows}
 

@@ -1,21 +1,20 @@
 -- What is left to do for a read or a write, by what its touch found.
-use Rattle.std.proofs.Common.{◌≡◌, ℕ, ◌/◌, ◌%◌, List, [], ◌∷◌, Bool, true, false, refl, sym, ap, subst, ◌∙◌, length}
-use Rattle.std.specs.Prelude.{Option, Some, None, Result, Ok, Err, replicate, if◌then◌else◌}
+use Rattle.std.proofs.Common.{◌≡◌, ℕ, ◌/◌, ◌%◌, List, Bool, true, false, refl, sym, ap, subst, ◌∙◌, length}
+use Rattle.std.specs.Prelude.{Some, Result, Ok, Err, replicate, if◌then◌else◌}
 use Rattle.std.specs.List.{list_any}
 use Rattle.std.specs.Ordering.{nat_cmp}
 use Rattle.nm_types.specs.declared.page.Page.{Page}
 use Rattle.nm_types.specs.declared.errno.Errno.{Errno}
-use Rattle.nm_types.specs.declared.sight.Sight.{Sight}
 use Rattle.nm_types.specs.declared.sight.Sight.TheVariants.{ZeroPage, Sees}
 use Rattle.nm_types.specs.Map.{get, same_page}
 use Rattle.nm_types.specs.State.{State, page_at}
 use Rattle.nm_types.proofs.Cases.{some_is}
 use Rattle.nm_runs.specs.Seen.{sight_at}
-use Rattle.nm_engine.specs.Touch.{Spot, shown_at, spot, touched, touched_entry, touch, Read, Write, Bytes, Done, Refused}
+use Rattle.nm_engine.specs.Touch.{Spot, shown_at, spot, touched, touched_entry, touch, Read, Write, Bytes, Refused}
 use Rattle.nm_engine.specs.Flight.{is_held}
 use Rattle.nm_engine.specs.Seeing.{frame_seen}
 use Rattle.nm_engine.specs.Sound.{IsSoundMidRun}
-use Rattle.nm_engine.specs.Early.{Due, Known, ToRead, ToWrite, Early, held_early, due_read, due_write, read_early, write_early, early}
+use Rattle.nm_engine.specs.Early.{Known, ToRead, ToWrite, Early, held_early, due_read, due_write, read_early, write_early, early}
 use Rattle.nm_engine.proofs.Together.Touches.{page_of_frame}
 use Rattle.nm_engine.proofs.Early.Seen.{touch_areas}
 use Rattle.nm_engine.proofs.Early.Later.{early_ready}

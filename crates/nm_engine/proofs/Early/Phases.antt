@@ -1,12 +1,12 @@
 -- A run with accesses in flight, phase by phase: its frames are taken, all touches are made, its pages move, and what was left to do is done.
-use Rattle.std.proofs.Common.{◌≡◌, ℕ, ◌+◌, ◌<◌, List, [], ◌∷◌, ◌++◌, true, false, cond, map, length, take, drop, refl, sym, ap, subst, ◌∙◌, arith, length-set, append_assoc, suc}
-use Rattle.std.specs.Prelude.{Option, Some, IsSome, slice_get, slice_set, slice_index_or}
+use Rattle.std.proofs.Common.{◌≡◌, ℕ, ◌<◌, List, [], ◌∷◌, ◌++◌, true, false, cond, map, length, take, drop, refl, sym, ap, subst, ◌∙◌, arith, length-set, append_assoc, suc}
+use Rattle.std.specs.Prelude.{Some, slice_get, slice_set, slice_index_or}
 use Rattle.std.specs.List.{AllByRecursion}
 use Rattle.std.specs.Ordering.{is_eq}
 use Rattle.std.proofs.lemmas.List.{get_or-set_same, set-set, set-get_or, append-nil}
 use Rattle.nm_types.specs.declared.page.Page.{Page}
 use Rattle.nm_types.specs.Layout.{Layout, node_of, node_count}
-use Rattle.nm_types.specs.Map.{get, set, page_cmp}
+use Rattle.nm_types.specs.Map.{get, page_cmp}
 use Rattle.nm_types.specs.State.{State, free_list}
 use Rattle.nm_types.proofs.Maps.{page_cmp_total, get-set}
 use Rattle.nm_runs.specs.declared.Class.TheVariants.{Move}

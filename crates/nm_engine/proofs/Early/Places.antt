@@ -1,6 +1,6 @@
 -- Touches while pages move, and the moves of those pages, may come in any order.
-use Rattle.std.proofs.Common.{◌≡◌, ℕ, ◌+◌, ◌<◌, List, [], ◌∷◌, Bool, true, false, ◌||◌, cond, map, length, drop, refl, sym, ap, subst, ◌∙◌, arith, length-set}
-use Rattle.std.specs.Prelude.{Option, Some, None, Result, Ok, Err, slice_get, slice_set, slice_index_or, if◌then◌else◌, suc}
+use Rattle.std.proofs.Common.{◌≡◌, ℕ, ◌<◌, List, [], ◌∷◌, true, false, map, length, drop, refl, sym, ap, subst, ◌∙◌, arith, length-set}
+use Rattle.std.specs.Prelude.{Some, None, Ok, slice_set, slice_index_or, suc}
 use Rattle.std.specs.Option.{option_map}
 use Rattle.std.specs.List.{AllByRecursion, list_any}
 use Rattle.std.specs.List.Sorted.{IsStrictlySortedBy}
@@ -17,12 +17,12 @@ use Rattle.nm_types.proofs.Keys.{sorted-set}
 use Rattle.nm_types.proofs.Maps.{page_cmp_total, exact_page, get-values}
 use Rattle.nm_plan.specs.declared.Taken.{Taken}
 use Rattle.nm_engine.specs.Touch.{Spot, shown_at, Access}
-use Rattle.nm_engine.specs.Flight.{is_held, spot_of_access}
+use Rattle.nm_engine.specs.Flight.{is_held}
 use Rattle.nm_engine.specs.Laws.{with_move, with_moves}
 use Rattle.nm_engine.specs.Moves.{CanMove}
-use Rattle.nm_engine.specs.Early.{AllEarly, all_early, early, at_page, with_place, with_places, without_fronts}
+use Rattle.nm_engine.specs.Early.{AllEarly, all_early, at_page, with_place, with_places, without_fronts}
 use Rattle.nm_engine.proofs.Early.Beside.{Spares, all_early_too, found}
-use Rattle.nm_engine.proofs.Early.Later.{at_page_here, at_page_beside, new_beside, changed_is_set}
+use Rattle.nm_engine.proofs.Early.Later.{at_page_beside, new_beside, changed_is_set}
 
 no : false ≡ true → ⊥
 no e = cc

@@ -1,5 +1,5 @@
 -- What is left to do after all touches is done to pages that have a frame and do not move.
-use Rattle.std.proofs.Common.{◌≡◌, ℕ, ◌/◌, ◌%◌, ◌+◌, ◌≤◌, ◌||◌, List, [], ◌∷◌, Bool, true, false, refl, sym, ap, subst, ◌∙◌, length}
+use Rattle.std.proofs.Common.{◌≡◌, ℕ, ◌/◌, ◌%◌, ◌+◌, ◌≤◌, ◌||◌, List, [], ◌∷◌, true, false, refl, sym, ap, subst, ◌∙◌, length}
 use Rattle.std.specs.Prelude.{Option, Some, None, Result, Ok, Err, IsSome, ◌==◌, nat_lt, if◌then◌else◌}
 use Rattle.std.specs.List.{AllByRecursion, list_any}
 use Rattle.std.specs.Ordering.{nat_cmp}
@@ -15,11 +15,10 @@ use Rattle.nm_runs.specs.Seen.{sight_at}
 use Rattle.nm_engine.specs.Touch.{Spot, shown_at, spot_over, spot_of, spot, touched, touch, Access, Read, Write}
 use Rattle.nm_engine.specs.Flight.{is_held, spot_of_access}
 use Rattle.nm_engine.specs.Sound.{IsSoundMidRun}
-use Rattle.nm_engine.specs.Early.{Due, held_early, Known, ToRead, ToWrite, Early, due_read, due_write, read_early, write_early, access_early, early, AllEarly, all_early, Touches, IsBeside, IsInside, IsDue}
-use Rattle.nm_engine.proofs.Seen.Sights.{IsSpot, page_at_spot}
+use Rattle.nm_engine.specs.Early.{Due, held_early, Known, ToRead, ToWrite, Early, due_read, due_write, read_early, write_early, access_early, early, all_early, Touches, IsBeside, IsInside, IsDue}
+use Rattle.nm_engine.proofs.Seen.Sights.{page_at_spot}
 use Rattle.nm_engine.proofs.Soundness.Touched.{StaysSound, touch_sound, process_fits}
-use Rattle.nm_engine.proofs.Early.Beside.{found}
-use Rattle.nm_engine.proofs.Early.Kept.{IsPlaced, all_stay}
+use Rattle.nm_engine.proofs.Early.Kept.{all_stay}
 use Rattle.nm_engine.proofs.Early.Later.{early_ready}
 use Rattle.nm_engine.proofs.Early.Seen.{Shows, touch_shows}
 

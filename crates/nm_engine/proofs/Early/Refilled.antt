@@ -1,11 +1,11 @@
 -- What is done on the bytes that are home while others are out is done as well once those are back.
-use Rattle.std.proofs.Common.{◌≡◌, ◌≢◌, ℕ, ◌<◌, List, [], ◌∷◌, map, length, refl, sym, ap, subst, ◌∙◌, arith, length-set}
-use Rattle.std.specs.Prelude.{Option, Some, None, IsSome, slice_index_or, slice_set}
+use Rattle.std.proofs.Common.{◌≡◌, ◌≢◌, ℕ, List, [], ◌∷◌, map, refl, sym, ap, subst, ◌∙◌, arith, length-set}
+use Rattle.std.specs.Prelude.{Option, Some, None, slice_index_or, slice_set}
 use Rattle.std.specs.Option.{unwrap_or}
 use Rattle.std.specs.List.{AllByRecursion}
 use Rattle.std.proofs.lemmas.List.{get_or-set_other, set_comm}
 use Rattle.nm_types.specs.declared.page.Page.{Page}
-use Rattle.nm_types.specs.Map.{Map, get, page_cmp}
+use Rattle.nm_types.specs.Map.{Map}
 use Rattle.nm_types.proofs.Cases.{none_some}
 use Rattle.nm_frames.specs.declared.job.CopyJob.{CopyJob}
 use Rattle.nm_frames.specs.Job.{copied}
@@ -15,7 +15,7 @@ use Rattle.nm_engine.specs.Copies.{with_buf, with_copies, with_job, emptied, job
 use Rattle.nm_engine.specs.Frames.{stretch_of}
 use Rattle.nm_engine.specs.Touch.{AccessAnswer, Bytes}
 use Rattle.nm_engine.specs.Early.{Due, Known, ToRead, ToWrite}
-use Rattle.nm_engine.specs.Finishing.{frame_at, done_in, told_in, Finished, all_done, IsIn, CanDo}
+use Rattle.nm_engine.specs.Finishing.{frame_at, done_in, told_in, Finished, all_done, CanDo}
 use Rattle.nm_engine.proofs.Together.Free.{home_bytes}
 use Rattle.nm_engine.proofs.Together.Copies.{can_refill, home_set, refilled_is}
 

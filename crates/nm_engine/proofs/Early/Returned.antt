@@ -1,6 +1,6 @@
 -- Frames of a run that does not begin go back.
-use Rattle.std.proofs.Common.{◌≡◌, ℕ, suc, zero, ◌+◌, ◌-◌, ◌<◌, ◌≤◌, List, [], ◌∷◌, ◌++◌, Bool, true, false, cond, map, length, drop, refl, sym, ap, subst, ◌∙◌, arith, length-set, eq-eqb}
-use Rattle.std.specs.Prelude.{nat_lt, sum, slice_index, slice_index_or, slice_set}
+use Rattle.std.proofs.Common.{◌≡◌, ℕ, suc, zero, ◌+◌, ◌-◌, ◌<◌, ◌≤◌, List, [], ◌∷◌, ◌++◌, Bool, true, false, cond, length, drop, refl, ap, subst, ◌∙◌, arith, length-set, eq-eqb}
+use Rattle.std.specs.Prelude.{nat_lt, sum, slice_index_or, slice_set}
 use Rattle.std.specs.List.{AllByRecursion, sum_by}
 use Rattle.std.specs.Map.{values_of}
 use Rattle.std.proofs.lemmas.List.{get_or-set_same, set-set}

@@ -1,5 +1,5 @@
 -- Frames that are taken for a run, and given back where it does not begin.
-use Rattle.std.proofs.Common.{◌≡◌, ℕ, ◌<◌, List, [], ◌++◌, length, take, drop, refl, sym, ap, subst, ◌∙◌}
+use Rattle.std.proofs.Common.{◌≡◌, ℕ, ◌<◌, List, [], ◌++◌, length, drop, sym, ap, subst, ◌∙◌}
 use Rattle.std.specs.Prelude.{slice_set, slice_index_or}
 use Rattle.std.proofs.lemmas.List.{get_or-set_same, set-set, set-get_or, take-append-drop}
 use Rattle.nm_types.specs.State.{State, free_list}
@@ -10,7 +10,7 @@ use Rattle.nm_engine.specs.Frames.{FramesView, free_on}
 use Rattle.nm_engine.specs.MidRun.{IsKept}
 use Rattle.nm_engine.specs.Moves.{CanMove}
 use Rattle.nm_engine.specs.Shown.{shown_by}
-use Rattle.nm_engine.specs.Sound.{IsSound, IsSoundMidRun}
+use Rattle.nm_engine.specs.Sound.{IsSoundMidRun}
 use Rattle.nm_engine.proofs.Early.Fronts.{fronts_sound}
 use Rattle.nm_engine.proofs.Early.Phases.{tos_are}
 

@@ -1,7 +1,7 @@
 -- The bytes of a run's frames go out, are copied, and come back.
-use Rattle.std.proofs.Common.{◌≡◌, ◌≢◌, ℕ, zero, suc, ◌+◌, ◌<◌, ◌≤◌, List, [], ◌∷◌, ◌++◌, map, length, take, drop, set, get_or, refl, sym, ap, subst, ◌∙◌, arith, length-set, IsSome, ⊎_elim}
+use Rattle.std.proofs.Common.{◌≡◌, ◌≢◌, ℕ, zero, suc, ◌+◌, ◌<◌, List, [], ◌∷◌, ◌++◌, map, length, refl, sym, ap, subst, ◌∙◌, arith, length-set, IsSome, ⊎_elim}
 use Rattle.std.specs.Prelude.{Option, Some, None, slice_get, slice_index_or, slice_set}
-use Rattle.std.proofs.lemmas.List.{get_or-set_same, get_or-set_other, set_comm, take_all, append-nil, length-map}
+use Rattle.std.proofs.lemmas.List.{get_or-set_same, get_or-set_other, set_comm}
 use Rattle.std.proofs.lemmas.Bool.{cases_eq}
 use Rattle.std.specs.Option.{unwrap_or}
 use Rattle.nm_frames.specs.declared.job.CopyJob.{CopyJob}

@@ -1,5 +1,4 @@
 use Rattle.std.proofs.Common.{ℕ, List, sym, subst}
-use Rattle.nm_nodes.specs.Pool.{Pool}
 use Rattle.nm_engine.specs.Early.{tos}
 use Rattle.nm_engine.specs.Frames.{FramesView, CanReturn, pool_of}
 use Rattle.nm_engine.proofs.frames.Frames.give_back.Goals as goal

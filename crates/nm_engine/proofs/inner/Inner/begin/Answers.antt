@@ -1,6 +1,5 @@
-use Rattle.std.proofs.Common.{◌≡◌, ◌<◌, ap, sym, subst, ◌∙◌, arith}
+use Rattle.std.proofs.Common.{◌≡◌, ap, sym, subst, ◌∙◌, arith}
 use Rattle.nm_types.specs.State.{State}
-use Rattle.nm_types.specs.Layout.{node_count}
 use Rattle.nm_engine.specs.Early.{with_fronts, tos}
 use Rattle.nm_engine.specs.MidRun.{MidRun}
 use Rattle.nm_engine.specs.Sound.{IsSound}

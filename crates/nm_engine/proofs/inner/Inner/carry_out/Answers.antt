@@ -1,6 +1,5 @@
-use Rattle.std.proofs.Common.{◌≡◌, ℕ, List, length, map, ap, sym, subst, ◌∙◌, arith}
+use Rattle.std.proofs.Common.{map, ap, sym, subst, ◌∙◌}
 use Rattle.std.specs.List.{AllByRecursion}
-use Rattle.nm_types.specs.State.{State}
 use Rattle.nm_engine.specs.AddressSpaces.{SpacesView}
 use Rattle.nm_engine.specs.Answering.{due_shown}
 use Rattle.nm_engine.specs.Copies.{CanCopy, emptied, with_copies}
@@ -8,10 +7,9 @@ use Rattle.nm_engine.specs.Early.{all_made, with_fronts, tos}
 use Rattle.nm_engine.specs.Finishing.{all_done, CanDo}
 use Rattle.nm_engine.specs.Frames.{FramesView}
 use Rattle.nm_engine.specs.Laws.{with_moves}
-use Rattle.nm_engine.specs.Run.{left}
 use Rattle.nm_engine.specs.MidRun.{MidRun, IsKept}
 use Rattle.nm_engine.specs.Shown.{shown_by}
-use Rattle.nm_engine.proofs.Early.Carrying.{spaces_then, copied_frames, frames_then, prepared, remap, can_copy, can_meanwhile, finished_shows, finished_told, finished_kept}
+use Rattle.nm_engine.proofs.Early.Carrying.{spaces_then, copied_frames, prepared, remap, can_copy, can_meanwhile, finished_shows, finished_told, finished_kept}
 use Rattle.nm_engine.proofs.inner.Inner.carry_out.Goals as goal
 
 pub move_pages-requires : goal.move_pages-requires

@@ -1,4 +1,4 @@
-use Rattle.std.proofs.Common.{◌≡◌, ap, sym, subst, ◌∙◌, arith, []}
+use Rattle.std.proofs.Common.{ap, sym, subst, arith}
 use Rattle.nm_types.specs.Layout.{node_count}
 use Rattle.nm_engine.specs.Frames.{FramesView}
 use Rattle.nm_engine.specs.Early.{with_fronts, tos}

@@ -1,16 +1,11 @@
-use Rattle.std.proofs.Common.{◌≡◌, ℕ, ◌/◌, ◌%◌, Bool, false, true, List, length, Some, Ok, refl, ap, sym, subst, ◌∙◌}
-use Rattle.std.specs.Prelude.{Option, slice_get}
+use Rattle.std.proofs.Common.{◌≡◌, ℕ, ◌%◌, ap, sym, ◌∙◌}
 use Rattle.std.specs.List.{list_any}
-use Rattle.std.specs.Ordering.{nat_cmp}
-use Rattle.nm_types.specs.declared.page.Page.{Page}
-use Rattle.nm_types.specs.Map.{get, same_page}
-use Rattle.nm_types.specs.State.{State, Process, Placed}
-use Rattle.nm_engine.specs.Answering.{written_by}
-use Rattle.nm_engine.specs.Early.{Early, ToRead, ToWrite, early}
-use Rattle.nm_engine.specs.MidRun.{MidRun, with_state}
+use Rattle.nm_types.specs.Map.{same_page}
+use Rattle.nm_types.specs.State.{State}
+use Rattle.nm_engine.specs.Early.{ToRead}
+use Rattle.nm_engine.specs.MidRun.{with_state}
 use Rattle.nm_engine.specs.Seeing.{frame_seen}
-use Rattle.nm_engine.specs.Touch.{Read, Write}
-use Rattle.nm_engine.proofs.Early.Noted.{read_due, write_due}
+use Rattle.nm_engine.proofs.Early.Noted.{read_due}
 use Rattle.nm_engine.proofs.Together.Undone.{touches_err}
 use Rattle.nm_engine.proofs.inner.Inner.read_early.Goals as goal
 
