@@ -109,13 +109,19 @@ impl Gate for AccessMeeting {
     }
 }
 
-/// Counts the caller's passes, and is spoilt by any other worker's.
+/// Counts the caller's passes, and is spoilt by any other worker's. Access 0 counts for 10,000 of them, access 1 for 20,000,
+/// and so on.
 #[derive(Drop)]
 struct Alone(AtomicU64);
 
 impl Gate for Alone {
     fn pass(&self, worker: usize, _ticket: u64) {
         let step = if worker == 0 { 1 } else { 1000 };
+        self.0.fetch_add(step, Ordering::SeqCst);
+    }
+
+    fn access(&self, number: usize) {
+        let step = (number as u64).saturating_add(1).saturating_mul(10_000);
         self.0.fetch_add(step, Ordering::SeqCst);
     }
 }
@@ -158,12 +164,12 @@ fn accesses_are_made_while_a_worker_copies(rt: HostRuntime) {
     assert!(rt; reports_right(&rt, rt.alloc(), 2, &gate) && gate.0.met());
 }
 
-/// With one worker the caller copies alone: three pages, three passes.
+/// With one worker the caller copies alone: three pages, three passes, and the accesses 0 and 1 before them.
 #[test]
 fn one_worker_is_alone(rt: HostRuntime) {
     let gate = Alone(AtomicU64::new(0));
     assert!(rt; reports_right(&rt, rt.alloc(), 1, &gate));
-    assert_eq!(rt; gate.0.load(Ordering::SeqCst), 3u64);
+    assert_eq!(rt; gate.0.load(Ordering::SeqCst), 30_003u64);
 }
 
 /// The report is the same whatever the number of workers, where others start from the first page on.
