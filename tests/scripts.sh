@@ -27,3 +27,17 @@ status=0
 "$there/numatrace" < /dev/null > "$there/out" 2> "$there/err" || status=$?
 [ "$status" = 4 ] || fail "an old program is not started"
 grep -q 'older than its sources' "$there/err" || fail "an old program goes unnoticed"
+
+# The first call shows what an unproved build reports, on standard error, and then hands on the built program's report.
+mv "$there/crates/numatrace/out/numatrace" "$there/proved"
+mkdir "$there/bin"
+printf '#!/bin/sh\necho "unproved $*"\ncat\necho noise >&2\n' > "$there/bin/rt"
+printf '#!/bin/sh\nmv "$(dirname "$0")/proved" "$(dirname "$0")/crates/numatrace/out/numatrace"\n' > "$there/build"
+chmod +x "$there/bin/rt" "$there/build"
+status=0
+printf 'input' | PATH="$there/bin:$PATH" "$there/numatrace" --one > "$there/out" 2> "$there/err" || status=$?
+[ "$status" = 4 ] || fail "the first call's status is $status and not the program's"
+printf -- '--one;input' | cmp -s - "$there/out" || fail "the first call's words or streams differ"
+grep -q 'unproved try -- --one' "$there/err" || fail "the first call shows no report of an unproved build"
+grep -q '^input' "$there/err" || fail "the unproved build does not get the trace"
+! grep -q 'noise' "$there/err" || fail "the toolchain's own lines are shown"

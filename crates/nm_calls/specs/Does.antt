@@ -8,7 +8,7 @@ use Rattle.nm_engine.specs.Batch.{runs_from, answer_of}
 use Rattle.nm_engine.specs.Answering.{answer_shown}
 use Rattle.nm_calls.specs.declared.call_error.CallError.{CallError}
 use Rattle.nm_calls.specs.declared.call_error.CallError.TheVariants.{Refused, HostMemory}
-use Rattle.nm_calls.specs.declared.answer.Moved.{Moved}
+use Rattle.nm_calls.specs.declared.call.Moved.{Moved}
 use Rattle.nm_calls.specs.Calls.{Call, Answer, Refusal}
 use Rattle.nm_calls.specs.During.{runs_named, in_order}
 use Rattle.nm_calls.specs.Systems.{SystemState}

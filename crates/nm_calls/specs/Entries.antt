@@ -2,7 +2,7 @@
 use Rattle.std.specs.Prelude.{ℕ, List, map, Option, Some, None}
 use Rattle.nm_engine.specs.declared.Entry.{Entry}
 use Rattle.nm_engine.specs.declared.Entry.TheVariants.{Zero, Frame, Held}
-use Rattle.nm_calls.specs.declared.answer.PagemapEntry.{PagemapEntry}
+use Rattle.nm_calls.specs.declared.call.PagemapEntry.{PagemapEntry}
 
 -- the frame of an entry, or none for the page of zeros
 abbrev pub frame_shown : Entry → Option ℕ

@@ -1,6 +1,7 @@
-//! A batch of pages to be moved: whether they may go there, and its runs, one after another.
+//! A batch of pages to be moved: whether they may go there, and its runs, one after another, with the accesses that are made
+//! meanwhile.
 
-ghost use Rattle.std.specs.Prelude.{◌≡◌, ℕ, ◌<◌, ◌≤◌, ◌/◌, ◌&&◌, nat_lt, [], All, EachIndex, IfOk, OnOk, length, slice_index, vec_capacity};
+ghost use Rattle.std.specs.Prelude.{◌≡◌, ℕ, ◌<◌, ◌≤◌, ◌/◌, ◌&&◌, nat_lt, [], All, EachIndex, IfOk, OnOk, length, slice_index, vec_capacity, map};
 ghost use Rattle.std.specs.List.{sum_by};
 ghost use Rattle.nm_types.specs.Layout.{node_count};
 ghost use Rattle.nm_types.specs.Nodes.{is_in};
@@ -8,22 +9,22 @@ ghost use Rattle.nm_runs.specs.declared.Wanted.TheVariants.{At};
 ghost use Rattle.nm_runs.specs.Cut.{stretches_of};
 ghost use Rattle.nm_runs.specs.Limit.{cut_within, run_count};
 ghost use Rattle.nm_runs.specs.Targets.{first_refusal, Checks};
-ghost use Rattle.nm_engine.specs.Run.{failures, HasOneAll};
+ghost use Rattle.nm_engine.specs.Run.{HasOneAll};
 ghost use Rattle.nm_calls.specs.Batch.{requests_of};
 ghost use Rattle.nm_calls.specs.Does.{Moves};
-ghost use Rattle.nm_calls.specs.During.{shown_during};
+ghost use Rattle.nm_calls.specs.During.{shown_during, runs_named, in_order, left_shown, AreByRun};
+ghost use Rattle.nm_engine.specs.Answering.{access_shown, answer_shown};
 
-use crate::answer::Moved;
-use crate::call::InFlight;
+use crate::call::{InFlight, Moved};
 use crate::call_error::CallError;
-use crate::during::{by_run, in_order};
 use nm_crew::Gate;
-use nm_engine::Machine;
+use nm_engine::{AccessAnswer, Machine, failures};
 use nm_runs::{Request, Run, Wanted, check_batch, cut_within};
-use nm_types::{Errno, NodeId, NodeMask, Pid, Vpn};
+use nm_types::{Access, Errno, NodeId, NodeMask, Pid, Vpn};
 use std::alloc::{AllocError, Allocator};
 use std::sync::Wait;
 use std::thread::Threads;
+use std::vec;
 
 /// The nodes of the machine that are online.
 fn online_nodes<A: Allocator + Copy + Send + Sync>(machine: &Machine<A>) -> NodeMask
@@ -86,16 +87,6 @@ pub fn run_count(nodes: &[u32], limit: usize) -> usize
     ensures { result ≡ run_count limit nodes.now }
 {
     nm_runs::run_count(nodes, limit)
-}
-
-/// How many entries failed.
-fn failures(statuses: &[i32]) -> usize
-    ensures { result ≡ failures statuses.now }
-{
-    statuses
-        .iter()
-        .filter(|status| **status == -16 || **status == -12)
-        .count()
 }
 
 /// Makes runs one after another, whose pages so many workers copy, and puts the statuses into a list that has room for
@@ -177,4 +168,63 @@ pub(crate) fn move_batch<
     let statuses = Vec::with_capacity(alloc, pages.len())?;
     let runs = runs.as_slice();
     move_runs(rt, alloc, machine, runs, during, statuses, workers, gate)
+}
+
+/// The same access, with bytes of its own.
+fn copy_of<A: Allocator + Copy>(alloc: A, access: &Access<A>) -> Result<Access<A>, AllocError>
+    ensures { IfOk result (λ copy. access_shown copy ≡ access_shown access.now) }
+{
+    match access {
+        Access::Read { pid, addr, len } => Ok(Access::Read {
+            pid: *pid,
+            addr: *addr,
+            len: *len,
+        }),
+        Access::Write { pid, addr, bytes } => Ok(Access::Write {
+            pid: *pid,
+            addr: *addr,
+            bytes: bytes.as_slice().to_vec(alloc)?,
+        }),
+    }
+}
+
+/// The accesses of each of so many runs, those of a run in their order.
+pub(crate) fn by_run<A: Allocator + Copy + Send + Sync>(
+    alloc: A,
+    during: &[InFlight<A>],
+    count: usize,
+) -> Result<Vec<Vec<Access<A>, A>, A>, AllocError>
+    ensures { IfOk result (λ lists. AreByRun lists.items count (shown_during during.now)) }
+{
+    let mut lists = Vec::with_capacity(alloc, count)?;
+    for _ in 0..count {
+        lists.push(Vec::new(alloc))?;
+    }
+    for asked in during {
+        if let Some(list) = lists.get_mut(asked.run) {
+            list.push(copy_of(alloc, &asked.access)?)?;
+        }
+    }
+    Ok(lists)
+}
+
+/// Puts the answers to accesses, which are in the order of the runs, into a list that has room for them, in the order of the
+/// accesses.
+pub(crate) fn in_order<A: Allocator + Copy + Send + Sync>(
+    during: &[InFlight<A>],
+    mut told: Vec<vec::IntoIter<AccessAnswer<A>, A>, A>,
+    mut answers: Vec<AccessAnswer<A>, A>,
+) -> Vec<AccessAnswer<A>, A>
+    requires empty { answers.items ≡ [] }
+    requires room { length during.now ≤ vec_capacity answers }
+    ensures { map answer_shown result.items ≡ in_order (runs_named (shown_during during.now)) (map left_shown told.items) }
+{
+    for asked in during {
+        if let Some(left) = told.get_mut(asked.run) {
+            if let Some(answer) = left.next() {
+                answers.push_reserved(answer);
+            }
+        }
+    }
+    answers
 }

@@ -7,10 +7,9 @@ ghost use Rattle.nm_calls.specs.Does.{Does};
 ghost use Rattle.nm_calls.specs.During.{shown_during};
 ghost use Rattle.nm_calls.specs.Views.{call_of, answer_of};
 
-use crate::answer::{Answer, Moved};
 use crate::call::{
-    Attachment, Batch, Call, MbindRequest, MigrateRequest, MoveRequest, NewArea, NewProcess,
-    Question,
+    Answer, Attachment, Batch, Call, MbindRequest, MigrateRequest, MoveRequest, Moved, NewArea,
+    NewProcess, Question,
 };
 use crate::call_error::CallError;
 use crate::system::System;

@@ -1,13 +1,11 @@
 //! The calls of the modelled machine: the refusals and answers of `move_pages(2)` and of the calls around it.
 #![tactic(auto)]
 
-mod answer;
 mod batch;
 mod binding;
 mod call;
 mod call_error;
 mod calling;
-mod during;
 pub mod laws;
 mod listing;
 mod maps;
@@ -18,11 +16,10 @@ mod permission;
 mod system;
 mod words;
 
-pub use answer::{Answer, Moved, PagemapEntry};
 pub use batch::run_count;
 pub use call::{
-    Attachment, Batch, Call, InFlight, MbindRequest, MigrateRequest, MoveRequest, NewArea,
-    NewProcess, Question,
+    Answer, Attachment, Batch, Call, InFlight, MbindRequest, MigrateRequest, MoveRequest, Moved,
+    NewArea, NewProcess, PagemapEntry, Question,
 };
 pub use call_error::CallError;
 pub use nm_engine::{AccessAnswer, Totals};

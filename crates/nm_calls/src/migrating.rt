@@ -11,9 +11,8 @@ ghost use Rattle.nm_calls.specs.Permission.{info_at};
 ghost use Rattle.nm_calls.specs.Sets.{usable};
 ghost use Rattle.nm_calls.specs.Migrating.{new_refusal, migrate_refusal, migration, migrate_list};
 
-use crate::answer::Moved;
 use crate::batch::move_runs;
-use crate::call::InFlight;
+use crate::call::{InFlight, Moved};
 use crate::call_error::CallError;
 use crate::listing::migrate_list;
 use crate::permission::{acted_on, owner_of};

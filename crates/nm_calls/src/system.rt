@@ -12,10 +12,9 @@ ghost use Rattle.nm_calls.specs.Outcome.{statuses_of, outcome};
 ghost use Rattle.nm_calls.specs.Does.{Does, DoesOrRefuses};
 ghost use Rattle.nm_calls.specs.During.{shown_during};
 
-use crate::answer::{Moved, PagemapEntry};
 use crate::batch::{check_targets, move_batch};
 use crate::binding::{bind, ready};
-use crate::call::InFlight;
+use crate::call::{InFlight, Moved, PagemapEntry};
 use crate::call_error::CallError;
 use crate::maps::areas_text;
 use crate::migrating::{migrate, migration_of};

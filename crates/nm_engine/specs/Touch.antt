@@ -1,7 +1,7 @@
 -- Reads and writes.
 use Rattle.std.specs.Prelude.{ℕ, ◌+◌, ◌/◌, ◌%◌, ◌==◌, nat_lt, ◌||◌, Bool, true, false, List, [], ◌∷◌, length, drop}
 use Rattle.std.specs.Prelude.{replicate, slice_index, slice_index_or, slice_set, Option, Some, None, Result, Ok, Err}
-use Rattle.std.specs.Prelude.{if◌then◌else◌}
+use Rattle.std.specs.Prelude.{if◌then◌else◌, not}
 use Rattle.std.specs.Option.{unwrap_or}
 use Rattle.std.specs.Ordering.{nat_cmp}
 use Rattle.nm_types.specs.declared.page.Page.{Page}
@@ -72,7 +72,11 @@ with_page s page frame =
 abbrev pub without_front : State → ℕ → State
 without_front s node = record s { free = slice_set s.free node (drop 1 (free_list s node)) }
 
--- the first of these nodes that has a frame in its list of free ones
+-- whether a node has a frame in its list of free ones
+abbrev pub has_free : List (List ℕ) → ℕ → Bool
+has_free free node = not (length (slice_index_or free node []) == 0)
+
+-- the first of these nodes that has one
 abbrev pub first_free : List (List ℕ) → List ℕ → Option ℕ
 first_free free [] = None
 first_free free (node ∷ nodes) = if length (slice_index_or free node []) == 0 then first_free free nodes else Some node

@@ -1,7 +1,9 @@
 //! The machine's frames: which are free, and what they hold.
 
-ghost use Rattle.std.specs.Prelude.{◌≡◌, ◌≢◌, ◌+◌, ◌<◌, ◌≤◌, [], ◌∷◌, ◌++◌, map, length, vec_capacity, vec_len, Some, IfOk, OnOk, replicate, take, drop, slice_get, slice_set};
+ghost use Rattle.std.specs.Prelude.{◌≡◌, ◌≢◌, ℕ, false, ◌+◌, ◌<◌, ◌≤◌, [], ◌∷◌, ◌++◌, map, length, vec_capacity, vec_len, Some, IfOk, OnOk, replicate, take, drop, slice_get, slice_set};
 ghost use Rattle.nm_types.specs.Layout.{node_count, frame_count, node_of};
+ghost use Rattle.nm_types.specs.Nodes.{is_in};
+ghost use Rattle.nm_engine.specs.Touch.{has_free};
 ghost use Rattle.nm_nodes.specs.Pool.{list_of, with_list, appended, prepended};
 ghost use Rattle.std.specs.List.{AllByRecursion};
 ghost use Rattle.nm_engine.specs.Copies.{CanCopy, with_copies, emptied};
@@ -25,7 +27,7 @@ use nm_crew::Gate;
 use nm_frames::{CopyJob, FrameStore};
 use nm_nodes::NodePool;
 use nm_plan::Taken;
-use nm_types::{Access, FrameId, Geometry, NodeId};
+use nm_types::{Access, FrameId, Geometry, NodeId, NodeMask};
 use std::alloc::{AllocError, Allocator};
 use std::marker::Model;
 use std::mem;
@@ -96,6 +98,7 @@ impl<A: Allocator + Copy> Frames<A> {
     pub(crate) fn node_count(&self) -> usize
         ensures count { result ≡ node_count self.now.layout }
         ensures few { result ≤ 64 }
+        ensures others { (node : ℕ) → result ≤ node → has_free self.now.free node ≡ false }
     {
         self.geometry.node_count()
     }
@@ -118,6 +121,27 @@ impl<A: Allocator + Copy> Frames<A> {
         } else {
             0
         }
+    }
+
+    /// Whether a node has a free frame.
+    fn has_free(&self, node: NodeId) -> bool
+        ensures { result ≡ has_free self.now.free node }
+    {
+        self.free_count(node) > 0
+    }
+
+    /// The nodes that have a free frame.
+    pub(crate) fn free_nodes(&self) -> NodeMask
+        ensures { (node : ℕ) → is_in result node ≡ has_free self.now.free node }
+    {
+        let mut nodes = NodeMask::new();
+        for number in 0..self.node_count() {
+            let node = NodeId::new(number as u32);
+            if self.has_free(node) {
+                nodes.insert(node);
+            }
+        }
+        nodes
     }
 
     /// The free frames of a node, the front first.

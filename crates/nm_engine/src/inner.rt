@@ -23,6 +23,7 @@ use crate::address_spaces::AddressSpaces;
 use crate::frames::Frames;
 use crate::machine::Totals;
 use nm_types::{Geometry, NodeId, NodeMask};
+pub use run::failures;
 use std::alloc::{AllocError, Allocator};
 use std::marker::Model;
 

@@ -13,6 +13,7 @@ mod process;
 mod process_table;
 
 pub use answered::{AccessAnswer, Flown};
+pub use inner::failures;
 pub use located::Located;
 pub use machine::{Machine, Totals};
 pub use nm_areas::Line;

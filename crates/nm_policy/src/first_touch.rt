@@ -1,9 +1,12 @@
 //! Where new pages are placed.
 
-ghost use Rattle.std.specs.Prelude.{◌≡◌, IfOk};
-ghost use Rattle.nm_policy.specs.Order.{first_touch_order, follows, turn};
+ghost use Rattle.std.specs.Prelude.{◌≡◌, ℕ, List, ◌&&◌, IfOk, find};
+ghost use Rattle.std.specs.List.{filter};
+ghost use Rattle.nm_types.specs.Layout.{Layout};
+ghost use Rattle.nm_types.specs.Nodes.{is_in};
+ghost use Rattle.nm_policy.specs.Order.{first_touch_order, zonelist, follows, turn, nearer_of};
 
-use crate::zones::zonelist;
+use crate::zones::{distance, zonelist};
 use nm_types::{Geometry, NodeId, NodeMask, Policy};
 use std::alloc::{AllocError, Allocator};
 
@@ -18,6 +21,19 @@ pub(crate) fn turn(nodes: NodeMask, index: u64) -> NodeId
     match nodes.nth((index % count) as usize) {
         Some(node) => node,
         None => unreachable!(),
+    }
+}
+
+/// The node from which distances count, and the nodes that may be taken: those of the policy, or else of the process.
+fn way(home: NodeId, allowed: NodeMask, policy: Policy, index: u64) -> (NodeId, NodeMask)
+    ensures { (layout : Layout) (online : List ℕ) → filter (is_in result.1) (zonelist layout online result.0) ≡ first_touch_order layout online home allowed policy index }
+{
+    match policy {
+        Policy::Default => (home, allowed),
+        Policy::Preferred(node) => (node, allowed),
+        Policy::Bind(nodes) => (home, nodes),
+        Policy::Interleave(nodes) => (turn(nodes, index), allowed),
+        Policy::Local => (home, allowed),
     }
 }
 
@@ -37,16 +53,71 @@ pub fn first_touch_order<A: Allocator + Copy>(
 ) -> Result<Vec<NodeId, A>, AllocError>
     ensures { IfOk result (λ order. order.items ≡ first_touch_order geometry.now online home allowed policy index) }
 {
-    let (from, kept) = match policy {
-        Policy::Default => (home, allowed),
-        Policy::Preferred(node) => (node, allowed),
-        Policy::Bind(nodes) => (home, nodes),
-        Policy::Interleave(nodes) => (turn(nodes, index), allowed),
-        Policy::Local => (home, allowed),
-    };
+    let (from, kept) = way(home, allowed, policy, index);
     let mut order = zonelist(alloc, geometry, online, from)?;
     order.retain(|node| kept.contains(*node));
     Ok(order)
+}
+
+/// The nearer of a node that was found, if any was, and one more, if it is in both sets: the first of two that are as near.
+fn nearer_of<A: Allocator + Copy>(
+    geometry: &Geometry<A>,
+    from: NodeId,
+    kept: NodeMask,
+    free: NodeMask,
+    found: Option<NodeId>,
+    node: NodeId,
+) -> Option<NodeId>
+    ensures { result ≡ nearer_of geometry.now from (λ n. is_in kept n && is_in free n) found node }
+{
+    if !kept.contains(node) || !free.contains(node) {
+        return found;
+    }
+    match found {
+        None => Some(node),
+        Some(other) => {
+            if distance(geometry, from, node) < distance(geometry, from, other) {
+                Some(node)
+            } else {
+                Some(other)
+            }
+        }
+    }
+}
+
+/// The node that a new page takes a frame from: the first in the order of `first_touch_order` that is in a set, of those with
+/// a free frame. None where none is. It takes no memory, and looks at each online node once.
+pub fn first_touch_node<A: Allocator + Copy>(
+    geometry: &Geometry<A>,
+    online: NodeMask,
+    free: NodeMask,
+    home: NodeId,
+    allowed: NodeMask,
+    policy: Policy,
+    index: u64,
+) -> Option<NodeId>
+    ensures { result ≡ find (is_in free) (first_touch_order geometry.now online home allowed policy index) }
+{
+    let (from, kept) = way(home, allowed, policy, index);
+    nearest(geometry, online, from, kept, free)
+}
+
+/// The nearest node of two sets that is online, by distance from a node, and the least of those that are as near.
+fn nearest<A: Allocator + Copy>(
+    geometry: &Geometry<A>,
+    online: NodeMask,
+    from: NodeId,
+    kept: NodeMask,
+    free: NodeMask,
+) -> Option<NodeId>
+    ensures { result ≡ find (is_in free) (filter (is_in kept) (zonelist geometry.now online from)) }
+{
+    let mut found = None;
+    let mut rest = online;
+    while let Some(node) = rest.take_first() {
+        found = nearer_of(geometry, from, kept, free, found, node);
+    }
+    found
 }
 
 /// Whether a page on this node is where the policy wants it. BIND and INTERLEAVE want their nodes, PREFERRED its node,

@@ -9,7 +9,7 @@ mod targets;
 mod tests;
 mod zones;
 
-pub use first_touch::{first_touch_order, follows};
+pub use first_touch::{first_touch_node, first_touch_order, follows};
 pub use pairing::{Pair, pairs};
 pub use targets::{Sent, Stray, mbind_targets};
 pub use zones::zonelist;

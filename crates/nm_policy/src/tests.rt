@@ -1,4 +1,6 @@
-use crate::{Stray, first_touch_order, follows, laws, mbind_targets, pairs, zonelist};
+use crate::{
+    Stray, first_touch_node, first_touch_order, follows, laws, mbind_targets, pairs, zonelist,
+};
 use nm_types::{Geometry, NodeId, NodeMask, Page, Policy, Vpn};
 use std::alloc::Global;
 use std::process::Abort;
@@ -76,6 +78,34 @@ fn first_touches(rt: HostRuntime) -> Result<(), Fail> {
         let order = first_touch_order(alloc, &geometry, all, home, allowed, policy, index)?;
         let numbers: Vec<u32> = order.iter().map(|node| node.number()).collect(alloc)?;
         assert_eq!(rt; numbers.as_slice(), want, "under {policy:?}");
+    }
+    Ok(())
+}
+
+/// A page goes to the first node of its order that has a free frame.
+#[test]
+fn first_touches_with_full_nodes(rt: HostRuntime) -> Result<(), Fail> {
+    let alloc = rt.alloc();
+    let geometry = three(alloc)?;
+    let all = set_of(&rt, &[0, 1, 2]);
+    let home = NodeId::new(0);
+    let preferred = Policy::Preferred(NodeId::new(1));
+    let bound = Policy::Bind(set_of(&rt, &[1, 2]));
+    for (policy, free, want) in [
+        (
+            Policy::Default,
+            [0u32, 1, 2].as_slice(),
+            Some(NodeId::new(0)),
+        ),
+        (Policy::Default, [1, 2].as_slice(), Some(NodeId::new(2))),
+        (preferred, [0, 2].as_slice(), Some(NodeId::new(2))),
+        (preferred, [0].as_slice(), Some(NodeId::new(0))),
+        (bound, [0, 1].as_slice(), Some(NodeId::new(1))),
+        (bound, [0].as_slice(), None),
+    ] {
+        let free = set_of(&rt, free);
+        let found = first_touch_node(&geometry, all, free, home, all, policy, 0);
+        assert_eq!(rt; found, want, "under {policy:?}");
     }
     Ok(())
 }

@@ -1,11 +1,8 @@
 //! Traces: bytes to the calls that their steps ask for, and the calls to the report on them.
 #![tactic(auto)]
 
-mod access_lines;
-mod during;
 mod fields;
 pub mod laws;
-mod machine;
 mod parsing;
 mod playing;
 mod reading;

@@ -5,7 +5,7 @@ ghost use Rattle.std.specs.Io.KnownBytes.{Appends};
 ghost use Rattle.nm_calls.specs.Views.{call_of};
 ghost use Rattle.nm_trace.specs.Played.{BreaksOff, HandsOn, Plays, Tells};
 
-use crate::text::{refusal_text, text_of};
+use crate::text::{push_refusal, push_text};
 use crate::trace::Trace;
 use crate::trace_error::TraceError;
 use nm_calls::{Call, CallError, System};
@@ -61,7 +61,8 @@ fn write_blocks<W: Write, A: Allocator + Copy>(
 }
 
 /// Makes the call of step k, and puts its lines behind those that wait, also where it is refused. An error means that the
-/// call, or its lines, found no memory on the host: then no line is there of it.
+/// call, or its lines, found no memory on the host: then no line is there of it. What `text` holds before does not count: the
+/// lines are put together there, in memory that one step leaves to the next.
 fn make_step<R: Threads + Wait + Sync, A: Allocator + Copy + Send + Sync, G: Gate + Sync>(
     rt: &R,
     alloc: A,
@@ -69,15 +70,17 @@ fn make_step<R: Threads + Wait + Sync, A: Allocator + Copy + Send + Sync, G: Gat
     k: usize,
     call: &Call<A>,
     gate: &G,
+    text: &mut String<A>,
     waiting: &mut Vec<u8, A>,
 ) -> Result<(), AllocError>
     ensures told { Tells k result system.old system.new (call_of call.now) waiting.old.items waiting.new.items }
 {
-    let text = match system.call(rt, call, gate) {
-        Ok(answer) => text_of(alloc, k, call, &answer)?,
-        Err(CallError::Refused(errno)) => refusal_text(alloc, k, call, errno)?,
+    text.clear();
+    match system.call(rt, call, gate) {
+        Ok(answer) => push_text(alloc, text, k, call, &answer)?,
+        Err(CallError::Refused(errno)) => push_refusal(text, k, call, errno)?,
         Err(CallError::HostMemory { .. }) => return Err(AllocError),
-    };
+    }
     waiting.extend_from_slice(text.as_bytes())
 }
 
@@ -97,9 +100,10 @@ pub(crate) fn play_calls<
 ) -> Result<Summary, TraceError>
     ensures { Plays system.old (map call_of calls.now) system.new (W.contents writer.old) (W.contents writer.new) result }
 {
+    let mut text = String::new(alloc);
     let mut waiting = Vec::new(alloc);
     for (k, call) in calls.iter().enumerate() {
-        let Ok(()) = make_step(rt, alloc, system, k, call, gate, &mut waiting) else {
+        let Ok(()) = make_step(rt, alloc, system, k, call, gate, &mut text, &mut waiting) else {
             let Ok(()) = write_lines(writer, waiting.as_slice()) else {
                 return Err(TraceError::WriteFault);
             };

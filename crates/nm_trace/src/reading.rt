@@ -1,6 +1,6 @@
 //! Bytes to a trace.
 
-ghost use Rattle.std.specs.Prelude.{map, ◌≡◌, ◌<◌, ◌≤◌, [], ◌∷◌, ◌++◌, IfOk, OnOk, IfErr, codes};
+ghost use Rattle.std.specs.Prelude.{map, ◌≡◌, ◌<◌, ◌≤◌, ◌^◌, [], ◌∷◌, ◌++◌, IfOk, OnOk, IfErr, codes};
 ghost use Rattle.nm_calls.specs.Systems.{default_limit};
 ghost use Rattle.nm_calls.specs.Views.{call_of};
 ghost use Rattle.std.specs.Option.{ok_or};
@@ -13,8 +13,7 @@ ghost use Rattle.nm_trace.specs.declared.trace_error.TraceError.TheVariants.{Not
 ghost use Rattle.nm_trace.specs.declared.step_error.StepError.TheVariants.{Bad};
 ghost use Rattle.nm_trace.specs.Gives as of_step;
 
-use crate::fields::{list, number};
-use crate::machine::machine_of;
+use crate::fields::{list, number, smalls};
 use crate::parsing::step_of;
 use crate::step_error::StepError;
 use crate::trace::Trace;
@@ -24,6 +23,61 @@ use nm_types::Geometry;
 use nm_types::limits::MAX_BATCH;
 use serde_json::Value;
 use std::alloc::{Allocator, Global};
+
+/// A distance, which is below 256.
+fn distance_value(value: &Value) -> Result<u8, StepError>
+    ensures value { of_step.Gives (λ n. n) result (form.number_below (2 ^ 8) (view value.now)) }
+    ensures bad { IfErr result (λ e. e ≡ Bad) }
+{
+    let number = value.as_u64().ok_or(StepError::Bad)?;
+    u8::try_from(number).map_err(|_| StepError::Bad)
+}
+
+/// The distances of a list.
+fn distances_of<A: Allocator + Copy>(alloc: A, values: &[Value]) -> Result<Vec<u8, A>, StepError>
+    ensures { of_step.Gives (λ v. v.items) result (form.each (form.number_below (2 ^ 8)) (items_view values.now)) }
+{
+    let mut row = Vec::new(alloc);
+    for value in values {
+        let distance = distance_value(value)?;
+        row.push(distance)?;
+    }
+    Ok(row)
+}
+
+/// A row of distances.
+fn row_of<A: Allocator + Copy>(alloc: A, value: &Value) -> Result<Vec<u8, A>, StepError>
+    ensures { of_step.Gives (λ v. v.items) result (form.row_of (view value.now)) }
+{
+    let values = value.as_array().ok_or(StepError::Bad)?;
+    distances_of(alloc, values.as_slice())
+}
+
+/// The rows of a list.
+fn rows_of<A: Allocator + Copy>(alloc: A, values: &[Value]) -> Result<Vec<Vec<u8, A>, A>, StepError>
+    ensures { of_step.Gives (λ v. map (λ row. row.items) v.items) result (form.each form.row_of (items_view values.now)) }
+{
+    let mut rows = Vec::new(alloc);
+    for value in values {
+        let row = row_of(alloc, value)?;
+        rows.push(row)?;
+    }
+    Ok(rows)
+}
+
+/// The machine of a trace's top.
+#[tactic(auto, unfolding(crate::specs::Form::machine_of))]
+fn machine_of<A: Allocator + Copy>(alloc: A, value: &Value) -> Result<Geometry<A>, StepError>
+    ensures { of_step.Gives (λ g. g) result (form.machine_of (view value.now)) }
+{
+    let machine = value.get("machine").ok_or(StepError::Bad)?;
+    let sizes = smalls(alloc, machine, "nodes")?;
+    let distances = rows_of(alloc, list(machine, "distance")?.as_slice())?;
+    match Geometry::new(sizes, distances) {
+        Ok(geometry) => Ok(geometry),
+        Err(_) => Err(StepError::Bad),
+    }
+}
 
 /// How many entries a run has at most: 16,384 in version 1, whatever it says of it, and what version 2 says.
 #[tactic(auto, unfolding(crate::specs::Form::limit_of))]
@@ -62,20 +116,21 @@ fn put<A: Allocator + Copy + Send + Sync>(
     }
 }
 
-/// The calls that the steps of a list ask for, or the first fault. A run has at most so many entries.
+/// The calls that the steps of a list ask for, or the first fault. A run has at most so many entries. Each value is let go
+/// once it is read.
 fn calls_of<A: Allocator + Copy + Send + Sync>(
     alloc: A,
-    values: &[Value],
+    values: Vec<Value>,
     limit: usize,
 ) -> Result<Vec<Call<A>, A>, TraceError>
     requires { 0 < limit }
-    ensures { Gives (λ v. map call_of v.items) result (faults.calls_of limit (items_view values.now)) }
+    ensures { Gives (λ v. map call_of v.items) result (faults.calls_of limit (items_view values.items)) }
 {
     let mut calls = Vec::new(alloc);
-    for (k, value) in values.iter().enumerate() {
-        let call = match step_of(alloc, value, limit) {
+    for value in values {
+        let call = match step_of(alloc, &value, limit) {
             Ok(call) => call,
-            Err(StepError::Bad) => return Err(TraceError::BadStep(k)),
+            Err(StepError::Bad) => return Err(TraceError::BadStep(calls.len())),
             Err(StepError::Memory) => return Err(TraceError::HostMemory(0)),
         };
         put(&mut calls, call)?;
@@ -113,26 +168,32 @@ fn run_limit_of(value: &Value) -> Result<usize, TraceError>
     }
 }
 
-/// The values of the steps of a trace, or the fault of a top that has none.
-fn values_of(value: &Value) -> Result<&Vec<Value>, TraceError>
-    ensures values { Gives (λ v. items_view v.now.items) result (ok_or (form.items_at (codes "steps") (view value.now)) BadMachine) }
+/// Takes the values of the steps out of a trace's value, or tells the fault of a top that has none.
+fn take_steps(value: &mut Value) -> Result<Vec<Value>, TraceError>
+    ensures values { Gives (λ v. items_view v.items) result (ok_or (form.items_at (codes "steps") (view value.old)) BadMachine) }
     ensures bad { IfErr result (λ e. e ≡ BadMachine) }
 {
-    list(value, "steps").map_err(bad_machine)
+    let Some(steps) = value.get_mut("steps") else {
+        return Err(TraceError::BadMachine);
+    };
+    match steps.take() {
+        Value::Array(values) => Ok(values),
+        _ => Err(TraceError::BadMachine),
+    }
 }
 
 /// The trace that a value is, or the first fault.
 #[tactic(auto, unfolding(crate::specs::Faults::plan_of))]
 fn trace_of<A: Allocator + Copy + Send + Sync>(
     alloc: A,
-    value: &Value,
+    mut value: Value,
 ) -> Result<Trace<A>, TraceError>
-    ensures { Gives plan_in result (faults.plan_of (view value.now)) }
+    ensures { Gives plan_in result (faults.plan_of (view value)) }
 {
-    let geometry = geometry_of(alloc, value)?;
-    let run_limit = run_limit_of(value)?;
-    let values = values_of(value)?;
-    let calls = calls_of(alloc, values.as_slice(), run_limit)?;
+    let geometry = geometry_of(alloc, &value)?;
+    let run_limit = run_limit_of(&value)?;
+    let steps = take_steps(&mut value)?;
+    let calls = calls_of(alloc, steps, run_limit)?;
     Ok(Trace {
         geometry,
         run_limit,
@@ -157,8 +218,8 @@ fn value_of(heap: Global, bytes: &[u8]) -> Result<Value, TraceError>
 }
 
 /// The trace that bytes are, or the first fault: `NotJson`, then `BadMachine`, then `BadStep` of the first bad step.
-/// Every step is checked before one is made. The trace stands in the memory of `alloc`, and the JSON value, until this
-/// call returns, in that of `heap`.
+/// Every step is checked before one is made. The trace stands in the memory of `alloc`, and the JSON value, which is
+/// let go step by step as it is read, in that of `heap`.
 ///
 /// `HostMemory(0)` comes where one of the two was refused memory.
 #[tactic(auto, unfolding(crate::specs::Faults::trace_of))]
@@ -170,5 +231,5 @@ pub fn read_trace<A: Allocator + Copy + Send + Sync>(
     ensures { Gives plan_in result (faults.trace_of bytes.now) }
 {
     let value = value_of(heap, bytes)?;
-    trace_of(alloc, &value)
+    trace_of(alloc, value)
 }

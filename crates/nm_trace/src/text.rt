@@ -5,12 +5,15 @@ ghost use Rattle.std.specs.List.{flat_map};
 ghost use Rattle.nm_types.specs.Names.{name_of};
 ghost use Rattle.nm_calls.specs.Calls.{Refusal};
 ghost use Rattle.nm_calls.specs.Maps.{lines_shown};
-ghost use Rattle.nm_calls.specs.Outcome.{accesses_asked};
+ghost use Rattle.nm_calls.specs.Outcome.{accesses_asked, shown};
 ghost use Rattle.nm_calls.specs.Views.{call_of, answer_of};
-ghost use Rattle.nm_trace.specs.Report.{word_of, listed, signed_listed, entry_text, totals_text, lines_behind, answer_text, line_of, text_of, access_lines, answers_in};
+ghost use Rattle.nm_trace.specs.Report.{word_of, listed, signed_listed, entry_text, totals_text, lines_behind, answer_text, line_of, text_of, access_lines, answers_in, access_word, access_line};
+ghost use Rattle.nm_engine.specs.Answering.{access_shown, answer_shown};
+ghost use Rattle.nm_calls.specs.During.{shown_during};
 
-use crate::access_lines::push_accesses;
-use nm_calls::{Answer, Call, PagemapEntry, Totals, push_address, push_number};
+use nm_calls::{
+    Access, AccessAnswer, Answer, Call, InFlight, PagemapEntry, Totals, push_address, push_number,
+};
 use nm_types::{Errno, FrameId};
 use std::alloc::{AllocError, Allocator};
 
@@ -164,36 +167,126 @@ fn push_answer<A: Allocator + Copy + Send + Sync>(
     }
 }
 
-/// The front of a step's line: its number and its word, each with a space behind it.
-fn front_of<A: Allocator + Copy + Send + Sync>(
-    alloc: A,
+/// Puts the front of a step's line: its number and its word, each with a space behind it.
+fn push_front<A: Allocator + Copy + Send + Sync>(
+    line: &mut String<A>,
     k: usize,
     call: &Call<A>,
-) -> Result<String<A>, AllocError>
-    ensures { IfOk result (λ line. string_bytes line ≡ decimal k ++ codes " " ++ word_of (call_of call.now) ++ codes " ") }
+) -> Result<(), AllocError>
+    ensures { OnOk result (string_bytes line.new ≡ string_bytes line.old
+        ++ (decimal k ++ codes " " ++ word_of (call_of call.now) ++ codes " ")) }
 {
     let mut buffer = itoa::Buffer::new();
-    let mut line = String::from_str(alloc, buffer.format(k))?;
+    line.push_str(buffer.format(k))?;
     line.push_str(" ")?;
     line.push_str(word(call))?;
-    line.push_str(" ")?;
-    Ok(line)
+    line.push_str(" ")
 }
 
-/// The line of step k, whose call answered; behind it those of an answer of several lines.
+/// Puts the line of step k, whose call answered; behind it those of an answer of several lines.
 #[tactic(auto, unfolding(crate::specs::Report::line_of))]
-fn line_of<A: Allocator + Copy + Send + Sync>(
+fn push_line<A: Allocator + Copy + Send + Sync>(
     alloc: A,
+    text: &mut String<A>,
     k: usize,
     call: &Call<A>,
     answer: &Answer<A>,
-) -> Result<String<A>, AllocError>
-    ensures { IfOk result (λ text. string_bytes text ≡ line_of k (call_of call.now) (answer_of answer.now)) }
+) -> Result<(), AllocError>
+    ensures { OnOk result (string_bytes text.new ≡ string_bytes text.old
+        ++ line_of k (call_of call.now) (answer_of answer.now)) }
 {
-    let mut line = front_of(alloc, k, call)?;
-    push_answer(alloc, &mut line, answer)?;
-    line.push_str("\n")?;
-    Ok(line)
+    push_front(text, k, call)?;
+    push_answer(alloc, text, answer)?;
+    text.push_str("\n")
+}
+
+/// The word that names an access.
+fn access_word<A: Allocator + Copy>(access: &Access<A>) -> &'static str
+    ensures { result.now ≡ access_word (access_shown access.now) }
+{
+    match access {
+        Access::Read { .. } => "read",
+        Access::Write { .. } => "write",
+    }
+}
+
+/// Puts the answer to an access.
+#[tactic(auto, unfolding(crate::specs::Report::answer_text))]
+fn push_access_answer<A: Allocator + Copy>(
+    alloc: A,
+    line: &mut String<A>,
+    answer: &AccessAnswer<A>,
+) -> Result<(), AllocError>
+    ensures { OnOk result (string_bytes line.new ≡ string_bytes line.old ++ answer_text (shown (answer_shown answer.now))) }
+{
+    match answer {
+        AccessAnswer::Bytes(bytes) => {
+            line.push_str(hex::encode(alloc, bytes.as_slice())?.as_str())
+        }
+        AccessAnswer::Done => line.push_str("ok"),
+        AccessAnswer::Held => line.push_str("held"),
+        AccessAnswer::Refused(errno) => {
+            line.push_str("error ")?;
+            line.push_str(errno.name())
+        }
+    }
+}
+
+/// Puts the front of the line of access j of a step: both numbers and the word of the access, with a space behind it.
+fn push_access_front<A: Allocator + Copy>(
+    line: &mut String<A>,
+    step: usize,
+    j: usize,
+    access: &Access<A>,
+) -> Result<(), AllocError>
+    ensures { OnOk result (string_bytes line.new ≡ string_bytes line.old
+        ++ (decimal step ++ codes "." ++ decimal j ++ codes " " ++ access_word (access_shown access.now) ++ codes " ")) }
+{
+    let mut buffer = itoa::Buffer::new();
+    line.push_str(buffer.format(step))?;
+    line.push_str(".")?;
+    line.push_str(buffer.format(j))?;
+    line.push_str(" ")?;
+    line.push_str(access_word(access))?;
+    line.push_str(" ")
+}
+
+/// Puts the line of access j of step k.
+#[tactic(auto, unfolding(crate::specs::Report::access_line))]
+fn push_access<A: Allocator + Copy>(
+    alloc: A,
+    text: &mut String<A>,
+    k: usize,
+    j: usize,
+    access: &Access<A>,
+    answer: &AccessAnswer<A>,
+) -> Result<(), AllocError>
+    ensures { OnOk result (string_bytes text.new ≡ string_bytes text.old
+        ++ access_line k j (access_shown access.now) (answer_shown answer.now)) }
+{
+    push_access_front(text, k, j, access)?;
+    push_access_answer(alloc, text, answer)?;
+    text.push_str("\n")
+}
+
+/// Puts the lines of the accesses of step k, one after another, each with the answer at its place.
+fn push_accesses<A: Allocator + Copy + Send + Sync>(
+    alloc: A,
+    text: &mut String<A>,
+    k: usize,
+    during: &[InFlight<A>],
+    answers: &[AccessAnswer<A>],
+) -> Result<(), AllocError>
+    ensures { OnOk result (string_bytes text.new ≡ string_bytes text.old
+        ++ access_lines k 0 (shown_during during.now) (map answer_shown answers.now)) }
+{
+    for (j, answer) in answers.iter().enumerate() {
+        let Some(flight) = during.get(j) else {
+            return Ok(());
+        };
+        push_access(alloc, text, k, j, &flight.access, answer)?;
+    }
+    Ok(())
 }
 
 /// Puts the lines of the accesses of step k that were made while pages moved.
@@ -223,34 +316,36 @@ fn push_flights<A: Allocator + Copy + Send + Sync>(
     }
 }
 
-/// The lines of step k, whose call answered: its own, and those of the accesses that were made while pages moved.
+/// Puts the lines of step k, whose call answered: its own, and those of the accesses that were made while pages moved. Where
+/// the host refuses memory, some of them may be there.
 #[tactic(auto, unfolding(crate::specs::Report::text_of))]
-pub(crate) fn text_of<A: Allocator + Copy + Send + Sync>(
+pub(crate) fn push_text<A: Allocator + Copy + Send + Sync>(
     alloc: A,
+    text: &mut String<A>,
     k: usize,
     call: &Call<A>,
     answer: &Answer<A>,
-) -> Result<String<A>, AllocError>
-    ensures { IfOk result (λ text. string_bytes text ≡ text_of k (call_of call.now) (answer_of answer.now)) }
+) -> Result<(), AllocError>
+    ensures { OnOk result (string_bytes text.new ≡ string_bytes text.old
+        ++ text_of k (call_of call.now) (answer_of answer.now)) }
 {
-    let mut text = line_of(alloc, k, call, answer)?;
-    push_flights(alloc, &mut text, k, call, answer)?;
-    Ok(text)
+    push_line(alloc, text, k, call, answer)?;
+    push_flights(alloc, text, k, call, answer)
 }
 
-/// The line of step k, whose call was refused.
+/// Puts the line of step k, whose call was refused. Where the host refuses memory, some of it may be there.
 #[tactic(auto, unfolding(crate::specs::Report::text_of, crate::specs::Report::line_of, crate::specs::Report::answer_text))]
-pub(crate) fn refusal_text<A: Allocator + Copy + Send + Sync>(
-    alloc: A,
+pub(crate) fn push_refusal<A: Allocator + Copy + Send + Sync>(
+    text: &mut String<A>,
     k: usize,
     call: &Call<A>,
     errno: Errno,
-) -> Result<String<A>, AllocError>
-    ensures { IfOk result (λ text. string_bytes text ≡ text_of k (call_of call.now) (Refusal errno)) }
+) -> Result<(), AllocError>
+    ensures { OnOk result (string_bytes text.new ≡ string_bytes text.old ++ text_of k (call_of call.now) (Refusal errno)) }
 {
-    let mut line = front_of(alloc, k, call)?;
-    line.push_str("error ")?;
-    line.push_str(errno.name())?;
-    line.push_str("\n")?;
-    Ok(line)
+    push_front(text, k, call)?;
+    text.push_str("error ")?;
+    text.push_str(errno.name())?;
+    text.push_str("\n")?;
+    Ok(())
 }

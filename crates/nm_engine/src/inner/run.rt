@@ -144,8 +144,9 @@ fn classes<R: Threads + Sync, A: Allocator + Copy + Send + Sync, V: PageView + S
     }
 }
 
-/// How many requests failed: their page is pinned, or the target has no free frame.
-fn failures(statuses: &[i32]) -> usize
+/// How many of these statuses tell of a request that failed: its page is pinned (EBUSY), or its target has no free frame
+/// (ENOMEM). So `pgmigrate_fail` of `/proc/vmstat` counts.
+pub fn failures(statuses: &[i32]) -> usize
     ensures { result ≡ failures statuses.now }
 {
     let pinned = -Errno::Ebusy.number();

@@ -8,19 +8,18 @@ ghost use Rattle.nm_types.specs.Map.{get, page_cmp};
 ghost use Rattle.nm_types.specs.State.{Process, Placed};
 ghost use Rattle.nm_runs.specs.Seen.{sight_at};
 ghost use Rattle.nm_policy.specs.Order.{first_touch_order};
-ghost use Rattle.nm_engine.specs.Touch.{Bytes, Done, shown_at, spot, first_free, filled, joined, touched_entry, read, write, spot_refusal};
+ghost use Rattle.nm_engine.specs.Touch.{Bytes, Done, spot, first_free, filled, joined, touched_entry, read, write, spot_refusal};
 ghost use Rattle.nm_engine.specs.MidRun.{spot_at, IsResolved, with_state};
 ghost use Rattle.nm_engine.specs.Does.{AsksLast, Touches, Accesses};
 ghost use Rattle.nm_engine.specs.Seeing.{frame_seen};
 
-use crate::frames::Frames;
 use crate::inner::Inner;
 use crate::inner::resolved::Resolved;
 use crate::process::ProcessInfo;
-use nm_policy::first_touch_order;
+use nm_policy::first_touch_node;
 use nm_types::limits::PAGE_BYTES;
 use nm_types::{Errno, FrameId, MachineError, NodeId, Page, Pid, Policy, Sight, Vpn};
-use std::alloc::{AllocError, Allocator};
+use std::alloc::Allocator;
 
 impl<A: Allocator + Copy> Inner<A> {
     /// Reads bytes inside one page of a process.
@@ -147,7 +146,7 @@ impl<A: Allocator + Copy> Inner<A> {
         ensures same { self.new ≡ with_state self.old self.new.state }
     {
         let page = t.page;
-        let Some(node) = self.first_node(t.info, t.policy, page.index)? else {
+        let Some(node) = self.first_node(t.info, t.policy, page.index) else {
             return Err(MachineError::Refused(Errno::Enomem));
         };
         let Some(frame) = self.frames.front(node) else {
@@ -160,38 +159,14 @@ impl<A: Allocator + Copy> Inner<A> {
     }
 
     /// The first node in the order for a new page that has a free frame.
-    fn first_node(
-        &self,
-        info: ProcessInfo,
-        policy: Policy,
-        index: u64,
-    ) -> Result<Option<NodeId>, AllocError>
-        ensures { IfOk result (λ found. found ≡ first_free self.now.state.free (first_touch_order self.now.state.layout self.now.state.online info.home info.allowed policy index)) }
+    fn first_node(&self, info: ProcessInfo, policy: Policy, index: u64) -> Option<NodeId>
+        ensures { result ≡ first_free self.now.state.free (first_touch_order self.now.state.layout self.now.state.online info.home info.allowed policy index) }
     {
         let ProcessInfo { home, allowed, .. } = info;
-        let order = first_touch_order(
-            self.alloc,
-            self.frames.geometry(),
-            self.online,
-            home,
-            allowed,
-            policy,
-            index,
-        )?;
-        Ok(first_free(&self.frames, order.as_slice()))
+        let geometry = self.frames.geometry();
+        let free = self.frames.free_nodes();
+        first_touch_node(geometry, self.online, free, home, allowed, policy, index)
     }
-}
-
-/// The first of these nodes that has a free frame.
-fn first_free<A: Allocator + Copy>(frames: &Frames<A>, order: &[NodeId]) -> Option<NodeId>
-    ensures { result ≡ first_free frames.now.free order.now }
-{
-    for node in order {
-        if frames.free_count(*node) > 0 {
-            return Some(*node);
-        }
-    }
-    None
 }
 
 /// Puts so many zeros behind the bytes of a list that has room for them.

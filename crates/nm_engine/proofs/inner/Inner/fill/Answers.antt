@@ -19,12 +19,12 @@ use Rattle.nm_engine.proofs.inner.Inner.fill.Goals as goal
 
 pub front-requires : goal.front-requires
 front-requires g c =
-    let found = inside _ _ _ _ c.self.view_is (λ s. first_free s.free (first_touch_order s.layout s.online c.args.t.info.home c.args.t.info.allowed c.args.t.policy c.args.t.page.index) ≡ Some c.in-Some.node) (sym c.in_ok-node.ensures ∙ c.in-Some.is) in
+    let found = inside _ _ _ _ c.self.view_is (λ s. first_free s.free (first_touch_order s.layout s.online c.args.t.info.home c.args.t.info.allowed c.args.t.policy c.args.t.page.index) ≡ Some c.in-Some.node) (sym c.first_node.ensures ∙ c.in-Some.is) in
     subst (λ n. c.in-Some.node < n) c.self.invariant.sound.frames.lists (short_list c.self.inside.frames.free c.in-Some.node (found_free c.self.inside.frames.free _ c.in-Some.node found))
 
 pub unreachable-requires : goal.unreachable-requires
 unreachable-requires g c =
-    let found = inside _ _ _ _ c.self.view_is (λ s. first_free s.free (first_touch_order s.layout s.online c.args.t.info.home c.args.t.info.allowed c.args.t.policy c.args.t.page.index) ≡ Some c.in-Some.node) (sym c.in_ok-node.ensures ∙ c.in-Some.is) in
+    let found = inside _ _ _ _ c.self.view_is (λ s. first_free s.free (first_touch_order s.layout s.online c.args.t.info.home c.args.t.info.allowed c.args.t.policy c.args.t.page.index) ≡ Some c.in-Some.node) (sym c.first_node.ensures ∙ c.in-Some.is) in
     no_front (free_on c.self.inside.frames c.in-Some.node) (sym c.front.ensures.front ∙ c.in_default-front.is) (found_free c.self.inside.frames.free _ c.in-Some.node found)
 
 pub allocate-requires-clause-frame : goal.allocate-requires-clause-frame
@@ -44,7 +44,7 @@ zero-requires g c =
 
 pub invariant_of-self-2 : goal.invariant_of-self-2
 invariant_of-self-2 g c =
-    let found = inside _ _ _ _ c.self.view_is (λ s. first_free s.free (first_touch_order s.layout s.online c.args.t.info.home c.args.t.info.allowed c.args.t.policy c.args.t.page.index) ≡ Some c.in-Some.node) (sym c.in_ok-node.ensures ∙ c.in-Some.is) in
+    let found = inside _ _ _ _ c.self.view_is (λ s. first_free s.free (first_touch_order s.layout s.online c.args.t.info.home c.args.t.info.allowed c.args.t.policy c.args.t.page.index) ≡ Some c.in-Some.node) (sym c.first_node.ensures ∙ c.in-Some.is) in
     let front : slice_get (free_on c.self.inside.frames c.in-Some.node) 0 ≡ Some c.in-Some-front.frame = sym c.front.ensures.front ∙ c.in-Some-front.is in
     let touched = inside _ _ _ _ c.self.view_is (λ s. IsResolved s c.args.t c.requires.touched.0 c.requires.touched.1) c.requires.touched.2 in
     let unplaced = inside _ _ _ _ c.self.view_is (λ s. get page_cmp s.place c.args.t.page ≡ None) c.requires.unplaced in
@@ -59,7 +59,7 @@ invariant_of-self-2 g c =
 
 pub returns-clause-touches : goal.returns-clause-touches
 returns-clause-touches g c p a known =
-    let found = inside _ _ _ _ c.self.view_is (λ s. first_free s.free (first_touch_order s.layout s.online c.args.t.info.home c.args.t.info.allowed c.args.t.policy c.args.t.page.index) ≡ Some c.in-Some.node) (sym c.in_ok-node.ensures ∙ c.in-Some.is) in
+    let found = inside _ _ _ _ c.self.view_is (λ s. first_free s.free (first_touch_order s.layout s.online c.args.t.info.home c.args.t.info.allowed c.args.t.policy c.args.t.page.index) ≡ Some c.in-Some.node) (sym c.first_node.ensures ∙ c.in-Some.is) in
     let front : slice_get (free_on c.self.inside.frames c.in-Some.node) 0 ≡ Some c.in-Some-front.frame = sym c.front.ensures.front ∙ c.in-Some-front.is in
     let touched = inside _ _ _ _ c.self.view_is (λ s. IsResolved s c.args.t p a) known in
     let unplaced = inside _ _ _ _ c.self.view_is (λ s. get page_cmp s.place c.args.t.page ≡ None) c.requires.unplaced in

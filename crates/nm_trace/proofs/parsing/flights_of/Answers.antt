@@ -3,7 +3,7 @@ use Rattle.nm_engine.specs.Answering.{access_shown}
 use Rattle.nm_calls.specs.During.{shown_during}
 use Rattle.nm_trace.specs.Form.{in_flight}
 use Rattle.nm_trace.proofs.Each.{goes_on}
-use Rattle.nm_trace.proofs.during.flights_of.Goals as goal
+use Rattle.nm_trace.proofs.parsing.flights_of.Goals as goal
 
 pub loop-value-preserved : goal.loop-value-preserved
 loop-value-preserved g c =

@@ -2,7 +2,7 @@ use Rattle.std.proofs.Common.{◌≡◌, ◌++◌, drop, map, string_bytes}
 use Rattle.nm_engine.specs.Answering.{answer_shown}
 use Rattle.nm_calls.specs.During.{shown_during}
 use Rattle.nm_trace.specs.Report.{access_lines}
-use Rattle.nm_trace.proofs.access_lines.push_accesses.Given as goal
+use Rattle.nm_trace.proofs.text.push_accesses.Given as goal
 
 -- what was put, and the lines that are left, are the lines
 abbrev pub invariant-loop-j : goal.invariant-loop-j

@@ -1,7 +1,7 @@
 use Rattle.std.proofs.Common.{◌≡◌, ◌+◌, ◌++◌, ◌≤◌, drop, length, map, vec_capacity}
 use Rattle.nm_engine.specs.Answering.{answer_shown}
 use Rattle.nm_calls.specs.During.{in_order, runs_named, shown_during, left_shown}
-use Rattle.nm_calls.proofs.during.in_order.Given as goal
+use Rattle.nm_calls.proofs.batch.in_order.Given as goal
 
 abbrev pub invariant-loop-asked : goal.invariant-loop-asked
 invariant-loop-asked g l = record {

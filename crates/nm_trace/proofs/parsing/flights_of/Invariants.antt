@@ -3,7 +3,7 @@ use Rattle.serde_json.specs.View.{items_view}
 use Rattle.nm_calls.specs.During.{shown_during}
 use Rattle.nm_trace.specs.Form.{each, in_flight}
 use Rattle.nm_trace.proofs.Each.{with_front}
-use Rattle.nm_trace.proofs.during.flights_of.Given as goal
+use Rattle.nm_trace.proofs.parsing.flights_of.Given as goal
 
 abbrev pub invariant-loop-value : goal.invariant-loop-value
 invariant-loop-value g l =

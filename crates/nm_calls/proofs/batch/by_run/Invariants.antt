@@ -2,7 +2,7 @@ use Rattle.std.proofs.Common.{◌≡◌, ◌++◌, ◌<◌, ℕ, drop, length, m
 use Rattle.nm_engine.specs.Answering.{access_shown}
 use Rattle.nm_engine.specs.Batch.{accesses_of}
 use Rattle.nm_calls.specs.During.{list_at, shown_during}
-use Rattle.nm_calls.proofs.during.by_run.Given as goal
+use Rattle.nm_calls.proofs.batch.by_run.Given as goal
 
 abbrev pub invariant-loop : goal.invariant-loop
 invariant-loop g l = record {

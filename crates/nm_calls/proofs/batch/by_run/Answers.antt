@@ -8,8 +8,8 @@ use Rattle.nm_engine.specs.Batch.{accesses_of}
 use Rattle.nm_engine.proofs.Together.Paces.{drop_item}
 use Rattle.nm_calls.specs.During.{shown_during, list_at}
 use Rattle.nm_calls.proofs.Meanwhile.{one_more_asked, none_asked, list_there, list_after, empty_more, append_none}
-use Rattle.nm_calls.proofs.during.by_run.Goals as goal
-use Rattle.nm_calls.proofs.during.by_run.Goals.{in-Some+in_ok-copy_of+in_ok-push-2, in_default}
+use Rattle.nm_calls.proofs.batch.by_run.Goals as goal
+use Rattle.nm_calls.proofs.batch.by_run.Goals.{in-Some+in_ok-copy_of+in_ok-push-2, in_default}
 
 abbrev accesses_shown : {A : Type 0} → Vec (Asked A) A → List Access
 accesses_shown list = map access_shown list.items

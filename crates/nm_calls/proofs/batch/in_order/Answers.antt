@@ -5,8 +5,8 @@ use Rattle.nm_engine.specs.Answering.{answer_shown}
 use Rattle.nm_engine.proofs.Together.Paces.{drop_item}
 use Rattle.nm_calls.specs.During.{shown_during, runs_named, in_order, left_shown}
 use Rattle.nm_calls.proofs.Meanwhile.{unmade_told, none_told, one_told, list_there, list_after}
-use Rattle.nm_calls.proofs.during.in_order.Goals as goal
-use Rattle.nm_calls.proofs.during.in_order.Goals.{in-Some+in-Some-next, in-Some+in_default-next, in_default}
+use Rattle.nm_calls.proofs.batch.in_order.Goals as goal
+use Rattle.nm_calls.proofs.batch.in_order.Goals.{in-Some+in-Some-next, in-Some+in_default-next, in_default}
 
 no_items : {X : Type 0} (xs : List X) → length xs ≡ 0 → xs ≡ []
 no_items [] h = refl

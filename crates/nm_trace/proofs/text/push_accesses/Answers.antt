@@ -1,6 +1,6 @@
-use Rattle.std.proofs.Common.{string_bytes, ap, ◌∙◌, List, ℕ, ◌++◌}
+use Rattle.std.proofs.Common.{string_bytes}
 use Rattle.nm_trace.proofs.Lines.{goes_on, is_done}
-use Rattle.nm_trace.proofs.access_lines.push_accesses.Goals as goal
+use Rattle.nm_trace.proofs.text.push_accesses.Goals as goal
 
 pub returns-in_default : goal.returns-in_default
 returns-in_default g c =
@@ -9,6 +9,5 @@ returns-in_default g c =
 pub loop-j-preserved : goal.loop-j-preserved
 loop-j-preserved g c =
     let shown = c.in-Some.ensures.lookup in
-    let put = c.in_ok-push_str.ensures.bytes ∙ ap (λ (line : List ℕ). string_bytes c.loop-j.text ++ line) (c.as_str.ensures.value ∙ c.in_ok-access_line.ensures) in
     goes_on c.args.k c.loop-j.j c.args.during.now c.args.answers.now (string_bytes c.loop-j.text) _ c.in-Some.flight.now c.index-answers-j.result _
-    shown.3.0 shown.1 c.loop-j-test.true c.index-answers-j.is put c.loop-j.invariant
+    shown.3.0 shown.1 c.loop-j-test.true c.index-answers-j.is c.in_ok-push_access.ensures c.loop-j.invariant
