@@ -15,30 +15,18 @@ use Rattle.nm_trace.specs.Gives.{Fails}
 abbrev pub with_front : {A : Type 0} → List A → Option (List A) → Option (List A)
 with_front front rest = option_map (λ xs. front ++ xs) rest
 
-pub with_nothing : {A : Type 0} (rest : Option (List A)) → with_front [] rest ≡ rest
-with_nothing (Some xs) = refl
-with_nothing None = refl
-
 regroup : {A : Type 0} (front : List A) (x : A) (rest : Option (List A)) → with_front front (rest >>= λ xs. Some (x ∷ xs)) ≡ with_front (front ++ x ∷ []) rest
 regroup front x (Some xs) = ap Some (simp append_assoc)
 regroup front x None = refl
-
--- the first item of what is left is read
-pub takes : {A : Type 0} (f : Data → Option A) (front : List A) (v : Value) (rest : List Value) (total : Option (List A)) (x : A) → f (view v) ≡ Some x → with_front front (each f (items_view (v ∷ rest))) ≡ total → with_front (front ++ x ∷ []) (each f (items_view rest)) ≡ total
-takes f front v rest total x h so_far =
-    let one : with_front front (each f (items_view (v ∷ rest))) ≡ with_front (front ++ x ∷ []) (each f (items_view rest)) = rw h (regroup front x (each f (items_view rest))) in
-    sym one ∙ so_far
-
--- .. and comes before the first one that is no step
-pub counts : (limit : ℕ) (v : Value) (rest : List Value) (call : Call) → step_of limit (view v) ≡ Some call → first_bad limit (items_view (v ∷ rest)) ≡ suc (first_bad limit (items_view rest))
-counts limit v rest call h = rw h refl
 
 module _ {A : Type 0} (f : Data → Option A) (front : List A) (vs : List Value) (i : ℕ) (v : Value) (total : Option (List A)) (lt : i < length vs) (is : v ≡ get_or vs i v) where
   split : drop i vs ≡ v ∷ drop (i + 1) vs
   split = rw (add-one, drop-cons vs i v) (ap (λ w. w ∷ drop (suc i) vs) (sym is))
 
   pub goes_on : (x : A) → f (view v) ≡ Some x → with_front front (each f (items_view (drop i vs))) ≡ total → with_front (front ++ x ∷ []) (each f (items_view (drop (i + 1) vs))) ≡ total
-  goes_on x h so_far = takes f front v (drop (i + 1) vs) total x h (ap (λ ws. with_front front (each f (items_view ws))) (sym split) ∙ so_far)
+  goes_on x h so_far =
+      let one : with_front front (each f (items_view (drop i vs))) ≡ with_front (front ++ x ∷ []) (each f (items_view (drop (i + 1) vs))) = rw (split, h) (regroup front x (each f (items_view (drop (i + 1) vs)))) in
+      sym one ∙ so_far
 
   pub ends : (e : StepError) → Fails e (f (view v)) → with_front front (each f (items_view (drop i vs))) ≡ total → Fails e total
   ends Memory h so_far = tt
@@ -51,3 +39,10 @@ is_done f front vs i total le so_far =
     let none : drop i vs ≡ [] = drop_all i vs le in
     let one : with_front front (each f (items_view (drop i vs))) ≡ Some front = rw none (ap Some (append-nil front)) in
     sym so_far ∙ one
+
+-- the first item that is no step comes after one that is a step
+pub is_later : (limit : ℕ) (vs : List Value) (i : ℕ) (v : Value) → i < length vs → v ≡ get_or vs i v → (call : Call) → step_of limit (view v) ≡ Some call → (place : ℕ) → i + first_bad limit (items_view (drop i vs)) ≡ place → (i + 1) + first_bad limit (items_view (drop (i + 1) vs)) ≡ place
+is_later limit vs i v lt is call h place so_far =
+    let split : drop i vs ≡ v ∷ drop (i + 1) vs = rw (add-one, drop-cons vs i v) (ap (λ w. w ∷ drop (suc i) vs) (sym is)) in
+    let one : first_bad limit (items_view (drop i vs)) ≡ suc (first_bad limit (items_view (drop (i + 1) vs))) = rw (split, h) refl in
+    omega (arith, one, so_far)

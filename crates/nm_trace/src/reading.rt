@@ -116,21 +116,20 @@ fn put<A: Allocator + Copy + Send + Sync>(
     }
 }
 
-/// The calls that the steps of a list ask for, or the first fault. A run has at most so many entries. Each value is let go
-/// once it is read.
+/// The calls that the steps of a list ask for, or the first fault. A run has at most so many entries.
 fn calls_of<A: Allocator + Copy + Send + Sync>(
     alloc: A,
-    values: Vec<Value>,
+    values: &[Value],
     limit: usize,
 ) -> Result<Vec<Call<A>, A>, TraceError>
     requires { 0 < limit }
-    ensures { Gives (λ v. map call_of v.items) result (faults.calls_of limit (items_view values.items)) }
+    ensures { Gives (λ v. map call_of v.items) result (faults.calls_of limit (items_view values.now)) }
 {
     let mut calls = Vec::new(alloc);
-    for value in values {
-        let call = match step_of(alloc, &value, limit) {
+    for (k, value) in values.iter().enumerate() {
+        let call = match step_of(alloc, value, limit) {
             Ok(call) => call,
-            Err(StepError::Bad) => return Err(TraceError::BadStep(calls.len())),
+            Err(StepError::Bad) => return Err(TraceError::BadStep(k)),
             Err(StepError::Memory) => return Err(TraceError::HostMemory(0)),
         };
         put(&mut calls, call)?;
@@ -168,32 +167,26 @@ fn run_limit_of(value: &Value) -> Result<usize, TraceError>
     }
 }
 
-/// Takes the values of the steps out of a trace's value, or tells the fault of a top that has none.
-fn take_steps(value: &mut Value) -> Result<Vec<Value>, TraceError>
-    ensures values { Gives (λ v. items_view v.items) result (ok_or (form.items_at (codes "steps") (view value.old)) BadMachine) }
+/// The values of the steps of a trace, or the fault of a top that has none.
+fn values_of(value: &Value) -> Result<&Vec<Value>, TraceError>
+    ensures values { Gives (λ v. items_view v.now.items) result (ok_or (form.items_at (codes "steps") (view value.now)) BadMachine) }
     ensures bad { IfErr result (λ e. e ≡ BadMachine) }
 {
-    let Some(steps) = value.get_mut("steps") else {
-        return Err(TraceError::BadMachine);
-    };
-    match steps.take() {
-        Value::Array(values) => Ok(values),
-        _ => Err(TraceError::BadMachine),
-    }
+    list(value, "steps").map_err(bad_machine)
 }
 
 /// The trace that a value is, or the first fault.
 #[tactic(auto, unfolding(crate::specs::Faults::plan_of))]
 fn trace_of<A: Allocator + Copy + Send + Sync>(
     alloc: A,
-    mut value: Value,
+    value: &Value,
 ) -> Result<Trace<A>, TraceError>
-    ensures { Gives plan_in result (faults.plan_of (view value)) }
+    ensures { Gives plan_in result (faults.plan_of (view value.now)) }
 {
-    let geometry = geometry_of(alloc, &value)?;
-    let run_limit = run_limit_of(&value)?;
-    let steps = take_steps(&mut value)?;
-    let calls = calls_of(alloc, steps, run_limit)?;
+    let geometry = geometry_of(alloc, value)?;
+    let run_limit = run_limit_of(value)?;
+    let values = values_of(value)?;
+    let calls = calls_of(alloc, values.as_slice(), run_limit)?;
     Ok(Trace {
         geometry,
         run_limit,
@@ -218,8 +211,8 @@ fn value_of(heap: Global, bytes: &[u8]) -> Result<Value, TraceError>
 }
 
 /// The trace that bytes are, or the first fault: `NotJson`, then `BadMachine`, then `BadStep` of the first bad step.
-/// Every step is checked before one is made. The trace stands in the memory of `alloc`, and the JSON value, which is
-/// let go step by step as it is read, in that of `heap`.
+/// Every step is checked before one is made. The trace stands in the memory of `alloc`, and the JSON value, until this
+/// call returns, in that of `heap`.
 ///
 /// `HostMemory(0)` comes where one of the two was refused memory.
 #[tactic(auto, unfolding(crate::specs::Faults::trace_of))]
@@ -231,5 +224,5 @@ pub fn read_trace<A: Allocator + Copy + Send + Sync>(
     ensures { Gives plan_in result (faults.trace_of bytes.now) }
 {
     let value = value_of(heap, bytes)?;
-    trace_of(alloc, value)
+    trace_of(alloc, &value)
 }
