@@ -89,8 +89,6 @@ fn first_touches_with_full_nodes(rt: HostRuntime) -> Result<(), Fail> {
     let geometry = three(alloc)?;
     let all = set_of(&rt, &[0, 1, 2]);
     let home = NodeId::new(0);
-    let preferred = Policy::Preferred(NodeId::new(1));
-    let bound = Policy::Bind(set_of(&rt, &[1, 2]));
     for (policy, free, want) in [
         (
             Policy::Default,
@@ -98,10 +96,22 @@ fn first_touches_with_full_nodes(rt: HostRuntime) -> Result<(), Fail> {
             Some(NodeId::new(0)),
         ),
         (Policy::Default, [1, 2].as_slice(), Some(NodeId::new(2))),
-        (preferred, [0, 2].as_slice(), Some(NodeId::new(2))),
-        (preferred, [0].as_slice(), Some(NodeId::new(0))),
-        (bound, [0, 1].as_slice(), Some(NodeId::new(1))),
-        (bound, [0].as_slice(), None),
+        (
+            Policy::Preferred(NodeId::new(1)),
+            [0, 2].as_slice(),
+            Some(NodeId::new(2)),
+        ),
+        (
+            Policy::Preferred(NodeId::new(1)),
+            [0].as_slice(),
+            Some(NodeId::new(0)),
+        ),
+        (
+            Policy::Bind(set_of(&rt, &[1, 2])),
+            [0, 1].as_slice(),
+            Some(NodeId::new(1)),
+        ),
+        (Policy::Bind(set_of(&rt, &[1, 2])), [0].as_slice(), None),
     ] {
         let free = set_of(&rt, free);
         let found = first_touch_node(&geometry, all, free, home, all, policy, 0);
