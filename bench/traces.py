@@ -156,6 +156,12 @@ def numa_maps(pid=1):
     return '{"op":"numa_maps","pid":%d}' % pid
 
 
+def first_touches(size):
+    """So many times the 4,096 frames of 64 nodes are taken by first touches, node after node as each is full, and let go."""
+    round_ = [map_step(BASE, 4096)] + [write(BASE + PAGE * page) for page in range(4096)] + [unmap(BASE, 4096)]
+    return trace([64] * 64, round_ * size)
+
+
 def told_pages(size):
     """One area of 2^34 pages, of which so many thousand are touched, far from one another, and told 50 times."""
     steps = [map_step(0, 2**34)]
@@ -347,6 +353,7 @@ KINDS = {
     runs_of_all: 4,
     one_page: 8,
     long_batches: 2,
+    first_touches: 4,
     sparse_touches: 16,
     told_pages: 2,
     bound_pages: 2,
