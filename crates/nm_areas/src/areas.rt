@@ -1,12 +1,12 @@
 //! The areas of all processes.
 
-ghost use Rattle.std.specs.Prelude.{ℕ, OnOk, ◌≡◌, ◌≤◌, ◌<◌, ◌+◌, ◌/◌, ◌^◌, false, true, IfSome, IfNone, IfOk, option_map};
+ghost use Rattle.std.specs.Prelude.{ℕ, OnOk, ◌≡◌, ◌<◌, ◌+◌, ◌/◌, true, IfOk, option_map};
 ghost use Rattle.nm_types.specs.State.{Placed, area_over};
 ghost use Rattle.nm_types.specs.Does.{Makes};
 ghost use Rattle.nm_areas.specs.Effect.{no_areas, new_area, inserted, attached, over_with};
 ghost use Rattle.nm_areas.specs.Lines.{is_shared};
 ghost use Rattle.nm_areas.specs.Mapped.{IsMapped};
-ghost use Rattle.nm_areas.specs.Refused.{is_range, insert_refusal, stretch_refusal};
+ghost use Rattle.nm_areas.specs.Refused.{insert_refusal, stretch_refusal};
 
 use crate::area_table::{AreaTable, new_area};
 use crate::counting::{count_in, count_out};

@@ -6,7 +6,7 @@
 //! at the greatest one, which none reaches: there are fewer areas than 2^63.
 
 ghost use Rattle.std.specs.Option.{option_map};
-ghost use Rattle.std.specs.Prelude.{IfNone, IfSome, None, OnErr, OnOk, Some, ℕ, ◌+◌, ◌<◌, ◌^◌, ◌≡◌, ◌≤◌, if◌then◌else◌};
+ghost use Rattle.std.specs.Prelude.{None, OnErr, OnOk, Some, ℕ, ◌+◌, ◌<◌, ◌^◌, ◌≡◌, ◌≤◌, if◌then◌else◌};
 ghost use Rattle.nm_areas.specs.Coverage.{IsFlat, IsSteps, covers_of, ends_of};
 ghost use Rattle.nm_areas.specs.Removed.{page_in};
 ghost use Rattle.nm_areas.specs.Shifted.{shifted, shifted_in};

@@ -3,7 +3,7 @@
 ghost use Rattle.std.specs.List.{AllByRecursion};
 ghost use Rattle.std.specs.List.Sorted.{IsStrictlySortedBy};
 ghost use Rattle.std.specs.Map.{keys_of};
-ghost use Rattle.std.specs.Prelude.{IfNone, IfOk, IfSome, None, OnErr, OnOk, Some, length, ◌+◌, ◌/◌, ◌<◌, ◌≡◌};
+ghost use Rattle.std.specs.Prelude.{IfNone, IfOk, IfSome, None, OnErr, OnOk, Some, ◌+◌, ◌<◌, ◌≡◌};
 ghost use Rattle.nm_areas.specs.Mapped.{AreasAreApart, HasIndices, IsSomePages};
 ghost use Rattle.nm_areas.specs.Policy.{split_at};
 ghost use Rattle.nm_areas.specs.Table.{with_areas};

@@ -1,6 +1,6 @@
 //! The board.
 
-ghost use Rattle.std.specs.Prelude.{◌≡◌, ◌<◌, [], ◌∷◌, false, true, map, length, slice_get, Some, IfOk, IfErr, IfSome, IfNone};
+ghost use Rattle.std.specs.Prelude.{◌≡◌, ◌<◌, false, true, map, slice_get, Some, IfOk, IfErr, IfSome, IfNone};
 ghost use Rattle.nm_frames.specs.Job.{copied};
 ghost use Rattle.nm_board.specs.Tickets.{InTicketOrder};
 ghost use Rattle.nm_board.specs.Shown.{all_shares, without_ticket, Drew, HasEach, IsShort};
@@ -92,7 +92,8 @@ impl<A: Allocator + Copy> Board<A> {
     }
 
     /// Draws the job of the next ticket, which is above each ticket that the hand drew before. Where no job is left to
-    /// draw, it draws none, and the hand is past the end. It waits for no other thread and takes no memory.
+    /// draw, it draws none, and the hand is past the end. The hand is one of this board and not past the end. It waits for no
+    /// other thread and takes no memory.
     pub fn draw(&self, hand: &mut Hand<A>) -> Option<CopyJob<A>>
         requires own { hand.old.board ≡ self.now }
         requires open { hand.old.past_end ≡ false }

@@ -1,6 +1,6 @@
 //! The hands that draw from a board.
 
-ghost use Rattle.std.specs.Prelude.{◌≡◌, ◌<◌, ◌≤◌, [], true};
+ghost use Rattle.std.specs.Prelude.{◌≡◌, ◌<◌, [], true};
 ghost use Rattle.nm_board.specs.Shown.{without, split_off, joined, HasEach, HasNoneTwice};
 
 use crate::board::{Board, GIVEN};
@@ -31,8 +31,8 @@ impl<A: Allocator + Copy> Model for Hand<A> {
 }
 
 impl<A: Allocator + Copy> Hand<A> {
-    /// Splits off a new hand with so many of this one's shares. Each keeps at least one. The new one has drawn nothing,
-    /// and is past the end where this one is.
+    /// Splits off a new hand with so many of this one's shares, 1 to all but one. The new one has drawn nothing, and is past
+    /// the end where this one is.
     pub fn split(&mut self, board: &Board<A>, shares: u64) -> Hand<A>
         requires own { self.old.board ≡ board.now }
         requires some { 0 < shares }

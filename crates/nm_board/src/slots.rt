@@ -1,6 +1,6 @@
 //! Jobs on their way into the slots of a table and out of them.
 
-ghost use Rattle.std.specs.Prelude.{◌≡◌, ◌≤◌, map, length, vec_len, vec_capacity, List, IfOk, OnErr, Some};
+ghost use Rattle.std.specs.Prelude.{◌≡◌, ◌≤◌, map, vec_len, vec_capacity, List, IfOk, OnErr, Some};
 ghost use Rattle.std.specs.Mem.Slots.{slots_items, slots_len, IsFull};
 ghost use Rattle.nm_frames.specs.declared.job.CopyJob.{CopyJob};
 

@@ -6,7 +6,7 @@ use Rattle.std.specs.List.{AllByRecursion, filter, list_all}
 use Rattle.nm_types.specs.Layout.{node_count}
 use Rattle.nm_types.specs.Nodes.{is_in}
 use Rattle.nm_types.specs.State.{State}
-use Rattle.nm_calls.specs.Sets.{names_no_node, goes_beyond, usable, is_none}
+use Rattle.nm_calls.specs.Sets.{names_missing_node, goes_beyond, usable, is_none}
 
 -- a set goes beyond another one where it is not within it
 pub beyond_is : (allowed ns : List ℕ) → goes_beyond allowed ns ≡ not (list_all (is_in allowed) ns)
@@ -32,10 +32,10 @@ none_is [] e = refl
 none_is (n ∷ ns) e = let none : suc (length ns) ≡ 0 = eqb-true (suc (length ns)) 0 e in absurd (omega (arith, none))
 
 -- where a set names nodes of the machine alone, so does what is usable of it
-pub usable_nodes : (s : State) (allowed ns : List ℕ) → names_no_node s ns ≡ false → AllByRecursion (λ n. n < node_count s.layout) (usable s allowed ns)
+pub usable_nodes : (s : State) (allowed ns : List ℕ) → names_missing_node s ns ≡ false → AllByRecursion (λ n. n < node_count s.layout) (usable s allowed ns)
 usable_nodes s allowed [] h = tt
 usable_nodes s allowed (n ∷ ns) h =
-    let both = or_false (nat_le (node_count s.layout) n) (names_no_node s ns) h in
+    let both = or_false (nat_le (node_count s.layout) n) (names_missing_node s ns) h in
     let below : n < node_count s.layout = omega (arith, leb-false (node_count s.layout) n both.0) in
     let rest = usable_nodes s allowed ns both.1 in
     elim (is_in s.online n && is_in allowed n) as (λ b. AllByRecursion (λ n. n < node_count s.layout) (cond b (n ∷ usable s allowed ns) (usable s allowed ns))) [

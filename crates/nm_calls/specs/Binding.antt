@@ -27,7 +27,7 @@ use Rattle.nm_engine.specs.Refused.{first_error}
 use Rattle.nm_calls.specs.declared.binding.Binding.{Binding}
 use Rattle.nm_calls.specs.Permission.{moves_all, info_at}
 use Rattle.nm_calls.specs.Passes.{passes}
-use Rattle.nm_calls.specs.Sets.{names_no_node, usable, is_none}
+use Rattle.nm_calls.specs.Sets.{names_missing_node, usable, is_none}
 
 -- the modes by their numbers
 abbrev pub MPOL_DEFAULT : ℕ
@@ -75,7 +75,7 @@ is_misfit mode nodes =
 -- a mode that is unknown; nodes that do not fit it, or are none of the machine; none that can be used
 abbrev pub is_bad_set : State → List ℕ → ℕ → List ℕ → Bool
 is_bad_set s allowed mode nodes =
-    nat_le 5 mode || is_misfit mode nodes || names_no_node s nodes || (not (is_none nodes) && is_none (usable s allowed nodes))
+    nat_le 5 mode || is_misfit mode nodes || names_missing_node s nodes || (not (is_none nodes) && is_none (usable s allowed nodes))
 
 -- a flag that is unknown, or such a mode or set
 abbrev pub is_invalid : State → List ℕ → ℕ → List ℕ → ℕ → Bool

@@ -1,6 +1,6 @@
 //! The policy of a range, as `mbind(2)` sets it: what is refused, which pages move, and their runs.
 
-ghost use Rattle.std.specs.Prelude.{◌≡◌, ℕ, ◌+◌, ◌-◌, ◌^◌, ◌<◌, ◌≤◌, ◌&&◌, not, All, [], ◌∷◌, IfOk, IfSome, IfNone, IsSome, None, length, true};
+ghost use Rattle.std.specs.Prelude.{◌≡◌, ℕ, ◌+◌, ◌-◌, ◌^◌, ◌<◌, ◌≤◌, ◌&&◌, not, [], ◌∷◌, IfOk, IfSome, IfNone, None, length, true};
 ghost use Rattle.std.specs.List.{AllByRecursion, filter, list_any};
 ghost use Rattle.nm_types.specs.Layout.{node_count};
 ghost use Rattle.nm_types.specs.Nodes.{is_in};
@@ -10,7 +10,7 @@ ghost use Rattle.nm_runs.specs.declared.Wanted.TheVariants.{At};
 ghost use Rattle.nm_runs.specs.Targets.{Checks};
 ghost use Rattle.nm_areas.specs.Mapped.{Mapped};
 ghost use Rattle.nm_engine.specs.Effect.{with_areas_of};
-ghost use Rattle.nm_engine.specs.Policing.{pages_of, policy_refusal, set_policy};
+ghost use Rattle.nm_engine.specs.Policing.{policy_refusal, set_policy};
 ghost use Rattle.nm_calls.specs.Permission.{info_at};
 ghost use Rattle.nm_calls.specs.Passes.{passes};
 ghost use Rattle.nm_calls.specs.Sets.{usable};
@@ -414,7 +414,7 @@ fn is_bad_set<A: Allocator + Copy + Send + Sync>(
 ) -> bool
     ensures { result ≡ is_bad_set machine.now allowed mode nodes }
 {
-    if mode > MPOL_LOCAL || !fits(mode, nodes) || machine.names_no_node(nodes) {
+    if mode > MPOL_LOCAL || !fits(mode, nodes) || machine.names_missing_node(nodes) {
         return true;
     }
     nodes.len() != 0 && usable(machine, allowed, nodes).len() == 0

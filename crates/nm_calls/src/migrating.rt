@@ -78,7 +78,7 @@ pub(crate) fn migration_of<A: Allocator + Copy + Send + Sync>(
     let Some(asking) = machine.process(caller) else {
         return Err(Errno::Esrch);
     };
-    if machine.names_no_node(old) || machine.names_no_node(new) {
+    if machine.names_missing_node(old) || machine.names_missing_node(new) {
         return Err(Errno::Einval);
     }
     let owner = owner_of(caller, pid);

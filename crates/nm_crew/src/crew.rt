@@ -1,6 +1,6 @@
 //! Copying by a crew of workers.
 
-ghost use Rattle.std.specs.Prelude.{◌≡◌, ◌+◌, ◌<◌, ◌≤◌, [], map, true, false, vec_len, length};
+ghost use Rattle.std.specs.Prelude.{◌≡◌, ◌+◌, ◌<◌, ◌≤◌, map, vec_len};
 ghost use Rattle.std.specs.Thread.{IsSync, IsSend};
 ghost use Rattle.nm_frames.specs.Job.{copied};
 ghost use Rattle.nm_board.specs.Tickets.{InTicketOrder};
@@ -20,9 +20,11 @@ use std::sync::Wait;
 use std::thread;
 use std::thread::{Scope, Threads};
 
-/// Copies the jobs with so many workers and calls `work` beside them. The caller is worker 0: it starts the others,
-/// calls `work`, and then copies with them. Every job comes back, copied, in the order of its ticket, with the answer
-/// of `work`; where the host has no memory for it or starts no thread, those workers copy that there are.
+/// Copies the jobs with so many workers, 1 to 64, and calls `work` beside them. The jobs' tickets count up from 0 in the
+/// list's order. The caller is worker 0: it starts the others, calls `work` once, copies with them, and returns when their
+/// threads have ended. With fewer jobs than `gate` says that a second worker is worth, it copies alone. Every job comes
+/// back, copied, in the order of its ticket, with the answer of `work`; where the host has no memory for it or starts no
+/// thread, those workers copy that there are.
 pub fn copy_while<
     A: Allocator + Copy + Send + Sync,
     R: Threads + Wait + Sync,

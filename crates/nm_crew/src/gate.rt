@@ -6,7 +6,8 @@ const OPEN_FROM: usize = 1024;
 /// Is passed by each worker between its draw of a job and the copying of it, and by the caller before each access in
 /// flight. What a gate does changes no job.
 pub trait Gate {
-    /// The worker of this number drew the job of this ticket. It copies when this returns.
+    /// The worker of this number drew the job of this ticket. It copies when this returns. Worker 0 is the caller, and
+    /// tickets count from 0.
     fn pass(&self, worker: usize, ticket: u64);
 
     /// From how many jobs on a second worker is worth its start. With fewer, the caller copies alone.

@@ -1,6 +1,6 @@
 //! The workers, and what each of them does.
 
-ghost use Rattle.std.specs.Prelude.{◌≡◌, [], true, false};
+ghost use Rattle.std.specs.Prelude.{◌≡◌, []};
 ghost use Rattle.nm_crew.specs.Named.{named};
 ghost use Rattle.nm_crew.specs.Hands.{IsReady, IsOver};
 

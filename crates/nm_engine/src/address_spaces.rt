@@ -1,28 +1,23 @@
 //! The address spaces of all processes: page tables, areas, and who names each frame.
 
-ghost use Rattle.std.specs.Prelude.{ℕ, ◌≡◌, ◌<◌, ◌≤◌, ◌+◌, ◌-◌, ◌/◌, ◌^◌, [], nat_lt, length, Some, None, IsSome, IfSome, IfOk, IfErr, OnOk, OnErr};
+ghost use Rattle.std.specs.Prelude.{◌≡◌, ◌<◌, ◌≤◌, ◌+◌, ◌-◌, ◌^◌, length, Some, None, IsSome, IfSome, IfOk, IfErr, OnOk, OnErr};
 ghost use Rattle.std.specs.Option.{option_map};
-ghost use Rattle.std.specs.List.{filter, AllByRecursion};
-ghost use Rattle.std.specs.Map.{keys_of, values_of};
+ghost use Rattle.std.specs.List.{AllByRecursion};
+ghost use Rattle.std.specs.Map.{values_of};
 ghost use Rattle.std.specs.Ordering.{nat_cmp};
 ghost use Rattle.nm_types.specs.declared.page.Page.{Page};
 ghost use Rattle.nm_types.specs.declared.errno.Errno.TheVariants.{Ebusy, Einval};
 ghost use Rattle.nm_types.specs.declared.sight.Sight.TheVariants.{ZeroPage, Sees};
-ghost use Rattle.nm_types.specs.Map.{get, set, without, with_values, page_cmp};
-ghost use Rattle.nm_types.specs.State.{Process, Placed, State, area_over, page_at};
-ghost use Rattle.nm_types.specs.Does.{Makes};
-ghost use Rattle.nm_areas.specs.Effect.{inserted, attached, with_policy};
-ghost use Rattle.nm_areas.specs.Refused.{insert_refusal, stretch_refusal, range_refusal, remove_refusal};
-ghost use Rattle.nm_areas.specs.Removed.{frames_lost};
+ghost use Rattle.nm_types.specs.Map.{get, set, with_values, page_cmp};
+ghost use Rattle.nm_types.specs.State.{Process, Placed, area_over, page_at};
 ghost use Rattle.nm_areas.specs.Lines.{is_shared};
 ghost use Rattle.nm_runs.specs.Seen.{sight_in, look_in, look_at_place};
 ghost use Rattle.nm_runs.specs.Shown.{HasFrameBelow};
 ghost use Rattle.nm_engine.specs.Tables.{info_of, untouched};
 ghost use Rattle.nm_engine.specs.ProcessTable.{IsThere, remapped};
 ghost use Rattle.nm_engine.specs.Entries.{entry_of};
-ghost use Rattle.nm_engine.specs.Refused.{shows_pinned};
 ghost use Rattle.nm_engine.specs.Moves.{CanRemap, all_moved};
-ghost use Rattle.nm_engine.specs.AddressSpaces.{no_spaces, mapped_of, with_mapped, with_seen, with_new_page, with_moved, pins_here, with_pins_of, without_range};
+ghost use Rattle.nm_engine.specs.AddressSpaces.{no_spaces, with_seen, with_new_page, with_moved, pins_here, with_pins_of};
 
 mod areas;
 mod back;

@@ -2,7 +2,6 @@
 
 ghost use Rattle.std.specs.Prelude.{◌≡◌, ◌<◌, ◌≤◌, ◌==◌, ℕ, ◌++◌, length, map, nat_lt, IfOk, OnOk, slice_index_or};
 ghost use Rattle.std.specs.List.{list_all};
-ghost use Rattle.nm_types.specs.Layout.{frame_count};
 ghost use Rattle.nm_nodes.specs.Pool.{list_of};
 ghost use Rattle.nm_engine.specs.Sound.{times};
 ghost use Rattle.nm_engine.specs.Audited.{is_own, is_audited, numbered};

@@ -1,6 +1,6 @@
 //! The machine's frames: which are free, and what they hold.
 
-ghost use Rattle.std.specs.Prelude.{◌≡◌, ◌≢◌, ℕ, false, ◌+◌, ◌<◌, ◌≤◌, [], ◌∷◌, ◌++◌, map, length, vec_capacity, vec_len, Some, IfOk, OnOk, replicate, take, drop, slice_get, slice_set};
+ghost use Rattle.std.specs.Prelude.{◌≡◌, ℕ, false, ◌+◌, ◌<◌, ◌≤◌, [], ◌∷◌, ◌++◌, map, length, vec_capacity, vec_len, Some, IfOk, OnOk, replicate, take, drop, slice_get, slice_set};
 ghost use Rattle.nm_types.specs.Layout.{node_count, frame_count, node_of};
 ghost use Rattle.nm_types.specs.Nodes.{is_in};
 ghost use Rattle.nm_engine.specs.Touch.{has_free};

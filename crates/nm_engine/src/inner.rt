@@ -1,7 +1,6 @@
 //! The parts of a machine.
 
 ghost use Rattle.std.specs.Prelude.{◌≡◌, ◌≤◌, ◌<◌, [], IfOk};
-ghost use Rattle.nm_types.specs.Layout.{node_count};
 ghost use Rattle.nm_types.specs.Nodes.{up_from};
 ghost use Rattle.nm_engine.specs.Effect.{new_machine};
 

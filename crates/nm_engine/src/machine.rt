@@ -1,6 +1,6 @@
 //! The machine.
 
-ghost use Rattle.std.specs.Prelude.{◌≡◌, ◌<◌, ◌≤◌, ◌+◌, [], ◌∷◌, map, true, false, length, nat_le, IfOk, IfSome, IfNone, OnOk, OnErr, option_map, None};
+ghost use Rattle.std.specs.Prelude.{◌≡◌, ◌<◌, ◌≤◌, ◌+◌, [], ◌∷◌, map, true, length, nat_le, IfOk, IfSome, IfNone, OnOk, OnErr, option_map};
 ghost use Rattle.std.specs.List.{list_any};
 ghost use Rattle.std.specs.Ordering.{nat_cmp};
 ghost use Rattle.nm_types.specs.Map.{get, page_cmp};
@@ -112,10 +112,10 @@ impl<A: Allocator + Copy + Send + Sync> Machine<A> {
     }
 
     /// Whether a set has a node that the machine has not.
-    pub fn names_no_node(&self, nodes: NodeMask) -> bool
+    pub fn names_missing_node(&self, nodes: NodeMask) -> bool
         ensures { result ≡ list_any (nat_le (node_count self.now.layout)) nodes }
     {
-        self.inner.names_no_node(nodes)
+        self.inner.names_missing_node(nodes)
     }
 
     /// A node of the machine goes online, or offline, as often as it is asked for: pages stay where they are, and so do

@@ -1,6 +1,6 @@
 //! The bytes of one frame.
 
-ghost use Rattle.std.specs.Prelude.{◌≡◌, ◌+◌, ◌<◌, ◌≤◌, length, slice_index, replicate, IfOk};
+ghost use Rattle.std.specs.Prelude.{◌≡◌, ◌+◌, ◌<◌, ◌≤◌, length, replicate, IfOk};
 ghost use Rattle.nm_frames.specs.Store.{overwrite};
 
 use nm_types::limits::PAGE_BYTES;

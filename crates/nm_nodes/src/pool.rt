@@ -1,7 +1,7 @@
 //! The free frames of all nodes.
 
 ghost use Rattle.std.specs.Prelude.{◌≡◌, ◌<◌, ◌≤◌, ◌+◌, ◌++◌, false, length, sum, take, drop, slice_get, vec_len, vec_capacity, IfOk};
-ghost use Rattle.nm_types.specs.Layout.{Layout, owner};
+ghost use Rattle.nm_types.specs.Layout.{owner};
 ghost use Rattle.nm_types.specs.Nodes.{is_in};
 ghost use Rattle.nm_nodes.specs.Pool.{Pool, IsPool, list_of, new_pool, with_list, without_front, appended, prepended};
 ghost use Rattle.nm_nodes.specs.Lists.{sizes_of};
@@ -62,7 +62,7 @@ impl<A: Allocator + Copy> NodePool<A> {
         self.lists[node.index()].nth(k)
     }
 
-    /// Takes the front of the list of a node of the machine. None where the list is empty.
+    /// Takes the front of the list of a node of the machine. None where the list is empty. It takes no memory.
     pub fn take_front(&mut self, node: NodeId) -> Option<FrameId>
         requires { node < length self.old.lists }
         ensures front { result ≡ slice_get (list_of self.old node) 0 }
@@ -83,7 +83,7 @@ impl<A: Allocator + Copy> NodePool<A> {
         self.lists[node.index()].take_many(count, taken);
     }
 
-    /// Puts a frame of the machine that is not free at the end of its own node's list.
+    /// Puts a frame of the machine that is not free at the end of its own node's list. It takes no memory.
     pub fn append(&mut self, frame: FrameId)
         requires in_machine { frame < sum self.old.sizes }
         requires taken { is_in (list_of self.old (owner self.old.sizes frame)) frame ≡ false }

@@ -40,8 +40,9 @@ fn way(home: NodeId, allowed: NodeMask, policy: Policy, index: u64) -> (NodeId, 
 /// The nodes that a new page may take a frame from, first choice first. `index` is the page's place in its segment,
 /// `home` and `allowed` are the touching process's, and the policy is that of its area. DEFAULT and LOCAL go by
 /// distance from home, PREFERRED by distance from its node, and INTERLEAVE by distance from the node whose turn it is,
-/// all three over the allowed nodes. BIND goes over its own nodes alone, by distance from home. An error is want of
-/// memory.
+/// number (`index` mod how many they are) of its set, all three over the allowed nodes. BIND goes over its own nodes
+/// alone, by distance from home. As set_mempolicy(2) and mbind(2) have it; the orders are this project's own. An error is
+/// want of memory.
 pub fn first_touch_order<A: Allocator + Copy>(
     alloc: A,
     geometry: &Geometry<A>,

@@ -20,8 +20,8 @@ fn check_node(count: usize, online: NodeMask, allowed: NodeMask, node: NodeId) -
 }
 
 /// Whether pages of a process that may use the allowed nodes may go to these nodes, on a machine of so many nodes of
-/// which these are online. The first entry that is refused gives the error: ENODEV where there is no such node or it is
-/// offline, and then EACCES where it is not allowed.
+/// which these are online, as move_pages(2) asks it. The first entry that is refused gives the error: ENODEV where there is
+/// no such node or it is offline, and then EACCES where it is not allowed.
 pub fn check_batch(
     count: usize,
     online: NodeMask,

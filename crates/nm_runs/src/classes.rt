@@ -67,7 +67,8 @@ fn class_of<A: Allocator + Copy, V: PageView>(
 }
 
 /// What is to be done with each request of a run, in its order, by a look at what it names; the view shows frames of
-/// the machine alone. It looks on the calling thread. An error means that the host refused memory.
+/// the machine alone. It looks on the calling thread. An error means that the host refused memory. The target is a status
+/// as well, so its number is below 2^31.
 pub fn classify_here<A: Allocator + Copy, V: PageView>(
     alloc: A,
     geometry: &Geometry<A>,
@@ -86,7 +87,8 @@ pub fn classify_here<A: Allocator + Copy, V: PageView>(
 }
 
 /// What is to be done with each request of a run, in its order, by a look at what it names; the view shows frames of
-/// the machine alone. Several threads look where the run is long. An error means that the host refused memory.
+/// the machine alone. Several threads look from 8,192 requests on, at 4,096 each at least. An error means that the host
+/// refused memory. The target is a status as well, so its number is below 2^31.
 pub fn classify<R: Threads + Sync, A: Allocator + Copy + Send + Sync, V: PageView + Sync>(
     rt: &R,
     alloc: A,

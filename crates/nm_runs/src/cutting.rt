@@ -1,6 +1,6 @@
 //! A batch of requests as the runs that it is cut into.
 
-ghost use Rattle.std.specs.Prelude.{◌≡◌, ◌<◌, ◌≤◌, ◌==◌, IfOk, length, take, slice_index};
+ghost use Rattle.std.specs.Prelude.{◌≡◌, ◌<◌, ◌≤◌, ◌==◌, IfOk, length, slice_index};
 ghost use Rattle.std.specs.List.{take_while};
 ghost use Rattle.nm_runs.specs.Cut.{cut, stretches_of, wanted_of, same_front, IsFirst};
 ghost use Rattle.nm_runs.specs.Limit.{cut_within, run_count};

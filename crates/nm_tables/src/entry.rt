@@ -9,6 +9,7 @@ pub enum Entry {
     Zero,
     /// A page in this frame.
     Frame(FrameId),
-    /// A page that is on its way to this frame. No call but one in flight meets it.
+    /// A page that is on its way to this frame, as the run machine of the definitions has it. No call of a machine sets
+    /// one: what is held is asked of the run.
     Held(FrameId),
 }

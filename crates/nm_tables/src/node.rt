@@ -27,7 +27,7 @@ impl<T: Subtree<A>, A: Allocator + Copy> Node<T, A> {
 }
 
 impl<T: Subtree<A>, A: Allocator + Copy> Subtree<A> for Node<T, A> {
-    ghost use Rattle.std.specs.Prelude.{◌≡◌, ◌≤◌, ◌/◌, ℕ};
+    ghost use Rattle.std.specs.Prelude.{◌≡◌, ◌/◌};
     ghost use Rattle.std.specs.List.{AllByRecursion};
     ghost use Rattle.std.specs.Map.{keys_of};
     ghost use Rattle.nm_tables.specs.Tree.{joined};

@@ -1,8 +1,7 @@
 //! What calls answer, as the lines of their steps.
 
-ghost use Rattle.std.specs.Prelude.{◌≡◌, ◌++◌, ◌∷◌, OnOk, IfOk, string_bytes, map, decimal, codes};
+ghost use Rattle.std.specs.Prelude.{◌≡◌, ◌++◌, OnOk, string_bytes, map, decimal, codes};
 ghost use Rattle.std.specs.List.{flat_map};
-ghost use Rattle.nm_types.specs.Names.{name_of};
 ghost use Rattle.nm_calls.specs.Calls.{Refusal};
 ghost use Rattle.nm_calls.specs.Maps.{lines_shown};
 ghost use Rattle.nm_calls.specs.Outcome.{accesses_asked, shown};

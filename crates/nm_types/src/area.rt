@@ -13,7 +13,8 @@ pub enum Policy {
     Preferred(NodeId),
     /// MPOL_BIND: on these nodes alone, by distance from the home node.
     Bind(NodeMask),
-    /// MPOL_INTERLEAVE: by distance from one of these nodes, which take turns by the page's index in its segment.
+    /// MPOL_INTERLEAVE: by distance from one of these nodes, which take turns. For the page at place i of its segment it is
+    /// node number (i mod how many they are) of the set, counted upwards from 0.
     Interleave(NodeMask),
     /// MPOL_LOCAL: by distance from the process's home node.
     Local,

@@ -15,15 +15,15 @@ pub enum Errno {
     Enoent,
     /// ESRCH: no such process.
     Esrch,
-    /// EIO: a page does not follow the policy.
+    /// EIO: a page does not follow the policy that `mbind` sets.
     Eio,
-    /// ENOMEM: no free frame, or a limit of the machine.
+    /// ENOMEM: no frame is free where the page may go, or a limit of the machine is reached.
     Enomem,
     /// EACCES: the node is not allowed.
     Eacces,
-    /// EFAULT: no area there.
+    /// EFAULT: no area there, or only the page of zeros.
     Efault,
-    /// EBUSY: a page is pinned, or pinned as often as it can be.
+    /// EBUSY: a page is pinned, or pinned as often as it can be, or a node cannot go offline.
     Ebusy,
     /// ENODEV: no such node, or it is offline.
     Enodev,

@@ -21,5 +21,5 @@ pub const MAX_SEGMENTS: u32 = 65_536;
 /// The most pins that a page has.
 pub const MAX_PINS: u32 = 65_535;
 
-/// The most entries of a batch.
+/// The most requests of a batch of a trace, and the most that a run has.
 pub const MAX_BATCH: usize = 16_384;

@@ -9,7 +9,7 @@ ghost use Rattle.nm_engine.specs.Policing.{policy_refusal, set_policy};
 ghost use Rattle.nm_engine.specs.Refused.{attach_refusal, is_range, is_unknown, map_refusal, shows_pinned, unmap_refusal};
 ghost use Rattle.nm_types.specs.declared.errno.Errno.{Errno};
 ghost use Rattle.nm_types.specs.declared.errno.Errno.TheVariants.{Esrch};
-ghost use Rattle.std.specs.Prelude.{IfNone, IfOk, IfSome, Some, [], false, map, true, ◌+◌, ◌/◌, ◌<◌, ◌^◌, ◌≡◌, ◌≤◌};
+ghost use Rattle.std.specs.Prelude.{IfOk, Some, [], false, map, true, ◌+◌, ◌/◌, ◌<◌, ◌≡◌};
 
 use crate::frames::Frames;
 use crate::inner::Inner;

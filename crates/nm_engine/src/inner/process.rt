@@ -8,7 +8,7 @@ ghost use Rattle.nm_types.specs.Layout.{node_count};
 ghost use Rattle.nm_types.specs.declared.errno.Errno.{Errno};
 ghost use Rattle.nm_types.specs.declared.errno.Errno.TheVariants.{Esrch};
 ghost use Rattle.std.specs.List.{list_any};
-ghost use Rattle.std.specs.Prelude.{Some, [], false, nat_le, true, ◌+◌, ◌/◌, ◌<◌, ◌≡◌, ◌≤◌};
+ghost use Rattle.std.specs.Prelude.{Some, [], false, nat_le, true, ◌+◌, ◌<◌, ◌≡◌, ◌≤◌};
 
 use crate::inner::Inner;
 use crate::process::ProcessInfo;
@@ -32,7 +32,7 @@ fn has_beyond(nodes: NodeMask, count: usize) -> bool
 
 impl<A: Allocator + Copy> Inner<A> {
     /// Whether a set has a node that the machine has not.
-    pub(crate) fn names_no_node(&self, nodes: NodeMask) -> bool
+    pub(crate) fn names_missing_node(&self, nodes: NodeMask) -> bool
         ensures { result ≡ list_any (nat_le (node_count self.now.state.layout)) nodes }
     {
         has_beyond(nodes, self.frames.node_count())

@@ -3,7 +3,6 @@
 ghost use Rattle.nm_engine.specs.Asking.{node_status};
 ghost use Rattle.nm_engine.specs.Audited.{audited};
 ghost use Rattle.nm_engine.specs.Does.{AsksLast, Tells};
-ghost use Rattle.nm_engine.specs.Effect.{spawn};
 ghost use Rattle.nm_engine.specs.Entries.{entries_of};
 ghost use Rattle.nm_engine.specs.Refused.{entries_refusal, list_refusal};
 ghost use Rattle.nm_engine.specs.Sound.{IsSound};
@@ -14,9 +13,8 @@ ghost use Rattle.nm_types.specs.Nodes.{is_in};
 ghost use Rattle.nm_types.specs.State.{free_list};
 ghost use Rattle.nm_types.specs.declared.errno.Errno.{Errno};
 ghost use Rattle.nm_types.specs.declared.errno.Errno.TheVariants.{Esrch};
-ghost use Rattle.nm_types.specs.declared.sight.Sight.TheVariants.{Sees};
 ghost use Rattle.std.specs.Ordering.{nat_cmp};
-ghost use Rattle.std.specs.Prelude.{IfOk, Some, [], option_map, true, ◌+◌, ◌/◌, ◌<◌, ◌≡◌, ◌≤◌};
+ghost use Rattle.std.specs.Prelude.{IfOk, Some, [], option_map, true, ◌+◌, ◌<◌, ◌≡◌, ◌≤◌};
 
 use crate::inner::Inner;
 use crate::machine::Totals;

@@ -1,18 +1,14 @@
 //! Runs: pages that move to one node, one after another.
 
-ghost use Rattle.std.specs.Prelude.{◌≡◌, ◌+◌, ◌<◌, ◌≤◌, ◌^◌, [], ◌∷◌, ◌++◌, map, length, Some, IfOk, OnOk, vec_len, vec_capacity};
+ghost use Rattle.std.specs.Prelude.{◌≡◌, ◌+◌, ◌<◌, ◌≤◌, ◌^◌, [], map, length, IfOk, OnOk, vec_len, vec_capacity};
 ghost use Rattle.std.specs.List.{AllByRecursion};
-ghost use Rattle.std.specs.Bool.{OnTrue, OnFalse};
 ghost use Rattle.nm_types.specs.Layout.{node_count};
-ghost use Rattle.nm_types.specs.Map.{get, page_cmp};
-ghost use Rattle.nm_types.specs.State.{free_list};
-ghost use Rattle.nm_runs.specs.declared.Class.TheVariants.{Move};
 ghost use Rattle.nm_runs.specs.Shown.{class_shown, ShowsItsFrames};
 ghost use Rattle.nm_engine.specs.Laws.{with_moves};
 ghost use Rattle.nm_engine.specs.Moves.{CanMove, IsPlanOf};
-ghost use Rattle.nm_engine.specs.Run.{decided, left, HasOneAll, with_all_free, failures, counted};
+ghost use Rattle.nm_engine.specs.Run.{left, HasOneAll, with_all_free, failures, counted};
 ghost use Rattle.nm_engine.specs.Sound.{IsSound};
-ghost use Rattle.nm_engine.specs.Early.{without_fronts, with_fronts, tos, all_made, IsDue};
+ghost use Rattle.nm_engine.specs.Early.{with_fronts, tos, all_made, IsDue};
 ghost use Rattle.nm_engine.specs.Answering.{answer_shown, due_shown, HasRoom};
 
 use crate::answered::AccessAnswer;
