@@ -85,6 +85,9 @@ def main():
     unknown = set(given.kinds) - {kind.__name__ for kind in traces.KINDS}
     if unknown:
         words.error("no kind of trace: " + ", ".join(sorted(unknown)))
+    for program in filter(None, (PROGRAM, given.against)):
+        if not os.access(program, os.X_OK):
+            words.error("there is no program %s" % program)
     kinds = [kind for kind in traces.KINDS if not given.kinds or kind.__name__ in given.kinds]
     if given.against:
         compare(os.path.abspath(given.against), kinds)

@@ -8,6 +8,7 @@ import sys
 import tempfile
 import time
 
+import traces
 from run import PROGRAM, make_trace
 
 SIZES = {"to_and_fro": 32, "small_steps": 100, "many_runs": 16, "shared_moves": 200}
@@ -23,6 +24,11 @@ def run_once(path, workers):
 
 
 def main():
+    unknown = set(sys.argv[1:]) - {kind.__name__ for kind in traces.KINDS}
+    if unknown:
+        sys.exit("bench/workers.py: no kind of trace: " + ", ".join(sorted(unknown)))
+    if not os.access(PROGRAM, os.X_OK):
+        sys.exit("bench/workers.py: there is no program yet: ./build makes it")
     print("| Trace | Size | 1 worker | 2 workers | 4 workers | 4 as fast as 1 |")
     print("|---|---|---|---|---|---|")
     with tempfile.TemporaryDirectory() as folder:

@@ -7,6 +7,7 @@ cd "$(dirname "$0")/.."
 [ $# -gt 0 ] || set -- $(ls tests/edits)
 room=$(mktemp -d)
 trap 'rm -rf "$room"' EXIT
+trap 'exit 130' HUP INT TERM
 cp -a crates crates.txt HANDLES "$room/"
 for crate in "$@"; do
     rm -rf "$room/crates/$crate/must-fail"

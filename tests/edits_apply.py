@@ -1,7 +1,7 @@
 #!/usr/bin/env python3
-"""Whether each edit of tests/edits can be applied to the sources as they stand: every text that it replaces stands once in
-its file. So an edit that the gate leaves out is mended with the code that it speaks of. Prints those that cannot, and
-then ends with status 1."""
+"""Whether each edit of must-fail/ and of tests/edits can be applied to the sources as they stand: every text that it replaces
+stands once in its file. So an edit is mended with the code that it speaks of: one that cannot be applied fails no `rt ci`, and
+the gate leaves out those of tests/edits. Prints those that cannot, and then ends with status 1."""
 import glob
 import os
 import sys
@@ -37,8 +37,8 @@ def fault(path, crate):
 
 
 bad = 0
-for path in sorted(glob.glob("tests/edits/*/*.edit")):
-    why = fault(path, path.split(os.sep)[2])
+for path in sorted(glob.glob("tests/edits/*/*.edit") + glob.glob("crates/*/must-fail/*.edit")):
+    why = fault(path, path.split(os.sep)[2 if path.startswith("tests") else 1])
     if why:
         print(f"{path}: {why}")
         bad = 1

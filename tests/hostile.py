@@ -77,7 +77,7 @@ def is_report(out, steps):
     at = 0
     for k, step in enumerate(steps):
         words = lines[at].split(" ") if at < len(lines) else []
-        if words[:2] != [str(k), step["op"]]:
+        if len(words) < 3 or words[:2] != [str(k), step["op"]]:
             return False
         at += 1
         if step["op"] == "numa_maps" and words[2] != "error":
@@ -655,15 +655,18 @@ def check_table(_):
     check_bad()
 
 
+PARTS = ("table and streams", "fronts", "edges", "greatest", "mutated")
+
+
 def parts():
     """Each part: its name, its checks, and how many of them one process makes."""
     fronts = [(check_front, length) for length in range(len(FIRST))]
     great = [(check_great, make) for make in (whole_nodes, whole_batches, whole_flight, whole_table)]
-    yield "table and streams", [(check_table, None), (check_streams, None), (check_memory, None)], 1
-    yield "fronts", fronts, None
-    yield "edges", [(check_edge, trace) for trace in edges()], None
-    yield "greatest", great + [(check_long, shape) for shape in LONG] + [(check_heavy, shape) for shape in HEAVY], 1
-    yield "mutated", [(check_mutated, number) for number in range(MUTATED)], None
+    yield PARTS[0], [(check_table, None), (check_streams, None), (check_memory, None)], 1
+    yield PARTS[1], fronts, None
+    yield PARTS[2], [(check_edge, trace) for trace in edges()], None
+    yield PARTS[3], great + [(check_long, shape) for shape in LONG] + [(check_heavy, shape) for shape in HEAVY], 1
+    yield PARTS[4], [(check_mutated, number) for number in range(MUTATED)], None
 
 
 def run_part(name, checks, most):
@@ -685,7 +688,7 @@ def main():
     words.add_argument("program", nargs="?", default=PROGRAM)
     words.add_argument("--times", action="store_true", help="tell what each part took")
     words.add_argument("--trace", type=int, help="write the mutated trace of this number, and play none")
-    words.add_argument("--part", help="make this part alone")
+    words.add_argument("--part", choices=PARTS, help="make this part alone")
     asked = words.parse_args()
     traces = sorted(glob.glob(os.path.join(ROOT, "examples/*.json")) + glob.glob(os.path.join(ROOT, "tests/traces/*.json")))
     SETTINGS["program"] = os.path.abspath(asked.program)

@@ -1,9 +1,11 @@
 #!/bin/sh
-# The script `numatrace` over a program that stands in for the built one: words, streams and status are handed on.
+# The scripts `numatrace` and `build`, over a program and a toolchain that stand in for the real ones: words, streams and status are
+# handed on, and what was proved is kept.
 set -eu
 cd "$(dirname "$0")/.."
 there=$(mktemp -d)
 trap 'rm -rf "$there"' EXIT
+trap 'exit 130' HUP INT TERM
 fail() {
     echo "tests/scripts.sh: $1" >&2
     exit 1
@@ -22,7 +24,7 @@ printf -- '--one;two words;;in\000put' | cmp -s - "$there/out" || fail "words or
 [ "$(cat "$there/err")" = err ] || fail "standard error is not the program's alone"
 
 # Where a source is newer it says so, and starts the program all the same.
-touch -d '+1 hour' "$there/crates/numatrace/src/main.rt"
+touch -t 209901010000 "$there/crates/numatrace/src/main.rt"
 status=0
 "$there/numatrace" < /dev/null > "$there/out" 2> "$there/err" || status=$?
 [ "$status" = 4 ] || fail "an old program is not started"
@@ -41,3 +43,19 @@ printf -- '--one;input' | cmp -s - "$there/out" || fail "the first call's words 
 grep -q 'unproved try -- --one' "$there/err" || fail "the first call shows no report of an unproved build"
 grep -q '^input' "$there/err" || fail "the unproved build does not get the trace"
 ! grep -q 'noise' "$there/err" || fail "the toolchain's own lines are shown"
+
+# A build brings back what it proved, also where a proof fails, says so, and leaves no lock. Two do not work at a time.
+mkdir "$there/clone"
+cp -R build crates.txt HANDLES "$there/clone/"
+for crate in crates/*/; do mkdir -p "$there/clone/$crate/src" "$there/clone/$crate/out"; done
+printf '#!/bin/sh\nexit 1\n' > "$there/bin/rt"
+status=0
+PATH="$there/bin:$PATH" "$there/clone/build" 2> "$there/err" || status=$?
+[ "$status" = 1 ] || fail "a build that fails ends with $status"
+grep -q 'not proved: crates/build.log says why' "$there/err" || fail "a build that fails does not say why"
+for crate in crates/*/; do [ -d "$there/clone/$crate/out" ] || fail "a build that fails loses what was proved of $crate"; done
+mkdir "$there/clone/crates/build.lock" || fail "a build that fails leaves its lock"
+status=0
+PATH="$there/bin:$PATH" "$there/clone/build" 2> "$there/err" || status=$?
+[ "$status" = 1 ] || fail "two builds work at a time"
+grep -q 'another build' "$there/err" || fail "a second build does not say why it ends"

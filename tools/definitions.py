@@ -88,8 +88,10 @@ def faults(text, names):
 
 
 def main():
+    if sys.argv[1:] not in ([], ["--check"]):
+        sys.exit("tools/definitions.py: no word but --check is known")
     text, names = listed()
-    if sys.argv[1:] == ["--check"]:
+    if sys.argv[1:]:
         said = list(faults(text, names))
         print("\n".join(said), end="\n" if said else "")
         return 1 if said else 0

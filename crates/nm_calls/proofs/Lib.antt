@@ -4,7 +4,6 @@ pub mod Places
 pub mod Meanwhile
 pub mod Lengths
 pub mod Stretches
-pub mod Targets
 pub mod Requests
 pub mod Outcomes
 pub mod Trails

@@ -1,10 +1,9 @@
 //! A batch of pages to be moved: whether they may go there, and its runs, one after another, with the accesses that are made
 //! meanwhile.
 
-ghost use Rattle.std.specs.Prelude.{◌≡◌, ℕ, ◌<◌, ◌≤◌, ◌/◌, ◌&&◌, nat_lt, [], All, EachIndex, IfOk, OnOk, length, slice_index, vec_capacity, map};
+ghost use Rattle.std.specs.Prelude.{◌≡◌, ◌<◌, ◌≤◌, ◌/◌, [], All, EachIndex, IfOk, OnOk, length, slice_index, vec_capacity, map};
 ghost use Rattle.std.specs.List.{sum_by};
 ghost use Rattle.nm_types.specs.Layout.{node_count};
-ghost use Rattle.nm_types.specs.Nodes.{is_in};
 ghost use Rattle.nm_runs.specs.declared.Wanted.TheVariants.{At};
 ghost use Rattle.nm_runs.specs.Cut.{stretches_of};
 ghost use Rattle.nm_runs.specs.Limit.{cut_within, run_count};
@@ -26,20 +25,6 @@ use std::sync::Wait;
 use std::thread::Threads;
 use std::vec;
 
-/// The nodes of the machine that are online.
-fn online_nodes<A: Allocator + Copy + Send + Sync>(machine: &Machine<A>) -> NodeMask
-    ensures { (node : ℕ) → is_in result node ≡ (nat_lt node (node_count (machine.now.layout)) && is_in machine.now.online node) }
-{
-    let mut nodes = NodeMask::new();
-    for number in 0..machine.node_count() {
-        let node = NodeId::new(number as u32);
-        if machine.is_online(node) {
-            nodes.insert(node);
-        }
-    }
-    nodes
-}
-
 /// Whether the pages of a process that may use the allowed nodes may go to these nodes; else the refusal of the first
 /// entry that is refused: ENODEV where there is no such node or it is offline, and then EACCES where it is not allowed.
 pub(crate) fn check_targets<A: Allocator + Copy + Send + Sync>(
@@ -50,7 +35,7 @@ pub(crate) fn check_targets<A: Allocator + Copy + Send + Sync>(
     ensures nodes { OnOk result (EachIndex nodes.now (λ k. slice_index nodes.now k < node_count (machine.now.layout))) }
     ensures exact { Checks result (first_refusal (node_count (machine.now.layout)) machine.now.online allowed nodes.now) }
 {
-    check_batch(machine.node_count(), online_nodes(machine), allowed, nodes)
+    check_batch(machine.node_count(), machine.online(), allowed, nodes)
 }
 
 /// The request for the page of a process at an address.

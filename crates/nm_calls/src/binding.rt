@@ -19,6 +19,7 @@ ghost use Rattle.nm_calls.specs.Making.{runs_in, CanGo, nodes_named, MakesRuns, 
 
 use crate::call_error::CallError;
 use crate::passes::{later, make_batch, make_passes};
+use crate::permission::usable;
 use nm_crew::Gate;
 use nm_engine::{Located, Machine, ProcessInfo};
 use nm_policy::{Sent, Stray, first_touch_order, follows, mbind_targets};
@@ -30,7 +31,7 @@ use std::collections::BTreeSet;
 use std::sync::Wait;
 use std::thread::Threads;
 
-/// The modes of `mbind(2)` by their numbers.
+// The modes of `mbind(2)` by their numbers.
 const MPOL_DEFAULT: u32 = 0;
 
 const MPOL_PREFERRED: u32 = 1;
@@ -390,18 +391,6 @@ pub(crate) struct Asked {
     pub(crate) home: NodeId,
     /// The flags.
     pub(crate) flags: MoveFlags,
-}
-
-/// What is online of a set, and may be used by a process.
-#[tactic(auto, using(crate::proofs::Reach::usable_is))]
-fn usable<A: Allocator + Copy + Send + Sync>(
-    machine: &Machine<A>,
-    allowed: NodeMask,
-    nodes: NodeMask,
-) -> NodeMask
-    ensures { result ≡ usable machine.now allowed nodes }
-{
-    nodes.intersection(machine.online()).intersection(allowed)
 }
 
 /// Whether a mode is unknown, or nodes do not fit it, or one of them is none of the machine, or none of them is online and

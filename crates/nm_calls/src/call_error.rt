@@ -12,10 +12,11 @@ use thiserror::Error;
 /// Why a call did not answer.
 #[derive(Clone, Copy, Debug, PartialEq, Eq, Error)]
 pub enum CallError {
-    /// The machine refuses the call, which changed nothing.
+    /// A rule of the machine refuses the call, which changed nothing. Two calls are refused after their moves, which stay:
+    /// `mbind` with EIO where it moves pages, and `offline` with EBUSY where a page stays.
     #[error("{0}")]
     Refused(Errno),
-    /// The host refused memory. The machine is as the first runs of the call left it.
+    /// The host refused memory. The machine is as the first runs of the call left it, with the policy set or not.
     #[error("host memory refused after {runs} runs")]
     HostMemory {
         /// How many runs of the call were made.

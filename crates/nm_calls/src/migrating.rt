@@ -15,7 +15,7 @@ use crate::batch::move_runs;
 use crate::call::{InFlight, Moved};
 use crate::call_error::CallError;
 use crate::listing::migrate_list;
-use crate::permission::{acted_on, owner_of};
+use crate::permission::{acted_on, owner_of, usable};
 use nm_crew::Gate;
 use nm_engine::{Machine, ProcessInfo};
 use nm_policy::pairs;
@@ -38,7 +38,7 @@ pub(crate) struct Migration {
 
 /// The nodes to which the pages of a process may go, of those that a caller names. EPERM (one that the process may not
 /// use, without privilege); EINVAL (none that is online and may be used).
-#[tactic(auto, using(crate::proofs::Reach::beyond_is, crate::proofs::Reach::usable_is, crate::proofs::Reach::none_is))]
+#[tactic(auto, using(crate::proofs::Reach::beyond_is, crate::proofs::Reach::none_is))]
 fn targets_of<A: Allocator + Copy + Send + Sync>(
     machine: &Machine<A>,
     privileged: bool,
@@ -51,9 +51,7 @@ fn targets_of<A: Allocator + Copy + Send + Sync>(
     if !new.is_subset(asked.allowed) && !privileged {
         return Err(Errno::Eperm);
     }
-    let targets = new
-        .intersection(machine.online())
-        .intersection(asked.allowed);
+    let targets = usable(machine, asked.allowed, new);
     if targets.is_empty() {
         return Err(Errno::Einval);
     }
@@ -92,9 +90,9 @@ pub(crate) fn migration_of<A: Allocator + Copy + Send + Sync>(
     })
 }
 
-/// Moves the pages of a process from nodes to nodes, run after run, none of more entries than the limit, by so many
-/// workers. The list of pages and all that is asked for is made before the first run starts. An error means that the host refused memory after
-/// so many runs.
+/// Moves the pages of a process from nodes to nodes, run after run, none of more requests than the limit, by so many
+/// workers. The list of pages and all that is asked for is made before the first run starts. An error means that the host
+/// refused memory after so many runs.
 #[tactic(auto, using(crate::proofs::Trails::first_state))]
 pub(crate) fn migrate<R: Threads + Wait + Sync, A: Allocator + Copy + Send + Sync, G: Gate + Sync>(
     rt: &R,

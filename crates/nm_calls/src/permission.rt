@@ -4,6 +4,7 @@ ghost use Rattle.std.specs.Prelude.{◌≡◌, IfOk, Some};
 ghost use Rattle.nm_runs.specs.Targets.{Checks};
 ghost use Rattle.nm_calls.specs.Permission.{flags_refusal, moves_all, owner_of, query_refusal, right_refusal};
 ghost use Rattle.nm_calls.specs.Batch.{allowed_at};
+ghost use Rattle.nm_calls.specs.Sets.{usable};
 
 use nm_engine::{Machine, ProcessInfo};
 use nm_types::{Errno, MoveFlags, NodeMask, Pid};
@@ -65,6 +66,18 @@ pub(crate) fn acted_on(
         return Err(Errno::Eperm);
     }
     Ok(asked)
+}
+
+/// What is online of a set, and may be used by a process.
+#[tactic(auto, using(crate::proofs::Reach::usable_is))]
+pub(crate) fn usable<A: Allocator + Copy + Send + Sync>(
+    machine: &Machine<A>,
+    allowed: NodeMask,
+    nodes: NodeMask,
+) -> NodeMask
+    ensures { result ≡ usable machine.now allowed nodes }
+{
+    nodes.intersection(machine.online()).intersection(allowed)
 }
 
 /// What a caller may do with the pages of a process, where pid 0 is the caller. ESRCH (no such caller); EINVAL (a flag

@@ -1,4 +1,4 @@
-//! The machine, and the calls that processes make on it.
+//! A system: a machine, its limit on runs and its workers, and the calls that processes make on it.
 
 ghost use Rattle.std.specs.Prelude.{◌≡◌, ◌<◌, ◌≤◌, true, [], IfOk, length, map};
 ghost use Rattle.nm_engine.specs.Audited.{audited};
@@ -219,9 +219,15 @@ impl<A: Allocator + Copy + Send + Sync> System<A> {
         Ok(self.machine.write(pid, addr, bytes)?)
     }
 
-    /// Moves pages, each named by an address in it, to the node of the same place in the list. Pid 0 is the caller. Flags
-    /// 0 act as MPOL_MF_MOVE (2): a page that another process sees stays; with MPOL_MF_MOVE_ALL (4) it moves. The list is
-    /// cut into its longest stretches of one target, and each is a run, or several where it is longer than the limit.
+    /// Moves pages, each named by an address in it, to the node of the same place in the list, as move_pages(2). `nodes` is
+    /// as long as `pages`. Pid 0 is the caller. Flags 0 act as MPOL_MF_MOVE (2): a page that another process sees stays;
+    /// with MPOL_MF_MOVE_ALL (4) it moves. The list is cut into its longest stretches of one target, and each is a run, or
+    /// several where it is longer than the limit.
+    ///
+    /// The status of an entry is the first that holds: -14 (EFAULT) no area; -2 (ENOENT) nothing was touched there; -14 the
+    /// page of zeros; the target's number, if the page is there; -13 (EACCES) another process sees it, without
+    /// MPOL_MF_MOVE_ALL; -16 (EBUSY) it is pinned; -12 (ENOMEM) the target has no free frame; and the target's number, where
+    /// the page moves. -16 and -12 count as failed. A frame that a run leaves is free when the run ends.
     ///
     /// The accesses of `during` are made meanwhile, each in the run of its number, from 0: those of a run in their order,
     /// once its frames are reserved and before those that its pages left are free. One that comes to a page which its run
@@ -229,8 +235,8 @@ impl<A: Allocator + Copy + Send + Sync> System<A> {
     /// Held comes after ESRCH, EINVAL and EFAULT, and before ENOMEM. Any other does and answers what `read` or `write`
     /// does.
     ///
-    /// Answers the status of each entry, how many entries failed, and the answers to the accesses in the order of `during`.
-    /// An access of a run that the call does not make has none: `run_count` tells how many runs there are.
+    /// Answers the statuses in the list's order, how many entries failed, and the answers to the accesses in the order of
+    /// `during`. An access of a run that the call does not make has none: `run_count` tells how many runs there are.
     ///
     /// Refusals in order, each before anything moves: ESRCH (unknown caller); EINVAL (a flag other than the two); EPERM
     /// (MPOL_MF_MOVE_ALL without privilege); ESRCH (no such process); EPERM (a process of another user, without
@@ -275,13 +281,13 @@ impl<A: Allocator + Copy + Send + Sync> System<A> {
         )
     }
 
-    /// Moves the pages that a process sees on the nodes of `old` to those of `new` that are online and that it may use, and
-    /// answers how many of them failed, for a pin or for want of a free frame. Pid 0 is the caller. Each node of `old` is
-    /// paired with one of those, which take turns upwards; a node keeps its pages if it is its own target, or if the sets
-    /// differ in size and it is in the new one. The pages are listed before the first moves, each once and at its lowest
-    /// address: by pair, so that a chain of nodes is emptied from its end, and then by address. Each stretch of the list
-    /// with one target is a run, or several where it is longer than the limit. A page that another process sees stays, and
-    /// is no failure; a privileged caller moves it.
+    /// Moves the pages that a process sees on the nodes of `old` to those of `new` that are online and that it may use, as
+    /// migrate_pages(2), and answers how many of them failed, for a pin or for want of a free frame. Pid 0 is the caller.
+    /// Each node of `old` is paired with one of those, which take turns upwards; a node keeps its pages if it is its own
+    /// target, or if the sets differ in size and it is in the new one. The pages are listed before the first moves, each
+    /// once and at its lowest address: by pair, so that a chain of nodes is emptied from its end, and then by address. Each
+    /// stretch of the list with one target is a run, or several where it is longer than the limit. A page that another
+    /// process sees stays, and is no failure; a privileged caller moves it.
     ///
     /// Refusals in order, each before anything moves: ESRCH (unknown caller); EINVAL (a node that is none of the machine);
     /// ESRCH (no such process); EPERM (a process of another user, without privilege); EPERM (a node of `new` that the
@@ -315,9 +321,10 @@ impl<A: Allocator + Copy + Send + Sync> System<A> {
         Ok(moved.failed)
     }
 
-    /// Sets where the new pages of `len` bytes of the caller from an address on are placed, rounded up to whole pages. The
-    /// set that is kept is what is online and allowed of `nodes`; MPOL_PREFERRED keeps its lowest node, and is as MPOL_LOCAL
-    /// without nodes. The areas are split at both ends of the range, and never merged. With MPOL_MF_MOVE (2) or
+    /// Sets where the new pages of `len` bytes of the caller from an address on are placed, rounded up to whole pages, as
+    /// mbind(2). The modes are MPOL_DEFAULT (0), MPOL_PREFERRED (1), MPOL_BIND (2), MPOL_INTERLEAVE (3) and MPOL_LOCAL (4).
+    /// The set that is kept is what is online and allowed of `nodes`; MPOL_PREFERRED keeps its lowest node, and is as
+    /// MPOL_LOCAL without nodes. The areas are split at both ends of the range, and never merged. With MPOL_MF_MOVE (2) or
     /// MPOL_MF_MOVE_ALL (4) the pages that the caller sees in the range and that are not where the policy wants them are
     /// listed, each once and at its lowest address, and move: for MPOL_PREFERRED to its node; for MPOL_INTERLEAVE each to
     /// the node whose turn it is by the page's index in its segment, by node and then by address; for MPOL_BIND in passes
@@ -327,12 +334,12 @@ impl<A: Allocator + Copy + Send + Sync> System<A> {
     ///
     /// Refusals in order: ESRCH (unknown caller); EINVAL (a flag beyond 7; an unknown mode; nodes with MPOL_DEFAULT or
     /// MPOL_LOCAL, or none with MPOL_BIND or MPOL_INTERLEAVE; a node that is none of the machine; nodes of which none is
-    /// online and allowed); EPERM (MPOL_MF_MOVE_ALL without privilege); EINVAL (an address in mid-page, or a range that ends
-    /// past 2^64 - 1); then a `len` of 0 changes nothing; EFAULT (a page of the range without an area); EIO (MPOL_MF_STRICT
-    /// (1) alone, and a page that the caller sees in the range is not where the policy wants it). Each changes nothing. With
-    /// MPOL_MF_STRICT and a flag to move EIO is answered where a listed page is not where the policy wants it after the
-    /// moves: policy and moves stay. `HostMemory { runs, policy_set }` leaves the first runs made, and the policy set where
-    /// it says so.
+    /// online and allowed); EPERM (MPOL_MF_MOVE_ALL without privilege); EINVAL (an address in mid-page, or `addr` plus
+    /// `len` rounded up to whole pages is over 2^64 - 1); then a `len` of 0 changes nothing; EFAULT (a page of the range
+    /// without an area); EIO (MPOL_MF_STRICT (1) alone, and a page that the caller sees in the range is not where the
+    /// policy wants it). Each changes nothing. With MPOL_MF_STRICT and a flag to move EIO is answered where a listed page
+    /// is not where the policy wants it after the moves: policy and moves stay. `HostMemory { runs, policy_set }` leaves
+    /// the first runs made, and the policy set where it says so.
     #[tactic(auto, unfolding(crate::specs::Outcome::refused, crate::specs::Outcome::refused_at_once, crate::specs::Outcome::ended, crate::specs::Outcome::runs_asked, crate::specs::Outcome::start, crate::specs::Outcome::sets_policy, crate::specs::Outcome::accesses_asked), using(crate::proofs::Outcomes::answers, crate::proofs::Outcomes::refuses, crate::proofs::Outcomes::unchanged))]
     pub fn mbind<R: Threads + Wait + Sync, G: Gate + Sync>(
         &mut self,
@@ -412,9 +419,9 @@ impl<A: Allocator + Copy + Send + Sync> System<A> {
         Ok(())
     }
 
-    /// Where pages are, each named by an address in it: the number of its node, -14 (EFAULT) without an area or for the
-    /// page of zeros, -2 (ENOENT) where nothing was touched. Pid 0 is the caller. Refusals as for `move_pages`, but for
-    /// those of entries: ESRCH, EINVAL, EPERM, ESRCH, EPERM.
+    /// Where pages are, each named by an address in it, as move_pages(2) without nodes: the number of its node, -14
+    /// (EFAULT) without an area or for the page of zeros, -2 (ENOENT) where nothing was touched. Pid 0 is the caller.
+    /// Refusals as for `move_pages`, but for those of entries: ESRCH, EINVAL, EPERM, ESRCH, EPERM.
     #[tactic(auto, unfolding(crate::specs::Outcome::refused, crate::specs::Outcome::refused_at_once, crate::specs::Outcome::ended, crate::specs::Outcome::runs_asked, crate::specs::Outcome::start, crate::specs::Outcome::sets_policy, crate::specs::Outcome::accesses_asked), using(crate::proofs::Outcomes::answers, crate::proofs::Outcomes::refuses, crate::proofs::Outcomes::unchanged))]
     pub fn query(
         &self,

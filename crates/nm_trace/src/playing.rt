@@ -25,7 +25,7 @@ pub struct Summary {
     pub steps: usize,
 }
 
-/// Writes lines whole, or a front of them and a fault: the writer failed, or took no byte.
+/// Writes lines whole, or a prefix of them and a fault: the writer failed, or took no byte.
 fn write_lines<W: Write>(writer: &mut W, lines: &[u8]) -> Result<(), TraceError>
     ensures whole { OnOk result (Appends (W.contents writer.old) (W.contents writer.new) lines.now) }
     ensures broken { OnErr result (BreaksOff (W.contents writer.old) (W.contents writer.new) lines.now) }

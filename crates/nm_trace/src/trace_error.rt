@@ -2,13 +2,14 @@
 
 use thiserror::Error;
 
-/// Why there is no report, or no whole one. Faults of the bytes come in this order, before any step is made.
+/// Why there is no report, or no whole one. `ReadFault` comes first, then `NotJson`, `BadMachine` and `BadStep`, all before
+/// any step is made.
 #[derive(Clone, Copy, Debug, PartialEq, Eq, Error)]
 pub enum TraceError {
     /// The bytes are no JSON text in UTF-8.
     #[error("not JSON")]
     NotJson,
-    /// The top is no object with version 1, a machine that can be, and a list of steps.
+    /// The top is no object with version 1, or 2 and a limit on runs, a machine that can be, and a list of steps.
     #[error("bad machine")]
     BadMachine,
     /// The step of this number has another form. Steps are numbered from 0, and this is the first such one.
@@ -20,7 +21,7 @@ pub enum TraceError {
     /// The writer failed, or took no byte.
     #[error("write fault")]
     WriteFault,
-    /// The host refused memory after so many steps.
+    /// The host refused memory after so many steps: 0 where the words, the trace or the machine found none.
     #[error("host memory refused after {0} steps")]
     HostMemory(usize),
 }

@@ -1,6 +1,0 @@
-use Rattle.std.proofs.Common.{◌≡◌, ℕ, ◌&&◌, nat_lt}
-use Rattle.nm_types.specs.Nodes.{is_in}
-use Rattle.nm_calls.proofs.batch.online_nodes.Given as goal
-
-abbrev pub invariant-loop-number : goal.invariant-loop-number
-invariant-loop-number g l = (node : ℕ) → is_in l.nodes node ≡ (nat_lt node l.number && is_in l.machine.online node)
