@@ -236,7 +236,7 @@ def written(data, most):
 
 
 def check_writer(data, report, places):
-    """Writers that take so many bytes and then fail: what was written is a front of the report."""
+    """Writers that take so many bytes and then fail: what was written is a prefix of the report."""
     for most in places:
         fault = (4, b"numatrace: write fault\n", report[:most])
         if written(data, most) != (fault if most < len(report) else (0, b"", report)):
