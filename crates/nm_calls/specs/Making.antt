@@ -11,8 +11,8 @@ use Rattle.nm_engine.specs.Run.{Ran, HasOneAll}
 use Rattle.nm_engine.specs.Batch.{runs_from}
 use Rattle.nm_engine.specs.Effect.{set_online}
 use Rattle.nm_calls.specs.declared.binding.Binding.{Binding}
-use Rattle.nm_calls.specs.declared.binding.Way.{Way}
-use Rattle.nm_calls.specs.declared.binding.Way.TheVariants.{Passes, Turns}
+use Rattle.nm_calls.specs.declared.ways.Way.{Way}
+use Rattle.nm_calls.specs.declared.ways.Way.TheVariants.{Passes, Turns}
 use Rattle.nm_calls.specs.declared.call_error.CallError.{CallError}
 use Rattle.nm_calls.specs.declared.call_error.CallError.TheVariants.{Refused, HostMemory}
 use Rattle.nm_calls.specs.Passes.{passes}

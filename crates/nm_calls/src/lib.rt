@@ -13,7 +13,9 @@ mod migrating;
 mod offlining;
 mod passes;
 mod permission;
+mod strays;
 mod system;
+mod ways;
 mod words;
 
 pub use batch::run_count;

@@ -1,7 +1,7 @@
 use Rattle.std.proofs.Common.{◌≤◌, length, sym, subst, arith}
 use Rattle.nm_engine.proofs.Soundness.Online.{set_is_few}
 use Rattle.nm_calls.proofs.Nodes.{tried_few}
-use Rattle.nm_calls.proofs.binding.by_distance.Goals as goal
+use Rattle.nm_calls.proofs.ways.by_distance.Goals as goal
 
 pub prove-unreachable-requires : goal.prove-unreachable-requires
 prove-unreachable-requires g c =

@@ -3,7 +3,7 @@ use Rattle.nm_runs.specs.Limit.{cut_within}
 use Rattle.std.proofs.lemmas.List.{append-nil}
 use Rattle.nm_calls.specs.Making.{Stops, runs_in}
 use Rattle.nm_calls.proofs.Passing.{HavePassed, none_passed, some_run_of, stopped_later, something_is}
-use Rattle.nm_calls.proofs.binding.make.Goals as goal
+use Rattle.nm_calls.proofs.ways.make.Goals as goal
 
 pub returns : goal.returns
 returns g c =

@@ -1,6 +1,6 @@
 use Rattle.std.proofs.Common.{◌≡◌, ◌≤◌, ◌-◌}
 use Rattle.nm_calls.specs.Binding.{strays_between}
-use Rattle.nm_calls.proofs.binding.stray_from.Given as goal
+use Rattle.nm_calls.proofs.strays.stray_from.Given as goal
 
 abbrev pub invariant-loop-found : goal.invariant-loop-found
 invariant-loop-found g l = record {

@@ -2,7 +2,7 @@ use Rattle.std.proofs.Common.{ℕ, List, ◌+◌, ◌∷◌, [], length, sym, ap
 use Rattle.nm_engine.specs.declared.located.Located.{Located}
 use Rattle.nm_calls.specs.Binding.{strays_between}
 use Rattle.nm_calls.proofs.Strays.{HaveListed, one_listed, one_again, not_true, not_false}
-use Rattle.nm_calls.proofs.binding.astray.Goals as goal
+use Rattle.nm_calls.proofs.strays.astray.Goals as goal
 
 pub loop-found-preserved-in-Continue-branch-2 : goal.loop-found-preserved-in-Continue-branch-2
 loop-found-preserved-in-Continue-branch-2 g c =

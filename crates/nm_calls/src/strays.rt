@@ -1,0 +1,96 @@
+//! The pages of a range that are not where its policy wants them.
+
+ghost use Rattle.std.specs.Prelude.{◌≡◌, ◌+◌, ◌-◌, ◌<◌, ◌≤◌, not, [], ◌∷◌, IfOk, IfSome, IfNone, None, length};
+ghost use Rattle.std.specs.List.{list_any};
+ghost use Rattle.nm_policy.specs.Order.{follows};
+ghost use Rattle.nm_calls.specs.Binding.{strays_between, astray, strays, binding};
+
+use crate::binding::Binding;
+use nm_engine::{Located, Machine};
+use nm_policy::follows;
+use nm_types::{Pid, Policy, Vpn};
+use std::alloc::{AllocError, Allocator};
+use std::collections::BTreeSet;
+
+/// Whether a page is not where a policy wants it.
+fn is_astray(policy: &Policy, page: &Located) -> bool
+    ensures { result ≡ not (follows policy.now page.now.node) }
+{
+    !follows(*policy, page.node)
+}
+
+/// The first page that a process sees from one page number up to another and that is not where a policy wants it. It takes
+/// no memory.
+pub(crate) fn stray_from<A: Allocator + Copy + Send + Sync>(
+    machine: &Machine<A>,
+    pid: Pid,
+    first: Vpn,
+    end: Vpn,
+    policy: &Policy,
+) -> Option<Located>
+    ensures some { IfSome result (λ e. strays_between machine.now pid first end policy.now ≡ e ∷ strays_between machine.now pid (e.vpn + 1) end policy.now) }
+    ensures none { IfNone result (strays_between machine.now pid first end policy.now ≡ []) }
+    ensures range { IfSome result (λ e. (first ≤ e.vpn) × (e.vpn < end)) }
+{
+    let mut at = first.number();
+    while let Some(found) = machine.page_from(pid, Vpn::new(at), end) {
+        if is_astray(policy, &found) {
+            return Some(found);
+        }
+        at = found.vpn.number() + 1;
+    }
+    None
+}
+
+/// The pages that a process sees in a range and that are not where the policy wants them, by address, each at its lowest.
+/// It asks for each page of the range that the process sees, and for no page number beside.
+pub(crate) fn astray<A: Allocator + Copy + Send + Sync>(
+    alloc: A,
+    machine: &Machine<A>,
+    binding: Binding,
+) -> Result<Vec<Located, A>, AllocError>
+    ensures list { IfOk result (λ pages. pages.items ≡ astray machine.now binding) }
+    ensures few { IfOk result (λ pages. length pages.items ≤ binding.end - binding.first) }
+{
+    let Binding {
+        pid,
+        first,
+        end,
+        policy,
+    } = binding;
+    let mut seen = BTreeSet::new(alloc);
+    let mut pages = Vec::new(alloc);
+    let mut at = first.number();
+    while let Some(found) = stray_from(machine, pid, Vpn::new(at), end, &policy) {
+        at = found.vpn.number() + 1;
+        if seen.insert(found.page)? {
+            pages.push(found)?;
+        }
+    }
+    Ok(pages)
+}
+
+/// Whether a page is not where a policy wants it, wherever it has gone since it was found.
+fn strays_now<A: Allocator + Copy + Send + Sync>(
+    machine: &Machine<A>,
+    policy: &Policy,
+    found: &Located,
+) -> bool
+    ensures { result ≡ strays machine.now policy.now found.now }
+{
+    match machine.node_of_page(found.page) {
+        Some(node) => !follows(*policy, node),
+        None => false,
+    }
+}
+
+/// Whether one of these pages is not where a policy wants it.
+pub(crate) fn some_stray<A: Allocator + Copy + Send + Sync>(
+    machine: &Machine<A>,
+    policy: &Policy,
+    pages: &[Located],
+) -> bool
+    ensures { result ≡ list_any (strays machine.now policy.now) pages.now }
+{
+    pages.iter().any(|found| strays_now(machine, policy, found))
+}

@@ -1,0 +1,232 @@
+//! How pages move to where a policy wants them: in passes over nodes, or each to the node whose turn it is.
+
+ghost use Rattle.std.specs.Prelude.{◌≡◌, ℕ, ◌+◌, ◌-◌, ◌^◌, ◌<◌, ◌≤◌, IfOk, length, true};
+ghost use Rattle.std.specs.List.{AllByRecursion, filter};
+ghost use Rattle.nm_types.specs.Layout.{node_count};
+ghost use Rattle.nm_types.specs.Nodes.{is_in};
+ghost use Rattle.nm_policy.specs.Order.{zonelist};
+ghost use Rattle.nm_policy.specs.Turns.{by_turns};
+ghost use Rattle.nm_runs.specs.declared.Wanted.TheVariants.{At};
+ghost use Rattle.nm_areas.specs.Mapped.{Mapped};
+ghost use Rattle.nm_engine.specs.Effect.{with_areas_of};
+ghost use Rattle.nm_calls.specs.Passes.{passes};
+ghost use Rattle.nm_calls.specs.Binding.{spots, strays_of, each_to, runs_by, nodes_tried, strays, binding};
+ghost use Rattle.nm_calls.specs.Making.{runs_in, CanGo, nodes_named, MakesRuns};
+
+use crate::binding::Binding;
+use crate::call_error::CallError;
+use crate::passes::{later, make_batch, make_passes};
+use nm_crew::Gate;
+use nm_engine::{Located, Machine};
+use nm_policy::{Sent, Stray, first_touch_order, mbind_targets};
+use nm_runs::{Request, Wanted};
+use nm_types::{NodeId, NodeMask, Pid, Policy, Vpn};
+use std::alloc::{AllocError, Allocator};
+use std::sync::Wait;
+use std::thread::Threads;
+
+/// How pages move.
+#[derive(Debug, Drop)]
+pub(crate) enum Way<A: Allocator + Copy> {
+    /// All go to the first of these nodes that has a free frame: a pass for each node.
+    Passes {
+        nodes: Vec<NodeId, A>,
+        wanted: Vec<Wanted, A>,
+    },
+    /// Each goes to a node of its own.
+    Turns(Vec<Request, A>),
+}
+
+/// What is wanted of a page, at the page number at which a process sees it.
+fn spot(pid: Pid, all: bool, vpn: Vpn) -> Wanted
+    ensures { result ≡ At pid vpn all }
+{
+    Wanted::At { pid, vpn, all }
+}
+
+/// Requests for pages at the page numbers at which a process sees them.
+fn spots<A: Allocator + Copy>(
+    alloc: A,
+    pid: Pid,
+    all: bool,
+    pages: &[Located],
+) -> Result<Vec<Wanted, A>, AllocError>
+    ensures { IfOk result (λ wanted. wanted.items ≡ spots pid all pages.now) }
+{
+    pages
+        .iter()
+        .map(|page| spot(pid, all, page.vpn))
+        .collect(alloc)
+}
+
+/// A page as a stray.
+fn stray_of(page: &Located) -> Stray
+    ensures { result ≡ record { vpn = page.now.vpn; page = page.now.page } }
+{
+    Stray {
+        vpn: page.vpn,
+        page: page.page,
+    }
+}
+
+/// Pages as strays.
+fn strays_of<A: Allocator + Copy>(alloc: A, pages: &[Located]) -> Result<Vec<Stray, A>, AllocError>
+    ensures { IfOk result (λ strays. strays.items ≡ strays_of pages.now) }
+{
+    pages.iter().map(|page| stray_of(page)).collect(alloc)
+}
+
+/// The request that sends a page to its node.
+fn sent_to(pid: Pid, all: bool, page: &Sent) -> Request
+    ensures { result ≡ record { target = page.now.to; wanted = At pid page.now.vpn all } }
+{
+    Request {
+        target: page.to,
+        wanted: spot(pid, all, page.vpn),
+    }
+}
+
+/// Requests for page numbers with their nodes.
+fn each_to<A: Allocator + Copy>(
+    alloc: A,
+    pid: Pid,
+    all: bool,
+    targets: &[Sent],
+) -> Result<Vec<Request, A>, AllocError>
+    ensures { IfOk result (λ requests. requests.items ≡ each_to pid all targets.now) }
+{
+    targets
+        .iter()
+        .map(|page| sent_to(pid, all, page))
+        .collect(alloc)
+}
+
+/// Requests for pages that take turns on the nodes of a set.
+fn turns<A: Allocator + Copy>(
+    alloc: A,
+    pid: Pid,
+    all: bool,
+    nodes: NodeMask,
+    pages: &[Located],
+) -> Result<Vec<Request, A>, AllocError>
+    ensures { IfOk result (λ requests. requests.items ≡ each_to pid all (by_turns nodes (strays_of pages.now))) }
+{
+    let strays = strays_of(alloc, pages)?;
+    let targets = mbind_targets(alloc, nodes, strays.as_slice())?;
+    each_to(alloc, pid, all, targets.as_slice())
+}
+
+/// The nodes of a set that are online, by their distance from a node.
+fn by_distance<A: Allocator + Copy + Send + Sync>(
+    alloc: A,
+    machine: &Machine<A>,
+    home: NodeId,
+    nodes: NodeMask,
+) -> Result<Vec<NodeId, A>, AllocError>
+    ensures order { IfOk result (λ order. order.items ≡ filter (is_in nodes) (zonelist (machine.now.layout) machine.now.online home)) }
+    ensures few { IfOk result (λ order. length order.items ≤ 64) }
+{
+    let online = machine.online();
+    let policy = Policy::Bind(nodes);
+    prove!(online.len() <= 64);
+    let order = first_touch_order(alloc, machine.geometry(), online, home, nodes, policy, 0)?;
+    Ok(order)
+}
+
+/// The nodes that a policy tries one after another for all pages: that of MPOL_PREFERRED, and those of MPOL_BIND by their
+/// distance from a process's home node.
+fn nodes_tried<A: Allocator + Copy + Send + Sync>(
+    alloc: A,
+    machine: &Machine<A>,
+    home: NodeId,
+    policy: Policy,
+) -> Result<Vec<NodeId, A>, AllocError>
+    ensures order { IfOk result (λ nodes. nodes.items ≡ nodes_tried machine.now home policy) }
+    ensures few { IfOk result (λ nodes. length nodes.items ≤ 64) }
+{
+    match policy {
+        Policy::Preferred(node) => {
+            let mut nodes = Vec::new(alloc);
+            nodes.push(node)?;
+            Ok(nodes)
+        }
+        Policy::Bind(nodes) => by_distance(alloc, machine, home, nodes),
+        Policy::Default => Ok(Vec::new(alloc)),
+        Policy::Interleave(_) => Ok(Vec::new(alloc)),
+        Policy::Local => Ok(Vec::new(alloc)),
+    }
+}
+
+/// How pages move to where a policy wants them.
+pub(crate) fn way_of<A: Allocator + Copy + Send + Sync>(
+    alloc: A,
+    machine: &Machine<A>,
+    home: NodeId,
+    binding: &Binding,
+    all: bool,
+    pages: &[Located],
+) -> Result<Way<A>, AllocError>
+    requires nodes { AllByRecursion (λ n. n < node_count (machine.now.layout)) (nodes_named binding.now.policy) }
+    requires few { length pages.now ≤ 2 ^ 52 }
+    ensures runs { IfOk result (λ way. (limit : ℕ) (m : Mapped) → runs_in limit (with_areas_of machine.now m) way
+        ≡ runs_by limit (with_areas_of machine.now m) binding.now.policy home binding.now.pid all pages.now) }
+    ensures can_go { IfOk result (CanGo (node_count (machine.now.layout))) }
+{
+    let pid = binding.pid;
+    if let Policy::Interleave(nodes) = binding.policy {
+        return Ok(Way::Turns(turns(alloc, pid, all, nodes, pages)?));
+    }
+    Ok(Way::Passes {
+        nodes: nodes_tried(alloc, machine, home, binding.policy)?,
+        wanted: spots(alloc, pid, all, pages)?,
+    })
+}
+
+/// Makes moves.
+pub(crate) fn make<R: Threads + Wait + Sync, A: Allocator + Copy + Send + Sync, G: Gate + Sync>(
+    rt: &R,
+    alloc: A,
+    machine: &mut Machine<A>,
+    way: Way<A>,
+    limit: usize,
+    workers: usize,
+    gate: &G,
+) -> Result<(), CallError>
+    requires some { 0 < limit }
+    requires workers { (0 < workers) × (workers ≤ 64) }
+    requires can_go { CanGo (node_count (machine.old.layout)) way }
+    ensures { MakesRuns true result machine.old machine.new (runs_in limit machine.old way) }
+{
+    match way {
+        Way::Passes { nodes, wanted } => {
+            make_passes(
+                rt,
+                alloc,
+                machine,
+                nodes.as_slice(),
+                wanted,
+                true,
+                limit,
+                workers,
+                gate,
+            )
+        }
+        Way::Turns(requests) => {
+            if requests.is_empty() {
+                return Ok(());
+            }
+            match make_batch(
+                rt,
+                alloc,
+                machine,
+                requests.as_slice(),
+                limit,
+                workers,
+                gate,
+            ) {
+                Ok(_) => Ok(()),
+                Err(error) => Err(later(error, 0, true)),
+            }
+        }
+    }
+}
