@@ -1,0 +1,29 @@
+#!/bin/sh
+# Plays each example, each trace of the tests and a long one, whose runs are worth several workers, with 1, 2, 3 and 64 workers:
+# the report is the one beside the trace, byte for byte, the status 0, and standard error empty. A word names another program
+# than the one that ./build makes. Silent where all is well.
+set -eu
+program=${1-}
+case $program in
+'' | /*) ;;
+*) program=$(pwd)/$program ;;
+esac
+cd "$(dirname "$0")/.."
+program=${program:-$(pwd)/crates/numatrace/out/numatrace}
+[ -x "$program" ] || { echo "tests/traces.sh: there is no program $program: ./build makes it" >&2; exit 1; }
+room=$(mktemp -d)
+trap 'rm -rf "$room"' EXIT
+trap 'exit 130' HUP INT TERM
+tests/long_run.py "$room/long_run.json" "$room/long_run.report"
+for trace in examples/*.json tests/traces/*.json "$room/long_run.json"; do
+    for workers in 1 2 3 64; do
+        status=0
+        "$program" --workers "$workers" < "$trace" > "$room/out" 2> "$room/err" || status=$?
+        if [ "$status" != 0 ] || [ -s "$room/err" ] || ! cmp -s "$room/out" "${trace%.json}.report"; then
+            echo "tests/traces.sh: $trace with $workers workers ends with $status and another report than the one beside it:" >&2
+            cat "$room/err" >&2
+            diff "${trace%.json}.report" "$room/out" | head -n 10 >&2
+            exit 1
+        fi
+    done
+done
