@@ -19,9 +19,9 @@ pub mod Stretched
 pub mod Tallies
 pub mod Listed
 pub mod Passing
-pub mod Strays
+pub mod Straying
 pub mod Nodes
-pub mod Ways
+pub mod Sending
 pub mod Bound
 pub mod Emptied
 pub mod Unasked

@@ -1,7 +1,7 @@
 use Rattle.std.proofs.Common.{ℕ, List, ◌+◌, ◌∷◌, [], length, sym, ap, subst, ◌∙◌, arith, length-append}
 use Rattle.nm_engine.specs.declared.located.Located.{Located}
 use Rattle.nm_calls.specs.Binding.{strays_between}
-use Rattle.nm_calls.proofs.Strays.{HaveListed, one_listed, one_again, not_true, not_false}
+use Rattle.nm_calls.proofs.Straying.{HaveListed, one_listed, one_again, not_true, not_false}
 use Rattle.nm_calls.proofs.strays.astray.Goals as goal
 
 pub loop-found-preserved-in-Continue-branch-2 : goal.loop-found-preserved-in-Continue-branch-2

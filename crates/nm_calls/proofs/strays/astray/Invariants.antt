@@ -1,6 +1,6 @@
 use Rattle.std.proofs.Common.{◌≤◌, ◌-◌, length}
 use Rattle.nm_calls.specs.Binding.{strays_between}
-use Rattle.nm_calls.proofs.Strays.{HaveListed}
+use Rattle.nm_calls.proofs.Straying.{HaveListed}
 use Rattle.nm_calls.proofs.strays.astray.Given as goal
 
 abbrev pub invariant-loop-found : goal.invariant-loop-found

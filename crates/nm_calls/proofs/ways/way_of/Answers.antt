@@ -9,7 +9,7 @@ use Rattle.nm_engine.specs.Run.{HasOneAll}
 use Rattle.nm_calls.specs.Passes.{passes}
 use Rattle.nm_calls.specs.Binding.{nodes_tried, strays_of}
 use Rattle.nm_calls.specs.Making.{nodes_named}
-use Rattle.nm_calls.proofs.Ways.{turns_go, turns_alike, tried_all, spots_alike, spots_length, passes_by}
+use Rattle.nm_calls.proofs.Sending.{turns_go, turns_alike, tried_all, spots_alike, spots_length, passes_by}
 use Rattle.nm_calls.proofs.ways.way_of.Goals as goal
 
 pub returns-in-Interleave-clause-can_go : goal.returns-in-Interleave-clause-can_go
