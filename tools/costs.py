@@ -1,0 +1,85 @@
+#!/usr/bin/env python3
+"""Runs a command, such as ./check or rt ci NAME, and tells what each crate cost in it, as a table for docs/PROVING.md: seconds of a
+processor for its proof, for its tests, for its proof again under the edits, and for all edits and the dearest.
+
+It looks at the prover's processes once a second (Linux), so the last second of each is not counted."""
+import collections
+import glob
+import os
+import re
+import subprocess
+import sys
+import time
+
+ROOT = os.path.dirname(os.path.dirname(os.path.abspath(__file__)))
+TICKS = os.sysconf("SC_CLK_TCK")
+
+
+def read(path):
+    with open(path, "rb") as file:
+        return file.read().decode(errors="replace")
+
+
+def prover_runs():
+    """The prover's processes: each with its words and the seconds that it has used so far."""
+    for folder in glob.glob("/proc/[0-9]*"):
+        try:
+            words = read(f"{folder}/cmdline").split("\0")
+            if os.path.basename(words[0]) == "rattle" and words[1] in ("check", "build") and "--crate-name" in words:
+                fields = read(f"{folder}/stat").rpartition(")")[2].split()
+                yield (folder, fields[19]), words, (int(fields[11]) + int(fields[12])) / TICKS
+        except (OSError, IndexError):
+            continue  # It ended meanwhile.
+
+
+def kind_of(words):
+    """Whose run this is, and what for: proof, tests, again (the proof under the edits), or the number of an edit."""
+    crate = words[words.index("--crate-name") + 1]
+    over = words[words.index("--incremental") + 1] if "--incremental" in words else ""
+    edit = re.search(r"/rt-edits-[^/]+/(seed|\d+)$", over)
+    if edit:
+        return crate, "again" if edit[1] == "seed" else int(edit[1])
+    return crate, "tests" if "--test" in words else "proof"
+
+
+def watched(command):
+    """Runs the command, and gives the seconds of each crate by what they were for, and the command's status."""
+    used = {}
+    ran = subprocess.Popen(command)
+    while ran.poll() is None:
+        for run, words, seconds in prover_runs():
+            used[run] = kind_of(words), seconds
+        time.sleep(1)
+    costs = collections.defaultdict(collections.Counter)
+    for (crate, kind), seconds in used.values():
+        costs[crate][kind] += seconds
+    return costs, ran.returncode
+
+
+def edits_text(crate, costs):
+    """What the edits cost: all, one of them, and the dearest by its name."""
+    edits = {number: seconds for number, seconds in costs.items() if isinstance(number, int)}
+    if not edits:
+        return ""
+    names = sorted(glob.glob(os.path.join(ROOT, "crates", crate, "must-fail/*.edit")))
+    dearest = max(edits, key=edits.get)
+    name = os.path.basename(names[dearest])[: -len(".edit")] if dearest < len(names) else f"edit {dearest}"
+    total = sum(edits.values())
+    return f"{total:.0f}, {total / len(edits):.0f} ({name} {edits[dearest]:.0f})"
+
+
+def main():
+    if not sys.argv[1:]:
+        sys.exit("tools/costs.py: a command is wanted, such as ./check")
+    costs, status = watched(sys.argv[1:])
+    print("| Crate | Its proof | Its tests | Its proof again, for the edits | Its edits, one of them, and the dearest |")
+    print("|---|---|---|---|---|")
+    for crate, used in costs.items():
+        proof, tests, again = (f"{used[kind]:.0f}" if used[kind] else "" for kind in ("proof", "tests", "again"))
+        print(f"| {crate} | {proof} | {tests} | {again} | {edits_text(crate, used)} |")
+    print(f"{sum(sum(used.values()) for used in costs.values()) / 60:.0f} minutes of a processor")
+    return status
+
+
+if __name__ == "__main__":
+    sys.exit(main())
