@@ -11,7 +11,6 @@ import collections
 import glob
 import itertools
 import json
-import multiprocessing
 import os
 import random
 import subprocess
@@ -27,7 +26,6 @@ TRACES = 2000
 MOST_WAIT = 120
 PAGE, END = model.PAGE, model.END
 TOP, MOST = 1 << 47, (1 << 64) - 1
-SETTINGS = {"program": PROGRAM}
 
 # Addresses and numbers of pages at the edges of what there may be, good and bad; None leaves what was drawn.
 EDGES = [
@@ -515,11 +513,11 @@ def workers(number):
     return 1 + number % 3
 
 
-def check(number):
-    """What differs in the trace of a number, or None, and its answers."""
+def check(number, program):
+    """What differs in the trace of a number on a program, or None, and its answers."""
     drawing = Drawing(number).draw()
     want = "".join(line + "\n" for line in drawing.lines)
-    command = [SETTINGS["program"], "--workers", str(workers(number))]
+    command = [program, "--workers", str(workers(number))]
     data = json.dumps(drawing.trace).encode()
     try:
         ran = subprocess.run(command, input=data, capture_output=True, timeout=MOST_WAIT, check=False)
@@ -543,15 +541,15 @@ def check_model():
                 sys.exit(f"tests/drawn.py: {path}: {difference(mine, its)}")
 
 
-def play_all(numbers):
-    """Plays the traces of these numbers side by side, and gives the answers of all. Ends at the first that differs."""
+def play_all(numbers, program):
+    """Plays the traces of these numbers on a program, and gives the answers of all. Ends at the first that differs."""
     counts = collections.Counter()
-    with multiprocessing.Pool() as pool:
-        for number, (fault, counted) in zip(numbers, pool.imap(check, numbers, chunksize=10)):
-            if fault:
-                where = f"trace {number} with --workers {workers(number)}"
-                sys.exit(f"tests/drawn.py: {where}: {fault}\n`tests/drawn.py --trace {number}` writes the trace")
-            counts.update(counted)
+    for number in numbers:
+        fault, counted = check(number, program)
+        if fault:
+            where = f"trace {number} with --workers {workers(number)}"
+            sys.exit(f"tests/drawn.py: {where}: {fault}\n`tests/drawn.py --trace {number}` writes the trace")
+        counts.update(counted)
     return counts
 
 
@@ -566,12 +564,12 @@ def main():
     if asked.trace is not None:
         print(json.dumps(Drawing(asked.trace).draw().trace))
         return
-    SETTINGS["program"] = os.path.abspath(asked.program)
-    if not os.access(SETTINGS["program"], os.X_OK):
+    program = os.path.abspath(asked.program)
+    if not os.access(program, os.X_OK):
         sys.exit(f"tests/drawn.py: there is no program {asked.program}: ./build makes it")
     check_model()
     begun = time.monotonic()
-    counts = play_all(range(asked.first, asked.first + asked.count))
+    counts = play_all(range(asked.first, asked.first + asked.count), program)
     if asked.times:
         print(f"{asked.count} traces in {time.monotonic() - begun:.1f} s")
         for name, told in itertools.groupby(sorted(counts), key=lambda pair: pair[0]):
