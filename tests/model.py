@@ -1,8 +1,8 @@
 """A plain machine that plays a good trace by the rules and gives its report.
 
-It was written from the rules alone by someone who had not read the program's code, so that one can be tested against the other,
-which tests/drawn.py does. It is slow and simple on purpose. It reads no JSON and checks no form: it takes the object that
-json.loads gives, and tools/why.py says which traces are good."""
+Its rules were written by someone who had not read the program's code, so that one can be tested against the other, which
+tests/drawn.py does. It is slow and simple on purpose. It reads no JSON and checks no form: it takes the object that json.loads
+gives, and tools/why.py says which traces are good."""
 import collections
 
 PAGE = 4096
