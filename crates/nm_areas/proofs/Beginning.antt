@@ -70,7 +70,7 @@ module _ (pid at start : ℕ) (area : Area) (areas : Map (ℕ × ℕ) Area) (apa
       let m = get_among areas (pid, start) y o in
       ap (λ (z : Placed). z.1) (one_over ((pid, start), y) m (covers_first areas ((pid, start), y) whole m))
 
-  -- with its rest behind it
+  -- with its rest after it
   pub same_front : (rest : Area) (now : Map (ℕ × ℕ) Area) → rest.page.segment ≡ area.page.segment → now ≡ set spot_cmp areas (pid, at) rest → IfSome (get spot_cmp now (pid, start)) (λ a. a.page.segment ≡ area.page.segment)
   same_front rest now same is =
       elim (get spot_cmp now (pid, start)) as (λ o. get spot_cmp now (pid, start) ≡ o → IfSome o (λ a. a.page.segment ≡ area.page.segment)) [

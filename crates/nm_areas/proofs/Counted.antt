@@ -387,7 +387,7 @@ pub err_always : {T E P : Type 0} (r : Result T E) → P → OnErr r P
 err_always (Ok x) p = tt
 err_always (Err e) p = p
 
--- the first of the areas of a process, beside those behind it
+-- the first of the areas of a process, beside those after it
 pub own_sum : (f : Placed → ℕ) (left areas : Map (ℕ × ℕ) Area) (pid at s end behind : ℕ) (x : Area) → filter (is_own pid at end) areas ≡ ((pid, s), x) ∷ filter (is_own pid (s + 1) end) areas → behind ≡ s
     → total f left + total f (filter (is_own pid at end) areas) ≡ (total f left + total f (filter (is_own pid (behind + 1) end) areas)) + f ((pid, s), x)
 own_sum f left areas pid at s end behind x next same =

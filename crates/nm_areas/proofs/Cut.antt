@@ -132,7 +132,7 @@ module _ (pid at : ℕ) (a : Placed) (own : a.0.0 ≡ pid) (low : a.0.1 < at) (h
   at_it : covers a pid at ≡ true
   at_it = covers_from a pid at own (omega (arith, low)) high
 
-  -- an area behind it
+  -- an area after it
   comes_later : (y : Placed) → ((q v : ℕ) → covers a q v ≡ true → covers y q v ≡ false) → 0 < y.1.pages → spot_cmp a.0 y.0 ≡ Less → spot_cmp (pid, at) y.0 ≡ Less
   comes_later y apart some less =
       less_from (pid, at) y.0 (elim (less_to a.0 y.0 less) as (λ _. (pid < y.0.0) ⊎ ((pid ≡ y.0.0) × (at < y.0.1))) [
@@ -156,7 +156,7 @@ module _ (pid at : ℕ) (a : Placed) (own : a.0.0 ≡ pid) (low : a.0.1 < at) (h
   past_it : spot_cmp (pid, at) a.0 ≡ Greater
   past_it = spot_same (pid, at) a.0 (sym own) ∙ sym (nat_cmp_is at a.0.1 Greater low)
 
-  -- the areas behind it stay
+  -- the areas after it stay
   module _ (xs : Map (ℕ × ℕ) Area) (some : AllByRecursion IsSomePages xs) (apart : AllByRecursion (λ b. (q v : ℕ) → covers a q v ≡ true → covers b q v ≡ false) xs) (sorted : AllByRecursion (λ k. spot_cmp a.0 k ≡ Less) (keys_of xs)) where
     rest_stays : split_at pid at xs ≡ xs
     rest_stays = split_none pid at xs some (λ y m of from to.
@@ -256,7 +256,7 @@ split_nothing pid at areas (Some e) some apart h begins =
     let start : e.0.1 ≡ a.0.1 = ap (λ (y : Placed). y.0.1) same in
     absurd (omega (arith, start, low, begins)))
 
--- it is there, begins no later and ends behind
+-- it is there, begins no later and ends after the page number
 pub over_facts : (pid at : ℕ) (areas : Map (ℕ × ℕ) Area) (start : ℕ) (area : Area) → Some ((pid, start), area) ≡ area_over areas pid at → Among ((pid, start), area) areas × (start ≤ at) × (at < start + area.pages)
 over_facts pid at areas start area h =
     let found = among_over areas pid at ((pid, start), area) (sym h) in

@@ -34,7 +34,7 @@ no_place_before {V} m segment at r rest e range first i low past =
           absurd (true_false (sym (ap is_gt behind) ∙ least.2 (page_in segment i) (from_up_to (segment, at) (segment, i) refl low, tt) (subst IsSome (sym o) refl)))
     ] refl
 
--- a page of another segment comes behind all of this one
+-- a page of another segment comes after all of this one
 pub past_segment : {V : Type 0} (m : BTreeMap Page V) (segment at : ℕ) (r rest : List (Page × V)) (e : Page × V) (i : ℕ) → IsRangeOf page_cmp (Included (page_in segment at)) Unbounded m r → r ≡ e ∷ rest → (e.0.segment ≡ segment → ⊥)
     → (segment < e.0.segment) ⊎ ((e.0.segment ≡ segment) × (i < e.0.index))
 past_segment {V} m segment at r rest e i range first other =

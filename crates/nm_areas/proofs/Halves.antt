@@ -33,7 +33,7 @@ append_apart (x ∷ xs) ys h k cross = (
   append_apart xs ys h.1 k (λ b c m n. cross b c (inr m) n),
 )
 
--- one in front of the range, and one behind it
+-- one in front of the range, and one after it
 two_apart : (b c : Placed) (first end : ℕ) → behind_last b ≤ first → first ≤ end → end ≤ c.0.1 → Apart b c
 two_apart b c first end low mid high = λ q v k. false_from_ne_true _ (λ j.
     let front = covers_parts b q v k in

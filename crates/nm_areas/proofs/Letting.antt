@@ -104,7 +104,7 @@ module _ (pid first end : ℕ) where
             (refl, ap (λ k. pages_from a.1.page.segment (a.1.page.index + (from - a.0.1)) k) none)
       ] refl
 
-  -- what is in front, inside and behind
+  -- what is before, inside and after
   three_others : (xs ys zs : List Placed) → IsKept xs → filter is_other ys ≡ [] → IsKept zs → filter is_other ((xs ++ ys) ++ zs) ≡ xs ++ zs
   three_others xs ys zs x y z =
       filter-append is_other (xs ++ ys) zs

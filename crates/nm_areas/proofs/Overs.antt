@@ -154,7 +154,7 @@ module _ (areas : Map (ℕ × ℕ) Area) (apart : AreasAreApart areas) (some : A
   same_area : (pid v : ℕ) (a b : Placed) → Among a areas → Among b areas → covers a pid v ≡ true → covers b pid v ≡ true → a ≡ b
   same_area pid v a b m n c k = some_is (sym (over_among areas pid v a apart m c) ∙ over_among areas pid v b apart n k)
 
-  -- an area that begins no later, and ends behind the first page of another, is that one
+  -- an area that begins no later, and ends after the first page of another, is that one
   alone : (a e : Placed) → Among a areas → Among e areas → a.0.0 ≡ e.0.0 → a.0.1 ≤ e.0.1 → e.0.1 < behind_last a → a ≡ e
   alone a e m n same low high =
       let has : 0 < e.1.pages = All-among IsSomePages areas e some n in

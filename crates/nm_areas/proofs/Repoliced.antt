@@ -57,7 +57,7 @@ mapped_step areas pid (suc n) r at h =
     ∙ mapped_step areas pid n r (at + 1) (λ v low high. h v (omega (arith, low)) (omega (arith, high)))
     ∙ ap (λ k. is_mapped areas pid k r) there
 
--- behind an area that is over a page number
+-- after an area that is over a page number
 mapped_on : (areas : Map (ℕ × ℕ) Area) (pid at end start to : ℕ) (area : Area) → AreasAreApart areas → Some ((pid, start), area) ≡ area_over areas pid at → to ≡ start + area.pages → at < end
     → is_mapped areas pid at (end - at) ≡ is_mapped areas pid to (end - to)
 mapped_on areas pid at end start to area apart over is more =
@@ -140,7 +140,7 @@ module _ (pid first end : ℕ) (policy : Policy) (range : first < end) where
       ∙ one (ap (λ (x : Area). (a.0, x)) (painted_out a.0 a.1 (λ p k l. absurd (omega (arith, k, low, some)))) ∙ same_placed a (front_of first a) refl refl (omega (arith, low)) refl refl refl)
       ∙ three a (front_of first a ∷ []) [] [] own (before_some first a (omega (arith, low, some))) (inside_none a (omega (arith, low))) (behind_none end a some (omega (arith, low, range)))
 
-  -- behind it
+  -- after it
   in_back : (a : Placed) → 0 < a.1.pages → a.0.0 ≡ pid → end ≤ a.0.1 → both a ≡ repoliced pid first end policy a
   in_back a some own high =
       whole a (cut_high pid first a some (omega (arith, high, range))) (cut_high pid end a some high)

@@ -33,7 +33,7 @@ module _ (pid first end : ℕ) (range : first ≤ end) where
   abbrev BeginsFrom : ℕ → Placed → Type 0
   BeginsFrom low a = a.0.0 ≡ pid → low ≤ a.0.1
 
-  -- a later area of the process begins behind one of its areas
+  -- a later area of the process begins after one of its areas
   begins_behind : (a b : Placed) → a.0.0 ≡ pid → spot_cmp a.0 b.0 ≡ Less → 0 < b.1.pages → ((q v : ℕ) → covers a q v ≡ true → covers b q v ≡ false) → BeginsFrom (behind_last a) b
   begins_behind a b own less some apart same =
       elim (less_to a.0 b.0 less) as (λ _. behind_last a ≤ b.0.1) [

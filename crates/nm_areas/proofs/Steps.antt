@@ -1,4 +1,4 @@
--- What the steps of a step function tell, and how they change.
+-- What the steps of a step function say, and how they change.
 use Rattle.std.proofs.Common.{◌≡◌, ℕ, zero, suc, ◌+◌, ◌-◌, ◌≤◌, ◌<◌, ◌^◌, List, [], ◌∷◌, ◌++◌, Bool, true, false, ◌&&◌, cond, refl, sym, ap, subst, ◌∙◌, arith, inl, inr, eq-eqb}
 use Rattle.std.specs.Prelude.{Some, None, IsSome, nat_lt, nat_le, ◌==◌, min, if◌then◌else◌}
 use Rattle.std.specs.Option.{option_map}

@@ -15,7 +15,7 @@ abbrev pub total : (Placed → ℕ) → List Placed → ℕ
 total number [] = 0
 total number (a ∷ areas) = number a + total number areas
 
--- the page behind the last one of an area
+-- the page after the last one of an area
 abbrev pub end_of : Area → Page
 end_of area = page_in area.page.segment (area.page.index + area.pages)
 

@@ -10,7 +10,7 @@ use Rattle.nm_types.specs.Map.{Map}
 use Rattle.nm_types.specs.State.{Placed, area_over}
 use Rattle.nm_areas.specs.Parts.{before, behind, parts_outside}
 
--- how many whole pages so many bytes want
+-- how many whole pages `len` bytes take, rounded up
 abbrev pub pages_of : ℕ → ℕ
 pages_of len = (len + 4095) / 4096
 
@@ -23,12 +23,12 @@ inside first end policy a =
     let part : Area = record { pages = last - from; policy = policy; page = page } in
     if nat_lt from last then ((a.0.0, from), part) ∷ [] else []
 
--- what is in front of the range, inside it and behind it
+-- what is in front of the range, inside it and after it
 abbrev pub repoliced : ℕ → ℕ → ℕ → Policy → Placed → List Placed
 repoliced pid first end policy a =
     if a.0.0 == pid then before first a ++ inside first end policy a ++ behind end a else a ∷ []
 
--- whether an area of the process is over each of so many page numbers
+-- whether an area of the process is over each of the `count` page numbers from `first` on
 abbrev pub is_mapped : Map (ℕ × ℕ) Area → ℕ → ℕ → ℕ → Bool
 is_mapped areas pid first count = list_all (λ v. is_some (area_over areas pid v)) (up_from first count)
 

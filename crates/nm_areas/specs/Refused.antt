@@ -36,7 +36,7 @@ insert_refusal m pid address pages =
     let full = nat_le 65536 m.next in
     first_error ((not (is_room m.areas pid address pages), Einval) ∷ (full, Enomem) ∷ [])
 
--- whether so many pages from an offset on are in a shared segment
+-- whether the segment is there and shared, and has `pages` pages from `offset` on
 abbrev pub is_stretch : Option Segment → ℕ → ℕ → Bool
 is_stretch o offset pages =
     unwrap_or (option_map (λ segment. segment.shared && nat_le (offset + pages) segment.pages) o) false

@@ -69,14 +69,14 @@ impl<A: Allocator + Copy> AreaTable<A> {
         self.areas.len()
     }
 
-    /// The segment of a number, or None where there is none.
+    /// The segment of a number, or None if there is none.
     pub(crate) fn segment(&self, number: u32) -> Option<Segment>
         ensures { result ≡ get nat_cmp self.now.segments number }
     {
         self.segments.get(&number).copied()
     }
 
-    /// The number of a segment, where there is one of that number which is shared and has so many pages from an offset on.
+    /// The number of a segment, if there is such a segment, it is shared, and it has `pages` pages from `offset` on.
     pub(crate) fn stretch_of(&self, segment: u64, offset: u64, pages: u64) -> Option<u32>
         requires numbers { AllByRecursion (λ e. e.0 < self.now.next) self.now.segments }
         ensures none { IfNone result (is_stretch (get nat_cmp self.now.segments segment) offset pages ≡ false) }
@@ -129,7 +129,7 @@ impl<A: Allocator + Copy> AreaTable<A> {
         next_area(&self.areas, pid, at, end)
     }
 
-    /// Whether no area of the process is over one of so many pages from a page number on.
+    /// Whether no area of the process is over any of the `pages` page numbers from `first` on.
     pub(crate) fn is_free(&self, pid: Pid, first: Vpn, pages: u64) -> bool
         requires apart { AreasAreApart self.now.areas }
         requires whole { AllByRecursion IsSomePages self.now.areas }
@@ -146,7 +146,7 @@ impl<A: Allocator + Copy> AreaTable<A> {
         }
     }
 
-    /// Makes a segment of so many pages and an area of the process over all of it, with the default policy. Gives the
+    /// Makes a segment of `pages` pages and an area of the process over all of it, with the default policy. Returns the
     /// segment's number.
     pub(crate) fn insert(
         &mut self,
@@ -176,7 +176,7 @@ impl<A: Allocator + Copy> AreaTable<A> {
         Ok(number)
     }
 
-    /// Makes an area of the process, with the default policy, over so many pages of a segment from an offset on.
+    /// Makes an area of the process, with the default policy, over `pages` pages of a segment from `offset` on.
     pub(crate) fn attach(
         &mut self,
         pid: Pid,
@@ -216,7 +216,7 @@ impl<A: Allocator + Copy> AreaTable<A> {
         put(&mut self.areas, (pid, start), area);
     }
 
-    /// Takes away the area of a place, if one is there.
+    /// Removes the area that begins at `start`, if there is one.
     pub(crate) fn take(&mut self, pid: Pid, start: Vpn)
         ensures gone { self.new ≡ with_areas self.old (without spot_cmp self.old.areas (pid, start)) }
         ensures ordered { IsStrictlySortedBy spot_cmp (keys_of self.new.areas) }
@@ -227,7 +227,7 @@ impl<A: Allocator + Copy> AreaTable<A> {
     }
 }
 
-/// Whether so many pages from an offset on are in a shared segment.
+/// Whether the segment is shared and has `pages` pages from `offset` on.
 fn is_stretch(segment: Option<Segment>, offset: u64, pages: u64) -> bool
     ensures { result ≡ is_stretch segment offset pages }
 {
@@ -237,7 +237,7 @@ fn is_stretch(segment: Option<Segment>, offset: u64, pages: u64) -> bool
     }
 }
 
-/// An area with the default policy over so many pages of a segment from an offset on.
+/// An area with the default policy over `pages` pages of a segment from `offset` on.
 pub(crate) fn new_area(segment: u32, offset: u64, pages: u64) -> Area
     ensures { result ≡ new_area segment offset pages }
 {

@@ -54,7 +54,7 @@ impl<A: Allocator + Copy> Areas<A> {
         }
     }
 
-    /// The area of a process over a page number, with the area's first page number. None where no area is over it.
+    /// The area of a process over a page number, with the area's first page number. None if no area is over it.
     pub fn find(&self, pid: Pid, vpn: Vpn) -> Option<(Vpn, Area)>
         ensures found { option_map {U = Placed} (λ found. ((pid, found.0), found.1)) result ≡ area_over self.now.areas pid vpn }
         ensures kept { IsMapped self.now }
@@ -69,12 +69,12 @@ impl<A: Allocator + Copy> Areas<A> {
         self.table.is_shared(segment)
     }
 
-    /// Makes the next segment, of so many pages, and an area of the process over all of it from an address on, with the
-    /// default policy. Gives the segment's number, which is not given again.
+    /// Makes the next segment, of `pages` pages, and an area of the process over all of it that begins at `addr`, with
+    /// the default policy. Returns the segment's number, which is not given again.
     ///
-    /// EINVAL: the address is not a page's, there is no page, the area would end past 2^47, or an area of the process is
-    /// over one of its page numbers. Then ENOMEM: 65,536 segments were made. A refused call uses no number. Memory is asked
-    /// for only where the call is not refused.
+    /// EINVAL: the address is not a page's, there is no page, the area would end past 2^47, or an area of the process
+    /// is over one of its page numbers. Then ENOMEM: 65,536 segments were made. A refused call uses up no number.
+    /// Memory is asked for only where the call is not refused.
     pub fn insert(
         &mut self,
         pid: Pid,
@@ -90,7 +90,7 @@ impl<A: Allocator + Copy> Areas<A> {
         let Some(first) = range_start(addr, pages) else {
             return Err(MachineError::Refused(Errno::Einval));
         };
-        // An area in the way is told before the limit.
+        // An area in the way is reported before the limit.
         if !self.table.is_free(pid, first, pages) {
             return Err(MachineError::Refused(Errno::Einval));
         }
@@ -111,8 +111,8 @@ impl<A: Allocator + Copy> Areas<A> {
         Ok(number)
     }
 
-    /// Makes an area of the process from an address on, with the default policy, over so many pages of a shared segment
-    /// from an offset on, counted in pages.
+    /// Makes an area of the process that begins at `addr`, with the default policy, over `pages` pages of a shared
+    /// segment from `offset` on, which is counted in pages.
     ///
     /// EINVAL: as at `insert`; or there is no such segment, it is private, or it ends before the area would. Memory is asked
     /// for only where the call is not refused.

@@ -172,7 +172,7 @@ fn join_step<A: Allocator + Copy>(
 
 impl<A: Allocator + Copy> AreaTable<A> {
     /// The page with which the second part begins where an area of the process over a shared segment is split at a page
-    /// number. None where no such area is split there.
+    /// number. None if no such area is split there.
     fn split_page(&self, pid: Pid, at: Vpn) -> Option<Page>
         requires apart { AreasAreApart self.now.areas }
         requires whole { AllByRecursion IsSomePages self.now.areas }

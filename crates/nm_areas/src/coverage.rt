@@ -1,9 +1,9 @@
 //! How many areas cover a page.
 //!
-//! At each page where an area begins, and at the page behind the last one of an area, stands how many areas cover it.
-//! Between two such pages of a segment nothing changes, so the last of them up to a page tells of that page as well. An
-//! area that comes asks for memory for two steps at most, and one that goes for none. Numbers are added so that they stop
-//! at the greatest one, which none reaches: there are fewer areas than 2^63.
+//! At each page where an area begins, and at the page after the last one of an area, stands how many areas cover it.
+//! Between two such pages of a segment nothing changes, so the last of them up to a page holds for that page as well. A
+//! new area asks for memory for two steps at most, and one that goes for none. Numbers are added so that they stop at
+//! the greatest one, which none reaches: there are fewer areas than 2^63.
 
 ghost use Rattle.std.specs.Option.{option_map};
 ghost use Rattle.std.specs.Prelude.{None, OnErr, OnOk, Some, ℕ, ◌+◌, ◌<◌, ◌^◌, ◌≡◌, ◌≤◌, if◌then◌else◌};
@@ -17,7 +17,7 @@ use nm_types::{Area, Page};
 use std::alloc::{AllocError, Allocator};
 use std::collections::BTreeMap;
 
-/// What stands at a page where an area begins, or that is behind the last page of one.
+/// What stands at a page where an area begins, or that is after the last page of one.
 #[derive(Clone, Copy)]
 pub(crate) struct Step {
     /// How many areas cover the page.
@@ -70,7 +70,7 @@ pub(crate) fn uncover<A: Allocator + Copy>(steps: &mut BTreeMap<Page, Step, A>, 
     unmark(steps, Page { segment, index }, 1);
 }
 
-/// So many areas more begin or end at a page. An error means that nothing has changed.
+/// `times` more areas begin or end at a page. An error means that nothing has changed.
 pub(crate) fn mark<A: Allocator + Copy>(
     steps: &mut BTreeMap<Page, Step, A>,
     page: Page,
@@ -88,7 +88,7 @@ pub(crate) fn mark<A: Allocator + Copy>(
     Ok(())
 }
 
-/// So many areas less begin or end at a page. It takes no memory.
+/// `times` fewer areas begin or end at a page. It takes no memory.
 pub(crate) fn unmark<A: Allocator + Copy>(
     steps: &mut BTreeMap<Page, Step, A>,
     page: Page,
@@ -176,7 +176,7 @@ fn ends_at<A: Allocator + Copy>(steps: &BTreeMap<Page, Step, A>, page: Page) -> 
     }
 }
 
-/// The first index behind one at which an area begins or ends, or another one if that comes first.
+/// The first index after one at which an area begins or ends, or another one if that comes first.
 pub(crate) fn next_change<A: Allocator + Copy>(
     steps: &BTreeMap<Page, Step, A>,
     segment: u32,

@@ -28,8 +28,8 @@ pub struct Line {
 }
 
 impl<A: Allocator + Copy> Areas<A> {
-    /// The areas of a process, by address: an empty list where it has none, and where there is no such process. An error is
-    /// want of memory.
+    /// The areas of a process, by address: an empty list where it has none, and where there is no such process. An
+    /// error means that the host is out of memory.
     pub fn lines(&self, pid: Pid) -> Result<Vec<Line, A>, AllocError>
         ensures { IfOk result (λ lines. lines.items ≡ lines_of self.now.segments self.now.areas pid) }
     {

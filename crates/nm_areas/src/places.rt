@@ -17,15 +17,15 @@ use std::alloc::{AllocError, Allocator};
 use std::collections::BTreeMap;
 
 impl<A: Allocator + Copy> Areas<A> {
-    /// The frame of a page, or None where it has none.
+    /// The frame of a page, or None if it has none.
     pub fn page_frame(&self, page: Page) -> Option<FrameId>
         ensures { result ≡ get page_cmp self.now.place page }
     {
         self.places.get(&page).copied()
     }
 
-    /// The first page number from one up to another at which an area of a process shows a page that has a frame, with the
-    /// frame. None where there is none, and where there is no such process. It takes no memory.
+    /// The first page number from one up to another at which an area of a process shows a page that has a frame, with
+    /// the frame. None if there is none, or no such process. It takes no memory.
     pub fn frame_from(&self, pid: Pid, at: Vpn, end: Vpn) -> Option<(Vpn, FrameId)>
         ensures some { IfSome result (λ r. (p : Page) × (at ≤ r.0) × (r.0 < end) × (page_at self.now.areas pid r.0 ≡ Some p) × (get page_cmp self.now.place p ≡ Some r.1)) }
         ensures first { IfSome result (λ r. (v : ℕ) (p : Page) → at ≤ v → v < r.0 → page_at self.now.areas pid v ≡ Some p → get page_cmp self.now.place p ≡ None) }
@@ -35,14 +35,15 @@ impl<A: Allocator + Copy> Areas<A> {
         frame_from(&self.table, &self.places, pid, at, end)
     }
 
-    /// The frames of the pages that have one, in the order of the pages. An error is want of memory.
+    /// The frames of the pages that have one, in the order of the pages. An error means that the host is out of memory.
     pub fn frames(&self) -> Result<Vec<FrameId, A>, AllocError>
         ensures { IfOk result (λ frames. frames.items ≡ values_of self.now.place) }
     {
         list_frames(self.alloc, &self.places)
     }
 
-    /// The pages that have a frame, by segment and index, each with its frame. An error is want of memory.
+    /// The pages that have a frame, by segment and index, each with its frame. An error means that the host is out of
+    /// memory.
     #[tactic(auto, using(crate::proofs::Values::same_values))]
     pub fn placed(&self) -> Result<Vec<(Page, FrameId), A>, AllocError>
         ensures { IfOk result (λ placed. placed.items ≡ self.now.place) }

@@ -23,7 +23,8 @@ use std::alloc::{AllocError, Allocator};
 use std::collections::BTreeMap;
 
 impl<A: Allocator + Copy> Areas<A> {
-    /// Whether `split_policy` would set the policy of a range: EINVAL and then EFAULT as there. It takes no memory.
+    /// Whether `split_policy` would set the policy of a range: returns EINVAL and then EFAULT as it does. It takes no
+    /// memory.
     pub fn check_policy(&self, pid: Pid, addr: u64, len: u64) -> Result<(), Errno>
         ensures ok { OnOk result (range_refusal self.now pid addr len ≡ None) }
         ensures err { IfErr result (λ e. range_refusal self.now pid addr len ≡ Some e) }
@@ -73,7 +74,7 @@ impl<A: Allocator + Copy> Areas<A> {
 }
 
 impl<A: Allocator + Copy> AreaTable<A> {
-    /// Whether an area of the process is over each of so many pages from a page number on.
+    /// Whether an area of the process is over each of the `count` page numbers from `first` on.
     pub(crate) fn is_mapped(&self, pid: Pid, first: Vpn, count: u64) -> bool
         requires apart { AreasAreApart self.now.areas }
         requires whole { AllByRecursion IsSomePages self.now.areas }

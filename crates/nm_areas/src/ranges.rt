@@ -8,7 +8,7 @@ use nm_types::Vpn;
 use nm_types::limits::{PAGE_BYTES, PAGE_NUMBERS};
 
 /// The first page number of `pages` pages from an address on, where it is a page's address and they are at least one
-/// page and end at 2^47 at the latest. None where a call for them is refused with EINVAL.
+/// page and end at 2^47 at the latest. None if a call for them is refused with EINVAL.
 pub fn range_start(addr: u64, pages: u64) -> Option<Vpn>
     ensures some { IfSome result (λ first. (first ≡ addr / 4096) × (is_range addr pages ≡ true) × (0 < pages) × (first + pages ≤ 2 ^ 35)) }
     ensures none { IfNone result (is_range addr pages ≡ false) }

@@ -35,7 +35,7 @@ impl<A: Allocator + Copy> AreaTable<A> {
     }
 
     /// Splits the area of the process that begins in front of a page number and is over it, so that one begins there.
-    /// Gives that area with its first page number, or None where there is nothing to split.
+    /// Returns that area with its first page number, or None if there is nothing to split.
     fn split(&mut self, pid: Pid, at: Vpn) -> Result<Option<(Vpn, Area)>, AllocError>
         requires apart { AreasAreApart self.old.areas }
         requires whole { AllByRecursion IsSomePages self.old.areas }
@@ -71,7 +71,7 @@ impl<A: Allocator + Copy> AreaTable<A> {
         Ok(Some((start, area)))
     }
 
-    /// Takes away the area that begins at a page number, and gives another its old length back. It takes no memory.
+    /// Removes the area that begins at a page number, and gives another its old length back. It takes no memory.
     fn unsplit(&mut self, pid: Pid, at: Vpn, whole: (Vpn, Area))
         requires same { IfSome (get spot_cmp (without spot_cmp self.old.areas (pid, at)) (pid, whole.0)) (λ a. a.page.segment ≡ whole.1.page.segment) }
         ensures { self.new ≡ with_areas self.old (replace spot_cmp (without spot_cmp self.old.areas (pid, at)) (pid, whole.0) whole.1) }

@@ -27,13 +27,14 @@ use std::alloc::Allocator;
 use std::collections::BTreeMap;
 
 impl<A: Allocator + Copy> Areas<A> {
-    /// A process lets go so many pages from an address on, where it may have holes. Its areas are split at both ends,
-    /// and those between go. So do segments that no area shows any more. Pages that no area of any process covers any
-    /// more lose their frames: the answer lists them with the frames that they had, by ascending address, a page at its
-    /// lowest.
+    /// Unmaps `pages` pages of a process from an address on, among which there may be holes. Its areas are split at
+    /// both ends, and those between go. So do segments that no area shows any more. Pages that no area of any process
+    /// covers any more lose their frames: returns them with the frames that they had, by ascending address, each page
+    /// at its lowest.
     ///
-    /// EINVAL: the address is not a page's, there is no page, or they end past 2^47. Memory is asked for only where the call
-    /// is not refused; the answer has room for no more than the pages that have frames, and than those of the range.
+    /// EINVAL: the address is not a page's, there is no page, or they end past 2^47. Memory is asked for only where the
+    /// call is not refused; the list that is returned takes room for no more pages than have frames, and for no more
+    /// than the range has.
     pub fn remove(
         &mut self,
         pid: Pid,
@@ -68,8 +69,8 @@ impl<A: Allocator + Copy> Areas<A> {
 
 impl<A: Allocator + Copy> AreaTable<A> {
     /// Pages that the areas of a process show that begin from one page number up to another, and that no other area
-    /// covers, lose their frames. They are put behind those of a list that has room for them. The steps are those of the
-    /// other areas.
+    /// covers, lose their frames. They are appended to a list that has room for them. The steps are those of the other
+    /// areas.
     fn lose_all(
         &self,
         steps: &BTreeMap<Page, Step, A>,
@@ -97,7 +98,7 @@ impl<A: Allocator + Copy> AreaTable<A> {
         }
     }
 
-    /// Takes away the areas of a process that begin from one page number up to another, and the segments that no other
+    /// Removes the areas of a process that begin from one page number up to another, and the segments that no other
     /// area shows.
     fn drop_own(&mut self, pid: Pid, first: Vpn, end: Vpn)
         requires shown { AllShown self.old.areas self.old.segments }
@@ -124,7 +125,7 @@ impl<A: Allocator + Copy> AreaTable<A> {
         }
     }
 
-    /// Takes away a segment, if it is there.
+    /// Removes a segment, if it is there.
     fn drop_segment(&mut self, number: u32)
         ensures { self.new ≡ record self.old { segments = without nat_cmp self.old.segments number } }
     {
@@ -132,8 +133,8 @@ impl<A: Allocator + Copy> AreaTable<A> {
     }
 }
 
-/// Pages that an area shows, and that none of the areas covers whose steps these are, lose their frames. They are put
-/// behind those of a list that has room for them. No other area covers a page of a private segment.
+/// Pages that an area shows, and that none of the areas covers whose steps these are, lose their frames. They are
+/// appended to a list that has room for them. No other area covers a page of a private segment.
 fn lose_area<A: Allocator + Copy>(
     steps: &BTreeMap<Page, Step, A>,
     area: Area,
@@ -158,8 +159,8 @@ fn lose_area<A: Allocator + Copy>(
 }
 
 /// Pages of a shared segment that an area shows, and that none of the areas covers whose steps these are, lose their
-/// frames. They are put behind those of a list that has room for them. It goes from change to change: between two as many
-/// areas cover each page.
+/// frames. They are appended to a list that has room for them. It goes from change to change: between two as many areas
+/// cover each page.
 fn lose<A: Allocator + Copy>(
     steps: &BTreeMap<Page, Step, A>,
     area: Area,
@@ -187,8 +188,8 @@ fn lose<A: Allocator + Copy>(
     }
 }
 
-/// The pages of a segment from an index up to another lose their frames. They are put behind those of a list that has
-/// room for them.
+/// The pages of a segment from an index up to another lose their frames. They are appended to a list that has room for
+/// them.
 fn lose_stretch<A: Allocator + Copy>(
     segment: u32,
     first: u64,
@@ -211,7 +212,7 @@ fn lose_stretch<A: Allocator + Copy>(
     }
 }
 
-/// A page loses its frame, and is put behind those of a list that has room for it.
+/// A page loses its frame, and is appended to a list that has room for it.
 fn lose_page<A: Allocator + Copy>(
     page: Page,
     frame: FrameId,

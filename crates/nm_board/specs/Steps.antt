@@ -1,4 +1,4 @@
--- What each step tells the hand that makes it.
+-- What the hand that makes a step learns from it.
 use Rattle.std.specs.Prelude.{◌≡◌, ℕ, ◌-◌, ◌+◌, ◌<◌, ◌≤◌, ◌≢◌, true, false, List, [], ◌∷◌, ◌++◌, length, Option, Some, ◌||◌}
 use mathlib.Core.Option.{some}
 use lib.ListN.{get_elem?}

@@ -1,4 +1,4 @@
-//! What a hand tells of itself.
+//! What can be asked of a hand.
 
 ghost use Rattle.std.specs.Prelude.{◌≡◌, ◌<◌, ◌≤◌, true};
 ghost use Rattle.nm_board.specs.Shown.{HasEach, HasNoneTwice, OutIsTheRest};
@@ -15,8 +15,9 @@ impl<A: Allocator + Copy> Hand<A> {
         self.shares
     }
 
-    /// Whether it drew where no job was left. A hand of all shares that did has drawn each ticket once. No hand drew a
-    /// ticket twice, and what a hand drew it gave back, or it is out with it.
+    /// Whether it tried to draw when no job was left, or a hand did that it was split off from or took in. A hand of
+    /// all shares that is past the end has drawn each ticket once. No hand draws a ticket twice, and what a hand drew
+    /// it either gave back or still has out.
     pub fn past_end(&self) -> bool
         ensures value { result ≡ self.now.past_end }
         ensures once { HasNoneTwice self.now }

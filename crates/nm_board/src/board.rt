@@ -26,15 +26,15 @@ pub(crate) const GIVEN: usize = 8;
 /// wait for one line of the cache.
 const WORDS: [u64; 9] = [0; 9];
 
-/// How many shares there are of a board, which its hands have together.
+/// How many shares a board has, over all its hands.
 pub(crate) const SHARES: u64 = 64;
 
-/// Copying jobs that lie ready for threads. Contracts see the list of the jobs as they were laid, and which board it
-/// is.
+/// Copying jobs that are ready for threads. Contracts see the list of the jobs as they were when the board was made,
+/// and which board it is.
 #[derive(Drop)]
 pub struct Board<A: Allocator + Copy> {
     pub(crate) table: Table<Slot<A>, View<A>, Snapshot<Vec<CopyJob<A>, A>>, Tickets, A>,
-    /// The list in which the jobs came, empty, with room to give them back in.
+    /// The list in which the jobs came: empty, with room to return them in.
     room: Vec<CopyJob<A>, A>,
 }
 
@@ -59,8 +59,8 @@ pub struct Short<A: Allocator + Copy> {
 }
 
 impl<A: Allocator + Copy> Board<A> {
-    /// Lays jobs whose tickets count up from 0. With the board comes a hand of all 64 shares. Where there is no memory
-    /// for it, the jobs come back.
+    /// Makes a board of jobs whose tickets count up from 0, and a hand with all 64 shares. If the host is out of
+    /// memory, returns the jobs.
     pub fn lay(
         alloc: A,
         jobs: Vec<CopyJob<A>, A>,
@@ -91,9 +91,9 @@ impl<A: Allocator + Copy> Board<A> {
         }
     }
 
-    /// Draws the job of the next ticket, which is above each ticket that the hand drew before. Where no job is left to
-    /// draw, it draws none, and the hand is past the end. The hand is one of this board and not past the end. It waits for no
-    /// other thread and takes no memory.
+    /// Draws the job of the next ticket, which is above each ticket that the hand drew before. If no job is left,
+    /// returns None, and the hand is past the end. The hand must be one of this board and not past the end. A draw
+    /// waits for no other thread and takes no memory.
     pub fn draw(&self, hand: &mut Hand<A>) -> Option<CopyJob<A>>
         requires own { hand.old.board ≡ self.now }
         requires open { hand.old.past_end ≡ false }
@@ -127,8 +127,9 @@ impl<A: Allocator + Copy> Board<A> {
             .fetch_add::<Giving>(&mut hand.seat, GIVEN, 1);
     }
 
-    /// All jobs in the order of their tickets, each as it was laid and copied. Where some ticket was not given back,
-    /// the board and the hand come back: for a hand of all shares, a ticket that is still out with it.
+    /// Returns all jobs in the order of their tickets, each as it was when the board was made, and copied. If some
+    /// ticket was not given back, returns the board and the hand: for a hand of all shares, that ticket is still out
+    /// with it.
     pub fn clear(self, mut hand: Hand<A>) -> Result<Vec<CopyJob<A>, A>, Short<A>>
         requires own { hand.board ≡ self }
         requires past_end { hand.past_end ≡ true }

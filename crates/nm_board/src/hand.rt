@@ -31,8 +31,8 @@ impl<A: Allocator + Copy> Model for Hand<A> {
 }
 
 impl<A: Allocator + Copy> Hand<A> {
-    /// Splits off a new hand with so many of this one's shares, 1 to all but one. The new one has drawn nothing, and is past
-    /// the end where this one is.
+    /// Splits off a new hand with `shares` of this one's shares, 1 to all but one. The new one has drawn nothing, and
+    /// is past the end where this one is.
     pub fn split(&mut self, board: &Board<A>, shares: u64) -> Hand<A>
         requires own { self.old.board ≡ board.now }
         requires some { 0 < shares }
@@ -50,7 +50,7 @@ impl<A: Allocator + Copy> Hand<A> {
         }
     }
 
-    /// Takes in another hand, its shares and its tickets. Both have given back all that they drew. A hand that so has
+    /// Takes in another hand, its shares and its tickets. Both have given back all that they drew. A hand that then has
     /// all shares, and of which a part was past the end, has drawn each ticket once.
     pub fn join(&mut self, board: &Board<A>, other: Hand<A>)
         requires own { (self.old.board ≡ board.now) × (other.board ≡ board.now) }

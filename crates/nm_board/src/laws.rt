@@ -4,14 +4,14 @@ ghost use Rattle.nm_board.specs.Stages.{EachIsAtOneStage, DrawTakesTheFirst, Lat
 
 use std::alloc::Allocator;
 
-/// Whenever one looks, the words and the hands of a board show each job at one stage: it lies, one hand has it, or it
-/// was given back.
+/// At any time, the words and the hands of a board show each job at one stage: it lies on the board, one hand has it,
+/// or it was given back.
 pub fn stages_are_shown<A: Allocator + Copy>()
     ensures { EachIsAtOneStage A }
 {}
 
-/// A draw takes the first job that lies into the hand that draws, a give gives back the job that the hand took last,
-/// and nothing else changes a job's stage: no draw where no job is left, no split and no join.
+/// A draw moves the first job that lies on the board into the hand that draws, a give puts back the job that the hand
+/// took last, and nothing else changes a job's stage: no draw where no job is left, no split and no join.
 pub fn steps_are_events<A: Allocator + Copy>()
     ensures draw { DrawTakesTheFirst A }
     ensures late { LateDrawTakesNone A }

@@ -1,4 +1,4 @@
-//! The board's rule, and what each step tells the hand that makes it. These types are for the proofs alone.
+//! The board's rule, and what the hand that makes a step learns from it. These types are for the proofs alone.
 
 ghost use Rattle.std.specs.Prelude.{ℕ};
 ghost use Rattle.nm_board.specs.Rule.{IsKept, first_view, spent_view};
@@ -63,7 +63,7 @@ impl Amount for Brand {
     ghost amount = { 1 };
 }
 
-/// The split of so many shares off a hand.
+/// The split of `N.amount` shares off a hand.
 pub struct Cut<N> {
     amount: PhantomData<N>,
 }

@@ -39,7 +39,7 @@ pub(crate) fn put_in<A: Allocator + Copy>(
     shelf.exchange(seat, slot, Some(job));
 }
 
-/// Cuts a seat with so many shares off another.
+/// Cuts a seat with `shares` shares off another.
 pub(crate) fn cut<N: Amount, A: Allocator + Copy>(
     shelf: &Shelf<A>,
     seat: &mut Seat<Slot<A>, View<A>>,

@@ -82,7 +82,7 @@ module _ (y : SystemState) (q at : ℕ) where
   pins_kept s f (Some ZeroPage) = refl
   pins_kept s f (Some (Sees page)) = refl
 
-  -- what comes behind the runs changes no byte
+  -- what comes after the runs changes no byte
   ended_kept : (call : Call) → IsSound y.state → writes_or_maps call ≡ false → mem (ended y call (made_of call)).system.state q at ≡ mem (made_of call).state q at
   unfolding made_of start runs_asked accesses_asked ended
   ended_kept (Spawn pid uid home allowed privileged) h k = refl

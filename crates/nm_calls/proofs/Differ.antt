@@ -20,7 +20,7 @@ use Rattle.nm_calls.specs.MigrateLaws.{EachPageIsListedOnce}
 abbrev Differs : ℕ × Page → ℕ × Page → Type 0
 Differs e f = same_page e.1 f.1 ≡ false
 
--- each has another page than those behind it
+-- each has another page than those after it
 abbrev AllDiffer : Map ℕ Page → Type 0
 AllDiffer [] = Unit {0}
 AllDiffer (e ∷ es) = AllByRecursion (Differs e) es × AllDiffer es

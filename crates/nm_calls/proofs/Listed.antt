@@ -12,7 +12,7 @@ use Rattle.nm_calls.specs.Binding.{once, NoStrayIsListedTwice}
 abbrev differs : Located → Located → Type 0
 differs e f = same_page e.page f.page ≡ false
 
--- each is another page than those behind it
+-- each is another page than those after it
 abbrev AllDiffer : List Located → Type 0
 AllDiffer [] = Unit {0}
 AllDiffer (e ∷ es) = AllByRecursion (differs e) es × AllDiffer es

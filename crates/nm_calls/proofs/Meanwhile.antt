@@ -50,7 +50,7 @@ pub append_none : {X : Type 0} (xs : List X) → xs ++ [] ≡ xs
 append_none [] = refl
 append_none (x ∷ xs) = ap (λ l. x ∷ l) (append_none xs)
 
--- the answers that are told, and those of the other accesses by what is left, are all of them
+-- the answers that were given, and those of the other accesses by what is left, are all of them
 module _ (told : List AccessAnswer) (left : List (List AccessAnswer)) (run : ℕ) (runs : List ℕ) (all : List AccessAnswer) where
   next_told : told ++ in_order (run ∷ runs) left ≡ all → (told ++ take 1 (list_at left run)) ++ in_order runs (slice_set left run (drop 1 (list_at left run))) ≡ all
   next_told is = append_assoc told (take 1 (list_at left run)) (in_order runs (slice_set left run (drop 1 (list_at left run)))) ∙ is
@@ -63,7 +63,7 @@ module _ (told : List AccessAnswer) (left : List (List AccessAnswer)) (run : ℕ
       ∙ ap (λ l. l ++ in_order runs (slice_set left run [])) (append_none told)
       ∙ ap (λ ls. told ++ in_order runs ls) (set_past left run [] past)) ∙ next_told is
 
-  -- an access of a run whose answers are all told
+  -- an access of a run whose answers are all given
   pub none_told : (left' : List (List AccessAnswer)) → list_at left run ≡ [] → left' ≡ slice_set left run [] → told ++ in_order (run ∷ runs) left ≡ all → told ++ in_order runs left' ≡ all
   none_told left' none is' is =
       ap (λ ls. told ++ in_order runs ls) is'

@@ -1,4 +1,4 @@
--- The outcome of a call, where it is refused and where it is not, and where the host has no memory for it.
+-- The outcome of a call: where it is refused, where it is not, and where the host has no memory for it.
 use Rattle.std.proofs.Common.{◌≡◌, ℕ, suc, ◌≤◌, Bool, false, List, [], ◌∷◌, length, refl, sym, ap, subst, ◌∙◌, inl, inr, arith, slice_index_or, Some, None}
 use Rattle.std.specs.Prelude.{◌-◌}
 use Rattle.nm_types.specs.declared.errno.Errno.{Errno}

@@ -40,7 +40,7 @@ take_behind (x ∷ xs) ys k =
     let e : suc (length xs) + k ≡ suc (length xs + k) = omega arith in
     ap (λ n. take n (x ∷ xs ++ ys)) e ∙ ap (λ l. x ∷ l) (take_behind xs ys k)
 
--- so many of all runs are made, and these are left
+-- `made` of all runs are made, and these are left
 pub record HavePassed (start : State) (all rest : List Stretch) (s : State) (made : ℕ) : Type 0 where
   pub front : List Stretch
   pub joined : front ++ rest ≡ all
@@ -70,7 +70,7 @@ all_passed start all rest s made h none =
     append_none [] = refl
     append_none (x ∷ xs) = ap (λ l. x ∷ l) (append_none xs)
 
--- want of memory for one of them
+-- no memory for one of them
 pub stopped : (start : State) (all runs rest : List Stretch) (s t : State) (made k : ℕ) → HavePassed start all (runs ++ rest) s made → k < length runs → t ≡ slice_index_or (states_of s runs) k s
     → (made + k < length all) × (t ≡ slice_index_or (states_of start all) (made + k) start)
 stopped start all runs rest s t made k h lt is =

@@ -12,7 +12,7 @@ use Rattle.nm_calls.proofs.Meanwhile.{differ}
 pub one_more : (k run : ℕ) (before : List ℕ) (b : Bool) → (run == k) ≡ b → count_by (λ r. r == k) (run ∷ before) ≡ cond b 1 0 + count_by (λ r. r == k) before
 one_more k run before b h = sum_by-cons (λ r. cond (r == k) 1 0) run before ∙ ap (λ b. cond b 1 0 + count_by (λ r. r == k) before) h
 
--- once its front is told, the rest of a list is there
+-- once its front is given, the rest of a list is there
 pub shorter : (left : List (List AccessAnswer)) (run : ℕ) → list_at (slice_set left run (drop 1 (list_at left run))) run ≡ drop 1 (list_at left run)
 shorter left run =
     let rest = drop 1 (list_at left run) in
@@ -24,7 +24,7 @@ shorter left run =
     (cases_lt run (length left))
 
 module _ (answers : List (List AccessAnswer)) where
-  -- of each run's answers those are left that were not told
+  -- of each run's answers those are left that were not given
   abbrev IsLeft : List ℕ → List (List AccessAnswer) → Type 0
   IsLeft before left = (k : ℕ) → list_at left k ≡ drop (count_by (λ r. r == k) before) (list_at answers k)
 

@@ -33,7 +33,7 @@ is_refusal (Lines lines) = false
 some_none : (e : Errno) → Some e ≡ None → ⊥
 some_none e h = true≢false (ap (λ (o : Option Errno). elim o [ Some d ↦ true | None ↦ false ]) h)
 
--- an access that is not refused answers no refusal
+-- the answer to an access that is not refused is no refusal
 access_answers : (a : engine.AccessAnswer) → refusal_in a ≡ None → is_refusal (shown a) ≡ false
 access_answers (engine.Bytes bytes) h = refl
 access_answers engine.Done h = refl
@@ -66,7 +66,7 @@ busy_error : (y : SystemState) (node : ℕ) (s : State) (stays : Bool) (e : Errn
 busy_error y node s true e h = ap error_of h
 busy_error y node s false e h = absurd (no_error Done e refl h)
 
--- a call that is not refused at first answers no refusal, but for the late one
+-- the answer of a call that is not refused at first is no refusal, but for the late one
 call_answers : (y : SystemState) (call : Call) (made : Ran) (e : Errno) → refused y.state call ≡ None → (ended y call made).answer ≡ Refusal e → late_refusal call ≡ Some e
 unfolding ended refused
 call_answers y (Spawn pid uid home allowed privileged) made e h is = absurd (no_error Done e refl is)

@@ -71,7 +71,7 @@ flat_map_up f k =
     let none : 0 + k ≡ k = omega arith in
     ap (flat_map f) (up_next 0 k ∙ ap (λ m. up_from 0 k ++ m ∷ []) none) ∙ flat_map_more f (up_from 0 k) k
 
--- the first of a list, and those behind it
+-- the first of a list, and those after it
 pub head_is : (ns : List ℕ) (o : Option ℕ) (n : ℕ) → o ≡ slice_get ns 0 → o ≡ Some n → ns ≡ n ∷ drop 1 ns
 head_is [] o n at is = cc
 head_is (m ∷ ns) o n at is = let e : m ≡ n = some_is (sym at ∙ is) in ap (λ k. k ∷ ns) e

@@ -47,11 +47,11 @@ all_run start all left during k s statuses answers e h = (
   ap (λ l. (runs_from k s l during).state) (sym e) ∙ h.state_is,
 )
 
--- the state after so many runs
+-- the state after the first `k` runs
 pub some_run : (start : State) (all left : List Stretch) (during : List (ℕ × Access)) (k : ℕ) (s : State) (statuses : List ℤ) (answers : List (List AccessAnswer)) → HaveRun start all left during k s statuses answers → s ≡ (runs_from 0 start (take k all) during).state
 some_run start all left during k s statuses answers h = h.front_is 0 ∙ ap (λ j. (runs_from 0 start (take j all) during).state) (omega arith)
 
--- the first of the runs that are left, and those behind it
+-- the first of the runs that are left, and those after it
 pub next_left : {A : Type 0} (runs : List (Run A)) (k : ℕ) (run : Run A) → k < length runs → run ≡ slice_index_or runs k run → drop k runs ≡ run ∷ drop (k + 1) runs
 next_left runs k run lt is =
     let n : suc k ≡ k + 1 = omega arith in
@@ -63,6 +63,6 @@ not_last runs k lt =
     let n : length (stretches_of runs) ≡ length runs = grind (arith, common_steps) in
     omega (arith, lt, n)
 
--- how many requests the first one has, and those behind it
+-- how many requests the first one has, and those after it
 pub entries_left : {A : Type 0} (runs rest : List (Run A)) (run : Run A) → runs ≡ run ∷ rest → sum_by (λ (r : Run A). length r.wanted.items) runs ≡ length run.wanted.items + sum_by (λ (r : Run A). length r.wanted.items) rest
 entries_left runs rest run e = ap (λ rs. sum_by (λ r. length r.wanted.items) rs) e ∙ sum_by-cons (λ r. length r.wanted.items) run rest

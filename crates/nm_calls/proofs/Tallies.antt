@@ -1,4 +1,4 @@
--- What was counted of the pages in an area tells of them.
+-- What was counted of the pages in an area is true of them.
 use Rattle.std.proofs.Common.{◌≡◌, ℕ, suc, zero, ◌+◌, ◌<◌, ◌≤◌, Bool, true, false, cond, List, [], ◌∷◌, ◌++◌, length, refl, sym, ap, ◌∙◌, inl, inr, eq-eqb, slice_set, slice_index_or, arith}
 use Rattle.std.proofs.lemmas.Bool.{cases_order, eqb-true, ne_eqb}
 use Rattle.std.proofs.lemmas.List.{get_or-set_same, get_or-set_other, get_or-replicate, length-set}
@@ -65,7 +65,7 @@ here_is on i node lt len e = rw (sym e) (get_or-set_same on i _ 0 (omega (arith,
 other_is : (on : List ℕ) (i node : ℕ) → (i ≡ node → ⊥) → slice_index (slice_set on i (slice_index_or on i 0 + 1)) node ≡ slice_index on node
 other_is on i node h = get_or-set_other on i node _ 0 (λ e. h (sym e))
 
--- so many pages are counted, and these are left
+-- `pages` pages are counted, and these are left
 pub record Counted (s : State) (all rest : List Located) (pages most : ℕ) (on : List ℕ) : Type 0 where
   pub as_many : pages + length rest ≡ length all
   pub greatest : fold (λ most p. max most (length (users s p.page))) most rest ≡ most_users s all

@@ -66,7 +66,7 @@ is_strict flags = flags % 2 == 1
 abbrev pub moves : ℕ → Bool
 moves flags = (flags / 2 % 2 == 1) || moves_all flags
 
--- nodes for a mode that takes none, or none for a mode that wants some
+-- nodes for a mode that takes none, or none for a mode that needs some
 abbrev pub is_misfit : ℕ → List ℕ → Bool
 is_misfit mode nodes =
     if is_none nodes then (mode == MPOL_BIND) || (mode == MPOL_INTERLEAVE)
@@ -102,7 +102,7 @@ allowed_to caller = unwrap_or (option_map (λ (i : ProcessInfo). i.allowed) call
 abbrev pub home_of : Option ProcessInfo → ℕ
 home_of caller = unwrap_or (option_map (λ (i : ProcessInfo). i.home) caller) 0
 
--- the page numbers of so many bytes, and their policy
+-- the page numbers of `len` bytes, and their policy
 abbrev pub range_of : ℕ → ℕ → ℕ → Policy → Binding
 range_of pid address len policy =
     let first = address / 4096 in record { pid = pid; first = first; end = first + pages_of len; policy = policy }

@@ -33,7 +33,7 @@ system_in s = record { state = s; run_limit = default_limit }
 abbrev pub call_by : ℕ → Asked → Call
 call_by pid a = Mbind pid a.addr a.len a.mode a.nodes a.flags
 
--- what it answers, and the system after it
+-- its answer, and the system after it
 abbrev pub bound_by : ℕ → State → Asked → Outcome
 bound_by pid s a = outcome (system_in s) (call_by pid a)
 
@@ -49,7 +49,7 @@ after s a = (bound_by 1 s a).system.state
 abbrev pub runs : State → Asked → List Stretch
 runs s a = runs_of (system_in s) (call_by 1 a)
 
--- the state after so many of its runs
+-- the state after its first `n` runs
 abbrev pub state_after : State → Asked → ℕ → State
 state_after s a n = (after_runs (system_in s) (call_by 1 a) n).state
 
@@ -72,7 +72,7 @@ second_pinned = pin (wrote (wrote (map_new one_process 1 A 2 false) 1 A 0x61) 1 
 abbrev pub both_to_1 : ℕ → Asked
 both_to_1 flags = ask A 8192 MPOL_BIND (1 ∷ []) flags
 
--- a pinned page stays, and that is told; the other has moved, and the policy is set
+-- a pinned page stays, and that is reported; the other has moved, and the policy is set
 abbrev pub PinnedPageIsTold : Type 0
 PinnedPageIsTold =
     let s = after second_pinned (both_to_1 3) in
@@ -236,7 +236,7 @@ StrayIsListedOnce =
 abbrev pub seen_by_three : State
 seen_by_three = (read (attach (spawn seen_by_two 3 300 0 (0 ∷ 1 ∷ []) true) 3 0x20000 0 0 1) 3 0x20000 1).state
 
--- what others see stays, and is told with MPOL_MF_STRICT, but moves with MPOL_MF_MOVE_ALL
+-- what others see stays, and is reported with MPOL_MF_STRICT, but moves with MPOL_MF_MOVE_ALL
 abbrev pub SharedPagesMoveWithAll : Type 0
 SharedPagesMoveWithAll =
     let all = (bound_by 3 seen_by_three (ask 0x20000 4096 MPOL_BIND (1 ∷ []) 4)).system.state in
@@ -246,7 +246,7 @@ SharedPagesMoveWithAll =
     ≡ codes "00020000 bind:1 anon=1 mapmax=2 N0=1 kernelpagesize_kB=4" ∷ [])
     × (map (λ pid. frame_at all pid 0x20000) (1 ∷ 2 ∷ 3 ∷ []) ≡ Some 4 ∷ Some 4 ∷ Some 4 ∷ [])
 
--- two or more consecutive nodes are told by the first and the last
+-- two or more consecutive nodes are written as the first and the last
 abbrev pub SetsAsText : Type 0
 SetsAsText =
     map set_text ((7 ∷ []) ∷ (0 ∷ 2 ∷ []) ∷ (0 ∷ 1 ∷ 3 ∷ []) ∷ (0 ∷ 1 ∷ 2 ∷ 5 ∷ 6 ∷ []) ∷ [])
@@ -267,7 +267,7 @@ BothProcessesAreCounted =
 abbrev pub last : ℕ
 last = 140737488351232
 
--- it is mapped, told and read; two pages are too many, and two bytes at its last byte
+-- it is mapped, shown and read; two pages are too many, and two bytes at its last byte
 abbrev pub LastPage : Type 0
 LastPage =
     let s = map_new (with_second one_process) 1 last 1 false in

@@ -1,9 +1,9 @@
--- What can be asked of the machine, and what it answers.
+-- What can be asked of the machine, and its answers.
 use Rattle.std.specs.Prelude.{ℕ, ℤ, Bool, List, Option}
 use Rattle.nm_types.specs.declared.errno.Errno.{Errno}
 use Rattle.nm_engine.specs.Touch.{Access, AccessAnswer}
 
--- a call and its arguments; a set of nodes is the list of its nodes upwards
+-- a call and its arguments; a set of nodes is the list of its nodes in ascending order
 pub data Call : Type 0 where
   Spawn : (pid uid home : ℕ) (allowed : List ℕ) (privileged : Bool) → Call
   MapPages : (pid addr pages : ℕ) (shared : Bool) → Call

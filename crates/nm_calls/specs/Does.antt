@@ -1,4 +1,4 @@
--- How what a call answers and does is told by its definition.
+-- How a contract says that the answer and the effect of a call are those of its definition.
 use Rattle.std.specs.Prelude.{◌≡◌, ◌⊎◌, ℕ, ◌<◌, ◌≤◌, ◌-◌, Bool, false, List, length, map, slice_index_or, None, Result, Ok, Err}
 use Rattle.nm_types.specs.declared.errno.Errno.{Errno}
 use Rattle.nm_types.specs.State.{State}
@@ -26,13 +26,13 @@ abbrev pub HostLeaves : SystemState → Call → ℕ → Bool → SystemState �
 HostLeaves old call runs policy_set new =
     (refused_at_once old.state call ≡ None) × LeavesSome old call runs policy_set new
 
--- a call answers as defined and leaves the system as defined, also where it is refused; or the host has no memory for it
+-- the answer of a call and the system after it are as defined, also if it is refused; or the host has no memory for it
 abbrev pub Does : {T : Type 0} → (T → Answer) → Result T CallError → SystemState → SystemState → Call → Type 0
 Does view (Ok value) old new call = outcome old call ≡ record { answer = view value; system = new }
 Does view (Err (Refused e)) old new call = outcome old call ≡ record { answer = Refusal e; system = new }
 Does view (Err (HostMemory runs policy_set)) old new call = HostLeaves old call runs policy_set new
 
--- a call that takes no memory answers as defined and leaves the system as defined, also where it is refused
+-- the answer of a call that takes no memory and the system after it are as defined, also if it is refused
 abbrev pub DoesOrRefuses : {T : Type 0} → (T → Answer) → Result T Errno → SystemState → SystemState → Call → Type 0
 DoesOrRefuses view (Ok value) old new call = outcome old call ≡ record { answer = view value; system = new }
 DoesOrRefuses view (Err e) old new call = outcome old call ≡ record { answer = Refusal e; system = new }

@@ -20,9 +20,9 @@ runs_named during = map (λ d. d.0) during
 abbrev pub list_at : {X : Type 0} → List (List X) → ℕ → List X
 list_at lists k = slice_index_or lists k []
 
--- the answers in the order of the accesses: for each run those to its accesses are given, in their order. The first access
--- has the first answer of its run, and the others are told by the answers that are left. An access of a run that is not
--- made has no answer
+-- the answers in the order of the accesses: for each run those to its accesses are given, in their order. The first
+-- access has the first answer of its run, and the others have theirs among the answers that are left. An access of a
+-- run that is not made has no answer
 abbrev pub in_order : List ℕ → List (List AccessAnswer) → List AccessAnswer
 in_order [] answers = []
 in_order (run ∷ runs) answers =
@@ -35,7 +35,7 @@ by_place before [] answers = []
 by_place before (run ∷ runs) answers =
     take 1 (drop (count_by (λ r. r == run) before) (list_at answers run)) ++ by_place (run ∷ before) runs answers
 
--- lists of accesses are those of so many runs
+-- lists of accesses are those of the first `count` runs
 abbrev pub AreByRun : {A : Type 0} → List (Vec (Asked A) A) → ℕ → List (ℕ × Access) → Type 0
 AreByRun lists count during =
     (length lists ≡ count)

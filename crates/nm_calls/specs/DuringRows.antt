@@ -15,8 +15,8 @@ use Rattle.nm_calls.specs.BindingRows.{system_in, left_in}
 abbrev pub moving : State → List ℕ → List ℕ → List (ℕ × Access) → Outcome
 moving s pages nodes during = outcome (system_in s) (MovePages 1 0 pages nodes 2 during)
 
--- four pages fill node 0. One of them moves, and cannot be read meanwhile; the next can; and a page that is written for the
--- first time takes the frame behind the one that is reserved, and not the one that becomes free
+-- four pages fill node 0. One of them moves, and cannot be read meanwhile; the next can; and a page that is written for
+-- the first time takes the frame after the one that is reserved, and not the one that becomes free
 abbrev pub FramesAreReserved : Type 0
 FramesAreReserved =
     let o = moving four_of_five (A ∷ []) (1 ∷ []) ((0, Read 1 A 1) ∷ (0, Read 1 B 1) ∷ (0, Write 1 E (0x65 ∷ [])) ∷ []) in

@@ -14,6 +14,6 @@ frame_shown (Held frame) = Some frame
 abbrev pub entries_shown : List (ℕ × Entry) → List (ℕ × Option ℕ)
 entries_shown es = map {B = ℕ × Option ℕ} (λ e. (e.0, frame_shown e.1)) es
 
--- the same of what a call answers
+-- the same of the answer of a call
 abbrev pub entries_mapped : List PagemapEntry → List (ℕ × Option ℕ)
 entries_mapped ms = map {B = ℕ × Option ℕ} (λ m. (m.vpn, m.frame)) ms

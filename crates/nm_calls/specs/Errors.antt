@@ -1,11 +1,11 @@
--- Why a call did not answer.
+-- Why a call failed.
 use Rattle.std.specs.Prelude.{ℕ, false}
 use Rattle.nm_engine.specs.declared.MachineError.{MachineError}
 use Rattle.nm_engine.specs.declared.MachineError.TheVariants as machine
 use Rattle.nm_calls.specs.declared.call_error.CallError.{CallError}
 use Rattle.nm_calls.specs.declared.call_error.CallError.TheVariants.{Refused, HostMemory}
 
--- want of memory after so many runs of a call that sets no policy
+-- the error of a host out of memory after `runs` runs of a call that sets no policy
 abbrev pub out_of_memory : ℕ → CallError
 out_of_memory runs = HostMemory runs false
 

@@ -29,7 +29,7 @@ RefusalsChangeNothing =
     (y : SystemState) (call : Call) (e : Errno) → (outcome y call).answer ≡ Refusal e →
     ((outcome y call).system ≡ y) ⊎ (late_refusal call ≡ Some e)
 
--- the state of the trail at a number is that after so many runs, made one after another
+-- the state at place `n` of the trail is that after the first `n` runs, made one after another
 abbrev pub TrailIsAfterRuns : Type 0
 TrailIsAfterRuns =
     (y : SystemState) (call : Call) (n : ℕ) (d : State) → n ≤ length (runs_of y call) →
@@ -72,7 +72,7 @@ CallsKeepMemory =
     (y : SystemState) (call : Call) (q at : ℕ) → IsSound y.state → writes_or_maps call ≡ false →
     mem (outcome y call).system.state q at ≡ byte_after y call (runs_of y call) q at
 
--- .. also on its way, where the host may leave it
+-- .. also on its way, where a host without memory may leave it
 abbrev pub TrailKeepsMemory : Type 0
 TrailKeepsMemory =
     (y : SystemState) (call : Call) (n : ℕ) (d : State) (q at : ℕ) → IsSound y.state → writes_or_maps call ≡ false →

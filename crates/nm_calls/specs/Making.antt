@@ -57,12 +57,12 @@ abbrev pub MakesRuns : {T : Type 0} → Bool → Result T CallError → State �
 MakesRuns set (Ok done) old new runs = new ≡ (runs_from 0 old runs []).state
 MakesRuns set (Err e) old new runs = Stops set e old new runs
 
--- want of memory after more runs, and whether a policy is set
+-- the same error after `made` more runs, and with the policy set or not; a refusal stays as it is
 abbrev pub later : CallError → ℕ → Bool → CallError
 later (Refused e) made set = Refused e
 later (HostMemory k policy_set) made set = HostMemory (made + k) set
 
--- so many runs can be counted
+-- `made` runs and those of the error can be counted together
 abbrev pub IsCounted : CallError → ℕ → Type 0
 IsCounted (Refused e) made = Unit {0}
 IsCounted (HostMemory k policy_set) made = made + k < 2 ^ 64

@@ -13,7 +13,7 @@ use Rattle.nm_areas.specs.Lines.{lines_of}
 use Rattle.nm_engine.specs.declared.located.Located.{Located}
 use Rattle.nm_engine.specs.Locating.{located_between}
 
--- a node is the first of the stretch behind it, or a stretch of one
+-- a node is the first of the stretch after it, or a stretch of one
 abbrev pub node_in_front : ℕ → List (ℕ × ℕ) → List (ℕ × ℕ)
 node_in_front n [] = (n, n) ∷ []
 node_in_front n (r ∷ rs) = if n + 1 == r.0 then (n, r.1) ∷ rs else (n, n) ∷ r ∷ rs
@@ -59,7 +59,7 @@ count_on pages node = count_by (λ p. p.node == node) pages
 abbrev pub most_users : State → List Located → ℕ
 most_users s pages = fold (λ most p. max most (length (users s p.page))) 0 pages
 
--- a word and a number, unless the number is too small to be told
+-- a word and a number, unless the number is too small to be shown
 abbrev pub told_from : ℕ → List ℕ → ℕ → List ℕ
 told_from least word n = if nat_lt n least then [] else word ++ decimal n
 
@@ -67,7 +67,7 @@ told_from least word n = if nat_lt n least then [] else word ++ decimal n
 abbrev pub node_text : List Located → ℕ → List ℕ
 node_text pages node = told_from 1 (codes " N" ++ decimal node ++ codes "=") (count_on pages node)
 
--- what is told of the pages in an area, where there are some
+-- what is shown of the pages in an area, if there are some
 abbrev pub pages_text : State → List Located → List ℕ
 pages_text s [] = []
 pages_text s (p ∷ ps) =

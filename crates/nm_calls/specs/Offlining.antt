@@ -44,7 +44,8 @@ online_refusal s node = first_error ((nat_le (node_count s.layout) node, Einval)
 abbrev pub with_online : List ℕ → State → State
 with_online online s = record s { online = online }
 
--- runs do not ask which nodes are online: it is all one whether a node goes offline before its pages leave it, or after
+-- runs do not ask which nodes are online: it makes no difference whether a node goes offline before its pages leave it,
+-- or after
 pub record RunsIgnoreOnline : Type 0 where
   pub runs :
       (s : State) (online : List ℕ) (runs : List Stretch) → let made = runs_from 0 s runs [] in

@@ -1,4 +1,4 @@
--- Which call is refused, what the others answer, and the state after each, also where the host refuses memory.
+-- Which call is refused, the answers of the others, and the state after each, also if the host refuses memory.
 use Rattle.std.specs.Prelude.{ℕ, ℤ, ◌+◌, ◌/◌, Bool, true, false, ◌&&◌, if◌then◌else◌, List, [], ◌∷◌, length, map, slice_index_or, Option, Some, None}
 use Rattle.nm_types.specs.declared.errno.Errno.{Errno}
 use Rattle.nm_types.specs.State.{State, free_list}
@@ -64,7 +64,7 @@ refused s (Pagemap pid) = entries_refusal s pid
 refused s Vmstat = None
 refused s (NumaMaps pid) = entries_refusal s pid
 
--- the refusals that a call comes to before it asks the host for memory: all but the want of a free frame, for an access
+-- the refusals that a call comes to before it asks the host for memory: all but the lack of a free frame, for an access
 unfoldable pub refused_at_once : State → Call → Option Errno
 refused_at_once s (ReadBytes pid addr len) = spot_refusal s pid addr len
 refused_at_once s (WriteBytes pid addr bytes) = spot_refusal s pid addr (length bytes)
@@ -113,8 +113,8 @@ late_answer late = if late then Refusal Eio else Failed 0
 abbrev pub emptied : SystemState → ℕ → State → Bool → Outcome
 emptied y node s stays = if stays then leaves y (Refusal Ebusy) s else leaves y Done (set_online s node false)
 
--- what a call that is not refused at first answers once its runs are made, and the system then: mbind tells of a page that
--- does not follow its policy still, offline of one that stays, and the moves stay
+-- the answer of a call that is not refused at first, once its runs are made, and the system then: mbind reports a page
+-- that still does not follow its policy, and offline one that stays; the moves stay
 unfoldable pub ended : SystemState → Call → Ran → Outcome
 ended y (Spawn pid uid home allowed privileged) made = leaves y Done (spawn y.state pid uid home allowed privileged)
 ended y (MapPages pid addr pages shared) made =
@@ -148,7 +148,7 @@ abbrev pub unless : Option Errno → SystemState → Outcome → Outcome
 unless (Some e) y o = record { answer = Refusal e; system = y }
 unless None y o = o
 
--- what a call answers, and the system after it; one that is refused at first changes nothing
+-- the answer of a call, and the system after it; one that is refused at first changes nothing
 abbrev pub outcome : SystemState → Call → Outcome
 outcome y call =
     let made = runs_from 0 (start y call) (runs_asked y call) (accesses_asked call) in
@@ -183,6 +183,6 @@ abbrev pub trail : SystemState → Call → List State
 trail y call =
     states_from 0 (started (refused y.state call) y.state (start y call)) (runs_of y call) (accesses_asked call)
 
--- the system after so many runs of a call
+-- the system after the first `runs` runs of a call
 abbrev pub after_runs : SystemState → Call → ℕ → SystemState
 after_runs y call runs = in_state y (slice_index_or (trail y call) runs y.state)

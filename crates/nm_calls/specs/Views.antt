@@ -35,7 +35,7 @@ call_of (call.Pagemap pid) = Pagemap pid
 call_of call.Vmstat = Vmstat
 call_of (call.NumaMaps pid) = NumaMaps pid
 
--- what a call answers
+-- the answer of a call
 abbrev pub answer_of : {A : Type 0} → values_of_answers.Answer A → Answer
 answer_of answer.Done = Done
 answer_of (answer.Segment segment) = NewSegment segment

@@ -26,7 +26,7 @@ use std::thread::Threads;
 use std::vec;
 
 /// Whether the pages of a process that may use the allowed nodes may go to these nodes; else the refusal of the first
-/// entry that is refused: ENODEV where there is no such node or it is offline, and then EACCES where it is not allowed.
+/// entry that is refused: ENODEV if there is no such node or it is offline, and then EACCES if it is not allowed.
 pub(crate) fn check_targets<A: Allocator + Copy + Send + Sync>(
     machine: &Machine<A>,
     allowed: NodeMask,
@@ -74,9 +74,10 @@ pub fn run_count(nodes: &[u32], limit: usize) -> usize
     nm_runs::run_count(nodes, limit)
 }
 
-/// Makes runs one after another, whose pages so many workers copy, and puts the statuses into a list that has room for
-/// them. The accesses are made meanwhile, each in the run of its number. All that is asked for them is made ready before the
-/// first run starts, but for what a run itself wants. An error means that the host refused memory after so many runs.
+/// Makes runs one after another, whose pages `workers` workers copy, and puts the statuses into a list that has room
+/// for them. The accesses are made meanwhile, each in the run of its number. All memory is asked for before the first
+/// run starts, but for what a run itself needs. An error means that the host refused memory, and says after how many
+/// runs.
 #[tactic(auto, using(crate::proofs::Trails::first_state))]
 pub(crate) fn move_runs<
     R: Threads + Wait + Sync,
@@ -121,9 +122,9 @@ pub(crate) fn move_runs<
     })
 }
 
-/// Moves the pages of a batch, run after run, none of more entries than the limit, by so many workers. All that is asked
-/// for is made ready before the first run starts: what could be known before is not refused in the middle. An error means
-/// that the host refused memory after so many runs.
+/// Moves the pages of a batch, run after run, with at most `limit` entries in a run and `workers` workers. The runs and
+/// the lists are made before the first run starts, so that memory for them is not refused in the middle. An error means
+/// that the host refused memory, and says after how many runs.
 #[tactic(auto, using(crate::proofs::Trails::first_state))]
 pub(crate) fn move_batch<
     R: Threads + Wait + Sync,
@@ -173,7 +174,7 @@ fn copy_of<A: Allocator + Copy>(alloc: A, access: &Access<A>) -> Result<Access<A
     }
 }
 
-/// The accesses of each of so many runs, those of a run in their order.
+/// The accesses of each of the first `count` runs, those of a run in their order.
 pub(crate) fn by_run<A: Allocator + Copy + Send + Sync>(
     alloc: A,
     during: &[InFlight<A>],
@@ -193,8 +194,8 @@ pub(crate) fn by_run<A: Allocator + Copy + Send + Sync>(
     Ok(lists)
 }
 
-/// Puts the answers to accesses, which are in the order of the runs, into a list that has room for them, in the order of the
-/// accesses.
+/// Puts the answers to accesses, which come in the order of the runs, into a list that has room for them, in the order
+/// of the accesses.
 pub(crate) fn in_order<A: Allocator + Copy + Send + Sync>(
     during: &[InFlight<A>],
     mut told: Vec<vec::IntoIter<AccessAnswer<A>, A>, A>,

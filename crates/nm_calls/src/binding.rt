@@ -40,7 +40,7 @@ pub(crate) struct Binding {
     pub(crate) pid: Pid,
     /// The first page number.
     pub(crate) first: Vpn,
-    /// The one behind the last.
+    /// The one after the last.
     pub(crate) end: Vpn,
     /// The policy.
     pub(crate) policy: Policy,
@@ -73,7 +73,8 @@ fn policy_of(mode: u32, nodes: NodeMask) -> Policy
     }
 }
 
-/// Whether a mode takes this set of nodes: MPOL_DEFAULT and MPOL_LOCAL take none, MPOL_BIND and MPOL_INTERLEAVE want some.
+/// Whether a mode takes this set of nodes: MPOL_DEFAULT and MPOL_LOCAL take none, MPOL_BIND and MPOL_INTERLEAVE need
+/// some.
 fn fits(mode: u32, nodes: NodeMask) -> bool
     ensures { result ≡ not (is_misfit mode nodes) }
 {
@@ -95,8 +96,8 @@ pub(crate) struct Asked {
     pub(crate) flags: MoveFlags,
 }
 
-/// Whether a mode is unknown, or nodes do not fit it, or one of them is none of the machine, or none of them is online and
-/// may be used.
+/// Whether a mode is unknown, or nodes do not fit it, or one of them is not in the machine, or none of them is online
+/// and may be used.
 fn is_bad_set<A: Allocator + Copy + Send + Sync>(
     machine: &Machine<A>,
     allowed: NodeMask,
@@ -111,9 +112,9 @@ fn is_bad_set<A: Allocator + Copy + Send + Sync>(
     nodes.len() != 0 && usable(machine, allowed, nodes).len() == 0
 }
 
-/// What a caller asks for. ESRCH (no such caller); EINVAL (a flag or a mode that is unknown, nodes that do not fit the mode,
-/// a node that is none of the machine, no node that is online and that the caller may use); EPERM (MPOL_MF_MOVE_ALL
-/// without privilege).
+/// What a caller asks for. ESRCH (no such caller); EINVAL (a flag or a mode that is unknown, nodes that do not fit the
+/// mode, a node that the machine does not have, no node that is online and that the caller may use); EPERM
+/// (MPOL_MF_MOVE_ALL without privilege).
 fn asked_of<A: Allocator + Copy + Send + Sync>(
     machine: &Machine<A>,
     caller: Pid,
@@ -239,9 +240,10 @@ fn is_late<A: Allocator + Copy + Send + Sync>(
     flags.is_strict() && some_stray(machine, policy, pages)
 }
 
-/// Sets a policy, and moves the pages of its range that are not where it wants them, where the flags ask for it. All that is
-/// asked for before the policy is set is made ready before. EIO (MPOL_MF_STRICT and a flag to move, and a page is not where
-/// the policy wants it after the moves, which stay).
+/// Sets a policy, and moves the pages of its range that are not where it wants them, where the flags ask for it. The
+/// list of pages and the way in which they go are made before the policy is set, so that memory for them is not refused
+/// after it. EIO (MPOL_MF_STRICT and a flag to move, and a page is not where the policy wants it after the moves, which
+/// stay).
 pub(crate) fn bind<R: Threads + Wait + Sync, A: Allocator + Copy + Send + Sync, G: Gate + Sync>(
     rt: &R,
     alloc: A,

@@ -1,4 +1,4 @@
-//! The calls of a system, and what they answer, as values.
+//! The calls of a system, and their answers, as values.
 
 ghost use Rattle.std.specs.Prelude.{◌≡◌, length};
 
@@ -62,8 +62,8 @@ pub struct Batch<A: Allocator + Copy + Send + Sync> {
 /// A read or a write that is made while the pages of a run move.
 #[derive(Debug, Drop)]
 pub struct InFlight<A: Allocator + Copy + Send + Sync> {
-    /// The number of the run in its call, from 0. It is to be below `run_count`: an access of a run that the call does not
-    /// make has no answer, and the answers behind it move up.
+    /// The number of the run in its call, from 0. It must be below `run_count`: an access of a run that the call does
+    /// not make has no answer, and the answers after it move up.
     pub run: usize,
     /// What is read or written.
     pub access: Access<A>,
@@ -136,7 +136,7 @@ pub enum Call<A: Allocator + Copy + Send + Sync> {
     Map(NewArea),
     /// Makes an area over a stretch of a shared segment.
     Attach(Attachment),
-    /// Lets go so many pages from an address on.
+    /// Unmaps pages from an address on.
     Unmap {
         pid: Pid,
         addr: u64,
@@ -156,7 +156,7 @@ pub enum Call<A: Allocator + Copy + Send + Sync> {
         pid: Pid,
         addr: u64,
     },
-    /// Reads so many bytes at an address.
+    /// Reads bytes at an address.
     Read {
         pid: Pid,
         addr: u64,
@@ -200,10 +200,10 @@ pub enum Call<A: Allocator + Copy + Send + Sync> {
     },
 }
 
-/// What a batch answers.
+/// The answer to a batch.
 #[derive(Debug, Drop)]
 pub struct Moved<A: Allocator + Copy + Send + Sync> {
-    /// How many entries failed, for a pin or for want of a free frame: those with status -16 or -12.
+    /// How many entries failed, for a pin or for lack of a free frame: those with status -16 or -12.
     pub failed: usize,
     /// The status of each entry: the node where its page is, or an error's number with a minus sign.
     pub statuses: Vec<i32, A>,
@@ -221,10 +221,10 @@ pub struct PagemapEntry {
     pub frame: Option<FrameId>,
 }
 
-/// What a call that is not refused answers.
+/// The answer of a call that is not refused.
 #[derive(Debug, Drop)]
 pub enum Answer<A: Allocator + Copy + Send + Sync> {
-    /// Nothing to be told.
+    /// Nothing to report.
     Done,
     /// The number of a new segment.
     Segment(u32),
@@ -232,7 +232,7 @@ pub enum Answer<A: Allocator + Copy + Send + Sync> {
     Bytes(Vec<u8, A>),
     /// The statuses of a batch, or of pages that are looked at, where none failed.
     Statuses(Moved<A>),
-    /// How many pages failed to move, for a pin or for want of a free frame.
+    /// How many pages failed to move, for a pin or for lack of a free frame.
     Failed(usize),
     /// Frames, the front first.
     Frames(Vec<FrameId, A>),

@@ -1,4 +1,4 @@
-//! Why a call did not answer.
+//! Why a call failed.
 
 ghost use Rattle.std.specs.Prelude.{◌≡◌};
 ghost use Rattle.nm_calls.specs.declared.call_error.CallError.TheVariants.{Refused};
@@ -9,11 +9,11 @@ use nm_types::Errno;
 use std::alloc::{AllocError, AllocFailed};
 use thiserror::Error;
 
-/// Why a call did not answer.
+/// Why a call failed.
 #[derive(Clone, Copy, Debug, PartialEq, Eq, Error)]
 pub enum CallError {
-    /// A rule of the machine refuses the call, which changed nothing. Two calls are refused after their moves, which stay:
-    /// `mbind` with EIO where it moves pages, and `offline` with EBUSY where a page stays.
+    /// A rule of the machine refuses the call, which changed nothing. Two calls are refused after their moves, which
+    /// stay: `mbind` with EIO where it moves pages, and `offline` with EBUSY if a page stays.
     #[error("{0}")]
     Refused(Errno),
     /// The host refused memory. The machine is as the first runs of the call left it, with the policy set or not.

@@ -191,8 +191,8 @@ fn query<A: Allocator + Copy + Send + Sync>(
 }
 
 impl<A: Allocator + Copy + Send + Sync> System<A> {
-    /// Makes a call that is given as a value. Its refusals, and what a host without memory leaves, are those of the method
-    /// of its name. The workers of one that moves pages pass the gate.
+    /// Makes a call that is given as a value. It is refused as the method of the same name is, and leaves the same
+    /// behind if the host is out of memory. The workers of a call that moves pages pass the gate.
     pub fn call<R: Threads + Wait + Sync, G: Gate + Sync>(
         &mut self,
         rt: &R,

@@ -15,14 +15,14 @@ pub fn refusals_change_nothing()
     ensures { RefusalsChangeNothing }
 {}
 
-/// The states on the way of a call, which is what a host without memory may leave, are those after its first runs.
+/// The states in which a call may leave the system if the host is out of memory are those after its first runs.
 pub fn trail_is_after_runs()
     ensures { TrailIsAfterRuns }
 {}
 
-/// No call but a write, and those by which areas come or go, changes a byte that a process has, at its end or where the host
-/// leaves it without memory. Where accesses are made while pages move, each byte is that of the last write which was done
-/// there, or else what it was before.
+/// No call but a write, and those by which areas come or go, changes a byte that a process has, whether the call ends
+/// or the host runs out of memory in it. Where accesses are made while pages move, each byte is that of the last write
+/// which was done there, or else what it was before.
 pub fn calls_keep_memory()
     ensures calls { CallsKeepMemory }
     ensures trail { TrailKeepsMemory }
@@ -71,8 +71,8 @@ pub fn each_page_is_listed_once()
     ensures { NoStrayIsListedTwice }
 {}
 
-/// Runs and passes are the same whatever set of nodes is online: it is all one whether a node goes offline before its pages
-/// leave it, or after.
+/// Runs and passes are the same whatever set of nodes is online: it makes no difference whether a node goes offline
+/// before its pages leave it, or after.
 pub fn runs_ignore_online()
     ensures { RunsIgnoreOnline }
 {}

@@ -9,7 +9,8 @@ use nm_engine::{Line, Machine};
 use nm_types::{NodeId, NodeMask, Pid, Policy, Vpn};
 use std::alloc::{AllocError, Allocator};
 
-/// Takes the nodes that follow on a first one out of those behind it, and gives the last of them.
+/// Removes from `rest` the nodes that follow `first` without a gap, and returns the last of them, or `first` if there
+/// is none.
 fn take_stretch(first: NodeId, rest: &mut NodeMask) -> NodeId
     ensures { stretches (first ∷ rest.old) ≡ (first, result) ∷ stretches rest.new }
 {
@@ -24,14 +25,14 @@ fn take_stretch(first: NodeId, rest: &mut NodeMask) -> NodeId
     last
 }
 
-/// Puts a comma, if it is wanted.
+/// Appends a comma, if it is wanted.
 fn push_comma<A: Allocator>(line: &mut String<A>, wanted: bool) -> Result<(), AllocError>
     ensures { OnOk result (string_bytes line.new ≡ string_bytes line.old ++ comma wanted) }
 {
     if wanted { line.push_str(",") } else { Ok(()) }
 }
 
-/// Puts one node, or the first and the last of several, behind a comma, if it is wanted.
+/// Appends one node, or the first and the last of several, after a comma, if it is wanted.
 fn push_stretch<A: Allocator>(
     line: &mut String<A>,
     behind: bool,
@@ -48,7 +49,7 @@ fn push_stretch<A: Allocator>(
     push_number(line, "-", u64::from(last.number()))
 }
 
-/// Puts a set of nodes.
+/// Appends a set of nodes.
 fn push_set<A: Allocator>(line: &mut String<A>, nodes: NodeMask) -> Result<(), AllocError>
     ensures { OnOk result (string_bytes line.new ≡ string_bytes line.old ++ set_text nodes) }
 {
@@ -62,7 +63,7 @@ fn push_set<A: Allocator>(line: &mut String<A>, nodes: NodeMask) -> Result<(), A
     Ok(())
 }
 
-/// Puts a word and a set of nodes.
+/// Appends a word and a set of nodes.
 fn push_list<A: Allocator>(
     line: &mut String<A>,
     word: &str,
@@ -74,7 +75,7 @@ fn push_list<A: Allocator>(
     push_set(line, nodes)
 }
 
-/// Puts a policy.
+/// Appends a policy.
 #[tactic(auto, unfolding(crate::specs::Maps::policy_text))]
 fn push_policy<A: Allocator>(line: &mut String<A>, policy: Policy) -> Result<(), AllocError>
     ensures { OnOk result (string_bytes line.new ≡ string_bytes line.old ++ policy_text policy) }
@@ -99,7 +100,7 @@ struct Tally {
     on: [u64; 64],
 }
 
-/// Counts the pages that a process sees in an area. It asks for each of them, and for no page number beside.
+/// Counts the pages that a process sees in an area. It asks for each of them, and for no other page number.
 fn count_pages<A: Allocator + Copy + Send + Sync>(
     machine: &Machine<A>,
     pid: Pid,
@@ -128,7 +129,7 @@ fn count_pages<A: Allocator + Copy + Send + Sync>(
     Tally { pages, most, on }
 }
 
-/// Puts how many pages are on a node, where some are.
+/// Appends how many pages are on a node, if any are.
 fn push_node<A: Allocator>(line: &mut String<A>, node: usize, pages: u64) -> Result<(), AllocError>
     ensures { OnOk result (string_bytes line.new ≡ string_bytes line.old ++ told_on node pages) }
 {
@@ -139,7 +140,7 @@ fn push_node<A: Allocator>(line: &mut String<A>, node: usize, pages: u64) -> Res
     push_number(line, "=", pages)
 }
 
-/// Puts how many pages are on each node, where some are.
+/// Appends how many pages are on each node that has any.
 fn push_nodes<A: Allocator>(
     line: &mut String<A>,
     on: &[u64; 64],
@@ -154,7 +155,7 @@ fn push_nodes<A: Allocator>(
     Ok(())
 }
 
-/// Puts what was counted, where there are pages.
+/// Appends what was counted, if there are pages.
 fn push_tally<A: Allocator>(
     line: &mut String<A>,
     tally: &Tally,

@@ -58,9 +58,10 @@ fn targets_of<A: Allocator + Copy + Send + Sync>(
     Ok(targets)
 }
 
-/// What a caller may move of a process, where pid 0 is the caller, to some nodes. ESRCH (no such caller); EINVAL (a node
-/// that is none of the machine); ESRCH (no such process); EPERM (a process of another user, without privilege); EPERM (a
-/// new node that the process may not use, without privilege); EINVAL (no new node that is online and may be used).
+/// What a caller may move of a process, where pid 0 is the caller, to some nodes. ESRCH (no such caller); EINVAL (a
+/// node that the machine does not have); ESRCH (no such process); EPERM (a process of another user, without privilege);
+/// EPERM (a new node that the process may not use, without privilege); EINVAL (no new node that is online and may be
+/// used).
 pub(crate) fn migration_of<A: Allocator + Copy + Send + Sync>(
     machine: &Machine<A>,
     caller: Pid,
@@ -90,9 +91,9 @@ pub(crate) fn migration_of<A: Allocator + Copy + Send + Sync>(
     })
 }
 
-/// Moves the pages of a process from nodes to nodes, run after run, none of more requests than the limit, by so many
-/// workers. The list of pages and all that is asked for is made before the first run starts. An error means that the host
-/// refused memory after so many runs.
+/// Moves the pages of a process from nodes to nodes, run after run, with at most `limit` requests in a run and
+/// `workers` workers. The list of pages and all runs are made before the first run starts. An error means that the host
+/// refused memory, and says after how many runs.
 #[tactic(auto, using(crate::proofs::Trails::first_state))]
 pub(crate) fn migrate<R: Threads + Wait + Sync, A: Allocator + Copy + Send + Sync, G: Gate + Sync>(
     rt: &R,

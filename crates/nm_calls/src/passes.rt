@@ -110,7 +110,7 @@ fn is_short(status: &i32) -> bool
     *status == -Errno::Enomem.number()
 }
 
-/// Puts what was wanted and found no free frame into a list that has room for it.
+/// Appends what was wanted and found no free frame to an empty list that has room for it.
 fn put_without_frame<A: Allocator + Copy>(
     wanted: &[Wanted],
     statuses: &[i32],
@@ -128,7 +128,8 @@ fn put_without_frame<A: Allocator + Copy>(
     }
 }
 
-/// Makes a pass: all that is wanted goes to one node. All that is asked for is made ready before its first run starts.
+/// Makes a pass: all that is wanted goes to one node. All memory is asked for before its first run starts, but for what
+/// a run itself needs.
 #[tactic(auto, using(crate::proofs::Trails::first_state))]
 fn make_pass<R: Threads + Wait + Sync, A: Allocator + Copy + Send + Sync, G: Gate + Sync>(
     rt: &R,
@@ -166,7 +167,7 @@ fn make_pass<R: Threads + Wait + Sync, A: Allocator + Copy + Send + Sync, G: Gat
     })
 }
 
-/// Want of memory after more runs, and whether a policy is set.
+/// The same error after `made` more runs, and with the policy set or not. A refusal stays as it is.
 pub(crate) fn later(error: CallError, made: usize, policy_set: bool) -> CallError
     requires { IsCounted error made }
     ensures { result ≡ later error made policy_set }
@@ -180,7 +181,8 @@ pub(crate) fn later(error: CallError, made: usize, policy_set: bool) -> CallErro
     }
 }
 
-/// Makes passes over nodes, until all that is wanted has a frame there, by a call that has set a policy, or that has not.
+/// Makes a pass over each node in turn, until nothing is left that found no free frame. `policy_set` says whether the
+/// call has set a policy, and is passed on in an error.
 pub(crate) fn make_passes<
     R: Threads + Wait + Sync,
     A: Allocator + Copy + Send + Sync,

@@ -22,7 +22,7 @@ pub(crate) struct Permit {
 }
 
 /// Whether the flags ask for pages that other processes see as well: EINVAL for a flag that is unknown, and then EPERM
-/// where they do so without privilege.
+/// if they do so without privilege.
 fn asks_all(flags: u32, privileged: bool) -> Result<bool, Errno>
     ensures exact { Checks result (flags_refusal privileged flags) }
     ensures all { IfOk result (λ all. all ≡ moves_all flags) }

@@ -42,8 +42,8 @@ pub(crate) fn stray_from<A: Allocator + Copy + Send + Sync>(
     None
 }
 
-/// The pages that a process sees in a range and that are not where the policy wants them, by address, each at its lowest.
-/// It asks for each page of the range that the process sees, and for no page number beside.
+/// The pages that a process sees in a range and that are not where the policy wants them, by address, each at its
+/// lowest. It asks for each page of the range that the process sees, and for no other page number.
 pub(crate) fn astray<A: Allocator + Copy + Send + Sync>(
     alloc: A,
     machine: &Machine<A>,

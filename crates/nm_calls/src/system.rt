@@ -65,8 +65,9 @@ fn statuses_of<A: Allocator + Copy + Send + Sync>(
     Ok(statuses)
 }
 
-/// A machine of nodes, processes and pages, how many entries a run has at most, and how many workers copy. Contracts see
-/// its state, which is sound, and that limit: how many workers there are changes nothing that a call does or answers.
+/// A machine of nodes, processes and pages, how many entries a run has at most, and how many workers copy. Contracts
+/// see its state, which is sound, and that limit: how many workers there are changes nothing that a call does or
+/// returns.
 #[derive(Drop)]
 pub struct System<A: Allocator + Copy + Send + Sync> {
     machine: Machine<A>,
@@ -88,7 +89,7 @@ impl<A: Allocator + Copy + Send + Sync> Model for System<A> {
 
 impl<A: Allocator + Copy + Send + Sync> System<A> {
     /// A new machine, whose pages 1 to 64 workers copy, the caller and threads that each call starts: no process, every
-    /// node online, every frame free and its list in ascending order. An error is want of memory.
+    /// node online, every frame free and its list in ascending order. An error means that the host is out of memory.
     pub fn new(alloc: A, geometry: Geometry<A>, workers: usize) -> Result<Self, AllocError>
         requires { (0 < workers) × (workers ≤ 64) }
         ensures { IfOk result (λ system. system ≡ new_system geometry) }
@@ -96,8 +97,8 @@ impl<A: Allocator + Copy + Send + Sync> System<A> {
         System::with_run_limit(alloc, geometry, workers, MAX_BATCH)
     }
 
-    /// A new machine as by `new`, whose runs have at most so many entries, 1 to 16,384: a longer stretch of one target is
-    /// cut from its front. An error is want of memory.
+    /// A new machine as by `new`, whose runs have at most `run_limit` entries, 1 to 16,384: a longer stretch of one
+    /// target is cut from its front. An error means that the host is out of memory.
     pub fn with_run_limit(
         alloc: A,
         geometry: Geometry<A>,
@@ -122,8 +123,8 @@ impl<A: Allocator + Copy + Send + Sync> System<A> {
         self.alloc
     }
 
-    /// Makes a process. Refusals in order: EINVAL (pid 0 or alive, a home that is no node, no allowed node or one beyond
-    /// the machine), ENOMEM (1,024 processes are alive).
+    /// Makes a process. Refusals in order: EINVAL (pid 0 or alive, a home that is not a node, no allowed node or one
+    /// beyond the machine), ENOMEM (1,024 processes are alive).
     #[tactic(auto, unfolding(crate::specs::Outcome::refused, crate::specs::Outcome::refused_at_once, crate::specs::Outcome::ended, crate::specs::Outcome::runs_asked, crate::specs::Outcome::start, crate::specs::Outcome::sets_policy, crate::specs::Outcome::accesses_asked), using(crate::proofs::Outcomes::answers, crate::proofs::Outcomes::refuses, crate::proofs::Outcomes::unchanged))]
     pub fn spawn(
         &mut self,
@@ -138,8 +139,9 @@ impl<A: Allocator + Copy + Send + Sync> System<A> {
         Ok(self.machine.spawn(pid, uid, home, allowed, privileged)?)
     }
 
-    /// Makes an area of so many pages over a new segment, private or shared, and answers the segment's number. Refusals in
-    /// order: ESRCH; EINVAL (an address in mid-page, no page, past 2^47, an area there); ENOMEM (no segment number left).
+    /// Makes an area of `pages` pages over a new segment, private or shared, and returns the segment's number. Refusals
+    /// in order: ESRCH; EINVAL (an address in mid-page, no page, past 2^47, an area there); ENOMEM (no segment number
+    /// left).
     #[tactic(auto, unfolding(crate::specs::Outcome::refused, crate::specs::Outcome::refused_at_once, crate::specs::Outcome::ended, crate::specs::Outcome::runs_asked, crate::specs::Outcome::start, crate::specs::Outcome::sets_policy, crate::specs::Outcome::accesses_asked), using(crate::proofs::Outcomes::answers, crate::proofs::Outcomes::refuses, crate::proofs::Outcomes::unchanged))]
     pub fn map(&mut self, pid: Pid, addr: u64, pages: u64, shared: bool) -> Result<u32, CallError>
         ensures { Does NewSegment result self.old self.new (MapPages pid addr pages shared) }
@@ -147,9 +149,9 @@ impl<A: Allocator + Copy + Send + Sync> System<A> {
         Ok(self.machine.map(pid, addr, pages, shared)?)
     }
 
-    /// Makes an area over so many pages of a shared segment, from an offset in pages on. Refusals in order: ESRCH; EINVAL
-    /// (an address in mid-page, no page, past 2^47, an area there; or a segment that is unknown, gone or private, or ends
-    /// before the area would).
+    /// Makes an area over `pages` pages of a shared segment, from an offset in pages on. Refusals in order: ESRCH;
+    /// EINVAL (an address in mid-page, no page, past 2^47, an area there; or a segment that is unknown, gone or
+    /// private, or ends before the area would).
     #[tactic(auto, unfolding(crate::specs::Outcome::refused, crate::specs::Outcome::refused_at_once, crate::specs::Outcome::ended, crate::specs::Outcome::runs_asked, crate::specs::Outcome::start, crate::specs::Outcome::sets_policy, crate::specs::Outcome::accesses_asked), using(crate::proofs::Outcomes::answers, crate::proofs::Outcomes::refuses, crate::proofs::Outcomes::unchanged))]
     pub fn attach(
         &mut self,
@@ -164,9 +166,9 @@ impl<A: Allocator + Copy + Send + Sync> System<A> {
         Ok(self.machine.attach(pid, addr, segment, offset, pages)?)
     }
 
-    /// Lets go so many pages from an address on, where there may be holes. A page that no area of any process covers any
-    /// more loses its frame, which goes to the end of its node's free list, by ascending address. Refusals in order:
-    /// ESRCH; EINVAL (an address in mid-page, no page, past 2^47); EBUSY (an area shows a pinned page there).
+    /// Unmaps `pages` pages from an address on, among which there may be holes. A page that no area of any process
+    /// covers any more loses its frame, which goes to the end of its node's free list, by ascending address. Refusals
+    /// in order: ESRCH; EINVAL (an address in mid-page, no page, past 2^47); EBUSY (an area shows a pinned page there).
     #[tactic(auto, unfolding(crate::specs::Outcome::refused, crate::specs::Outcome::refused_at_once, crate::specs::Outcome::ended, crate::specs::Outcome::runs_asked, crate::specs::Outcome::start, crate::specs::Outcome::sets_policy, crate::specs::Outcome::accesses_asked), using(crate::proofs::Outcomes::answers, crate::proofs::Outcomes::refuses, crate::proofs::Outcomes::unchanged))]
     pub fn unmap(&mut self, pid: Pid, addr: u64, pages: u64) -> Result<(), CallError>
         ensures { Does (λ done. Done) result self.old self.new (Unmap pid addr pages) }
@@ -174,8 +176,8 @@ impl<A: Allocator + Copy + Send + Sync> System<A> {
         Ok(self.machine.unmap(pid, addr, pages)?)
     }
 
-    /// Ends a process, which lets go all its areas as by one `unmap`. Its pid may come again. Refusals in order: ESRCH;
-    /// EBUSY (an area of it shows a pinned page).
+    /// Ends a process, which lets go all its areas as by one `unmap`. Its pid may be used again. Refusals in order:
+    /// ESRCH; EBUSY (an area of it shows a pinned page).
     #[tactic(auto, unfolding(crate::specs::Outcome::refused, crate::specs::Outcome::refused_at_once, crate::specs::Outcome::ended, crate::specs::Outcome::runs_asked, crate::specs::Outcome::start, crate::specs::Outcome::sets_policy, crate::specs::Outcome::accesses_asked), using(crate::proofs::Outcomes::answers, crate::proofs::Outcomes::refuses, crate::proofs::Outcomes::unchanged))]
     pub fn exit(&mut self, pid: Pid) -> Result<(), CallError>
         ensures { Does (λ done. Done) result self.old self.new (Exit pid) }
@@ -219,24 +221,24 @@ impl<A: Allocator + Copy + Send + Sync> System<A> {
         Ok(self.machine.write(pid, addr, bytes)?)
     }
 
-    /// Moves pages, each named by an address in it, to the node of the same place in the list, as move_pages(2). `nodes` is
-    /// as long as `pages`. Pid 0 is the caller. Flags 0 act as MPOL_MF_MOVE (2): a page that another process sees stays;
-    /// with MPOL_MF_MOVE_ALL (4) it moves. The list is cut into its longest stretches of one target, and each is a run, or
-    /// several where it is longer than the limit.
+    /// Moves pages, each named by an address in it, to the node of the same place in the list, as move_pages(2).
+    /// `nodes` is as long as `pages`. Pid 0 is the caller. Flags 0 act as MPOL_MF_MOVE (2): a page that another process
+    /// sees stays; with MPOL_MF_MOVE_ALL (4) it moves. The list is cut into its longest stretches of one target, and
+    /// each is a run, or several if it is longer than the limit.
     ///
     /// The status of an entry is the first that holds: -14 (EFAULT) no area; -2 (ENOENT) nothing was touched there; -14 the
     /// page of zeros; the target's number, if the page is there; -13 (EACCES) another process sees it, without
     /// MPOL_MF_MOVE_ALL; -16 (EBUSY) it is pinned; -12 (ENOMEM) the target has no free frame; and the target's number, where
     /// the page moves. -16 and -12 count as failed. A frame that a run leaves is free when the run ends.
     ///
-    /// The accesses of `during` are made meanwhile, each in the run of its number, from 0: those of a run in their order,
-    /// once its frames are reserved and before those that its pages left are free. One that comes to a page which its run
-    /// moves is held, and neither reads nor writes nor fills anything: on Linux it would find a migration entry, and wait.
-    /// Held comes after ESRCH, EINVAL and EFAULT, and before ENOMEM. Any other does and answers what `read` or `write`
-    /// does.
+    /// The accesses of `during` are made meanwhile, each in the run of its number, from 0: those of a run in their
+    /// order, once its frames are reserved and before those that its pages left are free. One to a page that its run
+    /// moves is held, and neither reads nor writes nor fills anything: on Linux it would find a migration entry, and
+    /// wait. Held comes after ESRCH, EINVAL and EFAULT, and before ENOMEM. Any other does what `read` or `write` would,
+    /// and has the same answer.
     ///
-    /// Answers the statuses in the list's order, how many entries failed, and the answers to the accesses in the order of
-    /// `during`. An access of a run that the call does not make has none: `run_count` tells how many runs there are.
+    /// Returns the statuses in the list's order, how many entries failed, and the answers to the accesses in the order
+    /// of `during`. An access of a run that the call does not make has none: `run_count` says how many runs there are.
     ///
     /// Refusals in order, each before anything moves: ESRCH (unknown caller); EINVAL (a flag other than the two); EPERM
     /// (MPOL_MF_MOVE_ALL without privilege); ESRCH (no such process); EPERM (a process of another user, without
@@ -281,18 +283,18 @@ impl<A: Allocator + Copy + Send + Sync> System<A> {
         )
     }
 
-    /// Moves the pages that a process sees on the nodes of `old` to those of `new` that are online and that it may use, as
-    /// migrate_pages(2), and answers how many of them failed, for a pin or for want of a free frame. Pid 0 is the caller.
-    /// Each node of `old` is paired with one of those, which take turns upwards; a node keeps its pages if it is its own
-    /// target, or if the sets differ in size and it is in the new one. The pages are listed before the first moves, each
-    /// once and at its lowest address: by pair, so that a chain of nodes is emptied from its end, and then by address. Each
-    /// stretch of the list with one target is a run, or several where it is longer than the limit. A page that another
-    /// process sees stays, and is no failure; a privileged caller moves it.
+    /// Moves the pages that a process sees on the nodes of `old` to those of `new` that are online and that it may use,
+    /// as migrate_pages(2), and returns how many of them failed, for a pin or for lack of a free frame. Pid 0 is the
+    /// caller. Each node of `old` is paired with one of those, which take turns upwards; a node keeps its pages if it
+    /// is its own target, or if the sets differ in size and it is in the new one. The pages are listed before the first
+    /// moves, each once and at its lowest address: by pair, so that a chain of nodes is emptied from its end, and then
+    /// by address. Each stretch of the list with one target is a run, or several if it is longer than the limit. A page
+    /// that another process sees stays, and is no failure; a privileged caller moves it.
     ///
-    /// Refusals in order, each before anything moves: ESRCH (unknown caller); EINVAL (a node that is none of the machine);
-    /// ESRCH (no such process); EPERM (a process of another user, without privilege); EPERM (a node of `new` that the
-    /// process may not use, without privilege); EINVAL (no node of `new` is online and may be used by the process).
-    /// `HostMemory { runs, .. }` leaves the first runs made.
+    /// Refusals in order, each before anything moves: ESRCH (unknown caller); EINVAL (a node that the machine does not
+    /// have); ESRCH (no such process); EPERM (a process of another user, without privilege); EPERM (a node of `new`
+    /// that the process may not use, without privilege); EINVAL (no node of `new` is online and may be used by the
+    /// process). `HostMemory { runs, .. }` leaves the first runs made.
     #[tactic(auto, unfolding(crate::specs::Outcome::refused, crate::specs::Outcome::refused_at_once, crate::specs::Outcome::ended, crate::specs::Outcome::runs_asked, crate::specs::Outcome::start, crate::specs::Outcome::sets_policy, crate::specs::Outcome::accesses_asked), using(crate::proofs::Outcomes::answers, crate::proofs::Outcomes::refuses, crate::proofs::Outcomes::unchanged, crate::proofs::Outcomes::host_leaves))]
     pub fn migrate_pages<R: Threads + Wait + Sync, G: Gate + Sync>(
         &mut self,
@@ -321,25 +323,25 @@ impl<A: Allocator + Copy + Send + Sync> System<A> {
         Ok(moved.failed)
     }
 
-    /// Sets where the new pages of `len` bytes of the caller from an address on are placed, rounded up to whole pages, as
-    /// mbind(2). The modes are MPOL_DEFAULT (0), MPOL_PREFERRED (1), MPOL_BIND (2), MPOL_INTERLEAVE (3) and MPOL_LOCAL (4).
-    /// The set that is kept is what is online and allowed of `nodes`; MPOL_PREFERRED keeps its lowest node, and is as
-    /// MPOL_LOCAL without nodes. The areas are split at both ends of the range, and never merged. With MPOL_MF_MOVE (2) or
-    /// MPOL_MF_MOVE_ALL (4) the pages that the caller sees in the range and that are not where the policy wants them are
-    /// listed, each once and at its lowest address, and move: for MPOL_PREFERRED to its node; for MPOL_INTERLEAVE each to
-    /// the node whose turn it is by the page's index in its segment, by node and then by address; for MPOL_BIND in passes
-    /// over its nodes, the nearest to the caller's home first, where what finds no free frame goes on to the next node.
-    /// Each stretch of pages for one node is a run, or several where it is longer than the limit. A page that another
-    /// process sees stays, unless MPOL_MF_MOVE_ALL is given.
+    /// Sets where the new pages of `len` bytes of the caller from an address on are placed, rounded up to whole pages,
+    /// as mbind(2). The modes are MPOL_DEFAULT (0), MPOL_PREFERRED (1), MPOL_BIND (2), MPOL_INTERLEAVE (3) and
+    /// MPOL_LOCAL (4). The set that is kept is what is online and allowed of `nodes`; MPOL_PREFERRED keeps its lowest
+    /// node, and is as MPOL_LOCAL without nodes. The areas are split at both ends of the range, and never merged. With
+    /// MPOL_MF_MOVE (2) or MPOL_MF_MOVE_ALL (4) the pages that the caller sees in the range and that are not where the
+    /// policy wants them are listed, each once and at its lowest address, and move: for MPOL_PREFERRED to its node; for
+    /// MPOL_INTERLEAVE each to the node whose turn it is by the page's index in its segment, by node and then by
+    /// address; for MPOL_BIND in passes over its nodes, the nearest to the caller's home first, where what finds no
+    /// free frame goes on to the next node. Each stretch of pages for one node is a run, or several if it is longer
+    /// than the limit. A page that another process sees stays, unless MPOL_MF_MOVE_ALL is given.
     ///
     /// Refusals in order: ESRCH (unknown caller); EINVAL (a flag beyond 7; an unknown mode; nodes with MPOL_DEFAULT or
-    /// MPOL_LOCAL, or none with MPOL_BIND or MPOL_INTERLEAVE; a node that is none of the machine; nodes of which none is
-    /// online and allowed); EPERM (MPOL_MF_MOVE_ALL without privilege); EINVAL (an address in mid-page, or `addr` plus
-    /// `len` rounded up to whole pages is over 2^64 - 1); then a `len` of 0 changes nothing; EFAULT (a page of the range
-    /// without an area); EIO (MPOL_MF_STRICT (1) alone, and a page that the caller sees in the range is not where the
-    /// policy wants it). Each changes nothing. With MPOL_MF_STRICT and a flag to move EIO is answered where a listed page
-    /// is not where the policy wants it after the moves: policy and moves stay. `HostMemory { runs, policy_set }` leaves
-    /// the first runs made, and the policy set where it says so.
+    /// MPOL_LOCAL, or none with MPOL_BIND or MPOL_INTERLEAVE; a node that the machine does not have; nodes of which
+    /// none is online and allowed); EPERM (MPOL_MF_MOVE_ALL without privilege); EINVAL (an address in mid-page, or
+    /// `addr` plus `len` rounded up to whole pages is over 2^64 - 1); then a `len` of 0 changes nothing; EFAULT (a page
+    /// of the range without an area); EIO (MPOL_MF_STRICT (1) alone, and a page that the caller sees in the range is
+    /// not where the policy wants it). Each changes nothing. With MPOL_MF_STRICT and a flag to move, EIO is returned if
+    /// a listed page is not where the policy wants it after the moves: policy and moves stay.
+    /// `HostMemory { runs, policy_set }` leaves the first runs made, and the policy set where it says so.
     #[tactic(auto, unfolding(crate::specs::Outcome::refused, crate::specs::Outcome::refused_at_once, crate::specs::Outcome::ended, crate::specs::Outcome::runs_asked, crate::specs::Outcome::start, crate::specs::Outcome::sets_policy, crate::specs::Outcome::accesses_asked), using(crate::proofs::Outcomes::answers, crate::proofs::Outcomes::refuses, crate::proofs::Outcomes::unchanged))]
     pub fn mbind<R: Threads + Wait + Sync, G: Gate + Sync>(
         &mut self,
@@ -373,13 +375,13 @@ impl<A: Allocator + Copy + Send + Sync> System<A> {
 
     /// Takes a node offline: its pages, by segment and index, go to the other nodes that are online, in passes by their
     /// distance from it and by number where that is the same, whoever sees them and whatever is allowed. A pinned page
-    /// stays; what finds no free frame goes on to the next node. Each pass is a run, or several where it is longer than the
-    /// limit. Nothing is taken from a node that is offline; its free frames stay its own, and so do those that become free.
-    /// A node that is offline already is left as it is.
+    /// stays; what finds no free frame goes on to the next node. Each pass is a run, or several if it is longer than
+    /// the limit. Nothing is taken from a node that is offline; its free frames stay its own, and so do those that
+    /// become free. A node that is offline already is left as it is.
     ///
-    /// Refusals in order: EINVAL (no such node); EBUSY (no other node is online). EBUSY is also answered where a page of the
-    /// node stays: what moved has moved, and the node is online. `HostMemory { runs, .. }` leaves the first runs made, and the
-    /// node online.
+    /// Refusals in order: EINVAL (no such node); EBUSY (no other node is online). EBUSY is also returned if a page of
+    /// the node stays: what moved has moved, and the node is online. `HostMemory { runs, .. }` leaves the first runs
+    /// made, and the node online.
     #[tactic(auto, unfolding(crate::specs::Outcome::refused, crate::specs::Outcome::refused_at_once, crate::specs::Outcome::ended, crate::specs::Outcome::runs_asked, crate::specs::Outcome::start, crate::specs::Outcome::sets_policy, crate::specs::Outcome::accesses_asked), using(crate::proofs::Outcomes::answers, crate::proofs::Outcomes::refuses, crate::proofs::Outcomes::unchanged))]
     pub fn offline<R: Threads + Wait + Sync, G: Gate + Sync>(
         &mut self,
@@ -448,12 +450,12 @@ impl<A: Allocator + Copy + Send + Sync> System<A> {
         self.machine.totals()
     }
 
-    /// The areas of a process as text, by address, a line for each, as `/proc/PID/numa_maps` in numa(7) and no more of it
-    /// than this: the address at which the area begins, as at least eight hexadecimal digits; its policy, with the set
-    /// that was kept, as `default`, `prefer:1`, `bind:0-1,3`, `interleave:0,2` or `local`; and where the process sees
-    /// pages in it, `anon=` and their number, `mapmax=` and the greatest number of processes that see one of them, where
-    /// that is over 1, `N0=`, `N1=` .. and the number on that node, where there are some, and `kernelpagesize_kB=4`. The
-    /// page of zeros is no page. Refusal: ESRCH.
+    /// The areas of a process as text, by address, a line for each, as `/proc/PID/numa_maps` in numa(7) and no more of
+    /// it than this: the address at which the area begins, as at least eight hexadecimal digits; its policy, with the
+    /// set that was kept, as `default`, `prefer:1`, `bind:0-1,3`, `interleave:0,2` or `local`; and where the process
+    /// sees pages in it, `anon=` and their number, `mapmax=` and the greatest number of processes that see one of them,
+    /// where that is over 1, `N0=`, `N1=` .. and the number on that node, where there are some, and
+    /// `kernelpagesize_kB=4`. The page of zeros does not count as a page. Refusal: ESRCH.
     #[tactic(auto, unfolding(crate::specs::Outcome::refused, crate::specs::Outcome::refused_at_once, crate::specs::Outcome::ended, crate::specs::Outcome::runs_asked, crate::specs::Outcome::start, crate::specs::Outcome::sets_policy, crate::specs::Outcome::accesses_asked), using(crate::proofs::Outcomes::answers, crate::proofs::Outcomes::refuses, crate::proofs::Outcomes::unchanged))]
     pub fn numa_maps(&self, pid: Pid) -> Result<Vec<String<A>, A>, CallError>
         ensures { Does (λ lines. Lines (lines_shown lines.items)) result self.now self.now (NumaMaps pid) }
@@ -480,8 +482,8 @@ impl<A: Allocator + Copy + Send + Sync> System<A> {
         Ok(mapped_of(self.alloc, entries.as_slice())?)
     }
 
-    /// Whether each frame is exactly once in its own node's free list, or the place of one page: true, since a system is
-    /// always sound. An error is want of memory.
+    /// Whether each frame is exactly once in its own node's free list, or the place of one page: true, since a system
+    /// is always sound. An error means that the host is out of memory.
     pub fn audit(&self) -> Result<bool, AllocError>
         ensures told { IfOk result (λ b. b ≡ audited self.now.state) }
         ensures sound { IfOk result (λ b. b ≡ true) }

@@ -182,7 +182,9 @@ pub(crate) fn way_of<A: Allocator + Copy + Send + Sync>(
     })
 }
 
-/// Makes moves.
+/// Makes the runs of `way`, one after another, none of more entries than the limit. That a page stays is no error. The
+/// only error is `HostMemory { runs, policy_set: true }`, since the policy is set before its pages move: the host was
+/// out of memory before the last run was made, and the machine is as the first `runs` runs left it.
 pub(crate) fn make<R: Threads + Wait + Sync, A: Allocator + Copy + Send + Sync, G: Gate + Sync>(
     rt: &R,
     alloc: A,

@@ -6,7 +6,7 @@ ghost use Rattle.nm_calls.specs.Maps.{address_text};
 use nm_types::Vpn;
 use std::alloc::{AllocError, Allocator};
 
-/// Puts a word and a number.
+/// Appends a word and a number.
 pub fn push_number<A: Allocator>(
     line: &mut String<A>,
     word: &str,
@@ -19,7 +19,7 @@ pub fn push_number<A: Allocator>(
     line.push_str(buffer.format(number))
 }
 
-/// Puts the address at which a page begins, as at least eight hexadecimal digits.
+/// Appends the address at which a page begins, as at least eight hexadecimal digits.
 #[tactic(auto, using(crate::proofs::Texts::padded_by_zeros))]
 pub fn push_address<A: Allocator>(line: &mut String<A>, vpn: Vpn) -> Result<(), AllocError>
     ensures { OnOk result (string_bytes line.new ≡ string_bytes line.old ++ address_text vpn) }

@@ -20,11 +20,11 @@ use std::sync::Wait;
 use std::thread;
 use std::thread::{Scope, Threads};
 
-/// Copies the jobs with so many workers, 1 to 64, and calls `work` beside them. The jobs' tickets count up from 0 in the
-/// list's order. The caller is worker 0: it starts the others, calls `work` once, copies with them, and returns when their
-/// threads have ended. With fewer jobs than `gate` says that a second worker is worth, it copies alone. Every job comes
-/// back, copied, in the order of its ticket, with the answer of `work`; where the host has no memory for it or starts no
-/// thread, those workers copy that there are.
+/// Copies the jobs with `workers` workers, 1 to 64, and calls `work` meanwhile. The jobs' tickets count up from 0 in
+/// the list's order. The caller is worker 0: it starts the others, calls `work` once, copies with them, and returns
+/// when their threads have ended. With fewer jobs than `gate.worth_from()`, it copies alone. Returns every job, copied,
+/// in the order of its ticket, and what `work` returned; if the host is out of memory or starts no thread, the workers
+/// that there are do all the copying.
 pub fn copy_while<
     A: Allocator + Copy + Send + Sync,
     R: Threads + Wait + Sync,
@@ -83,7 +83,7 @@ pub(crate) fn copy_with<
     }
 }
 
-/// How many workers there are beside the caller: none where the gate says that it is not worth it, and never more than
+/// How many workers there are besides the caller: none where the gate says that it is not worth it, and never more than
 /// jobs.
 fn others<G: Gate>(gate: &G, jobs: usize, workers: usize) -> usize
     requires { 0 < workers }
@@ -122,7 +122,7 @@ fn copy_each<A: Allocator + Copy, G: Gate>(jobs: &mut [CopyJob<A>], gate: &G)
     }
 }
 
-/// Copies the jobs of a board with so many workers beside the caller.
+/// Copies the jobs of a board with up to `others` workers besides the caller.
 fn copy_by<
     A: Allocator + Copy + Send + Sync,
     B: Room + Send + Sync,
@@ -157,7 +157,7 @@ fn copy_by<
     }
 }
 
-/// As many workers as were asked for, each with a share of the hand, or none where there is no memory for their list.
+/// As many workers as were asked for, each with one share of the hand, or none if there is no memory for their list.
 fn hire<A: Allocator + Copy, B: Room>(
     alloc: A,
     board: &Board<A>,
@@ -237,7 +237,7 @@ fn work_beside<
     (own, answer, workers)
 }
 
-/// Starts a thread for each worker. Where the host starts none, the others do what that worker would have done.
+/// Starts a thread for each worker. If the host starts none, the others do what that worker would have done.
 fn start_each<'s, E, A: Allocator + Copy + Send + Sync, B: Room + Send + Sync, G: Gate + Sync>(
     scope: &Scope<'s, E>,
     workers: &'s mut [Worker<A, B>],

@@ -10,7 +10,7 @@ pub trait Gate {
     /// tickets count from 0.
     fn pass(&self, worker: usize, ticket: u64);
 
-    /// From how many jobs on a second worker is worth its start. With fewer, the caller copies alone.
+    /// The number of jobs from which on a second worker is worth its start. With fewer, the caller copies alone.
     fn worth_from(&self) -> usize {
         1
     }

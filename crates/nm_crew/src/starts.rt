@@ -8,7 +8,7 @@ pub(crate) trait Starts {
     fn builder(&self, worker: usize) -> Builder;
 }
 
-/// Starts each thread as the host does where it is told nothing.
+/// Starts each thread with the settings that the host has by default.
 pub(crate) struct Plainly;
 
 impl Starts for Plainly {

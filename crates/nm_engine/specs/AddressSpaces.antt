@@ -80,7 +80,7 @@ spaces_view tasks m r =
       frames = length r.mappings;
     }
 
--- so many frames and nothing else
+-- `frames` frames and nothing else
 abbrev pub no_spaces : ℕ → SpacesView
 no_spaces frames =
     record { processes = []; areas = []; segments = []; next = 0; place = []; pins = []; frames = frames }

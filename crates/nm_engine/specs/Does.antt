@@ -1,4 +1,4 @@
--- How what a call answers and does is told by its definition.
+-- How a contract says that the answer and the effect of a call are those of its definition.
 use Rattle.std.specs.Prelude.{◌≡◌, Result, Ok, Err}
 use Rattle.nm_types.specs.declared.errno.Errno.{Errno}
 use Rattle.nm_types.specs.State.{State}
@@ -7,7 +7,7 @@ use Rattle.nm_types.specs.declared.machine_error.MachineError.TheVariants as err
 pub use Rattle.nm_types.specs.Does.{Makes, AsksLast, Alters, Tells}
 use Rattle.nm_engine.specs.Touch.{AccessAnswer, Answered, Refused}
 
--- a read or a write: what it answers and makes of the state is defined, or it finds no memory on the host and changes
+-- a read or a write: its answer and the state after it are as defined, or it finds no memory on the host and changes
 -- nothing
 abbrev pub Accesses : {T : Type 0} → Result T MachineError → (T → AccessAnswer) → State → State → Answered → Type 0
 Accesses (Ok value) shown old new a = (a.answer ≡ shown value) × (new ≡ a.state)

@@ -19,7 +19,7 @@ use Rattle.nm_engine.specs.Flight.{AllAnswered, is_held, spot_of_access}
 pub data Due : Type 0 where
   -- nothing: its answer is known
   Known : (answer : AccessAnswer) → Due
-  -- so many bytes of the page from a place in it on are to be read
+  -- `len` bytes of the page from `at` on are to be read
   ToRead : (page : Page) (at len : ℕ) → Due
   -- these bytes are to be written there
   ToWrite : (page : Page) (at : ℕ) (new : List ℕ) → Due
@@ -113,7 +113,7 @@ with_place s t = record s { place = with_values (at_page t.page (λ from. t.to))
 abbrev pub with_places : State → List Taken → State
 with_places s taken = fold with_place s taken
 
--- so many front frames of a node are no longer free
+-- the first `count` free frames of a node are no longer free
 abbrev pub without_fronts : State → ℕ → ℕ → State
 without_fronts s node count = record s { free = slice_set s.free node (drop count (free_list s node)) }
 

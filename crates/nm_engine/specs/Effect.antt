@@ -103,11 +103,11 @@ dropped s pid first end =
     let left = record s { processes = blind; areas = areas; segments = segments_left s.segments areas } in
     fold released left (pages_gone s.areas pid first end)
 
--- so many pages from an address on are let go
+-- `pages` pages from an address on are let go
 abbrev pub unmap : State → ℕ → ℕ → ℕ → State
 unmap s pid address pages = dropped s pid (address / 4096) (address / 4096 + pages)
 
--- a process lets go all that it has, and is no more
+-- a process lets go all that it has, and is removed
 abbrev pub exit : State → ℕ → State
 exit s pid =
     let t = dropped s pid 0 (2 ^ 35) in

@@ -118,7 +118,7 @@ on_two_of_three =
 abbrev pub frame_at : State → ℕ → ℕ → Option ℕ
 frame_at s pid address = frame_seen s pid (address / 4096)
 
--- what is told of a batch: the answer and the statuses, then of the state the free lists and the totals
+-- what is shown of a batch: the answer and the statuses, then of the state the free lists and the totals
 pub record Told : Type 0 where
   pub answer : ℕ
   pub statuses : List ℤ
@@ -126,7 +126,7 @@ pub record Told : Type 0 where
   pub moved : ℕ
   pub failed : ℕ
 
--- what is told of this one
+-- what is shown of this one
 abbrev pub told : Ran → Told
 told r =
     record {

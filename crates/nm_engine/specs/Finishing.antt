@@ -36,7 +36,7 @@ all_done place store (d ∷ dues) =
     let rest = all_done place (done_in place store d) dues in
     record { store = rest.store; answers = told_in place store d ∷ rest.answers }
 
--- the page is in this frame, whose bytes are home, and so many of them are meant
+-- the page is in this frame, whose bytes are home, and `len` of them from `at` on are inside it
 pub record IsIn (place : Map Page ℕ) (store : Store) (page : Page) (at len : ℕ) : Type 0 where
   pub frame : ℕ
   pub placed : get page_cmp place page ≡ Some frame

@@ -67,7 +67,7 @@ CanReturn p node (frame ∷ frames) =
 abbrev pub all_freed : FramesView → FramesView
 all_freed k = record k { free = (with_freed (pool_of k) k.vacated).lists; vacated = [] }
 
--- so many of these bytes from a place on
+-- the `len` of these bytes from `at` on
 abbrev pub stretch_of : List ℕ → ℕ → ℕ → List ℕ
 stretch_of bytes at zero = []
 stretch_of bytes at (suc len) = slice_index bytes at ∷ stretch_of bytes (at + 1) len

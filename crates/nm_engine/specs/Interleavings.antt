@@ -50,7 +50,7 @@ EveryRunCanEnd =
     IsAtRest m → IsSound (state_of m) → AllByRecursion (λ w. moves_all w ≡ all) wanted →
     (events : List Event) × (n : RunMachine) × Unfolds m target wanted events n × (n.phase ≡ Ended) × (accesses_in events ≡ accesses)
 
--- what a run is, told of a machine
+-- what a run is, said of a machine
 pub record IsRun (n : RunMachine) (r : Ran) : Type 0 where
   pub state : state_of n ≡ r.state
   pub statuses : n.statuses ≡ r.statuses

@@ -33,7 +33,7 @@ use Rattle.nm_engine.specs.Sound.{OwnsItsFree, IsSoundMidRun, IsSound}
 abbrev pub SoundIsAudited : Type 0
 SoundIsAudited = (s : State) → IsSound s → audited s ≡ true
 
--- a look that counts the processes tells what is to be done with a request
+-- a look that counts the processes is enough to decide what is to be done with a request
 abbrev pub LooksSuffice : Type 0
 LooksSuffice =
     (s : State) (target : ℕ) (w : Wanted) →
@@ -74,11 +74,11 @@ is_one_page None o = false
 is_one_page (Some p) None = false
 is_one_page (Some p) (Some q) = same_page p q
 
--- whether a byte is one of so many from a place on
+-- whether `at` is one of the `count` places from `first` on
 abbrev pub is_within : ℕ → ℕ → ℕ → Bool
 is_within first count at = nat_le first at && nat_lt at (first + count)
 
--- whether so many bytes of a process from an address on, in one page, hold the byte that a process has at an address
+-- whether `len` bytes of a process from `address` on, in one page, hold the byte that process `q` has at address `at`
 abbrev pub overlaps : Map (ℕ × ℕ) Area → ℕ → ℕ → ℕ → ℕ → ℕ → Bool
 overlaps areas pid address len q at =
     is_one_page (page_at areas pid (address / 4096)) (page_at areas q (at / 4096)) && is_within (address % 4096) len (at % 4096)
@@ -108,14 +108,15 @@ WritingIsExact =
     IsSoundMidRun s left → (write s pid address new).answer ≡ Done →
     mem (write s pid address new).state q at ≡ written s.areas q at (mem s q at) (Write pid address new) Done
 
--- a run keeps every byte but those of the writes in flight that are done: held and refused ones, and reads, change none
+-- one run keeps every byte but those of its own writes in flight that are done: held and refused ones, and reads, change none
 abbrev pub RunKeepsMemory : Type 0
 RunKeepsMemory =
     (s : State) (target : ℕ) (ws : List Wanted) (accesses : List Access) (answers : List AccessAnswer) (q at : ℕ) →
     IsSound s → (run s target ws accesses).answers ≡ answers ∷ [] →
     mem (run s target ws accesses).state q at ≡ all_written s.areas q at (mem s q at) accesses answers
 
--- and so does one run after another
+-- and so do several runs together, made one after another: every byte is that of the last write in flight that was done
+-- there in any of them, or else what it was before the first
 abbrev pub RunsKeepMemory : Type 0
 RunsKeepMemory =
     (s : State) (runs : List Stretch) (accesses : List (ℕ × Access)) (q at : ℕ) → IsSound s →

@@ -9,7 +9,7 @@ use Rattle.nm_engine.specs.Touch.{Spot}
 use Rattle.nm_engine.specs.Sound.{IsSoundMidRun}
 use Rattle.nm_types.specs.Layout.{frame_count}
 
--- a state, and the frames that the pages of a run have left, of which there may be so many
+-- a state, the frames that the pages of a run have left, and how many of these there is room for
 pub record MidRun : Type 0 where
   pub state : State
   pub left : List ℕ

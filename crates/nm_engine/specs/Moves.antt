@@ -31,7 +31,7 @@ CanRemap y (t ∷ taken) =
     (get page_cmp y.place t.page ≡ Some t.from) × (t.to < y.frames) × ((q : Page) → get page_cmp y.place q ≡ Some t.to → ⊥)
     × CanRemap (with_moved y t.page t.to) taken
 
--- the plan for requests by their classes at the start, which tells what becomes of them one after another
+-- the plan for requests by their classes at the start, which says what becomes of them one after another
 pub record IsPlanOf (s : State) (target : ℕ) (ws : List Wanted) (p : Planned) : Type 0 where
   pub planned : p ≡ planned (map (status_or_move s target) ws) (free_list s target) target
   pub agrees : Agrees s target (each s target ws) (record { statuses = p.statuses; taken = p.taken })

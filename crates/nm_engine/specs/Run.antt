@@ -69,7 +69,7 @@ with_all_free s frames = fold with_free s frames
 abbrev pub left : List Taken → List ℕ
 left taken = map (λ t. t.from) taken
 
--- how many requests failed for a pin or for want of a free frame
+-- how many requests failed for a pin or for lack of a free frame
 abbrev pub failures : List ℤ → ℕ
 failures statuses = count_by (λ status. int_eq status (code Ebusy) || int_eq status (code Enomem)) statuses
 
@@ -77,7 +77,7 @@ failures statuses = count_by (λ status. int_eq status (code Ebusy) || int_eq st
 abbrev pub added : ℕ → ℕ → ℕ
 added total n = min (total + n) (2 ^ 64 - 1)
 
--- the totals with so many more
+-- the totals with these numbers added
 abbrev pub counted : State → ℕ → ℕ → State
 counted s moved failed = record s { moved = added s.moved moved; failed = added s.failed failed }
 

@@ -80,7 +80,7 @@ PrivateIsSeen s =
     (p : Page) → IsSome (get page_cmp s.place p) → is_shared s.segments p.segment ≡ false →
     (pid : ℕ) × (v : ℕ) × (sight_at s pid v ≡ Some (Sees p))
 
--- a segment is there, and has at least so many pages
+-- a segment is there, and has at least `pages` pages
 abbrev pub HasPages : Option Segment → ℕ → Type 0
 HasPages None pages = ⊥
 HasPages (Some segment) pages = pages ≤ segment.pages

@@ -49,7 +49,7 @@ abbrev pub error_in : {X : Type 0} → Result X Errno → Option Errno
 error_in (Ok x) = None
 error_in (Err e) = Some e
 
--- the refusals that a read or a write of so many bytes comes to before it looks for a frame: all but the want of one
+-- the refusals that a read or a write of `len` bytes comes to before it looks for a frame: all but the lack of one
 abbrev pub spot_refusal : State → ℕ → ℕ → ℕ → Option Errno
 spot_refusal s pid address len = error_in (spot s pid address len)
 
@@ -113,7 +113,7 @@ abbrev pub touched : State → Bool → Result Spot Errno → Result State Errno
 touched s writes (Err e) = Err e
 touched s writes (Ok at) = touched_entry s at writes (get nat_cmp at.process.sees at.vpn)
 
--- what a read or a write of so many bytes does before it comes to the bytes, or the first refusal
+-- what a read or a write of `len` bytes does before it comes to the bytes, or the first refusal
 abbrev pub touch : State → ℕ → ℕ → ℕ → Bool → Result State Errno
 touch s pid address len writes = touched s writes (spot s pid address len)
 

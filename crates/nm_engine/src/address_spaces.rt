@@ -55,7 +55,7 @@ impl<A: Allocator + Copy> Model for AddressSpaces<A> {
 }
 
 impl<A: Allocator + Copy> AddressSpaces<A> {
-    /// No process, and so many frames without a page.
+    /// No process, and `frames` frames without a page.
     pub(crate) fn new(alloc: A, frames: usize) -> Result<Self, AllocError>
         ensures { IfOk result (λ spaces. spaces ≡ no_spaces frames) }
     {
@@ -73,7 +73,7 @@ impl<A: Allocator + Copy> AddressSpaces<A> {
         self.tasks.len()
     }
 
-    /// What `spawn` fixed of a process, or None where there is none of this pid.
+    /// What `spawn` fixed of a process, or None if there is none of this pid.
     pub(crate) fn info(&self, pid: Pid) -> Option<ProcessInfo>
         ensures { result ≡ option_map info_of (get nat_cmp self.now.processes pid) }
     {
@@ -113,7 +113,7 @@ impl<A: Allocator + Copy> AddressSpaces<A> {
         }
     }
 
-    /// What stands in the page table of a process, upwards, or None where there is no such process.
+    /// What stands in the page table of a process, in ascending order, or None if there is no such process.
     pub(crate) fn entries(&self, pid: Pid) -> Result<Option<Vec<(Vpn, Entry), A>>, AllocError>
         ensures entries { IfOk result (λ all. option_map (λ entries. entries.items) all ≡ option_map (λ (p : Process). with_values (λ v sight. entry_of self.now.place sight) p.sees) (get nat_cmp self.now.processes pid)) }
         ensures memory { OnErr result (IsSome (get nat_cmp self.now.processes pid)) }
@@ -281,7 +281,7 @@ impl<A: Allocator + Copy> AddressSpaces<A> {
         }
     }
 
-    /// Pins a page that has a frame once more. EBUSY where it has 65,535 pins, and then nothing has changed.
+    /// Pins a page that has a frame once more. EBUSY if it has 65,535 pins, and then nothing has changed.
     pub(crate) fn pin(&mut self, page: Page, frame: FrameId) -> Result<(), Errno>
         requires { get page_cmp self.old.place page ≡ Some frame }
         ensures room { OnOk result (pins_here self.old page < 65535) }
@@ -292,7 +292,7 @@ impl<A: Allocator + Copy> AddressSpaces<A> {
         self.rmap.pin(frame)
     }
 
-    /// Takes one pin off a page that has a frame. EINVAL where it has none, and then nothing has changed.
+    /// Takes one pin off a page that has a frame. EINVAL if it has none, and then nothing has changed.
     pub(crate) fn unpin(&mut self, page: Page, frame: FrameId) -> Result<(), Errno>
         requires { get page_cmp self.old.place page ≡ Some frame }
         ensures pinned { OnOk result (0 < pins_here self.old page) }

@@ -1,4 +1,4 @@
-//! What accesses in flight and runs answer.
+//! The answers to accesses in flight, and those of runs.
 
 use nm_types::Errno;
 use std::alloc::Allocator;
@@ -16,7 +16,7 @@ pub enum AccessAnswer<A: Allocator + Copy> {
     Refused(Errno),
 }
 
-/// What a run answers.
+/// The answer of a run.
 #[derive(Debug, Drop)]
 pub struct Flown<A: Allocator + Copy> {
     /// The status of each request: the node where its page is, or an error's number with a minus sign.

@@ -10,7 +10,7 @@ use nm_nodes::NodePool;
 use nm_types::{FrameId, Geometry, NodeId};
 use std::alloc::{AllocError, Allocator};
 
-/// Whether each frame is the machine's, and the node's beside it.
+/// Whether each frame is the machine's, and owned by the node that it is paired with.
 fn are_own<A: Allocator + Copy>(geometry: &Geometry<A>, free: &[(NodeId, FrameId)]) -> bool
     ensures { result ≡ list_all (is_own geometry.now) free.now }
 {
@@ -55,7 +55,7 @@ fn are_ones(counts: &[u64]) -> bool
     counts.iter().all(|count| *count == 1)
 }
 
-/// Free frames, and behind them those that are places.
+/// Free frames, followed by those that are places.
 fn all_of<A: Allocator + Copy>(
     alloc: A,
     free: &[(NodeId, FrameId)],
@@ -71,8 +71,8 @@ fn all_of<A: Allocator + Copy>(
     Ok(frames)
 }
 
-/// Whether each frame of the machine stands exactly once among free frames, each beside its own node, and frames that
-/// are places, and no other frame does.
+/// Whether each frame of the machine stands exactly once among free frames, each paired with its own node, and frames
+/// that are places, and no other frame does.
 pub(crate) fn is_each_once<A: Allocator + Copy>(
     alloc: A,
     geometry: &Geometry<A>,
@@ -93,7 +93,7 @@ pub(crate) fn is_each_once<A: Allocator + Copy>(
     Ok(are_ones(counts.as_slice()))
 }
 
-/// Puts the free frames of a node behind others, each beside the node.
+/// Appends the free frames of a node to a list, each paired with the node.
 fn push_list<A: Allocator + Copy>(
     nodes: &NodePool<A>,
     node: NodeId,
@@ -111,7 +111,7 @@ fn push_list<A: Allocator + Copy>(
     Ok(())
 }
 
-/// The free frames of so many nodes, each beside its node.
+/// The free frames of all `count` nodes, each paired with its node.
 pub(crate) fn free_frames<A: Allocator + Copy>(
     alloc: A,
     nodes: &NodePool<A>,

@@ -112,7 +112,7 @@ impl<A: Allocator + Copy> Frames<A> {
         self.geometry.node_of(frame)
     }
 
-    /// How many free frames a node has, which are none where there is no such node.
+    /// How many free frames a node has: 0 if there is no such node.
     pub(crate) fn free_count(&self, node: NodeId) -> usize
         ensures { result ≡ length (free_on self.now node) }
     {
@@ -152,7 +152,7 @@ impl<A: Allocator + Copy> Frames<A> {
         front_of(alloc, &self.nodes, node, self.nodes.free_count(node))
     }
 
-    /// So many of the free frames of a node from the front on, or all where there are fewer.
+    /// The first `count` free frames of a node, or all if there are fewer.
     pub(crate) fn free_front(
         &self,
         alloc: A,
@@ -185,7 +185,7 @@ impl<A: Allocator + Copy> Frames<A> {
         self.nodes.take_front(node)
     }
 
-    /// Puts so many bytes of a frame from `at` on behind those of a list that has room for them.
+    /// Appends `len` bytes of a frame, from `at` on, to a list that has room for them.
     pub(crate) fn read(&self, frame: FrameId, at: usize, len: usize, bytes: &mut Vec<u8, A>)
         requires frame { frame < frame_count self.now.layout }
         requires inside { at + len ≤ 4096 }
@@ -213,7 +213,7 @@ impl<A: Allocator + Copy> Frames<A> {
         self.frames.zero(frame);
     }
 
-    /// Makes room for so many moves of a run.
+    /// Makes room for `count` moves of a run.
     pub(crate) fn reserve(&mut self, count: usize) -> Result<(), AllocError>
         ensures room { OnOk result (length self.new.vacated + count ≤ self.new.room) }
         ensures same { self.new ≡ record (self.old) { room = self.new.room } }
@@ -241,7 +241,7 @@ impl<A: Allocator + Copy> Frames<A> {
         push_tos(&mut self.vacated, moves);
     }
 
-    /// Gives the frames that were taken for these moves back to the node whose front ones they were.
+    /// Puts the frames that were taken for these moves back at the front of the list of the node from which they came.
     pub(crate) fn give_back(&mut self, node: NodeId, moves: &[Taken])
         requires node { node < node_count self.old.layout }
         requires can { CanReturn (pool_of self.old) node (tos moves.now) }
@@ -263,7 +263,8 @@ impl<A: Allocator + Copy> Frames<A> {
     }
 
     /// The frames that the pages of this run have left become free, in their order, each at the end of its own node's
-    /// list.
+    /// list. This waits for the end of the run, since pages are copied from these frames meanwhile and no access in
+    /// flight may take one. Each list has room for all frames of its node, so it takes no memory.
     pub(crate) fn free_vacated(&mut self)
         requires { CanFree (pool_of self.old) self.old.vacated }
         ensures { self.new ≡ all_freed self.old }
@@ -298,8 +299,8 @@ impl<A: Allocator + Copy> Frames<A> {
 }
 
 impl<A: Allocator + Copy + Send + Sync> Frames<A> {
-    /// Copies the pages of moves to the frames that they take, with so many workers, and does meanwhile what is left to do
-    /// for accesses to other pages. The answers go into a list that has room for them.
+    /// Copies the pages of moves to the frames that they take, with `workers` workers, and does meanwhile what is left
+    /// to do for accesses to other pages. The answers go into a list that has room for them.
     pub(crate) fn copy_pages<R: Threads + Wait + Sync, G: Gate + Sync>(
         &mut self,
         rt: &R,
@@ -341,7 +342,7 @@ impl<A: Allocator + Copy + Send + Sync> Frames<A> {
     }
 }
 
-/// Takes so many frames from the front of a node's list.
+/// Takes `count` frames from the front of a node's list.
 fn take_fronts<A: Allocator + Copy>(nodes: &mut NodePool<A>, node: NodeId, count: usize)
     requires { node < length nodes.old.lists }
     ensures { nodes.new ≡ with_list nodes.old node (drop count (list_of nodes.old node)) }
@@ -351,7 +352,7 @@ fn take_fronts<A: Allocator + Copy>(nodes: &mut NodePool<A>, node: NodeId, count
     }
 }
 
-/// Puts the frames that the pages of moves were to take back at the front of their own node's list.
+/// Puts the frames that the pages of moves were to take back at the front of the node's list.
 fn return_tos<A: Allocator + Copy>(nodes: &mut NodePool<A>, node: NodeId, moves: &[Taken])
     requires node { node < length nodes.old.lists }
     requires can { CanReturn nodes.old node (tos moves.now) }
@@ -364,7 +365,7 @@ fn return_tos<A: Allocator + Copy>(nodes: &mut NodePool<A>, node: NodeId, moves:
     }
 }
 
-/// Puts the frames that the pages of moves take behind those of a list that has room for them.
+/// Appends the frames that the pages of moves take to a list that has room for them.
 fn push_tos<A: Allocator + Copy>(taken: &mut Vec<FrameId, A>, moves: &[Taken])
     requires { vec_len taken.old + length moves.now ≤ vec_capacity taken.old }
     ensures items { taken.new.items ≡ taken.old.items ++ tos moves.now }
@@ -375,7 +376,7 @@ fn push_tos<A: Allocator + Copy>(taken: &mut Vec<FrameId, A>, moves: &[Taken])
     }
 }
 
-/// Puts the frames that the pages of moves leave behind those of a list that has room for them.
+/// Appends the frames that the pages of moves leave to a list that has room for them.
 fn push_left<A: Allocator + Copy>(vacated: &mut Vec<FrameId, A>, moves: &[Taken])
     requires { vec_len vacated.old + length moves.now ≤ vec_capacity vacated.old }
     ensures items { vacated.new.items ≡ vacated.old.items ++ left moves.now }
@@ -396,7 +397,7 @@ fn free_frames<A: Allocator + Copy>(nodes: &mut NodePool<A>, frames: &[FrameId])
     }
 }
 
-/// So many of the free frames of a node, from the front on.
+/// The first `count` free frames of a node, which has that many.
 fn front_of<A: Allocator + Copy>(
     alloc: A,
     nodes: &NodePool<A>,
@@ -417,7 +418,7 @@ fn front_of<A: Allocator + Copy>(
     Ok(frames)
 }
 
-/// Puts so many bytes of a frame from `at` on behind those of a list that has room for them.
+/// Appends `len` bytes of a frame, from `at` on, to a list that has room for them.
 fn copy_bytes<A: Allocator + Copy>(
     frames: &FrameStore<A>,
     frame: FrameId,

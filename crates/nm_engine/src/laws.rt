@@ -30,14 +30,14 @@ pub fn writes_are_exact()
     ensures { WritingIsExact }
 {}
 
-/// A look at a page number of a process, which counts the processes that see the page, tells what is to be done with a
-/// request, and the number is at most that of the processes that may be alive.
+/// A look at a page number of a process, which counts the processes that see the page, is enough to decide what is to
+/// be done with a request, and the count is at most the number of processes that may be alive.
 pub fn looks_suffice()
     ensures told { LooksSuffice }
     ensures bounded { LooksAreBounded }
 {}
 
-/// To class the requests of a run at its start and then decide is to decide one after another.
+/// To class the requests of a run at its start and then decide them gives the same as to decide one after another.
 pub fn plan_is_one_by_one()
     ensures { PlanIsOneByOne }
 {}

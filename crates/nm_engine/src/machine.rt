@@ -40,7 +40,7 @@ use std::marker::Model;
 use std::sync::Wait;
 use std::thread::Threads;
 
-/// How many pages moved, and how many requests failed for a pin or for want of a free frame. Each stays at 2^64 - 1
+/// How many pages moved, and how many requests failed for a pin or for lack of a free frame. Each stays at 2^64 - 1
 /// once it is there.
 #[derive(Clone, Copy, Debug, PartialEq, Eq)]
 pub struct Totals {
@@ -70,7 +70,7 @@ impl<A: Allocator + Copy + Send + Sync> Model for Machine<A> {
 
 impl<A: Allocator + Copy + Send + Sync> Machine<A> {
     /// A machine of these nodes, all online, with every frame free and no process. Each node's free frames are listed
-    /// upwards. An error is want of memory.
+    /// in ascending order. An error means that the host is out of memory.
     pub fn new(alloc: A, geometry: Geometry<A>) -> Result<Self, AllocError>
         ensures { IfOk result (λ machine. machine ≡ new_machine geometry) }
     {
@@ -111,15 +111,15 @@ impl<A: Allocator + Copy + Send + Sync> Machine<A> {
         self.inner.is_online(node)
     }
 
-    /// Whether a set has a node that the machine has not.
+    /// Whether a set has a node that the machine does not have.
     pub fn names_missing_node(&self, nodes: NodeMask) -> bool
         ensures { result ≡ list_any (nat_le (node_count self.now.layout)) nodes }
     {
         self.inner.names_missing_node(nodes)
     }
 
-    /// A node of the machine goes online, or offline, as often as it is asked for: pages stay where they are, and so do
-    /// free frames. It takes no memory.
+    /// Takes a node of the machine online or offline, whether it was so before or not: pages stay where they are, and
+    /// so do free frames. It takes no memory.
     pub fn set_online(&mut self, node: NodeId, online: bool)
         requires { node < node_count self.old.layout }
         ensures { self.new ≡ set_online self.old node online }
@@ -127,8 +127,8 @@ impl<A: Allocator + Copy + Send + Sync> Machine<A> {
         self.inner.set_online(node, online);
     }
 
-    /// The pages on a node, by segment and index: at most 16,384, and none where there is no such node. An error is want of
-    /// memory.
+    /// The pages on a node, by segment and index: at most 16,384, and none where there is no such node. An error means
+    /// that the host is out of memory.
     pub fn pages_on(&self, node: NodeId) -> Result<Vec<Page, A>, AllocError>
         ensures list { IfOk result (λ pages. pages.items ≡ placed_on self.now node) }
         ensures few { IfOk result (λ pages. length pages.items ≤ 16384) }
@@ -136,7 +136,7 @@ impl<A: Allocator + Copy + Send + Sync> Machine<A> {
         self.inner.pages_on(node)
     }
 
-    /// What `spawn` fixed of a process, or None where there is none of this pid.
+    /// What `spawn` fixed of a process, or None if there is none of this pid.
     pub fn process(&self, pid: Pid) -> Option<ProcessInfo>
         ensures { result ≡ option_map info_of (get nat_cmp self.now.processes pid) }
     {
@@ -152,9 +152,9 @@ impl<A: Allocator + Copy + Send + Sync> Machine<A> {
         self.inner.totals()
     }
 
-    /// Adds a process. EINVAL for a pid that is 0 or alive, a home that is no node of the machine, or a set of allowed
-    /// nodes that is empty or has a node beyond the machine; then ENOMEM where 1,024 processes are alive. The home need
-    /// be neither allowed nor online.
+    /// Adds a process. EINVAL for a pid that is 0 or alive, a home that is not a node of the machine, or a set of
+    /// allowed nodes that is empty or has a node beyond the machine; then ENOMEM if 1,024 processes are alive. The home
+    /// need be neither allowed nor online.
     pub fn spawn(
         &mut self,
         pid: Pid,
@@ -175,10 +175,10 @@ impl<A: Allocator + Copy + Send + Sync> Machine<A> {
         self.inner.spawn(pid, info)
     }
 
-    /// Makes a segment of so many pages, private or shared, and an area of the process over all of it, with the default
-    /// policy. Gives the segment's number, which is not given again. ESRCH without such a process; EINVAL for an address
-    /// that is no multiple of 4,096, no page, an end beyond 2^47, or an area of the process in the way; then ENOMEM where
-    /// 65,536 segments were made. A refused call uses no number.
+    /// Makes a segment of `pages` pages, private or shared, and an area of the process over all of it, with the default
+    /// policy. Returns the segment's number, which is not given again. ESRCH without such a process; EINVAL for an
+    /// address that is not a multiple of 4,096, no page, an end beyond 2^47, or an area of the process in the way; then
+    /// ENOMEM if 65,536 segments were made. A refused call uses up no number.
     pub fn map(
         &mut self,
         pid: Pid,
@@ -193,7 +193,7 @@ impl<A: Allocator + Copy + Send + Sync> Machine<A> {
         self.inner.map(pid, addr, pages, shared)
     }
 
-    /// Makes an area of the process over so many pages of a shared segment, from an offset on that is counted in pages,
+    /// Makes an area of the process over `pages` pages of a shared segment, from an offset on that is counted in pages,
     /// with the default policy. ESRCH without such a process; EINVAL as for `map`, and for a segment that is not there,
     /// is private or ends before the area would.
     pub fn attach(
@@ -211,8 +211,8 @@ impl<A: Allocator + Copy + Send + Sync> Machine<A> {
     }
 
     /// Pins the page that a process sees at an address once more: it does not move until it is unpinned as often. ESRCH
-    /// without such a process; EFAULT without an area there, and for the page of zeros; ENOENT where nothing was touched;
-    /// EBUSY where the page has 65,535 pins. It takes no memory.
+    /// without such a process; EFAULT without an area there, and for the page of zeros; ENOENT if nothing was touched;
+    /// EBUSY if the page has 65,535 pins. It takes no memory.
     pub fn pin(&mut self, pid: Pid, addr: u64) -> Result<(), Errno>
         ensures { Alters result self.old self.new (pin_refusal self.old pid addr) (pin self.old pid addr) }
     {
@@ -220,17 +220,17 @@ impl<A: Allocator + Copy + Send + Sync> Machine<A> {
     }
 
     /// Takes one pin off the page that a process sees at an address, whoever pinned it. ESRCH, EFAULT and ENOENT as for
-    /// `pin`; EINVAL where the page has no pin. It takes no memory.
+    /// `pin`; EINVAL if the page has no pin. It takes no memory.
     pub fn unpin(&mut self, pid: Pid, addr: u64) -> Result<(), Errno>
         ensures { Alters result self.old self.new (unpin_refusal self.old pid addr) (unpin self.old pid addr) }
     {
         self.inner.unpin(pid, addr)
     }
 
-    /// A process lets go so many pages from an address on, where it may have holes: what it sees there, and its areas'
-    /// parts there. A page that no area of any process covers any more loses its frame, which becomes free, by ascending
-    /// address, a page at its lowest. ESRCH without such a process; EINVAL for an address that is no multiple of 4,096,
-    /// no page, or an end beyond 2^47; EBUSY where an area shows a pinned page there.
+    /// Unmaps `pages` pages of a process from an address on, among which there may be holes: it loses what it sees
+    /// there, and its areas' parts there. A page that no area of any process covers any more loses its frame, which
+    /// becomes free, by ascending address, a page at its lowest. ESRCH without such a process; EINVAL for an address
+    /// that is not a multiple of 4,096, no page, or an end beyond 2^47; EBUSY if an area shows a pinned page there.
     pub fn unmap(&mut self, pid: Pid, addr: u64, pages: u64) -> Result<(), MachineError>
         ensures done { Makes result self.old self.new (unmap_refusal self.old pid addr pages) (unmap self.old pid addr pages) }
         ensures memory { AsksLast result (unmap_refusal self.old pid addr pages) }
@@ -238,8 +238,8 @@ impl<A: Allocator + Copy + Send + Sync> Machine<A> {
         self.inner.unmap(pid, addr, pages)
     }
 
-    /// A process lets go all that it has, as by one `unmap`, and is no more. Its pid may come again. ESRCH without such a
-    /// process; EBUSY where one of its areas shows a pinned page.
+    /// Ends a process: it loses all that it has, as by one `unmap`. Its pid may be used again. ESRCH without such a
+    /// process; EBUSY if one of its areas shows a pinned page.
     pub fn exit(&mut self, pid: Pid) -> Result<(), MachineError>
         ensures done { Makes result self.old self.new (exit_refusal self.old pid) (exit self.old pid) }
         ensures memory { AsksLast result (exit_refusal self.old pid) }
@@ -247,7 +247,7 @@ impl<A: Allocator + Copy + Send + Sync> Machine<A> {
         self.inner.exit(pid)
     }
 
-    /// Whether `set_policy` would set a policy: ESRCH, EINVAL and EFAULT as there. It takes no memory.
+    /// Whether `set_policy` would set a policy: returns ESRCH, EINVAL and EFAULT as it does. It takes no memory.
     pub fn check_policy(&self, pid: Pid, addr: u64, len: u64) -> Result<(), Errno>
         ensures { Checks result (policy_refusal self.now pid addr len) }
     {
@@ -255,9 +255,10 @@ impl<A: Allocator + Copy + Send + Sync> Machine<A> {
     }
 
     /// Sets where the new pages of `len` bytes from an address on are placed, rounded up to whole pages, as `mbind(2)`
-    /// does. The areas of the process are split at both ends of the range, and never merged; no page moves. ESRCH without
-    /// such a process; EINVAL for an address that is no multiple of 4,096, or a range that ends past 2^64 - 1; then a `len`
-    /// of 0 changes nothing; EFAULT where a page of the range has no area. An error means that the machine is as it was.
+    /// does. The areas of the process are split at both ends of the range, and never merged; no page moves. ESRCH
+    /// without such a process; EINVAL for an address that is not a multiple of 4,096, or a range that ends past
+    /// 2^64 - 1; then a `len` of 0 changes nothing; EFAULT if a page of the range has no area. An error means that the
+    /// machine is as it was.
     pub fn set_policy(
         &mut self,
         pid: Pid,
@@ -271,9 +272,9 @@ impl<A: Allocator + Copy + Send + Sync> Machine<A> {
         self.inner.set_policy(pid, addr, len, policy)
     }
 
-    /// Reads 1 to 4,096 bytes inside one page. Memory that nobody wrote reads as zeros. ESRCH without such a process;
-    /// EINVAL for no byte, or bytes past the page's end; EFAULT without an area there; ENOMEM where shared memory wants a
-    /// frame and no node that may give one has any.
+    /// Reads 1 to 4,096 bytes inside one page. Memory that was never written reads as zeros. ESRCH without such a
+    /// process; EINVAL for no byte, or bytes past the page's end; EFAULT without an area there; ENOMEM if shared memory
+    /// needs a frame and no node that may give one has any.
     pub fn read(&mut self, pid: Pid, addr: u64, len: u64) -> Result<Vec<u8, A>, MachineError>
         ensures answer { Accesses result (λ bytes. Bytes bytes.items) self.old self.new (read self.old pid addr len) }
         ensures memory { AsksLast result (spot_refusal self.old pid addr len) }
@@ -281,7 +282,7 @@ impl<A: Allocator + Copy + Send + Sync> Machine<A> {
         self.inner.read(pid, addr, len)
     }
 
-    /// Writes 1 to 4,096 bytes inside one page. ESRCH, EINVAL and EFAULT as for `read`; ENOMEM where the page has no frame
+    /// Writes 1 to 4,096 bytes inside one page. ESRCH, EINVAL and EFAULT as for `read`; ENOMEM if the page has no frame
     /// yet and no node that may give one has any. A refused write changes nothing.
     pub fn write(&mut self, pid: Pid, addr: u64, bytes: &[u8]) -> Result<(), MachineError>
         ensures answer { Accesses result (λ done. Done) self.old self.new (write self.old pid addr bytes.now) }
@@ -290,22 +291,23 @@ impl<A: Allocator + Copy + Send + Sync> Machine<A> {
         self.inner.write(pid, addr, bytes)
     }
 
-    /// Decides the requests of a run one after another, and gives a status for each: the target's number where the page
-    /// is there now, or an error's number with a minus sign. -14 (EFAULT) without an area, or for the page of zeros; -2
-    /// (ENOENT) where nothing was touched; -13 (EACCES) where another process sees the page and the request does not ask
-    /// for all; -16 (EBUSY) for a pinned page; -12 (ENOMEM) where the target has no free frame. A page takes the front of the
-    /// target's free frames. The frames that pages leave become free at the run's end, in the order of the moves. The
-    /// totals count the moves, and the requests with -16 or -12. The requests are all by address, with one `all`, or all by
-    /// page: then their classes at the run's start are those that they have one after another. An error is want of memory,
-    /// and means that the machine is as it was.
+    /// Decides the requests of a run one after another, and returns a status for each: the target's number where the
+    /// page is there now, or an error's number with a minus sign. -14 (EFAULT) without an area, or for the page of
+    /// zeros; -2 (ENOENT) where nothing was touched; -13 (EACCES) where another process sees the page and the request
+    /// does not ask for all; -16 (EBUSY) for a pinned page; -12 (ENOMEM) where the target has no free frame. A page
+    /// takes the front of the target's free frames. The frames that pages leave become free at the run's end, in the
+    /// order of the moves. The totals count the moves, and the requests with -16 or -12. The requests are all by
+    /// address, with one `all`, or all by page: then their classes at the run's start are those that they have one
+    /// after another. An error means that the host is out of memory, and that the machine is as it was.
     ///
-    /// While the pages are copied, processes make accesses, one after another. Each is answered as outside a run, but that
-    /// one which comes to a page that moves in this run is held: it does nothing, also where the process has not touched the
-    /// page. ESRCH, EINVAL and EFAULT come before that. The accesses find the frames that the run took gone, and those that
-    /// its pages left not free yet.
+    /// While the pages are copied, processes make accesses, one after another. Each is answered as it would be outside
+    /// a run, except that one to a page that moves in this run is held: it does nothing, even if the process has not
+    /// touched the page. ESRCH, EINVAL and EFAULT come before that. To an access, the frames that the run took are no
+    /// longer free, and those that its pages left are not free yet.
     ///
-    /// The pages are copied by 1 to 64 workers, of which the caller is the first; each passes the gate before each copy.
-    /// How many they are, and whether the host starts them, changes nothing of this. It waits for their threads to end.
+    /// The pages are copied by 1 to 64 workers, of which the caller is the first; each passes the gate before each
+    /// copy. How many they are, and whether the host starts them, makes no difference to any of this. It waits for
+    /// their threads to end.
     pub fn run_flight<R: Threads + Wait + Sync, G: Gate + Sync>(
         &mut self,
         rt: &R,
@@ -344,7 +346,7 @@ impl<A: Allocator + Copy + Send + Sync> Machine<A> {
         })
     }
 
-    /// The free frames of a node, the front first. EINVAL where there is no such node.
+    /// The free frames of a node, the front first. EINVAL if there is no such node.
     pub fn free_list(&self, node: NodeId) -> Result<Vec<FrameId, A>, MachineError>
         ensures told { Tells result (list_refusal self.now node) (λ frames. frames.items ≡ free_list self.now node) }
         ensures memory { AsksLast result (list_refusal self.now node) }
@@ -352,7 +354,7 @@ impl<A: Allocator + Copy + Send + Sync> Machine<A> {
         self.inner.free_list(node)
     }
 
-    /// What the process has at the page numbers that it has touched, upwards. ESRCH without such a process.
+    /// What the process has at the page numbers that it has touched, in ascending order. ESRCH without such a process.
     pub fn entries(&self, pid: Pid) -> Result<Vec<(Vpn, Entry), A>, MachineError>
         ensures told { Tells result (entries_refusal self.now pid) (λ entries. entries.items ≡ entries_of self.now pid) }
         ensures memory { AsksLast result (entries_refusal self.now pid) }
@@ -368,9 +370,9 @@ impl<A: Allocator + Copy + Send + Sync> Machine<A> {
         self.inner.lines(pid)
     }
 
-    /// The first page that a process sees at a page number from `first` up to, and without, `end`, with its node: no page
-    /// of zeros, and none where there is no such process. Whoever asks again from the page number behind it on comes to
-    /// all such pages, by page number, whatever the length of the range. It takes no memory.
+    /// The first page that a process sees at a page number from `first` up to, and without, `end`, with its node: no
+    /// page of zeros, and none where there is no such process. Asking again from the next page number on gives all such
+    /// pages, by page number, whatever the length of the range. It takes no memory.
     pub fn page_from(&self, pid: Pid, first: Vpn, end: Vpn) -> Option<Located>
         ensures some { IfSome result (λ e. located_between self.now pid first end ≡ e ∷ located_between self.now pid (e.vpn + 1) end) }
         ensures none { IfNone result (located_between self.now pid first end ≡ []) }
@@ -380,7 +382,7 @@ impl<A: Allocator + Copy + Send + Sync> Machine<A> {
         self.inner.page_from(pid, first, end)
     }
 
-    /// The node where a page is, or None where it has no frame. It takes no memory.
+    /// The node where a page is, or None if it has no frame. It takes no memory.
     pub fn node_of_page(&self, page: Page) -> Option<NodeId>
         ensures { result ≡ option_map (node_of self.now.layout) (get page_cmp self.now.place page) }
     {
@@ -404,7 +406,7 @@ impl<A: Allocator + Copy + Send + Sync> Machine<A> {
     }
 
     /// Whether each frame of the machine stands exactly once in its own node's list of free frames, or is the place of
-    /// exactly one page, and not both: true, since a machine is sound. An error is want of memory.
+    /// exactly one page, and not both: true, since a machine is sound. An error means that the host is out of memory.
     pub fn audit(&self) -> Result<bool, AllocError>
         ensures told { IfOk result (λ b. b ≡ audited self.now) }
         ensures sound { IfOk result (λ b. b ≡ true) }

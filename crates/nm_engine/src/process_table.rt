@@ -58,7 +58,7 @@ impl<A: Allocator + Copy> ProcessTable<A> {
         self.tasks.len()
     }
 
-    /// What `spawn` fixed of a process, or None where there is none of this pid.
+    /// What `spawn` fixed of a process, or None if there is none of this pid.
     pub(crate) fn info(&self, pid: Pid) -> Option<ProcessInfo>
         ensures { result ≡ option_map task_info (get nat_cmp self.now pid) }
     {
@@ -130,7 +130,7 @@ impl<A: Allocator + Copy> ProcessTable<A> {
         task.table.replace(vpn, entry);
     }
 
-    /// Takes away the entry at a page number of a process. It takes no memory.
+    /// Removes the entry at a page number of a process. It takes no memory.
     pub(crate) fn clear(&mut self, pid: Pid, vpn: Vpn)
         requires { IsSome (get nat_cmp self.old pid) }
         ensures { (t : Task) → get nat_cmp self.old pid ≡ Some t → self.new ≡ replace nat_cmp self.old pid (without_entry t vpn) }
@@ -141,7 +141,7 @@ impl<A: Allocator + Copy> ProcessTable<A> {
         task.table.clear(vpn);
     }
 
-    /// Takes away a process with its table. It takes no memory.
+    /// Removes a process with its table. It takes no memory.
     pub(crate) fn remove(&mut self, pid: Pid)
         ensures gone { self.new ≡ without nat_cmp self.old pid }
         ensures ordered { IsStrictlySortedBy nat_cmp (keys_of self.new) }

@@ -27,7 +27,7 @@ impl<A: Allocator + Copy> Model for FrameStore<A> {
 }
 
 impl<A: Allocator + Copy> FrameStore<A> {
-    /// So many frames, all home, of zeros. It makes the buffer of every frame, and no other call takes memory.
+    /// A store of `frames` frames, all home, of zeros. It makes the buffer of every frame; no other call takes memory.
     pub fn new(alloc: A, frames: usize) -> Result<Self, AllocError>
         ensures { IfOk result (λ store. store ≡ replicate frames (Some (replicate 4096 0))) }
     {

@@ -194,7 +194,7 @@ own_row rows p frame i row shown kept own is inside taken =
     let size = row_size rows p i node row shown at within is in
     record { at = at; within = within; list = list; room = omega (arith, ap (λ (ns : List ℕ). length ns) list, size, has_room p frame pool inside taken) }
 
--- the rows from one on, in its own
+-- the rows from a given one on, in its own
 module _ (rows : List (ℕ × List ℕ)) (i rest : ℕ) (row : ℕ × List ℕ) (within : i < length rows) (is : row ≡ get_or rows i row) where
   parted : drop i rows ≡ row ∷ drop (i + 1) rows
   parted = drop_more rows i row within ∙ ap (λ (r : ℕ × List ℕ). r ∷ drop (i + 1) rows) (sym is)

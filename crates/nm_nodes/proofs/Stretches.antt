@@ -22,7 +22,7 @@ up_from_more n (suc k) =
     let more : suc k + 1 ≡ suc (k + 1) = omega arith in
     ap (up_from n) more ∙ ap (λ (ms : List ℕ). n ∷ ms) (up_from_more (n + 1) k ∙ ap (λ (m : ℕ). up_from (n + 1) k ++ m ∷ []) e)
 
--- a number of a list is its first, or stands behind
+-- a number of a list is its first, or one of the rest
 pub is_in-cons : (m : ℕ) (ns : List ℕ) (n : ℕ) → is_in (m ∷ ns) n ≡ true → (m ≡ n) ⊎ (is_in ns n ≡ true)
 is_in-cons m ns n h = ⊎_elim (λ e. inl (eqb-true m n e)) (λ r. inr r) (or_cases (eqb m n) (is_in ns n) h)
 

@@ -29,7 +29,7 @@ impl<A: Allocator + Copy> Model for FreeList<A> {
 }
 
 impl<A: Allocator + Copy> FreeList<A> {
-    /// All frames of a node that owns so many from `first` on, upwards.
+    /// All frames of a node that owns `size` frames from `first` on, in ascending order.
     pub fn upwards(alloc: A, first: u32, size: u32) -> Result<Self, AllocError>
         requires { first + size < 2 ^ 32 }
         ensures { IfOk result (λ l. l ≡ (size, up_from first size)) }
@@ -70,8 +70,8 @@ impl<A: Allocator + Copy> FreeList<A> {
         self.frames.pop_front()
     }
 
-    /// Takes so many frames from the front, or all where there are fewer, and puts them in their order behind those of a
-    /// list that has room for them.
+    /// Takes `count` frames from the front, or all if there are fewer, and appends them in their order to a list that
+    /// has room for them.
     pub fn take_many(&mut self, count: usize, taken: &mut Vec<FrameId, A>)
         requires { vec_len taken.old + count ≤ vec_capacity taken.old }
         ensures taken { taken.new.items ≡ taken.old.items ++ take count self.old.1 }
@@ -81,7 +81,7 @@ impl<A: Allocator + Copy> FreeList<A> {
         take_front(&mut self.frames, count, taken);
     }
 
-    /// Puts a frame behind the others, where there is room.
+    /// Puts a frame after the others, if there is room.
     pub fn append(&mut self, frame: FrameId)
         requires { length self.old.1 < self.old.0 }
         ensures { self.new ≡ (self.old.0, self.old.1 ++ frame ∷ []) }
@@ -89,7 +89,7 @@ impl<A: Allocator + Copy> FreeList<A> {
         self.frames.push_back_reserved(frame);
     }
 
-    /// Puts a frame before the others, where there is room.
+    /// Puts a frame before the others, if there is room.
     pub fn prepend(&mut self, frame: FrameId)
         requires { length self.old.1 < self.old.0 }
         ensures { self.new ≡ (self.old.0, frame ∷ self.old.1) }
@@ -98,7 +98,8 @@ impl<A: Allocator + Copy> FreeList<A> {
     }
 }
 
-/// Takes so many frames from the front of a queue, or all where there are fewer, into a list that has room for them.
+/// Takes `count` frames from the front of a queue, or all if there are fewer, and appends them to a list that has room
+/// for them.
 fn take_front<A: Allocator + Copy>(
     frames: &mut VecDeque<FrameId, A>,
     count: usize,

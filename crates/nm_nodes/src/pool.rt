@@ -29,8 +29,8 @@ impl<A: Allocator + Copy> Model for NodePool<A> {
 }
 
 impl<A: Allocator + Copy> NodePool<A> {
-    /// The pool of a new machine: every frame is free, and each node's list has the node's frames upwards. It takes
-    /// room for every frame, and no other call takes memory.
+    /// The pool of a new machine: every frame is free, and each node's list has the node's frames in ascending order.
+    /// It takes room for every frame, and no other call takes memory.
     pub fn new(alloc: A, geometry: &Geometry<A>) -> Result<Self, AllocError>
         ensures { IfOk result (λ pool. pool ≡ new_pool geometry.now.sizes) }
     {
@@ -62,7 +62,7 @@ impl<A: Allocator + Copy> NodePool<A> {
         self.lists[node.index()].nth(k)
     }
 
-    /// Takes the front of the list of a node of the machine. None where the list is empty. It takes no memory.
+    /// Takes the front of the list of a node of the machine. None if the list is empty. It takes no memory.
     pub fn take_front(&mut self, node: NodeId) -> Option<FrameId>
         requires { node < length self.old.lists }
         ensures front { result ≡ slice_get (list_of self.old node) 0 }
@@ -71,8 +71,8 @@ impl<A: Allocator + Copy> NodePool<A> {
         self.lists[node.index()].take_front()
     }
 
-    /// Takes so many frames from the front of the list of a node of the machine, or all where there are fewer, and puts
-    /// them in their order behind those of a list that has room for them. It takes no memory.
+    /// Takes `count` frames from the front of the list of a node of the machine, or all if there are fewer, and appends
+    /// them in their order to a list that has room for them. It takes no memory.
     pub fn take_many(&mut self, node: NodeId, count: usize, taken: &mut Vec<FrameId, A>)
         requires node { node < length self.old.lists }
         requires room { vec_len taken.old + count ≤ vec_capacity taken.old }

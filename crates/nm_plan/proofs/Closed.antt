@@ -88,7 +88,7 @@ or_true : (a : Bool) → (a || true) ≡ true
 or_true true = refl
 or_true false = refl
 
--- a status and those behind it
+-- a status and those after it
 joined : (s t : ℤ) (ss ts : List ℤ) → s ≡ t → ss ≡ ts → s ∷ ss ≡ t ∷ ts
 joined s t ss ts e f = ap (λ (x : ℤ). x ∷ ss) e ∙ ap (λ (xs : List ℤ). t ∷ xs) f
 

@@ -1,4 +1,4 @@
--- Which pages have moved, by a search of the first moves, a look at a few behind them, and a set.
+-- Which pages have moved, by a search of the first moves, a look at a few after them, and a set.
 use Rattle.std.proofs.Common.{Ordering, Less, Equal, Greater, ◌≡◌, ℕ, ◌<◌, ◌≤◌, ◌+◌, ◌-◌, Bool, true, false, cond, ◌||◌, List, [], ◌∷◌, ◌++◌, length, take, drop, get_or, Result, Ok, Err, is_ok, ⊎_elim, sym, ap, ◌∙◌, refl, subst, arith}
 use Rattle.std.proofs.lemmas.List.{take-append-drop, take-append-le, drop-append-le, drop_all, take_all, length-append, length-drop}
 use Rattle.std.proofs.lemmas.List.Elements.{All-from_get_or}
@@ -23,7 +23,7 @@ use Rattle.nm_plan.specs.Found.{Ascends, IsPast, Finds}
 same_back : (p q : Page) → same_page p q ≡ same_page q p
 same_back = (eq_by_cmp_equiv page_cmp_total).symm
 
--- what a search by halves answers, of moves whose pages ascend
+-- the result of a search by halves, of moves whose pages ascend
 pub found_by_halves : (ts : List Taken) (p : Page) (r : Result ℕ ℕ) → Ascends ts → IsSearchInRange r (length ts) → IsBinarySearchResult (λ t. page_cmp t.page p) ts r → is_ok r ≡ has_moved ts p
 found_by_halves [] p (Ok i) up l h = absurd (omega (arith, l))
 found_by_halves (t ∷ ts) p (Ok i) up l h = sym (list_any_at (λ u. same_page p u.page) (t ∷ ts) i t l (same_back p (get_or (t ∷ ts) i t).page ∙ ap is_eq (h t)))
@@ -64,7 +64,7 @@ first_few ts n e =
     ⊎_elim (λ few. ap (λ k. take k ts) (e ∙ min-eq_left (omega arith)) ∙ take_all (length ts) ts (omega arith) ∙ sym (take_all 8 ts (omega arith)))
     (λ many. ap (λ k. take k ts) (e ∙ min-eq_right many)) (cases_lt (length ts) 8)
 
--- what stands past the few behind the first n moves
+-- what stands past the few after the first n moves
 abbrev past_few : ℕ → List Taken → List Taken
 past_few n ts = drop 8 (drop n ts)
 

@@ -85,7 +85,7 @@ not_on_target target e = false≢true (ap failed e)
     failed (Some (pos n)) = false
     failed (Some (negsuc n)) = true
 
--- what is to be shown of the requests behind one
+-- what is to be shown of the requests after one
 abbrev Then : List Class → ℕ → ℕ → ℕ → Page → Page → ℕ → ℕ → Type 0
 Then classes target i j p q f g = (moved : List Taken) (front : List ℕ) → slice_get classes i ≡ Some (Move p f) → slice_get (decide classes moved front target).statuses i ≡ Some (code Enomem)
     → slice_get classes j ≡ Some (Move q g) → has_moved moved q ≡ false → IsNew classes j q → slice_get (decide classes moved front target).statuses j ≡ Some (code Enomem)

@@ -38,7 +38,7 @@ choose (Move page from) moved front target =
     if has_moved moved page then record { status = pos target; taken = []; front = front }
     else take_front page from front target
 
--- one request after another
+-- one request after another, since what is left for one depends on those before it
 abbrev pub decide : List Class → List Taken → List ℕ → ℕ → Decisions
 decide [] moved front target = record { statuses = []; taken = [] }
 decide (class ∷ classes) moved front target =
@@ -59,7 +59,7 @@ is_short (Move page from, status) = int_eq status (code Enomem)
 abbrev pub shortage : List Class → Decisions → Option ℕ
 shortage classes d = position is_short (zip classes d.statuses)
 
--- what a plan tells: what becomes of the requests, and the place of the first page that found no free frame
+-- what a plan says: what becomes of the requests, and the place of the first page that found no free frame
 pub record Planned : Type 0 where
   pub statuses : List ℤ
   pub taken : List Taken

@@ -10,7 +10,7 @@ use Rattle.nm_plan.specs.declared.Taken.{Taken}
 use Rattle.nm_plan.specs.declared.search.Search.{Search}
 use Rattle.nm_plan.specs.Decide.{has_moved}
 
--- the pages ascend: against any page, none stands higher than those behind it
+-- the pages ascend: against any page, none stands higher than those after it
 abbrev pub Ascends : List Taken → Type 0
 Ascends taken = (p : Page) → IsNonDecreasingBy (λ t. ordering_index (page_cmp t.page p)) taken
 
@@ -18,7 +18,7 @@ Ascends taken = (p : Page) → IsNonDecreasingBy (λ t. ordering_index (page_cmp
 abbrev pub IsPast : List Taken → Page → Type 0
 IsPast taken page = (d : Taken) → 0 < length taken → page_cmp (get_or taken (length taken - 1) d).page page ≡ Less
 
--- the first moves ascend, and the set has the pages of those past the eight behind them, and no other
+-- the first moves ascend, and the set has the pages of those past the eight after them, and no other
 pub record Finds {A : Type 0} (s : Search A) (taken : List Taken) : Type 0 where
   pub within : s.ascending ≤ length taken
   pub ascends : Ascends (take s.ascending taken)

@@ -1,4 +1,4 @@
-//! What a plan tells.
+//! What a plan says.
 
 ghost use Rattle.std.specs.Prelude.{◌≡◌};
 
@@ -38,7 +38,7 @@ impl<A: Allocator + Copy> Plan<A> {
         self.statuses.as_slice()
     }
 
-    /// The place, from 0, of the first request whose page found no free frame, or None where each page found one.
+    /// The place, from 0, of the first request whose page found no free frame, or None if each page found one.
     pub fn shortage(&self) -> Option<usize>
         ensures { result ≡ self.now.shortage }
     {

@@ -12,7 +12,9 @@ use nm_runs::Class;
 use nm_types::{Errno, FrameId, NodeId};
 use std::alloc::{AllocError, Allocator};
 
-/// Decides one request after these moves: a page that moves takes the first frame that none of them has taken.
+/// Decides one request after these moves: a page that moves takes the first frame that none of them has taken. The
+/// number of moves so far is the place of that frame in `free_front`, so no free list changes before the whole plan
+/// stands.
 fn choose<A: Allocator + Copy>(
     class: Class,
     free_front: &[FrameId],
@@ -71,9 +73,9 @@ fn shortage_of(classes: &[Class], statuses: &[i32]) -> Option<usize>
 }
 
 /// The plan for a run with these classes, where the target has these free frames, the front first. The requests are
-/// decided one after another: a page that is to move takes the first frame that no page has taken yet, or gets -12
-/// (ENOMEM) where there is none; a page that is named again stays where it went. An error means that the host refused
-/// memory.
+/// decided one after another, since what becomes of one depends on those before it: a page that is to move takes the
+/// first frame that no page has taken yet, or gets -12 (ENOMEM) if there is none; a page that is named again stays
+/// where it went. An error means that the host refused memory.
 pub fn plan<A: Allocator + Copy>(
     alloc: A,
     classes: &[Class],

@@ -10,8 +10,8 @@ use nm_types::Page;
 use std::alloc::{AllocError, Allocator};
 use std::collections::BTreeSet;
 
-/// So many moves behind those in ascending order are looked through one by one: a short run then takes no memory for a
-/// set.
+/// How many moves after those in ascending order are looked through one by one, so that a short run takes no memory for
+/// a set.
 const FEW: usize = 8;
 
 /// Whether one of these moves is of the page.
@@ -69,7 +69,7 @@ impl<A: Allocator + Copy> Search<A> {
             || self.later.contains(&page)
     }
 
-    /// Takes note of a page that moves behind these.
+    /// Takes note of a page that moves after these.
     pub(crate) fn add(&mut self, moves: &[Taken], page: Page) -> Result<(), AllocError>
         requires { Finds self.old moves.now }
         ensures { OnOk result ((taken : Taken) → taken.page ≡ page → Finds self.new (moves.now ++ taken ∷ [])) }

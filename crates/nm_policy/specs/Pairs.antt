@@ -28,7 +28,7 @@ next_pair remaining pairs = option_or (find (λ p. not (is_in remaining p.to)) p
 abbrev pub without_source : List Pair → ℕ → List Pair
 without_source pairs node = filter (λ p. not (p.from == node)) pairs
 
--- at most so many pairs, one after another; each time its node is left
+-- at most `n` pairs, one after another; each time its node is left
 abbrev pub pairs_after : ℕ → List ℕ → List Pair → List Pair
 pairs_after zero remaining left = []
 pairs_after (suc n) remaining left =
@@ -41,8 +41,8 @@ pairs_after (suc n) remaining left =
 abbrev pub pairs : List ℕ → List ℕ → List Pair
 pairs old new = pairs_after (length (moving old new)) old (moving old new)
 
--- where the target of a pair is still to be left, so is that of every pair behind it: a chain of nodes is emptied from its
--- end
+-- where the target of a pair is still to be left, so is that of every pair after it: a chain of nodes is emptied from
+-- its end
 abbrev pub EmptiesFromTheEnd : List ℕ → List Pair → Type 0
 EmptiesFromTheEnd remaining [] = Unit {0}
 EmptiesFromTheEnd remaining (p ∷ ps) =

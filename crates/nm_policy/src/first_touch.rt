@@ -41,8 +41,8 @@ fn way(home: NodeId, allowed: NodeMask, policy: Policy, index: u64) -> (NodeId, 
 /// `home` and `allowed` are the touching process's, and the policy is that of its area. DEFAULT and LOCAL go by
 /// distance from home, PREFERRED by distance from its node, and INTERLEAVE by distance from the node whose turn it is,
 /// number (`index` mod how many they are) of its set, all three over the allowed nodes. BIND goes over its own nodes
-/// alone, by distance from home. As set_mempolicy(2) and mbind(2) have it; the orders are this project's own. An error is
-/// want of memory.
+/// alone, by distance from home. As set_mempolicy(2) and mbind(2) have it; the orders are this project's own. An error
+/// means that the host is out of memory.
 pub fn first_touch_order<A: Allocator + Copy>(
     alloc: A,
     geometry: &Geometry<A>,
@@ -86,8 +86,8 @@ fn nearer_of<A: Allocator + Copy>(
     }
 }
 
-/// The node that a new page takes a frame from: the first in the order of `first_touch_order` that is in a set, of those with
-/// a free frame. None where none is. It takes no memory, and looks at each online node once.
+/// The node that a new page takes a frame from: the first in the order of `first_touch_order` that is in a set, of
+/// those with a free frame. None if none is. It takes no memory, and looks at each online node once.
 pub fn first_touch_node<A: Allocator + Copy>(
     geometry: &Geometry<A>,
     online: NodeMask,

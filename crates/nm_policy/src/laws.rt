@@ -22,8 +22,8 @@ pub fn first_touch_rows()
     ensures { FirstTouchRows }
 {}
 
-/// Whatever sets of nodes pages move between: no node moves to itself, each that moves is left once, and where the target
-/// of a pair is still to be left, so is that of every pair behind it.
+/// Whatever sets of nodes pages move between: no node moves to itself, each that moves is left once, and where the
+/// target of a pair is still to be left, so is that of every pair after it.
 pub fn each_set_is_paired_in_order()
     ensures { EachSetIsPairedInOrder }
 {}

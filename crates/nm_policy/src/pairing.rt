@@ -47,7 +47,7 @@ fn moving<A: Allocator + Copy>(
     Ok(pairs)
 }
 
-/// The first of some pairs whose target is not still to be left, else the last of them. None where there is no pair.
+/// The first of some pairs whose target is not still to be left, else the last of them. None if there is no pair.
 fn next_pair(pairs: &[Pair], remaining: NodeMask) -> Option<Pair>
     ensures { result ≡ next_pair remaining pairs.now }
 {
@@ -64,9 +64,9 @@ fn next_pair(pairs: &[Pair], remaining: NodeMask) -> Option<Pair>
 /// pages, and has no pair, if it is its own target, or if the sets differ in size and it is in `new`.
 ///
 /// At first every node of `old` is still to be left, also one that keeps its pages. Of the pairs that remain, by source
-/// upwards, the first whose target is not still to be left comes next, or the last pair where there is none; then its
-/// source is left. So a chain of nodes is emptied from its end. There is no pair where one of the sets is empty. An error
-/// is want of memory.
+/// upwards, the first whose target is not still to be left comes next, or the last pair if there is none; then its
+/// source is left. So a chain of nodes is emptied from its end. There is no pair where one of the sets is empty. An
+/// error means that the host is out of memory.
 pub fn pairs<A: Allocator + Copy>(
     alloc: A,
     old: NodeMask,

@@ -24,7 +24,7 @@ pub struct Sent {
     pub to: NodeId,
 }
 
-/// The nodes of a set, upwards.
+/// The nodes of a set, in ascending order.
 fn nodes_of<A: Allocator + Copy>(alloc: A, set: NodeMask) -> Result<Vec<NodeId, A>, AllocError>
     ensures { IfOk result (λ nodes. nodes.items ≡ set) }
 {
@@ -57,7 +57,7 @@ fn dealt<A: Allocator + Copy>(
     Ok(dealt)
 }
 
-/// Puts what goes to a node behind a list.
+/// Appends what goes to a node to a list.
 fn append_for<A: Allocator + Copy>(
     node: NodeId,
     dealt: &[Sent],
@@ -73,10 +73,10 @@ fn append_for<A: Allocator + Copy>(
     Ok(())
 }
 
-/// To which node of a set each page of a list goes, and in which order they go: the nodes take turns upwards by the page's
-/// index in its segment, as MPOL_INTERLEAVE wants it, and the pages go by node and then in the order of the list. A set
-/// of one node takes all pages in the order of the list, as MPOL_PREFERRED and each pass of MPOL_BIND want it. No page
-/// goes anywhere where the set is empty. An error is want of memory.
+/// To which node of a set each page of a list goes, and in which order they go: the nodes take turns upwards by the
+/// page's index in its segment, as MPOL_INTERLEAVE wants it, and the pages go by node and then in the order of the
+/// list. A set of one node takes all pages in the order of the list, as MPOL_PREFERRED and each pass of MPOL_BIND want
+/// it. No page goes anywhere where the set is empty. An error means that the host is out of memory.
 pub fn mbind_targets<A: Allocator + Copy>(
     alloc: A,
     nodes: NodeMask,

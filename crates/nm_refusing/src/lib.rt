@@ -1,12 +1,12 @@
-//! An allocator for tests of what happens where memory runs out: it hands each call on to another allocator, and
-//! refuses one allocation, the one whose number it was told.
+//! An allocator for tests of what happens where memory runs out: it passes each call on to another allocator, and
+//! refuses one allocation, whose number it is given.
 #![tactic(auto)]
 
 use std::alloc::{AllocError, Allocator};
 use std::sync::atomic::{AtomicU64, Ordering};
 
-/// An allocator that refuses one allocation and hands each other call on. What shares it takes a `&Refusing`, which is
-/// an allocator too and may be copied.
+/// An allocator that refuses one allocation and passes every other call on. To share it, take a `&Refusing`, which is
+/// an allocator too and can be copied.
 pub struct Refusing<B: Allocator> {
     inner: B,
     // the number, from now on, of the allocation that is refused; it counts down past 0, which refuses none
@@ -28,8 +28,8 @@ impl<B: Allocator> Refusing<B> {
         self.left.store(number, Ordering::SeqCst);
     }
 
-    /// How many allocations were asked for since `refuse(number)`, the refused one too. It was met where these are at
-    /// least `number`.
+    /// How many allocations were asked for since `refuse(number)`, the refused one included. If this is at least
+    /// `number`, and `number` is not 0, that one was refused.
     pub fn asked_since(&self, number: u64) -> u64 {
         number.wrapping_sub(self.left.load(Ordering::SeqCst))
     }
@@ -66,7 +66,7 @@ mod tests {
     use super::Refusing;
     use std::test::Fail;
 
-    /// The second allocation is refused, and those before and behind it are made.
+    /// The second allocation is refused, and those before and after it are made.
     #[test]
     fn refuses_one(rt: HostRuntime) -> Result<(), Fail> {
         let heap = Refusing::new(rt.alloc());

@@ -36,7 +36,7 @@ pub record Mappers : Type 0 where
   -- how often each frame is pinned
   pub pins : List ℕ
 
--- so many frames that nobody names or pins
+-- `frames` frames that nobody names or pins
 abbrev pub new_map : ℕ → Mappers
 new_map frames = record { mappings = replicate frames []; pins = replicate frames 0 }
 

@@ -42,7 +42,7 @@ impl<A: Allocator + Copy> Mappings<A> {
         }
     }
 
-    /// Takes one in, unless it is there. An error means that they are as they were.
+    /// Adds one, unless it is there. An error means that nothing has changed.
     pub(crate) fn insert(&mut self, pid: Pid, vpn: Vpn) -> Result<(), AllocError>
         ensures ok { OnOk result (self.new ≡ with_spot self.old (pid, vpn)) }
         ensures err { OnErr result (self.new ≡ self.old) }
@@ -57,7 +57,7 @@ impl<A: Allocator + Copy> Mappings<A> {
         Ok(())
     }
 
-    /// Takes one out, if it is there.
+    /// Removes one, if it is there.
     pub(crate) fn remove(&mut self, pid: Pid, vpn: Vpn)
         ensures without_mapper { self.new ≡ without_spot self.old (pid, vpn) }
         ensures ordered { IsStrictlySortedBy spot_cmp self.old }

@@ -36,7 +36,7 @@ impl<A: Allocator + Copy> Model for ReverseMap<A> {
 }
 
 impl<A: Allocator + Copy> ReverseMap<A> {
-    /// So many frames, which nobody names and nobody pins. An error is want of memory.
+    /// A map of `frames` frames, which nobody names and nobody pins. An error means that the host is out of memory.
     pub fn new(alloc: A, frames: usize) -> Result<Self, AllocError>
         ensures { IfOk result (λ map. map ≡ new_map frames) }
     {
@@ -54,8 +54,8 @@ impl<A: Allocator + Copy> ReverseMap<A> {
         })
     }
 
-    /// Makes a page number of a process a mapper of a frame. One that is a mapper of it stays so. An error is want of
-    /// memory, and means that nothing has changed.
+    /// Makes a page number of a process a mapper of a frame. One that is a mapper of it stays so. An error means that
+    /// the host is out of memory, and that nothing has changed.
     pub fn add(&mut self, frame: FrameId, pid: Pid, vpn: Vpn) -> Result<(), AllocError>
         requires { frame < length self.old.mappings }
         ensures ok { OnOk result (self.new ≡ with_mapper self.old frame (pid, vpn)) }
@@ -73,7 +73,7 @@ impl<A: Allocator + Copy> ReverseMap<A> {
         self.mappings[frame.index()].remove(pid, vpn);
     }
 
-    /// The mappers of a frame, by pid and then by page number. An error is want of memory.
+    /// The mappers of a frame, by pid and then by page number. An error means that the host is out of memory.
     pub fn mappers(&self, frame: FrameId) -> Result<Vec<(Pid, Vpn), A>, AllocError>
         requires { frame < length self.now.mappings }
         ensures all { IfOk result (λ mappings. mappings.items ≡ mappers_of self.now frame) }
@@ -112,7 +112,7 @@ impl<A: Allocator + Copy> ReverseMap<A> {
         self.pins.swap(from.index(), to.index());
     }
 
-    /// Pins a frame once more. EBUSY where it has 65,535 pins, and then nothing has changed. It takes no memory.
+    /// Pins a frame once more. EBUSY if it has 65,535 pins, and then nothing has changed. It takes no memory.
     pub fn pin(&mut self, frame: FrameId) -> Result<(), Errno>
         requires { frame < length self.old.mappings }
         ensures room { OnOk result (frame_pins self.old frame < 65535) }
@@ -132,7 +132,7 @@ impl<A: Allocator + Copy> ReverseMap<A> {
         Ok(())
     }
 
-    /// Takes one pin off a frame. EINVAL where it has none, and then nothing has changed. It takes no memory.
+    /// Takes one pin off a frame. EINVAL if it has none, and then nothing has changed. It takes no memory.
     pub fn unpin(&mut self, frame: FrameId) -> Result<(), Errno>
         requires { frame < length self.old.mappings }
         ensures pinned { OnOk result (0 < frame_pins self.old frame) }

@@ -110,7 +110,7 @@ follow : (P : ℕ → Type 0) (rest behind : List Request) → FirstGoes P rest 
 follow P [] behind h e = subst (λ (l : List Request). FirstGoes P l) (sym (e refl)) tt
 follow P (f ∷ fs) behind h e = h
 
--- what is first cut of a batch, and what is behind it
+-- what is first cut of a batch, and what is after it
 first_parts : (es : List Request) (t : ℕ) (ws : List Wanted) → IsFirst es t ws → es ≡ all_to t ws ++ drop (length ws) es
 first_parts es t ws first =
     sym (cut_joined es) ∙ ap joined first ∙ ap (λ l. all_to t ws ++ l) (cut_joined (drop (length ws) es))

@@ -14,7 +14,7 @@ pub record Stretch : Type 0 where
   pub target : ℕ
   pub wanted : List Wanted
 
--- a request joins the run behind it, or is one of its own
+-- a request joins the run after it, or is one of its own
 abbrev pub in_front : Request → List Stretch → List Stretch
 in_front e [] = record { target = e.target; wanted = e.wanted ∷ [] } ∷ []
 in_front e (r ∷ rs) =
@@ -26,7 +26,7 @@ abbrev pub cut : List Request → List Stretch
 cut [] = []
 cut (e ∷ es) = in_front e (cut es)
 
--- what requests want, whatever their nodes
+-- what requests ask for, whatever their nodes
 abbrev pub wanted_of : List Request → List Wanted
 wanted_of requests = map (λ e. e.wanted) requests
 
@@ -39,7 +39,7 @@ first_target (e ∷ es) = e.target
 abbrev pub same_front : List Request → ℕ
 same_front requests = length (take_while (λ e. e.target == first_target requests) requests)
 
--- the first stretch of a batch: behind it the rest is cut
+-- the first stretch of a batch: after it the rest is cut
 abbrev pub IsFirst : List Request → ℕ → List Wanted → Type 0
 IsFirst requests target wanted =
     cut requests ≡ record { target = target; wanted = wanted } ∷ cut (drop (length wanted) requests)

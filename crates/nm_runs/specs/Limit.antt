@@ -4,7 +4,7 @@ use Rattle.std.specs.List.{AllByRecursion, flat_map}
 use Rattle.nm_runs.specs.declared.Wanted.TheVariants.{Whole}
 use Rattle.nm_runs.specs.Cut.{Request, Stretch, cut, joined, size_of, AllNeighbours}
 
--- at most so many pieces of a list, from its front on, each as long as the limit but for the last
+-- at most `n` pieces of a list, from its front on, each as long as the limit but for the last
 abbrev pub pieces_in : {X : Type 0} → ℕ → List X → ℕ → List (List X)
 pieces_in limit [] n = []
 pieces_in limit (x ∷ xs) zero = []
@@ -50,7 +50,7 @@ EachLimitCuts = (limit : ℕ) (requests : List Request) → 0 < limit → CutWit
 abbrev pub targets_of : List Request → List ℕ
 targets_of requests = map (λ e. e.target) requests
 
--- a request for each of these nodes, whatever it wants
+-- a request for each of these nodes, whatever it asks for
 abbrev pub for_nodes : List ℕ → List Request
 for_nodes nodes = map (λ node. record { target = node; wanted = Whole (record { segment = 0; index = 0 }) }) nodes
 
@@ -58,7 +58,7 @@ for_nodes nodes = map (λ node. record { target = node; wanted = Whole (record {
 abbrev pub run_count : ℕ → List ℕ → ℕ
 run_count limit nodes = length (cut_within limit (for_nodes nodes))
 
--- whatever the requests want, it is how many runs they are cut into
+-- whatever the requests ask for, it is how many runs they are cut into
 abbrev pub RunCountCountsRuns : Type 0
 RunCountCountsRuns =
     (limit : ℕ) (requests : List Request) → length (cut_within limit requests) ≡ run_count limit (targets_of requests)

@@ -50,7 +50,7 @@ abbrev pub status_or_move : State → ℕ → Wanted → Class
 status_or_move s target (Spot pid v all) = status_under s target pid all (page_at s.areas pid v) (sight_at s pid v)
 status_or_move s target (Whole p) = page_status s target false p (get page_cmp s.place p)
 
--- the same, from a look that tells how many processes see the page
+-- the same, from a look that counts the processes that see the page
 abbrev pub class_of_look : Layout → ℕ → Bool → Seen → Class
 class_of_look g target all NoArea = Status (code Efault)
 class_of_look g target all Absent = Status (code Enoent)

@@ -4,7 +4,7 @@ use Rattle.nm_types.specs.declared.errno.Errno.{Errno}
 use Rattle.nm_types.specs.declared.errno.Errno.TheVariants.{Eacces, Enodev}
 use Rattle.nm_types.specs.Nodes.{is_in}
 
--- no such node among so many, or it is not online; then a node that is not allowed
+-- no such node among `count`, or it is not online; then a node that is not allowed
 abbrev pub node_refusal : ℕ → List ℕ → List ℕ → ℕ → Option Errno
 node_refusal count online allowed node =
     if nat_le count node || not (is_in online node) then Some Enodev

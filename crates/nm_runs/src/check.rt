@@ -19,9 +19,9 @@ fn check_node(count: usize, online: NodeMask, allowed: NodeMask, node: NodeId) -
     Ok(())
 }
 
-/// Whether pages of a process that may use the allowed nodes may go to these nodes, on a machine of so many nodes of
-/// which these are online, as move_pages(2) asks it. The first entry that is refused gives the error: ENODEV where there is
-/// no such node or it is offline, and then EACCES where it is not allowed.
+/// Whether pages of a process that may use the allowed nodes may go to these nodes, on a machine of `count` nodes of
+/// which `online` are online, as move_pages(2) checks it. The first entry that is refused gives the error: ENODEV if
+/// there is no such node or it is offline, and then EACCES if it is not allowed.
 pub fn check_batch(
     count: usize,
     online: NodeMask,

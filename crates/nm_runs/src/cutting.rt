@@ -22,7 +22,7 @@ fn same_front(requests: &[Request]) -> usize
         .count()
 }
 
-/// What requests want.
+/// What requests ask to move.
 fn wanted_of<A: Allocator + Copy>(
     alloc: A,
     requests: &[Request],
@@ -46,8 +46,10 @@ fn first_run<A: Allocator + Copy>(alloc: A, requests: &[Request]) -> Result<Run<
     })
 }
 
-/// The runs of a batch, in their order: its longest stretches of requests for one node. No requests are no run. An error
-/// means that the host refused memory.
+/// The runs of a batch, in their order: its longest stretches of requests for one node. Without requests there is no
+/// run. The caller has all runs before it starts the first one, so memory for the list of a later one cannot be refused
+/// after pages have moved. It cuts with a limit as long as the batch, which shortens no stretch. An error means that
+/// the host refused memory.
 pub fn cut<A: Allocator + Copy>(
     alloc: A,
     requests: &[Request],
@@ -58,9 +60,9 @@ pub fn cut<A: Allocator + Copy>(
     cut_within(alloc, requests, whole)
 }
 
-/// The runs of a batch under a limit of at least 1, in their order: its longest stretches of requests for one node, each
-/// cut from its front into runs of so many requests at most. No requests are no run. An error means that the host
-/// refused memory.
+/// The runs of a batch under a limit of at least 1, in their order: its longest stretches of requests for one node,
+/// each cut from its front into runs of at most `limit` requests. Without requests there is no run. An error means that
+/// the host refused memory.
 pub fn cut_within<A: Allocator + Copy>(
     alloc: A,
     requests: &[Request],
@@ -81,7 +83,7 @@ pub fn cut_within<A: Allocator + Copy>(
     Ok(runs)
 }
 
-/// How many nodes at the front are the first one.
+/// How many nodes at the front are the same as the first one.
 fn same_nodes(nodes: &[u32]) -> usize
     requires { 0 < length nodes.now }
     ensures front { result ≡ length (take_while (λ node. node == slice_index nodes.now 0) nodes.now) }

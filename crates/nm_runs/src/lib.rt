@@ -35,7 +35,7 @@ pub enum Wanted {
 pub struct Request {
     /// The node to which its page is to go.
     pub target: NodeId,
-    /// What it wants.
+    /// What it asks to move.
     pub wanted: Wanted,
 }
 

@@ -82,7 +82,7 @@ module _ {V : Type 0} where
         | false ↦ λ h. get-append_none a b q h
       ] h
 
-  -- behind the first key it does not come again
+  -- after the first key it does not come again
   pub none_behind : (e : ℕ × V) (m : Map ℕ V) → IsStrictlySortedBy nat_cmp (keys_of (e ∷ m)) → get nat_cmp m e.0 ≡ None
   unfolding IsStrictlySortedBy
   none_behind e m s = get-absent (λ y. nat_cmp e.0 y ≡ Less) m e.0 s.0 (not_less_itself e.0)

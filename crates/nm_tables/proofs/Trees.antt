@@ -1,4 +1,4 @@
--- The entries of a tree stand upwards.
+-- The entries of a tree are in ascending order.
 use Rattle.std.proofs.Common.{◌≡◌, ℕ, ◌≤◌, ◌/◌, subst}
 use Rattle.std.specs.List.Sorted.{IsStrictlySortedBy}
 use Rattle.std.specs.Map.{keys_of}

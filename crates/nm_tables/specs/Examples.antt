@@ -9,7 +9,7 @@ use Rattle.nm_tables.specs.declared.entry.Entry.TheVariants.{Zero, Frame, Held}
 abbrev pub two_pages : Map ℕ Entry
 two_pages = replace nat_cmp (set nat_cmp (set nat_cmp [] 16 Zero) 34359738367 (Frame 3)) 16 (Held 2)
 
--- both stand upwards
+-- both stand in ascending order
 abbrev pub EntriesStandUpwards : Type 0
 EntriesStandUpwards = two_pages ≡ (16, Held 2) ∷ (34359738367, Frame 3) ∷ []
 

@@ -45,7 +45,7 @@ module _ {V : Type 0} where
           | Some x ↦ (h s (omega arith) (omega arith), later)
         ]
 
-    -- what is listed stands upwards
+    -- what is listed is in ascending order
     pub sorted-listed : (s n : ℕ) → IsStrictlySortedBy nat_cmp (keys_of (listed f s n))
     unfolding IsStrictlySortedBy
     sorted-listed s zero = tt
@@ -60,11 +60,11 @@ module _ {V : Type 0} where
     block_part block =
         (sorted-listed (block * 512) 512, keys_from (λ k. k / 512 ≡ block) (block * 512) 512 (λ k l u. omega (arith, l, u)))
 
--- blocks go upwards with the page numbers
+-- a greater page number is in no smaller block
 pub blocks_upwards : (a b : ℕ) → a ≤ b → a / 512 ≤ b / 512
 blocks_upwards a b l = omega (arith, l)
 
--- the entries of a leaf stand upwards
+-- the entries of a leaf are in ascending order
 pub leaf_ordered : (places : Places) → IsStrictlySortedBy nat_cmp (keys_of (leaf_entries places))
 unfolding front
 leaf_ordered places = sorted-listed (λ v. stands_at places (v % 512)) (places.block * 512) 512

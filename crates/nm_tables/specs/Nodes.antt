@@ -30,7 +30,7 @@ module _ {P V : Type 0} (entries : P → Map ℕ V) (number : ℕ → ℕ) (whol
   pub are_parts : (parts : Map ℕ P) → IsNode whole is_in parts → AreParts number (shown entries parts)
   are_parts parts is = (subst (IsStrictlySortedBy nat_cmp) (sym (keys-values (λ i x. entries x) parts)) is.0, shown_parts parts is.1)
 
-  -- the entries of a node stand upwards
+  -- the entries of a node are in ascending order
   pub node_ordered : ((a b : ℕ) → a ≤ b → number a ≤ number b) → (parts : Map ℕ P) → IsNode whole is_in parts
       → IsStrictlySortedBy nat_cmp (keys_of (joined (shown entries parts)))
   node_ordered upwards parts is = sorted-joined number upwards (shown entries parts) (are_parts parts is)
@@ -55,7 +55,7 @@ module _ {P V : Type 0} (entries : P → Map ℕ V) (number : ℕ → ℕ) (whol
   node_part upwards parts i is keys = (node_ordered upwards parts is, node_keys parts i is.1 keys)
 
 module _ (number : ℕ → ℕ) where
-  -- numbers that go upwards, and theirs
+  -- numbers that never go down, and theirs
   pub upwards_again : ((a b : ℕ) → a ≤ b → number a ≤ number b) → (a b : ℕ) → a ≤ b → number a / 512 ≤ number b / 512
   upwards_again up a b l = let h = up a b l in omega (arith, h)
 

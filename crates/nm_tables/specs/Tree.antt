@@ -12,12 +12,12 @@ module _ {V : Type 0} where
   joined [] = []
   joined (part ∷ parts) = part.1 ++ joined parts
 
-  -- what is here, and what comes behind it
+  -- what is here, and what comes after it
   abbrev pub and_then : Option V → ℕ → Map ℕ V → Map ℕ V
   and_then None v rest = rest
   and_then (Some x) v rest = (v, x) ∷ rest
 
-  -- what a function gives from a number on, at so many numbers
+  -- what a function gives at this many numbers, from `v` on
   abbrev pub listed : (ℕ → Option V) → ℕ → ℕ → Map ℕ V
   listed f v zero = []
   listed f v (suc more) = and_then (f v) v (listed f (suc v) more)

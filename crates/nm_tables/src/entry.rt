@@ -10,6 +10,6 @@ pub enum Entry {
     /// A page in this frame.
     Frame(FrameId),
     /// A page that is on its way to this frame, as the run machine of the definitions has it. No call of a machine sets
-    /// one: what is held is asked of the run.
+    /// one: whether a page is held is known from the run.
     Held(FrameId),
 }

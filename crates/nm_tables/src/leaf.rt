@@ -22,7 +22,7 @@ fn place_of(vpn: Vpn) -> usize
     (vpn.number() % 512) as usize
 }
 
-/// The first place of a block whose page number is this one or past it. 512 where each is before it.
+/// The first place of a block whose page number is this one or past it. 512 if all are before it.
 fn place_from(block: u64, at: Vpn) -> usize
     ensures fits { result ≤ 512 }
     ensures reached { (i : ℕ) → i < 512 → at ≤ block * 512 + i → result ≤ i }
@@ -102,7 +102,7 @@ impl<A: Allocator + Copy> Subtree<A> for Leaf<A> {
     ghost blocks = { λ v w same. same };
 }
 
-/// Puts the entries of a leaf behind a list, upwards.
+/// Appends the entries of a leaf to a list, in ascending order.
 fn list_places<A: Allocator + Copy>(
     places: &Places,
     list: &mut Vec<(Vpn, Entry), A>,

@@ -34,7 +34,7 @@ impl Marks {
         self.words[place / 64] >> (place % 64)
     }
 
-    /// Marks a place, or takes its mark away.
+    /// Marks a place, or removes its mark.
     pub(crate) fn put(&mut self, place: usize, marked: bool)
         requires { place < 512 }
         ensures { (i : ℕ) → is_marked self.new.words i ≡ (if i == place then marked else is_marked self.old.words i) }

@@ -88,7 +88,7 @@ impl Places {
         self.frames[place] = frame;
     }
 
-    /// The first entry at a place or behind it, with its place.
+    /// The first entry at or after a place, with its place.
     pub(crate) fn first_from(&self, from: usize) -> Option<(usize, Entry)>
         requires { from ≤ 512 }
         ensures some { IfSome result (λ e. (from ≤ e.0) × (e.0 < 512) × (stands_at self.now e.0 ≡ Some e.1)) }

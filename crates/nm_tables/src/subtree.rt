@@ -13,7 +13,7 @@ use nm_types::Vpn;
 use std::alloc::{AllocError, Allocator};
 
 /// A part of a page table: page numbers that begin with the same bits, more of them the higher it stands. Its number is
-/// these bits. What takes no memory has no way to say that there is none.
+/// these bits. A method that takes no memory returns no error.
 pub(crate) trait Subtree<A: Allocator + Copy>: Drop {
     /// Its entries by page number.
     ghost entries: { Self → Map ℕ Entry };
@@ -80,12 +80,12 @@ pub(crate) trait Subtree<A: Allocator + Copy>: Drop {
         ensures kept { whole self.new }
         ensures inside { (i : ℕ) → is_in self.old i → is_in self.new i };
 
-    /// Puts all entries behind a list, upwards.
+    /// Appends all entries to a list, in ascending order.
     fn list(&self, list: &mut Vec<(Vpn, Entry), A>) -> Result<(), AllocError>
         requires kept { whole self.now }
         ensures all { OnOk result (list.new.items ≡ list.old.items ++ entries self.now) };
 
-    /// The entries stand upwards.
+    /// The entries are in ascending order.
     ghost ordered: { (x : Self) → whole x → IsStrictlySortedBy nat_cmp (keys_of (entries x)) };
 
     /// All page numbers of a part have its number.
@@ -94,7 +94,7 @@ pub(crate) trait Subtree<A: Allocator + Copy>: Drop {
     /// A part may be asked for each page number that has its number.
     ghost takes_own: { (x : Self) (v : ℕ) → is_in x (number v) → takes x v };
 
-    /// Numbers go upwards with the page numbers.
+    /// A greater page number has no smaller number.
     ghost upwards: { (v w : ℕ) → v ≤ w → number v ≤ number w };
 
     /// The 512 page numbers of a block have one number.

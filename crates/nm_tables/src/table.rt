@@ -50,7 +50,7 @@ impl<A: Allocator + Copy> PageTable<A> {
         }
     }
 
-    /// The entry at a page number, or None where it is absent.
+    /// The entry at a page number, or None if it is absent.
     pub fn get(&self, vpn: Vpn) -> Option<Entry>
         ensures entry { result ≡ get nat_cmp self.now vpn }
         ensures ordered { IsStrictlySortedBy nat_cmp (keys_of self.now) }
@@ -58,7 +58,7 @@ impl<A: Allocator + Copy> PageTable<A> {
         self.root.get(vpn)
     }
 
-    /// The first entry at a page number or past it, with its page number. None where all of these are absent. It takes no
+    /// The first entry at or after a page number, with its page number. None if all of these are absent. It takes no
     /// memory.
     pub fn first_from(&self, at: Vpn) -> Option<(Vpn, Entry)>
         ensures some { IfSome result (λ e. (at ≤ e.0) × (get nat_cmp self.now e.0 ≡ Some e.1)) }
@@ -69,9 +69,9 @@ impl<A: Allocator + Copy> PageTable<A> {
         self.root.first_from(at)
     }
 
-    /// Puts an entry at a page number, in place of one that is there. Any number is taken, also one past the areas. An
-    /// error is want of memory: it comes only where no entry stands in the aligned block of 512 page numbers that has this
-    /// one, and means that the table is as it was.
+    /// Puts an entry at a page number, in place of one that is there. Any number is accepted, even one past the areas.
+    /// An error means that the host is out of memory, and that the table is as it was. It comes only if no entry stands
+    /// yet in the aligned block of 512 page numbers that has this one.
     pub fn set(&mut self, vpn: Vpn, entry: Entry) -> Result<(), AllocError>
         ensures ok { OnOk result (self.new ≡ set nat_cmp self.old vpn entry) }
         ensures err { OnErr result (self.new ≡ self.old) }
@@ -98,7 +98,7 @@ impl<A: Allocator + Copy> PageTable<A> {
         self.root.clear(vpn);
     }
 
-    /// All entries with their page numbers, upwards. An error is want of memory.
+    /// All entries with their page numbers, in ascending order. An error means that the host is out of memory.
     pub fn entries(&self) -> Result<Vec<(Vpn, Entry), A>, AllocError>
         ensures all { IfOk result (λ entries. entries.items ≡ self.now) }
         ensures ordered { IsStrictlySortedBy nat_cmp (keys_of self.now) }

@@ -6,20 +6,20 @@ use Rattle.nm_trace.specs.Form.{◌>>=◌, each, step_of}
 use Rattle.nm_trace.specs.Faults.{first_bad}
 use Rattle.nm_trace.specs.Laws.{item_at, FirstBadIsLeast}
 
--- behind an item that is a step
+-- after an item that is a step
 rest_fails : (call : Call) (rest : Option (List Call)) → (rest >>= λ xs. Some (call ∷ xs)) ≡ None → rest ≡ None
 rest_fails call None h = refl
 rest_fails call (Some calls) h = grind (arith, h)
 
 module _ (limit : ℕ) where
-  -- what is told of items, where the first of them is this
+  -- what is reported of items, where the first of them is this
   abbrev Told : Data → Items → Option Call → Type 0
   Told d ds o =
       let place = if is_some o then suc (first_bad limit ds) else 0 in
       ((e : Data) × (item_at (item d ds) place ≡ Some e) × (step_of limit e ≡ None))
       × ((k : ℕ) → k < place → (e : Data) × (item_at (item d ds) k ≡ Some e) × IsSome (step_of limit e))
 
-  -- what is told of the items behind the first
+  -- what is reported of the items after the first
   abbrev ToldBehind : Items → Type 0
   ToldBehind ds =
       ((e : Data) × (item_at ds (first_bad limit ds) ≡ Some e) × (step_of limit e ≡ None))

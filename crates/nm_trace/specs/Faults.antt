@@ -1,4 +1,4 @@
--- Which bytes are which trace, and else the first fault.
+-- Which bytes are which trace, and otherwise the first fault.
 use Rattle.std.specs.Prelude.{◌≡◌, ℕ, suc, nat_le, List, length, if◌then◌else◌, Option, None, IfSome, is_some, Result, Ok, Err, codes}
 use Rattle.std.specs.Option.{ok_or}
 use Rattle.std.specs.Str.{is_utf8}
@@ -27,7 +27,7 @@ abbrev pub ◌>>=◌ : {A B : Type 0} → Result A TraceError → (A → Result 
 abbrev pub value_of : List ℕ → Option Data
 value_of bytes = if is_utf8 bytes then read bytes else None
 
--- the place of the first item that is no step, where a run has at most so many entries
+-- the place of the first item that is not a step, where a run has at most `limit` entries
 abbrev pub first_bad : ℕ → Items → ℕ
 first_bad limit no_items = 0
 first_bad limit (item d ds) = if is_some (form.step_of limit d) then suc (first_bad limit ds) else 0

@@ -1,4 +1,4 @@
--- Worked examples of accesses in flight: which are read, and what is told of them.
+-- Worked examples of accesses in flight: which are read, and what is reported of them.
 use Rattle.std.specs.Prelude.{◌≡◌, ℕ, List, [], ◌∷◌, ◌++◌, Some, None, codes, false}
 use Rattle.serde_json.specs.Data.{unsigned, Data, null, number, string, array, object, no_items, item, Members, no_members, member}
 use Rattle.nm_types.specs.declared.errno.Errno.TheVariants.{Enomem}
@@ -58,15 +58,16 @@ pub record AccessLineRows : Type 0 where
   pub write : access_line 6 2 (Write 1 81920 (101 ∷ [])) Done ≡ codes "6.2 write ok\n"
   pub held : access_line 6 0 (Read 1 65536 1) Held ≡ codes "6.0 read held\n"
   pub refused : access_line 6 10 (Write 1 81920 (101 ∷ [])) (Refused Enomem) ≡ codes "6.10 write error ENOMEM\n"
-  -- whatever their runs, they are told in the order of the list
+  -- whatever their runs, they are reported in the order of the list
   pub in_the_order_asked :
       access_lines 6 0 ((1, Read 1 65536 1) ∷ (0, Write 1 65536 (101 ∷ [])) ∷ []) (Bytes (97 ∷ []) ∷ Held ∷ [])
       ≡ codes "6.0 read 61\n6.1 write held\n"
   -- a call that was refused gives no answers
   pub none_of_a_refused_call : access_lines 6 0 ((0, Read 1 65536 1) ∷ []) [] ≡ []
 
--- process 1 has five pages, and has written four, which fill node 0. The first moves to node 1. Meanwhile it is read, which is
--- held, so is the second, which stays, and the fifth is written: its frame is the one behind that which the move took
+-- process 1 has five pages, and has written four, which fill node 0. The first moves to node 1. Meanwhile it is read,
+-- which is held, so is the second, which stays, and the fifth is written: its frame is the one after that which the
+-- move took
 abbrev pub read_while_it_moves : Plan
 read_while_it_moves = record {
   layout = record { sizes = 4 ∷ 4 ∷ []; distances = (10 ∷ 20 ∷ []) ∷ (20 ∷ 10 ∷ []) ∷ [] };

@@ -41,7 +41,7 @@ each f (item d ds) = do
   xs ← each f ds
   Some (x ∷ xs)
 
--- the set with more numbers; a set is the list of its numbers upwards
+-- the set with more numbers; a set is the list of its numbers in ascending order
 abbrev pub set_from : List ℕ → List ℕ → List ℕ
 set_from set [] = set
 set_from set (n ∷ ns) = set_from (insert_key nat_cmp set n) ns
@@ -167,7 +167,7 @@ abbrev pub flights_or_none : ℕ → Option Data → Option (List (ℕ × Access
 flights_or_none runs None = Some []
 flights_or_none runs (Some d) = option_and_then (each (in_flight runs)) (as_array d)
 
--- the accesses in flight of a step that has so many runs
+-- the accesses in flight of a step that has `runs` runs
 abbrev pub during_at : ℕ → Data → Option (List (ℕ × Access))
 during_at runs d = flights_or_none runs (get (codes "during") d)
 
@@ -307,7 +307,7 @@ numa_maps_of d = do
   pid ← small_at (codes "pid") d
   Some (NumaMaps pid)
 
--- the step of this name, where a run has at most so many entries
+-- the step of this name, where a run has at most `limit` entries
 unfoldable pub named : ℕ → List ℕ → Data → Option Call
 named limit op d =
     if bytes_eq op (codes "spawn") then spawn_of d

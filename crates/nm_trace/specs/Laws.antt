@@ -12,7 +12,7 @@ item_at no_items k = None
 item_at (item d ds) zero = Some d
 item_at (item d ds) (suc k) = item_at ds k
 
--- where not every item is a step, the one that is told is none, and each before it is one
+-- where not every item is a step, the one that is reported is none, and each before it is one
 abbrev pub FirstBadIsLeast : Type 0
 FirstBadIsLeast =
     (limit : ℕ) (ds : Items) → each (step_of limit) ds ≡ None →

@@ -27,13 +27,13 @@ HandsOn old new before after = (text : List ℕ) × (text ++ after ≡ before) �
 abbrev pub StopsIn : SystemState → Call → SystemState → Type 0
 StopsIn s call t = (runs : ℕ) × (policy_set : Bool) × HostLeaves s call runs policy_set t
 
--- a call is made and its lines are behind those that waited; or it stopped, or was made and its lines found no memory
+-- a call is made and its lines are after those that waited; or it stopped, or was made and its lines found no memory
 abbrev pub Tells : {E : Type 0} → ℕ → Result (Unit {0}) E → SystemState → SystemState → Call → List ℕ → List ℕ → Type 0
 Tells k (Ok done) old new call before after =
     (after ≡ before ++ text_of k call (outcome old call).answer) × (new ≡ (outcome old call).system)
 Tells k (Err e) old new call before after = (StopsIn old call new ⊎ (new ≡ (outcome old call).system)) × (after ≡ before)
 
--- after the first k calls the next one is not told: it stopped, or was made and its lines found no memory
+-- after the first k calls the next one is not reported: it stopped, or was made and its lines found no memory
 abbrev pub StopsAt : SystemState → List Call → ℕ → SystemState → Type 0
 StopsAt s calls k t =
     (call : Call) × (slice_get calls k ≡ Some call)

@@ -93,7 +93,7 @@ abbrev pub answers_in : Answer → List AccessAnswer
 answers_in (Statuses failed statuses answers) = answers
 answers_in answer = []
 
--- the line of step k; an answer of several lines has them behind it
+-- the line of step k; those of an answer of several lines come after it
 unfoldable pub line_of : ℕ → Call → Answer → List ℕ
 line_of k call answer = decimal k ++ codes " " ++ word_of call ++ codes " " ++ answer_text answer ++ codes "\n"
 

@@ -3,7 +3,7 @@
 ghost use Rattle.nm_trace.specs.Laws.{FirstBadIsLeast, ThreePagesReport};
 ghost use Rattle.nm_trace.specs.Flights.{AccessLineRows, FlightRows, ReadWhileItMoves};
 
-/// The fault that is told of a list of steps is that of the first faulty one.
+/// The fault that is reported for a list of steps is that of the first faulty one.
 pub fn first_bad_is_least()
     ensures { FirstBadIsLeast }
 {}

@@ -63,7 +63,7 @@ fn access_named<A: Allocator + Copy + Send + Sync>(
     }
 }
 
-/// An access in flight, whose run is one of so many.
+/// An access in flight, whose run is below `runs`.
 #[tactic(auto, unfolding(crate::specs::Form::in_flight))]
 fn in_flight<A: Allocator + Copy + Send + Sync>(
     alloc: A,
@@ -97,7 +97,7 @@ fn put<A: Allocator + Copy + Send + Sync>(
     }
 }
 
-/// The accesses of a list, whose runs are some of so many.
+/// The accesses of a list, each of a run below `runs`.
 fn flights_of<A: Allocator + Copy + Send + Sync>(
     alloc: A,
     values: &[Value],
@@ -113,7 +113,7 @@ fn flights_of<A: Allocator + Copy + Send + Sync>(
     Ok(flights)
 }
 
-/// The accesses in flight of a step that has so many runs, and none where the key is missing.
+/// The accesses in flight of a step that has `runs` runs, and none if the key is missing.
 fn flights_at<A: Allocator + Copy + Send + Sync>(
     alloc: A,
     value: &Value,
@@ -401,7 +401,7 @@ fn named<A: Allocator + Copy + Send + Sync>(
     }
 }
 
-/// The call that a step asks for, where a run has at most so many entries.
+/// The call that a step asks for, where a run has at most `limit` entries.
 #[tactic(auto, unfolding(crate::specs::Form::step_of))]
 pub(crate) fn step_of<A: Allocator + Copy + Send + Sync>(
     alloc: A,

@@ -15,7 +15,8 @@ use std::io::Write;
 use std::sync::Wait;
 use std::thread::Threads;
 
-/// Lines wait until there are so many bytes of them: a write to the system for each line would take longer than the line.
+/// Lines are collected until there are this many bytes of them: a write to the system for each line would take longer
+/// than the line.
 const BLOCK_BYTES: usize = 65_536;
 
 /// How many steps were made.
@@ -43,7 +44,7 @@ fn write_lines<W: Write>(writer: &mut W, lines: &[u8]) -> Result<(), TraceError>
     Ok(())
 }
 
-/// Writes the lines that wait, once they are many bytes: then none waits any more.
+/// Writes the lines that wait, once they come to `BLOCK_BYTES` bytes, and then empties their list.
 fn write_blocks<W: Write, A: Allocator + Copy>(
     writer: &mut W,
     waiting: &mut Vec<u8, A>,
@@ -60,9 +61,9 @@ fn write_blocks<W: Write, A: Allocator + Copy>(
     Ok(())
 }
 
-/// Makes the call of step k, and puts its lines behind those that wait, also where it is refused. An error means that the
-/// call, or its lines, found no memory on the host: then no line is there of it. What `text` holds before does not count: the
-/// lines are put together there, in memory that one step leaves to the next.
+/// Makes the call of step k, and appends its lines to those that wait, even if it is refused. An error means that the
+/// host was out of memory for the call or for its lines: then none of its lines is there. What `text` holds before does
+/// not matter: the lines are put together there, so that each step uses the memory of the one before.
 fn make_step<R: Threads + Wait + Sync, A: Allocator + Copy + Send + Sync, G: Gate + Sync>(
     rt: &R,
     alloc: A,
@@ -84,7 +85,7 @@ fn make_step<R: Threads + Wait + Sync, A: Allocator + Copy + Send + Sync, G: Gat
     waiting.extend_from_slice(text.as_bytes())
 }
 
-/// Makes calls, from step 0 on, and writes their lines, so many bytes at a time.
+/// Makes calls, from step 0 on, and writes their lines, a block at a time.
 pub(crate) fn play_calls<
     R: Threads + Wait + Sync,
     A: Allocator + Copy + Send + Sync,
@@ -119,12 +120,12 @@ pub(crate) fn play_calls<
     Ok(Summary { steps: calls.len() })
 }
 
-/// Makes the calls of a trace on a system that has the trace's limit on runs, and writes the report on them, some
-/// 64 KiB at a time. Answers how many steps there were.
+/// Makes the calls of a trace on a system that has the trace's limit on runs, and writes the report on them, some 64
+/// KiB at a time. Returns how many steps there were.
 ///
 /// `WriteFault` where the writer failed or took no byte: some first steps were made, and the report on them breaks off.
-/// `HostMemory(k)` where the host refused memory in step k: the lines of the steps before it were written, and step
-/// k was made as far as its call says, or whole and without its lines. The workers of the system pass the gate.
+/// `HostMemory(k)` if the host refused memory in step k: the lines of the steps before it were written, and step k was
+/// made as far as its call says, or whole and without its lines. The workers of the system pass the gate.
 pub fn play<R: Threads + Wait + Sync, A: Allocator + Copy + Send + Sync, W: Write, G: Gate + Sync>(
     rt: &R,
     alloc: A,

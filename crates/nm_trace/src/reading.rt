@@ -116,7 +116,7 @@ fn put<A: Allocator + Copy + Send + Sync>(
     }
 }
 
-/// The calls that the steps of a list ask for, or the first fault. A run has at most so many entries.
+/// The calls that the steps of a list ask for, or the first fault. A run has at most `limit` entries.
 fn calls_of<A: Allocator + Copy + Send + Sync>(
     alloc: A,
     values: &[Value],

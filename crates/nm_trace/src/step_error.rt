@@ -1,4 +1,4 @@
-//! Why a value is no step.
+//! Why a value is not a step.
 
 ghost use Rattle.std.specs.Prelude.{◌≡◌};
 ghost use Rattle.nm_trace.specs.declared.step_error.StepError.TheVariants.{Memory};
@@ -8,7 +8,7 @@ use std::alloc::{AllocError, AllocFailed};
 /// Why there is no step.
 #[derive(Clone, Copy, Debug, PartialEq, Eq)]
 pub enum StepError {
-    /// The value has not the form of a step.
+    /// The value does not have the form of a step.
     Bad,
     /// The host refused memory.
     Memory,

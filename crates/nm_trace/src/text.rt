@@ -1,4 +1,4 @@
-//! What calls answer, as the lines of their steps.
+//! The answers of calls, as the lines of their steps.
 
 ghost use Rattle.std.specs.Prelude.{◌≡◌, ◌++◌, OnOk, string_bytes, map, decimal, codes};
 ghost use Rattle.std.specs.List.{flat_map};
@@ -43,7 +43,7 @@ fn word<A: Allocator + Copy + Send + Sync>(call: &Call<A>) -> &'static str
     }
 }
 
-/// Puts each frame after a space.
+/// Appends each frame after a space.
 fn push_frames<A: Allocator>(line: &mut String<A>, frames: &[FrameId]) -> Result<(), AllocError>
     ensures { OnOk result (string_bytes line.new ≡ string_bytes line.old ++ listed frames.now) }
 {
@@ -55,7 +55,7 @@ fn push_frames<A: Allocator>(line: &mut String<A>, frames: &[FrameId]) -> Result
     Ok(())
 }
 
-/// Puts each status after a space.
+/// Appends each status after a space.
 fn push_statuses<A: Allocator>(line: &mut String<A>, statuses: &[i32]) -> Result<(), AllocError>
     ensures { OnOk result (string_bytes line.new ≡ string_bytes line.old ++ signed_listed statuses.now) }
 {
@@ -67,7 +67,7 @@ fn push_statuses<A: Allocator>(line: &mut String<A>, statuses: &[i32]) -> Result
     Ok(())
 }
 
-/// Puts an entry after a space.
+/// Appends an entry after a space.
 fn push_entry<A: Allocator>(line: &mut String<A>, entry: PagemapEntry) -> Result<(), AllocError>
     ensures { OnOk result (string_bytes line.new ≡ string_bytes line.old ++ entry_text (entry.vpn, entry.frame)) }
 {
@@ -83,7 +83,7 @@ fn push_entry<A: Allocator>(line: &mut String<A>, entry: PagemapEntry) -> Result
     }
 }
 
-/// Puts each entry after a space.
+/// Appends each entry after a space.
 fn push_entries<A: Allocator>(
     line: &mut String<A>,
     entries: &[PagemapEntry],
@@ -97,7 +97,7 @@ fn push_entries<A: Allocator>(
     Ok(())
 }
 
-/// Puts a number and a colon.
+/// Appends a number and a colon.
 fn push_count<A: Allocator>(line: &mut String<A>, count: usize) -> Result<(), AllocError>
     ensures { OnOk result (string_bytes line.new ≡ string_bytes line.old ++ (decimal count ++ codes ":")) }
 {
@@ -106,7 +106,7 @@ fn push_count<A: Allocator>(line: &mut String<A>, count: usize) -> Result<(), Al
     line.push_str(":")
 }
 
-/// Puts the two totals, each after its name.
+/// Appends the two totals, each after its name.
 fn push_totals<A: Allocator>(line: &mut String<A>, totals: Totals) -> Result<(), AllocError>
     ensures { OnOk result (string_bytes line.new ≡ string_bytes line.old ++ totals_text totals.moved totals.failed) }
 {
@@ -114,7 +114,7 @@ fn push_totals<A: Allocator>(line: &mut String<A>, totals: Totals) -> Result<(),
     push_number(line, " pgmigrate_fail ", totals.failed)
 }
 
-/// Puts each line after a line feed.
+/// Appends each line after a line feed.
 fn push_lines<A: Allocator>(text: &mut String<A>, lines: &[String<A>]) -> Result<(), AllocError>
     ensures { OnOk result (string_bytes text.new ≡ string_bytes text.old ++ lines_behind (lines_shown lines.now)) }
 {
@@ -125,7 +125,7 @@ fn push_lines<A: Allocator>(text: &mut String<A>, lines: &[String<A>]) -> Result
     Ok(())
 }
 
-/// Puts an answer.
+/// Appends an answer.
 #[tactic(auto, unfolding(crate::specs::Report::answer_text))]
 fn push_answer<A: Allocator + Copy + Send + Sync>(
     alloc: A,
@@ -166,7 +166,7 @@ fn push_answer<A: Allocator + Copy + Send + Sync>(
     }
 }
 
-/// Puts the front of a step's line: its number and its word, each with a space behind it.
+/// Appends the front of a step's line: its number and its word, each followed by a space.
 fn push_front<A: Allocator + Copy + Send + Sync>(
     line: &mut String<A>,
     k: usize,
@@ -182,7 +182,7 @@ fn push_front<A: Allocator + Copy + Send + Sync>(
     line.push_str(" ")
 }
 
-/// Puts the line of step k, whose call answered; behind it those of an answer of several lines.
+/// Appends the line of step k, whose call was not refused, and then those of an answer of several lines.
 #[tactic(auto, unfolding(crate::specs::Report::line_of))]
 fn push_line<A: Allocator + Copy + Send + Sync>(
     alloc: A,
@@ -209,7 +209,7 @@ fn access_word<A: Allocator + Copy>(access: &Access<A>) -> &'static str
     }
 }
 
-/// Puts the answer to an access.
+/// Appends the answer to an access.
 #[tactic(auto, unfolding(crate::specs::Report::answer_text))]
 fn push_access_answer<A: Allocator + Copy>(
     alloc: A,
@@ -231,7 +231,7 @@ fn push_access_answer<A: Allocator + Copy>(
     }
 }
 
-/// Puts the front of the line of access j of a step: both numbers and the word of the access, with a space behind it.
+/// Appends the front of the line of access j of a step: both numbers and the word of the access, followed by a space.
 fn push_access_front<A: Allocator + Copy>(
     line: &mut String<A>,
     step: usize,
@@ -250,7 +250,7 @@ fn push_access_front<A: Allocator + Copy>(
     line.push_str(" ")
 }
 
-/// Puts the line of access j of step k.
+/// Appends the line of access j of step k.
 #[tactic(auto, unfolding(crate::specs::Report::access_line))]
 fn push_access<A: Allocator + Copy>(
     alloc: A,
@@ -268,7 +268,7 @@ fn push_access<A: Allocator + Copy>(
     text.push_str("\n")
 }
 
-/// Puts the lines of the accesses of step k, one after another, each with the answer at its place.
+/// Appends the lines of the accesses of step k, one after another, each with the answer at its place.
 fn push_accesses<A: Allocator + Copy + Send + Sync>(
     alloc: A,
     text: &mut String<A>,
@@ -288,7 +288,7 @@ fn push_accesses<A: Allocator + Copy + Send + Sync>(
     Ok(())
 }
 
-/// Puts the lines of the accesses of step k that were made while pages moved.
+/// Appends the lines of the accesses of step k that were made while pages moved.
 #[tactic(auto, unfolding(nm_calls::specs::Outcome::accesses_asked))]
 fn push_flights<A: Allocator + Copy + Send + Sync>(
     alloc: A,
@@ -315,8 +315,8 @@ fn push_flights<A: Allocator + Copy + Send + Sync>(
     }
 }
 
-/// Puts the lines of step k, whose call answered: its own, and those of the accesses that were made while pages moved. Where
-/// the host refuses memory, some of them may be there.
+/// Appends the lines of step k, whose call was not refused: its own, and those of the accesses that were made while
+/// pages moved. If the host refuses memory, some of them may be there.
 #[tactic(auto, unfolding(crate::specs::Report::text_of))]
 pub(crate) fn push_text<A: Allocator + Copy + Send + Sync>(
     alloc: A,
@@ -332,7 +332,7 @@ pub(crate) fn push_text<A: Allocator + Copy + Send + Sync>(
     push_flights(alloc, text, k, call, answer)
 }
 
-/// Puts the line of step k, whose call was refused. Where the host refuses memory, some of it may be there.
+/// Appends the line of step k, whose call was refused. If the host refuses memory, some of it may be there.
 #[tactic(auto, unfolding(crate::specs::Report::text_of, crate::specs::Report::line_of, crate::specs::Report::answer_text))]
 pub(crate) fn push_refusal<A: Allocator + Copy + Send + Sync>(
     text: &mut String<A>,

@@ -15,9 +15,9 @@ pub struct Trace<A: Allocator + Copy + Send + Sync> {
     /// How many entries a run has at most: 1 to 16,384, which is no limit for a trace that was read, as no batch of it is
     /// longer.
     pub run_limit: usize,
-    /// The calls of the steps, step 0 first. Each access in flight is to name a run that its call makes (`run_count`), as
-    /// those of `read_trace` do: one of a run that is not made has no answer, and the report would tell those behind it by
-    /// its number.
+    /// The calls of the steps, step 0 first. Each access in flight is to name a run that its call makes (`run_count`),
+    /// as those of `read_trace` do: one of a run that is not made has no answer, and the report would give its number
+    /// to those after it.
     pub calls: Vec<Call<A>, A>,
     pub ghost some: { 0 < run_limit },
     pub ghost within: { run_limit ≤ default_limit },

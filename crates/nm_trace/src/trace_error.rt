@@ -6,10 +6,11 @@ use thiserror::Error;
 /// any step is made.
 #[derive(Clone, Copy, Debug, PartialEq, Eq, Error)]
 pub enum TraceError {
-    /// The bytes are no JSON text in UTF-8.
+    /// The bytes are not JSON text in UTF-8.
     #[error("not JSON")]
     NotJson,
-    /// The top is no object with version 1, or 2 and a limit on runs, a machine that can be, and a list of steps.
+    /// The top is not an object with version 1, or version 2 and a limit on runs, a machine that can exist, and a list
+    /// of steps.
     #[error("bad machine")]
     BadMachine,
     /// The step of this number has another form. Steps are numbered from 0, and this is the first such one.
@@ -21,7 +22,7 @@ pub enum TraceError {
     /// The writer failed, or took no byte.
     #[error("write fault")]
     WriteFault,
-    /// The host refused memory after so many steps: 0 where the words, the trace or the machine found none.
+    /// The host refused memory after this many steps: 0 if it did so for the words, the trace or the machine.
     #[error("host memory refused after {0} steps")]
     HostMemory(usize),
 }

@@ -1,4 +1,4 @@
--- The members of a mask, upwards, and the mask without the lowest.
+-- The members of a mask, in ascending order, and the mask without the lowest.
 use Rattle.std.proofs.Common.{◌≡◌, ◌≢◌, ℕ, zero, suc, ◌+◌, ◌*◌, ◌%◌, ◌<◌, ◌≤◌, ◌^◌, ⊎_elim, true, false, not, ◌∷◌, length, get_or, refl, sym, ap, ◌∙◌, arith, w64}
 use Rattle.std.specs.Prelude.{◌==◌, if◌then◌else◌}
 use Rattle.std.specs.Int.{bit_at, bit_not, trailing_zeros}

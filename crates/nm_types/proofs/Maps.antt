@@ -1,4 +1,4 @@
--- What a map answers and shows after a change.
+-- What a look-up in a map returns, and what it shows, after a change.
 use Rattle.std.proofs.Common.{◌≡◌, ℕ, [], ◌∷◌, true, false, cond, refl, sym, ap, subst, ◌∙◌}
 use Rattle.std.specs.Prelude.{Some, None, IsSome}
 use Rattle.std.specs.Option.{option_map}

@@ -1,4 +1,4 @@
--- How what a call answers and does is told by its definition, whatever it does it to.
+-- How a contract says that the result and the effect of a call are those of its definition, whatever it acts on.
 use Rattle.std.specs.Prelude.{◌≡◌, Option, Some, None, Result, Ok, Err}
 use Rattle.nm_types.specs.declared.errno.Errno.{Errno}
 use Rattle.nm_types.specs.declared.machine_error.MachineError.{MachineError}
@@ -22,7 +22,7 @@ abbrev pub Alters : {T S : Type 0} → Result T Errno → S → S → Option Err
 Alters (Ok value) old new refusal after = (refusal ≡ None) × (new ≡ after)
 Alters (Err e) old new refusal after = (refusal ≡ Some e) × (new ≡ old)
 
--- a call that tells something: it does so, or is refused for this error, or finds no memory on the host
+-- a call that returns something: it does so, or is refused for this error, or finds no memory on the host
 abbrev pub Tells : {T : Type 0} → Result T MachineError → Option Errno → (T → Type 0) → Type 0
 Tells (Ok value) refusal Holds = (refusal ≡ None) × Holds value
 Tells (Err (error.Refused e)) refusal Holds = refusal ≡ Some e

@@ -36,16 +36,16 @@ distance g from to = slice_index (slice_index_or g.distances from []) to
 abbrev pub is_distance : ℕ → ℕ → ℕ → Bool
 is_distance own to distance = if to == own then distance == 10 else nat_le 11 distance
 
--- distances from a node to the nodes from one on
+-- distances from a node to the nodes from `to` on
 abbrev pub are_distances : ℕ → ℕ → List ℕ → Bool
 are_distances own to [] = true
 are_distances own to (d ∷ ds) = is_distance own to d && are_distances own (to + 1) ds
 
--- a node's row has a distance to each of so many nodes
+-- a node's row has a distance to each of the `count` nodes
 abbrev pub is_row : ℕ → ℕ → List ℕ → Bool
 is_row count own row = (length row == count) && are_distances own 0 row
 
--- rows of the nodes from one on
+-- rows of the nodes from `own` on
 abbrev pub are_rows : ℕ → ℕ → List (List ℕ) → Bool
 are_rows count own [] = true
 are_rows count own (row ∷ rows) = is_row count own row && are_rows count (own + 1) rows

@@ -12,7 +12,7 @@ use Rattle.nm_types.specs.declared.mask.NodeMask.TheInside.{Inside}
 mod-more : (bits n : ℕ) → bits % 2 ^ (n + 1) ≡ bit_at bits n * 2 ^ n + bits % 2 ^ n
 mod-more bits n = let e : n + 1 ≡ 1 + n = omega arith in ap (λ k. bits % 2 ^ k) e ∙ mod-pow-add bits 1 n
 
--- the bits from n on, so many, and those below
+-- the `k` bits from n on, and those below
 mask_of-members_from : (bits n k : ℕ) → mask_of (members_from bits n k) + bits % 2 ^ n ≡ bits % 2 ^ (n + k)
 mask_of-members_from bits n zero =
     let e : n + 0 ≡ n = omega arith in

@@ -1,10 +1,10 @@
--- Sets of nodes, as the list of their numbers upwards.
+-- Sets of nodes, as the list of their numbers in ascending order.
 use Rattle.std.specs.Prelude.{ℕ, zero, suc, ◌+◌, ◌^◌, ◌<◌, ◌==◌, Bool, not, List, [], ◌∷◌, All, if◌then◌else◌}
 use Rattle.std.specs.List.Sorted.{IsStrictlyIncreasing}
 use Rattle.std.specs.Int.{bit_at}
 use Rattle.std.specs.List.{list_any, filter}
 
--- the numbers from one on, so many of them
+-- the `k` numbers from `n` on
 abbrev pub up_from : ℕ → ℕ → List ℕ
 up_from n zero = []
 up_from n (suc k) = n ∷ up_from (n + 1) k
@@ -17,7 +17,7 @@ is_in ns n = list_any (λ m. m == n) ns
 abbrev pub without_node : List ℕ → ℕ → List ℕ
 without_node ns n = filter (λ m. not (m == n)) ns
 
--- the places from n on, so many of them, whose bits are set
+-- those of the `k` places from `n` on whose bits are set
 abbrev pub members_from : ℕ → ℕ → ℕ → List ℕ
 members_from bits n zero = []
 members_from bits n (suc k) = let rest = members_from bits (n + 1) k in if bit_at bits n == 1 then n ∷ rest else rest

@@ -1,4 +1,4 @@
--- Which layouts are machines, and else the first fault.
+-- Which layouts are machines, and otherwise the first fault.
 use Rattle.std.specs.Prelude.{◌≡◌, nat_lt, ◌==◌, Option, Some, None, Result, Ok, Err, if◌then◌else◌}
 use Rattle.std.specs.List.{list_any}
 use Rattle.nm_types.specs.Layout.{Layout, node_count, frame_count, is_square}

@@ -13,8 +13,8 @@ pub enum Policy {
     Preferred(NodeId),
     /// MPOL_BIND: on these nodes alone, by distance from the home node.
     Bind(NodeMask),
-    /// MPOL_INTERLEAVE: by distance from one of these nodes, which take turns. For the page at place i of its segment it is
-    /// node number (i mod how many they are) of the set, counted upwards from 0.
+    /// MPOL_INTERLEAVE: by distance from one of these nodes, which take turns. For the page at place i of its segment
+    /// it is node number (i mod how many they are) of the set, counted from 0 in ascending order.
     Interleave(NodeMask),
     /// MPOL_LOCAL: by distance from the process's home node.
     Local,
@@ -27,7 +27,7 @@ pub struct Area {
     pub pages: u64,
     /// Where its new pages are placed.
     pub policy: Policy,
-    /// The page that it shows first. It shows the pages behind it in their order.
+    /// The page that it shows first. It shows the pages after it in their order.
     pub page: Page,
 }
 

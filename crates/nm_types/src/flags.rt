@@ -29,7 +29,7 @@ impl MoveFlags {
     /// MPOL_MF_MOVE_ALL: pages are moved whoever sees them.
     pub const MOVE_ALL: u32 = 4;
 
-    /// The flags of these bits, or None where a bit beyond the three is set.
+    /// The flags of these bits, or None if a bit beyond the three is set.
     pub fn from_bits(bits: u32) -> Option<Self>
         ensures { SomeIff result (bits < 8) bits }
     {

@@ -11,7 +11,7 @@ use std::alloc::{AllocError, Allocator};
 use std::marker::Model;
 use thiserror::Error;
 
-/// Why some sizes and distances are no machine.
+/// Why sizes and distances do not make a machine.
 #[derive(Clone, Copy, Debug, PartialEq, Eq, Error)]
 pub enum GeometryError {
     /// There is no node.
@@ -26,8 +26,8 @@ pub enum GeometryError {
     /// The nodes have more than 16,384 frames together.
     #[error("more than 16384 frames")]
     TooManyFrames,
-    /// The distances have not a row for each node and in it a distance to each node, or a node's distance to itself
-    /// is not 10, or one to another node is below 11.
+    /// The distances do not have a row for each node with a distance to each node, or a node's distance to itself is
+    /// not 10, or one to another node is below 11.
     #[error("bad distances")]
     BadDistance,
 }
@@ -51,7 +51,7 @@ impl<A: Allocator + Copy> Model for Geometry<A> {
     ghost invariant = { λ g. IsMachine (record { sizes = g.sizes.items; distances = map (λ row. row.items) g.distances.items }) };
 }
 
-/// A clone is the same layout in memory of its own; it is refused where the host has no memory.
+/// A clone is the same layout in memory of its own; it fails only if the host is out of memory.
 impl<A: Allocator + Copy> Clone for Geometry<A> {
     ghost is_clone = { λ g h. h ≡ g };
 
@@ -63,7 +63,7 @@ impl<A: Allocator + Copy> Clone for Geometry<A> {
     }
 }
 
-/// Whether a distance is one of a node to another: 10 to itself, at least 11 else.
+/// Whether a distance is one of a node to another: 10 to itself, at least 11 otherwise.
 fn is_distance(own: usize, to: usize, distance: u8) -> bool
     ensures { result ≡ is_distance own to distance }
 {
@@ -74,7 +74,7 @@ fn is_distance(own: usize, to: usize, distance: u8) -> bool
     }
 }
 
-/// Whether a node's row has a distance to each of so many nodes.
+/// Whether a node's row has a distance to each of the `count` nodes.
 fn is_row(count: usize, own: usize, row: &[u8]) -> bool
     ensures { result ≡ is_row count own row.now }
 {
@@ -135,8 +135,8 @@ fn fault_of<A: Allocator + Copy>(sizes: &[u32], distances: &[Vec<u8, A>]) -> Opt
 }
 
 impl<A: Allocator + Copy> Geometry<A> {
-    /// A machine of nodes that own so many frames, with a row of distances for each node. It takes both lists as they
-    /// are, and no memory. The first of the errors is answered, in the order in which the enum lists them.
+    /// A machine of nodes that own these numbers of frames, with a row of distances for each node. It takes both lists
+    /// as they are, and no memory. If several errors apply, it returns the one that the enum lists first.
     pub fn new(sizes: Vec<u32, A>, distances: Vec<Vec<u8, A>, A>) -> Result<Self, GeometryError>
         ensures { Opens (record { sizes = sizes.items; distances = map (λ row. row.items) distances.items }) result }
     {
@@ -190,7 +190,7 @@ impl<A: Allocator + Copy> Geometry<A> {
         self.sizes[node.index()]
     }
 
-    /// The distance from one node of the machine to another: 10 to itself, else 11 to 255.
+    /// The distance from one node of the machine to another: 10 to itself, otherwise 11 to 255.
     pub fn distance(&self, from: NodeId, to: NodeId) -> u8
         requires from { from < node_count self.now }
         requires to { to < node_count self.now }

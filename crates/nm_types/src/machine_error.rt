@@ -13,7 +13,7 @@ pub enum MachineError {
     /// The call is refused by a rule of the machine.
     #[error("{0}")]
     Refused(Errno),
-    /// The host is out of memory. All is as it was.
+    /// The host is out of memory. Nothing has changed.
     #[error("host memory refused")]
     HostMemory,
 }

@@ -9,7 +9,7 @@ ghost use Rattle.nm_types.specs.Nodes.{is_in, without_node, IsNodeSet};
 use crate::numbers::NodeId;
 use std::marker::Model;
 
-/// A set of nodes below 64. Contracts see the list of its nodes, upwards.
+/// A set of nodes below 64. Contracts see the list of its nodes, in ascending order.
 #[derive(Clone, Copy, Debug, PartialEq, Eq)]
 pub struct NodeMask {
     bits: u64,
@@ -70,7 +70,7 @@ impl NodeMask {
         self.intersection(other) == self
     }
 
-    /// Puts a node below 64 in it.
+    /// Adds a node below 64.
     pub fn insert(&mut self, node: NodeId)
         requires { node < 64 }
         ensures { self.new ≡ insert_key nat_cmp self.old node }
@@ -78,7 +78,7 @@ impl NodeMask {
         self.bits |= 1 << node.number();
     }
 
-    /// Takes a node out, if it is in it.
+    /// Removes a node, if it is in the set.
     pub fn remove(&mut self, node: NodeId)
         ensures { self.new ≡ without_node self.old node }
     {
@@ -87,7 +87,7 @@ impl NodeMask {
         }
     }
 
-    /// Takes the lowest node out. None where the set has no node.
+    /// Removes the lowest node and returns it. None if the set is empty.
     pub fn take_first(&mut self) -> Option<NodeId>
         ensures first { result ≡ slice_get self.old 0 }
         ensures rest { self.new ≡ drop 1 self.old }
@@ -113,7 +113,7 @@ impl NodeMask {
         count
     }
 
-    /// The node at a place, counted upwards and from 0. None past the last.
+    /// The node at a place, counted from 0 in ascending order. None past the last.
     pub fn nth(self, place: usize) -> Option<NodeId>
         ensures { result ≡ slice_get self place }
     {

@@ -21,7 +21,7 @@ const DONE: u8 = 0;
 /// The status of a bad trace, and of words that are refused.
 const BAD_INPUT: u8 = 2;
 
-/// The status where the host refused memory.
+/// The status if the host refused memory.
 const HOST_REFUSAL: u8 = 3;
 
 /// The status where a reader or a writer failed.
@@ -30,18 +30,18 @@ const STREAM_FAULT: u8 = 4;
 /// How many workers copy where the words do not say.
 const WORKERS: usize = 4;
 
-/// What `--version` tells behind the program's name.
+/// What `--version` prints after the program's name.
 const VERSION: &str = "1.0.0";
 
-/// What `--help` tells in front of the options.
+/// What `--help` prints before the options.
 const ABOUT: &str =
     "Plays a trace of page migration calls on a modelled NUMA machine.\nThe trace is read from standard input as JSON, and its report is written to standard output.";
 
-/// What `--help` tells behind the options.
+/// What `--help` prints after the options.
 const STATUSES: &str =
     "Exit status: 0 after a whole report, 2 for a bad trace or bad words, 3 where the host refused memory, 4 where reading or writing failed.\nThe man page docs/numatrace.1 has the steps of a trace and what they answer.";
 
-/// How many workers the words ask for: 1 to 64 by `--workers`, and 4 where it is not given. Any other word is refused.
+/// How many workers the words ask for: 1 to 64 by `--workers`, and 4 if it is not given. Any other word is refused.
 pub(crate) fn read_words(heap: Global, words: &[String]) -> Result<usize, Error>
     ensures { IfOk result (λ workers. (0 < workers) × (workers ≤ 64)) }
 {
@@ -75,8 +75,8 @@ fn status_of(fault: TraceError) -> u8
     }
 }
 
-/// Tells why the program's words could not be had, and answers the exit status: 3 where the host refused memory, and 2
-/// for any other cause, as a word that is not UTF-8.
+/// Reports why the program's words could not be read, and returns the exit status: 3 if the host refused memory, and 2
+/// for any other cause, such as a word that is not UTF-8.
 pub(crate) fn unread_words<E: Write>(kind: io::ErrorKind, err: &mut E) -> u8
     ensures { result ≡ words_status kind }
 {
@@ -88,12 +88,12 @@ pub(crate) fn unread_words<E: Write>(kind: io::ErrorKind, err: &mut E) -> u8
     BAD_INPUT
 }
 
-/// Runs the program: reads the words, then the trace from the reader, and writes the report to `out`. `--workers N` says
-/// how many workers copy, 1 to 64, and 4 where it is not given; it changes no byte of the report. Answers the exit status:
-/// 0 after a whole report; 2 for a bad trace, for words that are refused, and for `--help` and `--version`; 3 where the
-/// host refused memory; 4 for a read or write fault. A fault is told on `err`, in one line or in clap's own text, and a
-/// fault of `err` does not change the status. The words are read in the memory of `heap`, as is the JSON value; all else
-/// stands in that of `alloc`.
+/// Runs the program: reads the words, then the trace from the reader, and writes the report to `out`. `--workers N`
+/// says how many workers copy, 1 to 64, and 4 if it is not given; it changes no byte of the report. Returns the exit
+/// status: 0 after a whole report; 2 for a bad trace, for words that are refused, and for `--help` and `--version`; 3
+/// if the host refused memory; 4 for a read or write fault. A fault is reported on `err`, in one line or in clap's own
+/// text, and a fault of `err` does not change the status. The words are read in the memory of `heap`, as is the JSON
+/// value; everything else stands in that of `alloc`.
 pub fn run_words<
     T: Threads + Wait + Sync,
     A: Allocator + Copy + Send + Sync,

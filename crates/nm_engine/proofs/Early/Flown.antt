@@ -16,7 +16,7 @@ module _ (s : State) (target : ℕ) (ws : List Wanted) (p : Planned) (moves : Li
   same : moves ≡ (each s target ws).taken
   same = taken ∙ sym h.agrees.taken
 
-  -- what the accesses of the run make and answer
+  -- what the accesses of the run make of the state, and their answers
   flown : during ≡ all_in_flight (each s target ws).state (map (λ t. t.page) (each s target ws).taken) accesses
   flown =
       sym flight

@@ -12,7 +12,7 @@ use Rattle.nm_engine.specs.Early.{without_fronts, with_fronts}
 use Rattle.nm_engine.proofs.Soundness.Frames.{OnceIn, here, own_set}
 use Rattle.nm_engine.proofs.Soundness.Moved.{other_places}
 
--- what is counted in a list is counted in its front and behind it
+-- what is counted in a list is counted in its front and after it
 pub times_parted : (f n : ℕ) (l : List ℕ) → times f l ≡ times f (take n l) + times f (drop n l)
 times_parted f n l = sym (ap (times f) (take-append-drop n l)) ∙ sum_by-append (here f) (take n l) (drop n l)
 

@@ -99,7 +99,7 @@ module _ (s : State) (l : List ℕ) (moved : List Page) (h : IsSoundMidRun s l) 
   early_beside a =
       elim (is_held moved (spot_of_access s a)) as (λ b. is_held moved (spot_of_access s a) ≡ b → IsBeside moved (due_of (if b then held_early s else access_early s a))) [ true ↦ λ b. tt | false ↦ λ b. access_beside a b ] refl
 
--- ---- so many bytes are inside a page
+-- ---- some bytes are inside a page
 
 read_inside : (at len : ℕ) (o : Option Sight) → at + len ≤ 4096 → IsInside (due_read o at len)
 read_inside at len None fits = tt

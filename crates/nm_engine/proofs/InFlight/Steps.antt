@@ -1,4 +1,4 @@
--- What a beginning and an access make of the machine, as the definition of a run tells it.
+-- What a beginning and an access make of the machine, as the definition of a run has it.
 use Rattle.std.proofs.Common.{◌≡◌, List, [], ◌∷◌, ◌++◌, map, length}
 use Rattle.nm_types.specs.declared.page.Page.{Page}
 use Rattle.nm_engine.specs.Touch.{Answered}

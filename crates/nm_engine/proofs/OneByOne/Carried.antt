@@ -144,7 +144,7 @@ by_page (Whole p ∷ ws) h = (refl, by_page ws h.1)
 one_all : (ws : List Wanted) → HasOneAll ws → (all : Bool) × AllByRecursion (λ w. moves_all w ≡ all) ws
 one_all ws h = ⊎_elim (λ a. (a.0, by_address a.0 ws a.1)) (λ p. (true, by_page ws p)) h
 
--- the plan for requests tells what becomes of them one after another
+-- the plan for requests says what becomes of them one after another
 pub is_plan_of : (s : State) (target : ℕ) (ws : List Wanted) (p : Planned) → IsStrictlySortedBy nat_cmp (keys_of s.processes) → OwnsItsFree s.layout s.free target → HasOneAll ws
     → p ≡ planned (map (status_or_move s target) ws) (free_list s target) target → IsPlanOf s target ws p
 is_plan_of s target ws p order own alike is =

@@ -88,7 +88,7 @@ module _ {V : Type 0} where
       let lt : k < e.0 = ranked k e.0 Less (sym h.0) in
       ((omega (arith, le, lt), omega (arith, lt)), above m first k le h.1)
 
-  -- the first entry of a range, and those behind it
+  -- the first entry of a range, and those after it
   pub next_between : (m : Map ℕ V) (first end v : ℕ) (x : V) → IsStrictlySortedBy nat_cmp (keys_of m) → get nat_cmp m v ≡ Some x → first ≤ v → v < end → ((w : ℕ) → first ≤ w → w < v → get nat_cmp m w ≡ None)
       → between first end m ≡ (v, x) ∷ between (v + 1) end m
   next_between [] first end v x s there low high none = cc

@@ -129,7 +129,7 @@ repinned_sound s l p n h most =
       few = h.few;
     }
 
--- a page has so many pins at most
+-- a page has at most 65,535 pins
 pub few_pins : (s : State) (l : List ℕ) (p : Page) → IsSoundMidRun s l → pins_of s p ≤ 65535
 few_pins s l p h =
     elim (get page_cmp s.pins p) as (λ o. get page_cmp s.pins p ≡ o → unwrap_or o 0 ≤ 65535) [
@@ -137,7 +137,7 @@ few_pins s l p h =
       | Some n ↦ λ o. All-get page_cmp (λ n. n ≤ 65535) s.pins p n h.pins.few o
     ] refl
 
--- the page that a process sees at an address, as a look tells it
+-- the page that a process sees at an address, as a look finds it
 pub look_there : (s : State) (l : List ℕ) (pid v : ℕ) (p : Page) (frame : ℕ) → IsSoundMidRun s l → sight_at s pid v ≡ Some (Sees p) → get page_cmp s.place p ≡ Some frame → look s pid v ≡ At p frame (length (users s p)) (is_pinned s p)
 look_there s l pid v p frame h seen placed =
     ap (λ o. look_under s o (sight_at s pid v)) (h.shown pid v p seen).0 ∙ ap (look_under s (Some p)) seen ∙ ap (look_at_page s p) placed

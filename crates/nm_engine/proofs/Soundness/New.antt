@@ -25,7 +25,7 @@ not_here f a h = ap (λ b. cond b 1 0) (ne_eqb a f h)
 just_here : (f a : ℕ) → a ≡ f → here f a ≡ 1
 just_here f a h = ap (λ b. cond b 1 0) (eq-eqb a f h)
 
--- how often a number is among consecutive ones: not where they begin behind it or end before it, and else once
+-- how often a number is among consecutive ones: not where they begin after it or end before it, and else once
 times_below : (n a f : ℕ) → f < a → times f (up_from a n) ≡ 0
 times_below zero a f h = refl
 times_below (suc n) a f h =
@@ -97,7 +97,7 @@ all_then : (P Q : ℕ → Type 0) (xs : List ℕ) → ((x : ℕ) → P x → Q x
 all_then P Q [] f h = tt
 all_then P Q (x ∷ xs) f h = (f x h.0, all_then P Q xs f h.1)
 
--- a frame behind those of the first node
+-- a frame after those of the first node
 past_first : (size : ℕ) (sizes : List ℕ) (f node : ℕ) → size ≤ f → owner sizes (f - size) ≡ node → owner (size ∷ sizes) f ≡ suc node
 past_first size sizes f node h e = ap (λ b. if b then 0 else suc (owner sizes (f - size))) (le-ltb f size h) ∙ ap suc e
 

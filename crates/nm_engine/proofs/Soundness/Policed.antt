@@ -125,7 +125,7 @@ some_bytes : (len : ℕ) → (len ≡ 0 → ⊥) → 0 < len
 some_bytes zero more = absurd (more refl)
 some_bytes (suc len) more = omega arith
 
--- some bytes want a page
+-- some bytes take a page
 some_page : (len : ℕ) → (len ≡ 0 → ⊥) → (first : ℕ) → first < first + pages_of len
 some_page len more first = let some : 0 < len = some_bytes len more in omega arith
 

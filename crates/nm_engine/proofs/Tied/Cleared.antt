@@ -83,7 +83,7 @@ module _ (y : SpacesView) (tasks : Map ℕ Task) (m : Mapped) (r : Mappers) (pid
 
 -- ---- entries in a range go
 
--- whether a page number is in front of a range or behind it
+-- whether a page number is in front of a range or after it
 abbrev pub out : ℕ → ℕ → ℕ → Bool
 out a b w = nat_lt w a || nat_le b w
 
@@ -251,7 +251,7 @@ entry_in_cleared pid a b q w (Some t) =
 pub entry_cleared : (ts : Map ℕ Task) (pid a b q w : ℕ) → entry_at (cleared ts pid a b) q w ≡ cond (is_between pid a b (q, w)) None (entry_at ts q w)
 entry_cleared ts pid a b q w = ap (λ o. entry_in o w) (get-values exact_unsigned (one_cleared pid a b) ts q) ∙ entry_in_cleared pid a b q w (get nat_cmp ts q)
 
--- behind the range entries are as they were
+-- after the range entries are as they were
 pub entry_behind : (ts : Map ℕ Task) (pid a b w : ℕ) → b ≤ w → entry_at (cleared ts pid a b) pid w ≡ entry_at ts pid w
 entry_behind ts pid a b w h = entry_cleared ts pid a b pid w ∙ ap (λ c. cond c None (entry_at ts pid w)) (not_between pid a b pid w h)
 

@@ -45,7 +45,7 @@ fronts_list free target n l inside =
     set-set free target (drop 1 l) (drop n (slice_index_or (slice_set free target (drop 1 l)) target []))
     ∙ ap (λ (xs : List ℕ). slice_set free target xs) (ap (λ (xs : List ℕ). drop n xs) (get_or-set_same free target (drop 1 l) [] inside) ∙ drop_drop n l)
 
--- the front of a node's list, and then those behind it
+-- the front of a node's list, and then those after it
 pub fronts_step : (p q : Pool) (node n m : ℕ) → q ≡ without_front p node → node < length p.lists → m ≡ suc n → with_list q node (drop n (list_of q node)) ≡ with_list p node (drop m (list_of p node))
 fronts_step p q node n m is inside e =
     ap (λ (r : Pool). with_list r node (drop n (list_of r node))) is

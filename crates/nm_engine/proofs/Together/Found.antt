@@ -9,7 +9,7 @@ use Rattle.nm_types.specs.Map.{Map}
 use Rattle.nm_types.specs.State.{Placed, covers, area_over}
 use Rattle.nm_areas.specs.Mapped.{HasIndices}
 
--- what holds of all areas holds of the one over a page number, which begins at it or before and ends behind it
+-- what holds of all areas holds of the one over a page number, which begins at it or before and ends after it
 over_among : (areas : Map (ℕ × ℕ) Area) (pid v : ℕ) (a : Placed) → AllByRecursion HasIndices areas → area_over areas pid v ≡ Some a → HasIndices a × (a.0.1 ≤ v) × (v < a.0.1 + a.1.pages)
 over_among [] pid v a h e = cc
 over_among (x ∷ areas) pid v a h e =

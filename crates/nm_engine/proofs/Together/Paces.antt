@@ -27,7 +27,7 @@ stretch_step bytes k end lt =
     let n : end - k ≡ suc (end - (k + 1)) = omega (arith, lt) in
     ap (λ n. stretch_of bytes k n) n
 
--- an item and those behind it
+-- an item and those after it
 drop_from : {A : Type 0} (xs : List A) (k : ℕ) (x : A) → slice_get xs k ≡ Some x → drop k xs ≡ x ∷ drop (suc k) xs
 drop_from [] zero x e = cc
 drop_from [] (suc k) x e = cc
@@ -127,7 +127,7 @@ pub decided_leaves : (s : State) (target : ℕ) (c : Class) → length (left (de
 decided_leaves s target (Status status) = omega arith
 decided_leaves s target (Move p from) = page_leaves s target p from (free_list s target)
 
--- the first of several requests, and those behind it
+-- the first of several requests, and those after it
 pub record Step (s : State) (l : List ℕ) (before : List ℤ) (target : ℕ) (ws rest : List Wanted) (t : State) (m : List ℕ) (told : List ℤ) : Type 0 where
   pub state : (each t target rest).state ≡ (each s target ws).state
   pub left : m ++ left (each t target rest).taken ≡ l ++ left (each s target ws).taken

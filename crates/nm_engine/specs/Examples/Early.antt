@@ -20,7 +20,7 @@ abbrev pub while_one_moves : AllEarly
 while_one_moves =
     all_early (without_fronts four_of_five 1 1) (page_0 ∷ []) (Read 1 A 1 ∷ Read 1 B 1 ∷ Write 1 E (0x65 ∷ []) ∷ [])
 
--- the last page has the frame behind the one that was taken; no byte is read or written yet
+-- the last page has the frame after the one that was taken; no byte is read or written yet
 abbrev pub PagesAreReadyFirst : Type 0
 PagesAreReadyFirst =
     (while_one_moves.dues ≡ Known Held ∷ ToRead page_1 0 1 ∷ ToWrite page_4 0 (0x65 ∷ []) ∷ [])

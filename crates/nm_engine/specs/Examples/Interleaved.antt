@@ -72,7 +72,7 @@ abbrev pub late : List Event
 late =
     Draw 0 ∷ Give 0 0 ∷ Touch (Read 1 A 1) ∷ Touch (Read 1 B 1) ∷ Touch (Write 1 E (0x65 ∷ [])) ∷ End ∷ []
 
--- what is told of a machine
+-- what is shown of a machine
 pub record Told : Type 0 where
   pub ready : Bool
   pub free : List (List ℕ)

@@ -15,7 +15,7 @@ abbrev pub while_one_moves : Ran
 while_one_moves =
     batch four_of_five (to (A ∷ []) 1) ((0, Read 1 A 1) ∷ (0, Read 1 B 1) ∷ (0, Write 1 E (0x65 ∷ [])) ∷ [])
 
--- the new page takes the frame behind the one that was reserved
+-- the new page takes the frame after the one that was reserved
 abbrev pub OnlyTheMovingPageIsHeld : Type 0
 OnlyTheMovingPageIsHeld =
     (told while_one_moves

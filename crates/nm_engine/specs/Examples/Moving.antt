@@ -51,7 +51,7 @@ OnePageTwiceMovesOnce =
 abbrev pub shortage_of_frames : Ran
 shortage_of_frames = batch six_pages (to (A ∷ B ∷ C ∷ D ∷ []) 1) []
 
--- two move, and two stay for want of a frame
+-- two move, and two stay for lack of a frame
 abbrev pub ShortageStopsTwoOfFour : Type 0
 ShortageStopsTwoOfFour =
     (told shortage_of_frames

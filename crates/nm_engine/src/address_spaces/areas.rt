@@ -24,7 +24,7 @@ use nm_types::{Errno, FrameId, MachineError, Page, Pid, Policy, Vpn};
 use std::alloc::Allocator;
 
 impl<A: Allocator + Copy> AddressSpaces<A> {
-    /// Makes the next segment and an area of the process over all of it. Gives the segment's number.
+    /// Makes the next segment and an area of the process over all of it. Returns the segment's number.
     pub(crate) fn map(
         &mut self,
         pid: Pid,
@@ -106,8 +106,9 @@ impl<A: Allocator + Copy> AddressSpaces<A> {
         false
     }
 
-    /// A process lets go so many pages from an address on, of which none is pinned: what it sees there, and its areas'
-    /// parts there. Gives the pages that no area covers any more, with the frames that they had, by ascending address.
+    /// Unmaps `pages` pages of a process from an address on, of which none is pinned: it loses what it sees there, and
+    /// its areas' parts there. Returns the pages that no area covers any more, with the frames that they had, by
+    /// ascending address.
     pub(crate) fn remove(
         &mut self,
         pid: Pid,
@@ -127,7 +128,7 @@ impl<A: Allocator + Copy> AddressSpaces<A> {
         Ok(freed)
     }
 
-    /// Takes away a process that sees nothing.
+    /// Removes a process that sees nothing.
     pub(crate) fn remove_task(&mut self, pid: Pid)
         requires { (p : Process) → get nat_cmp self.old.processes pid ≡ Some p → p.sees ≡ [] }
         ensures { self.new ≡ record (self.old) { processes = without nat_cmp self.old.processes pid } }
@@ -136,7 +137,7 @@ impl<A: Allocator + Copy> AddressSpaces<A> {
     }
 }
 
-/// Takes away the entries of a process from one page number up to another, and with them the mappers that they are.
+/// Removes the entries of a process from one page number up to another, and with them the mappers that they are.
 fn clear_between<A: Allocator + Copy>(
     tasks: &mut ProcessTable<A>,
     rmap: &mut ReverseMap<A>,

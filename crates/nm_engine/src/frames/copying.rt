@@ -20,9 +20,9 @@ use std::mem;
 use std::sync::Wait;
 use std::thread::Threads;
 
-/// Copies the page of each move to the frame that it takes, with so many workers, and does meanwhile what is left to do for
-/// accesses to other pages. All pages that move go into a list of jobs, which has room for them and comes back empty. The
-/// answers go into a list that has room for them.
+/// Copies the page of each move to the frame that it takes, with `workers` workers, and does meanwhile what is left to
+/// do for accesses to other pages. All pages that move go into a list of jobs, which has room for them and comes back
+/// empty. The answers go into a list that has room for them.
 pub(super) fn copy_pages<
     R: Threads + Wait + Sync,
     A: Allocator + Copy + Send + Sync,

@@ -87,7 +87,7 @@ impl<A: Allocator + Copy> Inner<A> {
         Ok(self.spaces.set_policy(pid, addr, len, policy)?)
     }
 
-    /// A process lets go so many pages from an address on.
+    /// Unmaps `pages` pages of a process from an address on.
     pub(crate) fn unmap(&mut self, pid: Pid, addr: u64, pages: u64) -> Result<(), MachineError>
         requires { self.old.left ≡ [] }
         ensures done { Makes result self.old.state self.new.state (unmap_refusal self.old.state pid addr pages) (unmap self.old.state pid addr pages) }
@@ -109,7 +109,7 @@ impl<A: Allocator + Copy> Inner<A> {
         self.let_go(pid, addr, pages)
     }
 
-    /// A process lets go so many pages from an address on, of which none is pinned. The frames of pages that no area
+    /// Unmaps `pages` pages of a process from an address on, of which none is pinned. The frames of pages that no area
     /// covers any more become free, by ascending address.
     pub(crate) fn let_go(&mut self, pid: Pid, addr: u64, pages: u64) -> Result<(), MachineError>
         requires left { self.old.left ≡ [] }

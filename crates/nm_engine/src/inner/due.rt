@@ -4,19 +4,19 @@ use crate::answered::AccessAnswer;
 use nm_types::Page;
 use std::alloc::Allocator;
 
-/// What is left to do for an access once its page is there: nothing of it asks for memory any more.
+/// What is left to do for an access once its page is there. None of it asks for memory.
 #[derive(Drop)]
 pub(crate) enum Due<A: Allocator + Copy> {
     /// Nothing: its answer is known.
     Known(AccessAnswer<A>),
-    /// So many bytes of a page from a place in it on are to be read into a list that has room for them.
+    /// `len` bytes of a page, from `at` on, are to be read into a list that has room for them.
     Read {
         page: Page,
         at: usize,
         len: usize,
         bytes: Vec<u8, A>,
     },
-    /// The bytes of the access of this number are to be written to a page from a place in it on.
+    /// The bytes of the access of this number are to be written to a page, from `at` on.
     Write {
         page: Page,
         at: usize,

@@ -1,4 +1,4 @@
-//! Accesses that processes make while the pages of a run move: all that may grow for them grows before.
+//! Accesses that processes make while the pages of a run move: whatever may have to grow for them grows before that.
 
 ghost use Rattle.std.specs.Prelude.{◌≡◌, ◌≤◌, ◌<◌, List, [], Some, map, length, slice_get, vec_len, IfOk, OnOk, OnErr};
 ghost use Rattle.std.specs.List.{AllByRecursion, list_any};
@@ -25,8 +25,9 @@ use std::alloc::{AllocError, Allocator};
 use std::collections::BTreeSet;
 
 impl<A: Allocator + Copy> Inner<A> {
-    /// Takes the frames of moves to a node, and makes ready what accesses come to while the pages are on their way. Says what
-    /// is left to do for each access then: no growth. An error is want of memory, and means that all is as it was.
+    /// Takes the frames of moves to a node, and makes ready what accesses come to while the pages are on their way.
+    /// Returns what is then left to do for each access, none of which asks for memory. An error means that the host is
+    /// out of memory, and that all is as it was.
     pub(crate) fn begin(
         &mut self,
         target: NodeId,
@@ -56,7 +57,8 @@ impl<A: Allocator + Copy> Inner<A> {
         }
     }
 
-    /// Takes the frames of moves to a node: they are no node's any more, and the run's until its pages stand in them.
+    /// Takes the frames of moves to a node: they no longer belong to a node's list, but to the run, until its pages
+    /// stand in them.
     fn take_frames(&mut self, target: NodeId, moves: &[Taken])
         requires target { target < node_count self.old.state.layout }
         requires room { length moves.now ≤ self.old.room }
@@ -70,8 +72,8 @@ impl<A: Allocator + Copy> Inner<A> {
         self.frames.take_for(target, moves);
     }
 
-    /// Makes ready what accesses come to while the pages of these moves are on their way. An error is want of memory, and
-    /// means that all is as it was.
+    /// Makes ready what accesses come to while the pages of these moves are on their way. An error means that the host
+    /// is out of memory, and that all is as it was.
     fn prepare(
         &mut self,
         moves: &[Taken],
@@ -102,7 +104,7 @@ impl<A: Allocator + Copy> Inner<A> {
         Ok(dues)
     }
 
-    /// Gives the frames of moves to a node back, whose pages have not moved.
+    /// Gives back the frames that were taken for moves to a node, whose pages have not moved.
     fn give_back(&mut self, target: NodeId, moves: &[Taken])
         requires taken { self.old.left ≡ tos moves.now }
         requires sound { IsSound (with_fronts (self.old.state) target (tos moves.now)) }

@@ -56,7 +56,7 @@ impl<A: Allocator + Copy> Inner<A> {
         None
     }
 
-    /// The node where a page is, or None where it has no frame.
+    /// The node where a page is, or None if it has no frame.
     pub(crate) fn node_of_page(&self, page: Page) -> Option<NodeId>
         ensures { result ≡ option_map (node_of self.now.state.layout) (get page_cmp self.now.state.place page) }
     {

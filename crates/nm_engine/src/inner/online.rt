@@ -55,7 +55,7 @@ fn changed(nodes: NodeMask, node: NodeId, is_in: bool) -> NodeMask
     changed
 }
 
-/// Of pages with their frames those that are on a node.
+/// The pages, among these with their frames, that are on a node.
 fn pages_among<A: Allocator + Copy>(
     alloc: A,
     geometry: &Geometry<A>,

@@ -31,7 +31,7 @@ fn has_beyond(nodes: NodeMask, count: usize) -> bool
 }
 
 impl<A: Allocator + Copy> Inner<A> {
-    /// Whether a set has a node that the machine has not.
+    /// Whether a set has a node that the machine does not have.
     pub(crate) fn names_missing_node(&self, nodes: NodeMask) -> bool
         ensures { result ≡ list_any (nat_le (node_count self.now.state.layout)) nodes }
     {
@@ -61,7 +61,7 @@ impl<A: Allocator + Copy> Inner<A> {
         Ok(())
     }
 
-    /// A process lets go all that it has, and is no more.
+    /// Unmaps all that a process has, and removes it.
     pub(crate) fn exit(&mut self, pid: Pid) -> Result<(), MachineError>
         requires { self.old.left ≡ [] }
         ensures done { Makes result self.old.state self.new.state (exit_refusal self.old.state pid) (exit self.old.state pid) }

@@ -67,7 +67,7 @@ impl<A: Allocator + Copy> Inner<A> {
         Ok(self.frames.free_list(self.alloc, node)?)
     }
 
-    /// What the process has at the page numbers that it has touched, upwards.
+    /// What the process has at the page numbers that it has touched, in ascending order.
     pub(crate) fn entries(&self, pid: Pid) -> Result<Vec<(Vpn, Entry), A>, MachineError>
         ensures told { Tells result (entries_refusal self.now.state pid) (λ entries. entries.items ≡ entries_of self.now.state pid) }
         ensures memory { AsksLast result (entries_refusal self.now.state pid) }

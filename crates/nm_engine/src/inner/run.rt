@@ -24,7 +24,7 @@ use std::sync::Wait;
 use std::thread::Threads;
 
 impl<A: Allocator + Copy + Send + Sync> Inner<A> {
-    /// Makes room for so many frames that a run's pages may leave.
+    /// Makes room for `count` frames that a run's pages may leave.
     pub(crate) fn reserve(&mut self, count: usize) -> Result<(), AllocError>
         ensures room { OnOk result (length self.new.left + count ≤ self.new.room) }
         ensures same { self.new ≡ record (self.old) { room = self.new.room } }
@@ -57,9 +57,9 @@ impl<A: Allocator + Copy + Send + Sync> Inner<A> {
         plan(self.alloc, classes.as_slice(), front.as_slice(), target)
     }
 
-    /// Makes moves to a node, whose frames are taken: every entry that named a frame that a page leaves names the other, and
-    /// all pages are copied by so many workers. What is left to do for accesses to other pages is done meanwhile; the
-    /// answers go into a list that has room for them.
+    /// Makes moves to a node, whose frames are taken: every entry that named a frame that a page leaves names the
+    /// other, and all pages are copied by `workers` workers. What is left to do for accesses to other pages is done
+    /// meanwhile; the answers go into a list that has room for them.
     pub(crate) fn carry_out<R: Threads + Wait + Sync, G: Gate + Sync>(
         &mut self,
         rt: &R,
@@ -120,7 +120,7 @@ impl<A: Allocator + Copy + Send + Sync> Inner<A> {
 }
 
 /// What is to be done with each request of a run, in its order, by a look at what it names. With one worker the caller
-/// looks alone; else several threads look where the run is long.
+/// looks alone; otherwise several threads look if the run is long.
 fn classes<R: Threads + Sync, A: Allocator + Copy + Send + Sync, V: PageView + Sync>(
     rt: &R,
     alloc: A,
@@ -140,8 +140,8 @@ fn classes<R: Threads + Sync, A: Allocator + Copy + Send + Sync, V: PageView + S
     }
 }
 
-/// How many of these statuses tell of a request that failed: its page is pinned (EBUSY), or its target has no free frame
-/// (ENOMEM). So `pgmigrate_fail` of `/proc/vmstat` counts.
+/// How many of these statuses are those of a failed request: its page is pinned (EBUSY), or its target has no free
+/// frame (ENOMEM). This is how `pgmigrate_fail` of `/proc/vmstat` counts.
 pub fn failures(statuses: &[i32]) -> usize
     ensures { result ≡ failures statuses.now }
 {

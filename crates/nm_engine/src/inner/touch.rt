@@ -52,7 +52,7 @@ impl<A: Allocator + Copy> Inner<A> {
         Ok(())
     }
 
-    /// Where so many bytes of a process stand, or the first refusal.
+    /// Where `len` bytes of a process from `addr` on stand, or the first refusal.
     pub(crate) fn resolve(&self, pid: Pid, addr: u64, len: u64) -> Result<Resolved, Errno>
         ensures ok { IfOk result (λ t. (p : Process) × (a : Placed) × (spot self.now.state pid addr len ≡ Ok (spot_at t p a)) × IsResolved self.now.state t p a) }
         ensures pid { IfOk result (λ t. t.pid ≡ pid) }
@@ -84,8 +84,8 @@ impl<A: Allocator + Copy> Inner<A> {
         })
     }
 
-    /// What a read or a write does before it comes to the bytes. Gives the frame of the page that the process then sees,
-    /// or None where it sees the page of zeros.
+    /// What a read or a write does before it comes to the bytes. Returns the frame of the page that the process then
+    /// sees, or None if it sees the page of zeros.
     pub(crate) fn touch(
         &mut self,
         t: Resolved,
@@ -169,7 +169,7 @@ impl<A: Allocator + Copy> Inner<A> {
     }
 }
 
-/// Puts so many zeros behind the bytes of a list that has room for them.
+/// Appends `len` zeros to a list that has room for them.
 pub(crate) fn push_zeros<A: Allocator + Copy>(bytes: &mut Vec<u8, A>, len: usize)
     requires { vec_len bytes.old + len ≤ vec_capacity bytes.old }
     ensures { bytes.new.items ≡ bytes.old.items ++ replicate len 0 }

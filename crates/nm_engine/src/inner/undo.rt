@@ -40,8 +40,8 @@ struct Before {
 }
 
 impl<A: Allocator + Copy> Inner<A> {
-    /// What a read or a write does before it comes to the bytes, noted behind what was noted so far. Where it is refused
-    /// or the host has no memory, nothing is noted.
+    /// What a read or a write does before it comes to the bytes, noted after what was noted so far. If it is refused or
+    /// the host is out of memory, nothing is noted.
     pub(crate) fn touch_noted(
         &mut self,
         t: Resolved,

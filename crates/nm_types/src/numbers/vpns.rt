@@ -50,7 +50,7 @@ impl Vpn {
         self.number * PAGE_BYTES as u64
     }
 
-    /// How far an address lies behind the beginning of its page, in bytes.
+    /// The offset of an address in its page, in bytes.
     pub const fn offset(address: u64) -> usize
         ensures value { result ≡ address % 4096 }
         ensures inside { result < 4096 }

@@ -1,4 +1,4 @@
--- It refuses where the count has come to it, and else answers what the inner allocator answers. Assumes `Logic`.
+-- It refuses where the count has come to it, and else returns what the inner allocator returns. Assumes `Logic`.
 use Rattle.std.proofs.Common.{◌≡◌, ℕ, Bool, ◌+◌, ◌^◌, ◌<◌, true, false, List, [], ◌∷◌, Ok, Err, refl, w64, Bor}
 use seplogic.Ra.Ura.{Ura}
 use mir.Syntax.{Ty, Fn}

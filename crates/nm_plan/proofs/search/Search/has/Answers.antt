@@ -11,7 +11,7 @@ use Rattle.nm_plan.proofs.search.Search.has.Goals as goal
 pub is_among_ascending-requires : goal.is_among_ascending-requires
 is_among_ascending-requires g c = subst Ascends (sym c.split_at.ensures.front) c.requires.ascends
 
--- all moves, where it is known of the first of them and of the few behind whether one is of the page
+-- all moves, where it is known of the first of them and of the few after them whether one is of the page
 in_parts : (ts : List Taken) (n : ℕ) (p : Page) (a b : Bool) → has_moved (take n ts) p ≡ a → has_moved (take 8 (drop n ts)) p ≡ b → has_moved ts p ≡ (a || (b || has_moved (drop 8 (drop n ts)) p))
 in_parts ts n p a b first few = moved_in_parts ts n p ∙ ap (λ c. c || (has_moved (take 8 (drop n ts)) p || has_moved (drop 8 (drop n ts)) p)) first ∙ ap (λ c. a || (c || has_moved (drop 8 (drop n ts)) p)) few
 
