@@ -2,8 +2,9 @@
 use Rattle.std.proofs.Common.{◌≡◌, ℕ, suc, ◌+◌, ◌≤◌, ◌<◌, List, [], ◌∷◌, ◌++◌, Option, Some, None, length, get_or, drop, option_map, refl, sym, ap, ◌∙◌, append_assoc, add-one, drop-cons, arith}
 use Rattle.std.proofs.lemmas.List.{append-nil, drop_all}
 use Rattle.serde_json.specs.Data.{Data}
-use Rattle.serde_json.specs.View.{view, items_view}
-use Rattle.serde_json.specs.declared.value.Value.{Value}
+use Rattle.std.specs.declared.alloc.Global.{Global}
+use Rattle.json.specs.declared.value.Value.{Value}
+use Rattle.nm_trace.specs.Tree.{view, items_view}
 use Rattle.nm_trace.specs.declared.step_error.StepError.{StepError}
 use Rattle.nm_trace.specs.declared.step_error.StepError.TheVariants.{Bad, Memory}
 use Rattle.nm_calls.specs.Calls.{Call}
@@ -19,7 +20,7 @@ regroup : {A : Type 0} (front : List A) (x : A) (rest : Option (List A)) → wit
 regroup front x (Some xs) = ap Some (simp append_assoc)
 regroup front x None = refl
 
-module _ {A : Type 0} (f : Data → Option A) (front : List A) (vs : List Value) (i : ℕ) (v : Value) (total : Option (List A)) (lt : i < length vs) (is : v ≡ get_or vs i v) where
+module _ {A : Type 0} (f : Data → Option A) (front : List A) (vs : List (Value Global)) (i : ℕ) (v : Value Global) (total : Option (List A)) (lt : i < length vs) (is : v ≡ get_or vs i v) where
   split : drop i vs ≡ v ∷ drop (i + 1) vs
   split = rw (add-one, drop-cons vs i v) (ap (λ w. w ∷ drop (suc i) vs) (sym is))
 
@@ -34,14 +35,14 @@ module _ {A : Type 0} (f : Data → Option A) (front : List A) (vs : List Value)
       let one : with_front front (each f (items_view (drop i vs))) ≡ None = rw (split, h) refl in
       sym so_far ∙ one
 
-pub is_done : {A : Type 0} (f : Data → Option A) (front : List A) (vs : List Value) (i : ℕ) (total : Option (List A)) → length vs ≤ i → with_front front (each f (items_view (drop i vs))) ≡ total → total ≡ Some front
+pub is_done : {A : Type 0} (f : Data → Option A) (front : List A) (vs : List (Value Global)) (i : ℕ) (total : Option (List A)) → length vs ≤ i → with_front front (each f (items_view (drop i vs))) ≡ total → total ≡ Some front
 is_done f front vs i total le so_far =
     let none : drop i vs ≡ [] = drop_all i vs le in
     let one : with_front front (each f (items_view (drop i vs))) ≡ Some front = rw none (ap Some (append-nil front)) in
     sym so_far ∙ one
 
 -- the first item that is no step comes after one that is a step
-pub is_later : (limit : ℕ) (vs : List Value) (i : ℕ) (v : Value) → i < length vs → v ≡ get_or vs i v → (call : Call) → step_of limit (view v) ≡ Some call → (place : ℕ) → i + first_bad limit (items_view (drop i vs)) ≡ place → (i + 1) + first_bad limit (items_view (drop (i + 1) vs)) ≡ place
+pub is_later : (limit : ℕ) (vs : List (Value Global)) (i : ℕ) (v : Value Global) → i < length vs → v ≡ get_or vs i v → (call : Call) → step_of limit (view v) ≡ Some call → (place : ℕ) → i + first_bad limit (items_view (drop i vs)) ≡ place → (i + 1) + first_bad limit (items_view (drop (i + 1) vs)) ≡ place
 is_later limit vs i v lt is call h place so_far =
     let split : drop i vs ≡ v ∷ drop (i + 1) vs = rw (add-one, drop-cons vs i v) (ap (λ w. w ∷ drop (suc i) vs) (sym is)) in
     let one : first_bad limit (items_view (drop i vs)) ≡ suc (first_bad limit (items_view (drop (i + 1) vs))) = rw (split, h) refl in

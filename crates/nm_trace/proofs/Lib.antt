@@ -6,3 +6,4 @@ pub mod InParts
 pub mod FromBytes
 pub mod Lines
 pub mod Least
+pub mod Trees

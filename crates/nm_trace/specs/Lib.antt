@@ -1,3 +1,4 @@
+pub mod Tree
 pub mod Form
 pub mod Gives
 pub mod Faults

@@ -1,7 +1,6 @@
 //! Traces: bytes to the calls that their steps ask for, and the calls to the report on them.
 #![tactic(auto)]
 
-mod fields;
 pub mod laws;
 mod parsing;
 mod playing;
@@ -11,6 +10,7 @@ mod step_error;
 mod text;
 mod trace;
 mod trace_error;
+mod tree;
 
 pub use playing::{Summary, play};
 pub use reading::read_trace;

@@ -1,7 +1,7 @@
 //! Steps as JSON has them: the call that each asks for.
 
 ghost use Rattle.std.specs.Prelude.{◌≡◌, ◌<◌, ◌++◌, ◌∷◌, [], OnOk, IfErr};
-ghost use Rattle.serde_json.specs.View.{view, items_view};
+ghost use Rattle.nm_trace.specs.Tree.{view, items_view};
 ghost use Rattle.nm_engine.specs.Answering.{access_shown};
 ghost use Rattle.nm_trace.specs.Form as form;
 ghost use Rattle.nm_calls.specs.Views.{call_of};
@@ -9,20 +9,20 @@ ghost use Rattle.nm_trace.specs.Gives.{Gives};
 ghost use Rattle.nm_calls.specs.During.{shown_during};
 ghost use Rattle.nm_trace.specs.declared.step_error.StepError.TheVariants.{Memory};
 
-use crate::fields::{flag, hex, number, numbers, set, small, smalls, text};
 use crate::step_error::StepError;
+use crate::tree::{self, flag, hex, number, numbers, set, small, smalls, text};
+use json::Value;
 use nm_calls::{
     Access, Attachment, Batch, Call, InFlight, MbindRequest, MigrateRequest, MoveRequest, NewArea,
     NewProcess, Question, run_count,
 };
 use nm_types::limits::MAX_BATCH;
 use nm_types::{NodeId, Pid};
-use serde_json::Value;
 use std::alloc::Allocator;
 
 /// What the keys of a read say.
 #[tactic(auto, unfolding(crate::specs::Form::read_access))]
-fn read_access<A: Allocator + Copy + Send + Sync>(value: &Value) -> Result<Access<A>, StepError>
+fn read_access<A: Allocator + Copy + Send + Sync>(value: &Value<'_>) -> Result<Access<A>, StepError>
     ensures { Gives access_shown result (form.read_access (view value.now)) }
 {
     Ok(Access::Read {
@@ -36,7 +36,7 @@ fn read_access<A: Allocator + Copy + Send + Sync>(value: &Value) -> Result<Acces
 #[tactic(auto, unfolding(crate::specs::Form::write_access))]
 fn write_access<A: Allocator + Copy + Send + Sync>(
     alloc: A,
-    value: &Value,
+    value: &Value<'_>,
 ) -> Result<Access<A>, StepError>
     ensures { Gives access_shown result (form.write_access (view value.now)) }
 {
@@ -52,7 +52,7 @@ fn write_access<A: Allocator + Copy + Send + Sync>(
 fn access_named<A: Allocator + Copy + Send + Sync>(
     alloc: A,
     op: &str,
-    value: &Value,
+    value: &Value<'_>,
 ) -> Result<Access<A>, StepError>
     ensures { Gives access_shown result (form.access_named op.now (view value.now)) }
 {
@@ -67,7 +67,7 @@ fn access_named<A: Allocator + Copy + Send + Sync>(
 #[tactic(auto, unfolding(crate::specs::Form::in_flight))]
 fn in_flight<A: Allocator + Copy + Send + Sync>(
     alloc: A,
-    value: &Value,
+    value: &Value<'_>,
     runs: usize,
 ) -> Result<InFlight<A>, StepError>
     ensures { Gives (λ d. (d.run, access_shown d.access)) result (form.in_flight runs (view value.now)) }
@@ -100,7 +100,7 @@ fn put<A: Allocator + Copy + Send + Sync>(
 /// The accesses of a list, each of a run below `runs`.
 fn flights_of<A: Allocator + Copy + Send + Sync>(
     alloc: A,
-    values: &[Value],
+    values: &[Value<'_>],
     runs: usize,
 ) -> Result<Vec<InFlight<A>, A>, StepError>
     ensures { Gives (λ v. shown_during v.items) result (form.each (form.in_flight runs) (items_view values.now)) }
@@ -116,22 +116,22 @@ fn flights_of<A: Allocator + Copy + Send + Sync>(
 /// The accesses in flight of a step that has `runs` runs, and none if the key is missing.
 fn flights_at<A: Allocator + Copy + Send + Sync>(
     alloc: A,
-    value: &Value,
+    value: &Value<'_>,
     runs: usize,
 ) -> Result<Vec<InFlight<A>, A>, StepError>
     ensures { Gives (λ v. shown_during v.items) result (form.during_at runs (view value.now)) }
 {
-    match value.get("during") {
+    match tree::get(value, "during") {
         None => Ok(Vec::new(alloc)),
         Some(during) => {
-            let values = during.as_array().ok_or(StepError::Bad)?;
+            let values = tree::as_array(during).ok_or(StepError::Bad)?;
             flights_of(alloc, values.as_slice(), runs)
         }
     }
 }
 
 #[tactic(auto, unfolding(crate::specs::Form::spawn_of))]
-fn spawn<A: Allocator + Copy + Send + Sync>(value: &Value) -> Result<Call<A>, StepError>
+fn spawn<A: Allocator + Copy + Send + Sync>(value: &Value<'_>) -> Result<Call<A>, StepError>
     ensures { Gives call_of result (form.spawn_of (view value.now)) }
 {
     Ok(Call::Spawn(NewProcess {
@@ -144,7 +144,7 @@ fn spawn<A: Allocator + Copy + Send + Sync>(value: &Value) -> Result<Call<A>, St
 }
 
 #[tactic(auto, unfolding(crate::specs::Form::map_of))]
-fn map<A: Allocator + Copy + Send + Sync>(value: &Value) -> Result<Call<A>, StepError>
+fn map<A: Allocator + Copy + Send + Sync>(value: &Value<'_>) -> Result<Call<A>, StepError>
     ensures { Gives call_of result (form.map_of (view value.now)) }
 {
     Ok(Call::Map(NewArea {
@@ -156,7 +156,7 @@ fn map<A: Allocator + Copy + Send + Sync>(value: &Value) -> Result<Call<A>, Step
 }
 
 #[tactic(auto, unfolding(crate::specs::Form::attach_of))]
-fn attach<A: Allocator + Copy + Send + Sync>(value: &Value) -> Result<Call<A>, StepError>
+fn attach<A: Allocator + Copy + Send + Sync>(value: &Value<'_>) -> Result<Call<A>, StepError>
     ensures { Gives call_of result (form.attach_of (view value.now)) }
 {
     Ok(Call::Attach(Attachment {
@@ -169,7 +169,7 @@ fn attach<A: Allocator + Copy + Send + Sync>(value: &Value) -> Result<Call<A>, S
 }
 
 #[tactic(auto, unfolding(crate::specs::Form::unmap_of))]
-fn unmap<A: Allocator + Copy + Send + Sync>(value: &Value) -> Result<Call<A>, StepError>
+fn unmap<A: Allocator + Copy + Send + Sync>(value: &Value<'_>) -> Result<Call<A>, StepError>
     ensures { Gives call_of result (form.unmap_of (view value.now)) }
 {
     Ok(Call::Unmap {
@@ -180,7 +180,7 @@ fn unmap<A: Allocator + Copy + Send + Sync>(value: &Value) -> Result<Call<A>, St
 }
 
 #[tactic(auto, unfolding(crate::specs::Form::exit_of))]
-fn exit<A: Allocator + Copy + Send + Sync>(value: &Value) -> Result<Call<A>, StepError>
+fn exit<A: Allocator + Copy + Send + Sync>(value: &Value<'_>) -> Result<Call<A>, StepError>
     ensures { Gives call_of result (form.exit_of (view value.now)) }
 {
     Ok(Call::Exit {
@@ -189,7 +189,7 @@ fn exit<A: Allocator + Copy + Send + Sync>(value: &Value) -> Result<Call<A>, Ste
 }
 
 #[tactic(auto, unfolding(crate::specs::Form::pin_of))]
-fn pin<A: Allocator + Copy + Send + Sync>(value: &Value) -> Result<Call<A>, StepError>
+fn pin<A: Allocator + Copy + Send + Sync>(value: &Value<'_>) -> Result<Call<A>, StepError>
     ensures { Gives call_of result (form.pin_of (view value.now)) }
 {
     Ok(Call::Pin {
@@ -199,7 +199,7 @@ fn pin<A: Allocator + Copy + Send + Sync>(value: &Value) -> Result<Call<A>, Step
 }
 
 #[tactic(auto, unfolding(crate::specs::Form::unpin_of))]
-fn unpin<A: Allocator + Copy + Send + Sync>(value: &Value) -> Result<Call<A>, StepError>
+fn unpin<A: Allocator + Copy + Send + Sync>(value: &Value<'_>) -> Result<Call<A>, StepError>
     ensures { Gives call_of result (form.unpin_of (view value.now)) }
 {
     Ok(Call::Unpin {
@@ -218,13 +218,16 @@ fn access_step<A: Allocator + Copy + Send + Sync>(access: Access<A>) -> Call<A>
     }
 }
 
-fn read<A: Allocator + Copy + Send + Sync>(value: &Value) -> Result<Call<A>, StepError>
+fn read<A: Allocator + Copy + Send + Sync>(value: &Value<'_>) -> Result<Call<A>, StepError>
     ensures { Gives call_of result (form.read_of (view value.now)) }
 {
     Ok(access_step(read_access(value)?))
 }
 
-fn write<A: Allocator + Copy + Send + Sync>(alloc: A, value: &Value) -> Result<Call<A>, StepError>
+fn write<A: Allocator + Copy + Send + Sync>(
+    alloc: A,
+    value: &Value<'_>,
+) -> Result<Call<A>, StepError>
     ensures { Gives call_of result (form.write_of (view value.now)) }
 {
     Ok(access_step(write_access(alloc, value)?))
@@ -234,7 +237,7 @@ fn write<A: Allocator + Copy + Send + Sync>(alloc: A, value: &Value) -> Result<C
 #[tactic(auto, unfolding(crate::specs::Form::batch_of))]
 fn batch_of<A: Allocator + Copy + Send + Sync>(
     alloc: A,
-    value: &Value,
+    value: &Value<'_>,
 ) -> Result<Batch<A>, StepError>
     ensures { Gives (λ batch. (batch.pages.items, batch.nodes.items)) result (form.batch_of (view value.now)) }
 {
@@ -249,7 +252,7 @@ fn batch_of<A: Allocator + Copy + Send + Sync>(
 #[tactic(auto, unfolding(crate::specs::Form::move_pages_of))]
 fn move_pages<A: Allocator + Copy + Send + Sync>(
     alloc: A,
-    value: &Value,
+    value: &Value<'_>,
     limit: usize,
 ) -> Result<Call<A>, StepError>
     requires { 0 < limit }
@@ -271,7 +274,7 @@ fn move_pages<A: Allocator + Copy + Send + Sync>(
 }
 
 #[tactic(auto, unfolding(crate::specs::Form::migrate_pages_of))]
-fn migrate_pages<A: Allocator + Copy + Send + Sync>(value: &Value) -> Result<Call<A>, StepError>
+fn migrate_pages<A: Allocator + Copy + Send + Sync>(value: &Value<'_>) -> Result<Call<A>, StepError>
     ensures { Gives call_of result (form.migrate_pages_of (view value.now)) }
 {
     Ok(Call::MigratePages(MigrateRequest {
@@ -283,7 +286,7 @@ fn migrate_pages<A: Allocator + Copy + Send + Sync>(value: &Value) -> Result<Cal
 }
 
 #[tactic(auto, unfolding(crate::specs::Form::mbind_of))]
-fn mbind<A: Allocator + Copy + Send + Sync>(value: &Value) -> Result<Call<A>, StepError>
+fn mbind<A: Allocator + Copy + Send + Sync>(value: &Value<'_>) -> Result<Call<A>, StepError>
     ensures { Gives call_of result (form.mbind_of (view value.now)) }
 {
     Ok(Call::Mbind(MbindRequest {
@@ -297,7 +300,7 @@ fn mbind<A: Allocator + Copy + Send + Sync>(value: &Value) -> Result<Call<A>, St
 }
 
 #[tactic(auto, unfolding(crate::specs::Form::offline_of))]
-fn offline<A: Allocator + Copy + Send + Sync>(value: &Value) -> Result<Call<A>, StepError>
+fn offline<A: Allocator + Copy + Send + Sync>(value: &Value<'_>) -> Result<Call<A>, StepError>
     ensures { Gives call_of result (form.offline_of (view value.now)) }
 {
     Ok(Call::Offline {
@@ -306,7 +309,7 @@ fn offline<A: Allocator + Copy + Send + Sync>(value: &Value) -> Result<Call<A>, 
 }
 
 #[tactic(auto, unfolding(crate::specs::Form::online_of))]
-fn online<A: Allocator + Copy + Send + Sync>(value: &Value) -> Result<Call<A>, StepError>
+fn online<A: Allocator + Copy + Send + Sync>(value: &Value<'_>) -> Result<Call<A>, StepError>
     ensures { Gives call_of result (form.online_of (view value.now)) }
 {
     Ok(Call::Online {
@@ -315,7 +318,10 @@ fn online<A: Allocator + Copy + Send + Sync>(value: &Value) -> Result<Call<A>, S
 }
 
 #[tactic(auto, unfolding(crate::specs::Form::query_of))]
-fn query<A: Allocator + Copy + Send + Sync>(alloc: A, value: &Value) -> Result<Call<A>, StepError>
+fn query<A: Allocator + Copy + Send + Sync>(
+    alloc: A,
+    value: &Value<'_>,
+) -> Result<Call<A>, StepError>
     ensures { Gives call_of result (form.query_of (view value.now)) }
 {
     let caller = small(value, "caller")?;
@@ -334,7 +340,7 @@ fn query<A: Allocator + Copy + Send + Sync>(alloc: A, value: &Value) -> Result<C
 }
 
 #[tactic(auto, unfolding(crate::specs::Form::free_of))]
-fn free<A: Allocator + Copy + Send + Sync>(value: &Value) -> Result<Call<A>, StepError>
+fn free<A: Allocator + Copy + Send + Sync>(value: &Value<'_>) -> Result<Call<A>, StepError>
     ensures { Gives call_of result (form.free_of (view value.now)) }
 {
     Ok(Call::FreeList {
@@ -343,7 +349,7 @@ fn free<A: Allocator + Copy + Send + Sync>(value: &Value) -> Result<Call<A>, Ste
 }
 
 #[tactic(auto, unfolding(crate::specs::Form::pagemap_of))]
-fn pagemap<A: Allocator + Copy + Send + Sync>(value: &Value) -> Result<Call<A>, StepError>
+fn pagemap<A: Allocator + Copy + Send + Sync>(value: &Value<'_>) -> Result<Call<A>, StepError>
     ensures { Gives call_of result (form.pagemap_of (view value.now)) }
 {
     Ok(Call::Pagemap {
@@ -352,14 +358,14 @@ fn pagemap<A: Allocator + Copy + Send + Sync>(value: &Value) -> Result<Call<A>, 
 }
 
 #[tactic(auto, unfolding(crate::specs::Form::vmstat_of))]
-fn vmstat<A: Allocator + Copy + Send + Sync>(value: &Value) -> Result<Call<A>, StepError>
+fn vmstat<A: Allocator + Copy + Send + Sync>(value: &Value<'_>) -> Result<Call<A>, StepError>
     ensures { Gives call_of result (form.vmstat_of (view value.now)) }
 {
     Ok(Call::Vmstat)
 }
 
 #[tactic(auto, unfolding(crate::specs::Form::numa_maps_of))]
-fn numa_maps<A: Allocator + Copy + Send + Sync>(value: &Value) -> Result<Call<A>, StepError>
+fn numa_maps<A: Allocator + Copy + Send + Sync>(value: &Value<'_>) -> Result<Call<A>, StepError>
     ensures { Gives call_of result (form.numa_maps_of (view value.now)) }
 {
     Ok(Call::NumaMaps {
@@ -371,7 +377,7 @@ fn numa_maps<A: Allocator + Copy + Send + Sync>(value: &Value) -> Result<Call<A>
 fn named<A: Allocator + Copy + Send + Sync>(
     alloc: A,
     op: &str,
-    value: &Value,
+    value: &Value<'_>,
     limit: usize,
 ) -> Result<Call<A>, StepError>
     requires { 0 < limit }
@@ -405,7 +411,7 @@ fn named<A: Allocator + Copy + Send + Sync>(
 #[tactic(auto, unfolding(crate::specs::Form::step_of))]
 pub(crate) fn step_of<A: Allocator + Copy + Send + Sync>(
     alloc: A,
-    value: &Value,
+    value: &Value<'_>,
     limit: usize,
 ) -> Result<Call<A>, StepError>
     requires { 0 < limit }

@@ -4,7 +4,7 @@ ghost use Rattle.std.specs.Prelude.{map, ◌≡◌, ◌<◌, ◌≤◌, ◌^◌,
 ghost use Rattle.nm_calls.specs.Systems.{default_limit};
 ghost use Rattle.nm_calls.specs.Views.{call_of};
 ghost use Rattle.std.specs.Option.{ok_or};
-ghost use Rattle.serde_json.specs.View.{view, items_view};
+ghost use Rattle.nm_trace.specs.Tree.{view, items_view};
 ghost use Rattle.nm_trace.specs.Form as form;
 ghost use Rattle.nm_trace.specs.Faults as faults;
 ghost use Rattle.nm_trace.specs.Faults.{Gives};
@@ -13,28 +13,32 @@ ghost use Rattle.nm_trace.specs.declared.trace_error.TraceError.TheVariants.{Not
 ghost use Rattle.nm_trace.specs.declared.step_error.StepError.TheVariants.{Bad};
 ghost use Rattle.nm_trace.specs.Gives as of_step;
 
-use crate::fields::{list, number, smalls};
 use crate::parsing::step_of;
 use crate::step_error::StepError;
 use crate::trace::Trace;
 use crate::trace_error::TraceError;
+use crate::tree::{self, list, number, smalls};
+use json::{Scratch, Value};
 use nm_calls::Call;
 use nm_types::Geometry;
 use nm_types::limits::MAX_BATCH;
-use serde_json::Value;
 use std::alloc::{Allocator, Global};
+use std::str::from_utf8;
 
 /// A distance, which is below 256.
-fn distance_value(value: &Value) -> Result<u8, StepError>
+fn distance_value(value: &Value<'_>) -> Result<u8, StepError>
     ensures value { of_step.Gives (λ n. n) result (form.number_below (2 ^ 8) (view value.now)) }
     ensures bad { IfErr result (λ e. e ≡ Bad) }
 {
-    let number = value.as_u64().ok_or(StepError::Bad)?;
+    let number = tree::as_u64(value).ok_or(StepError::Bad)?;
     u8::try_from(number).map_err(|_| StepError::Bad)
 }
 
 /// The distances of a list.
-fn distances_of<A: Allocator + Copy>(alloc: A, values: &[Value]) -> Result<Vec<u8, A>, StepError>
+fn distances_of<A: Allocator + Copy>(
+    alloc: A,
+    values: &[Value<'_>],
+) -> Result<Vec<u8, A>, StepError>
     ensures { of_step.Gives (λ v. v.items) result (form.each (form.number_below (2 ^ 8)) (items_view values.now)) }
 {
     let mut row = Vec::new(alloc);
@@ -46,15 +50,18 @@ fn distances_of<A: Allocator + Copy>(alloc: A, values: &[Value]) -> Result<Vec<u
 }
 
 /// A row of distances.
-fn row_of<A: Allocator + Copy>(alloc: A, value: &Value) -> Result<Vec<u8, A>, StepError>
+fn row_of<A: Allocator + Copy>(alloc: A, value: &Value<'_>) -> Result<Vec<u8, A>, StepError>
     ensures { of_step.Gives (λ v. v.items) result (form.row_of (view value.now)) }
 {
-    let values = value.as_array().ok_or(StepError::Bad)?;
+    let values = tree::as_array(value).ok_or(StepError::Bad)?;
     distances_of(alloc, values.as_slice())
 }
 
 /// The rows of a list.
-fn rows_of<A: Allocator + Copy>(alloc: A, values: &[Value]) -> Result<Vec<Vec<u8, A>, A>, StepError>
+fn rows_of<A: Allocator + Copy>(
+    alloc: A,
+    values: &[Value<'_>],
+) -> Result<Vec<Vec<u8, A>, A>, StepError>
     ensures { of_step.Gives (λ v. map (λ row. row.items) v.items) result (form.each form.row_of (items_view values.now)) }
 {
     let mut rows = Vec::new(alloc);
@@ -67,10 +74,10 @@ fn rows_of<A: Allocator + Copy>(alloc: A, values: &[Value]) -> Result<Vec<Vec<u8
 
 /// The machine of a trace's top.
 #[tactic(auto, unfolding(crate::specs::Form::machine_of))]
-fn machine_of<A: Allocator + Copy>(alloc: A, value: &Value) -> Result<Geometry<A>, StepError>
+fn machine_of<A: Allocator + Copy>(alloc: A, value: &Value<'_>) -> Result<Geometry<A>, StepError>
     ensures { of_step.Gives (λ g. g) result (form.machine_of (view value.now)) }
 {
-    let machine = value.get("machine").ok_or(StepError::Bad)?;
+    let machine = tree::get(value, "machine").ok_or(StepError::Bad)?;
     let sizes = smalls(alloc, machine, "nodes")?;
     let distances = rows_of(alloc, list(machine, "distance")?.as_slice())?;
     match Geometry::new(sizes, distances) {
@@ -81,7 +88,7 @@ fn machine_of<A: Allocator + Copy>(alloc: A, value: &Value) -> Result<Geometry<A
 
 /// How many entries a run has at most: 16,384 in version 1, whatever it says of it, and what version 2 says.
 #[tactic(auto, unfolding(crate::specs::Form::limit_of))]
-fn limit_of(value: &Value) -> Result<usize, StepError>
+fn limit_of(value: &Value<'_>) -> Result<usize, StepError>
     ensures limit { of_step.Gives (λ n. n) result (form.limit_of (view value.now)) }
     ensures bad { IfErr result (λ e. e ≡ Bad) }
     ensures some { IfOk result (λ n. 0 < n) }
@@ -119,7 +126,7 @@ fn put<A: Allocator + Copy + Send + Sync>(
 /// The calls that the steps of a list ask for, or the first fault. A run has at most `limit` entries.
 fn calls_of<A: Allocator + Copy + Send + Sync>(
     alloc: A,
-    values: &[Value],
+    values: &[Value<'_>],
     limit: usize,
 ) -> Result<Vec<Call<A>, A>, TraceError>
     requires { 0 < limit }
@@ -148,14 +155,14 @@ fn bad_machine(error: StepError) -> TraceError
 }
 
 /// The machine of a trace, or its fault.
-fn geometry_of<A: Allocator + Copy>(alloc: A, value: &Value) -> Result<Geometry<A>, TraceError>
+fn geometry_of<A: Allocator + Copy>(alloc: A, value: &Value<'_>) -> Result<Geometry<A>, TraceError>
     ensures { Gives (λ g. g) result (ok_or (form.machine_of (view value.now)) BadMachine) }
 {
     machine_of(alloc, value).map_err(bad_machine)
 }
 
 /// The limit on runs of a trace, or its fault.
-fn run_limit_of(value: &Value) -> Result<usize, TraceError>
+fn run_limit_of(value: &Value<'_>) -> Result<usize, TraceError>
     ensures limit { Gives (λ n. n) result (ok_or (form.limit_of (view value.now)) BadMachine) }
     ensures bad { IfErr result (λ e. e ≡ BadMachine) }
     ensures some { IfOk result (λ n. 0 < n) }
@@ -168,7 +175,7 @@ fn run_limit_of(value: &Value) -> Result<usize, TraceError>
 }
 
 /// The values of the steps of a trace, or the fault of a top that has none.
-fn values_of(value: &Value) -> Result<&Vec<Value>, TraceError>
+fn values_of<'v, 'a>(value: &'v Value<'a>) -> Result<&'v Vec<Value<'a>>, TraceError>
     ensures values { Gives (λ v. items_view v.now.items) result (ok_or (form.items_at (codes "steps") (view value.now)) BadMachine) }
     ensures bad { IfErr result (λ e. e ≡ BadMachine) }
 {
@@ -179,7 +186,7 @@ fn values_of(value: &Value) -> Result<&Vec<Value>, TraceError>
 #[tactic(auto, unfolding(crate::specs::Faults::plan_of))]
 fn trace_of<A: Allocator + Copy + Send + Sync>(
     alloc: A,
-    value: &Value,
+    value: &Value<'_>,
 ) -> Result<Trace<A>, TraceError>
     ensures { Gives plan_in result (faults.plan_of (view value.now)) }
 {
@@ -194,24 +201,26 @@ fn trace_of<A: Allocator + Copy + Send + Sync>(
     })
 }
 
-/// The value that bytes are as JSON.
-fn value_of(heap: Global, bytes: &[u8]) -> Result<Value, TraceError>
+/// The value that bytes are as JSON. Texts with escapes go to `scratch`.
+fn value_of<'a>(
+    heap: Global,
+    bytes: &'a [u8],
+    scratch: &'a mut Scratch,
+) -> Result<Value<'a>, TraceError>
     ensures { Gives view result (ok_or (faults.value_of bytes.now) NotJson) }
 {
-    match Value::from_slice(heap, bytes) {
+    let Ok(text) = from_utf8(bytes) else {
+        return Err(TraceError::NotJson);
+    };
+    match tree::read(heap, text, scratch) {
         Ok(value) => Ok(value),
-        Err(error) => {
-            if error.is_memory() {
-                Err(TraceError::HostMemory(0))
-            } else {
-                Err(TraceError::NotJson)
-            }
-        }
+        Err(StepError::Bad) => Err(TraceError::NotJson),
+        Err(StepError::Memory) => Err(TraceError::HostMemory(0)),
     }
 }
 
 /// The trace that bytes are, or the first fault: `NotJson`, then `BadMachine`, then `BadStep` of the first bad step.
-/// Every step is checked before one is made. The trace stands in the memory of `alloc`, and the JSON value, until this
+/// Every step is checked before one is made. The trace stands in the memory of `alloc`, and the JSON tree, until this
 /// call returns, in that of `heap`.
 ///
 /// `HostMemory(0)` comes where one of the two was refused memory.
@@ -223,6 +232,7 @@ pub fn read_trace<A: Allocator + Copy + Send + Sync>(
 ) -> Result<Trace<A>, TraceError>
     ensures { Gives plan_in result (faults.trace_of bytes.now) }
 {
-    let value = value_of(heap, bytes)?;
+    let mut scratch = Scratch::new(heap);
+    let value = value_of(heap, bytes, &mut scratch)?;
     trace_of(alloc, &value)
 }

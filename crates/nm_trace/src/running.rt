@@ -73,7 +73,7 @@ fn run_bytes<R: Threads + Wait + Sync, A: Allocator + Copy + Send + Sync, W: Wri
 
 /// Reads a trace to its end, checks it whole, plays it on a new system and writes the report, with 1 to 64 workers that
 /// pass the gate; how many they are changes no byte of the report. The system, the bytes and the lines stand in the
-/// memory of `alloc`, and the JSON value in that of `heap`.
+/// memory of `alloc`, and the JSON tree in that of `heap`.
 ///
 /// Faults in order: `ReadFault` where the reader failed or gave more than 16,777,216 bytes; those of `read_trace`; those
 /// of `play`. Nothing is written before the whole trace is checked.

@@ -1,5 +1,5 @@
 use Rattle.std.proofs.Common.{◌≡◌, drop}
-use Rattle.serde_json.specs.View.{items_view}
+use Rattle.nm_trace.specs.Tree.{items_view}
 use Rattle.nm_calls.specs.During.{shown_during}
 use Rattle.nm_trace.specs.Form.{each, in_flight}
 use Rattle.nm_trace.proofs.Each.{with_front}

@@ -1,5 +1,5 @@
 use Rattle.std.proofs.Common.{◌≡◌, ◌+◌, drop, map}
-use Rattle.serde_json.specs.View.{items_view}
+use Rattle.nm_trace.specs.Tree.{items_view}
 use Rattle.nm_trace.specs.Form.{each, step_of}
 use Rattle.nm_trace.specs.Faults.{first_bad}
 use Rattle.nm_calls.specs.Views.{call_of}

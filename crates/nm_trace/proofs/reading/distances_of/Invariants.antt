@@ -1,5 +1,5 @@
 use Rattle.std.proofs.Common.{◌≡◌, ◌^◌, drop}
-use Rattle.serde_json.specs.View.{items_view}
+use Rattle.nm_trace.specs.Tree.{items_view}
 use Rattle.nm_trace.specs.Form.{each, number_below}
 use Rattle.nm_trace.proofs.Each.{with_front}
 use Rattle.nm_trace.proofs.reading.distances_of.Given as goal

@@ -1,5 +1,5 @@
 use Rattle.std.proofs.Common.{◌≡◌, drop, map}
-use Rattle.serde_json.specs.View.{items_view}
+use Rattle.nm_trace.specs.Tree.{items_view}
 use Rattle.nm_trace.specs.Form.{each, row_of}
 use Rattle.nm_trace.proofs.Each.{with_front}
 use Rattle.nm_trace.proofs.reading.rows_of.Given as goal

@@ -1,0 +1,38 @@
+-- The data that a tree of borrowed text stands for.
+use Rattle.std.specs.Prelude.{List, map, Option, Some, None}
+use Rattle.std.specs.declared.alloc.Global.{Global}
+use Rattle.json.specs.Json as json
+use Rattle.json.specs.Value.{value_view}
+use Rattle.json.specs.declared.value.Value.{Value}
+use Rattle.serde_json.specs.Data.{Num, Data, null, boolean, number, string, array, object, Items, no_items, item, Members, no_members, put}
+use Rattle.serde_json.specs.Read.{number_of}
+use Rattle.serde_json.specs.View.{items_of}
+
+-- a number; one that is out of range counts as null
+abbrev pub number_or_null : Option Num → Data
+number_or_null None = null
+number_or_null (Some n) = number n
+
+-- what a tree shows, number by number; of a key that stands twice the last value
+abbrev mutual
+  pub shown : json.Json → Data
+  shown json.null = null
+  shown (json.boolean b) = boolean b
+  shown (json.number s) = number_or_null (number_of s)
+  shown (json.string s) = string s
+  shown (json.array js) = array (shown_items js)
+  shown (json.object ms) = object (shown_members ms no_members)
+
+  pub shown_items : json.Items → Items
+  shown_items json.no_items = no_items
+  shown_items (json.item j js) = item (shown j) (shown_items js)
+
+  pub shown_members : json.Members → Members → Members
+  shown_members json.no_members found = found
+  shown_members (json.member k j ms) found = shown_members ms (put k (shown j) found)
+
+abbrev pub view : Value Global → Data
+view v = shown (value_view v)
+
+abbrev pub items_view : List (Value Global) → Items
+items_view vs = items_of (map view vs)
