@@ -7,7 +7,7 @@ use Rattle.json.specs.Find as find
 use Rattle.json.specs.Value as tree
 use Rattle.json.specs.declared.value.Value.{Value}
 use Rattle.fast_float.specs.Text.{Parts, minus, scan}
-use Rattle.serde_json.specs.Data.{Num, negative, float, Data, null, boolean, number, string, array, object, Items, no_items, item, Members, no_members, member, put}
+use Rattle.serde_json.specs.Data.{Num, negative, float, Data, number, array, object, Items, item, Members, no_members, put}
 use Rattle.serde_json.specs.Find.{get, get_member, as_u64}
 use Rattle.serde_json.specs.Read.{number_of, number_from, of_json, of_items, of_members}
 use Rattle.serde_json.specs.View.{items_of}

@@ -201,7 +201,7 @@ fn trace_of<A: Allocator + Copy + Send + Sync>(
     })
 }
 
-/// The value that bytes are as JSON. Texts with escapes go to `scratch`.
+/// The tree that bytes are as JSON. Strings with escapes are written to `scratch`.
 fn value_of<'a>(
     heap: Global,
     bytes: &'a [u8],

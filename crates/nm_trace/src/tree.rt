@@ -23,7 +23,7 @@ use std::alloc::{Allocator, Global};
 /// How deep lists and objects may nest.
 const MAX_DEPTH: usize = 127;
 
-/// The tree of the values that a reader has, and nothing behind them. `Bad` where there is no such tree.
+/// The tree of what a reader reads, to its end. `Bad` if that is not one value.
 fn next_tree<'a>(heap: Global, reader: &mut Reader<'a>) -> Result<Value<'a>, StepError>
     ensures { Gives value_view result (option_and_then (λ p. grammar.if_last p.0 p.1) (grammar.value 127 reader.old)) }
 {
@@ -40,8 +40,8 @@ fn next_tree<'a>(heap: Global, reader: &mut Reader<'a>) -> Result<Value<'a>, Ste
     }
 }
 
-/// The tree of a text. `Bad` where the text is no JSON: lists and objects nest at most 127 deep, and each number is in the
-/// range of a double. Texts with escapes go to `scratch`.
+/// The tree of a text. `Bad` if the text is no JSON: lists and objects nest at most 127 deep, and each number is in the
+/// range of a double. Strings with escapes are written to `scratch`.
 pub(crate) fn read<'a>(
     heap: Global,
     text: &'a str,
@@ -58,14 +58,14 @@ pub(crate) fn read<'a>(
     }
 }
 
-/// The value of a key, the last one where it stands twice.
+/// The value of a key, the last one if the key stands twice. None if the key is missing, or this is not an object.
 pub(crate) fn get<'v, 'a>(value: &'v Value<'a>, key: &str) -> Option<&'v Value<'a>>
     ensures { option_map (λ v. view v.now) result ≡ get key.now (view value.now) }
 {
     value.get(key)
 }
 
-/// The items of a list.
+/// The items of a list, or None if this is not a list.
 pub(crate) fn as_array<'v, 'a>(value: &'v Value<'a>) -> Option<&'v Vec<Value<'a>>>
     ensures { option_map (λ v. items_view v.now.items) result ≡ as_array (view value.now) }
 {
@@ -75,21 +75,21 @@ pub(crate) fn as_array<'v, 'a>(value: &'v Value<'a>) -> Option<&'v Vec<Value<'a>
     }
 }
 
-/// A text.
+/// A string, or None if this is not a string.
 pub(crate) fn as_str<'a>(value: &Value<'a>) -> Option<&'a str>
     ensures { option_map (λ s. s.now) result ≡ as_str (view value.now) }
 {
     value.as_str()
 }
 
-/// True or false.
+/// True or false, or None if this is neither.
 pub(crate) fn as_bool(value: &Value<'_>) -> Option<bool>
     ensures { result ≡ as_bool (view value.now) }
 {
     value.as_bool()
 }
 
-/// A whole number of 64 bits.
+/// A whole number below 2^64, written without point and exponent, or None if this is not one.
 pub(crate) fn as_u64(value: &Value<'_>) -> Option<u64>
     ensures { result ≡ option_and_then as_u64 (as_number (view value.now)) }
 {
@@ -99,7 +99,7 @@ pub(crate) fn as_u64(value: &Value<'_>) -> Option<u64>
     }
 }
 
-/// Whether a number begins with a minus.
+/// Whether a JSON number begins with a minus.
 fn is_negative(number: &str) -> bool
     ensures value { result ≡ (slice_index number.now 0 == minus) }
     ensures some { IsTrue result → 0 < length number.now }
@@ -108,7 +108,7 @@ fn is_negative(number: &str) -> bool
     !bytes.is_empty() && bytes[0] == b'-'
 }
 
-/// The whole number of 64 bits that a text writes.
+/// The whole number below 2^64 that a JSON number writes, without point and exponent.
 fn whole_of(number: &str) -> Option<u64>
     ensures { result ≡ option_and_then as_u64 (number_of number.now) }
 {
@@ -119,14 +119,14 @@ fn whole_of(number: &str) -> Option<u64>
     }
 }
 
-/// The whole number of 64 bits that digits without a sign write.
+/// The whole number below 2^64 that digits without a sign write.
 fn whole_from(numeral: &Numeral<'_>) -> Option<u64>
     ensures { result ≡ option_and_then as_u64 (number_from false numeral.now) }
 {
     numeral.to_u64()
 }
 
-/// Whether what stands behind a minus is in the range of a number.
+/// Whether what stands after a minus is in range.
 fn is_in_range_below_zero(numeral: &Numeral<'_>) -> bool
     ensures { result ≡ is_some (number_from true numeral.now) }
 {
@@ -138,14 +138,14 @@ fn is_in_range_below_zero(numeral: &Numeral<'_>) -> bool
     numeral.to_float::<f64>(true).is_finite()
 }
 
-/// Whether what stands without a sign is in the range of a number.
+/// Whether what stands without a sign is in range.
 fn is_in_range_above_zero(numeral: &Numeral<'_>) -> bool
     ensures { result ≡ is_some (number_from false numeral.now) }
 {
     numeral.to_u64().is_some() || numeral.to_float::<f64>(false).is_finite()
 }
 
-/// Whether a text is in the range of a number: a whole one of 64 bits, or one that the greatest float is not below.
+/// Whether a JSON number is in range: a whole number of 64 bits, or one that rounds to a finite double.
 fn is_in_range(number: &str) -> bool
     ensures { result ≡ is_some (number_of number.now) }
 {
@@ -170,7 +170,7 @@ pub(crate) fn all_in_range(value: &Value<'_>) -> bool
     }
 }
 
-/// Whether all numbers of a list are in range.
+/// Whether all numbers of these items are in range.
 #[cycle(range)]
 fn items_in_range(items: &Vec<Value<'_>>) -> bool
     ensures { result ≡ is_some (of_items (json_items items.now.items)) }
@@ -183,7 +183,7 @@ fn items_in_range(items: &Vec<Value<'_>>) -> bool
     true
 }
 
-/// Whether all numbers of an object are in range.
+/// Whether all numbers of these members are in range.
 #[cycle(range)]
 fn members_in_range<'a>(members: &Vec<(&'a str, Value<'a>)>) -> bool
     ensures { result ≡ is_some (of_members (json_members members.now.items) no_members) }

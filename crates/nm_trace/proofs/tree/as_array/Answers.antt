@@ -1,4 +1,4 @@
-use Rattle.std.proofs.Common.{◌≡◌, Some, sym, ap, ◌∙◌}
+use Rattle.std.proofs.Common.{Some, sym, ap, ◌∙◌}
 use Rattle.serde_json.specs.Find.{as_array}
 use Rattle.json.proofs.Trees.{view-Array}
 use Rattle.nm_trace.specs.Tree.{shown, view}

@@ -1,7 +1,7 @@
 use Rattle.std.proofs.Common.{◌≡◌, option_and_then, Some, true, is_some, sym, ap, ◌∙◌, rules}
 use Rattle.json.specs.Json.{Json, value, if_last}
 use Rattle.json.specs.Value.{value_view}
-use Rattle.serde_json.specs.Read.{of_json, read}
+use Rattle.serde_json.specs.Read.{of_json}
 use Rattle.nm_trace.proofs.Trees.{in_range}
 use Rattle.nm_trace.proofs.tree.read.Goals as goal
 
