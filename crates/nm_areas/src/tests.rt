@@ -97,7 +97,7 @@ fn the_largest_areas(rt: HostRuntime) -> Result<(), Fail> {
     Ok(())
 }
 
-/// What attaching pages of a segment to process 2 answers, where segment 0 is there, a shared one of three pages.
+/// What attaching pages of a segment to process 2 returns, with segment 0 a shared one of three pages.
 fn attached(
     alloc: Global,
     segment: u64,

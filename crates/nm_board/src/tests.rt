@@ -52,7 +52,7 @@ fn are_jobs<A: Allocator + Copy>(jobs: &[CopyJob<A>], copied: bool) -> bool {
     true
 }
 
-/// Three draws answer ticket 0, ticket 1 and none. With one job back the board is short, with both it gives them back.
+/// Three draws return ticket 0, ticket 1 and none. With one job back the board is short, with both it gives them back.
 #[test]
 fn two_jobs(rt: HostRuntime) -> Result<(), Fail> {
     let Ok((board, mut hand)) = Board::lay(rt.alloc(), jobs(rt.alloc(), 2)?) else {
@@ -111,7 +111,7 @@ fn two_hands(rt: HostRuntime) -> Result<(), Fail> {
     Ok(())
 }
 
-/// The first draw of a board without jobs answers none, and the board gives none back.
+/// The first draw of a board without jobs returns none, and the board gives none back.
 #[test]
 fn no_jobs(rt: HostRuntime) -> Result<(), Fail> {
     let Ok((board, mut hand)) = Board::lay(rt.alloc(), jobs(rt.alloc(), 0)?) else {

@@ -1,7 +1,7 @@
 //! Every call, with each of its allocations refused in turn and then made again: a refusal loses nothing.
 //!
-//! What comes of a trace is told as in `trails`. A call that was refused memory and is made again, and all that follows it,
-//! have to tell what they tell with memory; so the refusal left the system as it was.
+//! What comes of a trace is written down as in `trails`. A call that was refused memory and is made again, and all that follows it,
+//! must give what they give with memory; so the refusal left the system as it was.
 
 use crate::traces::Heap;
 use crate::trails::{begin, make_first, make_rest, make_some};
@@ -14,7 +14,7 @@ use std::sync::Wait;
 use std::test::Fail;
 use std::thread::Threads;
 
-/// What a call tells that was refused memory before it changed anything.
+/// What a call reports that was refused memory before it changed anything.
 const REFUSED: &str = "| HostMemory { runs: 0, policy_set: false } ";
 
 /// Makes the call of this number again if it was broken off before it changed anything. Puts a word if the system was not
@@ -37,7 +37,7 @@ fn make_again<'a>(
 }
 
 /// Makes the calls of a trace on a system of its own. The call of one number is refused its allocation of another, and made
-/// again if it was broken off. Puts what comes of it and of those behind it, and tells whether it came to that allocation.
+/// again if it was broken off. Appends what comes of it and of those after it, and returns whether it came to that allocation.
 fn attempt<'a>(
     rt: &(impl Threads + Wait + Sync),
     heap: Heap<'a>,
@@ -146,7 +146,7 @@ const EVERY_CALL: &str =
 const EVERY_CALL_TOLD: &str =
     "| | | | | | [0] | | | | [99] | 0 | | 1: [-16, 1, -14] | | 0 | 0: [1, 1, -14, 0, -14] | 00010000 default anon=1 N1=1 kernelpagesize_kB=4 00011000 prefer:1 anon=1 N1=1 kernelpagesize_kB=4 00012000 default 00020000 default anon=1 mapmax=2 N0=1 kernelpagesize_kB=4 | | | 5 4 zero 6 | | | [99] | 3 1 | 3 1 0 2 | 7 4 5 | 6 | true";
 
-/// Each allocation of each call is refused in turn, and the call made again: the trace tells what it tells with memory.
+/// Each allocation of each call is refused in turn, and the call made again: the trace gives what it gives with memory.
 #[test]
 fn no_refusal_loses_anything(rt: HostRuntime) -> Result<(), Fail> {
     let mut whole = String::new(rt.alloc());

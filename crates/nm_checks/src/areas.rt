@@ -95,8 +95,8 @@ fn attempt<'a>(
     (met, answer)
 }
 
-/// Makes a call, after each of its allocations was refused in turn: it answers so, and the areas are as they were. A call
-/// that lists may make do with less room, and answer. Gives how many refusals there were.
+/// Makes a call, after each of its allocations was refused in turn: it says so, and the areas are as they were. A call
+/// that lists may make do with less room, and succeed. Gives how many refusals there were.
 fn refuse_each<'a>(
     rt: &impl Abort,
     heap: Heap<'a>,

@@ -126,7 +126,7 @@ impl Gate for Alone {
     }
 }
 
-/// Runs the trace with so many workers, and gives whether its report is right.
+/// Runs the trace with `workers` workers, and returns whether its report is right.
 fn reports_right<G: Gate + Sync>(
     rt: &(impl Threads + Wait + Sync),
     alloc: Global,

@@ -24,7 +24,7 @@ fn three_pages(heap: Heap<'_>) -> Result<System<Heap<'_>>, CallError> {
     Ok(system)
 }
 
-/// Pins the first page so many times. Gives how many of them were done.
+/// Pins the first page `times` times. Returns how many of them were done.
 fn pin_often(system: &mut System<Heap<'_>>, times: u32) -> u32 {
     let mut done = 0u32;
     for _ in 0..times {
@@ -54,7 +54,7 @@ fn a_page_has_so_many_pins(rt: HostRuntime) -> Result<(), Fail> {
     Ok(())
 }
 
-/// Maps a page and lets it go, so many times.
+/// Maps a page and unmaps it, again and again.
 fn map_often(system: &mut System<Heap<'_>>, times: u32) -> Result<(), CallError> {
     for _ in 0..times {
         system.map(Pid::new(1), 0x20000, 1, false)?;
@@ -63,7 +63,7 @@ fn map_often(system: &mut System<Heap<'_>>, times: u32) -> Result<(), CallError>
     Ok(())
 }
 
-/// Whether another segment is refused: for want of a number, and before that for its place.
+/// Whether another segment is refused: for lack of a number, and before that for its place.
 fn is_used_up(system: &mut System<Heap<'_>>) -> bool {
     let refused = system.map(Pid::new(1), 0x30000, 1, false);
     let misplaced = system.map(Pid::new(1), 0x20000, 1, false);

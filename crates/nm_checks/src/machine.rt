@@ -1,4 +1,4 @@
-//! A machine of two nodes, and what no trace tells of one.
+//! A machine of two nodes, and what no trace shows of one.
 
 use nm_engine::{Machine, MachineError, ProcessInfo};
 use nm_refusing::Refusing;

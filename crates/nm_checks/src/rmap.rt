@@ -49,7 +49,7 @@ fn try_add(map: &mut ReverseMap<Heap<'_>>, pid: Pid, vpn: Vpn) -> bool
     }
 }
 
-/// Adds a mapper to the fifth frame, after each allocation of that was refused in turn: it answers so, and the mappers
+/// Adds a mapper to the fifth frame, after each allocation of that was refused in turn: it says so, and the mappers
 /// are as they were. Gives how many refusals there were.
 fn refuse_add<'a>(
     heap: Heap<'a>,

@@ -12,7 +12,7 @@ fn has(table: &PageTable<Heap<'_>>, entries: &[(Vpn, Entry)]) -> Result<bool, Al
     Ok(now.as_slice() == entries)
 }
 
-/// Puts an entry into a table, after each allocation of that was refused in turn: it answers so, and the table is as it
+/// Puts an entry into a table, after each allocation of that was refused in turn: it says so, and the table is as it
 /// was. Gives how many refusals there were.
 fn refuse_set<'a>(
     heap: Heap<'a>,

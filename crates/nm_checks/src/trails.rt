@@ -1,8 +1,8 @@
-//! Calls that move pages, and whose memory is refused: each tells how many runs it made and whether it set its policy, the
+//! Calls that move pages, and whose memory is refused: each says how many runs it made and whether it set its policy, the
 //! state is the one after these, and the same call with memory does the rest.
 //!
 //! What is to come of a call is a text of a line, or of two where it was broken off and made again: what the call answered,
-//! what the steps behind it answered, and whether the system is sound. Of an entry and of a free frame its number stands there.
+//! what the steps after it answered, and whether the system is sound. Of an entry and of a free frame its number stands there.
 //! The first text is that of a call with memory.
 
 use crate::gates::Through;
@@ -44,7 +44,7 @@ fn put_lines(text: &mut String, lines: &[String<Heap<'_>>]) -> Result<(), AllocE
     Ok(())
 }
 
-/// Puts the answers to accesses.
+/// Appends the answers to accesses.
 fn put_accesses(text: &mut String, answers: &[AccessAnswer<Heap<'_>>]) -> Result<(), AllocError> {
     for answer in answers {
         match answer {
@@ -57,13 +57,13 @@ fn put_accesses(text: &mut String, answers: &[AccessAnswer<Heap<'_>>]) -> Result
     Ok(())
 }
 
-/// Puts what a batch answers.
+/// Appends the answer of a batch.
 fn put_moved(text: &mut String, moved: &Moved<Heap<'_>>) -> Result<(), AllocError> {
     write!(text, "{}: {:?} ", moved.failed, moved.statuses.as_slice())?;
     put_accesses(text, moved.answers.as_slice())
 }
 
-/// Puts what a call answers.
+/// Appends the answer of a call.
 fn put_answer(text: &mut String, answer: &Answer<Heap<'_>>) -> Result<(), AllocError> {
     match answer {
         Answer::Bytes(bytes) => write!(text, "{:?} ", bytes.as_slice()),
@@ -77,7 +77,7 @@ fn put_answer(text: &mut String, answer: &Answer<Heap<'_>>) -> Result<(), AllocE
     }
 }
 
-/// Makes a call, and puts what it answers.
+/// Makes a call, and appends its answer.
 fn make<'a>(
     rt: &(impl Threads + Wait + Sync),
     system: &mut System<Heap<'a>>,
@@ -91,7 +91,7 @@ fn make<'a>(
     }
 }
 
-/// Makes so many calls, from one of them on.
+/// Makes some of the calls, one after another.
 pub(crate) fn make_some<'a>(
     rt: &(impl Threads + Wait + Sync),
     system: &mut System<Heap<'a>>,
@@ -169,7 +169,7 @@ fn make_again<'a>(
 }
 
 /// Makes the calls of a trace on a system of its own: the call of one number is refused its allocation of another, and made
-/// again if it was broken off. Puts what came of it, and tells whether it came to that allocation.
+/// again if it was broken off. Appends what came of it, and returns whether it came to that allocation.
 fn attempt<'a>(
     rt: &(impl Threads + Wait + Sync),
     heap: Heap<'a>,

@@ -38,7 +38,7 @@ fn jobs<A: Allocator + Copy>(alloc: A, count: u8) -> Result<Vec<CopyJob<A>, A>, 
     Ok(jobs)
 }
 
-/// Whether these are so many of the jobs of `jobs`, copied and in order.
+/// Whether these are the first `count` of the jobs of `jobs`, copied and in order.
 fn are_copied<A: Allocator + Copy>(jobs: &[CopyJob<A>], count: usize) -> bool {
     let mut next = 0u8;
     for job in jobs {
@@ -88,7 +88,7 @@ impl Calls {
         }
     }
 
-    /// Waits until so many calls were counted, for at most 2^24 turns.
+    /// Waits until `least` calls were counted, for at most 2^24 turns.
     fn hold(&self, calls: &AtomicU64, least: u64) {
         for _ in 0..1u64 << 24 {
             if calls.load(Ordering::SeqCst) >= least {

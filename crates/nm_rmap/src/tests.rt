@@ -70,7 +70,7 @@ fn mappers_are_counted_and_carried(rt: HostRuntime) -> Result<(), Fail> {
     Ok(())
 }
 
-/// Pins a frame so many times. Tells whether none was refused.
+/// Pins a frame `times` times. Returns whether none was refused.
 fn pin_often<A: Allocator + Copy>(map: &mut ReverseMap<A>, frame: FrameId, times: u32) -> bool
     requires { frame < length map.old.mappings }
     ensures { map.new.mappings ≡ map.old.mappings }

@@ -156,12 +156,12 @@ fn change<A: Allocator + Copy>(
     }
 }
 
-/// Whether a table answers at a page number as a list does.
+/// Whether a table returns at a page number what a list does.
 fn agrees<A: Allocator + Copy>(table: &PageTable<A>, plain: &[(Vpn, Entry)], vpn: Vpn) -> bool {
     table.get(vpn) == find(plain, vpn) && table.first_from(vpn) == find_from(plain, vpn)
 }
 
-/// After each of 4,000 drawn changes the table answers as the list does, and in the end its entries are the list's.
+/// After each of 4,000 drawn changes the table returns what the list does, and in the end its entries are the list's.
 #[test]
 fn beside_a_list(rt: HostRuntime) -> Result<(), Fail> {
     let mut draws = Draws { state: 27 };

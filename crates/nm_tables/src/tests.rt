@@ -57,7 +57,7 @@ fn with_ends<A: Allocator + Copy>(alloc: A) -> Result<PageTable<A>, AllocError> 
     Ok(table)
 }
 
-/// Whether a table has zero pages at these page numbers and nowhere else, told upwards.
+/// Whether a table has zero pages at these page numbers and nowhere else, listed upwards.
 fn has_zeros<A: Allocator + Copy>(
     table: &PageTable<A>,
     numbers: &[u64],

@@ -76,14 +76,14 @@ pub(crate) fn as_array<'v, 'a>(value: &'v Value<'a>) -> Option<&'v Vec<Value<'a>
 }
 
 /// A string, or None if this is not a string.
-pub(crate) fn as_str<'a>(value: &Value<'a>) -> Option<&'a str>
+fn as_str<'a>(value: &Value<'a>) -> Option<&'a str>
     ensures { option_map (λ s. s.now) result ≡ as_str (view value.now) }
 {
     value.as_str()
 }
 
 /// True or false, or None if this is neither.
-pub(crate) fn as_bool(value: &Value<'_>) -> Option<bool>
+fn as_bool(value: &Value<'_>) -> Option<bool>
     ensures { result ≡ as_bool (view value.now) }
 {
     value.as_bool()
@@ -159,7 +159,7 @@ fn is_in_range(number: &str) -> bool
 
 /// Whether all numbers of a value are in range.
 #[cycle(range)]
-pub(crate) fn all_in_range(value: &Value<'_>) -> bool
+fn all_in_range(value: &Value<'_>) -> bool
     ensures { result ≡ is_some (of_json (value_view value.now)) }
 {
     match value {

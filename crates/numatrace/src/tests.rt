@@ -113,7 +113,7 @@ fn changed(alloc: Global, text: &str, old: &str, new: &str) -> Result<String, Fa
     Ok(made)
 }
 
-/// A reader that gives at most 64 bytes a call, and after so many calls fails.
+/// A reader that gives at most 64 bytes a call, and fails after a number of calls.
 #[derive(Drop)]
 struct Failing<'a> {
     rest: &'a [u8],
@@ -148,7 +148,7 @@ impl Read for Repeated {
     }
 }
 
-/// A writer that takes one byte a call, and after so many calls fails or takes none.
+/// A writer that takes one byte a call, and after a number of calls fails or takes none.
 #[derive(Drop)]
 struct Narrow {
     taken: Vec<u8>,
@@ -214,7 +214,7 @@ fn refuses_one_process_too_many(rt: HostRuntime) -> Result<(), Fail> {
     Ok(())
 }
 
-/// A word that is not UTF-8 is a wrong word, and only want of memory is told as such.
+/// A word that is not UTF-8 is a wrong word, and only a lack of memory is reported as one.
 #[test]
 fn tells_why_words_are_unread(rt: HostRuntime) -> Result<(), Fail> {
     let alloc = rt.alloc();
@@ -233,7 +233,7 @@ fn tells_why_words_are_unread(rt: HostRuntime) -> Result<(), Fail> {
     Ok(())
 }
 
-/// The trace with one place changed, and what is told of it.
+/// The trace with one place changed, and what is reported of it.
 const FAULTS: [(&str, &str, &str); 38] = [
     ("[[10,20],[20,10]]", "[[10,10],[20,10]]", "bad machine"),
     ("\"nodes\":[4,4]", "\"nodes\":[4,0]", "bad machine"),
@@ -362,7 +362,7 @@ fn tells_the_step_of_a_bad_access(rt: HostRuntime) -> Result<(), Fail> {
     Ok(())
 }
 
-/// Whether a run wrote nothing, and told this.
+/// Whether a run wrote nothing, and reported this.
 fn is_fault(ran: &Ran, text: &str) -> bool {
     let line = ran.err.as_slice().strip_prefix(b"numatrace: ");
     ran.status == 2
@@ -484,7 +484,7 @@ fn reads_127_levels(rt: HostRuntime) -> Result<(), Fail> {
     Ok(())
 }
 
-/// A step that names one page so many times and moves it to node 1.
+/// A step that names one page `entries` times and moves it to node 1.
 fn one_page_named(alloc: Global, entries: usize) -> Result<String, AllocError> {
     let mut step = String::from_str(
         alloc,
@@ -544,7 +544,7 @@ fn read_from<R: Read>(
     Ok(Ran { status, out, err })
 }
 
-/// Whether a run wrote nothing, and told that the reader failed.
+/// Whether a run wrote nothing, and reported that the reader failed.
 fn is_read_fault(ran: &Ran) -> bool {
     ran.status == 4
         && ran.out.is_empty()
@@ -639,7 +639,7 @@ fn refuses_words(rt: HostRuntime) -> Result<(), Fail> {
     Ok(())
 }
 
-/// What the program tells of itself stands on standard error, as clap tells it.
+/// What the program says of itself is on standard error, as clap prints it.
 #[test]
 fn tells_of_itself(rt: HostRuntime) -> Result<(), Fail> {
     let ran = run_with(&rt, rt.alloc(), ["--version"].as_slice(), TRACE.as_bytes())?;
@@ -745,7 +745,7 @@ fn run_refused(
     Ok((met, Ran { status, out, err }))
 }
 
-/// Whether a run that met a refusal told of it, after the lines of so many steps; a step that only looks may have made do
+/// Whether a run that met a refusal reported it, after the lines of as many steps; a step that only looks may have made do
 /// with less memory, and then the report is whole.
 fn is_refusal(global: Global, ran: &Ran) -> Result<bool, AllocError> {
     let lines = ran.out.iter().filter(|byte| **byte == b'\n').count();

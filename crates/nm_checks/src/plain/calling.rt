@@ -1,4 +1,4 @@
-//! Calls as values, and what they answer.
+//! Calls as values, and their answers.
 
 use super::{KEPT, Plain};
 use nm_types::{Errno, NodeId, NodeMask};
@@ -28,14 +28,14 @@ pub(crate) enum Call {
     Pin(u32, u64),
     Unpin(u32, u64),
     Read(u32, u64, u64),
-    /// The first so many of these bytes.
+    /// The first of these bytes, as many as that.
     Write(u32, u64, usize, [u8; 4]),
     MovePages(Batch),
     /// The nodes of the batch are not looked at.
     Query(Batch),
 }
 
-/// What a call answers.
+/// The answer of a call.
 #[derive(Clone, Copy, Debug, PartialEq, Eq)]
 pub(crate) enum Answer {
     Done,

@@ -11,7 +11,7 @@ fn is_range(addr: u64, pages: u64) -> bool {
     addr % 4096 == 0 && pages > 0 && (addr / 4096).saturating_add(pages) <= PAGE_NUMBERS
 }
 
-/// Whether a page number is one of so many from an address on.
+/// Whether a page number is one of the `pages` from an address on.
 fn is_inside(vpn: u64, addr: u64, pages: u64) -> bool {
     vpn >= addr / 4096 && vpn < (addr / 4096).saturating_add(pages)
 }
@@ -27,7 +27,7 @@ fn is_good_set(nodes: NodeMask) -> bool {
 }
 
 impl Plain {
-    /// Makes a process, or gives why not.
+    /// Makes a process, or returns why not.
     pub(super) fn spawn(
         &mut self,
         pid: u32,
@@ -67,7 +67,7 @@ impl Plain {
         }
     }
 
-    /// Makes an area of a process that shows so many pages of a segment, from an offset on.
+    /// Makes an area of a process that shows `pages` pages of a segment, from an offset on.
     fn cover(&mut self, pid: u32, addr: u64, pages: u64, segment: u32, offset: u64) {
         let mut index = offset;
         for vpn in 0..SPOTS {
@@ -93,7 +93,7 @@ impl Plain {
         Answer::Segment(number)
     }
 
-    /// Makes an area that shows so many pages of a shared segment, or gives why not.
+    /// Makes an area that shows `pages` pages of a shared segment, or returns why not.
     pub(super) fn attach(
         &mut self,
         pid: u32,
@@ -158,7 +158,7 @@ impl Plain {
         self.set_content(page, NO_CONTENT);
     }
 
-    /// Lets go so many pages from an address on, or gives why not.
+    /// Unmaps `pages` pages from an address on, or returns why not.
     pub(super) fn unmap(&mut self, pid: u32, addr: u64, pages: u64) -> Option<Errno> {
         if !self.is_alive(pid) {
             return Some(Errno::Esrch);
@@ -173,7 +173,7 @@ impl Plain {
         None
     }
 
-    /// Ends a process, or gives why not.
+    /// Ends a process, or returns why not.
     pub(super) fn exit(&mut self, pid: u32) -> Option<Errno> {
         if !self.is_alive(pid) {
             return Some(Errno::Esrch);

@@ -66,7 +66,7 @@ impl Plain {
         }
     }
 
-    /// Reads so many bytes of those that are kept.
+    /// Reads `len` bytes, of those that are kept.
     pub(super) fn read(&mut self, pid: u32, addr: u64, len: u64) -> Answer {
         if let Some(errno) = self.touch(pid, addr, len, false) {
             return Answer::Refused(errno);
@@ -84,7 +84,7 @@ impl Plain {
         Answer::Bytes(len as usize, bytes)
     }
 
-    /// Writes the first so many of some bytes over those that are kept.
+    /// Writes the first `len` of some bytes over those that are kept.
     pub(super) fn write(&mut self, pid: u32, addr: u64, len: usize, bytes: [u8; 4]) -> Answer {
         let refusal = self.touch(pid, addr, len as u64, true);
         if let Ok(page) = self.touched_page(pid, addr / 4096) {
@@ -95,7 +95,7 @@ impl Plain {
         done_unless(refusal)
     }
 
-    /// Puts the first so many of some bytes into a page.
+    /// Puts the first `len` of some bytes into a page.
     fn put(&mut self, page: Page, start: u64, len: usize, bytes: [u8; 4]) {
         let mut content = self.content(page);
         for (k, byte) in bytes.iter().enumerate() {

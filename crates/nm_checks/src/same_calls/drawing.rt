@@ -26,7 +26,7 @@ impl Source {
         (high as u32).checked_rem(bound).unwrap_or(0)
     }
 
-    /// Whether something happens that does so once in so many times.
+    /// Whether something happens that does so once in `times` times.
     fn once_in(&mut self, times: u32) -> bool {
         self.below(times) == 0
     }
@@ -53,7 +53,7 @@ impl Source {
         }
     }
 
-    /// An address so many bytes behind the begin of a page: mostly of one of the first pages.
+    /// An address `offset` bytes past the begin of a page: mostly of one of the first pages.
     fn addr(&mut self, offset: u32) -> u64 {
         let bound = if self.once_in(8) { 40 } else { 8 };
         let page = self.below(bound);
@@ -125,7 +125,7 @@ impl Source {
         }
     }
 
-    /// A call, where so many segments were made: it makes none more than a plain machine can have.
+    /// A call, after `segments` segments were made: it makes none more than a plain machine can have.
     pub(super) fn call(&mut self, segments: u32) -> Call {
         match self.below(100) {
             0..=2 => self.spawn(),

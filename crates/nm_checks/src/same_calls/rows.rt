@@ -23,7 +23,7 @@ fn to_nodes(count: usize, nodes: [u32; ENTRIES], flags: u32) -> Batch {
     }
 }
 
-/// All of the first so many pages of process 1 to a node.
+/// The first `count` pages of process 1, all of them, to a node.
 fn to_node(count: usize, node: u32, flags: u32) -> Call {
     Call::MovePages(to_nodes(count, [node; ENTRIES], flags))
 }
