@@ -37,7 +37,7 @@ const REPORT: &str = "0 spawn ok
 8 read 6200
 ";
 
-/// Whether these are the first lines of the report, as many as that.
+/// Whether these are the first `lines` lines of the report.
 fn is_front(written: &[u8], lines: usize) -> bool {
     let ends = written.iter().filter(|byte| **byte == b'\n').count();
     REPORT.as_bytes().starts_with(written)

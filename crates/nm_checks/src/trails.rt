@@ -91,7 +91,7 @@ fn make<'a>(
     }
 }
 
-/// Makes some of the calls, one after another.
+/// Makes `count` calls, from the one at `from` on.
 pub(crate) fn make_some<'a>(
     rt: &(impl Threads + Wait + Sync),
     system: &mut System<Heap<'a>>,

@@ -28,7 +28,7 @@ pub(crate) enum Call {
     Pin(u32, u64),
     Unpin(u32, u64),
     Read(u32, u64, u64),
-    /// The first of these bytes, as many as that.
+    /// The bytes, and before them how many of them are written.
     Write(u32, u64, usize, [u8; 4]),
     MovePages(Batch),
     /// The nodes of the batch are not looked at.
