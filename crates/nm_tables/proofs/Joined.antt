@@ -38,13 +38,13 @@ one_or_other a b =
 not_less_itself : (a : ℕ) → nat_cmp a a ≡ Less → ⊥
 not_less_itself a h = less_equal (sym h ∙ same_number a a refl)
 
-all_above : (k e : ℕ) (ks : List ℕ) → k < e → AllByRecursion (λ y. nat_cmp e y ≡ Less) ks → AllByRecursion (λ y. k < y) ks
+pub all_above : (k e : ℕ) (ks : List ℕ) → k < e → AllByRecursion (λ y. nat_cmp e y ≡ Less) ks → AllByRecursion (λ y. k < y) ks
 all_above k e [] p h = tt
 all_above k e (x ∷ ks) p h =
     let l : e < x = ranked e x Less (sym h.0) in
     (omega (arith, p, l), all_above k e ks p h.1)
 
-itself : (k : ℕ) → k < k → ⊥
+pub itself : (k : ℕ) → k < k → ⊥
 itself k h = absurd (omega (arith, h))
 
 -- a key that is found here is this one, and else the rest is asked

@@ -7,3 +7,4 @@ pub mod Walks
 pub mod Leaves
 pub mod Trees
 pub mod Results
+pub mod Parts

@@ -1,13 +1,14 @@
 -- The entries of a tree are in ascending order.
-use Rattle.std.proofs.Common.{◌≡◌, ℕ, ◌≤◌, ◌/◌, subst}
+use Rattle.std.proofs.Common.{◌≡◌, ℕ, ◌≤◌, ◌/◌, [], sym, subst}
 use Rattle.std.specs.List.Sorted.{IsStrictlySortedBy}
 use Rattle.std.specs.Map.{keys_of}
 use Rattle.std.specs.Ordering.{nat_cmp}
 use Rattle.nm_types.specs.Map.{Map}
 use Rattle.nm_tables.specs.Tree.{IsPart}
-use Rattle.nm_tables.specs.Nodes.{node_ordered, node_part, upwards_again}
+use Rattle.nm_tables.specs.Nodes.{IsNode, node_ordered, node_part, upwards_again}
 use Rattle.nm_tables.specs.Leaves.{leaf_part, blocks_upwards}
 use Rattle.nm_tables.specs.Table.{entries_in_leaf, IsLeaf, IsLeafOf, entries_in, IsInner, IsInnerOf, tree_entries, IsTree}
+use Rattle.nm_tables.proofs.Parts.{no_parts}
 use Rattle.nm_tables.specs.declared.entry.Entry.{Entry}
 use Rattle.nm_tables.specs.declared.leaf.Leaf.{Leaf}
 use Rattle.nm_tables.specs.declared.node.Node.{Node}
@@ -35,7 +36,7 @@ inner_parted : {A P : Type 0} (entries : P → Map ℕ Entry) (number : ℕ → 
     (part : (x : P) (i : ℕ) → whole x → is_in x i → IsPart number i (entries x)) → ((v w : ℕ) → v ≤ w → number v ≤ number w)
     → (x : Node P A) (i : ℕ) → IsInner whole is_in x → IsInnerOf x i → IsPart (above number) i (entries_in entries x)
 unfolding above
-inner_parted entries number whole is_in part up x i w n = node_part entries number whole is_in part up x.parts.entries i w n
+inner_parted entries number whole is_in part up x i w n = node_part entries number whole is_in part up x.parts.items i w n
 
 tree_ordered : {A : Type 0} (root : Node (Node (Node (Leaf A) A) A) A) → IsTree root → IsStrictlySortedBy nat_cmp (keys_of (tree_entries root))
 tree_ordered {A} root w =
@@ -43,7 +44,13 @@ tree_ordered {A} root w =
     (inner_parted (entries_in {A = A} (entries_in_leaf {A = A})) (above leaf_of) (IsInner IsLeaf IsLeafOf) IsInnerOf
     (inner_parted (entries_in_leaf {A = A}) leaf_of IsLeaf IsLeafOf leaf_parted leaf_of_upwards)
     (above_upwards leaf_of leaf_of_upwards))
-    (above_upwards (above leaf_of) (above_upwards leaf_of leaf_of_upwards)) root.parts.entries w
+    (above_upwards (above leaf_of) (above_upwards leaf_of leaf_of_upwards)) root.parts.items w
 
 pub ordered_by : {A : Type 0} (root : Node (Node (Node (Leaf A) A) A) A) (m : Map ℕ Entry) → tree_entries root ≡ m → IsTree root → IsStrictlySortedBy nat_cmp (keys_of m)
 ordered_by root m e w = subst (λ m. IsStrictlySortedBy nat_cmp (keys_of m)) e (tree_ordered root w)
+
+-- a root without parts is a tree
+pub empty_tree : {A : Type 0} (root : Node (Node (Node (Leaf A) A) A) A) → root.parts.items ≡ [] → IsTree root
+empty_tree {A} root e =
+    subst (IsNode (IsInner {A = A} (IsInner {A = A} (IsLeaf {A = A}) (IsLeafOf {A = A})) (IsInnerOf {A = A})) (IsInnerOf {A = A})) (sym e)
+    (no_parts (IsInner {A = A} (IsInner {A = A} (IsLeaf {A = A}) (IsLeafOf {A = A})) (IsInnerOf {A = A})) (IsInnerOf {A = A}))

@@ -26,7 +26,7 @@ from_it a k l =
       | Greater ↦ λ r. let g : k < a = ranked a k Greater (sym r) in absurd (omega (arith, l, g))
     ] refl
 
-passes : (a k : ℕ) → a ≤ k → range_contains nat_cmp (Included a) Unbounded k ≡ true
+pub passes : (a k : ℕ) → a ≤ k → range_contains nat_cmp (Included a) Unbounded k ≡ true
 passes a k l = ap (λ b. b && not false) (from_it a k l)
 
 module _ {P : Type 0} (p : ℕ → Bool) where

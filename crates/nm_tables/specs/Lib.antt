@@ -5,3 +5,4 @@ pub mod Nodes
 pub mod Marks
 pub mod Leaves
 pub mod Table
+pub mod Parts

@@ -26,15 +26,15 @@ module _ {A : Type 0} where
 module _ {A P : Type 0} where
   -- the entries of a node, by those of its parts
   abbrev pub entries_in : (P → Map ℕ Entry) → Node P A → Map ℕ Entry
-  entries_in entries node = joined (shown entries node.parts.entries)
+  entries_in entries node = joined (shown entries node.parts.items)
 
   -- parts in order, each whole and of its own number
   abbrev pub IsInner : (P → Type 0) → (P → ℕ → Type 0) → Node P A → Type 0
-  IsInner whole is_in node = IsNode whole is_in node.parts.entries
+  IsInner whole is_in node = IsNode whole is_in node.parts.items
 
   -- the node of this number
   abbrev pub IsInnerOf : Node P A → ℕ → Type 0
-  IsInnerOf node i = AllByRecursion (λ k. k / 512 ≡ i) (keys_of node.parts.entries)
+  IsInnerOf node i = AllByRecursion (λ k. k / 512 ≡ i) (keys_of node.parts.items)
 
 module _ {A : Type 0} where
   -- the entries of a tree

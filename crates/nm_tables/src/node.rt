@@ -1,28 +1,65 @@
 //! The inner nodes of a page table.
 
-ghost use Rattle.std.specs.Prelude.{◌≡◌, []};
+ghost use Rattle.std.specs.Prelude.{◌≡◌, [], IfOk, IfErr};
+ghost use Rattle.std.specs.List.Sorted.{IsStrictlySortedBy};
+ghost use Rattle.std.specs.Map.{keys_of};
+ghost use Rattle.std.specs.Ordering.{nat_cmp};
+ghost use Rattle.nm_tables.specs.Parts.{StandsAt, FitsAt, BeginsAt};
 
 use crate::entry::Entry;
 use crate::subtree::Subtree;
 use nm_types::Vpn;
 use std::alloc::{AllocError, Allocator};
-use std::collections::BTreeMap;
 
-/// An inner node, with the parts at those of its 512 places that are taken. A part's place is the last nine bits of its
-/// number.
+/// An inner node, with the parts at those of its 512 places that are taken, by their numbers, in ascending order. A part's
+/// place is the last nine bits of its number.
 #[derive(Drop)]
 pub(crate) struct Node<T: Drop, A: Allocator + Copy> {
-    parts: BTreeMap<u64, T, A>,
+    parts: Vec<(u64, T), A>,
 }
 
 impl<T: Subtree<A>, A: Allocator + Copy> Node<T, A> {
     /// A node of which no place is taken. It takes no memory.
     pub(crate) fn new(alloc: A) -> Self
-        ensures { result.parts.entries ≡ [] }
+        ensures { result.parts.items ≡ [] }
     {
         Node {
-            parts: BTreeMap::new(alloc),
+            parts: Vec::new(alloc),
         }
+    }
+}
+
+/// The place of the part with this number, or the place where it would stand.
+fn place_of<T: Drop>(parts: &[(u64, T)], number: u64) -> Result<usize, usize>
+    requires ordered { IsStrictlySortedBy nat_cmp (keys_of parts.now) }
+    ensures found { IfOk result (StandsAt parts.now number) }
+    ensures fits { IfErr result (FitsAt parts.now number) }
+{
+    let mut low = 0;
+    let mut high = parts.len();
+    while low < high {
+        let middle = low + (high - low) / 2;
+        let at = parts[middle].0;
+        if at == number {
+            return Ok(middle);
+        }
+        if at < number {
+            low = middle + 1;
+        } else {
+            high = middle;
+        }
+    }
+    Err(low)
+}
+
+/// The place of the first part with this number or a higher one. The number of parts if there is none.
+fn place_from<T: Drop>(parts: &[(u64, T)], number: u64) -> usize
+    requires ordered { IsStrictlySortedBy nat_cmp (keys_of parts.now) }
+    ensures { BeginsAt parts.now number result }
+{
+    match place_of(parts, number) {
+        Ok(place) => place,
+        Err(place) => place,
     }
 }
 
@@ -33,13 +70,13 @@ impl<T: Subtree<A>, A: Allocator + Copy> Subtree<A> for Node<T, A> {
     ghost use Rattle.nm_tables.specs.Tree.{joined};
     ghost use Rattle.nm_tables.specs.Nodes.{shown, IsNode, node_ordered, node_part, upwards_again, blocks_again};
 
-    ghost entries = { λ n. joined (shown T.entries n.parts.entries) };
+    ghost entries = { λ n. joined (shown T.entries n.parts.items) };
 
     ghost number = { λ v. T.number v / 512 };
 
-    ghost whole = { λ n. IsNode T.whole T.is_in n.parts.entries };
+    ghost whole = { λ n. IsNode T.whole T.is_in n.parts.items };
 
-    ghost is_in = { λ n i. AllByRecursion (λ k. k / 512 ≡ i) (keys_of n.parts.entries) };
+    ghost is_in = { λ n i. AllByRecursion (λ k. k / 512 ≡ i) (keys_of n.parts.items) };
 
     ghost takes = { λ n v. Unit {0} };
 
@@ -50,19 +87,20 @@ impl<T: Subtree<A>, A: Allocator + Copy> Subtree<A> for Node<T, A> {
     fn holding(alloc: A, vpn: Vpn, entry: Entry) -> Result<Self, AllocError> {
         let mut node = Node::new(alloc);
         let part = T::holding(alloc, vpn, entry)?;
-        node.parts.insert(T::number_of(vpn), part)?;
+        node.parts.push((T::number_of(vpn), part))?;
         Ok(node)
     }
 
     fn get(&self, vpn: Vpn) -> Option<Entry> {
-        match self.parts.get(&T::number_of(vpn)) {
-            Some(part) => part.get(vpn),
-            None => None,
+        match place_of(self.parts.as_slice(), T::number_of(vpn)) {
+            Ok(place) => self.parts[place].1.get(vpn),
+            Err(_) => None,
         }
     }
 
     fn first_from(&self, at: Vpn) -> Option<(Vpn, Entry)> {
-        for (_, part) in self.parts.range(T::number_of(at)..) {
+        let from = place_from(self.parts.as_slice(), T::number_of(at));
+        for (_, part) in &self.parts[from..] {
             if let Some(found) = part.first_from(at) {
                 return Some(found);
             }
@@ -72,37 +110,39 @@ impl<T: Subtree<A>, A: Allocator + Copy> Subtree<A> for Node<T, A> {
 
     fn set(&mut self, alloc: A, vpn: Vpn, entry: Entry) -> Result<(), AllocError> {
         let number = T::number_of(vpn);
-        if let Some(part) = self.parts.get_mut(&number) {
-            return part.set(alloc, vpn, entry);
+        match place_of(self.parts.as_slice(), number) {
+            Ok(place) => self.parts[place].1.set(alloc, vpn, entry),
+            Err(place) => {
+                let part = T::holding(alloc, vpn, entry)?;
+                self.parts.insert(place, (number, part))?;
+                Ok(())
+            }
         }
-        let part = T::holding(alloc, vpn, entry)?;
-        self.parts.insert(number, part)?;
-        Ok(())
     }
 
     fn replace(&mut self, vpn: Vpn, entry: Entry) {
-        let Some(part) = self.parts.get_mut(&T::number_of(vpn)) else {
+        let Ok(place) = place_of(self.parts.as_slice(), T::number_of(vpn)) else {
             unreachable!()
         };
-        part.replace(vpn, entry);
+        self.parts[place].1.replace(vpn, entry);
     }
 
     fn clear(&mut self, vpn: Vpn) {
-        if let Some(part) = self.parts.get_mut(&T::number_of(vpn)) {
-            part.clear(vpn);
+        if let Ok(place) = place_of(self.parts.as_slice(), T::number_of(vpn)) {
+            self.parts[place].1.clear(vpn);
         }
     }
 
     fn list(&self, list: &mut Vec<(Vpn, Entry), A>) -> Result<(), AllocError> {
-        for (_, part) in self.parts.iter() {
+        for (_, part) in &self.parts {
             part.list(list)?;
         }
         Ok(())
     }
 
-    ghost ordered = { λ x w. node_ordered T.entries T.number T.whole T.is_in T.parted T.upwards x.parts.entries w };
+    ghost ordered = { λ x w. node_ordered T.entries T.number T.whole T.is_in T.parted T.upwards x.parts.items w };
 
-    ghost parted = { λ x i w n. node_part T.entries T.number T.whole T.is_in T.parted T.upwards x.parts.entries i w n };
+    ghost parted = { λ x i w n. node_part T.entries T.number T.whole T.is_in T.parted T.upwards x.parts.items i w n };
 
     ghost takes_own = { λ x v n. tt };
 

@@ -1,47 +1,42 @@
-use Rattle.std.proofs.Common.{◌≡◌, ℕ, sym, ap, subst, ◌∙◌}
-use Rattle.std.specs.Prelude.{Some, None}
+use Rattle.std.proofs.Common.{◌≡◌, ◌/◌, sym, ap, subst, ◌∙◌}
+use Rattle.std.specs.List.{AllByRecursion}
+use Rattle.std.specs.Map.{keys_of}
 use Rattle.std.specs.Ordering.{nat_cmp}
-use Rattle.std.specs.BTreeMap.{BTreeMap}
-use Rattle.nm_types.specs.Map.{get, replace}
+use Rattle.nm_types.proofs.Keys.{keys-replace}
 use Rattle.nm_tables.specs.Tree.{joined}
 use Rattle.nm_tables.specs.Nodes.{shown, IsNode}
 use Rattle.nm_tables.proofs.Nodes as node
+use Rattle.nm_tables.proofs.Parts.{found_at, written_at, absent_at}
 use Rattle.nm_tables.proofs.node.NodeSubtree.clear.Goals as goal
 
-pub clear-requires-clause-kept : goal.clear-requires-clause-kept
-clear-requires-clause-kept g c =
-    let at : get nat_cmp c.args.self.now.parts.entries (g.T.Subtree.number c.args.vpn) ≡ Some c.in-Some.part.now =
-    subst (λ k. get nat_cmp c.args.self.now.parts.entries k ≡ Some c.in-Some.part.now) c.number_of.ensures (sym c.in-Some.ensures.value) in
-    (node.found g.T.Subtree.entries g.T.Subtree.number g.T.Subtree.whole g.T.Subtree.is_in g.met.T.Subtree.parted g.met.T.Subtree.upwards c.args.self.now.parts.entries c.requires.kept (g.T.Subtree.number c.args.vpn) c.in-Some.part.now at).0
-
-pub clear-requires-clause-inside : goal.clear-requires-clause-inside
-clear-requires-clause-inside g c =
-    let at : get nat_cmp c.args.self.now.parts.entries (g.T.Subtree.number c.args.vpn) ≡ Some c.in-Some.part.now =
-    subst (λ k. get nat_cmp c.args.self.now.parts.entries k ≡ Some c.in-Some.part.now) c.number_of.ensures (sym c.in-Some.ensures.value) in
-    g.met.T.Subtree.takes_own c.in-Some.part.now c.args.vpn (node.found g.T.Subtree.entries g.T.Subtree.number g.T.Subtree.whole g.T.Subtree.is_in g.met.T.Subtree.parted g.met.T.Subtree.upwards c.args.self.now.parts.entries c.requires.kept (g.T.Subtree.number c.args.vpn) c.in-Some.part.now at).1
-
-pub returns-in-Some-clause-entry : goal.returns-in-Some-clause-entry
-returns-in-Some-clause-entry g c =
-    let at : get nat_cmp c.args.self.now.parts.entries (g.T.Subtree.number c.args.vpn) ≡ Some c.in-Some.part.now =
-    subst (λ k. get nat_cmp c.args.self.now.parts.entries k ≡ Some c.in-Some.part.now) c.number_of.ensures (sym c.in-Some.ensures.value) in
+pub returns-in-Ok-clause-entry : goal.returns-in-Ok-clause-entry
+returns-in-Ok-clause-entry g c =
+    let parts = c.args.self.now.parts.items in
     let y = c.clear.new.self in
-    let held : (c.get_mut.follows.lender y).entries ≡ replace nat_cmp c.args.self.now.parts.entries (g.T.Subtree.number c.args.vpn) y =
-    subst (λ k. (c.get_mut.follows.lender y).entries ≡ replace nat_cmp c.args.self.now.parts.entries k y) c.number_of.ensures (c.get_mut.follows.holds y).0 in
-    ap (λ ps. joined (shown g.T.Subtree.entries ps)) held ∙ node.node-without g.T.Subtree.entries g.T.Subtree.number g.T.Subtree.whole g.T.Subtree.is_in g.met.T.Subtree.parted g.met.T.Subtree.upwards c.args.self.now.parts.entries c.requires.kept c.args.vpn c.in-Some.part.now y at c.clear.ensures.entry
+    let at = found_at parts c.as_slice.result.now (g.T.Subtree.number c.args.vpn) c.number_of.result c.in-Ok.place c.as_slice.ensures.value c.number_of.ensures c.index_mut.result.now c.requires.kept.0 c.in-Ok.ensures.found c.index_mut.ensures.value in
+    let held = written_at parts c.as_slice.result.now (g.T.Subtree.number c.args.vpn) c.number_of.result c.in-Ok.place c.as_slice.ensures.value c.number_of.ensures c.index_mut.result.now c.requires.kept.0 c.in-Ok.ensures.found c.index_mut.ensures.value y in
+    ap (λ ps. joined (shown g.T.Subtree.entries ps)) held
+    ∙ node.node-without g.T.Subtree.entries g.T.Subtree.number g.T.Subtree.whole g.T.Subtree.is_in g.met.T.Subtree.parted g.met.T.Subtree.upwards parts c.requires.kept c.args.vpn c.index_mut.result.now.1 y at c.clear.ensures.entry
 
-pub returns-in-Some-clause-kept : goal.returns-in-Some-clause-kept
-returns-in-Some-clause-kept g c =
-    let at : get nat_cmp c.args.self.now.parts.entries (g.T.Subtree.number c.args.vpn) ≡ Some c.in-Some.part.now =
-    subst (λ k. get nat_cmp c.args.self.now.parts.entries k ≡ Some c.in-Some.part.now) c.number_of.ensures (sym c.in-Some.ensures.value) in
+pub returns-in-Ok-clause-kept : goal.returns-in-Ok-clause-kept
+returns-in-Ok-clause-kept g c =
+    let parts = c.args.self.now.parts.items in
     let y = c.clear.new.self in
-    let held : (c.get_mut.follows.lender y).entries ≡ replace nat_cmp c.args.self.now.parts.entries (g.T.Subtree.number c.args.vpn) y =
-    subst (λ k. (c.get_mut.follows.lender y).entries ≡ replace nat_cmp c.args.self.now.parts.entries k y) c.number_of.ensures (c.get_mut.follows.holds y).0 in
-    let part = node.found g.T.Subtree.entries g.T.Subtree.number g.T.Subtree.whole g.T.Subtree.is_in g.met.T.Subtree.parted g.met.T.Subtree.upwards c.args.self.now.parts.entries c.requires.kept (g.T.Subtree.number c.args.vpn) c.in-Some.part.now at in
+    let at = found_at parts c.as_slice.result.now (g.T.Subtree.number c.args.vpn) c.number_of.result c.in-Ok.place c.as_slice.ensures.value c.number_of.ensures c.index_mut.result.now c.requires.kept.0 c.in-Ok.ensures.found c.index_mut.ensures.value in
+    let held = written_at parts c.as_slice.result.now (g.T.Subtree.number c.args.vpn) c.number_of.result c.in-Ok.place c.as_slice.ensures.value c.number_of.ensures c.index_mut.result.now c.requires.kept.0 c.in-Ok.ensures.found c.index_mut.ensures.value y in
+    let part = node.found g.T.Subtree.entries g.T.Subtree.number g.T.Subtree.whole g.T.Subtree.is_in g.met.T.Subtree.parted g.met.T.Subtree.upwards parts c.requires.kept (g.T.Subtree.number c.args.vpn) c.index_mut.result.now.1 at in
     subst (IsNode g.T.Subtree.whole g.T.Subtree.is_in) (sym held)
-    (node.node-kept g.T.Subtree.entries g.T.Subtree.number g.T.Subtree.whole g.T.Subtree.is_in g.met.T.Subtree.parted g.met.T.Subtree.upwards c.args.self.now.parts.entries c.requires.kept (g.T.Subtree.number c.args.vpn) y c.clear.ensures.kept (c.clear.ensures.inside (g.T.Subtree.number c.args.vpn) part.1))
+    (node.node-kept g.T.Subtree.entries g.T.Subtree.number g.T.Subtree.whole g.T.Subtree.is_in g.met.T.Subtree.parted g.met.T.Subtree.upwards parts c.requires.kept (g.T.Subtree.number c.args.vpn) y c.clear.ensures.kept (c.clear.ensures.inside (g.T.Subtree.number c.args.vpn) part.1))
+
+pub returns-in-Ok-clause-inside : goal.returns-in-Ok-clause-inside
+returns-in-Ok-clause-inside g c i all =
+    let parts = c.args.self.now.parts.items in
+    let y = c.clear.new.self in
+    let held = written_at parts c.as_slice.result.now (g.T.Subtree.number c.args.vpn) c.number_of.result c.in-Ok.place c.as_slice.ensures.value c.number_of.ensures c.index_mut.result.now c.requires.kept.0 c.in-Ok.ensures.found c.index_mut.ensures.value y in
+    subst (λ ks. AllByRecursion (λ k. k / 512 ≡ i) ks) (sym (ap keys_of held ∙ keys-replace nat_cmp parts (g.T.Subtree.number c.args.vpn) y)) all
 
 pub returns-in_default-clause-entry : goal.returns-in_default-clause-entry
 returns-in_default-clause-entry g c =
-    let none : get nat_cmp c.args.self.now.parts.entries (g.T.Subtree.number c.args.vpn) ≡ None =
-    subst (λ k. get nat_cmp c.args.self.now.parts.entries k ≡ None) c.number_of.ensures (sym c.in_default.ensures.value) in
-    ap (λ ps. joined (shown g.T.Subtree.entries ps)) (ap (λ (m : BTreeMap ℕ g.row.T.Denot). m.entries) c.get_mut.follows.holds-at-none) ∙ sym (node.node-without_nothing g.T.Subtree.entries g.T.Subtree.number g.T.Subtree.whole g.T.Subtree.is_in g.met.T.Subtree.parted g.met.T.Subtree.upwards c.args.self.now.parts.entries c.requires.kept c.args.vpn none)
+    let parts = c.args.self.now.parts.items in
+    let none = absent_at parts c.as_slice.result.now (g.T.Subtree.number c.args.vpn) c.number_of.result c.in_default.field-0 c.as_slice.ensures.value c.number_of.ensures c.in_default.ensures.fits in
+    sym (node.node-without_nothing g.T.Subtree.entries g.T.Subtree.number g.T.Subtree.whole g.T.Subtree.is_in g.met.T.Subtree.parted g.met.T.Subtree.upwards parts c.requires.kept c.args.vpn none)

@@ -1,4 +1,4 @@
-use Rattle.std.proofs.Common.{◌≡◌, ◌≤◌, ℕ}
+use Rattle.std.proofs.Common.{◌≡◌, ◌≤◌, ℕ, drop}
 use Rattle.std.specs.Ordering.{nat_cmp}
 use Rattle.nm_types.specs.Map.{get}
 use Rattle.nm_tables.specs.Tree.{joined}
@@ -9,6 +9,6 @@ use Rattle.nm_tables.proofs.node.NodeSubtree.first_from.Given as goal
 abbrev pub invariant-loop-part : goal.invariant-loop-part
 invariant-loop-part g l =
     record {
-      kept : IsNode g.T.Subtree.whole g.T.Subtree.is_in l.part-iterator;
-      same : (v : ℕ) → l.at ≤ v → get nat_cmp (joined (shown g.T.Subtree.entries l.self.parts.entries)) v ≡ get nat_cmp (joined (shown g.T.Subtree.entries l.part-iterator)) v;
+      kept : IsNode g.T.Subtree.whole g.T.Subtree.is_in (drop l.part-index l.part-items);
+      same : (v : ℕ) → l.at ≤ v → get nat_cmp (joined (shown g.T.Subtree.entries l.self.parts.items)) v ≡ get nat_cmp (joined (shown g.T.Subtree.entries (drop l.part-index l.part-items))) v;
     }

@@ -1,4 +1,4 @@
-use Rattle.std.proofs.Common.{◌≡◌, ◌++◌}
+use Rattle.std.proofs.Common.{◌≡◌, ◌++◌, drop}
 use Rattle.std.specs.List.{AllByRecursion}
 use Rattle.nm_tables.specs.Tree.{joined}
 use Rattle.nm_tables.specs.Nodes.{shown}
@@ -8,6 +8,6 @@ use Rattle.nm_tables.proofs.node.NodeSubtree.list.Given as goal
 abbrev pub invariant-loop-part : goal.invariant-loop-part
 invariant-loop-part g l =
     record {
-      kept : AllByRecursion (λ e. g.T.Subtree.whole e.1 × g.T.Subtree.is_in e.1 e.0) l.part-iterator;
-      all : l.list.items ++ joined (shown g.T.Subtree.entries l.part-iterator) ≡ l.initial.list.items ++ joined (shown g.T.Subtree.entries l.self.parts.entries);
+      kept : AllByRecursion (λ e. g.T.Subtree.whole e.1 × g.T.Subtree.is_in e.1 e.0) (drop l.part-index l.part-items);
+      all : l.list.items ++ joined (shown g.T.Subtree.entries (drop l.part-index l.part-items)) ≡ l.initial.list.items ++ joined (shown g.T.Subtree.entries l.self.parts.items);
     }

@@ -1,0 +1,5 @@
+use Rattle.nm_tables.proofs.Trees.{empty_tree}
+use Rattle.nm_tables.proofs.table.PageTable.new.Goals as goal
+
+pub invariant_of-result : goal.invariant_of-result
+invariant_of-result g c = empty_tree c.new.result c.new.ensures
