@@ -516,16 +516,14 @@ LONG = [
     (SMALL + json.dumps(spawn(1, 1)).encode() + b"," + BATCH + READ, b"," + READ, b"]}]}", "good"),
     (b'{"version":1,"machine":{"nodes":[1],"distance":[[10]', b",[10]", b']},"steps":[]}', "bad machine"),
     (b'{"version":1,"machine":{"nodes":[1', b",1", b'],"distance":[[10]]},"steps":[]}', "bad machine"),
-]
-
-
-# Shapes that take more memory than that: the value of JSON has a kilobyte for each object that has a key.
-HEAVY = [
     (NOTE + b"[0", b',{"":0}', b"]}", "good"),
-    (NOTE + b"[0", b"," + b"[" * 125 + b"]" * 125, b"]}", "good"),
     (NOTE + b"[0", b"," + b'{"":' * 125 + b"0" + b"}" * 125, b"]}", "good"),
 ]
-MOST_KIB_OF_HEAVY = 3000 * 1000 * 1000 // 1024
+
+
+# A shape that takes a little more memory than that: a list of one value has room for four.
+HEAVY = [(NOTE + b"[0", b"," + b"[" * 125 + b"]" * 125, b"]}", "good")]
+MOST_KIB_OF_HEAVY = 1300 * 1000 * 1000 // 1024
 
 
 def check_long(shape):
