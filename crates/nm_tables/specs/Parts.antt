@@ -11,8 +11,12 @@ module _ {P : Type 0} where
 
   -- a part with this number would be at the place: those before it have lower numbers, and those from there on higher ones
   abbrev pub FitsAt : Map ℕ P → ℕ → ℕ → Type 0
-  FitsAt parts number i = (i ≤ length parts) × AllByRecursion (λ k. k < number) (keys_of (take i parts)) × AllByRecursion (λ k. number < k) (keys_of (drop i parts))
+  FitsAt parts number i =
+      (i ≤ length parts) × AllByRecursion (λ k. k < number) (keys_of (take i parts))
+      × AllByRecursion (λ k. number < k) (keys_of (drop i parts))
 
   -- those from the place on have this number or higher ones, and those before it lower ones
   abbrev pub BeginsAt : Map ℕ P → ℕ → ℕ → Type 0
-  BeginsAt parts number i = (i ≤ length parts) × AllByRecursion (λ k. k < number) (keys_of (take i parts)) × AllByRecursion (λ k. number ≤ k) (keys_of (drop i parts))
+  BeginsAt parts number i =
+      (i ≤ length parts) × AllByRecursion (λ k. k < number) (keys_of (take i parts))
+      × AllByRecursion (λ k. number ≤ k) (keys_of (drop i parts))
