@@ -21,74 +21,88 @@ fn flat(
 #[test]
 fn nodes_own_stretches(rt: HostRuntime) -> Result<(), Fail> {
     let geometry = flat(rt.alloc(), &[4, 4])??;
-    assert_eq!(rt; geometry.node_count(), 2usize);
-    assert_eq!(rt; geometry.frame_count(), 8usize);
-    for (frame, node) in [(0, 0), (3, 0), (4, 1), (7, 1)] {
-        assert_eq!(rt;
-            geometry.node_of(FrameId::new(frame)),
-            NodeId::new(node),
+    assert!(rt; geometry.node_count() == 2 && geometry.frame_count() == 8);
+    let first = NodeId::new(0);
+    let second = NodeId::new(1);
+    for (frame, node) in [(0, first), (3, first), (4, second), (7, second)] {
+        assert!(rt;
+            geometry.node_of(FrameId::new(frame)) == node,
             "of frame {frame}"
         );
     }
-    assert_eq!(rt; geometry.size(NodeId::new(1)), 4u32);
-    assert_eq!(rt; geometry.distance(NodeId::new(0), NodeId::new(0)), 10u8);
-    assert_eq!(rt; geometry.distance(NodeId::new(1), NodeId::new(0)), 20u8);
+    assert!(rt;
+        geometry.size(second) == 4
+            && geometry.distance(first, first) == 10
+            && geometry.distance(second, first) == 20
+    );
     Ok(())
+}
+
+/// What a geometry of these sizes is refused for.
+fn refusal(alloc: Global, sizes: &[u32]) -> Result<Option<GeometryError>, AllocError> {
+    Ok(flat(alloc, sizes)?.err())
 }
 
 #[test]
 fn refusals_in_order(rt: HostRuntime) -> Result<(), Fail> {
-    let alloc = rt.alloc();
-    assert_eq!(rt; flat(alloc, &[])?.err(), Some(GeometryError::NoNodes));
-    assert_eq!(rt;
-        flat(alloc, [1; 65].as_slice())?.err(),
-        Some(GeometryError::TooManyNodes)
-    );
-    assert_eq!(rt;
-        flat(alloc, [0; 65].as_slice())?.err(),
-        Some(GeometryError::TooManyNodes)
-    );
-    assert_eq!(rt; flat(alloc, [1; 64].as_slice())?.err(), None);
-    assert_eq!(rt; flat(alloc, &[4, 0])?.err(), Some(GeometryError::EmptyNode));
-    assert_eq!(rt;
-        flat(alloc, &[16385, 0])?.err(),
-        Some(GeometryError::EmptyNode)
-    );
-    assert_eq!(rt;
-        flat(alloc, &[16384, 1])?.err(),
-        Some(GeometryError::TooManyFrames)
-    );
-    assert_eq!(rt;
-        flat(alloc, [u32::MAX; 64].as_slice())?.err(),
-        Some(GeometryError::TooManyFrames)
-    );
-    assert_eq!(rt; flat(alloc, &[16383, 1])?.err(), None);
+    for (sizes, want) in [
+        ([].as_slice(), Some(GeometryError::NoNodes)),
+        ([1u32; 65].as_slice(), Some(GeometryError::TooManyNodes)),
+        ([0; 65].as_slice(), Some(GeometryError::TooManyNodes)),
+        ([1; 64].as_slice(), None),
+        ([4, 0].as_slice(), Some(GeometryError::EmptyNode)),
+        ([16385, 0].as_slice(), Some(GeometryError::EmptyNode)),
+        ([16384, 1].as_slice(), Some(GeometryError::TooManyFrames)),
+        (
+            [u32::MAX; 64].as_slice(),
+            Some(GeometryError::TooManyFrames),
+        ),
+        ([16383, 1].as_slice(), None),
+    ] {
+        assert!(rt; refusal(rt.alloc(), sizes)? == want, "of {sizes:?}");
+    }
+    Ok(())
+}
+
+/// What a geometry of one node with this row of distances is refused for.
+fn one(alloc: Global, row: &[u8]) -> Result<Option<GeometryError>, AllocError> {
+    let rows = vec![in alloc; Vec::from_slice(alloc, row)?]?;
+    Ok(Geometry::new(vec![in alloc; 4]?, rows).err())
+}
+
+/// What a geometry of two nodes with these distances between them is refused for.
+fn two(alloc: Global, there: u8, back: u8) -> Result<Option<GeometryError>, AllocError> {
+    let rows = vec![in alloc; vec![in alloc; 10, there]?, vec![in alloc; back, 10]?]?;
+    Ok(Geometry::new(vec![in alloc; 4, 4]?, rows).err())
+}
+
+/// What a geometry of two nodes of which only the first has a row of distances is refused for.
+fn missing(alloc: Global) -> Result<Option<GeometryError>, AllocError> {
+    let rows = vec![in alloc; vec![in alloc; 10u8, 20u8]?]?;
+    Ok(Geometry::new(vec![in alloc; 4, 4]?, rows).err())
+}
+
+#[test]
+fn distances_of_one_node(rt: HostRuntime) -> Result<(), Fail> {
+    let bad = Some(GeometryError::BadDistance);
+    for (row, want) in [
+        ([11u8].as_slice(), bad),
+        ([].as_slice(), bad),
+        ([10, 10].as_slice(), bad),
+        ([10].as_slice(), None),
+    ] {
+        assert!(rt; one(rt.alloc(), row)? == want, "of {row:?}");
+    }
     Ok(())
 }
 
 #[test]
 fn distances_of_every_node(rt: HostRuntime) -> Result<(), Fail> {
-    let alloc = rt.alloc();
-    let one = |row: &[u8]| -> Result<Option<GeometryError>, AllocError> {
-        let rows = vec![in alloc; Vec::from_slice(alloc, row)?]?;
-        Ok(Geometry::new(vec![in alloc; 4]?, rows).err())
-    };
-    assert_eq!(rt; one(&[11])?, Some(GeometryError::BadDistance));
-    assert_eq!(rt; one(&[])?, Some(GeometryError::BadDistance));
-    assert_eq!(rt; one(&[10, 10])?, Some(GeometryError::BadDistance));
-    assert_eq!(rt; one(&[10])?, None);
-    let two = |there: u8, back: u8| -> Result<Option<GeometryError>, AllocError> {
-        let rows = vec![in alloc; vec![in alloc; 10, there]?, vec![in alloc; back, 10]?]?;
-        Ok(Geometry::new(vec![in alloc; 4, 4]?, rows).err())
-    };
-    assert_eq!(rt; two(10, 20)?, Some(GeometryError::BadDistance));
-    assert_eq!(rt; two(20, 10)?, Some(GeometryError::BadDistance));
-    assert_eq!(rt; two(11, 255)?, None);
-    let missing = vec![in alloc; vec![in alloc; 10u8, 20u8]?]?;
-    assert_eq!(rt;
-        Geometry::new(vec![in alloc; 4, 4]?, missing).err(),
-        Some(GeometryError::BadDistance)
-    );
+    let bad = Some(GeometryError::BadDistance);
+    for (there, back, want) in [(10, 20, bad), (20, 10, bad), (11, 255, None)] {
+        assert!(rt; two(rt.alloc(), there, back)? == want, "{there} and {back}");
+    }
+    assert!(rt; missing(rt.alloc())? == bad);
     Ok(())
 }
 
@@ -107,14 +121,21 @@ fn refusals_have_numbers_and_names(rt: HostRuntime) {
         (Errno::Einval, 22, "EINVAL"),
     ];
     for (errno, number, name) in known {
-        assert_eq!(rt; errno.number(), number);
-        assert_eq!(rt; errno.name(), name);
+        assert!(rt;
+            errno.number() == number && errno.name() == name,
+            "of {name}"
+        );
     }
+}
+
+/// Whether a refusal prints as this text.
+fn prints(alloc: Global, errno: Errno, text: &str) -> Result<bool, AllocError> {
+    let printed = format!(in alloc; "{errno}")?;
+    Ok(printed.as_str() == text)
 }
 
 #[test]
 fn refusals_print_their_names(rt: HostRuntime) -> Result<(), Fail> {
-    let alloc = rt.alloc();
     for (errno, text) in [
         (Errno::Eperm, "EPERM"),
         (Errno::Enoent, "ENOENT"),
@@ -127,8 +148,7 @@ fn refusals_print_their_names(rt: HostRuntime) -> Result<(), Fail> {
         (Errno::Enodev, "ENODEV"),
         (Errno::Einval, "EINVAL"),
     ] {
-        let printed = format!(in alloc; "{errno}")?;
-        assert_eq!(rt; printed.as_str(), text);
+        assert!(rt; prints(rt.alloc(), errno, text)?, "of {text}");
     }
     Ok(())
 }
@@ -162,21 +182,26 @@ fn masks_hold_nodes(rt: HostRuntime) {
 #[test]
 fn masks_in_order(rt: HostRuntime) {
     let mut mask = NodeMask::new();
-    assert_eq!(rt; mask.take_first(), None);
+    assert!(rt; mask.take_first().is_none());
     for node in [5, 63, 0] {
         mask.insert(NodeId::new(node));
     }
-    assert_eq!(rt; mask.len(), 3usize);
-    assert_eq!(rt; mask.nth(0), Some(NodeId::new(0)));
-    assert_eq!(rt; mask.nth(2), Some(NodeId::new(63)));
-    assert_eq!(rt; mask.nth(3), None);
-    assert_eq!(rt; mask.take_first(), Some(NodeId::new(0)));
-    assert_eq!(rt; mask.take_first(), Some(NodeId::new(5)));
-    assert_eq!(rt; mask.len(), 1usize);
+    assert!(rt; mask.len() == 3);
+    let first = NodeId::new(0);
+    let last = NodeId::new(63);
+    assert_eq!(rt;
+        [mask.nth(0), mask.nth(2), mask.nth(3)],
+        [Some(first), Some(last), None]
+    );
+    assert_eq!(rt;
+        [mask.take_first(), mask.take_first()],
+        [Some(first), Some(NodeId::new(5))]
+    );
+    assert!(rt; mask.len() == 1);
     mask.remove(NodeId::new(62));
     mask.remove(NodeId::new(64));
-    assert_eq!(rt; mask.len(), 1usize);
-    mask.remove(NodeId::new(63));
+    assert!(rt; mask.len() == 1);
+    mask.remove(last);
     assert!(rt; mask.is_empty());
 }
 
@@ -193,29 +218,38 @@ fn masks_together(rt: HostRuntime) {
     let mut both = low.intersection(high);
     assert!(rt; both.is_subset(low) && both.is_subset(high));
     assert!(rt; !low.is_subset(high) && !high.is_subset(low));
-    assert_eq!(rt; both.take_first(), Some(NodeId::new(1)));
-    assert_eq!(rt; both.take_first(), Some(NodeId::new(63)));
-    assert!(rt; both.is_empty() && both.is_subset(low));
-    assert!(rt; !low.is_subset(both));
+    assert!(rt; both.take_first() == Some(NodeId::new(1)));
+    assert!(rt; both.take_first() == Some(NodeId::new(63)));
+    assert!(rt; both.is_empty() && both.is_subset(low) && !low.is_subset(both));
+}
+
+/// What flags of these bits are: the bits, and whether they are strict, move pages and move all pages.
+fn flags_of(bits: u32) -> Option<(u32, [bool; 3])> {
+    let flags = MoveFlags::from_bits(bits)?;
+    Some((
+        flags.bits(),
+        [flags.is_strict(), flags.moves(), flags.moves_all()],
+    ))
 }
 
 #[test]
-fn flags_by_their_bits(rt: HostRuntime) -> Result<(), Fail> {
+fn flags_by_their_bits(rt: HostRuntime) {
     for bits in 0..8u32 {
-        let flags = MoveFlags::from_bits(bits).ok_or("known bits")?;
-        assert_eq!(rt; flags.bits(), bits);
-        assert_eq!(rt; flags.is_strict(), bits & MoveFlags::STRICT != 0);
-        assert_eq!(rt; flags.moves(), bits & MoveFlags::MOVE != 0);
-        assert_eq!(rt; flags.moves_all(), bits & MoveFlags::MOVE_ALL != 0);
+        let told = [
+            bits & MoveFlags::STRICT != 0,
+            bits & MoveFlags::MOVE != 0,
+            bits & MoveFlags::MOVE_ALL != 0,
+        ];
+        assert!(rt; flags_of(bits) == Some((bits, told)), "of {bits}");
     }
-    assert_eq!(rt; MoveFlags::from_bits(8), None);
-    assert_eq!(rt; MoveFlags::from_bits(u32::MAX), None);
-    Ok(())
+    assert!(rt; MoveFlags::from_bits(8).is_none() && MoveFlags::from_bits(u32::MAX).is_none());
 }
 
 #[test]
 fn page_numbers_of_addresses(rt: HostRuntime) {
     assert_eq!(rt; Vpn::of_address(0x10fff), Vpn::new(16));
-    assert_eq!(rt; Vpn::of_address(u64::MAX).number(), 4503599627370495u64);
-    assert_eq!(rt; Vpn::new(16).address(), 65536u64);
+    assert_eq!(rt;
+        [Vpn::of_address(u64::MAX).number(), Vpn::new(16).address()],
+        [4503599627370495u64, 65536]
+    );
 }
