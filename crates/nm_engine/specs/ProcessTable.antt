@@ -1,5 +1,5 @@
 -- The processes with their page tables.
-use Rattle.std.specs.Prelude.{ℕ, Bool, false, ◌==◌, nat_lt, nat_le, ◌||◌, if◌then◌else◌, List, [], Option, Some, None, IsSome}
+use Rattle.std.specs.Prelude.{ℕ, Bool, false, ◌==◌, nat_lt, nat_le, ◌||◌, if◌then◌else◌, List, [], ◌∷◌, Option, Some, None, IsSome}
 use Rattle.std.specs.List.{filter, fold}
 use Rattle.std.specs.Ordering.{nat_cmp}
 use Rattle.nm_types.specs.Map.{Map, get, set, replace, without, with_values}
@@ -12,6 +12,11 @@ pub record Task : Type 0 where
   pub info : ProcessInfo
   -- by page number
   pub table : Map ℕ Entry
+
+-- the processes by pid, in whatever order they stand
+abbrev pub by_pid : List (ℕ × Task) → Map ℕ Task
+by_pid [] = []
+by_pid (e ∷ es) = set nat_cmp (by_pid es) e.0 e.1
 
 -- a process that has touched nothing
 abbrev pub new_task : ProcessInfo → Task

@@ -17,7 +17,7 @@ use std::alloc::{AllocError, Allocator};
 use std::hash::{BuildHasherDefault, FoldHasher};
 use std::marker::Model;
 
-/// The processes by pid, in the order of the pids, each with its page table.
+/// The processes by pid, in no order, each with its page table.
 #[derive(Drop)]
 pub(crate) struct ProcessTable<A: Allocator + Copy> {
     tasks: IndexMap<Pid, process::Task<A>, BuildHasherDefault<FoldHasher>, A>,
@@ -26,17 +26,12 @@ pub(crate) struct ProcessTable<A: Allocator + Copy> {
 
 impl<A: Allocator + Copy> Model for ProcessTable<A> {
     ghost use Rattle.std.specs.Prelude.{ℕ};
-    ghost use Rattle.std.specs.Ordering.{nat_cmp};
-    ghost use Rattle.std.specs.List.Sorted.{IsStrictlySortedBy};
-    ghost use Rattle.std.specs.Map.{keys_of};
     ghost use Rattle.nm_types.specs.Map.{Map};
-    ghost use Rattle.nm_engine.specs.ProcessTable.{Task};
+    ghost use Rattle.nm_engine.specs.ProcessTable.{Task, by_pid};
 
     ghost Value = { Map ℕ Task };
 
-    ghost view = { λ t. t.tasks.entries };
-
-    ghost invariant = { λ t. IsStrictlySortedBy nat_cmp (keys_of t.tasks.entries) };
+    ghost view = { λ t. by_pid t.tasks.entries };
 }
 
 impl<A: Allocator + Copy> ProcessTable<A> {
@@ -103,7 +98,7 @@ impl<A: Allocator + Copy> ProcessTable<A> {
             info,
             table: PageTable::new(self.alloc),
         };
-        self.tasks.insert_sorted(pid, task)?;
+        self.tasks.insert(pid, task)?;
         Ok(())
     }
 
@@ -146,6 +141,6 @@ impl<A: Allocator + Copy> ProcessTable<A> {
         ensures gone { self.new ≡ without nat_cmp self.old pid }
         ensures ordered { IsStrictlySortedBy nat_cmp (keys_of self.new) }
     {
-        self.tasks.shift_remove(&pid);
+        self.tasks.swap_remove(&pid);
     }
 }

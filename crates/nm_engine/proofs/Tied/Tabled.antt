@@ -1,15 +1,16 @@
 -- The table of processes after a change.
-use Rattle.std.proofs.Common.{◌≡◌, ℕ, ◌+◌, ◌<◌, ◌≤◌, List, [], ◌∷◌, true, false, cond, get_or, nat_eq, refl, sym, ap, subst, ◌∙◌, arith}
-use Rattle.std.specs.Prelude.{Option, Some, None, IsSome, IsSorted, Result, Ok, Err, OnOk, OnErr, IfOk, IfErr}
+use Rattle.std.proofs.Common.{◌≡◌, ℕ, suc, length, List, [], ◌∷◌, true, false, cond, nat_eq, refl, sym, ap, subst, ◌∙◌}
+use Rattle.std.specs.Prelude.{Option, Some, None, IsSome, Result, Ok, Err, OnOk, OnErr, IfOk, IfErr}
 use Rattle.std.specs.List.{IsDistinct}
 use Rattle.std.specs.List.Sorted.{IsStrictlySortedBy}
-use Rattle.std.specs.Map.{keys_of, lookup, set_value, remove_entry}
+use Rattle.std.specs.Map.{keys_of, lookup, set_value}
 use Rattle.std.specs.BTreeMap.{is_at}
-use Rattle.std.specs.Cmp.{nat_cmp_total, nat_cmp_is, nat_eq_equiv, unsigned_ties}
-use Rattle.std.specs.Ordering.{nat_cmp, is_eq, is_lt, ordering_reverse}
-use Rattle.std.specs.declared.cmp.Ordering.TheVariants.{Less}
-use Rattle.std.proofs.lemmas.Map.Keys.{Less-from_sorted, apart_from_distinct, sorted_from_all_adjacent, ge_from_not_lt}
-use Rattle.std.proofs.lemmas.Bool.{eq-eqb}
+use Rattle.std.specs.Cmp.{nat_cmp_total, nat_eq_equiv, eq_by_cmp_equiv, unsigned_ties}
+use Rattle.std.specs.Ordering.{nat_cmp, is_eq, is_lt, match_ordering}
+use Rattle.std.specs.declared.cmp.Ordering.TheVariants.{Less, Equal, Greater}
+use Rattle.std.proofs.lemmas.Map.{lookup-none, lookup-set_value, lookup-remove_entry}
+use Rattle.std.proofs.lemmas.Map.Entries.{none_past_head}
+use Rattle.std.proofs.lemmas.Map.Keys.{IsDistinct-from_sorted}
 use Rattle.std.proofs.lemmas.Map.Lookups.{exact_unsigned}
 use Rattle.std.proofs.lemmas.Map.Steps.{set_value_same}
 use Rattle.std.specs.List.{AllByRecursion}
@@ -17,38 +18,10 @@ use Rattle.std.specs.Prelude.{Bool, T, ◌&&◌}
 use Rattle.std.specs.Ordering.{eq_by_cmp}
 use Rattle.std.specs.FinMap.Entries.{find, below_all, is_sorted, same_entries}
 use Rattle.nm_types.specs.Map.{Map, get, set, replace, without}
-use Rattle.nm_types.proofs.Maps.{get-set}
-use Rattle.nm_types.proofs.Keys.{sorted-set}
-
--- numbers told apart by ==
-module _ {V : Type 0} where
-  pub get_same : (m : Map ℕ V) (k : ℕ) → lookup (nat_eq k) m ≡ get nat_cmp m k
-  get_same [] k = refl
-  get_same (e ∷ m) k = ap (λ b. cond b (Some e.1) (lookup (nat_eq k) m)) (unsigned_ties k e.0) ∙ ap (cond (is_at (nat_cmp k) e.0) (Some e.1)) (get_same m k)
-
-  pub replace_same : (m : Map ℕ V) (k : ℕ) (v : V) → set_value (nat_eq k) m v ≡ replace nat_cmp m k v
-  replace_same [] k v = refl
-  replace_same (e ∷ m) k v =
-      ap (λ b. cond b ((e.0, v) ∷ m) (e ∷ set_value (nat_eq k) m v)) (unsigned_ties k e.0)
-      ∙ ap (λ es. cond (is_at (nat_cmp k) e.0) ((e.0, v) ∷ m) (e ∷ es)) (replace_same m k v)
-
-pub empty_in_order : {V : Type 0} (m : Map ℕ V) → m ≡ [] → IsStrictlySortedBy nat_cmp (keys_of m)
-unfolding IsStrictlySortedBy
-empty_in_order [] h = tt
-empty_in_order (e ∷ m) h = cc
-
-pub sorted_from_strict : (ks : List ℕ) → IsStrictlySortedBy nat_cmp ks → IsSorted nat_cmp ks
-sorted_from_strict ks s = λ k d z lt. ap is_lt (nat_cmp_total.antisymm (get_or ks (k + 1) d) (get_or ks k d) ∙ ap ordering_reverse (Less-from_sorted nat_cmp ks k (k + 1) d s (omega arith) lt))
-
-pub strict_from_sorted : (ks : List ℕ) → IsSorted nat_cmp ks → IsDistinct nat_eq ks → IsStrictlySortedBy nat_cmp ks
-strict_from_sorted ks s d =
-    sorted_from_all_adjacent nat_cmp_total ks 0 (λ k lt.
-    let a = get_or ks k 0 in
-    let b = get_or ks (k + 1) 0 in
-    let up : a ≤ b = ge_from_not_lt b a (s k 0 (omega arith) lt) in
-    let apart : nat_eq a b ≡ false = apart_from_distinct nat_eq ks k (k + 1) 0 d (omega arith) lt in
-    let below : a < b = grind (arith, eq-eqb) in
-    sym (nat_cmp_is a b Less below))
+use Rattle.nm_types.proofs.Cases.{some_is}
+use Rattle.nm_types.proofs.Maps.{equal, get-set, get-replace}
+use Rattle.nm_types.proofs.Keys.{sorted-set, sorted-without, keys-replace}
+use Rattle.nm_engine.specs.ProcessTable.{Task, by_pid}
 
 both : (a b : Bool) → T a → T b → T (a && b)
 both true true g h = tt
@@ -73,22 +46,68 @@ module _ {V : Type 0} where
   pub same_tables : (m n : Map ℕ V) → IsStrictlySortedBy nat_cmp (keys_of m) → IsStrictlySortedBy nat_cmp (keys_of n) → ((q : ℕ) → get nat_cmp m q ≡ get nat_cmp n q) → m ≡ n
   same_tables m n s t h = same_entries nat_cmp nat_cmp_total exact_unsigned m n (in_order m s) (in_order n t) (λ q. find_get m q ∙ h q ∙ sym (find_get n q))
 
--- a map in order that has one more
-pub added : {V : Type 0} (m n : Map ℕ V) (k : ℕ) (v : V) → IsStrictlySortedBy nat_cmp (keys_of m) → IsStrictlySortedBy nat_cmp (keys_of n)
-    → ((q : ℕ) → lookup (nat_eq q) n ≡ cond (nat_eq k q) (Some v) (lookup (nat_eq q) m)) → n ≡ set nat_cmp m k v
-added m n k v s t h =
-    same_tables n (set nat_cmp m k v) t (sorted-set nat_cmp nat_cmp_total m k v s) (λ q.
-    sym (get_same n q) ∙ h q ∙ ap (λ o. cond (nat_eq k q) (Some v) o) (get_same m q)
-    ∙ ap (λ b. cond b (Some v) (get nat_cmp m q)) (nat_eq_equiv.symm k q ∙ unsigned_ties q k)
-    ∙ sym (get-set nat_cmp_total m k v q))
+-- how many there are with a key that was not there
+one_more : {V : Type 0} (m : Map ℕ V) (k : ℕ) (v : V) → get nat_cmp m k ≡ None → length (set nat_cmp m k v) ≡ suc (length m)
+one_more [] k v h = refl
+one_more (e ∷ m) k v h =
+    elim (nat_cmp k e.0) as (λ r. cond (is_eq r) (Some e.1) (get nat_cmp m k) ≡ None → length (match_ordering r ((k, v) ∷ e ∷ m) ((e.0, v) ∷ m) (e ∷ set nat_cmp m k v)) ≡ suc (suc (length m))) [
+      | Less ↦ λ h. refl
+      | Equal ↦ λ h. cc
+      | Greater ↦ λ h. ap suc (one_more m k v h)
+    ] h
 
--- what is written through a reference
-pub written : {V : Type 0} (m now after : Map ℕ V) (k : ℕ) (w x : V) → m ≡ now → after ≡ set_value (nat_eq k) m w → w ≡ x → after ≡ replace nat_cmp now k x
-written m now after k w x same is to = is ∙ replace_same m k w ∙ ap (λ m. replace nat_cmp m k w) same ∙ ap (replace nat_cmp now k) to
+-- the processes by pid are in order, whatever the order of the entries
+pub by_pid_sorted : (es : List (ℕ × Task)) → IsStrictlySortedBy nat_cmp (keys_of (by_pid es))
+unfolding IsStrictlySortedBy
+by_pid_sorted [] = tt
+by_pid_sorted (e ∷ es) = sorted-set nat_cmp nat_cmp_total (by_pid es) e.0 e.1 (by_pid_sorted es)
+
+-- a process is found by its pid as it is among the entries
+pub by_pid_get : (es : List (ℕ × Task)) (k : ℕ) → lookup (nat_eq k) es ≡ get nat_cmp (by_pid es) k
+by_pid_get [] k = refl
+by_pid_get (e ∷ es) k =
+    ap (λ b. cond b (Some e.1) (lookup (nat_eq k) es)) (unsigned_ties k e.0) ∙ ap (cond (eq_by_cmp nat_cmp k e.0) (Some e.1)) (by_pid_get es k)
+    ∙ sym (get-set nat_cmp_total (by_pid es) e.0 e.1 k)
+
+-- there are as many as there are entries
+pub by_pid_length : (es : List (ℕ × Task)) → IsDistinct nat_eq (keys_of es) → length (by_pid es) ≡ length es
+unfolding IsDistinct
+by_pid_length [] d = refl
+by_pid_length (e ∷ es) d =
+    one_more (by_pid es) e.0 e.1 (sym (by_pid_get es e.0) ∙ lookup-none (nat_eq e.0) es (none_past_head nat_eq_equiv e.0 e es d (nat_eq_equiv.refl e.0)))
+    ∙ ap suc (by_pid_length es d.1)
+
+-- entries with the look-ups of a map in order are that map
+by_look_ups : (es : List (ℕ × Task)) (m : Map ℕ Task) → IsStrictlySortedBy nat_cmp (keys_of m) → ((q : ℕ) → lookup (nat_eq q) es ≡ get nat_cmp m q) → by_pid es ≡ m
+by_look_ups es m s h = same_tables (by_pid es) m (by_pid_sorted es) s (λ q. sym (by_pid_get es q) ∙ h q)
+
+-- a process that comes
+pub added : (es now : List (ℕ × Task)) (k : ℕ) (v : Task) → ((q : ℕ) → lookup (nat_eq q) now ≡ cond (nat_eq k q) (Some v) (lookup (nat_eq q) es)) → by_pid now ≡ set nat_cmp (by_pid es) k v
+added es now k v h =
+    by_look_ups now (set nat_cmp (by_pid es) k v) (sorted-set nat_cmp nat_cmp_total (by_pid es) k v (by_pid_sorted es)) (λ q.
+    h q ∙ ap (λ o. cond (nat_eq k q) (Some v) o) (by_pid_get es q) ∙ ap (λ b. cond b (Some v) (get nat_cmp (by_pid es) q)) (nat_eq_equiv.symm k q ∙ unsigned_ties q k)
+    ∙ sym (get-set nat_cmp_total (by_pid es) k v q))
+
+-- a process that goes
+pub removed : (es now : List (ℕ × Task)) (k : ℕ) → ((q : ℕ) → lookup (nat_eq q) now ≡ cond (nat_eq k q) None (lookup (nat_eq q) es)) → by_pid now ≡ without nat_cmp (by_pid es) k
+removed es now k h =
+    by_look_ups now (without nat_cmp (by_pid es) k) (sorted-without nat_cmp (by_pid es) k (by_pid_sorted es)) (λ q.
+    h q ∙ ap (λ o. cond (nat_eq k q) None o) (by_pid_get es q) ∙ ap (λ b. cond b None (get nat_cmp (by_pid es) q)) (unsigned_ties k q)
+    ∙ sym (lookup-remove_entry (eq_by_cmp_equiv nat_cmp_total) (is_at (nat_cmp k)) (λ x y t. ap is_eq (nat_cmp_total.congr k x y (equal _ t))) q (by_pid es) (IsDistinct-from_sorted nat_cmp (keys_of (by_pid es)) (by_pid_sorted es))))
+
+-- what a process becomes through a reference
+pub written : (es after : List (ℕ × Task)) (now : Map ℕ Task) (k : ℕ) (x w v : Task) → by_pid es ≡ now → Some x ≡ lookup (nat_eq k) es → after ≡ set_value (nat_eq k) es w → w ≡ v → by_pid after ≡ replace nat_cmp now k v
+written es after now k x w v same found is to =
+    ap by_pid is
+    ∙ by_look_ups (set_value (nat_eq k) es w) (replace nat_cmp (by_pid es) k w) (subst (IsStrictlySortedBy nat_cmp) (sym (keys-replace nat_cmp (by_pid es) k w)) (by_pid_sorted es)) (λ q.
+    lookup-set_value nat_eq_equiv (nat_eq k) (λ a b t. nat_eq_equiv.congr k a b t) q w es (subst IsSome found refl)
+    ∙ ap (λ b. cond b (Some w) (lookup (nat_eq q) es)) (unsigned_ties k q) ∙ ap (λ o. cond (eq_by_cmp nat_cmp k q) (Some w) o) (by_pid_get es q)
+    ∙ sym (get-replace nat_cmp_total exact_unsigned (by_pid es) k w q (subst IsSome (found ∙ by_pid_get es k) refl)))
+    ∙ ap (λ m. replace nat_cmp m k w) same ∙ ap (replace nat_cmp now k) to
 
 -- what is written is what was there
-pub written_same : {V : Type 0} (m now after : Map ℕ V) (k : ℕ) (w x : V) → m ≡ now → Some x ≡ lookup (nat_eq k) m → after ≡ set_value (nat_eq k) m w → w ≡ x → after ≡ now
-written_same m now after k w x same found is to = is ∙ ap (set_value (nat_eq k) m) to ∙ set_value_same (nat_eq k) m x (sym found) ∙ same
+pub written_same : (es after : List (ℕ × Task)) (now : Map ℕ Task) (k : ℕ) (w x : Task) → by_pid es ≡ now → Some x ≡ lookup (nat_eq k) es → after ≡ set_value (nat_eq k) es w → w ≡ x → by_pid after ≡ now
+written_same es after now k w x same found is to = ap by_pid (is ∙ ap (set_value (nat_eq k) es) to ∙ set_value_same (nat_eq k) es x (sym found)) ∙ same
 
 module _ {V : Type 0} where
   -- no such key
@@ -109,21 +128,33 @@ module _ {V : Type 0} where
         | false ↦ λ b. ap (λ c. cond c ((e.0, w) ∷ replace nat_cmp m k v) (e ∷ replace nat_cmp (replace nat_cmp m k v) k w)) b ∙ ap (λ es. e ∷ es) (replace_twice m k v w)
       ] refl
 
-  some_is : (o : Option V) (v : V) → o ≡ Some v → IsSome o
-  some_is o v h = subst IsSome (sym h) refl
+-- what is looked up among the entries
+pub looked : (es : List (ℕ × Task)) (now : Map ℕ Task) (k : ℕ) → by_pid es ≡ now → lookup (nat_eq k) es ≡ get nat_cmp now k
+looked es now k same = by_pid_get es k ∙ ap (λ m. get nat_cmp m k) same
 
--- the value that was found is there
-pub found_value : {V : Type 0} (m now : Map ℕ V) (k : ℕ) (x : V) → m ≡ now → Some x ≡ lookup (nat_eq k) m → get nat_cmp now k ≡ Some x
-found_value m now k x same found = ap (λ m. get nat_cmp m k) (sym same) ∙ sym (get_same m k) ∙ sym found
+-- the process that was found is there
+pub found_value : (es : List (ℕ × Task)) (now : Map ℕ Task) (k : ℕ) (x : Task) → by_pid es ≡ now → Some x ≡ lookup (nat_eq k) es → get nat_cmp now k ≡ Some x
+found_value es now k x same found = sym (found ∙ looked es now k same)
 
-pub without_same : {V : Type 0} (m : Map ℕ V) (k : ℕ) → remove_entry (nat_eq k) m ≡ without nat_cmp m k
-without_same [] k = refl
-without_same (e ∷ m) k = ap (λ b. cond b m (e ∷ remove_entry (nat_eq k) m)) (unsigned_ties k e.0) ∙ ap (λ es. cond (is_at (nat_cmp k) e.0) m (e ∷ es)) (without_same m k)
+-- no process is found where there is none
+pub none_found : (es : List (ℕ × Task)) (now : Map ℕ Task) (k : ℕ) → by_pid es ≡ now → None ≡ lookup (nat_eq k) es → get nat_cmp now k ≡ None
+none_found es now k same found = sym (found ∙ looked es now k same)
+
+-- what a process becomes, told of the one that is found
+pub becomes : (F : Task → Task) (es after : List (ℕ × Task)) (now : Map ℕ Task) (k : ℕ) (x w t : Task) → by_pid es ≡ now → Some x ≡ lookup (nat_eq k) es → after ≡ set_value (nat_eq k) es w → w ≡ F x
+    → get nat_cmp now k ≡ Some t → by_pid after ≡ replace nat_cmp now k (F t)
+becomes F es after now k x w t same found is to there =
+    written es after now k x w (F t) same found is (to ∙ ap F (some_is (sym (found_value es now k x same found) ∙ there)))
 
 -- what follows on an error
 pub on_err : {T E P Q : Type 0} (r : Result T E) → (P → Q) → OnErr r P → OnErr r Q
 on_err (Ok x) f p = tt
 on_err (Err e) f p = f p
+
+-- what holds anyway
+pub on_any : {T E P : Type 0} (r : Result T E) → P → OnErr r P
+on_any (Ok x) p = tt
+on_any (Err e) p = p
 
 -- what follows where there is no error
 pub on_ok : {T E P Q : Type 0} (r : Result T E) → (P → Q) → OnOk r P → OnOk r Q

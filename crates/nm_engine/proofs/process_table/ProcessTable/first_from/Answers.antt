@@ -1,9 +1,9 @@
-use Rattle.std.proofs.Common.{ℕ, ◌≡◌, ◌≤◌, ◌<◌, ap, subst, sym, ◌∙◌}
+use Rattle.std.proofs.Common.{ℕ, refl, ◌≡◌, ◌≤◌, ◌<◌, ap, subst, sym, ◌∙◌}
 use Rattle.std.specs.Prelude.{Option, Some, None, IfSome, IfNone}
 use Rattle.std.specs.Ordering.{nat_cmp}
 use Rattle.nm_types.specs.Map.{get}
 use Rattle.nm_engine.specs.ProcessTable.{Task, entry_in}
-use Rattle.nm_engine.proofs.Tied.Tabled.{found_value}
+use Rattle.nm_engine.proofs.Tied.Tabled.{found_value, none_found}
 use Rattle.nm_engine.proofs.process_table.ProcessTable.first_from.Given.{Over}
 use Rattle.nm_engine.proofs.process_table.ProcessTable.first_from.Goals as goal
 
@@ -19,3 +19,12 @@ returns-clause-first g c = subst (λ (o : Option Task). IfSome c.first_from.resu
 
 pub returns-clause-none : goal.returns-clause-none
 returns-clause-none g c = subst (λ (o : Option Task). IfNone c.first_from.result ((v : ℕ) → c.args.at ≤ v → entry_in o v ≡ None)) (found g c) c.first_from.ensures.none
+
+-- it says so of nothing
+of_none : {X P : Type 0} (o : Option X) → P → IfNone o P
+of_none None p = p
+of_none (Some x) p = tt
+
+pub returns-in_err-get-clause-none : goal.returns-in_err-get-clause-none
+returns-in_err-get-clause-none g c =
+    of_none c.from_residual.result (λ v h. ap (λ (o : Option Task). entry_in o v) (none_found c.self.inside.tasks.entries c.args.self.now c.args.pid c.self.view_is c.in_err-get.ensures.value))

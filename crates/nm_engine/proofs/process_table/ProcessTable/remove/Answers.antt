@@ -1,15 +1,12 @@
-use Rattle.std.proofs.Common.{subst, sym, ◌∙◌}
-use Rattle.std.specs.Map.{keys_of}
-use Rattle.std.specs.List.Sorted.{IsStrictlySortedBy}
+use Rattle.std.proofs.Common.{ap, ◌∙◌}
 use Rattle.std.specs.Ordering.{nat_cmp}
-use Rattle.nm_engine.proofs.Tied.Tabled.{without_same}
-use Rattle.nm_types.proofs.Keys.{sorted-without}
+use Rattle.nm_types.specs.Map.{without}
+use Rattle.nm_engine.proofs.Tied.Tabled.{by_pid_sorted, removed}
 use Rattle.nm_engine.proofs.process_table.ProcessTable.remove.Goals as goal
 
-pub returns-clause-ordered : goal.returns-clause-ordered
-returns-clause-ordered g c =
-    subst (λ es. IsStrictlySortedBy nat_cmp (keys_of es)) (sym (c.shift_remove.ensures.entries ∙ without_same c.self.inside.tasks.entries c.args.pid))
-    (sorted-without nat_cmp c.self.inside.tasks.entries c.args.pid c.self.invariant)
+pub returns-clause-gone : goal.returns-clause-gone
+returns-clause-gone g c =
+    removed c.self.inside.tasks.entries c.swap_remove.new.self.entries c.args.pid c.swap_remove.ensures.updates.0 ∙ ap (λ m. without nat_cmp m c.args.pid) c.self.view_is
 
-pub invariant_of-self : goal.invariant_of-self
-invariant_of-self g c = returns-clause-ordered g c
+pub returns-clause-ordered : goal.returns-clause-ordered
+returns-clause-ordered g c = by_pid_sorted c.swap_remove.new.self.entries
