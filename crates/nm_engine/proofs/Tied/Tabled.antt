@@ -1,6 +1,6 @@
 -- The table of processes after a change.
 use Rattle.std.proofs.Common.{◌≡◌, ℕ, suc, length, List, [], ◌∷◌, true, false, cond, nat_eq, refl, sym, ap, subst, ◌∙◌}
-use Rattle.std.specs.Prelude.{Option, Some, None, IsSome, Result, Ok, Err, OnOk, OnErr, IfOk, IfErr}
+use Rattle.std.specs.Prelude.{Some, None, IsSome, Result, Ok, Err, OnOk, OnErr, IfOk, IfErr}
 use Rattle.std.specs.List.{IsDistinct}
 use Rattle.std.specs.List.Sorted.{IsStrictlySortedBy}
 use Rattle.std.specs.Map.{keys_of, lookup, set_value}
@@ -110,15 +110,6 @@ pub written_same : (es after : List (ℕ × Task)) (now : Map ℕ Task) (k : ℕ
 written_same es after now k w x same found is to = ap by_pid (is ∙ ap (set_value (nat_eq k) es) to ∙ set_value_same (nat_eq k) es x (sym found)) ∙ same
 
 module _ {V : Type 0} where
-  -- no such key
-  pub replace_absent : (m : Map ℕ V) (k : ℕ) (v : V) → get nat_cmp m k ≡ None → replace nat_cmp m k v ≡ m
-  replace_absent [] k v h = refl
-  replace_absent (e ∷ m) k v h =
-      elim (is_eq (nat_cmp k e.0)) as (λ b. cond b (Some e.1) (get nat_cmp m k) ≡ None → cond b ((e.0, v) ∷ m) (e ∷ replace nat_cmp m k v) ≡ e ∷ m) [
-        | true ↦ λ h. cc
-        | false ↦ λ h. ap (λ es. e ∷ es) (replace_absent m k v h)
-      ] h
-
   -- the last value counts
   pub replace_twice : (m : Map ℕ V) (k : ℕ) (v w : V) → replace nat_cmp (replace nat_cmp m k v) k w ≡ replace nat_cmp m k w
   replace_twice [] k v w = refl

@@ -1,5 +1,5 @@
 use Rattle.std.proofs.Common.{refl, ap, subst, sym, ◌∙◌}
-use Rattle.std.specs.Prelude.{Some, IsSome, Result, OnErr}
+use Rattle.std.specs.Prelude.{Some, IsSome}
 use Rattle.std.specs.Option.{option_map}
 use Rattle.nm_engine.specs.ProcessTable.{task_table}
 use Rattle.nm_engine.proofs.Tied.Tabled.{found_value, none_found, on_any}

@@ -1,4 +1,4 @@
-use Rattle.std.proofs.Common.{◌≡◌, ap, subst, sym, ◌∙◌}
+use Rattle.std.proofs.Common.{ap, sym, ◌∙◌}
 use Rattle.std.specs.Prelude.{Option, Some}
 use Rattle.nm_engine.specs.ProcessTable.{Task, entry_in}
 use Rattle.nm_engine.proofs.Tied.Tabled.{found_value, none_found}

@@ -1,5 +1,5 @@
 use Rattle.std.proofs.Common.{ℕ, ap, subst, sym, ◌∙◌}
-use Rattle.std.specs.Prelude.{Option, Some, None, IsSome}
+use Rattle.std.specs.Prelude.{Option, IsSome}
 use Rattle.std.specs.Option.{option_copied_mut}
 use Rattle.nm_types.specs.Map.{Map}
 use Rattle.nm_types.proofs.Cases.{none_is_not}
