@@ -8,3 +8,4 @@ pub mod Leaves
 pub mod Trees
 pub mod Results
 pub mod Parts
+pub mod Branches

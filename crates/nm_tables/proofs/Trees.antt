@@ -11,7 +11,8 @@ use Rattle.nm_tables.specs.Table.{entries_in_leaf, IsLeaf, IsLeafOf, entries_in,
 use Rattle.nm_tables.proofs.Parts.{no_parts}
 use Rattle.nm_tables.specs.declared.entry.Entry.{Entry}
 use Rattle.nm_tables.specs.declared.leaf.Leaf.{Leaf}
-use Rattle.nm_tables.specs.declared.node.Node.{Node}
+use Rattle.nm_tables.specs.declared.branch.Branch.{Branch}
+use Rattle.nm_tables.specs.Branches.{parts_of}
 
 -- the numbers of leaves, and of the nodes one and two levels over them
 leaf_of : ℕ → ℕ
@@ -34,23 +35,23 @@ leaf_parted x i w n = leaf_part x.places.value i n
 
 inner_parted : {A P : Type 0} (entries : P → Map ℕ Entry) (number : ℕ → ℕ) (whole : P → Type 0) (is_in : P → ℕ → Type 0)
     (part : (x : P) (i : ℕ) → whole x → is_in x i → IsPart number i (entries x)) → ((v w : ℕ) → v ≤ w → number v ≤ number w)
-    → (x : Node P A) (i : ℕ) → IsInner whole is_in x → IsInnerOf x i → IsPart (above number) i (entries_in entries x)
+    → (x : Branch P A) (i : ℕ) → IsInner whole is_in x → IsInnerOf x i → IsPart (above number) i (entries_in entries x)
 unfolding above
-inner_parted entries number whole is_in part up x i w n = node_part entries number whole is_in part up x.parts.items i w n
+inner_parted entries number whole is_in part up x i w n = node_part entries number whole is_in part up (parts_of x) i w n
 
-tree_ordered : {A : Type 0} (root : Node (Node (Node (Leaf A) A) A) A) → IsTree root → IsStrictlySortedBy nat_cmp (keys_of (tree_entries root))
+tree_ordered : {A : Type 0} (root : Branch (Branch (Branch (Leaf A) A) A) A) → IsTree root → IsStrictlySortedBy nat_cmp (keys_of (tree_entries root))
 tree_ordered {A} root w =
     node_ordered (entries_in {A = A} (entries_in {A = A} (entries_in_leaf {A = A}))) (above (above leaf_of)) (IsInner (IsInner IsLeaf IsLeafOf) IsInnerOf) IsInnerOf
     (inner_parted (entries_in {A = A} (entries_in_leaf {A = A})) (above leaf_of) (IsInner IsLeaf IsLeafOf) IsInnerOf
     (inner_parted (entries_in_leaf {A = A}) leaf_of IsLeaf IsLeafOf leaf_parted leaf_of_upwards)
     (above_upwards leaf_of leaf_of_upwards))
-    (above_upwards (above leaf_of) (above_upwards leaf_of leaf_of_upwards)) root.parts.items w
+    (above_upwards (above leaf_of) (above_upwards leaf_of leaf_of_upwards)) (parts_of root) w
 
-pub ordered_by : {A : Type 0} (root : Node (Node (Node (Leaf A) A) A) A) (m : Map ℕ Entry) → tree_entries root ≡ m → IsTree root → IsStrictlySortedBy nat_cmp (keys_of m)
+pub ordered_by : {A : Type 0} (root : Branch (Branch (Branch (Leaf A) A) A) A) (m : Map ℕ Entry) → tree_entries root ≡ m → IsTree root → IsStrictlySortedBy nat_cmp (keys_of m)
 ordered_by root m e w = subst (λ m. IsStrictlySortedBy nat_cmp (keys_of m)) e (tree_ordered root w)
 
 -- a root without parts is a tree
-pub empty_tree : {A : Type 0} (root : Node (Node (Node (Leaf A) A) A) A) → root.parts.items ≡ [] → IsTree root
+pub empty_tree : {A : Type 0} (root : Branch (Branch (Branch (Leaf A) A) A) A) → (parts_of root) ≡ [] → IsTree root
 empty_tree {A} root e =
     subst (IsNode (IsInner {A = A} (IsInner {A = A} (IsLeaf {A = A}) (IsLeafOf {A = A})) (IsInnerOf {A = A})) (IsInnerOf {A = A})) (sym e)
     (no_parts (IsInner {A = A} (IsInner {A = A} (IsLeaf {A = A}) (IsLeafOf {A = A})) (IsInnerOf {A = A})) (IsInnerOf {A = A}))

@@ -2,6 +2,7 @@ pub mod Examples
 pub mod Tree
 pub mod Orders
 pub mod Nodes
+pub mod Branches
 pub mod Marks
 pub mod Leaves
 pub mod Table

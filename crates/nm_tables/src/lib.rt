@@ -1,6 +1,7 @@
 //! The page table of a process: what stands at each page number that is not absent.
 #![tactic(auto)]
 
+mod branch;
 #[cfg(test)]
 mod drawn;
 mod entry;

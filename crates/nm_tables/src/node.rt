@@ -15,7 +15,7 @@ use std::alloc::{AllocError, Allocator};
 /// place is the last nine bits of its number.
 #[derive(Drop)]
 pub(crate) struct Node<T: Drop, A: Allocator + Copy> {
-    parts: Vec<(u64, T), A>,
+    pub(crate) parts: Vec<(u64, T), A>,
 }
 
 impl<T: Subtree<A>, A: Allocator + Copy> Node<T, A> {

@@ -6,16 +6,16 @@ ghost use Rattle.std.specs.Map.{keys_of};
 ghost use Rattle.std.specs.Ordering.{nat_cmp};
 ghost use Rattle.nm_types.specs.Map.{get, set, replace, without};
 
+use crate::branch::Branch;
 use crate::entry::Entry;
 use crate::leaf::Leaf;
-use crate::node::Node;
 use crate::subtree::Subtree;
 use nm_types::Vpn;
 use std::alloc::{AllocError, Allocator};
 use std::marker::Model;
 
 /// The upper three levels, over the leaves.
-type Root<A> = Node<Node<Node<Leaf<A>, A>, A>, A>;
+type Root<A> = Branch<Branch<Branch<Leaf<A>, A>, A>, A>;
 
 /// What a process has at its page numbers. A number without an entry is absent. Contracts see the map from page number
 /// to entry.
@@ -46,7 +46,7 @@ impl<A: Allocator + Copy> PageTable<A> {
     {
         PageTable {
             alloc,
-            root: Node::new(alloc),
+            root: Branch::Empty,
         }
     }
 
