@@ -2,11 +2,14 @@
 """Times the built program on each kind of trace at 1, 2, 4 and 8 times its smallest size, and writes the table of
 docs/PERFORMANCE.md: seconds of processor time (the best of five runs), peak memory, and how the time grows. With
 `--against PROGRAM` it plays each kind at its greatest size on that program and on the built one in turn, and tells the least
-seconds and the peak memory of both, so that a change for the worse is seen. Words name kinds, if not all are wanted.
-`./build` makes the program."""
+seconds and the peak memory of both, so that a change for the worse is seen. With `--instructions` it counts what the program
+does, with valgrind, in place of the time that it takes: that tells how the work grows whatever else the machine does and
+whatever its caches hold, and takes some fifty times as long. Words name kinds, if not all are wanted. `./build` makes the
+program."""
 import argparse
 import math
 import os
+import re
 import subprocess
 import sys
 import tempfile
@@ -33,9 +36,20 @@ def run_once(path, program=PROGRAM):
     return used.ru_utime + used.ru_stime, used.ru_maxrss
 
 
-def exponent(times):
-    """The slope of log time over log size, by least squares."""
-    points = [(math.log(factor), math.log(seconds)) for factor, seconds in times]
+def count_once(path):
+    """Instructions of one run, as callgrind counts them."""
+    words = ["valgrind", "--tool=callgrind", "--callgrind-out-file=/dev/null", PROGRAM, "--workers", "1"]
+    with open(path, "rb") as trace:
+        ran = subprocess.run(words, stdin=trace, stdout=subprocess.DEVNULL, stderr=subprocess.PIPE, text=True)
+    counted = re.search(r"Collected : (\d+)", ran.stderr)
+    if ran.returncode != 0 or not counted:
+        sys.exit("bench/run.py: valgrind ended with status %d: %s" % (ran.returncode, ran.stderr[-200:]))
+    return int(counted[1])
+
+
+def exponent(costs):
+    """The slope of log cost over log size, by least squares."""
+    points = [(math.log(factor), math.log(cost)) for factor, cost in costs]
     mean_x = sum(x for x, _ in points) / len(points)
     mean_y = sum(y for _, y in points) / len(points)
     return sum((x - mean_x) * (y - mean_y) for x, y in points) / sum((x - mean_x) ** 2 for x, _ in points)
@@ -77,9 +91,25 @@ def measure(kinds):
                     kind.__name__, traces.KINDS[kind] * factor, size, seconds, memory, growth))
 
 
+def count(kinds):
+    """Counts the instructions of each kind at four sizes, and writes the table."""
+    print("| Trace | Size | Millions of instructions | Growth |")
+    print("|---|---|---|---|")
+    with tempfile.TemporaryDirectory() as folder:
+        path = os.path.join(folder, "trace.json")
+        for kind in kinds:
+            costs = []
+            for factor in (1, 2, 4, 8):
+                make_trace(kind.__name__, traces.KINDS[kind] * factor, path)
+                costs.append((factor, count_once(path)))
+                growth = "%.2f" % exponent(costs) if factor == 8 else ""
+                print("| `%s` | %d | %.0f | %s |" % (kind.__name__, traces.KINDS[kind] * factor, costs[-1][1] / 1e6, growth))
+
+
 def main():
     words = argparse.ArgumentParser(description=__doc__.split("\n")[0])
     words.add_argument("--against", metavar="PROGRAM", help="an earlier build of the program")
+    words.add_argument("--instructions", action="store_true", help="count instructions in place of seconds, with valgrind")
     words.add_argument("kinds", nargs="*", metavar="KIND", help="a kind of trace: " + ", ".join(it.__name__ for it in traces.KINDS))
     given = words.parse_args()
     unknown = set(given.kinds) - {kind.__name__ for kind in traces.KINDS}
@@ -89,8 +119,12 @@ def main():
         if not os.access(program, os.X_OK):
             words.error("there is no program %s" % program)
     kinds = [kind for kind in traces.KINDS if not given.kinds or kind.__name__ in given.kinds]
+    if given.against and given.instructions:
+        words.error("--against and --instructions do not go together")
     if given.against:
         compare(os.path.abspath(given.against), kinds)
+    elif given.instructions:
+        count(kinds)
     else:
         measure(kinds)
 
