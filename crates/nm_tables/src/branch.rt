@@ -1,4 +1,4 @@
-//! What stands under an inner node's number: no part of a table, one, or several.
+//! The inner nodes of a page table: no part, one, or several.
 
 ghost use Rattle.std.specs.Prelude.{◌≡◌, ◌/◌, ℕ, None, OnOk, OnErr};
 ghost use Rattle.std.specs.List.{AllByRecursion};
@@ -17,17 +17,21 @@ use std::alloc::{AllocError, Allocator};
 use std::mem;
 
 /// An inner node of a page table: parts by their numbers, the last nine bits of which are their places. One part by itself
-/// stands here with its number and takes no memory but its own, since most parts of a table are the only ones of their
-/// node, and three nodes lie above each entry.
+/// stands here and takes no memory but its own, since most parts are the only ones of their node, and three nodes lie
+/// above each entry.
 #[derive(Drop)]
 pub(crate) enum Branch<T: Drop, A: Allocator + Copy> {
+    /// No part, as in the root of a new table.
     Empty,
+    /// One part, behind its number.
     One(u64, T),
+    /// Several parts.
     Many(Node<T, A>),
 }
 
 impl<T: Subtree<A>, A: Allocator + Copy> Branch<T, A> {
-    /// Puts an entry into a new part beside the one that is there, which has another number.
+    /// Puts an entry into a new part beside the one that is there, which has another number. An error means that the host
+    /// is out of memory, and that nothing has changed.
     fn set_beside(&mut self, alloc: A, vpn: Vpn, entry: Entry) -> Result<(), AllocError>
         requires one { IsOne self.old }
         requires kept { IsNode T.whole T.is_in (parts_of self.old) }

@@ -1,4 +1,4 @@
-//! The inner nodes of a page table.
+//! The inner nodes of a page table that have several parts.
 
 ghost use Rattle.std.specs.Prelude.{◌≡◌, [], IfOk, IfErr};
 ghost use Rattle.std.specs.List.Sorted.{IsStrictlySortedBy};
@@ -11,8 +11,8 @@ use crate::subtree::Subtree;
 use nm_types::Vpn;
 use std::alloc::{AllocError, Allocator};
 
-/// An inner node, with the parts at those of its 512 places that are taken, by their numbers, in ascending order. A part's
-/// place is the last nine bits of its number.
+/// The parts of an inner node that has several: those at its 512 places that are taken, by their numbers, in ascending
+/// order. A part's place is the last nine bits of its number.
 #[derive(Drop)]
 pub(crate) struct Node<T: Drop, A: Allocator + Copy> {
     pub(crate) parts: Vec<(u64, T), A>,
