@@ -4,7 +4,7 @@ docs/PERFORMANCE.md: seconds of processor time (the best of five runs), peak mem
 `--against PROGRAM` it plays each kind at its greatest size on that program and on the built one in turn, and tells the least
 seconds and the peak memory of both, so that a change for the worse is seen. With `--instructions` it counts what the program
 does, with valgrind, in place of the time that it takes: that tells how the work grows whatever else the machine does and
-whatever its caches hold, and takes some fifty times as long. Words name kinds, if not all are wanted. `./build` makes the
+whatever its caches hold, and takes tens of times as long. Words name kinds, if not all are wanted. `./build` makes the
 program."""
 import argparse
 import math
