@@ -179,7 +179,7 @@ fn shared_pages(alloc: Global) -> Result<Areas<Global>, MachineError> {
     areas.insert(Pid::new(1), 0x10000, 3, true)?;
     areas.attach(Pid::new(1), 0x20000, 0, 1, 2)?;
     areas.attach(Pid::new(2), 0x10000, 0, 1, 1)?;
-    for index in 0..3u32 {
+    for index in 0..3u16 {
         let page = Page {
             segment: 0,
             index: u64::from(index),
@@ -190,7 +190,7 @@ fn shared_pages(alloc: Global) -> Result<Areas<Global>, MachineError> {
 }
 
 /// The first page number of a process from one up to 40 with a page that has a frame, and the frame's number.
-fn first_frame(areas: &Areas<Global>, pid: u32, at: u64) -> Option<(u64, u32)> {
+fn first_frame(areas: &Areas<Global>, pid: u32, at: u64) -> Option<(u64, u16)> {
     let (vpn, frame) = areas.frame_from(Pid::new(pid), Vpn::new(at), Vpn::new(40))?;
     Some((vpn.number(), frame.number()))
 }
@@ -199,16 +199,16 @@ fn first_frame(areas: &Areas<Global>, pid: u32, at: u64) -> Option<(u64, u32)> {
 fn frames_one_after_another(rt: HostRuntime) -> Result<(), Fail> {
     let mut areas = shared_pages(rt.alloc())?;
     areas.insert(Pid::new(3), 0x10000, 3, false)?;
-    assert_eq!(rt; first_frame(&areas, 1, 0), Some((16u64, 7u32)));
-    assert_eq!(rt; first_frame(&areas, 1, 18), Some((18u64, 5u32)));
-    assert_eq!(rt; first_frame(&areas, 1, 19), Some((32u64, 6u32)));
+    assert_eq!(rt; first_frame(&areas, 1, 0), Some((16u64, 7u16)));
+    assert_eq!(rt; first_frame(&areas, 1, 18), Some((18u64, 5u16)));
+    assert_eq!(rt; first_frame(&areas, 1, 19), Some((32u64, 6u16)));
     assert_eq!(rt; first_frame(&areas, 2, 17), None);
     assert_eq!(rt; first_frame(&areas, 3, 0), None);
     Ok(())
 }
 
 /// Whether a process that lets go all that it has gives these frames.
-fn gives(areas: &mut Areas<Global>, pid: u32, frames: &[u32]) -> Result<bool, MachineError> {
+fn gives(areas: &mut Areas<Global>, pid: u32, frames: &[u16]) -> Result<bool, MachineError> {
     let freed = areas.remove(Pid::new(pid), 0, 34_359_738_368)?;
     Ok(
         freed

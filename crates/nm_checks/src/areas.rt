@@ -28,16 +28,19 @@ const CALLS: [Call; 6] = [
 ];
 
 /// How often each call is made.
-const ROUNDS: u32 = 16;
+const ROUNDS: u16 = 16;
 
-/// The first page of a segment.
-fn first_page(segment: u32) -> Page {
-    Page { segment, index: 0 }
+/// The first page of a round's segment.
+fn first_page(round: u16) -> Page {
+    Page {
+        segment: u32::from(round),
+        index: 0,
+    }
 }
 
 /// Makes a call of one round. Process 1 gets three pages of a shared segment, process 2 the last two of them, the first
 /// gets a frame, the second a policy in process 1, and in the end process 1 lets go the first two.
-fn perform<'a>(areas: &mut Areas<Heap<'a>>, call: Call, round: u32) -> Result<(), MachineError> {
+fn perform<'a>(areas: &mut Areas<Heap<'a>>, call: Call, round: u16) -> Result<(), MachineError> {
     let one = Pid::new(1);
     let addr = u64::from(round) * 0x10000;
     match call {
@@ -72,7 +75,7 @@ impl Picture<'_> {
     }
 }
 
-fn take_picture<'a>(areas: &Areas<Heap<'a>>, round: u32) -> Result<Picture<'a>, MachineError> {
+fn take_picture<'a>(areas: &Areas<Heap<'a>>, round: u16) -> Result<Picture<'a>, MachineError> {
     Ok(Picture {
         first: areas.lines(Pid::new(1))?,
         second: areas.lines(Pid::new(2))?,
@@ -85,7 +88,7 @@ fn attempt<'a>(
     heap: Heap<'a>,
     areas: &mut Areas<Heap<'a>>,
     call: Call,
-    round: u32,
+    round: u16,
     number: u64,
 ) -> (bool, Result<(), MachineError>) {
     heap.refuse(number);
@@ -102,7 +105,7 @@ fn refuse_each<'a>(
     heap: Heap<'a>,
     areas: &mut Areas<Heap<'a>>,
     call: Call,
-    round: u32,
+    round: u16,
 ) -> Result<u64, MachineError> {
     let before = take_picture(areas, round)?;
     for number in 1..1000u64 {

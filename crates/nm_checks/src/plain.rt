@@ -287,7 +287,9 @@ impl Plain {
     pub(crate) fn has_free(&self, node: u32, list: &[FrameId]) -> bool {
         let mut last = 0u64;
         for frame in list {
-            let since = self.free_since(node, frame.number()).unwrap_or(0);
+            let since = self
+                .free_since(node, u32::from(frame.number()))
+                .unwrap_or(0);
             if since <= last {
                 return false;
             }
@@ -327,7 +329,8 @@ impl Plain {
         match spot.touched {
             Touched::Nothing => false,
             Touched::Zeros => frame.is_none(),
-            Touched::ItsPage => self.content(page).frame == frame.map(|frame| frame.number()),
+            Touched::ItsPage => self.content(page).frame
+                == frame.map(|frame| u32::from(frame.number())),
         }
     }
 

@@ -1,26 +1,33 @@
 //! The bytes of one frame.
 
-ghost use Rattle.std.specs.Prelude.{◌≡◌, ◌+◌, ◌<◌, ◌≤◌, length, replicate, IfOk};
+ghost use Rattle.std.specs.Prelude.{◌≡◌, ◌+◌, ◌≤◌, length, replicate, IfOk};
 ghost use Rattle.nm_frames.specs.Store.{overwrite};
 
 use nm_types::limits::PAGE_BYTES;
 use std::alloc::{AllocError, Allocator};
 use std::marker::Model;
 
-/// The 4,096 bytes of a frame, owned. Contracts see the list of them.
+/// What clears a frame.
+const ZEROS: [u8; PAGE_BYTES] = [0; PAGE_BYTES];
+
+/// The 4,096 bytes of a frame, owned. Contracts see the list of them. Most pages hold little: how many bytes from the
+/// first on have been written is kept, so that no call copies or clears what has been zero all the time.
 #[derive(Debug, Drop)]
 pub struct Bytes<A: Allocator + Copy> {
     bytes: Box<[u8; PAGE_BYTES], A>,
+    /// From this place on each byte is zero.
+    written: usize,
 }
 
 impl<A: Allocator + Copy> Model for Bytes<A> {
-    ghost use Rattle.std.specs.Prelude.{◌≡◌, ℕ, List, length};
+    ghost use Rattle.std.specs.Prelude.{◌≡◌, ◌≤◌, ℕ, List, length};
+    ghost use Rattle.nm_frames.specs.Written.{IsZeroFrom};
 
     ghost Value = { List ℕ };
 
     ghost view = { λ b. b.bytes.value };
 
-    ghost invariant = { λ b. length b.bytes.value ≡ 4096 };
+    ghost invariant = { λ b. (length b.bytes.value ≡ 4096) × (b.written ≤ 4096) × IsZeroFrom b.bytes.value b.written };
 }
 
 impl<A: Allocator + Copy> Bytes<A> {
@@ -29,7 +36,7 @@ impl<A: Allocator + Copy> Bytes<A> {
         ensures { IfOk result (λ b. b ≡ replicate 4096 0) }
     {
         let bytes = Box::new(alloc, [0; PAGE_BYTES])?;
-        Ok(Bytes { bytes })
+        Ok(Bytes { bytes, written: 0 })
     }
 
     /// All of them.
@@ -44,7 +51,9 @@ impl<A: Allocator + Copy> Bytes<A> {
     pub fn clear(&mut self)
         ensures { self.new ≡ replicate 4096 0 }
     {
-        *self.bytes = [0; PAGE_BYTES];
+        let written = self.written;
+        self.write(0, &ZEROS[..written]);
+        self.written = 0;
     }
 
     /// Puts bytes in place of those from `at` on.
@@ -54,12 +63,15 @@ impl<A: Allocator + Copy> Bytes<A> {
     {
         let end = at + bytes.len();
         self.bytes[at..end].copy_from_slice(bytes);
+        self.written = self.written.max(end);
     }
 
     /// Makes them those of another frame.
     pub fn copy_from(&mut self, other: &Self)
         ensures { self.new ≡ other.now }
     {
-        *self.bytes = *other.bytes;
+        let end = self.written.max(other.written);
+        self.write(0, &other.bytes[..end]);
+        self.written = other.written;
     }
 }

@@ -29,14 +29,15 @@ impl<A: Allocator + Copy> Model for FreeList<A> {
 }
 
 impl<A: Allocator + Copy> FreeList<A> {
-    /// All frames of a node that owns `size` frames from `first` on, in ascending order.
+    /// All frames of a node that owns `size` frames from `first` on, in ascending order. The last is 65,535 at most, as a
+    /// frame's number has 16 bits.
     pub fn upwards(alloc: A, first: u32, size: u32) -> Result<Self, AllocError>
-        requires { first + size < 2 ^ 32 }
+        requires { first + size ≤ 2 ^ 16 }
         ensures { IfOk result (λ l. l ≡ (size, up_from first size)) }
     {
         let mut frames = VecDeque::with_capacity(alloc, size as usize)?;
         for number in first..first + size {
-            frames.push_back(FrameId::new(number))?;
+            frames.push_back(FrameId::new(number as u16))?;
         }
         Ok(FreeList { size, frames })
     }

@@ -110,7 +110,7 @@ fn owner_of<A: Allocator + Copy>(lists: &[FreeList<A>], frame: FrameId) -> usize
     ensures node { result ≡ owner (sizes_of lists.now) frame }
     ensures below { result < length lists.now }
 {
-    let mut rest = frame.number();
+    let mut rest = u32::from(frame.number());
     for (node, list) in lists.iter().enumerate() {
         if rest < list.size() {
             return node;

@@ -10,7 +10,7 @@ fn page(index: u64) -> Page {
 }
 
 /// A request for a page of the first segment that is to leave a frame.
-fn leaves(index: u64, from: u32) -> Class {
+fn leaves(index: u64, from: u16) -> Class {
     Class::Move {
         page: page(index),
         from: FrameId::new(from),
@@ -18,7 +18,7 @@ fn leaves(index: u64, from: u32) -> Class {
 }
 
 /// A page of the first segment that goes from a frame to another.
-fn goes(index: u64, from: u32, to: u32) -> Taken {
+fn goes(index: u64, from: u16, to: u16) -> Taken {
     Taken {
         page: page(index),
         from: FrameId::new(from),

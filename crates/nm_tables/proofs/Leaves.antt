@@ -78,9 +78,6 @@ module _ (p q : Places) (v : ℕ) (own : p.block ≡ v / 512) (same : q.block �
         | no n ↦ elsewhere k n (one_or_other p.block (k / 512)) ∙ sym (get-put_other (leaf_entries p) v e k n)
       ])
 
-  pub leaf-replace : (e : Entry) → stands_at q (v % 512) ≡ Some e → IsSome (get nat_cmp (leaf_entries p) v) → leaf_entries q ≡ replace nat_cmp (leaf_entries p) v e
-  leaf-replace e here there = leaf-set e here ∙ sym (replace_is_set nat_cmp_total exact_unsigned (leaf_entries p) v e (leaf_ordered p) there)
-
   pub leaf-without : stands_at q (v % 512) ≡ None → leaf_entries q ≡ without nat_cmp (leaf_entries p) v
   leaf-without here =
       alike (leaf_entries q) (without nat_cmp (leaf_entries p) v) (leaf_ordered q) (sorted-without nat_cmp (leaf_entries p) v (leaf_ordered p)) (λ k.
@@ -93,14 +90,10 @@ module _ (p q : Places) (v : ℕ) (own : p.block ≡ v / 512) (same : q.block �
             ∙ sym (get-without (leaf_entries p) v k (leaf_ordered p) ∙ at_other v k None (get nat_cmp (leaf_entries p) k) (λ z. n (sym z)))
       ])
 
--- a leaf of which one place is taken one place is taken
-none_in : (p : Places) → ((i : ℕ) → stands_at p i ≡ None) → leaf_entries p ≡ []
+-- a leaf of which no place is taken has no entry
+pub none_in : (p : Places) → ((i : ℕ) → stands_at p i ≡ None) → leaf_entries p ≡ []
 unfolding IsStrictlySortedBy
 none_in p h = alike (leaf_entries p) [] (leaf_ordered p) tt (λ k. leaf-none p k (λ i l e. h i))
-
-pub leaf-one : (p q : Places) (v : ℕ) (e : Entry) → p.block ≡ v / 512 → q.block ≡ p.block → ((i : ℕ) → (i ≡ v % 512 → ⊥) → stands_at q i ≡ stands_at p i) → ((i : ℕ) → stands_at p i ≡ None)
-    → stands_at q (v % 512) ≡ Some e → leaf_entries q ≡ (v, e) ∷ []
-leaf-one p q v e own same others bare here = leaf-set p q v own same others e here ∙ ap (λ m. set nat_cmp m v e) (none_in p bare)
 
 -- what is listed of more numbers
 module _ {V : Type 0} (f : ℕ → Option V) where

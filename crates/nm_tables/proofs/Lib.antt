@@ -6,6 +6,8 @@ pub mod Nodes
 pub mod Walks
 pub mod Leaves
 pub mod Trees
+pub mod Rests
+pub mod Slots
 pub mod Results
 pub mod Parts
 pub mod Branches

@@ -26,7 +26,7 @@ no_lower_than : (n : ℕ) (ks : List ℕ) → AllByRecursion (λ k. n < k) ks �
 no_lower_than n [] h = tt
 no_lower_than n (k ∷ ks) h = let l = h.0 in (omega (arith, l), no_lower_than n ks h.1)
 
-fails : (a k : ℕ) → k < a → range_contains nat_cmp (Included a) Unbounded k ≡ false
+pub fails : (a k : ℕ) → k < a → range_contains nat_cmp (Included a) Unbounded k ≡ false
 fails a k l =
     let greater : nat_cmp a k ≡ Greater = sym (nat_cmp_is a k Greater l) in
     ap (λ r. is_le r && not false) greater

@@ -8,8 +8,3 @@ on_ok (Err e) f h = tt
 pub on_err : {T E A B : Type 0} (r : Result T E) → (A → B) → OnErr r A → OnErr r B
 on_err (Ok x) f h = tt
 on_err (Err e) f h = f h
-
--- what holds anyway holds where it did not go well
-pub err_always : {T E P : Type 0} (r : Result T E) → P → OnErr r P
-err_always (Ok x) p = tt
-err_always (Err e) p = p

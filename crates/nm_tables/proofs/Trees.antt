@@ -1,4 +1,4 @@
--- The entries of a tree are in ascending order.
+-- The slots of an index are in ascending order.
 use Rattle.std.proofs.Common.{◌≡◌, ℕ, ◌≤◌, ◌/◌, [], sym, subst}
 use Rattle.std.specs.List.Sorted.{IsStrictlySortedBy}
 use Rattle.std.specs.Map.{keys_of}
@@ -6,52 +6,52 @@ use Rattle.std.specs.Ordering.{nat_cmp}
 use Rattle.nm_types.specs.Map.{Map}
 use Rattle.nm_tables.specs.Tree.{IsPart}
 use Rattle.nm_tables.specs.Nodes.{IsNode, node_ordered, node_part, upwards_again}
-use Rattle.nm_tables.specs.Leaves.{leaf_part, blocks_upwards}
-use Rattle.nm_tables.specs.Table.{entries_in_leaf, IsLeaf, IsLeafOf, entries_in, IsInner, IsInnerOf, tree_entries, IsTree}
+use Rattle.nm_tables.specs.Cells.{cell_part}
+use Rattle.nm_tables.specs.Index.{slots_in_cell, IsCell, IsCellOf, slots_in, IsInner, IsInnerOf, tree_slots, IsTree}
 use Rattle.nm_tables.proofs.Parts.{no_parts}
-use Rattle.nm_tables.specs.declared.entry.Entry.{Entry}
-use Rattle.nm_tables.specs.declared.leaf.Leaf.{Leaf}
+use Rattle.nm_tables.specs.declared.slot.Slot.{Slot}
+use Rattle.nm_tables.specs.declared.cell.Cell.{Cell}
 use Rattle.nm_tables.specs.declared.branch.Branch.{Branch}
 use Rattle.nm_tables.specs.Branches.{parts_of}
 
--- the numbers of leaves, and of the nodes one and two levels over them
-leaf_of : ℕ → ℕ
-leaf_of v = v / 512
+-- the numbers of blocks, and of the nodes one and two levels over them
+block_of : ℕ → ℕ
+block_of v = v
 
 above : (ℕ → ℕ) → ℕ → ℕ
 above number v = number v / 512
 
-leaf_of_upwards : (v w : ℕ) → v ≤ w → leaf_of v ≤ leaf_of w
-unfolding leaf_of
-leaf_of_upwards = blocks_upwards
+block_of_upwards : (v w : ℕ) → v ≤ w → block_of v ≤ block_of w
+unfolding block_of
+block_of_upwards v w l = l
 
 above_upwards : (number : ℕ → ℕ) → ((v w : ℕ) → v ≤ w → number v ≤ number w) → (v w : ℕ) → v ≤ w → above number v ≤ above number w
 unfolding above
 above_upwards number up = upwards_again number up
 
-leaf_parted : {A : Type 0} (x : Leaf A) (i : ℕ) → IsLeaf x → IsLeafOf x i → IsPart leaf_of i (entries_in_leaf x)
-unfolding leaf_of
-leaf_parted x i w n = leaf_part x.places.value i n
+cell_parted : (x : Cell) (i : ℕ) → IsCell x → IsCellOf x i → IsPart block_of i (slots_in_cell x)
+unfolding block_of
+cell_parted x i w n = cell_part x.block x.slot i n
 
-inner_parted : {A P : Type 0} (entries : P → Map ℕ Entry) (number : ℕ → ℕ) (whole : P → Type 0) (is_in : P → ℕ → Type 0)
-    (part : (x : P) (i : ℕ) → whole x → is_in x i → IsPart number i (entries x)) → ((v w : ℕ) → v ≤ w → number v ≤ number w)
-    → (x : Branch P A) (i : ℕ) → IsInner whole is_in x → IsInnerOf x i → IsPart (above number) i (entries_in entries x)
+inner_parted : {A P : Type 0} (slots : P → Map ℕ Slot) (number : ℕ → ℕ) (whole : P → Type 0) (is_in : P → ℕ → Type 0)
+    (part : (x : P) (i : ℕ) → whole x → is_in x i → IsPart number i (slots x)) → ((v w : ℕ) → v ≤ w → number v ≤ number w)
+    → (x : Branch P A) (i : ℕ) → IsInner whole is_in x → IsInnerOf x i → IsPart (above number) i (slots_in slots x)
 unfolding above
-inner_parted entries number whole is_in part up x i w n = node_part entries number whole is_in part up (parts_of x) i w n
+inner_parted slots number whole is_in part up x i w n = node_part slots number whole is_in part up (parts_of x) i w n
 
-tree_ordered : {A : Type 0} (root : Branch (Branch (Branch (Leaf A) A) A) A) → IsTree root → IsStrictlySortedBy nat_cmp (keys_of (tree_entries root))
+tree_ordered : {A : Type 0} (root : Branch (Branch (Branch Cell A) A) A) → IsTree root → IsStrictlySortedBy nat_cmp (keys_of (tree_slots root))
 tree_ordered {A} root w =
-    node_ordered (entries_in {A = A} (entries_in {A = A} (entries_in_leaf {A = A}))) (above (above leaf_of)) (IsInner (IsInner IsLeaf IsLeafOf) IsInnerOf) IsInnerOf
-    (inner_parted (entries_in {A = A} (entries_in_leaf {A = A})) (above leaf_of) (IsInner IsLeaf IsLeafOf) IsInnerOf
-    (inner_parted (entries_in_leaf {A = A}) leaf_of IsLeaf IsLeafOf leaf_parted leaf_of_upwards)
-    (above_upwards leaf_of leaf_of_upwards))
-    (above_upwards (above leaf_of) (above_upwards leaf_of leaf_of_upwards)) (parts_of root) w
+    node_ordered (slots_in {A = A} (slots_in {A = A} slots_in_cell)) (above (above block_of)) (IsInner (IsInner IsCell IsCellOf) IsInnerOf) IsInnerOf
+    (inner_parted (slots_in {A = A} slots_in_cell) (above block_of) (IsInner IsCell IsCellOf) IsInnerOf
+    (inner_parted slots_in_cell block_of IsCell IsCellOf cell_parted block_of_upwards)
+    (above_upwards block_of block_of_upwards))
+    (above_upwards (above block_of) (above_upwards block_of block_of_upwards)) (parts_of root) w
 
-pub ordered_by : {A : Type 0} (root : Branch (Branch (Branch (Leaf A) A) A) A) (m : Map ℕ Entry) → tree_entries root ≡ m → IsTree root → IsStrictlySortedBy nat_cmp (keys_of m)
+pub ordered_by : {A : Type 0} (root : Branch (Branch (Branch Cell A) A) A) (m : Map ℕ Slot) → tree_slots root ≡ m → IsTree root → IsStrictlySortedBy nat_cmp (keys_of m)
 ordered_by root m e w = subst (λ m. IsStrictlySortedBy nat_cmp (keys_of m)) e (tree_ordered root w)
 
 -- a root without parts is a tree
-pub empty_tree : {A : Type 0} (root : Branch (Branch (Branch (Leaf A) A) A) A) → (parts_of root) ≡ [] → IsTree root
+pub empty_tree : {A : Type 0} (root : Branch (Branch (Branch Cell A) A) A) → (parts_of root) ≡ [] → IsTree root
 empty_tree {A} root e =
-    subst (IsNode (IsInner {A = A} (IsInner {A = A} (IsLeaf {A = A}) (IsLeafOf {A = A})) (IsInnerOf {A = A})) (IsInnerOf {A = A})) (sym e)
-    (no_parts (IsInner {A = A} (IsInner {A = A} (IsLeaf {A = A}) (IsLeafOf {A = A})) (IsInnerOf {A = A})) (IsInnerOf {A = A}))
+    subst (IsNode (IsInner {A = A} (IsInner {A = A} IsCell IsCellOf) (IsInnerOf {A = A})) (IsInnerOf {A = A})) (sym e)
+    (no_parts (IsInner {A = A} (IsInner {A = A} IsCell IsCellOf) (IsInnerOf {A = A})) (IsInnerOf {A = A}))

@@ -38,7 +38,7 @@ module _ {P : Type 0} (p : ℕ → Bool) where
   keys-filter Q [] h = tt
   keys-filter Q (e ∷ ps) h = elim (p e.0) as (λ b. AllByRecursion Q (keys_of (cond b (e ∷ filter (λ e. p e.0) ps) (filter (λ e. p e.0) ps)))) [ true ↦ (h.0, keys-filter Q ps h.1) | false ↦ keys-filter Q ps h.1 ]
 
-  sorted-filter : (ps : Map ℕ P) → IsStrictlySortedBy nat_cmp (keys_of ps) → IsStrictlySortedBy nat_cmp (keys_of (filter (λ e. p e.0) ps))
+  pub sorted-filter : (ps : Map ℕ P) → IsStrictlySortedBy nat_cmp (keys_of ps) → IsStrictlySortedBy nat_cmp (keys_of (filter (λ e. p e.0) ps))
   unfolding IsStrictlySortedBy
   sorted-filter [] s = tt
   sorted-filter (e ∷ ps) s =
@@ -58,7 +58,7 @@ module _ {P : Type 0} (p : ℕ → Bool) where
       ]
 
   -- a key that passes is found as before
-  get-filter : (ps : Map ℕ P) (i : ℕ) → p i ≡ true → get nat_cmp (filter (λ e. p e.0) ps) i ≡ get nat_cmp ps i
+  pub get-filter : (ps : Map ℕ P) (i : ℕ) → p i ≡ true → get nat_cmp (filter (λ e. p e.0) ps) i ≡ get nat_cmp ps i
   get-filter [] i h = refl
   get-filter (e ∷ ps) i h = step e ps i h (get-filter ps i h) (one_or_other i e.0)
 

@@ -5,5 +5,7 @@ pub mod Nodes
 pub mod Branches
 pub mod Marks
 pub mod Leaves
-pub mod Table
+pub mod Cells
+pub mod Index
+pub mod Blocks
 pub mod Parts

@@ -58,7 +58,3 @@ module _ (number : ℕ → ℕ) where
   -- numbers that never go down, and theirs
   pub upwards_again : ((a b : ℕ) → a ≤ b → number a ≤ number b) → (a b : ℕ) → a ≤ b → number a / 512 ≤ number b / 512
   upwards_again up a b l = let h = up a b l in omega (arith, h)
-
-  -- numbers that blocks share, and theirs
-  pub blocks_again : ((a b : ℕ) → a / 512 ≡ b / 512 → number a ≡ number b) → (a b : ℕ) → a / 512 ≡ b / 512 → number a / 512 ≡ number b / 512
-  blocks_again same a b e = ap (λ n. n / 512) (same a b e)

@@ -38,7 +38,7 @@ impl Draws {
 
     /// An entry of each kind.
     fn entry(&mut self) -> Entry {
-        let frame = FrameId::new((self.next() % 20_000) as u32);
+        let frame = FrameId::new((self.next() % 20_000) as u16);
         match self.next() % 3 {
             0 => Entry::Zero,
             1 => Entry::Frame(frame),

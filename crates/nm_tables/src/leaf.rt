@@ -1,19 +1,14 @@
-//! The leaves of a page table.
+//! A leaf of a page table, by page numbers.
 
-ghost use Rattle.std.specs.Prelude.{◌≡◌, ◌≤◌, ◌<◌, ◌+◌, ◌*◌, ◌%◌, ◌^◌, ◌++◌, ℕ, OnOk};
+ghost use Rattle.std.specs.Prelude.{◌≡◌, ◌≤◌, ◌<◌, ◌+◌, ◌*◌, ◌/◌, ◌%◌, ◌^◌, ◌++◌, ℕ, None, Some, IfSome, IfNone, OnOk};
+ghost use Rattle.std.specs.Ordering.{nat_cmp};
+ghost use Rattle.nm_types.specs.Map.{get, set, without};
 ghost use Rattle.nm_tables.specs.Leaves.{leaf_entries};
 
 use crate::entry::Entry;
 use crate::places::Places;
-use crate::subtree::Subtree;
 use nm_types::Vpn;
 use std::alloc::{AllocError, Allocator};
-
-/// A leaf: the entries of an aligned block of 512 page numbers.
-#[derive(Drop)]
-pub(crate) struct Leaf<A: Allocator + Copy> {
-    places: Box<Places, A>,
-}
 
 /// The place of a page number in its leaf: its last nine bits.
 fn place_of(vpn: Vpn) -> usize
@@ -38,81 +33,55 @@ fn place_from(block: u64, at: Vpn) -> usize
     }
 }
 
-impl<A: Allocator + Copy> Subtree<A> for Leaf<A> {
-    ghost use Rattle.std.specs.Prelude.{◌≡◌, ◌<◌, ◌/◌, ◌^◌};
-    ghost use Rattle.nm_tables.specs.Leaves.{leaf_entries, leaf_ordered, leaf_part, blocks_upwards};
+/// The entry at a page number of the leaf's block.
+pub(crate) fn entry_in(leaf: &Places, vpn: Vpn) -> Option<Entry>
+    requires { leaf.now.block ≡ vpn / 512 }
+    ensures { result ≡ get nat_cmp (leaf_entries leaf.now) vpn }
+{
+    leaf.get(place_of(vpn))
+}
 
-    ghost entries = { λ l. leaf_entries l.places.value };
+/// Puts an entry at a page number of the leaf's block.
+pub(crate) fn set_in(leaf: &mut Places, vpn: Vpn, entry: Entry)
+    requires { leaf.old.block ≡ vpn / 512 }
+    ensures entries { leaf_entries leaf.new ≡ set nat_cmp (leaf_entries leaf.old) vpn entry }
+    ensures block { leaf.new.block ≡ leaf.old.block }
+{
+    leaf.put(place_of(vpn), entry);
+}
 
-    ghost number = { λ v. v / 512 };
+/// Makes a page number of the leaf's block absent.
+pub(crate) fn clear_in(leaf: &mut Places, vpn: Vpn)
+    requires { leaf.old.block ≡ vpn / 512 }
+    ensures entries { leaf_entries leaf.new ≡ without nat_cmp (leaf_entries leaf.old) vpn }
+    ensures block { leaf.new.block ≡ leaf.old.block }
+{
+    leaf.clear(place_of(vpn));
+}
 
-    ghost whole = { λ l. l.places.value.block < 2 ^ 55 };
-
-    ghost is_in = { λ l i. l.places.value.block ≡ i };
-
-    ghost takes = { λ l v. l.places.value.block ≡ v / 512 };
-
-    fn number_of(vpn: Vpn) -> u64 {
-        vpn.number() / 512
-    }
-
-    fn holding(alloc: A, vpn: Vpn, entry: Entry) -> Result<Self, AllocError> {
-        let mut places = Places::new(vpn.number() / 512);
-        places.put(place_of(vpn), entry);
-        Ok(Leaf {
-            places: Box::new(alloc, places)?,
-        })
-    }
-
-    fn get(&self, vpn: Vpn) -> Option<Entry> {
-        self.places.get(place_of(vpn))
-    }
-
-    fn first_from(&self, at: Vpn) -> Option<(Vpn, Entry)> {
-        let block = self.places.block;
-        let (place, entry) = self.places.first_from(place_from(block, at))?;
-        Some((Vpn::new(block * 512 + place as u64), entry))
-    }
-
-    fn set(&mut self, _alloc: A, vpn: Vpn, entry: Entry) -> Result<(), AllocError> {
-        self.places.put(place_of(vpn), entry);
-        Ok(())
-    }
-
-    fn replace(&mut self, vpn: Vpn, entry: Entry) {
-        self.places.put(place_of(vpn), entry);
-    }
-
-    fn clear(&mut self, vpn: Vpn) {
-        self.places.clear(place_of(vpn));
-    }
-
-    fn list(&self, list: &mut Vec<(Vpn, Entry), A>) -> Result<(), AllocError> {
-        list_places(&self.places, list)
-    }
-
-    ghost ordered = { λ x w. leaf_ordered x.places.value };
-
-    ghost parted = { λ x i w n. leaf_part x.places.value i n };
-
-    ghost takes_own = { λ x v n. n };
-
-    ghost upwards = { blocks_upwards };
-
-    ghost blocks = { λ v w same. same };
+/// The first entry of a leaf at a page number or past it.
+pub(crate) fn first_in(leaf: &Places, at: Vpn) -> Option<(Vpn, Entry)>
+    requires { leaf.now.block < 2 ^ 55 }
+    ensures some { IfSome result (λ e. (at ≤ e.0) × (get nat_cmp (leaf_entries leaf.now) e.0 ≡ Some e.1)) }
+    ensures first { IfSome result (λ e. (v : ℕ) → at ≤ v → v < e.0 → get nat_cmp (leaf_entries leaf.now) v ≡ None) }
+    ensures none { IfNone result ((v : ℕ) → at ≤ v → get nat_cmp (leaf_entries leaf.now) v ≡ None) }
+{
+    let block = leaf.block;
+    let (place, entry) = leaf.first_from(place_from(block, at))?;
+    Some((Vpn::new(block * 512 + place as u64), entry))
 }
 
 /// Appends the entries of a leaf to a list, in ascending order.
-fn list_places<A: Allocator + Copy>(
-    places: &Places,
+pub(crate) fn list_leaf<A: Allocator + Copy>(
+    leaf: &Places,
     list: &mut Vec<(Vpn, Entry), A>,
 ) -> Result<(), AllocError>
-    requires { places.now.block < 2 ^ 55 }
-    ensures { OnOk result (list.new.items ≡ list.old.items ++ leaf_entries places.now) }
+    requires { leaf.now.block < 2 ^ 55 }
+    ensures { OnOk result (list.new.items ≡ list.old.items ++ leaf_entries leaf.now) }
 {
     let mut from = 0;
-    while let Some((place, entry)) = places.first_from(from) {
-        list.push((Vpn::new(places.block * 512 + place as u64), entry))?;
+    while let Some((place, entry)) = leaf.first_from(from) {
+        list.push((Vpn::new(leaf.block * 512 + place as u64), entry))?;
         from = place + 1;
     }
     Ok(())

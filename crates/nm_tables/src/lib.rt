@@ -1,15 +1,19 @@
 //! The page table of a process: what stands at each page number that is not absent.
 #![tactic(auto)]
 
+mod blocks;
 mod branch;
+mod cell;
 #[cfg(test)]
 mod drawn;
 mod entry;
+mod index;
 pub mod laws;
 mod leaf;
 mod marks;
 mod node;
 mod places;
+mod slot;
 mod subtree;
 mod table;
 #[cfg(test)]

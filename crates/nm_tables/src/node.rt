@@ -1,4 +1,4 @@
-//! The inner nodes of a page table that have several parts.
+//! The inner nodes of an index that have several parts.
 
 ghost use Rattle.std.specs.Prelude.{◌≡◌, [], IfOk, IfErr};
 ghost use Rattle.std.specs.List.Sorted.{IsStrictlySortedBy};
@@ -6,9 +6,8 @@ ghost use Rattle.std.specs.Map.{keys_of};
 ghost use Rattle.std.specs.Ordering.{nat_cmp};
 ghost use Rattle.nm_tables.specs.Parts.{StandsAt, FitsAt, BeginsAt};
 
-use crate::entry::Entry;
+use crate::slot::Slot;
 use crate::subtree::Subtree;
-use nm_types::Vpn;
 use std::alloc::{AllocError, Allocator};
 
 /// The parts of an inner node that has several: those at its 512 places that are taken, by their numbers, in ascending
@@ -68,9 +67,9 @@ impl<T: Subtree<A>, A: Allocator + Copy> Subtree<A> for Node<T, A> {
     ghost use Rattle.std.specs.List.{AllByRecursion};
     ghost use Rattle.std.specs.Map.{keys_of};
     ghost use Rattle.nm_tables.specs.Tree.{joined};
-    ghost use Rattle.nm_tables.specs.Nodes.{shown, IsNode, node_ordered, node_part, upwards_again, blocks_again};
+    ghost use Rattle.nm_tables.specs.Nodes.{shown, IsNode, node_ordered, node_part, upwards_again};
 
-    ghost entries = { λ n. joined (shown T.entries n.parts.items) };
+    ghost slots = { λ n. joined (shown T.slots n.parts.items) };
 
     ghost number = { λ v. T.number v / 512 };
 
@@ -80,25 +79,25 @@ impl<T: Subtree<A>, A: Allocator + Copy> Subtree<A> for Node<T, A> {
 
     ghost takes = { λ n v. Unit {0} };
 
-    fn number_of(vpn: Vpn) -> u64 {
-        T::number_of(vpn) / 512
+    fn number_of(block: u64) -> u64 {
+        T::number_of(block) / 512
     }
 
-    fn holding(alloc: A, vpn: Vpn, entry: Entry) -> Result<Self, AllocError> {
+    fn holding(alloc: A, block: u64, slot: Slot) -> Result<Self, AllocError> {
         let mut node = Node::new(alloc);
-        let part = T::holding(alloc, vpn, entry)?;
-        node.parts.push((T::number_of(vpn), part))?;
+        let part = T::holding(alloc, block, slot)?;
+        node.parts.push((T::number_of(block), part))?;
         Ok(node)
     }
 
-    fn get(&self, vpn: Vpn) -> Option<Entry> {
-        match place_of(self.parts.as_slice(), T::number_of(vpn)) {
-            Ok(place) => self.parts[place].1.get(vpn),
+    fn get(&self, block: u64) -> Option<Slot> {
+        match place_of(self.parts.as_slice(), T::number_of(block)) {
+            Ok(place) => self.parts[place].1.get(block),
             Err(_) => None,
         }
     }
 
-    fn first_from(&self, at: Vpn) -> Option<(Vpn, Entry)> {
+    fn first_from(&self, at: u64) -> Option<(u64, Slot)> {
         let from = place_from(self.parts.as_slice(), T::number_of(at));
         for (_, part) in &self.parts[from..] {
             if let Some(found) = part.first_from(at) {
@@ -108,45 +107,30 @@ impl<T: Subtree<A>, A: Allocator + Copy> Subtree<A> for Node<T, A> {
         None
     }
 
-    fn set(&mut self, alloc: A, vpn: Vpn, entry: Entry) -> Result<(), AllocError> {
-        let number = T::number_of(vpn);
+    fn set(&mut self, alloc: A, block: u64, slot: Slot) -> Result<(), AllocError> {
+        let number = T::number_of(block);
         match place_of(self.parts.as_slice(), number) {
-            Ok(place) => self.parts[place].1.set(alloc, vpn, entry),
+            Ok(place) => self.parts[place].1.set(alloc, block, slot),
             Err(place) => {
-                let part = T::holding(alloc, vpn, entry)?;
+                let part = T::holding(alloc, block, slot)?;
                 self.parts.insert(place, (number, part))?;
                 Ok(())
             }
         }
     }
 
-    fn replace(&mut self, vpn: Vpn, entry: Entry) {
-        let Ok(place) = place_of(self.parts.as_slice(), T::number_of(vpn)) else {
+    fn replace(&mut self, block: u64, slot: Slot) {
+        let Ok(place) = place_of(self.parts.as_slice(), T::number_of(block)) else {
             unreachable!()
         };
-        self.parts[place].1.replace(vpn, entry);
+        self.parts[place].1.replace(block, slot);
     }
 
-    fn clear(&mut self, vpn: Vpn) {
-        if let Ok(place) = place_of(self.parts.as_slice(), T::number_of(vpn)) {
-            self.parts[place].1.clear(vpn);
-        }
-    }
+    ghost ordered = { λ x w. node_ordered T.slots T.number T.whole T.is_in T.parted T.upwards x.parts.items w };
 
-    fn list(&self, list: &mut Vec<(Vpn, Entry), A>) -> Result<(), AllocError> {
-        for (_, part) in &self.parts {
-            part.list(list)?;
-        }
-        Ok(())
-    }
-
-    ghost ordered = { λ x w. node_ordered T.entries T.number T.whole T.is_in T.parted T.upwards x.parts.items w };
-
-    ghost parted = { λ x i w n. node_part T.entries T.number T.whole T.is_in T.parted T.upwards x.parts.items i w n };
+    ghost parted = { λ x i w n. node_part T.slots T.number T.whole T.is_in T.parted T.upwards x.parts.items i w n };
 
     ghost takes_own = { λ x v n. tt };
 
     ghost upwards = { upwards_again T.number T.upwards };
-
-    ghost blocks = { blocks_again T.number T.blocks };
 }

@@ -8,14 +8,14 @@ use crate::marks::Marks;
 use nm_types::FrameId;
 
 /// The places of an aligned block of 512 page numbers. A place that names a frame has a page there, or with a mark one
-/// on its way to it. A place without a frame is absent, or with a mark the page of zeros. That is 2,184 bytes: 32 bits
+/// on its way to it. A place without a frame is absent, or with a mark the page of zeros. That is 1,160 bytes: 16 bits
 /// for the frame and two marks.
 #[derive(Drop)]
 pub(crate) struct Places {
     pub(crate) block: u64,
     named: Marks,
     marked: Marks,
-    frames: [u32; 512],
+    frames: [u16; 512],
 }
 
 impl Places {
@@ -77,7 +77,7 @@ impl Places {
     }
 
     /// Puts the parts of an entry at a place.
-    fn write(&mut self, place: usize, named: bool, marked: bool, frame: u32)
+    fn write(&mut self, place: usize, named: bool, marked: bool, frame: u16)
         requires { place < 512 }
         ensures here { stands_at self.new place ≡ entry_of named marked frame }
         ensures others { (i : ℕ) → (i ≡ place → ⊥) → stands_at self.new i ≡ stands_at self.old i }

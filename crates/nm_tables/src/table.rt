@@ -6,23 +6,18 @@ ghost use Rattle.std.specs.Map.{keys_of};
 ghost use Rattle.std.specs.Ordering.{nat_cmp};
 ghost use Rattle.nm_types.specs.Map.{get, set, replace, without};
 
-use crate::branch::Branch;
+use crate::blocks::Blocks;
 use crate::entry::Entry;
-use crate::leaf::Leaf;
-use crate::subtree::Subtree;
 use nm_types::Vpn;
 use std::alloc::{AllocError, Allocator};
 use std::marker::Model;
-
-/// The upper three levels, over the leaves.
-type Root<A> = Branch<Branch<Branch<Leaf<A>, A>, A>, A>;
 
 /// What a process has at its page numbers. A number without an entry is absent. Contracts see the map from page number
 /// to entry.
 #[derive(Drop)]
 pub struct PageTable<A: Allocator + Copy> {
     alloc: A,
-    root: Root<A>,
+    blocks: Blocks<A>,
 }
 
 impl<A: Allocator + Copy> Model for PageTable<A> {
@@ -32,11 +27,11 @@ impl<A: Allocator + Copy> Model for PageTable<A> {
 
     ghost Value = { Map ℕ Entry };
 
-    ghost use Rattle.nm_tables.specs.Table.{tree_entries, IsTree};
+    ghost use Rattle.nm_tables.specs.Blocks.{block_entries, IsBlocks};
 
-    ghost view = { λ t. tree_entries t.root };
+    ghost view = { λ t. block_entries t.blocks };
 
-    ghost invariant = { λ t. IsTree t.root };
+    ghost invariant = { λ t. IsBlocks t.blocks };
 }
 
 impl<A: Allocator + Copy> PageTable<A> {
@@ -46,7 +41,7 @@ impl<A: Allocator + Copy> PageTable<A> {
     {
         PageTable {
             alloc,
-            root: Branch::Empty,
+            blocks: Blocks::new(alloc),
         }
     }
 
@@ -55,7 +50,7 @@ impl<A: Allocator + Copy> PageTable<A> {
         ensures entry { result ≡ get nat_cmp self.now vpn }
         ensures ordered { IsStrictlySortedBy nat_cmp (keys_of self.now) }
     {
-        self.root.get(vpn)
+        self.blocks.get(vpn)
     }
 
     /// The first entry at or after a page number, with its page number. None if all of these are absent. It takes no
@@ -66,7 +61,7 @@ impl<A: Allocator + Copy> PageTable<A> {
         ensures none { IfNone result ((v : ℕ) → at ≤ v → get nat_cmp self.now v ≡ None) }
         ensures ordered { IsStrictlySortedBy nat_cmp (keys_of self.now) }
     {
-        self.root.first_from(at)
+        self.blocks.first_from(at)
     }
 
     /// Puts an entry at a page number, in place of one that is there. Any number is accepted, even one past the areas.
@@ -78,7 +73,7 @@ impl<A: Allocator + Copy> PageTable<A> {
         ensures empty { OnErr result ((v : ℕ) → v / 512 ≡ vpn / 512 → get nat_cmp self.old v ≡ None) }
         ensures ordered { IsStrictlySortedBy nat_cmp (keys_of self.old) }
     {
-        self.root.set(self.alloc, vpn, entry)
+        self.blocks.set(vpn, entry)
     }
 
     /// Puts another entry at a page number that is not absent. It takes no memory.
@@ -87,7 +82,7 @@ impl<A: Allocator + Copy> PageTable<A> {
         ensures entry { self.new ≡ replace nat_cmp self.old vpn entry }
         ensures ordered { IsStrictlySortedBy nat_cmp (keys_of self.old) }
     {
-        self.root.replace(vpn, entry);
+        self.blocks.replace(vpn, entry);
     }
 
     /// Makes a page number absent. One that is absent stays so. It takes no memory.
@@ -95,7 +90,7 @@ impl<A: Allocator + Copy> PageTable<A> {
         ensures entry { self.new ≡ without nat_cmp self.old vpn }
         ensures ordered { IsStrictlySortedBy nat_cmp (keys_of self.old) }
     {
-        self.root.clear(vpn);
+        self.blocks.clear(vpn);
     }
 
     /// All entries with their page numbers, in ascending order. An error means that the host is out of memory.
@@ -104,7 +99,7 @@ impl<A: Allocator + Copy> PageTable<A> {
         ensures ordered { IsStrictlySortedBy nat_cmp (keys_of self.now) }
     {
         let mut list = Vec::new(self.alloc);
-        self.root.list(&mut list)?;
+        self.blocks.list(&mut list)?;
         Ok(list)
     }
 }

@@ -172,7 +172,7 @@ impl<A: Allocator + Copy> Geometry<A> {
         ensures below { result < node_count self.now }
         ensures stretch { Owns self.now result frame }
     {
-        let mut rest = frame.number();
+        let mut rest = u32::from(frame.number());
         for (node, size) in self.sizes.iter().enumerate() {
             if rest < *size {
                 return NodeId::new(node as u32);

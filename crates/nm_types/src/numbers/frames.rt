@@ -2,10 +2,11 @@ ghost use Rattle.std.specs.Prelude.{◌≡◌, ℕ};
 
 use std::marker::Model;
 
-/// A frame's number. Each node owns a stretch of consecutive frames, node 0 the first.
+/// A frame's number, of 16 bits: a machine has 16,384 frames at most. Each node owns a stretch of consecutive frames, node
+/// 0 the first.
 #[derive(Clone, Copy, Debug, PartialEq, Eq, PartialOrd, Ord, Hash)]
 pub struct FrameId {
-    number: u32,
+    number: u16,
 }
 
 impl Model for FrameId {
@@ -18,14 +19,14 @@ impl Model for FrameId {
 
 impl FrameId {
     /// The FrameId of this number.
-    pub const fn new(number: u32) -> Self
+    pub const fn new(number: u16) -> Self
         ensures { result ≡ number }
     {
         FrameId { number }
     }
 
     /// Its number.
-    pub const fn number(self) -> u32
+    pub const fn number(self) -> u16
         ensures { result ≡ self }
     {
         self.number

@@ -1,7 +1,11 @@
-use Rattle.std.proofs.Common.{◌≡◌, ◌<◌, [], ◌∷◌, ◌++◌, length, ap, ◌∙◌, arith}
+use Rattle.std.proofs.Common.{◌≡◌, ◌<◌, [], ◌∷◌, ◌++◌, length, ap, ◌∙◌, arith, rules}
 use Rattle.std.proofs.lemmas.Option.{slice_get_within}
+use Rattle.nm_board.proofs.Callers.{can_give}
 use Rattle.nm_crew.proofs.Steps.{beyond, beyond_at_most, beyond_last}
 use Rattle.nm_crew.proofs.worker.work_off.Goals as goal
+
+pub give-requires-clause-copied : goal.give-requires-clause-copied
+give-requires-clause-copied g c = can_give c.args.board.now.jobs c.in-Some.job c.copy.new.self (search (rules, c.in-Some.ensures.job.laid, c.loop-job.invariant.0.own)) c.copy.ensures
 
 pub loop-job-smaller : goal.loop-job-smaller
 loop-job-smaller g c =

@@ -18,14 +18,14 @@ there : (g : Over) (c : goal.Joined-self g) → parts_of c.args.self.now ≡ (c.
 there g c = ap parts_of (sym c.replace.ensures.value ∙ c.in-One.is)
 
 -- both parts, in order
-both : (g : Over) (c : goal.Joined-self g) → c.if-number-own.parts.items ≡ set nat_cmp (parts_of c.args.self.now) (g.T.Subtree.number c.args.vpn) c.in_ok-part.part
+both : (g : Over) (c : goal.Joined-self g) → c.if-number-own.parts.items ≡ set nat_cmp (parts_of c.args.self.now) (g.T.Subtree.number c.args.block) c.in_ok-part.part
 both g c =
     let n = c.in-One.number in
     let x = c.in-One.first in
     let q = c.number_of-own.result in
     let y = c.in_ok-part.part in
-    let named : set nat_cmp ((n, x) ∷ []) q y ≡ set nat_cmp (parts_of c.args.self.now) (g.T.Subtree.number c.args.vpn) y =
-    ap (λ k. set nat_cmp ((n, x) ∷ []) k y) c.number_of-own.ensures ∙ ap (λ ps. set nat_cmp ps (g.T.Subtree.number c.args.vpn) y) (sym (there g c)) in
+    let named : set nat_cmp ((n, x) ∷ []) q y ≡ set nat_cmp (parts_of c.args.self.now) (g.T.Subtree.number c.args.block) y =
+    ap (λ k. set nat_cmp ((n, x) ∷ []) k y) c.number_of-own.ensures ∙ ap (λ ps. set nat_cmp ps (g.T.Subtree.number c.args.block) y) (sym (there g c)) in
     elim c.if-number-own.branch [
       | then-number-own w ↦
           let first = w.push_reserved.ensures.items ∙ ap (λ ps. ps ++ (n, x) ∷ []) c.in_ok-parts.ensures.items in
@@ -33,17 +33,17 @@ both g c =
           ∙ set_behind n q x y w.if-number-own.true ∙ named
       | else-number-own w ↦
           let first = w.push_reserved-else-number-own.ensures.items ∙ ap (λ ps. ps ++ (q, y) ∷ []) c.in_ok-parts.ensures.items in
-          let apart = another (parts_of c.args.self.now) n (g.T.Subtree.number c.args.vpn) x (there g c) c.requires.apart in
+          let apart = another (parts_of c.args.self.now) n (g.T.Subtree.number c.args.block) x (there g c) c.requires.apart in
           ap (λ v. v.items) w.parts-is ∙ w.push_reserved-else-number-own-2.ensures.items ∙ ap (λ ps. ps ++ (n, x) ∷ []) first
           ∙ set_before n q x y (above_it n q w.if-number-own.false (λ e. apart (e ∙ c.number_of-own.ensures))) ∙ named
     ]
 
 pub returns-clause-ok : goal.returns-clause-ok
 returns-clause-ok g c =
-    ap (λ ps. joined (shown g.T.Subtree.entries ps)) (both g c)
-    ∙ node.node-new g.T.Subtree.entries g.T.Subtree.number g.T.Subtree.whole g.T.Subtree.is_in g.met.T.Subtree.parted g.met.T.Subtree.upwards (parts_of c.args.self.now) c.requires.kept c.args.vpn c.in_ok-part.part c.args.entry c.requires.apart c.in_ok-part.ensures.one
+    ap (λ ps. joined (shown g.T.Subtree.slots ps)) (both g c)
+    ∙ node.node-new g.T.Subtree.slots g.T.Subtree.number g.T.Subtree.whole g.T.Subtree.is_in g.met.T.Subtree.parted g.met.T.Subtree.upwards (parts_of c.args.self.now) c.requires.kept c.args.block c.in_ok-part.part c.args.slot c.requires.apart c.in_ok-part.ensures.one
 
 pub returns-clause-kept : goal.returns-clause-kept
 returns-clause-kept g c =
     subst (IsNode g.T.Subtree.whole g.T.Subtree.is_in) (sym (both g c))
-    (node.node-more g.T.Subtree.entries g.T.Subtree.number g.T.Subtree.whole g.T.Subtree.is_in g.met.T.Subtree.parted g.met.T.Subtree.upwards (parts_of c.args.self.now) c.requires.kept (g.T.Subtree.number c.args.vpn) c.in_ok-part.part c.in_ok-part.ensures.kept c.in_ok-part.ensures.inside)
+    (node.node-more g.T.Subtree.slots g.T.Subtree.number g.T.Subtree.whole g.T.Subtree.is_in g.met.T.Subtree.parted g.met.T.Subtree.upwards (parts_of c.args.self.now) c.requires.kept (g.T.Subtree.number c.args.block) c.in_ok-part.part c.in_ok-part.ensures.kept c.in_ok-part.ensures.inside)

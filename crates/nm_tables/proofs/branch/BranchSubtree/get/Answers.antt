@@ -7,5 +7,5 @@ use Rattle.nm_tables.proofs.branch.BranchSubtree.get.Goals as goal
 pub returns-else-number-number_of : goal.returns-else-number-number_of
 returns-else-number-number_of g c =
     let parts = parts_of c.args.self.now in
-    let none = absent_beside parts c.in-One.number (g.T.Subtree.number c.args.vpn) c.in-One.part (ap parts_of c.in-One.is) (λ e. c.if-number-number_of.false (e ∙ sym c.number_of.ensures)) in
-    sym (node.node-get_none g.T.Subtree.entries g.T.Subtree.number g.T.Subtree.whole g.T.Subtree.is_in g.met.T.Subtree.parted g.met.T.Subtree.upwards parts c.requires.kept c.args.vpn none)
+    let none = absent_beside parts c.in-One.number (g.T.Subtree.number c.args.block) c.in-One.part (ap parts_of c.in-One.is) (λ e. c.if-number-number_of.false (e ∙ sym c.number_of.ensures)) in
+    sym (node.node-get_none g.T.Subtree.slots g.T.Subtree.number g.T.Subtree.whole g.T.Subtree.is_in g.met.T.Subtree.parted g.met.T.Subtree.upwards parts c.requires.kept c.args.block none)

@@ -23,10 +23,10 @@ loop-part-init g c =
     between_is parts from (g.T.Subtree.number c.args.at) begins ∙ sym left in
     record {
       kept = subst (IsNode g.T.Subtree.whole g.T.Subtree.is_in) all
-          (walk.node-range g.T.Subtree.entries g.T.Subtree.number g.T.Subtree.whole g.T.Subtree.is_in g.met.T.Subtree.parted g.met.T.Subtree.upwards (g.T.Subtree.number c.args.at) parts c.requires.kept);
+          (walk.node-range g.T.Subtree.slots g.T.Subtree.number g.T.Subtree.whole g.T.Subtree.is_in g.met.T.Subtree.parted g.met.T.Subtree.upwards (g.T.Subtree.number c.args.at) parts c.requires.kept);
       same = λ v low.
-          walk.walk-start g.T.Subtree.entries g.T.Subtree.number g.T.Subtree.whole g.T.Subtree.is_in g.met.T.Subtree.parted g.met.T.Subtree.upwards c.args.at parts c.requires.kept v low
-          ∙ ap (λ ps. get nat_cmp (joined (shown g.T.Subtree.entries ps)) v) all;
+          walk.walk-start g.T.Subtree.slots g.T.Subtree.number g.T.Subtree.whole g.T.Subtree.is_in g.met.T.Subtree.parted g.met.T.Subtree.upwards c.args.at parts c.requires.kept v low
+          ∙ ap (λ ps. get nat_cmp (joined (shown g.T.Subtree.slots ps)) v) all;
     }
 
 pub returns-in-Some-clause-some : goal.returns-in-Some-clause-some
@@ -38,8 +38,8 @@ returns-in-Some-clause-some g c =
     let some = c.in-Some.ensures.some in (
       some.0,
       l.invariant.same c.in-Some.found.0 some.0
-          ∙ ap (λ ps. get nat_cmp (joined (shown g.T.Subtree.entries ps)) c.in-Some.found.0) here
-          ∙ walk.walk-some g.T.Subtree.entries g.T.Subtree.number g.T.Subtree.whole g.T.Subtree.is_in g.met.T.Subtree.parted g.met.T.Subtree.upwards e (drop (l.part-index + 1) xs) c.in-Some.found.0 c.in-Some.found.1 some.1,
+          ∙ ap (λ ps. get nat_cmp (joined (shown g.T.Subtree.slots ps)) c.in-Some.found.0) here
+          ∙ walk.walk-some g.T.Subtree.slots g.T.Subtree.number g.T.Subtree.whole g.T.Subtree.is_in g.met.T.Subtree.parted g.met.T.Subtree.upwards e (drop (l.part-index + 1) xs) c.in-Some.found.0 c.in-Some.found.1 some.1,
     )
 
 pub returns-in-Some-clause-first : goal.returns-in-Some-clause-first
@@ -49,8 +49,8 @@ returns-in-Some-clause-first g c v low high =
     let e = c.loop-part-item.result in
     let here : drop l.part-index xs ≡ e ∷ drop (l.part-index + 1) xs = drop_more xs l.part-index e (omega arith) ∙ ap (λ d. d ∷ drop (l.part-index + 1) xs) (sym c.loop-part-item.is) in
     l.invariant.same v low
-    ∙ ap (λ ps. get nat_cmp (joined (shown g.T.Subtree.entries ps)) v) here
-    ∙ walk.walk-before g.T.Subtree.entries g.T.Subtree.number g.T.Subtree.whole g.T.Subtree.is_in g.met.T.Subtree.parted g.met.T.Subtree.upwards e (drop (l.part-index + 1) xs)
+    ∙ ap (λ ps. get nat_cmp (joined (shown g.T.Subtree.slots ps)) v) here
+    ∙ walk.walk-before g.T.Subtree.slots g.T.Subtree.number g.T.Subtree.whole g.T.Subtree.is_in g.met.T.Subtree.parted g.met.T.Subtree.upwards e (drop (l.part-index + 1) xs)
     (subst (IsNode g.T.Subtree.whole g.T.Subtree.is_in) here l.invariant.kept)
     c.in-Some.found.0 c.in-Some.found.1 c.in-Some.ensures.some.1 v high (c.in-Some.ensures.first v low high)
 
@@ -61,9 +61,9 @@ loop-part-preserved g c =
     let e = c.loop-part-item.result in
     let here : drop l.part-index xs ≡ e ∷ drop (l.part-index + 1) xs = drop_more xs l.part-index e (omega arith) ∙ ap (λ d. d ∷ drop (l.part-index + 1) xs) (sym c.loop-part-item.is) in
     record {
-      kept = walk.node-tail g.T.Subtree.entries g.T.Subtree.number g.T.Subtree.whole g.T.Subtree.is_in g.met.T.Subtree.parted g.met.T.Subtree.upwards e (drop (l.part-index + 1) xs) (subst (IsNode g.T.Subtree.whole g.T.Subtree.is_in) here l.invariant.kept);
+      kept = walk.node-tail g.T.Subtree.slots g.T.Subtree.number g.T.Subtree.whole g.T.Subtree.is_in g.met.T.Subtree.parted g.met.T.Subtree.upwards e (drop (l.part-index + 1) xs) (subst (IsNode g.T.Subtree.whole g.T.Subtree.is_in) here l.invariant.kept);
       same = λ v low.
           l.invariant.same v low
-          ∙ ap (λ ps. get nat_cmp (joined (shown g.T.Subtree.entries ps)) v) here
-          ∙ walk.walk-on g.T.Subtree.entries g.T.Subtree.number g.T.Subtree.whole g.T.Subtree.is_in g.met.T.Subtree.parted g.met.T.Subtree.upwards e (drop (l.part-index + 1) xs) v (c.in_default.ensures.none v low);
+          ∙ ap (λ ps. get nat_cmp (joined (shown g.T.Subtree.slots ps)) v) here
+          ∙ walk.walk-on g.T.Subtree.slots g.T.Subtree.number g.T.Subtree.whole g.T.Subtree.is_in g.met.T.Subtree.parted g.met.T.Subtree.upwards e (drop (l.part-index + 1) xs) v (c.in_default.ensures.none v low);
     }

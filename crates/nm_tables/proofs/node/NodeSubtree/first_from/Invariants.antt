@@ -10,5 +10,5 @@ abbrev pub invariant-loop-part : goal.invariant-loop-part
 invariant-loop-part g l =
     record {
       kept : IsNode g.T.Subtree.whole g.T.Subtree.is_in (drop l.part-index l.part-items);
-      same : (v : ℕ) → l.at ≤ v → get nat_cmp (joined (shown g.T.Subtree.entries l.self.parts.items)) v ≡ get nat_cmp (joined (shown g.T.Subtree.entries (drop l.part-index l.part-items))) v;
+      same : (v : ℕ) → l.at ≤ v → get nat_cmp (joined (shown g.T.Subtree.slots l.self.parts.items)) v ≡ get nat_cmp (joined (shown g.T.Subtree.slots (drop l.part-index l.part-items))) v;
     }

@@ -1,0 +1,10 @@
+use Rattle.std.proofs.Common.{◌≡◌, length, sym, ap, subst, arith}
+use Rattle.nm_tables.specs.Blocks.{IsSlot, IsSlotOf, AreBlocks, without_leaf}
+use Rattle.nm_tables.proofs.Parts.{no_parts}
+use Rattle.nm_tables.proofs.blocks.Blocks.new.Goals as goal
+
+pub returns-clause-kept : goal.returns-clause-kept
+returns-clause-kept g c =
+    let leaves = c.new-2.result.items in
+    let none : length leaves ≡ 0 = ap length c.new-2.ensures.items in
+    (subst (AreBlocks leaves) (sym c.new.ensures) (no_parts IsSlot (IsSlotOf leaves)), ap without_leaf (sym c.new.ensures), omega (arith, none))

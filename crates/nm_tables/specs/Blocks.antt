@@ -1,0 +1,73 @@
+-- The blocks of a page table: each has a slot, which says where its entries stand.
+use Rattle.std.specs.Prelude.{◌≡◌, ℕ, ◌+◌, ◌/◌, ◌<◌, ◌≤◌, ◌^◌, List, [], ◌∷◌, length, Option, Some, None, slice_get}
+use Rattle.std.specs.Vec.{vec_capacity}
+use Rattle.nm_types.specs.Map.{Map}
+use Rattle.nm_tables.specs.Tree.{joined}
+use Rattle.nm_tables.specs.Nodes.{shown, IsNode}
+use Rattle.nm_tables.specs.Leaves.{leaf_entries}
+use Rattle.nm_tables.specs.declared.entry.Entry.{Entry}
+use Rattle.nm_tables.specs.declared.places.Places.{Places}
+use Rattle.nm_tables.specs.declared.slot.Slot.{Slot}
+use Rattle.nm_tables.specs.declared.slot.Slot.TheVariants.{Bare, Lone, Leaf}
+use Rattle.nm_tables.specs.declared.blocks.Blocks.{Blocks}
+
+-- the entries of a leaf that there is
+abbrev pub entries_there : Option Places → Map ℕ Entry
+entries_there None = []
+entries_there (Some leaf) = leaf_entries leaf
+
+-- the entries of a block with this slot
+abbrev pub slot_entries : List Places → Slot → Map ℕ Entry
+slot_entries leaves Bare = []
+slot_entries leaves (Lone v entry) = (v, entry) ∷ []
+slot_entries leaves (Leaf i) = entries_there (slice_get leaves i)
+
+-- a leaf that there is, of this block
+abbrev pub IsLeafOf : Option Places → ℕ → Type 0
+IsLeafOf None block = ⊥
+IsLeafOf (Some leaf) block = leaf.block ≡ block
+
+-- the slot may be that of this block: what it names belongs there
+abbrev pub IsOf : List Places → Slot → ℕ → Type 0
+IsOf leaves Bare block = Unit {0}
+IsOf leaves (Lone v entry) block = v / 512 ≡ block
+IsOf leaves (Leaf i) block = IsLeafOf (slice_get leaves i) block
+
+-- the same of a block of page numbers that there are
+abbrev pub IsSlotOf : List Places → Slot → ℕ → Type 0
+IsSlotOf leaves slot block = (block < 2 ^ 55) × IsOf leaves slot block
+
+-- any slot may stand in the index
+abbrev pub IsSlot : Slot → Type 0
+IsSlot slot = Unit {0}
+
+-- one for a slot without a leaf
+abbrev pub lacks : Slot → ℕ
+lacks Bare = 1
+lacks (Lone v entry) = 1
+lacks (Leaf i) = 0
+
+-- how many blocks have no leaf
+abbrev pub without_leaf : Map ℕ Slot → ℕ
+without_leaf [] = 0
+without_leaf (e ∷ index) = lacks e.1 + without_leaf index
+
+-- the entries of all blocks
+abbrev pub entries_by : List Places → Map ℕ Slot → Map ℕ Entry
+entries_by leaves index = joined (shown (slot_entries leaves) index)
+
+-- each block in order with a slot of its own
+abbrev pub AreBlocks : List Places → Map ℕ Slot → Type 0
+AreBlocks leaves index = IsNode IsSlot (IsSlotOf leaves) index
+
+module _ {A : Type 0} where
+  -- the entries of a page table
+  abbrev pub block_entries : Blocks A → Map ℕ Entry
+  block_entries blocks = entries_by blocks.leaves.items blocks.index
+
+  -- blocks of which those without a leaf are counted, and have room for one
+  abbrev pub IsBlocks : Blocks A → Type 0
+  IsBlocks blocks =
+      AreBlocks blocks.leaves.items blocks.index
+      × (blocks.without ≡ without_leaf blocks.index)
+      × (length blocks.leaves.items + blocks.without ≤ vec_capacity blocks.leaves)

@@ -1,0 +1,17 @@
+-- A block by itself: one number, and its slot.
+use Rattle.std.proofs.Common.{◌≡◌, ℕ, [], ◌∷◌}
+use Rattle.std.specs.List.Sorted.{IsStrictlySortedBy}
+use Rattle.std.specs.Map.{keys_of}
+use Rattle.std.specs.Ordering.{nat_cmp}
+use Rattle.nm_tables.specs.Tree.{IsPart}
+
+module _ {V : Type 0} where
+  -- one number is in ascending order
+  pub cell_ordered : (block : ℕ) (slot : V) → IsStrictlySortedBy nat_cmp (keys_of ((block, slot) ∷ []))
+  unfolding IsStrictlySortedBy
+  cell_ordered block slot = (tt, tt)
+
+  -- and has its own number
+  pub cell_part : (block : ℕ) (slot : V) (i : ℕ) → block ≡ i → IsPart (λ v. v) i ((block, slot) ∷ [])
+  unfolding IsStrictlySortedBy
+  cell_part block slot i e = ((tt, tt), (e, tt))

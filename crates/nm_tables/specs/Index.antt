@@ -1,0 +1,45 @@
+-- An index: blocks, and three levels of inner nodes over them.
+use Rattle.std.specs.Prelude.{◌≡◌, ℕ, ◌/◌, [], ◌∷◌}
+use Rattle.std.specs.List.{AllByRecursion}
+use Rattle.std.specs.Map.{keys_of}
+use Rattle.nm_types.specs.Map.{Map}
+use Rattle.nm_tables.specs.Tree.{joined}
+use Rattle.nm_tables.specs.Nodes.{shown, IsNode}
+use Rattle.nm_tables.specs.declared.slot.Slot.{Slot}
+use Rattle.nm_tables.specs.declared.cell.Cell.{Cell}
+use Rattle.nm_tables.specs.Branches.{parts_of}
+use Rattle.nm_tables.specs.declared.branch.Branch.{Branch}
+
+-- the slot of a block by itself
+abbrev pub slots_in_cell : Cell → Map ℕ Slot
+slots_in_cell cell = (cell.block, cell.slot) ∷ []
+
+-- a block may have any slot
+abbrev pub IsCell : Cell → Type 0
+IsCell cell = Unit {0}
+
+-- the cell of this block
+abbrev pub IsCellOf : Cell → ℕ → Type 0
+IsCellOf cell i = cell.block ≡ i
+
+module _ {A P : Type 0} where
+  -- the slots of a node, by those of its parts
+  abbrev pub slots_in : (P → Map ℕ Slot) → Branch P A → Map ℕ Slot
+  slots_in slots node = joined (shown slots (parts_of node))
+
+  -- parts in order, each whole and of its own number
+  abbrev pub IsInner : (P → Type 0) → (P → ℕ → Type 0) → Branch P A → Type 0
+  IsInner whole is_in node = IsNode whole is_in (parts_of node)
+
+  -- the node of this number
+  abbrev pub IsInnerOf : Branch P A → ℕ → Type 0
+  IsInnerOf node i = AllByRecursion (λ k. k / 512 ≡ i) (keys_of (parts_of node))
+
+module _ {A : Type 0} where
+  -- the slots of an index
+  abbrev pub tree_slots : Branch (Branch (Branch Cell A) A) A → Map ℕ Slot
+  tree_slots root = slots_in (slots_in (slots_in slots_in_cell)) root
+
+  -- a tree of which each part is where its number says
+  abbrev pub IsTree : Branch (Branch (Branch Cell A) A) A → Type 0
+  IsTree root = IsInner (IsInner (IsInner IsCell IsCellOf) IsInnerOf) IsInnerOf root

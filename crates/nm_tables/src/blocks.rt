@@ -1,0 +1,214 @@
+//! The blocks of a page table, and where the entries of each stand.
+
+ghost use Rattle.std.specs.Prelude.{◌≡◌, ◌≤◌, ◌<◌, ◌/◌, ◌^◌, ℕ, [], ◌++◌, None, Some, IsSome, IfSome, IfNone, OnOk, OnErr};
+ghost use Rattle.std.specs.List.Sorted.{IsStrictlySortedBy};
+ghost use Rattle.std.specs.Map.{keys_of};
+ghost use Rattle.std.specs.Ordering.{nat_cmp};
+ghost use Rattle.nm_types.specs.Map.{get, set, replace, without};
+ghost use Rattle.nm_tables.specs.Blocks.{slot_entries, IsSlotOf, block_entries, IsBlocks};
+ghost use Rattle.nm_tables.specs.declared.slot.Slot.TheVariants.{Lone};
+
+use crate::entry::Entry;
+use crate::index::Index;
+use crate::leaf::{clear_in, entry_in, first_in, list_leaf, set_in};
+use crate::places::Places;
+use crate::slot::Slot;
+use nm_types::Vpn;
+use std::alloc::{AllocError, Allocator};
+
+/// The entries of a page table, by blocks of 512 page numbers. A block has a leaf from its second entry on. Room for the
+/// leaf is set aside with its first, and costs no memory until it is written to.
+#[derive(Drop)]
+pub(crate) struct Blocks<A: Allocator + Copy> {
+    /// What each block has that has had an entry.
+    index: Index<A>,
+    /// In the order in which they came.
+    leaves: Vec<Places, A>,
+    /// How many blocks have no leaf. There is room for as many more.
+    without: usize,
+}
+
+/// The number of the block that has a page number: all but its last nine bits.
+fn block_of(vpn: Vpn) -> u64
+    ensures number { result ≡ vpn / 512 }
+    ensures fits { result < 2 ^ 55 }
+{
+    vpn.number() / 512
+}
+
+impl<A: Allocator + Copy> Blocks<A> {
+    /// No block has an entry. It takes no memory.
+    pub(crate) fn new(alloc: A) -> Self
+        ensures none { block_entries result ≡ [] }
+        ensures kept { IsBlocks result }
+    {
+        Blocks {
+            index: Index::new(alloc),
+            leaves: Vec::new(alloc),
+            without: 0,
+        }
+    }
+
+    /// The entry at a page number.
+    pub(crate) fn get(&self, vpn: Vpn) -> Option<Entry>
+        requires { IsBlocks self.now }
+        ensures { result ≡ get nat_cmp (block_entries self.now) vpn }
+    {
+        match self.index.get(block_of(vpn))? {
+            Slot::Bare => None,
+            Slot::Lone(own, entry) => { if own == vpn { Some(entry) } else { None } }
+            Slot::Leaf(number) => entry_in(&self.leaves[number], vpn),
+        }
+    }
+
+    /// The first entry at a page number or past it.
+    pub(crate) fn first_from(&self, at: Vpn) -> Option<(Vpn, Entry)>
+        requires { IsBlocks self.now }
+        ensures some { IfSome result (λ e. (at ≤ e.0) × (get nat_cmp (block_entries self.now) e.0 ≡ Some e.1)) }
+        ensures first { IfSome result (λ e. (v : ℕ) → at ≤ v → v < e.0 → get nat_cmp (block_entries self.now) v ≡ None) }
+        ensures none { IfNone result ((v : ℕ) → at ≤ v → get nat_cmp (block_entries self.now) v ≡ None) }
+    {
+        let mut from = block_of(at);
+        while let Some((block, slot)) = self.index.first_from(from) {
+            if let Some(found) = self.first_of(slot, at) {
+                return Some(found);
+            }
+            from = block + 1;
+        }
+        None
+    }
+
+    /// The first entry of a block with this slot at a page number or past it.
+    fn first_of(&self, slot: Slot, at: Vpn) -> Option<(Vpn, Entry)>
+        requires { (block : ℕ) × IsSlotOf self.now.leaves.items slot block }
+        ensures some { IfSome result (λ e. (at ≤ e.0) × (get nat_cmp (slot_entries self.now.leaves.items slot) e.0 ≡ Some e.1)) }
+        ensures first { IfSome result (λ e. (v : ℕ) → at ≤ v → v < e.0 → get nat_cmp (slot_entries self.now.leaves.items slot) v ≡ None) }
+        ensures none { IfNone result ((v : ℕ) → at ≤ v → get nat_cmp (slot_entries self.now.leaves.items slot) v ≡ None) }
+    {
+        match slot {
+            Slot::Bare => None,
+            Slot::Lone(own, entry) => { if own < at { None } else { Some((own, entry)) } }
+            Slot::Leaf(number) => first_in(&self.leaves[number], at),
+        }
+    }
+
+    /// Puts an entry at a page number. An error means that the host is out of memory, that the block has had no entry, and
+    /// that nothing has changed but the room for leaves.
+    pub(crate) fn set(&mut self, vpn: Vpn, entry: Entry) -> Result<(), AllocError>
+        requires { IsBlocks self.old }
+        ensures ok { OnOk result (block_entries self.new ≡ set nat_cmp (block_entries self.old) vpn entry) }
+        ensures err { OnErr result (block_entries self.new ≡ block_entries self.old) }
+        ensures empty { OnErr result (get nat_cmp self.old.index (vpn / 512) ≡ None) }
+        ensures kept { IsBlocks self.new }
+    {
+        match self.index.get(block_of(vpn)) {
+            Some(slot) => {
+                self.put(slot, vpn, entry);
+                Ok(())
+            }
+            None => self.begin(vpn, entry),
+        }
+    }
+
+    /// Puts the first entry into a block that has had none, and sets room aside for its leaf.
+    fn begin(&mut self, vpn: Vpn, entry: Entry) -> Result<(), AllocError>
+        requires kept { IsBlocks self.old }
+        requires empty { get nat_cmp self.old.index (vpn / 512) ≡ None }
+        ensures ok { OnOk result (block_entries self.new ≡ set nat_cmp (block_entries self.old) vpn entry) }
+        ensures err { OnErr result (block_entries self.new ≡ block_entries self.old) }
+        ensures kept { IsBlocks self.new }
+    {
+        self.leaves.reserve(self.without + 1)?;
+        self.index.set(block_of(vpn), Slot::Lone(vpn, entry))?;
+        self.without += 1;
+        Ok(())
+    }
+
+    /// Puts an entry into a block that has this slot. It takes no memory.
+    fn put(&mut self, slot: Slot, vpn: Vpn, entry: Entry)
+        requires kept { IsBlocks self.old }
+        requires there { get nat_cmp self.old.index (vpn / 512) ≡ Some slot }
+        ensures entries { block_entries self.new ≡ set nat_cmp (block_entries self.old) vpn entry }
+        ensures kept { IsBlocks self.new }
+    {
+        match slot {
+            Slot::Bare => self.index.replace(block_of(vpn), Slot::Lone(vpn, entry)),
+            Slot::Lone(own, first) => {
+                if own == vpn {
+                    self.index.replace(block_of(vpn), Slot::Lone(vpn, entry));
+                } else {
+                    self.add_leaf(own, first, vpn, entry);
+                }
+            }
+            Slot::Leaf(number) => set_in(&mut self.leaves[number], vpn, entry),
+        }
+    }
+
+    /// Puts a second entry into a block, which gets its leaf. It takes no memory.
+    fn add_leaf(&mut self, own: Vpn, first: Entry, vpn: Vpn, entry: Entry)
+        requires kept { IsBlocks self.old }
+        requires there { get nat_cmp self.old.index (vpn / 512) ≡ Some (Lone own first) }
+        ensures entries { block_entries self.new ≡ set nat_cmp (block_entries self.old) vpn entry }
+        ensures kept { IsBlocks self.new }
+    {
+        let block = block_of(vpn);
+        let mut leaf = Places::new(block);
+        set_in(&mut leaf, own, first);
+        set_in(&mut leaf, vpn, entry);
+        let number = self.leaves.len();
+        self.leaves.push_reserved(leaf);
+        self.index.replace(block, Slot::Leaf(number));
+        self.without -= 1;
+    }
+
+    /// Puts another entry at a page number that has one. It takes no memory.
+    pub(crate) fn replace(&mut self, vpn: Vpn, entry: Entry)
+        requires kept { IsBlocks self.old }
+        requires there { IsSome (get nat_cmp (block_entries self.old) vpn) }
+        ensures entries { block_entries self.new ≡ replace nat_cmp (block_entries self.old) vpn entry }
+        ensures kept { IsBlocks self.new }
+    {
+        let Some(slot) = self.index.get(block_of(vpn)) else {
+            unreachable!()
+        };
+        self.put(slot, vpn, entry);
+    }
+
+    /// Makes a page number absent. It takes no memory.
+    pub(crate) fn clear(&mut self, vpn: Vpn)
+        requires { IsBlocks self.old }
+        ensures entries { block_entries self.new ≡ without nat_cmp (block_entries self.old) vpn }
+        ensures kept { IsBlocks self.new }
+    {
+        let block = block_of(vpn);
+        let Some(slot) = self.index.get(block) else {
+            return;
+        };
+        match slot {
+            Slot::Bare => {}
+            Slot::Lone(own, _) => {
+                if own == vpn {
+                    self.index.replace(block, Slot::Bare);
+                }
+            }
+            Slot::Leaf(number) => clear_in(&mut self.leaves[number], vpn),
+        }
+    }
+
+    /// Appends all entries to a list, in ascending order.
+    pub(crate) fn list(&self, list: &mut Vec<(Vpn, Entry), A>) -> Result<(), AllocError>
+        requires { IsBlocks self.now }
+        ensures { OnOk result (list.new.items ≡ list.old.items ++ block_entries self.now) }
+    {
+        let mut from = 0;
+        while let Some((block, slot)) = self.index.first_from(from) {
+            match slot {
+                Slot::Bare => {}
+                Slot::Lone(own, entry) => list.push((own, entry))?,
+                Slot::Leaf(number) => list_leaf(&self.leaves[number], list)?,
+            }
+            from = block + 1;
+        }
+        Ok(())
+    }
+}

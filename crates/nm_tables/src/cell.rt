@@ -1,0 +1,66 @@
+//! The lowest parts of an index: one block each.
+
+ghost use Rattle.std.specs.Prelude.{◌≡◌, ◌≤◌, ◌<◌};
+
+use crate::slot::Slot;
+use crate::subtree::Subtree;
+use std::alloc::{AllocError, Allocator};
+
+/// A block with its slot.
+#[derive(Drop)]
+pub(crate) struct Cell {
+    block: u64,
+    slot: Slot,
+}
+
+impl<A: Allocator + Copy> Subtree<A> for Cell {
+    ghost use Rattle.std.specs.Prelude.{◌≡◌, [], ◌∷◌};
+    ghost use Rattle.nm_tables.specs.Cells.{cell_ordered, cell_part};
+
+    ghost slots = { λ c. (c.block, c.slot) ∷ [] };
+
+    ghost number = { λ v. v };
+
+    ghost whole = { λ c. Unit {0} };
+
+    ghost is_in = { λ c i. c.block ≡ i };
+
+    ghost takes = { λ c v. c.block ≡ v };
+
+    fn number_of(block: u64) -> u64 {
+        block
+    }
+
+    fn holding(_alloc: A, block: u64, slot: Slot) -> Result<Self, AllocError> {
+        Ok(Cell { block, slot })
+    }
+
+    fn get(&self, _block: u64) -> Option<Slot> {
+        Some(self.slot)
+    }
+
+    fn first_from(&self, at: u64) -> Option<(u64, Slot)> {
+        if self.block < at {
+            None
+        } else {
+            Some((self.block, self.slot))
+        }
+    }
+
+    fn set(&mut self, _alloc: A, _block: u64, slot: Slot) -> Result<(), AllocError> {
+        self.slot = slot;
+        Ok(())
+    }
+
+    fn replace(&mut self, _block: u64, slot: Slot) {
+        self.slot = slot;
+    }
+
+    ghost ordered = { λ x w. cell_ordered x.block x.slot };
+
+    ghost parted = { λ x i w n. cell_part x.block x.slot i n };
+
+    ghost takes_own = { λ x v n. n };
+
+    ghost upwards = { λ v w l. l };
+}

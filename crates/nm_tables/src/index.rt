@@ -1,0 +1,86 @@
+//! The blocks of a page table that have had an entry, in order.
+
+ghost use Rattle.std.specs.Prelude.{◌≡◌, ◌≤◌, ◌<◌, ℕ, [], None, Some, IsSome, IfSome, IfNone, OnOk, OnErr};
+ghost use Rattle.std.specs.List.Sorted.{IsStrictlySortedBy};
+ghost use Rattle.std.specs.Map.{keys_of};
+ghost use Rattle.std.specs.Ordering.{nat_cmp};
+ghost use Rattle.nm_types.specs.Map.{get, set, replace};
+
+use crate::branch::Branch;
+use crate::cell::Cell;
+use crate::slot::Slot;
+use crate::subtree::Subtree;
+use std::alloc::{AllocError, Allocator};
+use std::marker::Model;
+
+/// Three levels of inner nodes, over the blocks.
+type Root<A> = Branch<Branch<Branch<Cell, A>, A>, A>;
+
+/// The slots of blocks, by the blocks' numbers. Contracts see the map from number to slot.
+#[derive(Drop)]
+pub(crate) struct Index<A: Allocator + Copy> {
+    alloc: A,
+    root: Root<A>,
+}
+
+impl<A: Allocator + Copy> Model for Index<A> {
+    ghost use Rattle.std.specs.Prelude.{ℕ};
+    ghost use Rattle.nm_types.specs.Map.{Map};
+    ghost use Rattle.nm_tables.specs.declared.slot.Slot.{Slot};
+
+    ghost Value = { Map ℕ Slot };
+
+    ghost use Rattle.nm_tables.specs.Index.{tree_slots, IsTree};
+
+    ghost view = { λ t. tree_slots t.root };
+
+    ghost invariant = { λ t. IsTree t.root };
+}
+
+impl<A: Allocator + Copy> Index<A> {
+    /// No block. It takes no memory; `set` takes its from `alloc`.
+    pub(crate) fn new(alloc: A) -> Self
+        ensures { result ≡ [] }
+    {
+        Index {
+            alloc,
+            root: Branch::Empty,
+        }
+    }
+
+    /// The slot of a block.
+    pub(crate) fn get(&self, block: u64) -> Option<Slot>
+        ensures slot { result ≡ get nat_cmp self.now block }
+        ensures ordered { IsStrictlySortedBy nat_cmp (keys_of self.now) }
+    {
+        self.root.get(block)
+    }
+
+    /// The first block from a number on that has a slot, with it.
+    pub(crate) fn first_from(&self, at: u64) -> Option<(u64, Slot)>
+        ensures some { IfSome result (λ e. (at ≤ e.0) × (get nat_cmp self.now e.0 ≡ Some e.1)) }
+        ensures first { IfSome result (λ e. (v : ℕ) → at ≤ v → v < e.0 → get nat_cmp self.now v ≡ None) }
+        ensures none { IfNone result ((v : ℕ) → at ≤ v → get nat_cmp self.now v ≡ None) }
+        ensures ordered { IsStrictlySortedBy nat_cmp (keys_of self.now) }
+    {
+        self.root.first_from(at)
+    }
+
+    /// Gives a block a slot. An error means that the host is out of memory, and that the index is as it was.
+    pub(crate) fn set(&mut self, block: u64, slot: Slot) -> Result<(), AllocError>
+        ensures ok { OnOk result (self.new ≡ set nat_cmp self.old block slot) }
+        ensures err { OnErr result (self.new ≡ self.old) }
+        ensures ordered { IsStrictlySortedBy nat_cmp (keys_of self.old) }
+    {
+        self.root.set(self.alloc, block, slot)
+    }
+
+    /// Gives a block that has a slot another one. It takes no memory.
+    pub(crate) fn replace(&mut self, block: u64, slot: Slot)
+        requires { IsSome (get nat_cmp self.old block) }
+        ensures slot { self.new ≡ replace nat_cmp self.old block slot }
+        ensures ordered { IsStrictlySortedBy nat_cmp (keys_of self.old) }
+    {
+        self.root.replace(block, slot);
+    }
+}
