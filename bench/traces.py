@@ -87,6 +87,15 @@ def to_and_fro(size):
     return trace([8192, 8192], steps)
 
 
+def whole_pages(size):
+    """As to_and_fro, but the last byte of each page is written as well, so that each is copied whole."""
+    pages = [BASE + PAGE * page for page in range(8192)]
+    steps = [map_step(BASE, 8192)] + [write(page + at) for page in pages for at in (0, PAGE - 1)]
+    for number in range(2 * size):
+        steps.append(move_to(pages, 1 - number % 2))
+    return trace([8192, 8192], steps)
+
+
 def migrations(size):
     """So many pages, which fill half of 64 nodes, migrate to the other half and back 20 times."""
     pages = [BASE + PAGE * page for page in range(size)]
@@ -346,6 +355,7 @@ def spawns(size):
 KINDS = {
     small_steps: 25,
     to_and_fro: 4,
+    whole_pages: 4,
     migrations: 1024,
     vain_migrations: 2048,
     runs_of_one: 4,
