@@ -1,6 +1,6 @@
 //! Copying by a crew of workers.
 
-ghost use Rattle.std.specs.Prelude.{◌≡◌, ◌+◌, ◌<◌, ◌≤◌, map, vec_len};
+ghost use Rattle.std.specs.Prelude.{◌≡◌, ◌+◌, ◌<◌, ◌≤◌, length, map, vec_len};
 ghost use Rattle.std.specs.Thread.{IsSync, IsSend};
 ghost use Rattle.nm_frames.specs.Job.{copied};
 ghost use Rattle.nm_board.specs.Tickets.{InTicketOrder};
@@ -22,9 +22,9 @@ use std::thread::{Scope, Threads};
 
 /// Copies the jobs with `workers` workers, 1 to 64, and calls `work` meanwhile. The jobs' tickets count up from 0 in
 /// the list's order. The caller is worker 0: it starts the others, calls `work` once, copies with them, and returns
-/// when their threads have ended. With fewer jobs than `gate.worth_from()`, it copies alone. Returns every job, copied,
-/// in the order of its ticket, and what `work` returned; if the host is out of memory or starts no thread, the workers
-/// that there are do all the copying.
+/// when their threads have ended. With fewer bytes to copy than `gate.worth_from()`, it copies alone. Returns every job,
+/// copied, in the order of its ticket, and what `work` returned; if the host is out of memory or starts no thread, the
+/// workers that there are do all the copying.
 pub fn copy_while<
     A: Allocator + Copy + Send + Sync,
     R: Threads + Wait + Sync,
@@ -71,7 +71,7 @@ pub(crate) fn copy_with<
     ensures jobs { result.0.items ≡ map copied jobs.items }
     ensures work { W.post work result.1 }
 {
-    let others = others(gate, jobs.len(), workers);
+    let others = others(gate, jobs.as_slice(), workers);
     if others == 0 {
         return copy_alone(jobs, gate, work);
     }
@@ -85,16 +85,25 @@ pub(crate) fn copy_with<
 
 /// How many workers there are besides the caller: none where the gate says that it is not worth it, and never more than
 /// jobs.
-fn others<G: Gate>(gate: &G, jobs: usize, workers: usize) -> usize
+fn others<A: Allocator + Copy, G: Gate>(gate: &G, jobs: &[CopyJob<A>], workers: usize) -> usize
     requires { 0 < workers }
     ensures workers { result < workers }
-    ensures jobs { result ≤ jobs }
+    ensures jobs { result ≤ length jobs.now }
 {
-    if jobs < gate.worth_from() {
+    if workers == 1 || size_of(jobs) < gate.worth_from() {
         0
     } else {
-        (workers - 1).min(jobs)
+        (workers - 1).min(jobs.len())
     }
+}
+
+/// How many bytes there are to copy.
+fn size_of<A: Allocator + Copy>(jobs: &[CopyJob<A>]) -> usize {
+    let mut size = 0usize;
+    for job in jobs {
+        size = size.saturating_add(job.size());
+    }
+    size
 }
 
 /// Calls `work` and copies the jobs, all by the caller.

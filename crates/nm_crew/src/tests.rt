@@ -214,11 +214,11 @@ fn a_hundred_jobs(rt: HostRuntime) -> Result<(), Fail> {
     Ok(())
 }
 
-/// From how many jobs on gates let a second worker start.
+/// From how many bytes on gates let a second worker start.
 #[test]
 fn worth_its_start(rt: HostRuntime) {
-    assert_eq!(rt; OpenGate.worth_from(), 1024usize);
-    assert_eq!(rt; Through.worth_from(), 1usize);
+    assert_eq!(rt; OpenGate.worth_from(), 4_194_304usize);
+    assert_eq!(rt; Through.worth_from(), 0usize);
 }
 
 /// Has the host refuse the thread of one worker, or of all where it is worker 0.

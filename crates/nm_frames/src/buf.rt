@@ -1,6 +1,7 @@
 //! A frame's bytes on their own.
 
-ghost use Rattle.std.specs.Prelude.{◌≡◌, length};
+ghost use Rattle.std.specs.Prelude.{◌≡◌, ◌≤◌, length};
+ghost use Rattle.nm_frames.specs.Written.{IsZeroFrom};
 
 use crate::bytes::Bytes;
 use nm_types::FrameId;
@@ -38,6 +39,14 @@ impl<A: Allocator + Copy> FrameBuf<A> {
         ensures whole { length self.now.1 ≡ 4096 }
     {
         self.bytes.as_slice()
+    }
+
+    /// How many of the bytes have been written, from the first on: behind these all are zero.
+    pub(crate) fn written(&self) -> usize
+        ensures zeros { IsZeroFrom self.now.1 result }
+        ensures fits { result ≤ 4096 }
+    {
+        self.bytes.written()
     }
 
     /// Makes the bytes those of another frame.

@@ -2,6 +2,7 @@
 
 ghost use Rattle.std.specs.Prelude.{◌≡◌, ◌+◌, ◌≤◌, length, replicate, IfOk};
 ghost use Rattle.nm_frames.specs.Store.{overwrite};
+ghost use Rattle.nm_frames.specs.Written.{IsZeroFrom};
 
 use nm_types::limits::PAGE_BYTES;
 use std::alloc::{AllocError, Allocator};
@@ -45,6 +46,14 @@ impl<A: Allocator + Copy> Bytes<A> {
         ensures whole { length self.now ≡ 4096 }
     {
         self.bytes.as_slice()
+    }
+
+    /// How many of them have been written, from the first on: behind these all are zero.
+    pub(crate) fn written(&self) -> usize
+        ensures zeros { IsZeroFrom self.now result }
+        ensures fits { result ≤ 4096 }
+    {
+        self.written
     }
 
     /// Makes them zeros.

@@ -15,8 +15,18 @@ pub struct CopyJob<A: Allocator + Copy> {
 }
 
 impl<A: Allocator + Copy> CopyJob<A> {
-    ghost use Rattle.std.specs.Prelude.{◌≡◌};
+    ghost use Rattle.std.specs.Prelude.{◌≡◌, ◌≤◌};
     ghost use Rattle.nm_frames.specs.Job.{copied};
+    ghost use Rattle.nm_frames.specs.Written.{IsZeroFrom};
+
+    /// How many bytes `copy` moves, from the first on: behind these both pages are zero.
+    pub fn size(&self) -> usize
+        ensures source { IsZeroFrom self.now.source.1 result }
+        ensures target { IsZeroFrom self.now.target.1 result }
+        ensures fits { result ≤ 4096 }
+    {
+        self.source.written().max(self.target.written())
+    }
 
     /// Copies the source's bytes to the target. Nothing else of the job changes.
     pub fn copy(&mut self)
