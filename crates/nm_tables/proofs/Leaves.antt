@@ -1,12 +1,11 @@
 -- What a leaf has, by its places, and after one of them is changed.
 use Rattle.std.proofs.Common.{◌≡◌, ℕ, zero, suc, ◌+◌, ◌-◌, ◌*◌, ◌/◌, ◌%◌, ◌≤◌, ◌<◌, Option, [], ◌∷◌, ◌++◌, refl, sym, ap, subst, ◌∙◌, arith, append-nil}
-use Rattle.std.specs.Prelude.{Some, None, IsSome}
+use Rattle.std.specs.Prelude.{Some, None}
 use Rattle.std.specs.List.Sorted.{IsStrictlySortedBy}
 use Rattle.std.specs.Ordering.{nat_cmp}
 use Rattle.std.specs.Cmp.{nat_cmp_total}
-use Rattle.std.proofs.lemmas.Map.Lookups.{exact_unsigned}
-use Rattle.nm_types.specs.Map.{get, set, replace, without}
-use Rattle.nm_types.proofs.Maps.{get-set, replace_is_set}
+use Rattle.nm_types.specs.Map.{get, set, without}
+use Rattle.nm_types.proofs.Maps.{get-set}
 use Rattle.nm_types.proofs.Keys.{sorted-set, sorted-without}
 use Rattle.nm_tables.specs.Tree.{listed, and_then}
 use Rattle.nm_tables.proofs.Joined.{one_or_other, get-here, get-later, get-absent, alike, get-without, at_once, at_other}

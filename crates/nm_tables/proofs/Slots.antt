@@ -1,6 +1,6 @@
 -- The blocks of a page table: what is found of them, and after one of them is changed.
 use Rattle.std.proofs.Common.{◌≡◌, ℕ, zero, suc, ◌+◌, ◌/◌, ◌≤◌, ◌<◌, List, Option, [], ◌∷◌, ◌++◌, length, get_or, true, false, cond, refl, sym, ap, subst, ◌∙◌, arith, append-nil, append_assoc}
-use Rattle.std.specs.Prelude.{Some, None, slice_get, set as put}
+use Rattle.std.specs.Prelude.{Some, None, IfSome, slice_get, set as put}
 use Rattle.std.specs.List.{AllByRecursion}
 use Rattle.std.specs.List.Sorted.{IsStrictlySortedBy}
 use Rattle.std.specs.Map.{keys_of}
@@ -135,6 +135,11 @@ module _ (leaves : List Places) (index : Map ℕ Slot) (is : AreBlocks leaves in
 
   pub blocks-found : (b : ℕ) (slot : Slot) → get nat_cmp index b ≡ Some slot → IsSlotOf leaves slot b
   blocks-found b slot h = (node.found (slot_entries leaves) block_number IsSlot (IsSlotOf leaves) (slot_part leaves) blocks_upwards index is b slot h).1
+
+  -- the same of a block that a walk comes to
+  pub slot-found : (from : ℕ) (o : Option (ℕ × Slot)) → IfSome o (λ e. (from ≤ e.0) × (get nat_cmp index e.0 ≡ Some e.1)) → IfSome o (λ e. IsSlotOf leaves e.1 e.0)
+  slot-found from None h = tt
+  slot-found from (Some e) h = blocks-found e.0 e.1 h.1
 
   pub blocks-get : (v : ℕ) (slot : Slot) → get nat_cmp index (v / 512) ≡ Some slot → get nat_cmp (entries_by leaves index) v ≡ get nat_cmp (slot_entries leaves slot) v
   blocks-get v slot h = node.node-get (slot_entries leaves) block_number IsSlot (IsSlotOf leaves) (slot_part leaves) blocks_upwards index is v slot h

@@ -69,13 +69,24 @@ impl<A: Allocator + Copy> Blocks<A> {
         ensures none { IfNone result ((v : ℕ) → at ≤ v → get nat_cmp (block_entries self.now) v ≡ None) }
     {
         let mut from = block_of(at);
-        while let Some((block, slot)) = self.index.first_from(from) {
+        while let Some((block, slot)) = self.block_from(from) {
             if let Some(found) = self.first_of(slot, at) {
                 return Some(found);
             }
             from = block + 1;
         }
         None
+    }
+
+    /// The first block from a number on that has had an entry, with its slot.
+    fn block_from(&self, from: u64) -> Option<(u64, Slot)>
+        requires { IsBlocks self.now }
+        ensures some { IfSome result (λ e. (from ≤ e.0) × (get nat_cmp self.now.index e.0 ≡ Some e.1)) }
+        ensures slot { IfSome result (λ e. IsSlotOf self.now.leaves.items e.1 e.0) }
+        ensures first { IfSome result (λ e. (k : ℕ) → from ≤ k → k < e.0 → get nat_cmp self.now.index k ≡ None) }
+        ensures none { IfNone result ((k : ℕ) → from ≤ k → get nat_cmp self.now.index k ≡ None) }
+    {
+        self.index.first_from(from)
     }
 
     /// The first entry of a block with this slot at a page number or past it.
@@ -201,7 +212,7 @@ impl<A: Allocator + Copy> Blocks<A> {
         ensures { OnOk result (list.new.items ≡ list.old.items ++ block_entries self.now) }
     {
         let mut from = 0;
-        while let Some((block, slot)) = self.index.first_from(from) {
+        while let Some((block, slot)) = self.block_from(from) {
             match slot {
                 Slot::Bare => {}
                 Slot::Lone(own, entry) => list.push((own, entry))?,

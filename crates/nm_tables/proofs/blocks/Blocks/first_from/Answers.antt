@@ -1,11 +1,9 @@
 use Rattle.std.proofs.Common.{◌+◌, ◌/◌, ◌∙◌, arith}
-use Rattle.nm_tables.proofs.Slots.{blocks-found, own_block, walk-at, walk-before, walk-on, walk-first}
+use Rattle.nm_tables.proofs.Slots.{own_block, walk-at, walk-before, walk-on, walk-first}
 use Rattle.nm_tables.proofs.blocks.Blocks.first_from.Goals as goal
 
 pub first_of-requires : goal.first_of-requires
-first_of-requires g c =
-    let b = c.args.self.now in
-    (c.in-Some.block, blocks-found b.leaves.items b.index c.requires.0 c.in-Some.block c.in-Some.slot c.in-Some.ensures.some.1)
+first_of-requires g c = (c.in-Some.block, c.in-Some.ensures.slot)
 
 pub returns-in-Some-first_of-clause-some : goal.returns-in-Some-first_of-clause-some
 returns-in-Some-first_of-clause-some g c =
@@ -23,23 +21,10 @@ returns-in-Some-first_of-clause-first g c =
     walk-first b.leaves.items b.index c.requires.0 c.args.at c.loop-block.from c.loop-block.invariant.before c.in-Some.block c.in-Some.ensures.first c.in-Some.slot e.0 e.1 c.in-Some.ensures.some.1
     c.in-Some-first_of.ensures.some.1 c.in-Some-first_of.ensures.first
 
-pub overflow_add-from : goal.overflow_add-from
-overflow_add-from g c =
-    let b = c.args.self.now in
-    let low = (blocks-found b.leaves.items b.index c.requires.0 c.in-Some.block c.in-Some.slot c.in-Some.ensures.some.1).0 in
-    omega (arith, low)
-
-pub loop-block-smaller : goal.loop-block-smaller
-loop-block-smaller g c =
-    let b = c.args.self.now in
-    let low = (blocks-found b.leaves.items b.index c.requires.0 c.in-Some.block c.in-Some.slot c.in-Some.ensures.some.1).0 in
-    let least = c.in-Some.ensures.some.0 in
-    omega (arith, low, least)
-
 pub loop-block-preserved : goal.loop-block-preserved
 loop-block-preserved g c =
     let b = c.args.self.now in
-    let low = (blocks-found b.leaves.items b.index c.requires.0 c.in-Some.block c.in-Some.slot c.in-Some.ensures.some.1).0 in
+    let low = c.in-Some.ensures.slot.0 in
     record {
       fits = omega (arith, low);
       before = λ v at high.

@@ -1,11 +1,7 @@
 use Rattle.std.proofs.Common.{◌≡◌, ◌+◌, ◌<◌, ◌^◌, ◌++◌, sym, ap, subst, ◌∙◌, arith, append-nil}
-use Rattle.std.specs.Prelude.{Some}
-use Rattle.std.specs.Ordering.{nat_cmp}
-use Rattle.nm_types.specs.Map.{get}
-use Rattle.nm_tables.specs.Blocks.{slot_entries, entries_there, entries_by}
-use Rattle.nm_tables.specs.declared.slot.Slot.TheVariants.{Leaf}
+use Rattle.nm_tables.specs.Blocks.{slot_entries, entries_there, entries_by, IsSlotOf}
 use Rattle.nm_tables.proofs.Rests.{rest, rest_all}
-use Rattle.nm_tables.proofs.Slots.{blocks-found, within, read_leaf, read_block, list-step, list-end}
+use Rattle.nm_tables.proofs.Slots.{within, read_leaf, read_block, list-step, list-end}
 use Rattle.nm_tables.proofs.blocks.Blocks.list.Goals as goal
 use Rattle.nm_tables.proofs.blocks.Blocks.list.Goals.{in-Bare, in-Lone+in_ok-push-in-Lone, in-Leaf+in_ok-list_leaf-in-Leaf}
 
@@ -20,42 +16,27 @@ loop-block-init g c =
 pub index-requires : goal.index-requires
 index-requires g c =
     let b = c.args.self.now in
-    let at : get nat_cmp b.index c.in-Some.block ≡ Some (Leaf c.in-Leaf.number) = c.in-Some.ensures.some.1 ∙ ap Some c.in-Leaf.is in
-    subst (λ n. c.in-Leaf.number < n) (sym b.leaves.ok.0) (within b.leaves.items c.in-Leaf.number c.in-Some.block (blocks-found b.leaves.items b.index c.requires.0 c.in-Some.block (Leaf c.in-Leaf.number) at).1)
+    let of = subst (λ slot. IsSlotOf b.leaves.items slot c.in-Some.block) c.in-Leaf.is c.in-Some.ensures.slot in
+    subst (λ n. c.in-Leaf.number < n) (sym b.leaves.ok.0) (within b.leaves.items c.in-Leaf.number c.in-Some.block of.1)
 
 pub list_leaf-requires : goal.list_leaf-requires
 list_leaf-requires g c =
     let b = c.args.self.now in
-    let at : get nat_cmp b.index c.in-Some.block ≡ Some (Leaf c.in-Leaf.number) = c.in-Some.ensures.some.1 ∙ ap Some c.in-Leaf.is in
-    let of = blocks-found b.leaves.items b.index c.requires.0 c.in-Some.block (Leaf c.in-Leaf.number) at in
+    let of = subst (λ slot. IsSlotOf b.leaves.items slot c.in-Some.block) c.in-Leaf.is c.in-Some.ensures.slot in
     subst (λ n. n < 2 ^ 55) (sym (read_block b.leaves.items c.in-Leaf.number c.in-Some.block c.index.result.now of.1 c.index.ensures)) of.0
-
-pub overflow_add-from : goal.overflow_add-from
-overflow_add-from g c =
-    let b = c.args.self.now in
-    let low = (blocks-found b.leaves.items b.index c.requires.0 c.in-Some.block c.in-Some.slot c.in-Some.ensures.some.1).0 in
-    omega (arith, low)
-
-pub loop-block-smaller : goal.loop-block-smaller
-loop-block-smaller g c =
-    let b = c.args.self.now in
-    let low = (blocks-found b.leaves.items b.index c.requires.0 c.in-Some.block c.in-Some.slot c.in-Some.ensures.some.1).0 in
-    let least = c.in-Some.ensures.some.0 in
-    omega (arith, low, least)
 
 pub loop-block-preserved : goal.loop-block-preserved
 loop-block-preserved g c =
     let b = c.args.self.now in
     let h = c.in-Some.ensures.some.1 in
-    let low = (blocks-found b.leaves.items b.index c.requires.0 c.in-Some.block c.in-Some.slot h).0 in
+    let low = c.in-Some.ensures.slot.0 in
     let before = c.loop-block.list.items in
     let more : c.match-slot.list.items ≡ before ++ slot_entries b.leaves.items c.in-Some.slot =
     elim c.match-slot.branch [
       | in-Bare w ↦ ap (λ v. v.items) w.list-is ∙ sym (append-nil before) ∙ ap (λ s. before ++ slot_entries b.leaves.items s) (sym w.in-Bare.is)
       | in-Lone+in_ok-push-in-Lone w ↦ ap (λ v. v.items) w.list-is ∙ w.in_ok-push-in-Lone.ensures.items ∙ ap (λ s. before ++ slot_entries b.leaves.items s) (sym w.in-Lone.is)
       | in-Leaf+in_ok-list_leaf-in-Leaf w ↦
-          let at : get nat_cmp b.index c.in-Some.block ≡ Some (Leaf w.in-Leaf.number) = h ∙ ap Some w.in-Leaf.is in
-          let of = blocks-found b.leaves.items b.index c.requires.0 c.in-Some.block (Leaf w.in-Leaf.number) at in
+          let of = subst (λ slot. IsSlotOf b.leaves.items slot c.in-Some.block) w.in-Leaf.is c.in-Some.ensures.slot in
           let read = read_leaf b.leaves.items w.in-Leaf.number c.in-Some.block w.index.result.now of.1 w.index.ensures in
           ap (λ v. v.items) w.list-is ∙ w.in_ok-list_leaf-in-Leaf.ensures ∙ ap (λ o. before ++ entries_there o) (sym read) ∙ ap (λ s. before ++ slot_entries b.leaves.items s) (sym w.in-Leaf.is)
     ] in
