@@ -41,7 +41,7 @@ impl<A: Allocator + Copy> FrameBuf<A> {
         self.bytes.as_slice()
     }
 
-    /// How many of the bytes have been written, from the first on: behind these all are zero.
+    /// The end of what was written: from this place on all bytes are zero.
     pub(crate) fn written(&self) -> usize
         ensures zeros { IsZeroFrom self.now.1 result }
         ensures fits { result ≤ 4096 }

@@ -11,8 +11,8 @@ use std::marker::Model;
 /// What clears a frame.
 const ZEROS: [u8; PAGE_BYTES] = [0; PAGE_BYTES];
 
-/// The 4,096 bytes of a frame, owned. Contracts see the list of them. Most pages hold little: how many bytes from the
-/// first on have been written is kept, so that no call copies or clears what has been zero all the time.
+/// The 4,096 bytes of a frame, owned. Contracts see the list of them. Most pages hold little, and all is zero that was
+/// never written: the end of what was written is kept, and no call copies or clears what lies behind it.
 #[derive(Debug, Drop)]
 pub struct Bytes<A: Allocator + Copy> {
     bytes: Box<[u8; PAGE_BYTES], A>,
@@ -48,7 +48,7 @@ impl<A: Allocator + Copy> Bytes<A> {
         self.bytes.as_slice()
     }
 
-    /// How many of them have been written, from the first on: behind these all are zero.
+    /// The end of what was written: from this place on all of them are zero.
     pub(crate) fn written(&self) -> usize
         ensures zeros { IsZeroFrom self.now result }
         ensures fits { result ≤ 4096 }

@@ -1,4 +1,4 @@
--- An inner node: parts by their numbers, each with the entries of its own page numbers.
+-- An inner node: parts by their numbers, each with a map whose keys are its own.
 use Rattle.std.proofs.Common.{◌≡◌, ℕ, ◌≤◌, ◌/◌, List, [], ◌∷◌, sym, ap, subst, ◌∙◌, arith}
 use Rattle.std.specs.List.{AllByRecursion}
 use Rattle.std.specs.List.Sorted.{IsStrictlySortedBy}
