@@ -1,8 +1,9 @@
 #!/usr/bin/env python3
-"""Writes a trace with runs of 1,100 pages, which are long enough for several workers, each with 500 accesses in flight, and its
-report: `tests/long_run.py TRACE REPORT`. The report is worked out here from the rules, without the program: pages take the
-front of the free list of the node that they go to, and the frames that they leave go to the end of their own node's list. An
-access to a page that moves is held; others find the frames that the run took gone, and those that it leaves not free yet."""
+"""Writes a trace with runs of 1,100 pages that were written to their last byte, 4.5 MB and so enough for several workers, each
+with 500 accesses in flight, and its report: `tests/long_run.py TRACE REPORT`. The report is worked out here from the rules,
+without the program: pages take the front of the free list of the node that they go to, and the frames that they leave go to
+the end of their own node's list. An access to a page that moves is held; others find the frames that the run took gone, and
+those that it leaves not free yet."""
 import json
 import sys
 
@@ -62,6 +63,7 @@ def look():
     step(f"{len(entries)}: " + " ".join(f"{address:08x}={frame}" for address, frame in entries), op="pagemap", pid=1)
     for page in range(0, PAGES, 7):
         step(f"{page % 251:02x}00", op="read", pid=1, addr=addresses[page], len=2)
+        step(f"00{page % 249:02x}", op="read", pid=1, addr=addresses[page] + 4094, len=2)
     for page in sorted(beside):
         step(f"{written.get(page, 0):02x}00", op="read", pid=1, addr=SECOND + 4096 * page, len=2)
 
@@ -72,6 +74,7 @@ step("segment=1", op="map", pid=1, addr=SECOND, pages=BESIDE)
 for page, address in enumerate(addresses):
     frames.append(free[0].pop(0))
     step("ok", op="write", pid=1, addr=address, data=f"{page % 251:02x}")
+    step("ok", op="write", pid=1, addr=address + 4095, data=f"{page % 249:02x}")
 for node in (1, 0, 1):
     move(node)
     look()
