@@ -10,7 +10,9 @@ import sys
 ROOT = os.path.dirname(os.path.dirname(os.path.abspath(__file__)))
 LIST = os.path.join(ROOT, "docs/DEFINITIONS_ALL.md")
 PAGE = os.path.join(ROOT, "docs/DEFINITIONS.md")
-DEFINES = re.compile(r"^(?:(?:abbrev|unfoldable|opaque) )?pub (?:(?:record|data) )?([^\s({:]+)")
+# What stands in a module with arguments is set in, where a field of a record and a lemma look alike: of it the abbreviations
+# and what does not unfold by itself are listed, as all definitions there are one of the two.
+DEFINES = re.compile(r"^(?:(?:abbrev|unfoldable|opaque) |\s+(?:abbrev|unfoldable|opaque) )?pub (?:(?:record|data) )?([^\s({:]+)")
 HEAD = """# All definitions
 
 Every public definition of the specifications, by crate and file, with the sentence that stands above it. `tools/definitions.py` writes this list; `docs/DEFINITIONS.md` has the few that one reads first.
@@ -31,8 +33,8 @@ def definitions(path):
         for line in file.read().split("\n"):
             if line.startswith("-- ----"):
                 said = []
-            elif line.startswith("--"):
-                said.append(line[2:].strip())
+            elif line.lstrip().startswith("--"):
+                said.append(line.lstrip()[2:].strip())
             elif not line.strip():
                 said = []
             elif not line.startswith("infix"):
