@@ -11,8 +11,11 @@ ROOT = os.path.dirname(os.path.dirname(os.path.abspath(__file__)))
 LIST = os.path.join(ROOT, "docs/DEFINITIONS_ALL.md")
 PAGE = os.path.join(ROOT, "docs/DEFINITIONS.md")
 # What stands in a module with arguments is set in, where a field of a record and a lemma look alike: of it the abbreviations
-# and what does not unfold by itself are listed, as all definitions there are one of the two.
+# and what does not unfold by itself are listed, as all definitions there are one of the two. In a block of definitions that
+# name one another every public name is one.
 DEFINES = re.compile(r"^(?:(?:abbrev|unfoldable|opaque) |\s+(?:abbrev|unfoldable|opaque) )?pub (?:(?:record|data) )?([^\s({:]+)")
+MUTUAL = re.compile(r"^(?:(?:abbrev|unfoldable|opaque) )?mutual$")
+MEMBER = re.compile(r"^ +pub ([^\s({:]+) :")
 HEAD = """# All definitions
 
 Every public definition of the specifications, by crate and file, with the sentence that stands above it. `tools/definitions.py` writes this list; `docs/DEFINITIONS.md` has the few that one reads first.
@@ -28,7 +31,7 @@ def crates():
 
 def definitions(path):
     """The names that a file defines for others, each with the comment in front of it."""
-    found, said = [], []
+    found, said, is_mutual = [], [], False
     with open(path, encoding="utf-8") as file:
         for line in file.read().split("\n"):
             if line.startswith("-- ----"):
@@ -37,8 +40,12 @@ def definitions(path):
                 said.append(line.lstrip()[2:].strip())
             elif not line.strip():
                 said = []
+            elif MUTUAL.match(line):
+                # (what stands above it is said of its first)
+                is_mutual = True
             elif not line.startswith("infix"):
-                name = DEFINES.match(line)
+                is_mutual = is_mutual and line.startswith(" ")
+                name = MEMBER.match(line) if is_mutual else DEFINES.match(line)
                 if name and not line.startswith(("pub use", "pub mod")):
                     found.append((name[1], " ".join(said)))
                 said = []
