@@ -1,7 +1,7 @@
 #!/bin/sh
-# Plays each example, each trace of the tests and a long one, whose runs are worth several workers, with 1, 2, 3 and 64 workers:
-# the report is the one beside the trace, byte for byte, the status 0, and standard error empty. A word names another program
-# than the one that ./build makes. Silent where all is well.
+# Plays each example, each trace of the tests, a long one, whose runs are worth several workers, and two that come to limits,
+# with 1, 2, 3 and 64 workers: the report is the one beside the trace, byte for byte, the status 0, and standard error empty.
+# A word names another program than the one that ./build makes. Silent where all is well.
 set -eu
 program=${1-}
 case $program in
@@ -15,7 +15,8 @@ room=$(mktemp -d)
 trap 'rm -rf "$room"' EXIT
 trap 'exit 130' HUP INT TERM
 tests/long_run.py "$room/long_run.json" "$room/long_run.report"
-for trace in examples/*.json tests/traces/*.json "$room/long_run.json"; do
+tests/limits.py "$room"
+for trace in examples/*.json tests/traces/*.json "$room"/*.json; do
     for workers in 1 2 3 64; do
         status=0
         "$program" --workers "$workers" < "$trace" > "$room/out" 2> "$room/err" || status=$?

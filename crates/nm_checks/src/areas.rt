@@ -8,7 +8,7 @@ use std::test::Fail;
 type Heap<'a> = &'a Refusing<Global>;
 
 /// The calls that take memory.
-#[derive(Clone, Copy, Debug)]
+#[derive(Clone, Copy)]
 enum Call {
     Insert,
     Attach,
@@ -98,8 +98,24 @@ fn attempt<'a>(
     (met, answer)
 }
 
-/// Makes a call, after each of its allocations was refused in turn: it says so, and the areas are as they were. A call
-/// that lists may make do with less room, and succeed. Gives how many refusals there were.
+/// Whether a call that met a refusal said so, and left the areas as they were. A call that lists may make do with less room,
+/// and succeed.
+fn is_as_before(
+    areas: &Areas<Heap<'_>>,
+    call: Call,
+    round: u16,
+    answer: Result<(), MachineError>,
+    before: &Picture<'_>,
+) -> Result<bool, MachineError> {
+    let told = match answer {
+        Ok(()) => matches!(call, Call::Lines),
+        Err(error) => error == MachineError::HostMemory,
+    };
+    let now = take_picture(areas, round)?;
+    Ok(told && now.is_same(before))
+}
+
+/// Makes a call, after each of its allocations was refused in turn. Gives how many refusals there were.
 fn refuse_each<'a>(
     rt: &impl Abort,
     heap: Heap<'a>,
@@ -111,16 +127,11 @@ fn refuse_each<'a>(
     for number in 1..1000u64 {
         let (met, answer) = attempt(heap, areas, call, round, number);
         if !met {
-            assert!(rt; answer.is_ok(), "{call:?} with memory");
+            answer?;
             return Ok(number - 1);
         }
-        let answered = matches!(call, Call::Lines) && answer.is_ok();
-        let fine = answered || answer.err() == Some(MachineError::HostMemory);
-        let now = take_picture(areas, round)?;
-        assert!(rt;
-            fine && now.is_same(&before),
-            "{call:?}, allocation {number}"
-        );
+        let same = is_as_before(areas, call, round, answer, &before)?;
+        assert!(rt; same, "allocation {number}");
     }
     Err(MachineError::HostMemory)
 }
@@ -147,11 +158,9 @@ fn refused_calls_leave_the_areas(rt: HostRuntime) -> Result<(), Fail> {
     let heap = Refusing::new(rt.alloc());
     let mut areas = Areas::new(&heap);
     for call in CALLS {
-        let refused = refuse_rounds(&rt, &heap, &mut areas, call)?;
-        assert!(rt; refused > 0, "{call:?} takes no memory");
+        assert!(rt; refuse_rounds(&rt, &heap, &mut areas, call)? > 0);
     }
     let last = take_picture(&areas, 7)?;
-    assert_eq!(rt; last.first.len(), ROUNDS as usize);
-    assert!(rt; last.frame.is_none());
+    assert!(rt; last.first.len() == ROUNDS as usize && last.frame.is_none());
     Ok(())
 }

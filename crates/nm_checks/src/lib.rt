@@ -8,15 +8,7 @@ mod areas;
 #[cfg(test)]
 mod gates;
 #[cfg(test)]
-mod limits;
-#[cfg(test)]
-mod machine;
-#[cfg(test)]
-mod plain;
-#[cfg(test)]
 mod rmap;
-#[cfg(test)]
-mod same_calls;
 #[cfg(test)]
 mod tables;
 #[cfg(test)]

@@ -1,11 +1,10 @@
 //! Traces whose memory is refused, and a trace that a program makes itself.
 
-use crate::machine::both_nodes;
-use nm_calls::{Call, NewProcess, System};
+use nm_calls::{Call, System};
 use nm_crew::OpenGate;
 use nm_refusing::Refusing;
 use nm_trace::{Summary, Trace, TraceError, play, read_trace, run_trace};
-use nm_types::{Geometry, NodeId, Pid};
+use nm_types::{Geometry, Pid};
 use std::alloc::{AllocError, Global};
 use std::sync::Wait;
 use std::test::Fail;
@@ -106,12 +105,6 @@ fn layout(heap: Heap<'_>) -> Result<Geometry<Heap<'_>>, AllocError> {
     }
 }
 
-/// A system of such nodes.
-pub(crate) fn two_nodes(heap: Heap<'_>) -> Result<System<Heap<'_>>, AllocError> {
-    let geometry = layout(heap)?;
-    System::new(heap, geometry, 2)
-}
-
 /// Plays the trace on a new system while the allocation of this number is refused. Gives whether it came to that
 /// allocation, and whether what it answered and wrote is fine and the system sound.
 fn play_refused(
@@ -134,24 +127,15 @@ fn play_refused(
     Ok((met, sound && is_fine(played, written.as_slice())))
 }
 
-/// A new process, and a read of one that is not there, as a trace that no bytes were read for.
+/// The exit of a process that is not there, and a look at the totals, as a trace that no bytes were read for.
 fn own_trace(heap: Heap<'_>) -> Result<Trace<Heap<'_>>, AllocError> {
-    let spawn = Call::Spawn(NewProcess {
-        pid: Pid::new(1),
-        uid: 100,
-        home: NodeId::new(0),
-        allowed: both_nodes(),
-        privileged: false,
-    });
-    let read = Call::Read {
-        pid: Pid::new(2),
-        addr: 0x10000,
-        len: 1,
-    };
+    let geometry = layout(heap)?;
+    let exit = Call::Exit { pid: Pid::new(2) };
+    let calls = vec![in heap; exit, Call::Vmstat]?;
     Ok(Trace {
-        geometry: layout(heap)?,
+        geometry,
         run_limit: 16_384,
-        calls: vec![in heap; spawn, read]?,
+        calls,
     })
 }
 
@@ -176,10 +160,8 @@ fn own_report(
 fn own_calls_are_played(rt: HostRuntime) -> Result<(), Fail> {
     let heap = Refusing::new(rt.alloc());
     let written = own_report(&rt, &heap, rt.alloc())?;
-    assert_eq!(rt;
-        written.as_slice(),
-        b"0 spawn ok\n1 read error ESRCH\n".as_slice()
-    );
+    let told = b"0 exit error ESRCH\n1 vmstat pgmigrate_success 0 pgmigrate_fail 0\n";
+    assert!(rt; written.as_slice() == told.as_slice());
     Ok(())
 }
 

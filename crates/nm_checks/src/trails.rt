@@ -44,15 +44,20 @@ fn put_lines(text: &mut String, lines: &[String<Heap<'_>>]) -> Result<(), AllocE
     Ok(())
 }
 
+/// Appends the answer to an access.
+fn put_access(text: &mut String, answer: &AccessAnswer<Heap<'_>>) -> Result<(), AllocError> {
+    match answer {
+        AccessAnswer::Bytes(bytes) => write!(text, "{:?} ", bytes.as_slice()),
+        AccessAnswer::Done => text.push_str("done "),
+        AccessAnswer::Held => text.push_str("held "),
+        AccessAnswer::Refused(errno) => write!(text, "{errno} "),
+    }
+}
+
 /// Appends the answers to accesses.
 fn put_accesses(text: &mut String, answers: &[AccessAnswer<Heap<'_>>]) -> Result<(), AllocError> {
     for answer in answers {
-        match answer {
-            AccessAnswer::Bytes(bytes) => write!(text, "{:?} ", bytes.as_slice())?,
-            AccessAnswer::Done => text.push_str("done ")?,
-            AccessAnswer::Held => text.push_str("held ")?,
-            AccessAnswer::Refused(errno) => write!(text, "{errno} ")?,
-        }
+        put_access(text, answer)?;
     }
     Ok(())
 }
