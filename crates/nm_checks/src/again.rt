@@ -4,7 +4,7 @@
 //! must give what they give with memory; so the refusal left the system as it was.
 
 use crate::traces::Heap;
-use crate::trails::{begin, make_first, make_rest, make_some};
+use crate::trails::{begin, make_first, make_rest, make_some, new_system};
 use nm_calls::{Call, System};
 use nm_refusing::Refusing;
 use nm_trace::{Trace, read_trace};
@@ -36,8 +36,25 @@ fn make_again<'a>(
     make_some(rt, system, calls, asked, 1, text)
 }
 
-/// Makes the calls of a trace on a system of its own. The call of one number is refused its allocation of another, and made
-/// again if it was broken off. Appends what comes of it and of those after it, and returns whether it came to that allocation.
+/// Makes all calls on a new system. The call of one number is refused its allocation of another, and made again if it was
+/// broken off. Appends what comes of it and of those after it, and returns whether it came to that allocation.
+fn make_all<'a>(
+    rt: &(impl Threads + Wait + Sync),
+    heap: Heap<'a>,
+    system: &mut System<Heap<'a>>,
+    calls: &[Call<Heap<'a>>],
+    asked: usize,
+    number: u64,
+    text: &mut String,
+) -> Result<bool, AllocError> {
+    begin(rt, system, calls, asked, text)?;
+    let met = make_first(rt, heap, system, calls, asked, number, text)?;
+    make_again(rt, system, calls, asked, text)?;
+    make_rest(rt, system, calls, asked.saturating_add(1), text)?;
+    Ok(met)
+}
+
+/// Makes the calls of a trace so on a system of its own.
 fn attempt<'a>(
     rt: &(impl Threads + Wait + Sync),
     heap: Heap<'a>,
@@ -46,12 +63,9 @@ fn attempt<'a>(
     number: u64,
     text: &mut String,
 ) -> Result<bool, AllocError> {
-    let mut system = begin(rt, heap, trace, asked, text)?;
+    let mut system = new_system(heap, trace)?;
     let calls = trace.calls.as_slice();
-    let met = make_first(rt, heap, &mut system, calls, asked, number, text)?;
-    make_again(rt, &mut system, calls, asked, text)?;
-    make_rest(rt, &mut system, calls, asked.saturating_add(1), text)?;
-    Ok(met)
+    make_all(rt, heap, &mut system, calls, asked, number, text)
 }
 
 /// Refuses each allocation of the call of this number in turn, until none is: what comes of the trace from there on is what
@@ -151,7 +165,7 @@ const EVERY_CALL_TOLD: &str =
 fn no_refusal_loses_anything(rt: HostRuntime) -> Result<(), Fail> {
     let mut whole = String::new(rt.alloc());
     let refused = refuse(&rt, rt.alloc(), EVERY_CALL, &mut whole)?;
-    assert_eq!(rt; whole.as_str(), EVERY_CALL_TOLD);
+    assert!(rt; whole.as_str() == EVERY_CALL_TOLD, "{}", whole.as_str());
     assert!(rt; refused > 40, "{refused} refusals");
     Ok(())
 }

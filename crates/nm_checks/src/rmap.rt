@@ -38,6 +38,16 @@ fn has(map: &ReverseMap<Heap<'_>>, mappers: &[(Pid, Vpn)]) -> Result<bool, Alloc
     Ok(now.as_slice() == mappers)
 }
 
+/// Whether the mappers of the fifth frame are told, and are these.
+fn is_same(map: &ReverseMap<Heap<'_>>, mappers: &[(Pid, Vpn)]) -> bool
+    requires { length map.now.mappings ≡ 8 }
+{
+    match has(map, mappers) {
+        Ok(same) => same,
+        Err(_) => false,
+    }
+}
+
 /// Adds a mapper to the fifth frame. Tells whether there was memory for it.
 fn try_add(map: &mut ReverseMap<Heap<'_>>, pid: Pid, vpn: Vpn) -> bool
     requires { length map.old.mappings ≡ 8 }
@@ -69,8 +79,8 @@ fn refuse_add<'a>(
         if !met && made {
             return Ok(number - 1);
         }
-        if made || !has(map, before.as_slice())? {
-            return Err(AllocError);
+        if made || !is_same(map, before.as_slice()) {
+            break;
         }
     }
     Err(AllocError)
@@ -116,6 +126,15 @@ fn refuse_mappers(heap: Heap<'_>, map: &ReverseMap<Heap<'_>>, mappers: &[(Pid, V
     false
 }
 
+/// Whether the fifth frame has 40 mappers, of two processes, that are told, or none where an allocation is refused.
+fn tells_all(heap: Heap<'_>, map: &ReverseMap<Heap<'_>>) -> Result<bool, AllocError>
+    requires { length map.now.mappings ≡ 8 }
+{
+    let all = map.mappers(fifth())?;
+    let many = all.len() == 40 && map.processes(fifth()) == 2;
+    Ok(many && refuse_mappers(heap, map, all.as_slice()))
+}
+
 /// Each allocation of `new` is refused in turn.
 #[test]
 fn refused_maps(rt: HostRuntime) -> Result<(), Fail> {
@@ -131,9 +150,6 @@ fn refused_mappers(rt: HostRuntime) -> Result<(), Fail> {
     let mut map = ReverseMap::new(&heap, 8)?;
     let refused = refuse_adds(&heap, &mut map)?;
     assert!(rt; refused > 3, "{refused} refusals");
-    let all = map.mappers(fifth())?;
-    assert_eq!(rt; all.len(), 40usize);
-    assert_eq!(rt; map.processes(fifth()), 2usize);
-    assert!(rt; refuse_mappers(&heap, &map, all.as_slice()));
+    assert!(rt; tells_all(&heap, &map)?);
     Ok(())
 }

@@ -1,11 +1,13 @@
 //! Traces whose memory is refused, and a trace that a program makes itself.
 
+use crate::trails::new_system;
 use nm_calls::{Call, System};
 use nm_crew::OpenGate;
 use nm_refusing::Refusing;
 use nm_trace::{Summary, Trace, TraceError, play, read_trace, run_trace};
 use nm_types::{Geometry, Pid};
 use std::alloc::{AllocError, Global};
+use std::process::Abort;
 use std::sync::Wait;
 use std::test::Fail;
 use std::thread::Threads;
@@ -105,26 +107,36 @@ fn layout(heap: Heap<'_>) -> Result<Geometry<Heap<'_>>, AllocError> {
     }
 }
 
-/// Plays the trace on a new system while the allocation of this number is refused. Gives whether it came to that
-/// allocation, and whether what it answered and wrote is fine and the system sound.
-fn play_refused(
+/// Plays a trace on a new system while the allocation of this number is refused. Gives whether it came to that allocation, and
+/// whether what it answered and wrote is fine and the system sound.
+fn play_refused<'a>(
     rt: &(impl Threads + Wait + Sync),
-    heap: Heap<'_>,
+    heap: Heap<'a>,
     global: Global,
+    system: &mut System<Heap<'a>>,
+    trace: &Trace<Heap<'a>>,
     number: u64,
 ) -> Result<(bool, bool), AllocError> {
-    let Ok(trace) = read_trace(heap, global, TRACE.as_bytes()) else {
-        return Err(AllocError);
-    };
-    let geometry = trace.geometry.clone()?;
-    let mut system = System::with_run_limit(heap, geometry, 4, trace.run_limit)?;
     let mut written = Vec::new(global);
     heap.refuse(number);
-    let played = play(rt, heap, &mut system, &trace, &mut written, &OpenGate);
+    let played = play(rt, heap, system, trace, &mut written, &OpenGate);
     let met = heap.asked_since(number) >= number;
     heap.refuse(0);
+    let fine = is_fine(played, written.as_slice());
     let sound = system.audit()?;
-    Ok((met, sound && is_fine(played, written.as_slice())))
+    Ok((met, sound && fine))
+}
+
+/// Plays a trace so on a system of its own.
+fn play_anew<'a>(
+    rt: &(impl Threads + Wait + Sync),
+    heap: Heap<'a>,
+    global: Global,
+    trace: &Trace<Heap<'a>>,
+    number: u64,
+) -> Result<(bool, bool), AllocError> {
+    let mut system = new_system(heap, trace)?;
+    play_refused(rt, heap, global, &mut system, trace, number)
 }
 
 /// The exit of a process that is not there, and a look at the totals, as a trace that no bytes were read for.
@@ -139,6 +151,21 @@ fn own_trace(heap: Heap<'_>) -> Result<Trace<Heap<'_>>, AllocError> {
     })
 }
 
+/// The report of a trace on a new system.
+fn report_of<'a>(
+    rt: &(impl Threads + Wait + Sync),
+    heap: Heap<'a>,
+    global: Global,
+    system: &mut System<Heap<'a>>,
+    trace: &Trace<Heap<'a>>,
+) -> Result<Vec<u8>, AllocError> {
+    let mut written = Vec::new(global);
+    match play(rt, heap, system, trace, &mut written, &OpenGate) {
+        Ok(_) => Ok(written),
+        Err(_) => Err(AllocError),
+    }
+}
+
 /// Plays that trace on a system that is made for it, and gives the report.
 fn own_report(
     rt: &(impl Threads + Wait + Sync),
@@ -146,13 +173,8 @@ fn own_report(
     global: Global,
 ) -> Result<Vec<u8>, AllocError> {
     let trace = own_trace(heap)?;
-    let geometry = trace.geometry.clone()?;
-    let mut system = System::with_run_limit(heap, geometry, 4, trace.run_limit)?;
-    let mut written = Vec::new(global);
-    match play(rt, heap, &mut system, &trace, &mut written, &OpenGate) {
-        Ok(_) => Ok(written),
-        Err(_) => Err(AllocError),
-    }
+    let mut system = new_system(heap, &trace)?;
+    report_of(rt, heap, global, &mut system, &trace)
 }
 
 /// A program plays calls of its own as it plays those of a trace that was read.
@@ -165,19 +187,31 @@ fn own_calls_are_played(rt: HostRuntime) -> Result<(), Fail> {
     Ok(())
 }
 
+/// Refuses each allocation of a play in turn, until none is. Gives how many were refused.
+fn refuse_plays<'a>(
+    rt: &(impl Abort + Threads + Wait + Sync),
+    heap: Heap<'a>,
+    global: Global,
+    trace: &Trace<Heap<'a>>,
+) -> Result<u64, AllocError> {
+    for number in 1..10_000u64 {
+        let (met, fine) = play_anew(rt, heap, global, trace, number)?;
+        assert!(rt; fine, "allocation {number}");
+        if !met {
+            return Ok(number - 1);
+        }
+    }
+    Err(AllocError)
+}
+
 /// Each allocation of a play is refused in turn.
 #[test]
 fn refused_plays_write_a_front(rt: HostRuntime) -> Result<(), Fail> {
     let heap = Refusing::new(rt.alloc());
-    let mut refused = 0u64;
-    for number in 1..10_000u64 {
-        let (met, fine) = play_refused(&rt, &heap, rt.alloc(), number)?;
-        assert!(rt; fine, "allocation {number}");
-        if !met {
-            refused = number - 1;
-            break;
-        }
-    }
+    let Ok(trace) = read_trace(&heap, rt.alloc(), TRACE.as_bytes()) else {
+        panic!(rt; "the trace is not read")
+    };
+    let refused = refuse_plays(&rt, &heap, rt.alloc(), &trace)?;
     assert!(rt; refused > 20, "{refused} refusals");
     Ok(())
 }

@@ -124,19 +124,26 @@ pub(crate) fn make_rest<'a>(
     write!(text, "| {sound}")
 }
 
-/// A system on which the calls of a trace in front of this number were made. The text is empty then.
-pub(crate) fn begin<'a>(
-    rt: &(impl Threads + Wait + Sync),
+/// A system as a trace wants it, on which no call was made.
+pub(crate) fn new_system<'a>(
     heap: Heap<'a>,
     trace: &Trace<Heap<'a>>,
-    asked: usize,
-    text: &mut String,
 ) -> Result<System<Heap<'a>>, AllocError> {
     let geometry = trace.geometry.clone()?;
-    let mut system = System::with_run_limit(heap, geometry, 2, trace.run_limit)?;
-    make_some(rt, &mut system, trace.calls.as_slice(), 0, asked, text)?;
+    System::with_run_limit(heap, geometry, 2, trace.run_limit)
+}
+
+/// Makes the calls in front of this number. The text is empty then.
+pub(crate) fn begin<'a>(
+    rt: &(impl Threads + Wait + Sync),
+    system: &mut System<Heap<'a>>,
+    calls: &[Call<Heap<'a>>],
+    asked: usize,
+    text: &mut String,
+) -> Result<(), AllocError> {
+    make_some(rt, system, calls, 0, asked, text)?;
     text.clear();
-    Ok(system)
+    Ok(())
 }
 
 /// Makes the call of one number while its allocation of another is refused, where 0 stands for none. Tells whether it came to
@@ -173,8 +180,25 @@ fn make_again<'a>(
     Ok(())
 }
 
-/// Makes the calls of a trace on a system of its own: the call of one number is refused its allocation of another, and made
-/// again if it was broken off. Appends what came of it, and returns whether it came to that allocation.
+/// Makes all calls on a new system: the call of one number is refused its allocation of another, and made again if it was
+/// broken off. Appends what came of it, and returns whether it came to that allocation.
+fn make_all<'a>(
+    rt: &(impl Threads + Wait + Sync),
+    heap: Heap<'a>,
+    system: &mut System<Heap<'a>>,
+    calls: &[Call<Heap<'a>>],
+    asked: usize,
+    number: u64,
+    text: &mut String,
+) -> Result<bool, AllocError> {
+    begin(rt, system, calls, asked, text)?;
+    let met = make_first(rt, heap, system, calls, asked, number, text)?;
+    make_rest(rt, system, calls, asked.saturating_add(1), text)?;
+    make_again(rt, system, calls, asked, text)?;
+    Ok(met)
+}
+
+/// Makes the calls of a trace so on a system of its own.
 fn attempt<'a>(
     rt: &(impl Threads + Wait + Sync),
     heap: Heap<'a>,
@@ -183,12 +207,9 @@ fn attempt<'a>(
     number: u64,
     text: &mut String,
 ) -> Result<bool, AllocError> {
-    let mut system = begin(rt, heap, trace, asked, text)?;
+    let mut system = new_system(heap, trace)?;
     let calls = trace.calls.as_slice();
-    let met = make_first(rt, heap, &mut system, calls, asked, number, text)?;
-    make_rest(rt, &mut system, calls, asked.saturating_add(1), text)?;
-    make_again(rt, &mut system, calls, asked, text)?;
-    Ok(met)
+    make_all(rt, heap, &mut system, calls, asked, number, text)
 }
 
 /// The bit for a text: 1 for the first, and twice as much for each further one. 0 where it is none of them.
