@@ -1,12 +1,15 @@
 #!/usr/bin/env python3
-"""Hands the built program what an enemy would: bad traces, one cut after each byte, 10,000 that are mutated from those of
-examples/ and tests/traces/, the greatest that there are, streams that fail or move a byte at a time, and little memory.
+"""Hands the built program what an enemy would: bad traces and bad words, a trace that is cut after each byte, 10,000 that are
+mutated from those of examples/ and tests/traces/, the greatest that there are, streams that fail or move a byte at a time, and
+little memory.
 
-`tests/hostile.py [PROGRAM]` takes crates/numatrace/out/numatrace, as `rt ci` and `./build` leave it. tools/why.py, which knows
-the schema of traces, says of each trace what the program has to say. Nothing is printed where all is well; else what
-differs, and then the status is 1. With --times it tells what each part took. The traces are the same each time."""
+`tests/hostile.py [PROGRAM]` takes crates/numatrace/out/numatrace, as `rt ci` and `./build` leave it. Tables say what the program has
+to say of some traces, and tools/why.py, which knows the schema of traces, says it of the others. Nothing is printed where all
+is well; else what differs, and then the status is 1. With --short it makes only the parts that take seconds, with --times it
+tells what each part took. The traces are the same each time."""
 import argparse
 import collections
+import fcntl
 import glob
 import importlib.util
 import json
@@ -17,9 +20,11 @@ import re
 import resource
 import signal
 import socket
+import struct
 import subprocess
 import sys
 import tempfile
+import termios
 import time
 
 sys.dont_write_bytecode = True
@@ -103,7 +108,7 @@ def check_trace(data, words=(), verdict=None):
     verdict = verdict or WHY.verdict(data)
     status, out, err = play(data, words)
     if (status, err) != told(verdict):
-        raise Fault(f"status {status} and {err[:200]!r}, where tools/why.py says: {verdict[:200]}")
+        raise Fault(f"status {status} and {err[:200]!r}, where this is to be told: {verdict[:200]}")
     if status != 0:
         if out:
             raise Fault("something was written before the fault")
@@ -112,7 +117,7 @@ def check_trace(data, words=(), verdict=None):
     return verdict.split(" ")[1] if status == 2 else str(status)
 
 
-# ---- bad traces, and one that is cut
+# ---- bad traces, other spellings, and words
 
 
 def changed(old, new):
@@ -123,13 +128,45 @@ def changed(old, new):
 
 # The first example with one place changed, and its fault.
 BAD = [
-    ('"version":1', '"version":3', "bad machine"),
-    ('"steps":[', '"stages":[', "bad machine"),
-    ('[10,20],[20,10]', '[10,10],[20,10]', "bad machine"),
+    ("[[10,20],[20,10]]", "[[10,10],[20,10]]", "bad machine"),
     ('"nodes":[4,4]', '"nodes":[4,0]', "bad machine"),
+    ('"version":1', '"version":0', "bad machine"),
+    ('"version":1', '"version":3', "bad machine"),
+    ('"version":1', '"version":2', "bad machine"),
+    ('"version":1', '"version":2,"run_limit":0', "bad machine"),
+    ('"version":1', '"version":2,"run_limit":16385', "bad machine"),
+    ('"version":1', '"version":2,"run_limit":"1"', "bad machine"),
+    ('"version":1', '"version":1.0', "bad machine"),
+    ('"version":1', '"version":1e0', "bad machine"),
+    ('"version":1', '"version":"1"', "bad machine"),
+    ('"version":1', '"version":true', "bad machine"),
+    ('"version":1', '"version":01', "not JSON"),
+    ('"version":1', '"version":+1', "not JSON"),
+    ('"version":1', '"version":1.', "not JSON"),
+    ('"version":1', '"version":1,"note":1e999', "not JSON"),
+    ('"version":1', '"version":1,"note":NaN', "not JSON"),
+    ('"version":1', '"version":1,"note":"\\ud800"', "not JSON"),
+    ('"version":1', '"version":1,"note":"\t"', "not JSON"),
+    ('"len":2}]}', '"len":2}]} .', "not JSON"),
     ('"op":"write","pid":1,', '"op":"write",', "bad step 2"),
     ('"nodes":[1,1,1]', '"nodes":[1,1]', "bad step 5"),
     ('"data":"62"', '"data":"6"', "bad step 3"),
+    ('"flags":2', '"flags":4294967296', "bad step 5"),
+    ('"allowed":[0,1]', '"allowed":[0,64]', "bad step 0"),
+    ('"allowed":[0,1]', '"allowed":[0,1],"privileged":null', "bad step 0"),
+    ('"pages":3', '"pages":3,"shared":null', "bad step 1"),
+    ('"pages":3', '"pages":3,"shared":1', "bad step 1"),
+    ('"op":"map"', '"op":"attach","segment":0', "bad step 1"),
+    ('"op":"free","node":0', '"op":"pin","pid":1', "bad step 6"),
+    ('"op":"free","node":0', '"op":"exit","pid":-1', "bad step 6"),
+    ('"op":"free","node":0', '"op":"unmap","pid":1,"addr":65536', "bad step 6"),
+    ('"op":"free","node":0', '"op":"unpin","addr":65536', "bad step 6"),
+    ('"uid":100', '"uid":4294967296', "bad step 0"),
+    ('"uid":100', '"uid":-0', "bad step 0"),
+    ('"uid":100', '"uid":1e2', "bad step 0"),
+    ('"uid":100', '"uid":null', "bad step 0"),
+    ('"len":2', '"len":18446744073709551616', "bad step 9"),
+    ('"steps":[', '"stages":[', "bad machine"),
     ('"pid":1', '"pid":1.5', "bad step 0"),
     ('"allowed":[0,1]', '"allowed":[64]', "bad step 0"),
     ('"addr":65536', '"addr":18446744073709551616', "bad step 1"),
@@ -137,44 +174,137 @@ BAD = [
 
 # What stands in `during` of the first example's batch, which has one run: bad steps all.
 DURING = [
-    "null", "{}", "7", "[7]", "[null]", "[[]]", "[{}]", '[{"op":"pin","pid":1,"addr":65536,"run":0}]',
+    "null", "{}", "0", "7", "[7]", "[null]", "[[]]", "[{}]", '[{"op":"pin","pid":1,"addr":65536,"run":0}]',
     '[{"pid":1,"addr":65536,"len":1,"run":0}]', '[{"op":"read","addr":65536,"len":1,"run":0}]', '[{"op":"read","pid":1,"len":1,"run":0}]',
     '[{"op":"read","pid":1,"addr":65536,"run":0}]', '[{"op":"read","pid":1,"addr":65536,"len":1}]',
     '[{"op":"write","pid":1,"addr":65536,"len":1,"run":0}]', '[{"op":"write","pid":1,"addr":65536,"data":"6","run":0}]',
     '[{"op":"write","pid":1,"addr":65536,"data":"6g","run":0}]', '[{"op":"read","pid":1,"addr":65536,"len":1,"run":null}]',
     '[{"op":"read","pid":1,"addr":65536,"len":1,"run":-1}]', '[{"op":"read","pid":1,"addr":65536,"len":1,"run":0.0}]',
-    '[{"op":"read","pid":1,"addr":65536,"len":1,"run":1}]', '[{"op":"read","pid":1,"addr":65536,"len":1,"run":18446744073709551615}]',
+    '[{"op":"read","pid":1,"addr":65536,"len":1,"run":1}]', '[{"op":"read","pid":1,"addr":65536,"len":1,"run":4294967296}]',
+    '[{"op":"read","pid":1,"addr":65536,"len":1,"run":18446744073709551615}]',
     '[{"op":"read","pid":1,"addr":65536,"len":1,"run":18446744073709551616}]',
     '[{"op":"read","pid":1,"addr":65536,"len":1,"run":0},{"op":"read","pid":1,"addr":65536,"len":1,"run":1}]',
+    '[{"op":"exit","pid":1,"run":0}]', '[{"op":"read","pid":1,"addr":65536,"len":1,"run":0},[]]',
 ]
 
 # Whole traces and their faults.
 WHOLE = [
     (b"", "not JSON"),
+    (b"\xef\xbb\xbf[]", "not JSON"),
+    (b'["\xff"]', "not JSON"),
     (b"[]", "bad machine"),
+    (b"[" * 127 + b"]" * 127, "bad machine"),
+    (b"[" * 128 + b"]" * 128, "not JSON"),
     (b"[" * 200 + b"]" * 200, "not JSON"),
     (FIRST.encode().replace(b'"op":"spawn"', b'"op":"spa\xffwn"', 1), "not JSON"),
     (changed('"op":"map"', '"op":"jump"').replace('"op":"write","pid":1', '"op":"write","pid":-1', 1).encode(), "bad step 1"),
+    (changed('"data":"62"', '"data":"6"').replace('"op":"free"', '"op":"offline"', 1).encode(), "bad step 3"),
+    (b" " * MOST_BYTES, "not JSON"),
     (b" " * (MOST_BYTES + 1), "read fault"),
     (FIRST.encode().ljust(MOST_BYTES + 1), "read fault"),
 ]
 
+# The first example with one place changed, which changes nothing.
+SAME = [
+    ('"version":1', '"version":2,"version":1'),
+    ('"version":1', '"version":2,"run_limit":1'),
+    ('"version":1', '"version":2,"run_limit":16384'),
+    ('"version":1', '"version":1,"run_limit":"none","note":[{}]'),
+    ('"allowed":[0,1]', '"allowed":[1,0,1],"privileged":false'),
+    ('"pages":3', '"pages":3,"shared":false'),
+    ('"pages":3', '"pages":3,"during":7'),
+    ('"flags":2', '"flags":2,"during":[]'),
+    ('"steps"', ' "st\\u0065ps" '),
+]
 
-def check_bad():
-    """The faults of a trace, and an address that is none; a trace of the greatest length, and one that is longer."""
-    for during in DURING:
-        WHOLE.append((changed('"flags":2', '"flags":2,"during":' + during).encode(), "bad step 5"))
-    for old, new, fault in BAD:
-        WHOLE.append((changed(old, new).encode(), fault))
-    for data, fault in WHOLE:
-        check_trace(data, verdict=fault)
-    high = changed('"addr":65536', '"addr":18446744073709551615').encode()
-    status, out, _ = play(high)
+# Words that are refused: others than the option, and numbers of workers that are none from 1 to 64.
+REFUSED = [
+    ["trace.json"], ["--help"], ["-h"], ["--version"], ["-V"], ["--workers"], ["--workers", "0"], ["--workers", "65"],
+    ["--workers", "x"], ["--workers", ""], ["--workers", "-1"], ["--workers", "4.0"], ["--workers", "18446744073709551617"],
+    ["--workers=0"], ["--worker", "4"], ["--workers", "4", "4"], ["--workers", "4", "--workers", "4"], ["4"],
+]
+
+# Words that are taken.
+TAKEN = [[], ["--workers", "1"], ["--workers=2"], ["--workers", "+4"], ["--workers", "04"], ["--workers", "64"], ["--workers=064"]]
+
+
+def check_bad(row):
+    old, new, fault = row
+    check_trace(changed(old, new).encode(), verdict=fault)
+
+
+def check_during(during):
+    """Accesses in flight that are none, as they stand, and with their run in front."""
+    for text in {during, re.sub(r'\{([^{}]*),("run":[^,{}]*)\}', r"{\2,\1}", during)}:
+        check_trace(changed('"flags":2', '"flags":2,"during":' + text).encode(), verdict="bad step 5")
+
+
+def check_whole(row):
+    data, fault = row
+    check_trace(data, verdict=fault)
+
+
+def expect(report, data, words=()):
+    """Fails where the program gives another report on a good trace."""
+    status, out, err = play(data, words)
+    if (status, out, err) != (0, report, b""):
+        raise Fault(f"status {status}, {err[:200]!r} and {len(out)} bytes of a report that should have {len(report)}: {out[-200:]!r}")
+
+
+def check_same(row):
+    old, new = row
+    expect(FIRST_REPORT, changed(old, new).encode())
+
+
+def check_taken(words):
+    expect(FIRST_REPORT, FIRST.encode(), words)
+
+
+def check_refused(words):
+    status, out, err = play(FIRST.encode(), words)
+    if status != 2 or out or not err:
+        raise Fault(f"words that are none end with status {status}, {out[:200]!r} and {err[:200]!r}")
+
+
+def check_told(_):
+    """What is told of the program itself stands on standard error, as clap prints it. A word that is no UTF-8 has its line."""
+    if play(FIRST.encode(), ["--version"]) != (2, b"", b"numatrace 1.0.0\n"):
+        raise Fault("--version tells something else")
+    err = play(FIRST.encode(), ["--help"])[2]
+    if not err.startswith(b"Plays a trace of page migration calls") or not err.endswith(b"what they answer.\n"):
+        raise Fault(f"--help tells something else: {err!r}")
+    if play(FIRST.encode(), [b"\xff"]) != (2, b"", b"numatrace: a word is not UTF-8\n"):
+        raise Fault("a word that is no UTF-8 is told as something else")
+
+
+def check_runs(_):
+    """A batch of three entries with two a run has a second run, and no third."""
+    limited_runs = changed('"version":1', '"version":2,"run_limit":2')
+    read = '"flags":2,"during":[{"run":%d,"op":"read","pid":1,"addr":65536,"len":1}]'
+    moved = b"5 move_pages 0: 1 1 1\n"
+    expect(FIRST_REPORT.replace(moved, moved + b"5.0 read 61\n", 1), limited_runs.replace('"flags":2', read % 1, 1).encode())
+    check_trace(limited_runs.replace('"flags":2', read % 2, 1).encode(), verdict="bad step 5")
+
+
+def named(entries):
+    """The first example up to its batch, and then a batch that names one page so often and moves it to node 1."""
+    pages, nodes = ",".join(["65536"] * entries), ",".join(["1"] * entries)
+    front = FIRST[: FIRST.index('{"op":"move_pages"')]
+    return front + f'{{"op":"move_pages","caller":1,"pid":0,"pages":[{pages}],"nodes":[{nodes}],"flags":2}}'
+
+
+def check_limits(_):
+    """16,384 entries in a batch, and one more; 1,024 processes, and one more; the greatest length; the highest address."""
+    front = FIRST_REPORT[: FIRST_REPORT.index(b"5 move_pages")]
+    free = ',\n{"op":"free","node":1}]}'
+    expect(front + b"5 move_pages 0:" + b" 1" * 16384 + b"\n6 free 3: 5 6 7\n", (named(16384) + free).encode())
+    check_trace((named(16385) + "]}").encode(), verdict="bad step 5")
+    spawned = b"".join(b"%d spawn ok\n" % k for k in range(1024))
+    expect(spawned + b"1024 spawn error ENOMEM\n", trace_of([1], [spawn(pid, 1) for pid in range(1, 1026)]))
+    expect(FIRST_REPORT, FIRST.encode().ljust(MOST_BYTES))
+    status, out, _ = play(changed('"addr":65536', '"addr":18446744073709551615').encode())
     if status != 0 or out.split(b"\n")[1] != b"1 map error EINVAL":
         raise Fault("the highest address is not refused by the call")
-    longest = FIRST.encode().ljust(MOST_BYTES)
-    if play(longest) != (0, FIRST_REPORT, b""):
-        raise Fault("the trace of the greatest length does not give its report")
 
 
 def check_front(length):
@@ -183,6 +313,15 @@ def check_front(length):
 
 
 # ---- streams
+
+
+def drained(end):
+    """Waits until what was sent is read: an error would overtake it."""
+    late = time.monotonic() + MOST_WAIT
+    while struct.unpack("i", fcntl.ioctl(end, termios.TIOCOUTQ, bytes(4))) != (0,):
+        if time.monotonic() > late:
+            raise Fault(f"a piece is unread after {MOST_WAIT} seconds")
+        time.sleep(0.0002)
 
 
 def served(pieces, broken=False):
@@ -196,6 +335,8 @@ def served(pieces, broken=False):
     try:
         for piece in pieces:
             ours.send(piece)
+        if broken:
+            drained(ours)
     finally:
         ours.close()
     out, err = child.communicate(timeout=MOST_WAIT)
@@ -203,14 +344,16 @@ def served(pieces, broken=False):
 
 
 def check_reader():
-    """A reader that gives a byte a call, and one that fails after so many bytes."""
+    """A reader that gives a byte a call, and one that fails after so many bytes, or pieces of 64."""
     data = FIRST.encode()
     pieces = [data[at : at + 1] for at in range(len(data))]
     if served(pieces) != (0, FIRST_REPORT, b""):
         raise Fault("a trace that comes a byte at a time does not give its report")
-    for count in [0, 1, 2, 100, len(data) - 1, len(data)]:
-        if served(pieces[:count], broken=True) != (4, b"", b"numatrace: read fault\n"):
-            raise Fault(f"a reader that fails after {count} bytes is not told as a read fault")
+    fronts = [pieces[:count] for count in [0, 1, 2, 100, len(data) - 1, len(data)]]
+    pieces = [data[at : at + 64] for at in range(0, len(data), 64)]
+    for front in fronts + [pieces[:count] for count in range(1, len(pieces) + 1)]:
+        if served(front, broken=True) != (4, b"", b"numatrace: read fault\n"):
+            raise Fault(f"a reader that fails after {len(front)} pieces is not told as a read fault")
     folder = os.open(ROOT, os.O_RDONLY)
     ran = subprocess.run([SETTINGS["program"]], stdin=folder, capture_output=True, check=False)
     os.close(folder)
@@ -244,7 +387,7 @@ def check_writer(data, report, places):
 
 
 def check_closed_writers():
-    """A full device, and a pipe that nobody reads."""
+    """A full device, and a pipe that nobody reads: as standard output, and as standard error, where the status stays."""
     ends = os.pipe()
     os.close(ends[0])
     with open("/dev/full", "wb") as full, os.fdopen(ends[1], "wb") as pipe:
@@ -252,6 +395,19 @@ def check_closed_writers():
             ran = subprocess.run([SETTINGS["program"]], input=FIRST.encode(), stdout=out, stderr=subprocess.PIPE, check=False)
             if (ran.returncode, ran.stderr) != (4, b"numatrace: write fault\n"):
                 raise Fault(f"a writer that fails at once is told as {ran.returncode}, {ran.stderr!r}")
+            ran = subprocess.run([SETTINGS["program"]], input=b"[]", stdout=subprocess.PIPE, stderr=out, check=False)
+            if (ran.returncode, ran.stdout) != (2, b""):
+                raise Fault(f"where standard error fails at once, the status is {ran.returncode}, with {ran.stdout!r}")
+
+
+def check_short_error():
+    """Standard error that takes three bytes and then fails: the status stays."""
+    with tempfile.TemporaryFile() as err:
+        ran = subprocess.run([SETTINGS["program"]], input=b"[]", stdout=subprocess.PIPE, stderr=err, restore_signals=False,
+                             preexec_fn=lambda: limited(3), timeout=MOST_WAIT, check=False)
+        err.seek(0)
+        if (ran.returncode, ran.stdout, err.read()) != (2, b"", b"num"):
+            raise Fault(f"where standard error fails after three bytes, the status is {ran.returncode}")
 
 
 # ---- mutated traces
@@ -609,7 +765,7 @@ def tried(item):
     fault = None
     if used.ru_maxrss > (MOST_KIB_OF_HEAVY if check is check_heavy else MOST_KIB):
         fault = f"{used.ru_maxrss * 1024 // 1000000} MB of memory"
-    elif seconds > MOST_SECONDS and check not in (check_table, check_streams, check_memory):
+    elif seconds > MOST_SECONDS and check not in (check_streams, check_memory):
         fault = f"{seconds:.1f} seconds"
     return fault, ended_as, seconds, used.ru_maxrss
 
@@ -621,6 +777,7 @@ def check_streams(_):
     report = b"".join(b"%d vmstat pgmigrate_success 0 pgmigrate_fail 0\n" % k for k in range(5000))
     check_writer(trace_of([1], steps), report, [*range(0, len(report), 4099), 65535, 65536, 65537, len(report)])
     check_closed_writers()
+    check_short_error()
 
 
 def within(data, most, words):
@@ -649,22 +806,27 @@ def check_memory(_):
         raise Fault(f"memory was refused never or always: {ends}")
 
 
-def check_table(_):
-    check_bad()
+PARTS = ("rows", "streams and memory", "fronts", "edges", "greatest", "mutated")
+SHORT = PARTS[:3]
 
 
-PARTS = ("table and streams", "fronts", "edges", "greatest", "mutated")
+def rows():
+    """The check of each row of the tables, and of what is no row."""
+    tables = [(check_bad, BAD), (check_during, DURING), (check_whole, WHOLE), (check_same, SAME), (check_refused, REFUSED)]
+    made = [(check, row) for check, table in [*tables, (check_taken, TAKEN)] for row in table]
+    return made + [(check, None) for check in (check_told, check_runs, check_limits)]
 
 
 def parts():
     """Each part: its name, its checks, and how many of them one process makes."""
     fronts = [(check_front, length) for length in range(len(FIRST))]
     great = [(check_great, make) for make in (whole_nodes, whole_batches, whole_flight, whole_table)]
-    yield PARTS[0], [(check_table, None), (check_streams, None), (check_memory, None)], 1
-    yield PARTS[1], fronts, None
-    yield PARTS[2], [(check_edge, trace) for trace in edges()], None
-    yield PARTS[3], great + [(check_long, shape) for shape in LONG] + [(check_heavy, shape) for shape in HEAVY], 1
-    yield PARTS[4], [(check_mutated, number) for number in range(MUTATED)], None
+    yield PARTS[0], rows(), None
+    yield PARTS[1], [(check_streams, None), (check_memory, None)], 1
+    yield PARTS[2], fronts, None
+    yield PARTS[3], [(check_edge, trace) for trace in edges()], None
+    yield PARTS[4], great + [(check_long, shape) for shape in LONG] + [(check_heavy, shape) for shape in HEAVY], 1
+    yield PARTS[5], [(check_mutated, number) for number in range(MUTATED)], None
 
 
 def run_part(name, checks, most):
@@ -686,7 +848,9 @@ def main():
     words.add_argument("program", nargs="?", default=PROGRAM)
     words.add_argument("--times", action="store_true", help="tell what each part took")
     words.add_argument("--trace", type=int, help="write the mutated trace of this number, and play none")
-    words.add_argument("--part", choices=PARTS, help="make this part alone")
+    which = words.add_mutually_exclusive_group()
+    which.add_argument("--part", choices=PARTS, help="make this part alone")
+    which.add_argument("--short", action="store_true", help=f"make the parts that take seconds: {', '.join(SHORT)}")
     asked = words.parse_args()
     traces = sorted(glob.glob(os.path.join(ROOT, "examples/*.json")) + glob.glob(os.path.join(ROOT, "tests/traces/*.json")))
     SETTINGS["program"] = os.path.abspath(asked.program)
@@ -696,8 +860,9 @@ def main():
         return
     if not os.access(SETTINGS["program"], os.X_OK):
         sys.exit(f"tests/hostile.py: there is no program {asked.program}: ./build makes it")
+    wanted = (asked.part,) if asked.part else SHORT if asked.short else PARTS
     for name, checks, most in parts():
-        if asked.part in (None, name):
+        if name in wanted:
             line = run_part(name, checks, most)
             if asked.times:
                 print(line, flush=True)
