@@ -33,13 +33,27 @@ def prover_runs():
 
 
 def kind_of(words):
-    """Whose run this is, and what for: proof, tests, again (the proof under the edits), or the number of an edit."""
+    """Whose run this is, and what for: proof, tests, again (the proof under the edits), the number of an edit, or turn, where
+    the edits of a crate are tried in turn over one folder, which tells no numbers."""
     crate = words[words.index("--crate-name") + 1]
     over = words[words.index("--incremental") + 1] if "--incremental" in words else ""
-    edit = re.search(r"/rt-edits-[^/]+/(seed|\d+)$", over)
+    edit = re.search(r"/rt-edits-[^/]+(?:/(seed|\d+))?$", over)
     if edit:
-        return crate, "again" if edit[1] == "seed" else int(edit[1])
+        return crate, "again" if edit[1] == "seed" else int(edit[1]) if edit[1] else "turn"
     return crate, "tests" if "--test" in words else "proof"
+
+
+def numbered(runs):
+    """The runs by when they began, those in turn told apart: the first proves the crate under its first edit, and the last tries
+    it as it is."""
+    turns = collections.Counter(crate for (crate, kind), _ in runs if kind == "turn")
+    made = collections.Counter()
+    for (crate, kind), seconds in runs:
+        if kind == "turn":
+            at = made[crate]
+            made[crate] += 1
+            kind = "again" if at in (0, turns[crate] - 1) else at
+        yield crate, kind, seconds
 
 
 def watched(command):
@@ -51,7 +65,7 @@ def watched(command):
             used[run] = kind_of(words), seconds
         time.sleep(1)
     costs = collections.defaultdict(collections.Counter)
-    for (crate, kind), seconds in used.values():
+    for crate, kind, seconds in numbered([used[run] for run in sorted(used, key=lambda run: int(run[1]))]):
         costs[crate][kind] += seconds
     return costs, ran.returncode
 
