@@ -2,7 +2,7 @@
 
 use crate::{Entry, PageTable};
 use nm_types::{FrameId, Vpn};
-use std::alloc::{AllocError, Allocator};
+use std::alloc::{AllocError, Allocator, Global};
 use std::test::Fail;
 
 /// Numbers that look drawn, by a linear congruence.
@@ -161,18 +161,35 @@ fn agrees<A: Allocator + Copy>(table: &PageTable<A>, plain: &[(Vpn, Entry)], vpn
     table.get(vpn) == find(plain, vpn) && table.first_from(vpn) == find_from(plain, vpn)
 }
 
+/// Makes 4,000 drawn changes to a table and to a list. Returns whether after each of them the table returned what the list
+/// did.
+fn change_often<A: Allocator + Copy>(
+    draws: &mut Draws,
+    table: &mut PageTable<A>,
+    plain: &mut Vec<(Vpn, Entry), A>,
+) -> Result<bool, AllocError> {
+    for _ in 0..4000u64 {
+        change(draws, table, plain)?;
+        let vpn = draws.vpn();
+        if !agrees(table, plain.as_slice(), vpn) {
+            return Ok(false);
+        }
+    }
+    Ok(true)
+}
+
 /// After each of 4,000 drawn changes the table returns what the list does, and in the end its entries are the list's.
+fn stays_beside(alloc: Global) -> Result<bool, AllocError> {
+    let mut draws = Draws { state: 27 };
+    let mut table = PageTable::new(alloc);
+    let mut plain = Vec::new(alloc);
+    let agreed = change_often(&mut draws, &mut table, &mut plain)?;
+    let entries = table.entries()?;
+    Ok(agreed && plain.len() > 20 && entries.as_slice() == plain.as_slice())
+}
+
 #[test]
 fn beside_a_list(rt: HostRuntime) -> Result<(), Fail> {
-    let mut draws = Draws { state: 27 };
-    let mut table = PageTable::new(rt.alloc());
-    let mut plain = Vec::new(rt.alloc());
-    for _ in 0..4000u64 {
-        change(&mut draws, &mut table, &mut plain)?;
-        let vpn = draws.vpn();
-        assert!(rt; agrees(&table, plain.as_slice(), vpn));
-    }
-    assert!(rt; plain.len() > 20);
-    assert!(rt; table.entries()?.as_slice() == plain.as_slice());
+    assert!(rt; stays_beside(rt.alloc())?);
     Ok(())
 }

@@ -1,6 +1,6 @@
 use crate::{Entry, PageTable};
 use nm_types::{FrameId, Vpn};
-use std::alloc::{AllocError, Allocator};
+use std::alloc::{AllocError, Global};
 use std::test::Fail;
 
 /// The last page number that lies inside areas.
@@ -18,8 +18,23 @@ const ENDS: [u64; 8] = [
     0,
 ];
 
+/// The same upwards.
+const UPWARDS: [u64; 8] = [
+    0,
+    511,
+    512,
+    262_143,
+    262_144,
+    134_217_727,
+    134_217_728,
+    LAST,
+];
+
+/// The same upwards but for 511.
+const LEFT: [u64; 7] = [0, 512, 262_143, 262_144, 134_217_727, 134_217_728, LAST];
+
 /// A table of two pages, the first of which was zero and is on its way to frame 2.
-fn two_pages<A: Allocator + Copy>(alloc: A) -> Result<PageTable<A>, AllocError> {
+fn two_pages(alloc: Global) -> Result<PageTable<Global>, AllocError> {
     let mut table = PageTable::new(alloc);
     table.set(Vpn::new(16), Entry::Zero)?;
     table.set(Vpn::new(LAST), Entry::Frame(FrameId::new(3)))?;
@@ -27,29 +42,57 @@ fn two_pages<A: Allocator + Copy>(alloc: A) -> Result<PageTable<A>, AllocError> 
     Ok(table)
 }
 
-/// Entries come upwards, and one that is cleared no more.
+/// What a table returns at a page number: the entry there, and the first from there on.
+fn from(table: &PageTable<Global>, number: u64) -> (Option<Entry>, Option<(Vpn, Entry)>) {
+    let vpn = Vpn::new(number);
+    (table.get(vpn), table.first_from(vpn))
+}
+
+/// Whether entries come upwards from the first of them, from between the two and from past the last.
+fn come_upwards(alloc: Global) -> Result<bool, AllocError> {
+    let table = two_pages(alloc)?;
+    let held = Some(Entry::Held(FrameId::new(2)));
+    let first = Some((Vpn::new(16), Entry::Held(FrameId::new(2))));
+    let last = Some((Vpn::new(LAST), Entry::Frame(FrameId::new(3))));
+    Ok(
+        from(&table, 16) == (held, first)
+            && from(&table, 17) == (None, last)
+            && from(&table, LAST + 1) == (None, None),
+    )
+}
+
 #[test]
-fn entries_come_and_go(rt: HostRuntime) -> Result<(), Fail> {
-    let held = Entry::Held(FrameId::new(2));
-    let frame = Entry::Frame(FrameId::new(3));
-    let mut table = two_pages(rt.alloc())?;
-    assert_eq!(rt; table.get(Vpn::new(16)), Some(held));
-    assert_eq!(rt; table.get(Vpn::new(17)), None);
-    assert_eq!(rt; table.first_from(Vpn::new(16)), Some((Vpn::new(16), held)));
-    assert_eq!(rt;
-        table.first_from(Vpn::new(17)),
-        Some((Vpn::new(LAST), frame))
-    );
-    assert_eq!(rt; table.first_from(Vpn::new(LAST + 1)), None);
-    let both = [(Vpn::new(16), held), (Vpn::new(LAST), frame)];
-    assert!(rt; table.entries()?.as_slice() == both.as_slice());
+fn entries_come_upwards(rt: HostRuntime) -> Result<(), Fail> {
+    assert!(rt; come_upwards(rt.alloc())?);
+    Ok(())
+}
+
+/// Whether these are the entries of a table, listed upwards.
+fn lists(table: &PageTable<Global>, entries: &[(Vpn, Entry)]) -> Result<bool, AllocError> {
+    Ok(table.entries()?.as_slice() == entries)
+}
+
+/// Whether the entries are both listed, and only the second once the first is cleared.
+fn comes_no_more(alloc: Global) -> Result<bool, AllocError> {
+    let mut table = two_pages(alloc)?;
+    let entries = [
+        (Vpn::new(16), Entry::Held(FrameId::new(2))),
+        (Vpn::new(LAST), Entry::Frame(FrameId::new(3))),
+    ];
+    let both = entries.as_slice();
+    let were_both = lists(&table, both)?;
     table.clear(Vpn::new(16));
-    assert!(rt; table.entries()?.as_slice() == [(Vpn::new(LAST), frame)].as_slice());
+    Ok(were_both && lists(&table, &both[1..])?)
+}
+
+#[test]
+fn a_cleared_entry_comes_no_more(rt: HostRuntime) -> Result<(), Fail> {
+    assert!(rt; comes_no_more(rt.alloc())?);
     Ok(())
 }
 
 /// A table with an entry at each of the ends, in their order.
-fn with_ends<A: Allocator + Copy>(alloc: A) -> Result<PageTable<A>, AllocError> {
+fn with_ends(alloc: Global) -> Result<PageTable<Global>, AllocError> {
     let mut table = PageTable::new(alloc);
     for number in ENDS {
         table.set(Vpn::new(number), Entry::Zero)?;
@@ -58,10 +101,7 @@ fn with_ends<A: Allocator + Copy>(alloc: A) -> Result<PageTable<A>, AllocError> 
 }
 
 /// Whether a table has zero pages at these page numbers and nowhere else, listed upwards.
-fn has_zeros<A: Allocator + Copy>(
-    table: &PageTable<A>,
-    numbers: &[u64],
-) -> Result<bool, AllocError> {
+fn has_zeros(table: &PageTable<Global>, numbers: &[u64]) -> Result<bool, AllocError> {
     let entries = table.entries()?;
     let told = entries.as_slice();
     let mut same = told.len() == numbers.len();
@@ -74,25 +114,25 @@ fn has_zeros<A: Allocator + Copy>(
 /// What was set downwards, on both sides of where leaves and nodes end, comes upwards.
 #[test]
 fn ends_of_leaves_and_nodes(rt: HostRuntime) -> Result<(), Fail> {
-    let mut table = with_ends(rt.alloc())?;
-    let upwards = [
-        0u64,
-        511,
-        512,
-        262_143,
-        262_144,
-        134_217_727,
-        134_217_728,
-        LAST,
-    ];
-    assert!(rt; has_zeros(&table, &upwards)?);
+    let table = with_ends(rt.alloc())?;
+    assert!(rt; has_zeros(&table, UPWARDS.as_slice())?);
+    Ok(())
+}
+
+/// Whether, with the last entry of a leaf cleared, the first of the next leaf comes after those before it.
+fn goes_on(alloc: Global) -> Result<bool, AllocError> {
+    let mut table = with_ends(alloc)?;
     table.clear(Vpn::new(511));
-    assert_eq!(rt; table.get(Vpn::new(511)), None);
-    assert_eq!(rt;
-        table.first_from(Vpn::new(1)),
-        Some((Vpn::new(512), Entry::Zero))
-    );
-    let left = [0u64, 512, 262_143, 262_144, 134_217_727, 134_217_728, LAST];
-    assert!(rt; has_zeros(&table, &left)?);
+    let next = Some((Vpn::new(512), Entry::Zero));
+    Ok(
+        table.get(Vpn::new(511)).is_none()
+            && table.first_from(Vpn::new(1)) == next
+            && has_zeros(&table, LEFT.as_slice())?,
+    )
+}
+
+#[test]
+fn the_end_of_a_leaf_is_cleared(rt: HostRuntime) -> Result<(), Fail> {
+    assert!(rt; goes_on(rt.alloc())?);
     Ok(())
 }
