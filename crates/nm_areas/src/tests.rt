@@ -40,72 +40,85 @@ fn pages_over(areas: &Areas<Global>, pid: u32, vpn: u64) -> Option<u64> {
     }
 }
 
+/// Whether a process is refused an area of its own for an argument.
+fn is_invalid(areas: &mut Areas<Global>, pid: u32, addr: u64, pages: u64) -> bool {
+    areas.insert(Pid::new(pid), addr, pages, false).err() == Some(INVALID)
+}
+
+/// Whether process 1 is refused a policy from page number 16 on for a hole.
+fn has_hole(areas: &mut Areas<Global>, len: u64) -> bool {
+    let set = areas.split_policy(Pid::new(1), 0x10000, len, Policy::Local);
+    set.err() == Some(FAULT)
+}
+
+fn splits_a_page_off(alloc: Global) -> Result<bool, MachineError> {
+    let areas = second_apart(alloc)?;
+    let begin = begins(&areas, [16, 17, 18].as_slice())?;
+    Ok(begin && pages_over(&areas, 1, 16) == Some(1))
+}
+
 #[test]
 fn a_policy_splits_a_page_off(rt: HostRuntime) -> Result<(), Fail> {
-    let areas = second_apart(rt.alloc())?;
-    assert!(rt; begins(&areas, [16, 17, 18].as_slice())?);
-    assert_eq!(rt; pages_over(&areas, 1, 16), Some(1u64));
+    assert!(rt; splits_a_page_off(rt.alloc())?);
     Ok(())
+}
+
+fn refuses_holes(alloc: Global) -> Result<bool, MachineError> {
+    let mut areas = three_pages(alloc)?;
+    let refused = has_hole(&mut areas, 16384);
+    Ok(refused && begins(&areas, [16].as_slice())?)
 }
 
 #[test]
 fn policies_of_holes(rt: HostRuntime) -> Result<(), Fail> {
-    let mut areas = three_pages(rt.alloc())?;
-    let whole = areas.split_policy(Pid::new(1), 0x10000, 16384, Policy::Local);
-    assert_eq!(rt; whole.err(), Some(FAULT));
-    assert!(rt; begins(&areas, [16].as_slice())?);
+    assert!(rt; refuses_holes(rt.alloc())?);
     Ok(())
+}
+
+/// Whether areas over others, off a page's address and of no page are refused, and one beside the others is made.
+fn keeps_areas_apart(alloc: Global) -> Result<bool, MachineError> {
+    let mut areas = three_pages(alloc)?;
+    let refused = is_invalid(&mut areas, 1, 0x12000, 1)
+        && is_invalid(&mut areas, 1, 0x13001, 1)
+        && is_invalid(&mut areas, 1, 0x13000, 0);
+    let made = areas.insert(Pid::new(1), 0x13000, 1, true)?;
+    Ok(refused && made == 1 && areas.is_shared(1) && !areas.is_shared(0))
 }
 
 #[test]
 fn areas_do_not_overlap(rt: HostRuntime) -> Result<(), Fail> {
-    let mut areas = three_pages(rt.alloc())?;
-    assert_eq!(rt;
-        areas.insert(Pid::new(1), 0x12000, 1, false).err(),
-        Some(INVALID)
-    );
-    assert_eq!(rt;
-        areas.insert(Pid::new(1), 0x13001, 1, false).err(),
-        Some(INVALID)
-    );
-    assert_eq!(rt;
-        areas.insert(Pid::new(1), 0x13000, 0, false).err(),
-        Some(INVALID)
-    );
-    assert_eq!(rt;
-        areas.insert(Pid::new(1), 0x13000, 1, true).ok(),
-        Some(1u32)
-    );
-    assert!(rt; areas.is_shared(1) && !areas.is_shared(0));
+    assert!(rt; keeps_areas_apart(rt.alloc())?);
     Ok(())
+}
+
+/// Whether an area may have all pages and no more, and its last page a policy of its own.
+fn holds_all_pages(alloc: Global) -> Result<bool, MachineError> {
+    let mut areas = three_pages(alloc)?;
+    let all = 34_359_738_368u64;
+    let last = 140_737_488_351_232u64;
+    let refused = is_invalid(&mut areas, 2, last, 2);
+    let made = areas.insert(Pid::new(2), 0, all, false)?;
+    areas.split_policy(Pid::new(2), last, 4096, Policy::Local)?;
+    let pages = [pages_over(&areas, 2, all - 1), pages_over(&areas, 2, 5)];
+    Ok(refused && made == 1 && pages == [Some(1), Some(all - 1)])
 }
 
 #[test]
 fn the_largest_areas(rt: HostRuntime) -> Result<(), Fail> {
-    let mut areas = three_pages(rt.alloc())?;
-    let all = 34_359_738_368u64;
-    let last = 140_737_488_351_232u64;
-    assert_eq!(rt;
-        areas.insert(Pid::new(2), last, 2, false).err(),
-        Some(INVALID)
-    );
-    assert_eq!(rt; areas.insert(Pid::new(2), 0, all, false).ok(), Some(1u32));
-    let set = areas.split_policy(Pid::new(2), last, 4096, Policy::Local);
-    assert!(rt; set.is_ok());
-    assert_eq!(rt; pages_over(&areas, 2, all - 1), Some(1u64));
-    assert_eq!(rt; pages_over(&areas, 2, 5), Some(all - 1));
+    assert!(rt; holds_all_pages(rt.alloc())?);
     Ok(())
 }
 
-/// What attaching pages of a segment to process 2 returns, with segment 0 a shared one of three pages.
+/// What attaching pages of a segment to process 2 returns, with segment 0 one of three pages.
 fn attached(
     alloc: Global,
+    shared: bool,
     segment: u64,
     offset: u64,
     pages: u64,
 ) -> Result<Option<MachineError>, MachineError> {
     let mut areas = Areas::new(alloc);
-    areas.insert(Pid::new(1), 0x10000, 3, true)?;
+    areas.insert(Pid::new(1), 0x10000, 3, shared)?;
     Ok(
         areas
             .attach(Pid::new(2), 0x10000, segment, offset, pages)
@@ -115,20 +128,32 @@ fn attached(
 
 #[test]
 fn stretches_of_shared_segments(rt: HostRuntime) -> Result<(), Fail> {
-    assert_eq!(rt; attached(rt.alloc(), 0, 1, 2)?, None);
-    assert_eq!(rt; attached(rt.alloc(), 0, 2, 2)?, Some(INVALID));
-    assert_eq!(rt; attached(rt.alloc(), 0, u64::MAX, 2)?, Some(INVALID));
-    assert_eq!(rt; attached(rt.alloc(), 1 << 32, 1, 2)?, Some(INVALID));
-    let mut areas = three_pages(rt.alloc())?;
-    assert_eq!(rt;
-        areas.attach(Pid::new(2), 0x10000, 0, 0, 1).err(),
-        Some(INVALID)
-    );
-    assert_eq!(rt;
-        areas.attach(Pid::new(2), 0x10000, 7, 0, 1).err(),
-        Some(INVALID)
-    );
+    assert!(rt; attached(rt.alloc(), true, 0, 1, 2)?.is_none());
+    for (shared, segment, offset, pages) in [
+        (true, 0, 2, 2),
+        (true, 0, u64::MAX, 2),
+        (true, 1 << 32, 1, 2),
+        (false, 0, 0, 1),
+        (false, 7, 0, 1),
+    ] {
+        let refused = attached(rt.alloc(), shared, segment, offset, pages)?;
+        assert!(rt; refused == Some(INVALID), "segment {segment} from {offset}");
+    }
     Ok(())
+}
+
+/// Whether a page without a frame gets one, goes to another and loses that.
+fn gets_moves_and_loses(areas: &mut Areas<Global>, page: Page) -> Result<bool, AllocError> {
+    let had_none = areas.page_frame(page).is_none();
+    areas.set_frame(page, FrameId::new(4))?;
+    if areas.page_frame(page).is_some() {
+        areas.move_page(page, FrameId::new(5));
+    }
+    let moved = areas.page_frame(page) == Some(FrameId::new(5));
+    if areas.page_frame(page).is_some() {
+        areas.drop_frame(page);
+    }
+    Ok(had_none && moved && areas.page_frame(page).is_none())
 }
 
 #[test]
@@ -138,16 +163,7 @@ fn frames_of_pages(rt: HostRuntime) -> Result<(), Fail> {
         segment: 0,
         index: 2,
     };
-    assert_eq!(rt; areas.page_frame(page), None);
-    areas.set_frame(page, FrameId::new(4))?;
-    if areas.page_frame(page).is_some() {
-        areas.move_page(page, FrameId::new(5));
-    }
-    assert_eq!(rt; areas.page_frame(page), Some(FrameId::new(5)));
-    if areas.page_frame(page).is_some() {
-        areas.drop_frame(page);
-    }
-    assert_eq!(rt; areas.page_frame(page), None);
+    assert!(rt; gets_moves_and_loses(&mut areas, page)?);
     Ok(())
 }
 
@@ -158,17 +174,18 @@ fn second_gone(alloc: Global) -> Result<Areas<Global>, MachineError> {
     Ok(areas)
 }
 
+/// Whether the hole stays where a policy over it is refused, and an area beside it as well.
+fn leaves_a_hole(alloc: Global) -> Result<bool, MachineError> {
+    let mut areas = second_gone(alloc)?;
+    let was_there = begins(&areas, [16, 18].as_slice())?;
+    let refused = has_hole(&mut areas, 12288);
+    let is_there = begins(&areas, [16, 18].as_slice())?;
+    Ok(was_there && refused && is_there && is_invalid(&mut areas, 1, 0x12000, 1))
+}
+
 #[test]
 fn a_page_goes(rt: HostRuntime) -> Result<(), Fail> {
-    let mut areas = second_gone(rt.alloc())?;
-    assert!(rt; begins(&areas, [16, 18].as_slice())?);
-    let whole = areas.split_policy(Pid::new(1), 0x10000, 12288, Policy::Local);
-    assert_eq!(rt; whole.err(), Some(FAULT));
-    assert!(rt; begins(&areas, [16, 18].as_slice())?);
-    assert_eq!(rt;
-        areas.insert(Pid::new(1), 0x12000, 1, false).err(),
-        Some(INVALID)
-    );
+    assert!(rt; leaves_a_hole(rt.alloc())?);
     Ok(())
 }
 
@@ -195,15 +212,23 @@ fn first_frame(areas: &Areas<Global>, pid: u32, at: u64) -> Option<(u64, u16)> {
     Some((vpn.number(), frame.number()))
 }
 
+/// Whether the frames of shared pages come in the order of the page numbers, and none where none is.
+fn come_one_after_another(alloc: Global) -> Result<bool, MachineError> {
+    let mut areas = shared_pages(alloc)?;
+    areas.insert(Pid::new(3), 0x10000, 3, false)?;
+    let found = [
+        first_frame(&areas, 1, 0),
+        first_frame(&areas, 1, 18),
+        first_frame(&areas, 1, 19),
+        first_frame(&areas, 2, 17),
+        first_frame(&areas, 3, 0),
+    ];
+    Ok(found == [Some((16, 7)), Some((18, 5)), Some((32, 6)), None, None])
+}
+
 #[test]
 fn frames_one_after_another(rt: HostRuntime) -> Result<(), Fail> {
-    let mut areas = shared_pages(rt.alloc())?;
-    areas.insert(Pid::new(3), 0x10000, 3, false)?;
-    assert_eq!(rt; first_frame(&areas, 1, 0), Some((16u64, 7u16)));
-    assert_eq!(rt; first_frame(&areas, 1, 18), Some((18u64, 5u16)));
-    assert_eq!(rt; first_frame(&areas, 1, 19), Some((32u64, 6u16)));
-    assert_eq!(rt; first_frame(&areas, 2, 17), None);
-    assert_eq!(rt; first_frame(&areas, 3, 0), None);
+    assert!(rt; come_one_after_another(rt.alloc())?);
     Ok(())
 }
 
@@ -218,13 +243,16 @@ fn gives(areas: &mut Areas<Global>, pid: u32, frames: &[u16]) -> Result<bool, Ma
     )
 }
 
+/// Whether each frame is given when the last area over its page goes, and the segment goes with the last of all.
+fn gives_what_none_covers(alloc: Global) -> Result<bool, MachineError> {
+    let mut areas = shared_pages(alloc)?;
+    let first = gives(&mut areas, 1, [7, 5].as_slice())? && areas.is_shared(0);
+    let second = gives(&mut areas, 2, [6].as_slice())? && !areas.is_shared(0);
+    Ok(first && second && gives(&mut areas, 2, [].as_slice())?)
+}
+
 #[test]
 fn frames_of_pages_that_no_area_covers(rt: HostRuntime) -> Result<(), Fail> {
-    let mut areas = shared_pages(rt.alloc())?;
-    assert!(rt; gives(&mut areas, 1, [7, 5].as_slice())?);
-    assert!(rt; areas.is_shared(0));
-    assert!(rt; gives(&mut areas, 2, [6].as_slice())?);
-    assert!(rt; !areas.is_shared(0));
-    assert!(rt; gives(&mut areas, 2, [].as_slice())?);
+    assert!(rt; gives_what_none_covers(rt.alloc())?);
     Ok(())
 }
