@@ -1,4 +1,5 @@
-ghost use Rattle.std.specs.Prelude.{◌≡◌, [], false, IfOk};
+ghost use Rattle.std.specs.Prelude.{◌≡◌, [], false, true, slice_get, Some, IfOk};
+ghost use Rattle.nm_board.specs.Shown.{all_shares, without_ticket, Drew};
 ghost use Rattle.nm_board.specs.Tickets.{InTicketOrder};
 
 use crate::{Board, Hand, Short};
@@ -6,6 +7,7 @@ use nm_frames::{CopyJob, FrameStore};
 use nm_refusing::Refusing;
 use nm_types::FrameId;
 use std::alloc::{AllocError, Allocator, Global};
+use std::process::Abort;
 use std::test::Fail;
 use std::thread;
 
@@ -52,32 +54,84 @@ fn are_jobs<A: Allocator + Copy>(jobs: &[CopyJob<A>], copied: bool) -> bool {
     true
 }
 
+/// A board of the jobs of `jobs`, and its hand.
+fn laid(alloc: Global, count: u8) -> Result<(Board<Global>, Hand<Global>), AllocError>
+    ensures { IfOk result (λ laid. laid.1 ≡ all_shares laid.0) }
+{
+    match Board::lay(alloc, jobs(alloc, count)?) {
+        Ok(laid) => Ok(laid),
+        Err(_) => Err(AllocError),
+    }
+}
+
+/// The job that a draw returns.
+fn draw_job(rt: &impl Abort, board: &Board<Global>, hand: &mut Hand<Global>) -> CopyJob<Global>
+    requires own { hand.old.board ≡ board.now }
+    requires open { hand.old.past_end ≡ false }
+    ensures { Drew hand.old hand.new result }
+{
+    let Some(job) = board.draw(hand) else {
+        panic!(rt; "no job")
+    };
+    job
+}
+
+/// Whether a draw returns none.
+fn draws_none(board: &Board<Global>, hand: &mut Hand<Global>) -> bool
+    requires own { hand.old.board ≡ board.now }
+    requires open { hand.old.past_end ≡ false }
+    ensures { result ≡ true → hand.new ≡ record hand.old { past_end = true } }
+{
+    board.draw(hand).is_none() && hand.past_end()
+}
+
+/// Copies a job, and gives it back.
+fn give_copied(board: &Board<Global>, hand: &mut Hand<Global>, mut job: CopyJob<Global>)
+    requires own { hand.old.board ≡ board.now }
+    requires last { slice_get hand.old.out 0 ≡ Some job.ticket }
+    requires laid { slice_get board.now.jobs job.ticket ≡ Some job }
+    ensures { hand.new ≡ without_ticket hand.old job.ticket }
+{
+    job.copy();
+    board.give(hand, job);
+}
+
+/// A board and its hand, of which a ticket was not given back.
+fn short(rt: &impl Abort, board: Board<Global>, hand: Hand<Global>) -> Short<Global>
+    requires own { hand.board ≡ board }
+    requires past_end { hand.past_end ≡ true }
+    ensures { (result.board ≡ board) × (result.hand ≡ hand) }
+{
+    let Err(back) = board.clear(hand) else {
+        panic!(rt; "not short")
+    };
+    back
+}
+
+/// Whether a board gives back so many jobs, those of `jobs` in order and copied.
+fn comes_back(board: Board<Global>, hand: Hand<Global>, count: usize) -> bool
+    requires own { hand.board ≡ board }
+    requires past_end { hand.past_end ≡ true }
+{
+    match board.clear(hand) {
+        Ok(jobs) => jobs.len() == count && are_jobs(jobs.as_slice(), true),
+        Err(_) => false,
+    }
+}
+
 /// Three draws return ticket 0, ticket 1 and none. With one job back the board is short, with both it gives them back.
 #[test]
 fn two_jobs(rt: HostRuntime) -> Result<(), Fail> {
-    let Ok((board, mut hand)) = Board::lay(rt.alloc(), jobs(rt.alloc(), 2)?) else {
-        panic!(rt; "no memory")
-    };
+    let (board, mut hand) = laid(rt.alloc(), 2)?;
     assert!(rt; hand.shares() == 64 && !hand.past_end());
-    let Some(mut first) = board.draw(&mut hand) else {
-        panic!(rt; "no first job")
-    };
-    let Some(mut second) = board.draw(&mut hand) else {
-        panic!(rt; "no second job")
-    };
+    let first = draw_job(&rt, &board, &mut hand);
+    let second = draw_job(&rt, &board, &mut hand);
     assert!(rt; first.ticket == 0 && second.ticket == 1);
-    assert!(rt; board.draw(&mut hand).is_none() && hand.past_end());
-    second.copy();
-    board.give(&mut hand, second);
-    let Err(Short { board, mut hand }) = board.clear(hand) else {
-        panic!(rt; "not short")
-    };
-    first.copy();
-    board.give(&mut hand, first);
-    let Ok(jobs) = board.clear(hand) else {
-        panic!(rt; "short")
-    };
-    assert!(rt; jobs.len() == 2 && are_jobs(jobs.as_slice(), true));
+    assert!(rt; draws_none(&board, &mut hand));
+    give_copied(&board, &mut hand, second);
+    let Short { board, mut hand } = short(&rt, board, hand);
+    give_copied(&board, &mut hand, first);
+    assert!(rt; comes_back(board, hand, 2));
     Ok(())
 }
 
@@ -85,43 +139,27 @@ fn two_jobs(rt: HostRuntime) -> Result<(), Fail> {
 /// joined, the hand has all 64 shares and is past the end, as the other was.
 #[test]
 fn two_hands(rt: HostRuntime) -> Result<(), Fail> {
-    let Ok((board, mut hand)) = Board::lay(rt.alloc(), jobs(rt.alloc(), 2)?) else {
-        panic!(rt; "no memory")
-    };
+    let (board, mut hand) = laid(rt.alloc(), 2)?;
     let mut other = hand.split(&board, 32);
     assert!(rt; hand.shares() == 32 && other.shares() == 32);
-    let Some(mut first) = board.draw(&mut other) else {
-        panic!(rt; "no first job")
-    };
-    let Some(mut second) = board.draw(&mut hand) else {
-        panic!(rt; "no second job")
-    };
+    let first = draw_job(&rt, &board, &mut other);
+    let second = draw_job(&rt, &board, &mut hand);
     assert!(rt; first.ticket == 0 && second.ticket == 1);
-    second.copy();
-    board.give(&mut hand, second);
-    first.copy();
-    board.give(&mut other, first);
-    assert!(rt; board.draw(&mut other).is_none() && !hand.past_end());
+    give_copied(&board, &mut hand, second);
+    give_copied(&board, &mut other, first);
+    assert!(rt; draws_none(&board, &mut other) && !hand.past_end());
     hand.join(&board, other);
     assert!(rt; hand.shares() == 64 && hand.past_end());
-    let Ok(jobs) = board.clear(hand) else {
-        panic!(rt; "short")
-    };
-    assert!(rt; jobs.len() == 2 && are_jobs(jobs.as_slice(), true));
+    assert!(rt; comes_back(board, hand, 2));
     Ok(())
 }
 
 /// The first draw of a board without jobs returns none, and the board gives none back.
 #[test]
 fn no_jobs(rt: HostRuntime) -> Result<(), Fail> {
-    let Ok((board, mut hand)) = Board::lay(rt.alloc(), jobs(rt.alloc(), 0)?) else {
-        panic!(rt; "no memory")
-    };
-    assert!(rt; board.draw(&mut hand).is_none());
-    let Ok(jobs) = board.clear(hand) else {
-        panic!(rt; "short")
-    };
-    assert!(rt; jobs.is_empty());
+    let (board, mut hand) = laid(rt.alloc(), 0)?;
+    assert!(rt; draws_none(&board, &mut hand));
+    assert!(rt; comes_back(board, hand, 0));
     Ok(())
 }
 
@@ -144,25 +182,29 @@ fn work_off(board: &Board<Global>, mut hand: Hand<Global>) -> (Hand<Global>, Dra
         tickets: 0,
     };
     for _ in 0..101 {
-        let Some(mut job) = board.draw(&mut hand) else {
+        let Some(job) = board.draw(&mut hand) else {
             break;
         };
         drawn.count = drawn.count.wrapping_add(1);
         if job.ticket < 128 {
             drawn.tickets |= 1u128 << job.ticket;
         }
-        job.copy();
-        board.give(&mut hand, job);
+        give_copied(board, &mut hand, job);
     }
     (hand, drawn)
+}
+
+/// Whether two hands drew each of 100 tickets, and none of them both.
+fn share_hundred(one: &Drawn, two: &Drawn) -> bool {
+    one.count.wrapping_add(two.count) == 100
+        && one.tickets & two.tickets == 0
+        && one.tickets | two.tickets == (1u128 << 100) - 1
 }
 
 /// Two threads with 32 shares each draw 100 different tickets, and all jobs come back in order.
 #[test]
 fn two_threads(rt: HostRuntime) -> Result<(), Fail> {
-    let Ok((board, mut hand)) = Board::lay(rt.alloc(), jobs(rt.alloc(), 100)?) else {
-        panic!(rt; "no memory")
-    };
+    let (board, mut hand) = laid(rt.alloc(), 100)?;
     let other = hand.split(&board, 32);
     assert!(rt; hand.shares() == 32 && other.shares() == 32 && !other.past_end());
     let shared = &board;
@@ -177,15 +219,10 @@ fn two_threads(rt: HostRuntime) -> Result<(), Fail> {
             ensures { (result.0.board ≡ shared.entry.now) × (result.0.out ≡ []) × (result.0.shares ≡ other.shares) }
         { work_off(shared, other) },
     );
-    assert!(rt; one.count.wrapping_add(two.count) == 100);
-    assert!(rt; one.tickets & two.tickets == 0 && one.tickets | two.tickets == (1u128 << 100) - 1);
-    assert!(rt; hand.past_end() && other.past_end());
+    assert!(rt; share_hundred(&one, &two) && hand.past_end() && other.past_end());
     hand.join(&board, other);
     assert!(rt; hand.shares() == 64 && hand.past_end());
-    let Ok(jobs) = board.clear(hand) else {
-        panic!(rt; "short")
-    };
-    assert!(rt; jobs.len() == 100 && are_jobs(jobs.as_slice(), true));
+    assert!(rt; comes_back(board, hand, 100));
     Ok(())
 }
 
