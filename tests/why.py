@@ -1,5 +1,5 @@
 #!/usr/bin/env python3
-"""Checks tools/why.py: what it says of good and bad traces, and that the program's tests tell the same of them."""
+"""Checks tools/why.py: what it says of good and bad traces, and that tests/hostile.py has the program tell the same of them."""
 import glob
 import importlib.util
 import json
@@ -358,29 +358,19 @@ def check_order():
            "not JSON: line 1, column 18: a number beyond those of 64-bit floating point")
 
 
-def literals(text):
-    """The literals of Rust in a text that JSON reads as well."""
-    return [json.loads(literal, strict=False) for literal in re.findall(r'"(?:[^"\\]|\\.)*"', text, re.S)]
-
-
 def check_program():
-    """The beginning of each line is what the program's own tests say that it tells."""
-    source = read("crates/numatrace/src/tests.rt")
-    trace = literals(re.search(r"const TRACE: &str =(.*?);\n", source, re.S)[1])[0]
-    count, table = re.search(r"const FAULTS: \[\(&str, &str, &str\); (\d+)\] = \[(.*?)\n\];", source, re.S).groups()
-    words = literals(table)
-    if len(words) != 3 * int(count):
-        sys.exit("tests/why.py: the table of faults in crates/numatrace/src/tests.rt is not read right")
-    for old, new, text in zip(words[0::3], words[1::3], words[2::3]):
-        line = WHY.verdict(changed(trace, old, new).encode())
-        if not line.startswith(text + ": "):
-            sys.exit(f"tests/why.py: of {new} for {old} is said\n  {line}\nand by the program\n  {text}")
-    count, table = re.search(r"const SAME: \[\(&str, &str\); (\d+)\] = \[(.*?)\n\];", source, re.S).groups()
-    words = literals(table)
-    if len(words) != 2 * int(count):
-        sys.exit("tests/why.py: the table of spellings in crates/numatrace/src/tests.rt is not read right")
-    for old, new in zip(words[0::2], words[1::2]):
-        expect(changed(trace, old, new), "good", new)
+    """The beginning of each line is what the built program has to tell."""
+    text, hostile = read("examples/three_pages.json"), loaded("tests/hostile.py")
+    told = [(changed(text, old, new).encode(), fault) for old, new, fault in hostile.BAD]
+    told += [(data, fault) for data, fault in hostile.WHOLE if len(data) < 1 << 20]  # The longest are in WHOLE here.
+    for during in hostile.DURING:
+        told.append((changed(text, '"flags":2', '"flags":2,"during":' + during).encode(), "bad step 5"))
+    for data, fault in told:
+        line = WHY.verdict(data)
+        if not line.startswith(fault + ": "):
+            sys.exit(f"tests/why.py: of {data[:1000]} is said\n  {line}\nand by the program\n  {fault}")
+    for old, new in hostile.SAME:
+        expect(changed(text, old, new), "good", new)
 
 
 def check_schema():
