@@ -151,16 +151,23 @@ fn refuse_rounds<'a>(
     Ok(refused)
 }
 
-/// Each allocation of each call is refused in turn, and each call meets some. In the end process 1 has one page of each
-/// segment, and the first pages, which no process has any more, have no frames.
+/// Makes all calls so. Gives whether each met a refusal, and whether in the end process 1 has one page of each segment, and
+/// the first page of segment 7, which no process has any more, no frame.
+fn refuse_all(rt: &impl Abort, heap: Heap<'_>) -> Result<bool, MachineError> {
+    let mut areas = Areas::new(heap);
+    let mut all = true;
+    for call in CALLS {
+        let refused = refuse_rounds(rt, heap, &mut areas, call)?;
+        all = all && refused > 0;
+    }
+    let last = take_picture(&areas, 7)?;
+    Ok(all && last.first.len() == ROUNDS as usize && last.frame.is_none())
+}
+
+/// Each allocation of each call is refused in turn, and each call meets some.
 #[test]
 fn refused_calls_leave_the_areas(rt: HostRuntime) -> Result<(), Fail> {
     let heap = Refusing::new(rt.alloc());
-    let mut areas = Areas::new(&heap);
-    for call in CALLS {
-        assert!(rt; refuse_rounds(&rt, &heap, &mut areas, call)? > 0);
-    }
-    let last = take_picture(&areas, 7)?;
-    assert!(rt; last.first.len() == ROUNDS as usize && last.frame.is_none());
+    assert!(rt; refuse_all(&rt, &heap)?);
     Ok(())
 }

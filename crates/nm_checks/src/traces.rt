@@ -166,15 +166,25 @@ fn report_of<'a>(
     }
 }
 
-/// Plays that trace on a system that is made for it, and gives the report.
+/// The report of a trace on a system of its own.
+fn report_anew<'a>(
+    rt: &(impl Threads + Wait + Sync),
+    heap: Heap<'a>,
+    global: Global,
+    trace: &Trace<Heap<'a>>,
+) -> Result<Vec<u8>, AllocError> {
+    let mut system = new_system(heap, trace)?;
+    report_of(rt, heap, global, &mut system, trace)
+}
+
+/// The report of that trace.
 fn own_report(
     rt: &(impl Threads + Wait + Sync),
     heap: Heap<'_>,
     global: Global,
 ) -> Result<Vec<u8>, AllocError> {
     let trace = own_trace(heap)?;
-    let mut system = new_system(heap, &trace)?;
-    report_of(rt, heap, global, &mut system, &trace)
+    report_anew(rt, heap, global, &trace)
 }
 
 /// A program plays calls of its own as it plays those of a trace that was read.
