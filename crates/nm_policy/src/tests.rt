@@ -2,7 +2,7 @@ use crate::{
     Stray, first_touch_node, first_touch_order, follows, laws, mbind_targets, pairs, zonelist,
 };
 use nm_types::{Geometry, NodeId, NodeMask, Page, Policy, Vpn};
-use std::alloc::Global;
+use std::alloc::{AllocError, Global};
 use std::process::Abort;
 use std::test::Fail;
 
@@ -26,6 +26,26 @@ fn three(alloc: Global) -> Result<Geometry<Global>, Fail> {
     Ok(Geometry::new(vec![in alloc; 1u32, 1, 1]?, distances)?)
 }
 
+/// Whether a list has the nodes of these numbers in order.
+fn are(nodes: &[NodeId], numbers: &[u32]) -> bool {
+    nodes
+        .iter()
+        .map(|node| node.number())
+        .eq(numbers.iter().copied())
+}
+
+/// Whether the zonelist from a node has these nodes in order.
+fn is_zonelist(
+    geometry: &Geometry<Global>,
+    alloc: Global,
+    online: NodeMask,
+    from: u32,
+    want: &[u32],
+) -> Result<bool, AllocError> {
+    let order = zonelist(alloc, geometry, online, NodeId::new(from))?;
+    Ok(are(order.as_slice(), want))
+}
+
 #[test]
 fn zonelists(rt: HostRuntime) -> Result<(), Fail> {
     let alloc = rt.alloc();
@@ -39,11 +59,27 @@ fn zonelists(rt: HostRuntime) -> Result<(), Fail> {
         (two, 0, [0, 1].as_slice()),
         (two, 2, [0, 1].as_slice()),
     ] {
-        let order = zonelist(alloc, &geometry, online, NodeId::new(from))?;
-        let numbers: Vec<u32> = order.iter().map(|node| node.number()).collect(alloc)?;
-        assert_eq!(rt; numbers.as_slice(), want, "from {from}");
+        assert!(rt;
+            is_zonelist(&geometry, alloc, online, from, want)?,
+            "from {from}"
+        );
     }
     Ok(())
+}
+
+/// Whether these nodes in order are those for a page's first touch by a process at home on node 0.
+fn is_order(
+    geometry: &Geometry<Global>,
+    alloc: Global,
+    online: NodeMask,
+    allowed: NodeMask,
+    policy: Policy,
+    index: u64,
+    want: &[u32],
+) -> Result<bool, AllocError> {
+    let home = NodeId::new(0);
+    let order = first_touch_order(alloc, geometry, online, home, allowed, policy, index)?;
+    Ok(are(order.as_slice(), want))
 }
 
 #[test]
@@ -52,7 +88,6 @@ fn first_touches(rt: HostRuntime) -> Result<(), Fail> {
     let geometry = three(alloc)?;
     let all = set_of(&rt, &[0, 1, 2]);
     let one = set_of(&rt, &[1]);
-    let home = NodeId::new(0);
     for (policy, allowed, index, want) in [
         (
             Policy::Bind(set_of(&rt, &[1, 2])),
@@ -75,9 +110,8 @@ fn first_touches(rt: HostRuntime) -> Result<(), Fail> {
         (Policy::Default, all, 0, [0, 2, 1].as_slice()),
         (Policy::Local, one, 0, [1].as_slice()),
     ] {
-        let order = first_touch_order(alloc, &geometry, all, home, allowed, policy, index)?;
-        let numbers: Vec<u32> = order.iter().map(|node| node.number()).collect(alloc)?;
-        assert_eq!(rt; numbers.as_slice(), want, "under {policy:?}");
+        let is_order = is_order(&geometry, alloc, all, allowed, policy, index, want)?;
+        assert!(rt; is_order, "want {want:?}");
     }
     Ok(())
 }
@@ -115,7 +149,7 @@ fn first_touches_with_full_nodes(rt: HostRuntime) -> Result<(), Fail> {
     ] {
         let free = set_of(&rt, free);
         let found = first_touch_node(&geometry, all, free, home, all, policy, 0);
-        assert_eq!(rt; found, want, "under {policy:?}");
+        assert!(rt; found == want, "want {want:?}");
     }
     Ok(())
 }
@@ -134,8 +168,25 @@ fn pages_follow(rt: HostRuntime) {
         (Policy::Interleave(set_of(&rt, &[0, 2])), first, true),
         (Policy::Interleave(set_of(&rt, &[0, 2])), second, false),
     ] {
-        assert_eq!(rt; follows(policy, node), want);
+        assert!(rt; follows(policy, node) == want);
     }
+}
+
+/// Whether the nodes of one set are paired with those of another so, by numbers.
+fn are_paired(
+    rt: &impl Abort,
+    alloc: Global,
+    old: &[u32],
+    new: &[u32],
+    want: &[(u32, u32)],
+) -> Result<bool, AllocError> {
+    let found = pairs(alloc, set_of(rt, old), set_of(rt, new))?;
+    Ok(
+        found
+            .iter()
+            .map(|pair| (pair.from.number(), pair.to.number()))
+            .eq(want.iter().copied()),
+    )
 }
 
 #[test]
@@ -153,25 +204,39 @@ fn pairs_in_order(rt: HostRuntime) -> Result<(), Fail> {
         (&[0, 63], &[], &[]),
         (&[], &[0, 63], &[]),
     ] {
-        let found = pairs(alloc, set_of(&rt, old), set_of(&rt, new))?;
-        let numbers: Vec<(u32, u32)> = found
-            .iter()
-            .map(|pair| (pair.from.number(), pair.to.number()))
-            .collect(alloc)?;
-        assert!(rt; numbers.as_slice() == want, "from {old:?} to {new:?}");
+        assert!(rt;
+            are_paired(&rt, alloc, old, new, want)?,
+            "from {old:?} to {new:?}"
+        );
     }
     Ok(())
+}
+
+/// The pages of a segment from page number 16 on.
+fn four_pages(alloc: Global) -> Result<Vec<Stray>, AllocError> {
+    (0..4u64)
+        .map(|index| Stray {
+            vpn: Vpn::new(16 + index),
+            page: Page { segment: 0, index },
+        })
+        .collect(alloc)
+}
+
+/// Whether four pages are sent to nodes so, by page number.
+fn are_sent(alloc: Global, nodes: NodeMask, want: &[(u64, u32)]) -> Result<bool, AllocError> {
+    let pages = four_pages(alloc)?;
+    let targets = mbind_targets(alloc, nodes, pages.as_slice())?;
+    Ok(
+        targets
+            .iter()
+            .map(|sent| (sent.vpn.number(), sent.to.number()))
+            .eq(want.iter().copied()),
+    )
 }
 
 #[test]
 fn pages_take_turns(rt: HostRuntime) -> Result<(), Fail> {
     let alloc = rt.alloc();
-    let pages: Vec<Stray> = (0..4u64)
-        .map(|index| Stray {
-            vpn: Vpn::new(16 + index),
-            page: Page { segment: 0, index },
-        })
-        .collect(alloc)?;
     for (nodes, want) in [
         (
             [0u32, 2].as_slice(),
@@ -180,12 +245,7 @@ fn pages_take_turns(rt: HostRuntime) -> Result<(), Fail> {
         (&[1], &[(16, 1), (17, 1), (18, 1), (19, 1)]),
         (&[], &[]),
     ] {
-        let targets = mbind_targets(alloc, set_of(&rt, nodes), pages.as_slice())?;
-        let numbers: Vec<(u64, u32)> = targets
-            .iter()
-            .map(|sent| (sent.vpn.number(), sent.to.number()))
-            .collect(alloc)?;
-        assert!(rt; numbers.as_slice() == want, "on {nodes:?}");
+        assert!(rt; are_sent(alloc, set_of(&rt, nodes), want)?, "on {nodes:?}");
     }
     Ok(())
 }
