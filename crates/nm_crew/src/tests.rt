@@ -1,4 +1,4 @@
-ghost use Rattle.std.specs.Prelude.{◌≡◌, IfOk};
+ghost use Rattle.std.specs.Prelude.{◌≡◌, ◌<◌, ◌≤◌, IfOk};
 ghost use Rattle.nm_board.specs.Tickets.{InTicketOrder};
 
 use crate::crew::copy_with;
@@ -8,9 +8,10 @@ use nm_frames::{CopyJob, FrameStore};
 use nm_refusing::Refusing;
 use nm_types::FrameId;
 use std::alloc::{AllocError, Allocator, Global};
+use std::sync::Wait;
 use std::sync::atomic::{AtomicBool, AtomicU64, Ordering};
 use std::test::Fail;
-use std::thread::{Builder, yield_now};
+use std::thread::{Builder, Threads, yield_now};
 
 /// A job whose source begins with a byte.
 fn job<A: Allocator + Copy>(alloc: A, ticket: u64, byte: u8) -> Result<CopyJob<A>, AllocError>
@@ -38,20 +39,36 @@ fn jobs<A: Allocator + Copy>(alloc: A, count: u8) -> Result<Vec<CopyJob<A>, A>, 
     Ok(jobs)
 }
 
+/// Whether this is the job of `jobs` with this ticket, copied.
+fn is_copied<A: Allocator + Copy>(job: &CopyJob<A>, ticket: u8) -> bool {
+    let byte = ticket.wrapping_add(1);
+    job.ticket == ticket as u64 && job.source.bytes()[0] == byte && job.target.bytes()[0] == byte
+}
+
 /// Whether these are the first `count` of the jobs of `jobs`, copied and in order.
 fn are_copied<A: Allocator + Copy>(jobs: &[CopyJob<A>], count: usize) -> bool {
     let mut next = 0u8;
     for job in jobs {
-        let byte = next.wrapping_add(1);
-        if job.ticket != next as u64
-            || job.source.bytes()[0] != byte
-            || job.target.bytes()[0] != byte
-        {
+        if !is_copied(job, next) {
             return false;
         }
-        next = byte;
+        next = next.wrapping_add(1);
     }
     jobs.len() == count
+}
+
+/// Whether so many jobs come back copied, and the answer of the work beside them.
+fn copies<G: Gate + Sync>(
+    rt: &(impl Threads + Wait + Sync),
+    alloc: Global,
+    count: u8,
+    workers: usize,
+    gate: &G,
+) -> Result<bool, AllocError>
+    requires { (0 < workers) × (workers ≤ 64) }
+{
+    let (jobs, answer) = copy_while(rt, alloc, jobs(alloc, count)?, workers, gate, || 7);
+    Ok(answer == 7 && are_copied(jobs.as_slice(), count as usize))
 }
 
 /// Lets each worker through at once, and lets others start from the first job on.
@@ -123,8 +140,7 @@ impl Gate for Meeting {
 #[test]
 fn two_workers_meet(rt: HostRuntime) -> Result<(), Fail> {
     let gate = Meeting(Calls::new());
-    let (jobs, answer) = copy_while(&rt, rt.alloc(), jobs(rt.alloc(), 2)?, 2, &gate, || 7);
-    assert!(rt; gate.0.met() && answer == 7 && are_copied(jobs.as_slice(), 2));
+    assert!(rt; copies(&rt, rt.alloc(), 2, 2, &gate)? && gate.0.met());
     Ok(())
 }
 
@@ -176,8 +192,7 @@ impl Gate for Uneven {
 #[test]
 fn shares_are_not_fixed(rt: HostRuntime) -> Result<(), Fail> {
     let gate = Uneven(Calls::new());
-    let (jobs, answer) = copy_while(&rt, rt.alloc(), jobs(rt.alloc(), 4)?, 2, &gate, || 7);
-    assert!(rt; gate.0.met() && answer == 7 && are_copied(jobs.as_slice(), 4));
+    assert!(rt; copies(&rt, rt.alloc(), 4, 2, &gate)? && gate.0.met());
     assert!(rt; gate.0.zero.load(Ordering::SeqCst) == 3 && gate.0.one.load(Ordering::SeqCst) == 1);
     Ok(())
 }
@@ -185,12 +200,9 @@ fn shares_are_not_fixed(rt: HostRuntime) -> Result<(), Fail> {
 /// Three jobs with 64 workers, and none.
 #[test]
 fn more_workers_than_jobs(rt: HostRuntime) -> Result<(), Fail> {
-    let (three, answer) = copy_while(&rt, rt.alloc(), jobs(rt.alloc(), 3)?, 64, &Through, || 7);
-    assert!(rt; answer == 7 && are_copied(three.as_slice(), 3));
-    let (three, answer) = copy_while(&rt, rt.alloc(), jobs(rt.alloc(), 3)?, 64, &OpenGate, || 7);
-    assert!(rt; answer == 7 && are_copied(three.as_slice(), 3));
-    let (none, answer) = copy_while(&rt, rt.alloc(), jobs(rt.alloc(), 0)?, 64, &Through, || 7);
-    assert!(rt; answer == 7 && none.is_empty());
+    assert!(rt; copies(&rt, rt.alloc(), 3, 64, &Through)?);
+    assert!(rt; copies(&rt, rt.alloc(), 3, 64, &OpenGate)?);
+    assert!(rt; copies(&rt, rt.alloc(), 0, 64, &Through)?);
     Ok(())
 }
 
@@ -217,8 +229,7 @@ fn a_hundred_jobs(rt: HostRuntime) -> Result<(), Fail> {
 /// From how many bytes on gates let a second worker start.
 #[test]
 fn worth_its_start(rt: HostRuntime) {
-    assert_eq!(rt; OpenGate.worth_from(), 4_194_304usize);
-    assert_eq!(rt; Through.worth_from(), 0usize);
+    assert!(rt; [OpenGate.worth_from(), Through.worth_from()] == [4_194_304, 0]);
 }
 
 /// Has the host refuse the thread of one worker, or of all where it is worker 0.
@@ -279,6 +290,23 @@ fn refused_threads(rt: HostRuntime) -> Result<(), Fail> {
     Ok(())
 }
 
+/// What came of copying three jobs where the host refuses an allocation: whether all were copied, whether it was refused,
+/// and which workers came.
+fn copied_without(
+    rt: &(impl Threads + Wait + Sync),
+    heap: &Refusing<Global>,
+    number: u64,
+) -> Result<(bool, bool, u64), AllocError> {
+    let gate = Seen(AtomicU64::new(0));
+    let jobs = jobs(heap, 3)?;
+    heap.refuse(number);
+    let (jobs, answer) = copy_while(rt, heap, jobs, 2, &gate, || 7);
+    let met = heap.asked_since(number) >= number;
+    heap.refuse(0);
+    let copied = answer == 7 && are_copied(jobs.as_slice(), 3);
+    Ok((copied, met, gate.0.load(Ordering::SeqCst)))
+}
+
 /// Where memory is refused, each allocation in turn until none is, all jobs come back copied: the board's memory, and then
 /// that of the list of hands. The caller copies them alone.
 #[test]
@@ -286,34 +314,35 @@ fn refused_memory(rt: HostRuntime) -> Result<(), Fail> {
     let heap = Refusing::new(rt.alloc());
     let mut refused = 0u64;
     for number in 1..100u64 {
-        let gate = Seen(AtomicU64::new(0));
-        let jobs = jobs(&heap, 3)?;
-        heap.refuse(number);
-        let (jobs, answer) = copy_while(&rt, &heap, jobs, 2, &gate, || 7);
-        let met = heap.asked_since(number) >= number;
-        heap.refuse(0);
+        let (copied, met, seen) = copied_without(&rt, &heap, number)?;
         assert!(rt;
-            answer == 7 && are_copied(jobs.as_slice(), 3),
+            copied && (!met || seen == 1),
             "without allocation {number}"
         );
         if !met {
             break;
         }
-        assert_eq!(rt; gate.0.load(Ordering::SeqCst), 1u64);
         refused = number;
     }
-    assert_eq!(rt; refused, 4u64);
+    assert!(rt; refused == 4);
     Ok(())
+}
+
+/// Whether two jobs are copied without memory where the gate is open.
+fn copied_without_memory(
+    rt: &(impl Threads + Wait + Sync),
+    heap: &Refusing<Global>,
+) -> Result<bool, AllocError> {
+    let jobs = jobs(heap, 2)?;
+    heap.refuse(1);
+    let (jobs, answer) = copy_while(rt, heap, jobs, 2, &OpenGate, || 7);
+    Ok(heap.asked_since(1) == 0 && answer == 7 && are_copied(jobs.as_slice(), 2))
 }
 
 /// Two jobs are not worth a second worker's start where the gate is open: they are copied without memory.
 #[test]
 fn no_memory_for_two_jobs(rt: HostRuntime) -> Result<(), Fail> {
     let heap = Refusing::new(rt.alloc());
-    let jobs = jobs(&heap, 2)?;
-    heap.refuse(1);
-    let (jobs, answer) = copy_while(&rt, &heap, jobs, 2, &OpenGate, || 7);
-    assert_eq!(rt; heap.asked_since(1), 0u64);
-    assert!(rt; answer == 7 && are_copied(jobs.as_slice(), 2));
+    assert!(rt; copied_without_memory(&rt, &heap)?);
     Ok(())
 }
