@@ -36,10 +36,11 @@ const REPORT: &str = "0 spawn ok
 ";
 
 /// A writer that takes one byte a call, and fails or takes none once it has taken so many. It knows whether they were the
-/// first ones of the report.
+/// first ones of the report, and counts lines.
 #[derive(Drop)]
 struct Narrow {
     taken: usize,
+    lines: u8,
     is_front: bool,
     most: usize,
     fails: bool,
@@ -57,6 +58,7 @@ impl Write for Narrow {
             [] => Ok(0),
             [first, ..] => {
                 self.is_front = self.is_front && REPORT.as_bytes().get(self.taken) == Some(first);
+                self.lines = self.lines.wrapping_add((*first == b'\n') as u8);
                 self.taken += 1;
                 Ok(1)
             }
@@ -120,6 +122,7 @@ fn is_write_fault(
 ) -> Result<bool, AllocError> {
     let mut out = Narrow {
         taken: 0,
+        lines: 0,
         is_front: true,
         most,
         fails,
@@ -132,14 +135,9 @@ fn is_write_fault(
 #[test]
 fn fails_with_its_writer(rt: HostRuntime) -> Result<(), Fail> {
     for most in 0..REPORT.len() {
-        assert!(rt;
-            is_write_fault(&rt, rt.alloc(), most, true)?,
-            "it fails after {most}"
-        );
-        assert!(rt;
-            is_write_fault(&rt, rt.alloc(), most, false)?,
-            "none is taken after {most}"
-        );
+        let told = is_write_fault(&rt, rt.alloc(), most, true)?
+            && is_write_fault(&rt, rt.alloc(), most, false)?;
+        assert!(rt; told, "after {most} bytes");
     }
     Ok(())
 }
@@ -155,12 +153,16 @@ const ASKED: [(&str, usize); 7] = [
     ("numatrace --workers=064", 64),
 ];
 
+/// How many workers the words ask for.
+fn asked_by(global: Global, text: &str) -> Result<Option<usize>, AllocError> {
+    let words = words_of(global, text)?;
+    Ok(read_words(global, words.as_slice()).ok())
+}
+
 #[test]
 fn reads_how_many_workers(rt: HostRuntime) -> Result<(), Fail> {
     for (text, asked) in ASKED {
-        let words = words_of(rt.alloc(), text)?;
-        let read = read_words(rt.alloc(), words.as_slice());
-        assert!(rt; read.ok() == Some(asked), "at {text}");
+        assert!(rt; asked_by(rt.alloc(), text)? == Some(asked), "at {text}");
     }
     Ok(())
 }
@@ -168,14 +170,11 @@ fn reads_how_many_workers(rt: HostRuntime) -> Result<(), Fail> {
 /// Whether a run that may have met a refusal reported it, after the lines of as many steps; a step that only looks may have
 /// made do with less memory, and then the report is whole.
 fn is_told(status: u8, err: &[u8], out: &Narrow) -> bool {
-    let lines = REPORT.as_bytes()[..out.taken.min(REPORT.len())]
-        .iter()
-        .filter(|byte| **byte == b'\n')
-        .count();
     let mut text = *b"numatrace: host memory refused after 0 steps\n";
-    text[37] = b'0' + (lines % 10) as u8; // the 0 before "steps"
+    text[37] = text[37].wrapping_add(out.lines); // the 0 before "steps"
+    let told = status == 3 && err == text.as_slice();
     let whole = status == 0 && out.taken == REPORT.len();
-    out.is_front && (whole || status == 3 && lines < 10 && err == text.as_slice())
+    out.is_front && (told || whole)
 }
 
 /// Runs the program on the trace, while the allocation of this number is refused. Gives whether it came to that allocation,
@@ -188,6 +187,7 @@ fn run_refused(
 ) -> Result<(bool, bool), AllocError> {
     let mut out = Narrow {
         taken: 0,
+        lines: 0,
         is_front: true,
         most: usize::MAX,
         fails: true,
