@@ -100,12 +100,12 @@ fn attempt<'a>(
 
 /// Whether a call that met a refusal said so, and left the areas as they were. A call that lists may make do with less room,
 /// and succeed.
-fn is_as_before(
-    areas: &Areas<Heap<'_>>,
+fn is_as_before<'a>(
+    areas: &Areas<Heap<'a>>,
     call: Call,
     round: u16,
     answer: Result<(), MachineError>,
-    before: &Picture<'_>,
+    before: &Picture<'a>,
 ) -> Result<bool, MachineError> {
     let told = match answer {
         Ok(()) => matches!(call, Call::Lines),

@@ -1,5 +1,7 @@
 //! Traces whose memory is refused, and a trace that a program makes itself.
 
+ghost use Rattle.std.specs.Prelude.{◌≡◌};
+
 use crate::trails::new_system;
 use nm_calls::{Call, System};
 use nm_crew::OpenGate;
@@ -116,7 +118,9 @@ fn play_refused<'a>(
     system: &mut System<Heap<'a>>,
     trace: &Trace<Heap<'a>>,
     number: u64,
-) -> Result<(bool, bool), AllocError> {
+) -> Result<(bool, bool), AllocError>
+    requires { system.old.run_limit ≡ trace.now.run_limit }
+{
     let mut written = Vec::new(global);
     heap.refuse(number);
     let played = play(rt, heap, system, trace, &mut written, &OpenGate);
@@ -158,7 +162,9 @@ fn report_of<'a>(
     global: Global,
     system: &mut System<Heap<'a>>,
     trace: &Trace<Heap<'a>>,
-) -> Result<Vec<u8>, AllocError> {
+) -> Result<Vec<u8>, AllocError>
+    requires { system.old.run_limit ≡ trace.now.run_limit }
+{
     let mut written = Vec::new(global);
     match play(rt, heap, system, trace, &mut written, &OpenGate) {
         Ok(_) => Ok(written),

@@ -5,6 +5,8 @@
 //! what the steps after it answered, and whether the system is sound. Of an entry and of a free frame its number stands there.
 //! The first text is that of a call with memory.
 
+ghost use Rattle.std.specs.Prelude.{◌≡◌, IfOk};
+
 use crate::gates::Through;
 use crate::traces::Heap;
 use nm_calls::{AccessAnswer, Answer, Call, Moved, PagemapEntry, System};
@@ -128,7 +130,9 @@ pub(crate) fn make_rest<'a>(
 pub(crate) fn new_system<'a>(
     heap: Heap<'a>,
     trace: &Trace<Heap<'a>>,
-) -> Result<System<Heap<'a>>, AllocError> {
+) -> Result<System<Heap<'a>>, AllocError>
+    ensures { IfOk result (λ system. system.run_limit ≡ trace.now.run_limit) }
+{
     let geometry = trace.geometry.clone()?;
     System::with_run_limit(heap, geometry, 2, trace.run_limit)
 }
