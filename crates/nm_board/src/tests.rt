@@ -37,19 +37,21 @@ fn jobs<A: Allocator + Copy>(alloc: A, count: u8) -> Result<Vec<CopyJob<A>, A>, 
     Ok(jobs)
 }
 
+/// Whether this is the job of `jobs` with this ticket, copied or not.
+fn is_job<A: Allocator + Copy>(job: &CopyJob<A>, ticket: u8, copied: bool) -> bool {
+    let byte = ticket.wrapping_add(1);
+    let target = if copied { byte } else { 0 };
+    job.ticket == ticket as u64 && job.source.bytes()[0] == byte && job.target.bytes()[0] == target
+}
+
 /// Whether these are the jobs of `jobs` in order, all of them copied or none.
 fn are_jobs<A: Allocator + Copy>(jobs: &[CopyJob<A>], copied: bool) -> bool {
     let mut next = 0u8;
     for job in jobs {
-        let byte = next.wrapping_add(1);
-        let target = if copied { byte } else { 0 };
-        if job.ticket != next as u64
-            || job.source.bytes()[0] != byte
-            || job.target.bytes()[0] != target
-        {
+        if !is_job(job, next, copied) {
             return false;
         }
-        next = byte;
+        next = next.wrapping_add(1);
     }
     true
 }
