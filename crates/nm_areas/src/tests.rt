@@ -51,6 +51,7 @@ fn has_hole(areas: &mut Areas<Global>, len: u64) -> bool {
     set.err() == Some(FAULT)
 }
 
+/// Whether a policy of the second page makes three areas, of which the first has one page.
 fn splits_a_page_off(alloc: Global) -> Result<bool, MachineError> {
     let areas = second_apart(alloc)?;
     let begin = begins(&areas, [16, 17, 18].as_slice())?;
@@ -63,6 +64,7 @@ fn a_policy_splits_a_page_off(rt: HostRuntime) -> Result<(), Fail> {
     Ok(())
 }
 
+/// Whether a policy over pages and a hole is refused, and splits nothing.
 fn refuses_holes(alloc: Global) -> Result<bool, MachineError> {
     let mut areas = three_pages(alloc)?;
     let refused = has_hole(&mut areas, 16384);
