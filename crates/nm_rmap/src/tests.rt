@@ -4,7 +4,7 @@ ghost use Rattle.nm_rmap.specs.Examples.{three_mappers};
 
 use crate::ReverseMap;
 use nm_types::{Errno, FrameId, Pid, Vpn};
-use std::alloc::{AllocError, Allocator};
+use std::alloc::{AllocError, Allocator, Global};
 use std::test::Fail;
 
 /// Makes a page number of a process a mapper of frame 0.
@@ -53,20 +53,25 @@ fn digits_of_spots<A: Allocator + Copy>(map: &ReverseMap<A>, frame: FrameId) -> 
     sum
 }
 
+/// Whether the three mappers count as two processes in a frame until they are carried, and as one in the other frame once
+/// that of process 2 goes.
+fn counts_and_carries(alloc: Global) -> Result<bool, AllocError> {
+    let here = FrameId::new(0);
+    let there = FrameId::new(4);
+    let mut map = three_mappers(alloc)?;
+    let has_all = has_three(&map, here)? && digits_of_spots(&map, here) == 163264;
+    let before = map.processes(here);
+    map.carry(here, there);
+    let carried = has_three(&map, there)?;
+    let after = map.processes(here);
+    map.drop_one(there, Pid::new(2), Vpn::new(64));
+    Ok(has_all && carried && [before, after, map.processes(there)] == [2, 0, 1])
+}
+
 /// Two page numbers of a process count once, and all mappers and pins go along.
 #[test]
 fn mappers_are_counted_and_carried(rt: HostRuntime) -> Result<(), Fail> {
-    let here = FrameId::new(0);
-    let there = FrameId::new(4);
-    let mut map = three_mappers(rt.alloc())?;
-    assert_eq!(rt; map.processes(here), 2usize);
-    assert!(rt; has_three(&map, here)?);
-    assert_eq!(rt; digits_of_spots(&map, here), 163264u64);
-    map.carry(here, there);
-    assert_eq!(rt; map.processes(here), 0usize);
-    assert!(rt; has_three(&map, there)?);
-    map.drop_one(there, Pid::new(2), Vpn::new(64));
-    assert_eq!(rt; map.processes(there), 1usize);
+    assert!(rt; counts_and_carries(rt.alloc())?);
     Ok(())
 }
 
@@ -83,15 +88,21 @@ fn pin_often<A: Allocator + Copy>(map: &mut ReverseMap<A>, frame: FrameId, times
     true
 }
 
+/// Whether a frame cannot be unpinned before it is pinned, and not be pinned once too often.
+fn pins_between_ends(alloc: Global) -> Result<bool, AllocError> {
+    let frame = FrameId::new(7);
+    let mut map = ReverseMap::new(alloc, 8)?;
+    let none = map.unpin(frame);
+    let pinned = pin_often(&mut map, frame, 65535);
+    let full = map.pin(frame);
+    let unpinned = map.unpin(frame);
+    let ends = [none, full, unpinned] == [Err(Errno::Einval), Err(Errno::Ebusy), Ok(())];
+    Ok(ends && pinned && map.pins(frame) == 65534)
+}
+
 /// A frame is pinned 65,535 times at most, and unpinned as often.
 #[test]
 fn pins_have_ends(rt: HostRuntime) -> Result<(), Fail> {
-    let frame = FrameId::new(7);
-    let mut map = ReverseMap::new(rt.alloc(), 8)?;
-    assert_eq!(rt; map.unpin(frame), Err(Errno::Einval));
-    assert!(rt; pin_often(&mut map, frame, 65535));
-    assert_eq!(rt; map.pin(frame), Err(Errno::Ebusy));
-    assert_eq!(rt; map.unpin(frame), Ok(()));
-    assert_eq!(rt; map.pins(frame), 65534u32);
+    assert!(rt; pins_between_ends(rt.alloc())?);
     Ok(())
 }
