@@ -1,10 +1,12 @@
 ghost use Rattle.std.specs.Prelude.{◌≡◌, IfOk};
+ghost use Rattle.nm_types.specs.Layout.{frame_count};
 
 use crate::{Class, Request, Run, Wanted, check_batch, classify, cut, cut_within, laws, run_count};
 use nm_types::{Errno, FrameId, Geometry, NodeId, NodeMask, Page, PageView, Pid, Seen, Vpn};
 use std::alloc::{AllocError, Global};
 use std::process::Abort;
 use std::test::Fail;
+use std::thread::Threads;
 
 /// A set of nodes below 64.
 fn set_of(rt: &impl Abort, numbers: &[u32]) -> NodeMask {
@@ -35,12 +37,6 @@ fn told(alloc: Global, runs: &[Run<Global>]) -> Result<Vec<(u32, usize)>, AllocE
         .collect(alloc)
 }
 
-/// The runs of a batch for these nodes.
-fn runs(alloc: Global, targets: &[u32]) -> Result<Vec<(u32, usize)>, AllocError> {
-    let runs = cut(alloc, requests(alloc, targets)?.as_slice())?;
-    told(alloc, runs.as_slice())
-}
-
 /// The runs of a batch for these nodes under a limit.
 fn runs_within(
     rt: &impl Abort,
@@ -50,16 +46,20 @@ fn runs_within(
 ) -> Result<Vec<(u32, usize)>, AllocError> {
     assert!(rt; limit > 0);
     let runs = cut_within(alloc, requests(alloc, targets)?.as_slice(), limit)?;
-    assert_eq!(rt; run_count(targets, limit), runs.len());
+    assert!(rt; run_count(targets, limit) == runs.len());
     told(alloc, runs.as_slice())
+}
+
+/// Whether a batch for these nodes has these runs, each a node and how many requests.
+fn are_runs(alloc: Global, targets: &[u32], want: &[(u32, usize)]) -> Result<bool, AllocError> {
+    let runs = cut(alloc, requests(alloc, targets)?.as_slice())?;
+    Ok(told(alloc, runs.as_slice())?.as_slice() == want)
 }
 
 #[test]
 fn cuts(rt: HostRuntime) -> Result<(), Fail> {
-    let alloc = rt.alloc();
-    let made = runs(alloc, [1u32, 1, 0, 1, 1].as_slice())?;
-    assert!(rt; made.as_slice() == [(1u32, 2usize), (0, 1), (1, 2)].as_slice());
-    assert!(rt; runs(alloc, [].as_slice())?.is_empty());
+    assert!(rt; are_runs(rt.alloc(), &[1, 1, 0, 1, 1], &[(1, 2), (0, 1), (1, 2)])?);
+    assert!(rt; are_runs(rt.alloc(), [].as_slice(), [].as_slice())?);
     Ok(())
 }
 
@@ -89,11 +89,16 @@ fn cuts_within_a_limit(rt: HostRuntime) -> Result<(), Fail> {
 
 #[test]
 fn runs_are_counted(rt: HostRuntime) {
-    assert_eq!(rt; run_count([].as_slice(), 1), 0usize);
-    assert_eq!(rt; run_count([1u32, 1, 1, 0].as_slice(), 2), 3usize);
-    assert_eq!(rt; run_count([7u32; 16384].as_slice(), 16384), 1usize);
-    assert_eq!(rt; run_count([7u32; 16384].as_slice(), 16383), 2usize);
-    assert_eq!(rt; run_count([7u32; 16384].as_slice(), 1), 16384usize);
+    let short = [1u32, 1, 1, 0];
+    let long = [7u32; 16384];
+    let counts = [
+        run_count([].as_slice(), 1),
+        run_count(short.as_slice(), 2),
+        run_count(long.as_slice(), 16384),
+        run_count(long.as_slice(), 16383),
+        run_count(long.as_slice(), 1),
+    ];
+    assert!(rt; counts == [0, 3, 1, 2, 16384]);
 }
 
 #[test]
@@ -105,18 +110,21 @@ fn laws_are_called() {
     laws::cut_rows();
 }
 
+/// Whether the requests of the runs of a batch are those of the batch in order.
+fn keep_their_order(alloc: Global, targets: &[u32]) -> Result<bool, AllocError> {
+    let asked = requests(alloc, targets)?;
+    let runs = cut(alloc, asked.as_slice())?;
+    Ok(
+        runs.iter()
+            .flat_map(|run| run.wanted.iter())
+            .copied()
+            .eq(asked.iter().map(|request| request.wanted)),
+    )
+}
+
 #[test]
 fn requests_keep_their_order(rt: HostRuntime) -> Result<(), Fail> {
-    let alloc = rt.alloc();
-    let asked = requests(alloc, [1u32, 1, 0].as_slice())?;
-    let runs = cut(alloc, asked.as_slice())?;
-    let cut: Vec<Wanted> = runs
-        .iter()
-        .flat_map(|run| run.wanted.iter())
-        .copied()
-        .collect(alloc)?;
-    let whole: Vec<Wanted> = asked.iter().map(|request| request.wanted).collect(alloc)?;
-    assert!(rt; cut.as_slice() == whole.as_slice());
+    assert!(rt; keep_their_order(rt.alloc(), &[1, 1, 0])?);
     Ok(())
 }
 
@@ -124,14 +132,20 @@ fn requests_keep_their_order(rt: HostRuntime) -> Result<(), Fail> {
 fn checks(rt: HostRuntime) -> Result<(), Fail> {
     let online = set_of(&rt, &[0, 1, 3]);
     let allowed = set_of(&rt, &[0, 2]);
-    let check = |nodes: &[u32]| check_batch(4, online, allowed, nodes);
-    assert!(rt; check([].as_slice()).is_ok());
-    assert!(rt; check([0u32, 0].as_slice()).is_ok());
-    assert!(rt; check([0u32, 9].as_slice()).err() == Some(Errno::Enodev));
-    assert!(rt; check([0u32, 2].as_slice()).err() == Some(Errno::Enodev));
-    assert!(rt; check([1u32, 9].as_slice()).err() == Some(Errno::Eacces));
-    assert!(rt; check([9u32, 1].as_slice()).err() == Some(Errno::Enodev));
-    assert!(rt; check([3u32, 64].as_slice()).err() == Some(Errno::Eacces));
+    for (nodes, want) in [
+        ([].as_slice(), None),
+        ([0u32, 0].as_slice(), None),
+        ([0, 9].as_slice(), Some(Errno::Enodev)),
+        ([0, 2].as_slice(), Some(Errno::Enodev)),
+        ([1, 9].as_slice(), Some(Errno::Eacces)),
+        ([9, 1].as_slice(), Some(Errno::Enodev)),
+        ([3, 64].as_slice(), Some(Errno::Eacces)),
+    ] {
+        assert!(rt;
+            check_batch(4, online, allowed, nodes).err() == want,
+            "of {nodes:?}"
+        );
+    }
     Ok(())
 }
 
@@ -195,28 +209,53 @@ fn run_at(alloc: Global, numbers: &[u64]) -> Result<Run<Global>, AllocError>
     })
 }
 
+/// Two nodes of four frames.
+fn two_nodes(alloc: Global) -> Result<Geometry<Global>, Fail>
+    ensures { IfOk result (λ geometry. frame_count geometry ≡ 8) }
+{
+    let distances = vec![in alloc; vec![in alloc; 10u8, 20]?, vec![in alloc; 20u8, 10]?]?;
+    Ok(Geometry::new(vec![in alloc; 4u32, 4]?, distances)?)
+}
+
+/// Whether requests for the second node, of a process at these page numbers, have these classes.
+fn are_classes(
+    rt: &(impl Threads + Sync),
+    geometry: &Geometry<Global>,
+    alloc: Global,
+    numbers: &[u64],
+    want: &[Class],
+) -> Result<bool, AllocError>
+    requires { frame_count geometry.now ≡ 8 }
+{
+    let run = run_at(alloc, numbers)?;
+    let classes = classify(rt, alloc, geometry, &Row, &run)?;
+    Ok(classes.as_slice() == want)
+}
+
 #[test]
 fn classes_by_a_view(rt: HostRuntime) -> Result<(), Fail> {
-    let alloc = rt.alloc();
-    let distances = vec![in alloc; vec![in alloc; 10u8, 20]?, vec![in alloc; 20u8, 10]?]?;
-    let geometry = Geometry::new(vec![in alloc; 4u32, 4]?, distances)?;
-    let mixed = run_at(alloc, [80u64, 16, 17, 18].as_slice())?;
-    let classes = classify(&rt, alloc, &geometry, &Row, &mixed)?;
+    let geometry = two_nodes(rt.alloc())?;
     let statuses = [
         Class::Status(-14),
         Class::Status(-14),
         Class::Status(-2),
         Class::Status(-16),
     ];
-    assert!(rt; classes.as_slice() == statuses.as_slice());
-    let twice = run_at(alloc, [19u64, 19].as_slice())?;
-    let moves = classify(&rt, alloc, &geometry, &Row, &twice)?;
+    assert!(rt;
+        are_classes(
+            &rt,
+            &geometry,
+            rt.alloc(),
+            &[80, 16, 17, 18],
+            statuses.as_slice()
+        )?
+    );
     let page = Page {
         segment: 0,
         index: 3,
     };
     let from = FrameId::new(1);
     let same = [Class::Move { page, from }, Class::Move { page, from }];
-    assert!(rt; moves.as_slice() == same.as_slice());
+    assert!(rt; are_classes(&rt, &geometry, rt.alloc(), &[19, 19], same.as_slice())?);
     Ok(())
 }
