@@ -2,7 +2,8 @@
 """Runs a command, such as ./check or rt ci NAME, and tells what each crate cost in it, as a table for docs/PROVING.md: seconds of a
 processor for its proof, for its tests, for its proof again under the edits, and for all edits and the dearest.
 
-It looks at the prover's processes once a second (Linux), so the last second of each is not counted."""
+It looks at the prover's processes once a second (Linux), so the last second of each is not counted. Those of other commands are told
+apart by a variable of the environment, NUMATRACE_COSTS, that the command gets."""
 import collections
 import glob
 import os
@@ -20,12 +21,12 @@ def read(path):
         return file.read().decode(errors="replace")
 
 
-def prover_runs():
-    """The prover's processes: each with its words and the seconds that it has used so far."""
+def prover_runs(mark):
+    """The prover's processes under the command: each with its words and the seconds that it has used so far."""
     for folder in glob.glob("/proc/[0-9]*"):
         try:
             words = read(f"{folder}/cmdline").split("\0")
-            if os.path.basename(words[0]) == "rattle" and words[1] in ("check", "build") and "--crate-name" in words:
+            if os.path.basename(words[0]) == "rattle" and words[1] in ("check", "build") and "--crate-name" in words and mark in read(f"{folder}/environ").split("\0"):
                 fields = read(f"{folder}/stat").rpartition(")")[2].split()
                 yield (folder, fields[19]), words, (int(fields[11]) + int(fields[12])) / TICKS
         except (OSError, IndexError):
@@ -58,10 +59,10 @@ def numbered(runs):
 
 def watched(command):
     """Runs the command, and gives the seconds of each crate by what they were for, and the command's status."""
-    used = {}
-    ran = subprocess.Popen(command)
+    used, mark = {}, str(os.getpid())
+    ran = subprocess.Popen(command, env={**os.environ, "NUMATRACE_COSTS": mark})
     while ran.poll() is None:
-        for run, words, seconds in prover_runs():
+        for run, words, seconds in prover_runs("NUMATRACE_COSTS=" + mark):
             used[run] = kind_of(words), seconds
         time.sleep(1)
     costs = collections.defaultdict(collections.Counter)
