@@ -26,7 +26,8 @@ def prover_runs(mark):
     for folder in glob.glob("/proc/[0-9]*"):
         try:
             words = read(f"{folder}/cmdline").split("\0")
-            if os.path.basename(words[0]) == "rattle" and words[1] in ("check", "build") and "--crate-name" in words and mark in read(f"{folder}/environ").split("\0"):
+            is_prover = os.path.basename(words[0]) == "rattle" and words[1] in ("check", "build") and "--crate-name" in words
+            if is_prover and mark in read(f"{folder}/environ").split("\0"):
                 fields = read(f"{folder}/stat").rpartition(")")[2].split()
                 yield (folder, fields[19]), words, (int(fields[11]) + int(fields[12])) / TICKS
         except (OSError, IndexError):
