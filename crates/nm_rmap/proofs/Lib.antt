@@ -1,3 +1,4 @@
 pub mod Carried
 pub mod Counting
 pub mod Pinned
+pub mod Places

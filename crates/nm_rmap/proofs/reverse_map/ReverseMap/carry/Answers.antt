@@ -1,7 +1,8 @@
-use Rattle.std.proofs.Common.{◌≡◌, ◌<◌, arith, sym, ap, ◌∙◌, length}
+use Rattle.std.proofs.Common.{◌≡◌, ℕ, ◌<◌, arith, sym, subst, ap, ◌∙◌, length}
 use Rattle.std.proofs.lemmas.List.Edits.{length-swap}
 use Rattle.nm_rmap.specs.Mappers.{Mappers}
 use Rattle.nm_rmap.proofs.Carried.{swapped_at, carried_rows}
+use Rattle.nm_rmap.proofs.Places.{mappings_in, pins_in}
 use Rattle.nm_rmap.proofs.Pinned.{count_swapped}
 use Rattle.nm_rmap.proofs.reverse_map.ReverseMap.carry.Goals as goal
 
@@ -26,3 +27,15 @@ invariant_of-self g c =
       ap length pins ∙ length-swap c.self.inside.pins.items from to ∙ c.self.invariant.0 ∙ sym (ap length mappings ∙ length-swap c.self.inside.mappings.items from to),
       c.self.invariant.1 ∙ sym (count_swapped c.self.inside.pins.items c.swap-2.new.self.items from to from_in to_in pins),
     )
+
+pub swap-requires : goal.swap-requires
+swap-requires g c = record {
+  i_in_bounds = subst (λ (n : ℕ). c.index.result < n) (sym c.self.inside.mappings.ok.0) (mappings_in c.self.inside.mappings.items c.self.inside.pins.items c.args.self.now c.self.view_is c.args.from c.index.result c.index.ensures c.requires.from_in_range);
+  j_in_bounds = subst (λ (n : ℕ). c.index-2.result < n) (sym c.self.inside.mappings.ok.0) (mappings_in c.self.inside.mappings.items c.self.inside.pins.items c.args.self.now c.self.view_is c.args.to c.index-2.result c.index-2.ensures c.requires.to_in_range);
+}
+
+pub swap-requires-2 : goal.swap-requires-2
+swap-requires-2 g c = record {
+  i_in_bounds = subst (λ (n : ℕ). c.index-3.result < n) (sym c.self.inside.pins.ok.0) (pins_in c.self.inside.mappings.items c.self.inside.pins.items c.args.self.now c.self.view_is c.args.from c.index-3.result c.index-3.ensures c.requires.from_in_range c.self.invariant.0);
+  j_in_bounds = subst (λ (n : ℕ). c.index-4.result < n) (sym c.self.inside.pins.ok.0) (pins_in c.self.inside.mappings.items c.self.inside.pins.items c.args.self.now c.self.view_is c.args.to c.index-4.result c.index-4.ensures c.requires.to_in_range c.self.invariant.0);
+}

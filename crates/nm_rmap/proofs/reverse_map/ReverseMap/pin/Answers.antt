@@ -1,0 +1,95 @@
+use Rattle.std.proofs.Common.{◌≡◌, ℕ, ◌+◌, ◌<◌, ◌≤◌, length, refl, sym, subst, ap, ◌∙◌, arith, Fits, w32, w64}
+use Rattle.std.proofs.Math.ListN.{length-set}
+use Rattle.nm_rmap.proofs.Places.{pins_in, reads_pins, same_pins, writes_pins, first_pin, other_pin, same_count, few_pinned}
+use Rattle.nm_rmap.proofs.reverse_map.ReverseMap.pin.Goals as goal
+
+more : (n : ℕ) → 0 < n + 1
+more n = omega arith
+
+not_none : (n : ℕ) → (n ≡ 0 → ⊥) → 0 < n
+not_none n h = omega arith
+
+fits_one_more : (n : ℕ) → n < 65535 → Fits w32 (n + 1)
+fits_one_more n h = omega arith
+
+-- a count below the length of a Vec
+fits_below : (n count length len cap : ℕ) → n ≡ count → count < length → len ≡ length → len ≤ cap → cap < 9223372036854775808 → Fits w64 (n + 1)
+fits_below n count length len cap is few ok within small = omega arith
+
+pub index_mut-pins-requires : goal.index_mut-pins-requires
+index_mut-pins-requires g c =
+    let within = pins_in c.self.inside.mappings.items c.self.inside.pins.items c.args.self.now c.self.view_is c.args.frame c.index.result c.index.ensures c.requires c.self.invariant.0 in
+    subst (λ (n : ℕ). c.index.result < n) (sym c.self.inside.pins.ok.0) within
+
+pub invariant_of-self : goal.invariant_of-self
+invariant_of-self g c =
+    let pins = c.self.inside.pins.items in
+    let i = c.index.result in
+    let now = c.index_mut-pins.result.now in
+    let within = pins_in c.self.inside.mappings.items pins c.args.self.now c.self.view_is c.args.frame i c.index.ensures c.requires c.self.invariant.0 in
+    (length-set pins i now ∙ c.self.invariant.0, c.self.invariant.1 ∙ sym (same_count pins i now within c.index_mut-pins.ensures.value))
+
+pub returns-then-pins-ge-MAX_PINS : goal.returns-then-pins-ge-MAX_PINS
+returns-then-pins-ge-MAX_PINS g c =
+    let mappings = c.self.inside.mappings.items in
+    let pins = c.self.inside.pins.items in
+    let value = c.index_mut-pins.ensures.value in
+    let now = c.index_mut-pins.result.now in
+    let read = reads_pins mappings pins c.args.self.now c.self.view_is c.args.frame c.index.result c.index.ensures c.requires c.self.invariant.0 now value in record {
+      room = tt;
+      ok = tt;
+      full = (refl, subst (λ (n : ℕ). 65535 ≤ n) (sym read) c.if-pins-ge-MAX_PINS.true);
+      err = same_pins mappings pins c.args.self.now c.self.view_is c.args.frame c.index.result c.index.ensures c.requires c.self.invariant.0 now value;
+    }
+
+pub overflow_add-pins : goal.overflow_add-pins
+overflow_add-pins g c = fits_one_more c.index_mut-pins.result.now c.if-pins-ge-MAX_PINS.false
+
+pub overflow_add-self : goal.overflow_add-self
+overflow_add-self g c =
+    let vec = c.self.inside.pins in
+    let within = pins_in c.self.inside.mappings.items vec.items c.args.self.now c.self.view_is c.args.frame c.index.result c.index.ensures c.requires c.self.invariant.0 in
+    let few = few_pinned vec.items c.index.result c.index_mut-pins.result.now within c.index_mut-pins.ensures.value c.if-first.true in
+    fits_below c.self.inside.pinned _ (length vec.items) vec.len vec.cap c.self.invariant.1 few vec.ok.0 vec.ok.1 vec.small
+
+pub invariant_of-self-then-first : goal.invariant_of-self-then-first
+invariant_of-self-then-first g c =
+    let pins = c.self.inside.pins.items in
+    let i = c.index.result in
+    let now = c.index_mut-pins.result.now in
+    let within = pins_in c.self.inside.mappings.items pins c.args.self.now c.self.view_is c.args.frame i c.index.ensures c.requires c.self.invariant.0 in
+    (length-set pins i (now + 1) ∙ c.self.invariant.0, ap (λ (n : ℕ). n + 1) c.self.invariant.1 ∙ sym (first_pin pins i now within c.index_mut-pins.ensures.value (now + 1) c.if-first.true (more now)))
+
+pub invariant_of-self-else-first : goal.invariant_of-self-else-first
+invariant_of-self-else-first g c =
+    let pins = c.self.inside.pins.items in
+    let i = c.index.result in
+    let now = c.index_mut-pins.result.now in
+    let within = pins_in c.self.inside.mappings.items pins c.args.self.now c.self.view_is c.args.frame i c.index.ensures c.requires c.self.invariant.0 in
+    (length-set pins i (now + 1) ∙ c.self.invariant.0, c.self.invariant.1 ∙ sym (other_pin pins i now within c.index_mut-pins.ensures.value (now + 1) (not_none now c.if-first.false) (more now)))
+
+pub returns-then-first : goal.returns-then-first
+returns-then-first g c =
+    let mappings = c.self.inside.mappings.items in
+    let pins = c.self.inside.pins.items in
+    let value = c.index_mut-pins.ensures.value in
+    let now = c.index_mut-pins.result.now in
+    let read = reads_pins mappings pins c.args.self.now c.self.view_is c.args.frame c.index.result c.index.ensures c.requires c.self.invariant.0 now value in record {
+      room = subst (λ (n : ℕ). n < 65535) (sym read) c.if-pins-ge-MAX_PINS.false;
+      ok = writes_pins mappings pins c.args.self.now c.self.view_is c.args.frame c.index.result c.index.ensures c.requires c.self.invariant.0 now value (λ (n : ℕ). n + 1);
+      full = tt;
+      err = tt;
+    }
+
+pub returns-else-first : goal.returns-else-first
+returns-else-first g c =
+    let mappings = c.self.inside.mappings.items in
+    let pins = c.self.inside.pins.items in
+    let value = c.index_mut-pins.ensures.value in
+    let now = c.index_mut-pins.result.now in
+    let read = reads_pins mappings pins c.args.self.now c.self.view_is c.args.frame c.index.result c.index.ensures c.requires c.self.invariant.0 now value in record {
+      room = subst (λ (n : ℕ). n < 65535) (sym read) c.if-pins-ge-MAX_PINS.false;
+      ok = writes_pins mappings pins c.args.self.now c.self.view_is c.args.frame c.index.result c.index.ensures c.requires c.self.invariant.0 now value (λ (n : ℕ). n + 1);
+      full = tt;
+      err = tt;
+    }

@@ -1,0 +1,95 @@
+use Rattle.std.proofs.Common.{◌≡◌, ℕ, ◌+◌, ◌-◌, ◌<◌, ◌≤◌, refl, sym, subst, ap, ◌∙◌, arith}
+use Rattle.std.proofs.Math.ListN.{length-set}
+use Rattle.nm_rmap.proofs.Places.{pins_in, reads_pins, same_pins, writes_pins, last_pin, other_pin, same_count}
+use Rattle.nm_rmap.proofs.reverse_map.ReverseMap.unpin.Goals as goal
+
+not_none : (n : ℕ) → (n ≡ 0 → ⊥) → 0 < n
+not_none n h = omega arith
+
+one_left : (n : ℕ) → (n ≡ 0 → ⊥) → (n ≡ 1 → ⊥) → 0 < n - 1
+one_left n h l = omega arith
+
+taken_off : (n count now : ℕ) → n ≡ count → now + 1 ≡ count → n - 1 ≡ now
+taken_off n count now is e = omega arith
+
+has_one : (n count now : ℕ) → n ≡ count → now + 1 ≡ count → 1 ≤ n
+has_one n count now is e = omega arith
+
+pub index_mut-pins-requires : goal.index_mut-pins-requires
+index_mut-pins-requires g c =
+    let within = pins_in c.self.inside.mappings.items c.self.inside.pins.items c.args.self.now c.self.view_is c.args.frame c.index.result c.index.ensures c.requires c.self.invariant.0 in
+    subst (λ (n : ℕ). c.index.result < n) (sym c.self.inside.pins.ok.0) within
+
+pub invariant_of-self : goal.invariant_of-self
+invariant_of-self g c =
+    let pins = c.self.inside.pins.items in
+    let i = c.index.result in
+    let now = c.index_mut-pins.result.now in
+    let within = pins_in c.self.inside.mappings.items pins c.args.self.now c.self.view_is c.args.frame i c.index.ensures c.requires c.self.invariant.0 in
+    (length-set pins i now ∙ c.self.invariant.0, c.self.invariant.1 ∙ sym (same_count pins i now within c.index_mut-pins.ensures.value))
+
+pub returns-then-pins-eq0 : goal.returns-then-pins-eq0
+returns-then-pins-eq0 g c =
+    let mappings = c.self.inside.mappings.items in
+    let pins = c.self.inside.pins.items in
+    let value = c.index_mut-pins.ensures.value in
+    let now = c.index_mut-pins.result.now in
+    let read = reads_pins mappings pins c.args.self.now c.self.view_is c.args.frame c.index.result c.index.ensures c.requires c.self.invariant.0 now value in record {
+      pinned = tt;
+      ok = tt;
+      none = (refl, read ∙ c.if-pins-eq0.true);
+      err = same_pins mappings pins c.args.self.now c.self.view_is c.args.frame c.index.result c.index.ensures c.requires c.self.invariant.0 now value;
+    }
+
+pub overflow_sub-pins : goal.overflow_sub-pins
+overflow_sub-pins g c = not_none c.index_mut-pins.result.now c.if-pins-eq0.false
+
+pub overflow_sub-self : goal.overflow_sub-self
+overflow_sub-self g c =
+    let pins = c.self.inside.pins.items in
+    let i = c.index.result in
+    let now = c.index_mut-pins.result.now in
+    let within = pins_in c.self.inside.mappings.items pins c.args.self.now c.self.view_is c.args.frame i c.index.ensures c.requires c.self.invariant.0 in
+    has_one c.self.inside.pinned _ _ c.self.invariant.1 (last_pin pins i now within c.index_mut-pins.ensures.value (now - 1) (not_none now c.if-pins-eq0.false) (ap (λ (n : ℕ). n - 1) c.if-last.true))
+
+pub invariant_of-self-then-last : goal.invariant_of-self-then-last
+invariant_of-self-then-last g c =
+    let pins = c.self.inside.pins.items in
+    let i = c.index.result in
+    let now = c.index_mut-pins.result.now in
+    let within = pins_in c.self.inside.mappings.items pins c.args.self.now c.self.view_is c.args.frame i c.index.ensures c.requires c.self.invariant.0 in
+    (length-set pins i (now - 1) ∙ c.self.invariant.0, taken_off c.self.inside.pinned _ _ c.self.invariant.1 (last_pin pins i now within c.index_mut-pins.ensures.value (now - 1) (not_none now c.if-pins-eq0.false) (ap (λ (n : ℕ). n - 1) c.if-last.true)))
+
+pub invariant_of-self-else-last : goal.invariant_of-self-else-last
+invariant_of-self-else-last g c =
+    let pins = c.self.inside.pins.items in
+    let i = c.index.result in
+    let now = c.index_mut-pins.result.now in
+    let within = pins_in c.self.inside.mappings.items pins c.args.self.now c.self.view_is c.args.frame i c.index.ensures c.requires c.self.invariant.0 in
+    (length-set pins i (now - 1) ∙ c.self.invariant.0, c.self.invariant.1 ∙ sym (other_pin pins i now within c.index_mut-pins.ensures.value (now - 1) (not_none now c.if-pins-eq0.false) (one_left now c.if-pins-eq0.false c.if-last.false)))
+
+pub returns-then-last : goal.returns-then-last
+returns-then-last g c =
+    let mappings = c.self.inside.mappings.items in
+    let pins = c.self.inside.pins.items in
+    let value = c.index_mut-pins.ensures.value in
+    let now = c.index_mut-pins.result.now in
+    let read = reads_pins mappings pins c.args.self.now c.self.view_is c.args.frame c.index.result c.index.ensures c.requires c.self.invariant.0 now value in record {
+      pinned = subst (λ (n : ℕ). 0 < n) (sym read) (not_none now c.if-pins-eq0.false);
+      ok = writes_pins mappings pins c.args.self.now c.self.view_is c.args.frame c.index.result c.index.ensures c.requires c.self.invariant.0 now value (λ (n : ℕ). n - 1);
+      none = tt;
+      err = tt;
+    }
+
+pub returns-else-last : goal.returns-else-last
+returns-else-last g c =
+    let mappings = c.self.inside.mappings.items in
+    let pins = c.self.inside.pins.items in
+    let value = c.index_mut-pins.ensures.value in
+    let now = c.index_mut-pins.result.now in
+    let read = reads_pins mappings pins c.args.self.now c.self.view_is c.args.frame c.index.result c.index.ensures c.requires c.self.invariant.0 now value in record {
+      pinned = subst (λ (n : ℕ). 0 < n) (sym read) (not_none now c.if-pins-eq0.false);
+      ok = writes_pins mappings pins c.args.self.now c.self.view_is c.args.frame c.index.result c.index.ensures c.requires c.self.invariant.0 now value (λ (n : ℕ). n - 1);
+      none = tt;
+      err = tt;
+    }
