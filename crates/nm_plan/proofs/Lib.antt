@@ -1,3 +1,4 @@
 mod Searched
+mod Chosen
 mod Closed
 mod Short
