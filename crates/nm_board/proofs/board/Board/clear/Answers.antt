@@ -1,6 +1,7 @@
-use Rattle.std.proofs.Common.{◌≡◌, length, map, sym, refl, ap, ◌∙◌, subst, arith}
+use Rattle.atomic_table.specs.Seated.{TableId}
+use Rattle.std.proofs.Common.{◌≡◌, length, map, sym, refl, ap, ◌∙◌, subst, arith, ℕ, Bool}
 use Rattle.nm_board.specs.Steps.{Mine}
-use Rattle.nm_board.specs.Shown.{Holding, Laying}
+use Rattle.nm_board.specs.Shown.{Holding, Laying, shown}
 use Rattle.std.specs.Mem.Slots.{slots_items}
 use Rattle.nm_frames.specs.Job.{copied}
 use Rattle.nm_board.proofs.Stepping.{counts}
@@ -8,6 +9,9 @@ use Rattle.nm_board.proofs.Full.{closed}
 use Rattle.nm_board.proofs.Filled.{each_is, same_jobs}
 use Rattle.nm_board.proofs.Hands.{own_is, short_of}
 use Rattle.nm_board.proofs.board.Board.clear.Goals as goal
+
+same_shown : {A : Type 0} (id tid : TableId) (m n : Mine A) (shares : ℕ) (past : Bool) (h : Holding A) → id ≡ tid → m ≡ n → shown tid n shares past ≡ h → shown id m shares past ≡ h
+same_shown {A} id tid m n shares past h at is e = ap (λ z. shown z m shares past) at ∙ (ap (λ (z : Mine A). shown tid z shares past) is ∙ e)
 
 pub load-given-requires : goal.load-given-requires
 load-given-requires g c =
@@ -43,3 +47,26 @@ returns-clause-all g c =
     let slots : length (slots_items c.close_with.result.slots) ≡ length jobs = omega (arith, c.close_with.ensures.counts.1, c.self.invariant.slots) in
     let all = each_is jobs (slots_items c.close_with.result.slots) slots (λ t j at. closed _ _ _ _ _ full c.close_with.ensures.values.2 t j at) in
     same_jobs (map copied jobs) c.take_all.new.room.items (sym all ∙ sym c.take_all.ensures) ∙ ap (λ (b : Laying _). map copied b.jobs) c.self.view_is
+
+pub invariant_of-hand : goal.invariant_of-hand
+invariant_of-hand g c =
+    let own = own_is _ _ _ _ _ c.hand.inside.seat.me _ _ c.hand.view_is c.requires.own c.self.view_is in
+    let same = c.load-given.ensures.2.some_out (λ q. c.if-given-slot_count.true (q ∙ (ap length own.1 ∙ (sym c.self.invariant.slots ∙ sym c.slot_count.ensures)))) in
+    subst (λ m. Rattle.nm_board.specs.Shown.Fits m c.hand.inside.shares c.hand.inside.past_end) (sym same) c.hand.invariant
+
+pub returns-then-given-slot_count-clause-back : goal.returns-then-given-slot_count-clause-back
+returns-then-given-slot_count-clause-back g c =
+    let own = own_is _ _ _ _ _ c.hand.inside.seat.me _ _ c.hand.view_is c.requires.own c.self.view_is in
+    let same = c.load-given.ensures.2.some_out (λ q. c.if-given-slot_count.true (q ∙ (ap length own.1 ∙ (sym c.self.invariant.slots ∙ sym c.slot_count.ensures)))) in
+    (refl, same_shown _ _ _ _ _ _ _ c.load-given.ensures.0 same c.hand.view_is)
+
+pub close_with-requires : goal.close_with-requires
+close_with-requires g c =
+    let own = own_is _ _ _ _ _ c.hand.inside.seat.me _ _ c.hand.view_is c.requires.own c.self.view_is in
+    c.load-given.ensures.0 ∙ own.0
+
+pub take_all-requires-clause-full : goal.take_all-requires-clause-full
+take_all-requires-clause-full g c = c.close_with.ensures.values.1
+
+pub take_all-requires-clause-room : goal.take_all-requires-clause-room
+take_all-requires-clause-room g c = (c.self.invariant.empty, omega (arith, c.close_with.ensures.counts.1, c.self.invariant.slots, c.self.invariant.room_left))
