@@ -1,4 +1,4 @@
-use Rattle.std.proofs.Common.{◌≤◌, ℕ, List, length, subst, arith}
+use Rattle.std.proofs.Common.{◌≤◌, ℕ, List, length, subst, arith, rules}
 use Rattle.nm_types.specs.Nodes.{IsNodeSet}
 use Rattle.nm_types.proofs.Lowest.{IsNodeSet-members, length-members}
 use Rattle.nm_types.proofs.mask.NodeMask.len.Goals as goal
@@ -10,3 +10,6 @@ overflow_add-count c =
 
 pub returns-clause-nodes : goal.returns-clause-nodes
 returns-clause-nodes c = subst IsNodeSet c.self.view_is (IsNodeSet-members c.self.inside.bits)
+
+pub loop-rest-init : goal.loop-rest-init
+loop-rest-init c = search rules

@@ -1,0 +1,5 @@
+use Rattle.std.proofs.Common.{arith}
+use Rattle.nm_types.proofs.numbers.vpns.Vpn.address.Goals as goal
+
+pub returns : goal.returns
+returns c = omega arith
