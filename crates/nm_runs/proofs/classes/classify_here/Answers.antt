@@ -1,0 +1,46 @@
+use Rattle.std.proofs.Common.{◌≡◌, ℕ, ◌+◌, ◌<◌, List, [], ◌∷◌, ◌++◌, length, get_or, map, take, sym, ap, ◌∙◌, arith}
+use Rattle.std.proofs.lemmas.List.{length-drop, map_more, take_all}
+use Rattle.nm_runs.specs.Shown.{class_shown}
+use Rattle.nm_runs.proofs.classes.classify_here.Goals as goal
+
+-- the image of one element more stands at the end
+map_push : {X Y : Type 0} (f : X → Y) (xs : List X) (i : ℕ) (x : X) (ys zs : List Y) (y : Y) → i < length xs → x ≡ get_or xs i x → y ≡ f x → ys ≡ map f (take i xs) → zs ≡ ys ++ y ∷ []
+    → zs ≡ map f (take (i + 1) xs)
+map_push f xs i x ys zs y lt is e h push =
+    push ∙ ap (λ front. front ++ y ∷ []) h ∙ ap (λ last. map f (take i xs) ++ last ∷ []) (e ∙ ap f is) ∙ sym (map_more f xs i x lt)
+
+pub loop-wanted-init : goal.loop-wanted-init
+loop-wanted-init g c = record {
+  classes = c.in_ok-classes.ensures.items;
+  room = omega (arith, c.in_ok-classes.ensures.len, c.in_ok-classes.ensures.capacity);
+}
+
+pub class_of-requires-clause-frames : goal.class_of-requires-clause-frames
+class_of-requires-clause-frames g c = c.requires.frames
+
+pub push_reserved-requires : goal.push_reserved-requires
+push_reserved-requires g c =
+    let left = length-drop c.loop-wanted.wanted-index c.deref-wanted-items.result.now in
+    omega (arith, left, c.loop-wanted.invariant.room, c.loop-wanted-test.true)
+
+pub loop-wanted-smaller : goal.loop-wanted-smaller
+loop-wanted-smaller g c = omega (arith, c.loop-wanted-test.true)
+
+pub loop-wanted-preserved : goal.loop-wanted-preserved
+loop-wanted-preserved g c =
+    let i = c.loop-wanted.wanted-index in
+    let items = c.deref-wanted-items.result.now in
+    let left = length-drop i items in
+    let less = length-drop (i + 1) items in
+    record {
+      classes =
+          map_push (class_shown c.args.geometry.now (g.V.PageView.seen_at c.args.view.now) (g.V.PageView.placed_at c.args.view.now) c.args.run.now.target) items i c.wanted-item.result
+          c.loop-wanted.classes.items c.push_reserved.new.self.items c.class_of.result c.loop-wanted-test.true c.wanted-item.is c.class_of.ensures c.loop-wanted.invariant.classes c.push_reserved.ensures.items;
+      room = omega (arith, left, less, c.loop-wanted.invariant.room, c.loop-wanted-test.true, c.push_reserved.ensures.len, c.push_reserved.ensures.capacity);
+    }
+
+pub returns : goal.returns
+returns g c =
+    c.loop-wanted.invariant.classes
+    ∙ ap (map (class_shown c.args.geometry.now (g.V.PageView.seen_at c.args.view.now) (g.V.PageView.placed_at c.args.view.now) c.args.run.now.target))
+    (take_all c.loop-wanted.wanted-index c.deref-wanted-items.result.now c.loop-wanted-test.false ∙ c.deref-wanted-items.ensures.value)
