@@ -1,15 +1,136 @@
-use Rattle.std.proofs.Common.{ℕ, true, sym, subst, ◌∙◌, ap, ◌/◌, ◌+◌, ◌<◌, ◌^◌}
+use Rattle.std.proofs.Common.{◌≡◌, ℕ, Bool, true, false, not, refl, sym, subst, ◌∙◌, ap, ◌/◌, ◌+◌, ◌<◌, ◌^◌}
+use Rattle.std.specs.Prelude.{Some, None, ◌&&◌, if◌then◌else◌}
+use Rattle.std.specs.List.{list_any}
+use Rattle.std.specs.Ordering.{nat_cmp}
+use Rattle.nm_types.specs.declared.errno.Errno.TheVariants.{Einval}
+use Rattle.nm_types.specs.declared.page.Page.{Page}
+use Rattle.nm_types.specs.Map.{Map, get, set, spot_cmp}
 use Rattle.nm_types.specs.declared.area.Area.{Area}
 use Rattle.nm_areas.specs.Lines.{is_shared}
-use Rattle.nm_areas.specs.Table.{Table}
-use Rattle.nm_areas.specs.Mapped.{Mapped}
+use Rattle.nm_areas.specs.Table.{Table, with_areas}
+use Rattle.nm_areas.specs.Mapped.{Mapped, mapped}
+use Rattle.nm_areas.specs.Refused.{stretch_refusal, is_range, is_room, is_stretch, overlaps}
 use Rattle.nm_areas.proofs.Beginning.{none_begins}
 use Rattle.nm_areas.proofs.Shown.{over_more}
-use Rattle.nm_areas.specs.Effect.{new_area, over_with}
+use Rattle.nm_areas.specs.Effect.{new_area, over_with, attached}
 use Rattle.nm_areas.proofs.Inserted.{attached_mapped, stretch_ends}
 use Rattle.nm_areas.proofs.Private.{stretch_shared}
 use Rattle.nm_areas.proofs.Covered.{came, stayed}
 use Rattle.nm_areas.proofs.areas.Areas.attach.Goals as goal
+
+-- whether there is room, where the range is one
+room_is : (areas : Map (ℕ × ℕ) Area) (pid addr pages first : ℕ) → first ≡ addr / 4096 → is_range addr pages ≡ true
+    → is_room areas pid addr pages ≡ not (list_any (overlaps pid first (first + pages)) areas)
+room_is areas pid addr pages first at range =
+    ap (λ b. b && not (list_any (overlaps pid (addr / 4096) (addr / 4096 + pages)) areas)) range ∙ ap (λ n. not (list_any (overlaps pid n (n + pages)) areas)) (sym at)
+
+-- what is refused, by whether there is room and such a stretch
+no_room : (m : Mapped) (pid addr segment offset pages : ℕ) → is_room m.areas pid addr pages ≡ false → stretch_refusal m pid addr segment offset pages ≡ Some Einval
+no_room m pid addr segment offset pages e = ap (λ b. if not (b && is_stretch (get nat_cmp m.segments segment) offset pages) then Some Einval else None) e
+
+by_stretch : (m : Mapped) (pid addr segment offset pages : ℕ) → is_room m.areas pid addr pages ≡ true
+    → stretch_refusal m pid addr segment offset pages ≡ (if not (is_stretch (get nat_cmp m.segments segment) offset pages) then Some Einval else None)
+by_stretch m pid addr segment offset pages e = ap (λ b. if not (b && is_stretch (get nat_cmp m.segments segment) offset pages) then Some Einval else None) e
+
+no_range : (m : Mapped) (pid addr segment offset pages : ℕ) → is_range addr pages ≡ false → stretch_refusal m pid addr segment offset pages ≡ Some Einval
+no_range m pid addr segment offset pages e = no_room m pid addr segment offset pages (ap (λ b. b && not (list_any (overlaps pid (addr / 4096) (addr / 4096 + pages)) m.areas)) e)
+
+module _ (m n : Mapped) (pid addr segment offset pages first : ℕ) (free : Bool) (same : m ≡ n) (at : first ≡ addr / 4096) (range : is_range addr pages ≡ true)
+    (told : free ≡ not (list_any (overlaps pid first (first + pages)) m.areas)) where
+  occupied : free ≡ false → stretch_refusal n pid addr segment offset pages ≡ Some Einval
+  occupied refused = subst (λ (x : Mapped). stretch_refusal x pid addr segment offset pages ≡ Some Einval) same
+      (no_room m pid addr segment offset pages (room_is m.areas pid addr pages first at range ∙ sym told ∙ refused))
+
+  no_stretch : free ≡ true → is_stretch (get nat_cmp m.segments segment) offset pages ≡ false → stretch_refusal n pid addr segment offset pages ≡ Some Einval
+  no_stretch given refused = subst (λ (x : Mapped). stretch_refusal x pid addr segment offset pages ≡ Some Einval) same
+      (by_stretch m pid addr segment offset pages (room_is m.areas pid addr pages first at range ∙ sym told ∙ given) ∙ ap (λ b. if not b then Some Einval else None) refused)
+
+  accepted : free ≡ true → (number : ℕ) → number ≡ segment → is_stretch (get nat_cmp m.segments number) offset pages ≡ true → stretch_refusal n pid addr segment offset pages ≡ None
+  accepted given number is fits = subst (λ (x : Mapped). stretch_refusal x pid addr segment offset pages ≡ None) same
+      (by_stretch m pid addr segment offset pages (room_is m.areas pid addr pages first at range ∙ sym told ∙ given)
+      ∙ ap (λ b. if not b then Some Einval else None) (ap (λ k. is_stretch (get nat_cmp m.segments k) offset pages) (sym is) ∙ fits))
+
+-- the table with the new area is that of the definition
+attached_at : (t u : Table) (place : Map Page ℕ) (pid addr segment offset pages first number : ℕ) → first ≡ addr / 4096 → number ≡ segment
+    → u ≡ with_areas t (set spot_cmp t.areas (pid, first) (new_area number offset pages)) → mapped u place ≡ attached (mapped t place) pid addr segment offset pages
+attached_at t u place pid addr segment offset pages first number at is e = rw (e, at, is)
+
+pub is_free-requires-clause-apart : goal.is_free-requires-clause-apart
+is_free-requires-clause-apart g c = c.self.invariant.0.apart
+
+pub is_free-requires-clause-whole : goal.is_free-requires-clause-whole
+is_free-requires-clause-whole g c = c.self.invariant.0.whole
+
+pub is_free-requires-clause-low : goal.is_free-requires-clause-low
+is_free-requires-clause-low g c = c.self.invariant.0.low
+
+pub is_free-requires-clause-end : goal.is_free-requires-clause-end
+is_free-requires-clause-end g c = c.in-Some.ensures.some.3
+
+pub stretch_of-requires : goal.stretch_of-requires
+stretch_of-requires g c = record { numbers = c.self.invariant.0.numbers }
+
+pub count_in-requires-clause-steps : goal.count_in-requires-clause-steps
+count_in-requires-clause-steps g c = c.self.invariant.1
+
+pub count_in-requires-clause-whole : goal.count_in-requires-clause-whole
+count_in-requires-clause-whole g c = c.self.invariant.0.whole
+
+pub invariant_of-self : goal.invariant_of-self
+invariant_of-self g c = (c.self.invariant.0, c.in_err-count_in.ensures.err)
+
+pub returns-in_default-clause-done : goal.returns-in_default-clause-done
+returns-in_default-clause-done g c = (no_range c.args.self.now c.args.pid c.args.addr c.args.segment c.args.offset c.args.pages c.in_default.ensures.none, refl)
+
+pub returns-then-not-is_free-clause-done : goal.returns-then-not-is_free-clause-done
+returns-then-not-is_free-clause-done g c =
+    let range = c.in-Some.ensures.some in (
+      occupied (mapped c.self.inside.table c.self.inside.places.entries) c.args.self.now c.args.pid c.args.addr c.args.segment c.args.offset c.args.pages c.in-Some.first c.is_free.result c.self.view_is
+          range.0 range.1 c.is_free.ensures c.if-not-is_free.true,
+      refl,
+    )
+
+pub returns-in_default-stretch_of-clause-done : goal.returns-in_default-stretch_of-clause-done
+returns-in_default-stretch_of-clause-done g c =
+    let range = c.in-Some.ensures.some in (
+      no_stretch (mapped c.self.inside.table c.self.inside.places.entries) c.args.self.now c.args.pid c.args.addr c.args.segment c.args.offset c.args.pages c.in-Some.first c.is_free.result c.self.view_is
+          range.0 range.1 c.is_free.ensures c.if-not-is_free.false c.in_default-stretch_of.ensures.none,
+      refl,
+    )
+
+pub returns-in_err-count_in-clause-memory : goal.returns-in_err-count_in-clause-memory
+returns-in_err-count_in-clause-memory g c = λ _.
+    let range = c.in-Some.ensures.some in
+    let stretch = c.in-Some-stretch_of.ensures.some in
+    accepted (mapped c.self.inside.table c.self.inside.places.entries) c.args.self.now c.args.pid c.args.addr c.args.segment c.args.offset c.args.pages c.in-Some.first c.is_free.result c.self.view_is
+    range.0 range.1 c.is_free.ensures c.if-not-is_free.false c.in-Some-stretch_of.number stretch.0 stretch.1
+
+pub returns-in_default-attach-clause-memory : goal.returns-in_default-attach-clause-memory
+returns-in_default-attach-clause-memory g c = λ _.
+    let range = c.in-Some.ensures.some in
+    let stretch = c.in-Some-stretch_of.ensures.some in
+    accepted (mapped c.self.inside.table c.self.inside.places.entries) c.args.self.now c.args.pid c.args.addr c.args.segment c.args.offset c.args.pages c.in-Some.first c.is_free.result c.self.view_is
+    range.0 range.1 c.is_free.ensures c.if-not-is_free.false c.in-Some-stretch_of.number stretch.0 stretch.1
+
+pub returns-clause-memory : goal.returns-clause-memory
+returns-clause-memory g c = λ _.
+    let range = c.in-Some.ensures.some in
+    let stretch = c.in-Some-stretch_of.ensures.some in
+    accepted (mapped c.self.inside.table c.self.inside.places.entries) c.args.self.now c.args.pid c.args.addr c.args.segment c.args.offset c.args.pages c.in-Some.first c.is_free.result c.self.view_is
+    range.0 range.1 c.is_free.ensures c.if-not-is_free.false c.in-Some-stretch_of.number stretch.0 stretch.1
+
+pub returns-in_default-attach-clause-done : goal.returns-in_default-attach-clause-done
+returns-in_default-attach-clause-done g c = ap (λ (t : Table). mapped t c.self.inside.places.entries) c.in_default-attach.ensures.err ∙ c.self.view_is
+
+pub returns-clause-done : goal.returns-clause-done
+returns-clause-done g c =
+    let range = c.in-Some.ensures.some in
+    let stretch = c.in-Some-stretch_of.ensures.some in (
+      accepted (mapped c.self.inside.table c.self.inside.places.entries) c.args.self.now c.args.pid c.args.addr c.args.segment c.args.offset c.args.pages c.in-Some.first c.is_free.result c.self.view_is
+          range.0 range.1 c.is_free.ensures c.if-not-is_free.false c.in-Some-stretch_of.number stretch.0 stretch.1,
+      attached_at c.self.inside.table c.attach.new.self c.self.inside.places.entries c.args.pid c.args.addr c.args.segment c.args.offset c.args.pages c.in-Some.first c.in-Some-stretch_of.number range.0 stretch.0 c.in-Ok.ensures.ok
+          ∙ ap (λ (m : Mapped). attached m c.args.pid c.args.addr c.args.segment c.args.offset c.args.pages) c.self.view_is,
+    )
 
 pub attach-requires : goal.attach-requires
 attach-requires g c =

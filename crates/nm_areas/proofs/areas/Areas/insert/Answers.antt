@@ -1,15 +1,163 @@
-use Rattle.std.proofs.Common.{ℕ, ap, sym, ◌∙◌, ◌/◌}
+use Rattle.std.proofs.Common.{◌≡◌, ℕ, ◌+◌, ◌<◌, ◌≤◌, ◌/◌, ◌^◌, suc, Bool, true, false, not, refl, ap, sym, subst, ◌∙◌, arith}
+use Rattle.std.specs.Prelude.{Some, None, Result, Err, ◌&&◌, nat_le, if◌then◌else◌}
+use Rattle.std.specs.List.{list_any}
+use Rattle.std.specs.Ordering.{nat_cmp}
+use Rattle.std.proofs.lemmas.Bool.{le-leb, lt-leb}
+use Rattle.nm_types.specs.declared.area.Area.{Area}
+use Rattle.nm_types.specs.declared.errno.Errno.{Errno}
+use Rattle.nm_types.specs.declared.errno.Errno.TheVariants.{Enomem, Einval}
+use Rattle.nm_types.specs.declared.machine_error.MachineError.{MachineError}
+use Rattle.nm_types.specs.declared.machine_error.MachineError.TheVariants as error
+use Rattle.nm_types.specs.declared.page.Page.{Page}
+use Rattle.nm_types.specs.Map.{Map, set, spot_cmp}
 use Rattle.nm_types.specs.declared.area.Segment.{Segment}
 use Rattle.nm_areas.specs.Lines.{is_shared}
 use Rattle.nm_areas.specs.Table.{Table}
-use Rattle.nm_areas.specs.Mapped.{Mapped}
-use Rattle.nm_areas.specs.Effect.{new_area, over_with}
+use Rattle.nm_areas.specs.Mapped.{Mapped, mapped}
+use Rattle.nm_areas.specs.Refused.{insert_refusal, is_range, is_room, overlaps}
+use Rattle.nm_areas.specs.Effect.{new_area, over_with, inserted}
 use Rattle.nm_areas.proofs.Beginning.{none_begins}
 use Rattle.nm_areas.proofs.Covered.{came, stayed}
 use Rattle.nm_areas.proofs.Masked.{new_shared, old_shared}
 use Rattle.nm_areas.proofs.Shown.{over_more}
 use Rattle.nm_areas.proofs.Inserted.{none_next, inserted_mapped}
 use Rattle.nm_areas.proofs.areas.Areas.insert.Goals as goal
+
+-- whether there is room, where the range is one
+room_is : (areas : Map (ℕ × ℕ) Area) (pid addr pages first : ℕ) → first ≡ addr / 4096 → is_range addr pages ≡ true
+    → is_room areas pid addr pages ≡ not (list_any (overlaps pid first (first + pages)) areas)
+room_is areas pid addr pages first at range =
+    ap (λ b. b && not (list_any (overlaps pid (addr / 4096) (addr / 4096 + pages)) areas)) range ∙ ap (λ n. not (list_any (overlaps pid n (n + pages)) areas)) (sym at)
+
+-- what is refused, by whether there is room and a number
+refused_room : (m : Mapped) (pid addr pages : ℕ) → is_room m.areas pid addr pages ≡ false → insert_refusal m pid addr pages ≡ Some Einval
+refused_room m pid addr pages e = ap (λ b. if not b then Some Einval else (if nat_le 65536 m.next then Some Enomem else None)) e
+
+refused_number : (m : Mapped) (pid addr pages : ℕ) → is_room m.areas pid addr pages ≡ true → insert_refusal m pid addr pages ≡ (if nat_le 65536 m.next then Some Enomem else None)
+refused_number m pid addr pages e = ap (λ b. if not b then Some Einval else (if nat_le 65536 m.next then Some Enomem else None)) e
+
+refused_not : (m : Mapped) (pid addr pages : ℕ) → is_room m.areas pid addr pages ≡ true → m.next < 65536 → insert_refusal m pid addr pages ≡ None
+refused_not m pid addr pages e lt = refused_number m pid addr pages e ∙ ap (λ b. if b then Some Enomem else None) (lt-leb 65536 m.next lt)
+
+-- the call is not refused where the range is free and a number is left
+accepted : (m n : Mapped) (pid addr pages first : ℕ) (free : Bool) → m ≡ n → first ≡ addr / 4096 → is_range addr pages ≡ true
+    → free ≡ not (list_any (overlaps pid first (first + pages)) m.areas) → free ≡ true → m.next < 65536 → insert_refusal n pid addr pages ≡ None
+accepted m n pid addr pages first free same at range told given lt =
+    subst (λ (x : Mapped). insert_refusal x pid addr pages ≡ None) same (refused_not m pid addr pages (room_is m.areas pid addr pages first at range ∙ sym told ∙ given) lt)
+
+occupied : (m n : Mapped) (pid addr pages first : ℕ) (free : Bool) → m ≡ n → first ≡ addr / 4096 → is_range addr pages ≡ true
+    → free ≡ not (list_any (overlaps pid first (first + pages)) m.areas) → free ≡ false → insert_refusal n pid addr pages ≡ Some Einval
+occupied m n pid addr pages first free same at range told refused =
+    subst (λ (x : Mapped). insert_refusal x pid addr pages ≡ Some Einval) same (refused_room m pid addr pages (room_is m.areas pid addr pages first at range ∙ sym told ∙ refused))
+
+exhausted : (m n : Mapped) (pid addr pages first : ℕ) (free : Bool) → m ≡ n → first ≡ addr / 4096 → is_range addr pages ≡ true
+    → free ≡ not (list_any (overlaps pid first (first + pages)) m.areas) → free ≡ true → 65536 ≤ m.next → insert_refusal n pid addr pages ≡ Some Enomem
+exhausted m n pid addr pages first free same at range told given le =
+    subst (λ (x : Mapped). insert_refusal x pid addr pages ≡ Some Enomem) same
+    (refused_number m pid addr pages (room_is m.areas pid addr pages first at range ∙ sym told ∙ given) ∙ ap (λ b. if b then Some Enomem else None) (le-leb 65536 m.next le))
+
+refused_is_not : (e : Errno) → ◌≡◌ {A = Result ℕ MachineError} (Err (error.Refused e)) (Err error.HostMemory) → ⊥
+refused_is_not e h = cc
+
+no_range : (m : Mapped) (pid addr pages : ℕ) → is_range addr pages ≡ false → insert_refusal m pid addr pages ≡ Some Einval
+no_range m pid addr pages e = refused_room m pid addr pages (ap (λ b. b && not (list_any (overlaps pid (addr / 4096) (addr / 4096 + pages)) m.areas)) e)
+
+-- the table with the new segment is that of the definition
+inserted_at : (t u : Table) (place : Map Page ℕ) (pid addr pages first : ℕ) (shared : Bool) → first ≡ addr / 4096
+    → u ≡ record { areas = set spot_cmp t.areas (pid, first) (new_area t.next 0 pages); segments = set nat_cmp t.segments t.next (record { pages = pages; shared = shared }); next = suc t.next }
+    → mapped u place ≡ inserted (mapped t place) pid addr pages shared
+inserted_at t u place pid addr pages first shared at e = rw (e, at)
+
+pub is_free-requires-clause-apart : goal.is_free-requires-clause-apart
+is_free-requires-clause-apart g c = c.self.invariant.0.apart
+
+pub is_free-requires-clause-whole : goal.is_free-requires-clause-whole
+is_free-requires-clause-whole g c = c.self.invariant.0.whole
+
+pub is_free-requires-clause-low : goal.is_free-requires-clause-low
+is_free-requires-clause-low g c = c.self.invariant.0.low
+
+pub is_free-requires-clause-end : goal.is_free-requires-clause-end
+is_free-requires-clause-end g c = c.in-Some.ensures.some.3
+
+pub count_in-requires-clause-steps : goal.count_in-requires-clause-steps
+count_in-requires-clause-steps g c = c.self.invariant.1
+
+pub count_in-requires-clause-whole : goal.count_in-requires-clause-whole
+count_in-requires-clause-whole g c = c.self.invariant.0.whole
+
+pub count_in-requires-clause-indices : goal.count_in-requires-clause-indices
+count_in-requires-clause-indices g c = subst (λ (x : Area). x.page.index + x.pages < 2 ^ 64) (sym c.new_area.ensures) (omega (arith, c.in-Some.ensures.some.3))
+
+pub count_out-requires : goal.count_out-requires
+count_out-requires g c = record { indices = subst (λ (x : Area). x.page.index + x.pages < 2 ^ 64) (sym c.new_area-in_default-insert.ensures) (omega (arith, c.in-Some.ensures.some.3)) }
+
+pub invariant_of-self : goal.invariant_of-self
+invariant_of-self g c = (c.self.invariant.0, c.in_err-count_in.ensures.err)
+
+pub returns-in_default-clause-done : goal.returns-in_default-clause-done
+returns-in_default-clause-done g c = (no_range c.args.self.now c.args.pid c.args.addr c.args.pages c.in_default.ensures.none, refl)
+
+pub returns-then-not-is_free-clause-done : goal.returns-then-not-is_free-clause-done
+returns-then-not-is_free-clause-done g c =
+    let range = c.in-Some.ensures.some in (
+      occupied (mapped c.self.inside.table c.self.inside.places.entries) c.args.self.now c.args.pid c.args.addr c.args.pages c.in-Some.first c.is_free.result c.self.view_is range.0 range.1
+          c.is_free.ensures c.if-not-is_free.true,
+      refl,
+    )
+
+pub returns-in_err-count_in-clause-memory : goal.returns-in_err-count_in-clause-memory
+returns-in_err-count_in-clause-memory g c = λ _.
+    let range = c.in-Some.ensures.some in
+    accepted (mapped c.self.inside.table c.self.inside.places.entries) c.args.self.now c.args.pid c.args.addr c.args.pages c.in-Some.first c.is_free.result c.self.view_is range.0 range.1
+    c.is_free.ensures c.if-not-is_free.false (omega (arith, c.next_segment.ensures, c.if-next_segment-ge-MAX_SEGMENTS.false))
+
+pub returns-then-next_segment-ge-MAX_SEGMENTS-clause-done : goal.returns-then-next_segment-ge-MAX_SEGMENTS-clause-done
+returns-then-next_segment-ge-MAX_SEGMENTS-clause-done g c =
+    let range = c.in-Some.ensures.some in (
+      exhausted (mapped c.self.inside.table c.self.inside.places.entries) c.args.self.now c.args.pid c.args.addr c.args.pages c.in-Some.first c.is_free.result c.self.view_is range.0 range.1
+          c.is_free.ensures c.if-not-is_free.false (omega (arith, c.next_segment.ensures, c.if-next_segment-ge-MAX_SEGMENTS.true)),
+      refl,
+    )
+
+pub returns-then-next_segment-ge-MAX_SEGMENTS-clause-memory : goal.returns-then-next_segment-ge-MAX_SEGMENTS-clause-memory
+returns-then-next_segment-ge-MAX_SEGMENTS-clause-memory g c = λ e. absurd (refused_is_not Enomem e)
+
+pub returns-in_default-clause-memory : goal.returns-in_default-clause-memory
+returns-in_default-clause-memory g c = λ e. absurd (refused_is_not Einval e)
+
+pub returns-then-not-is_free-clause-memory : goal.returns-then-not-is_free-clause-memory
+returns-then-not-is_free-clause-memory g c = λ e. absurd (refused_is_not Einval e)
+
+pub insert-requires-clause-number : goal.insert-requires-clause-number
+insert-requires-clause-number g c = omega (arith, c.next_segment.ensures, c.if-next_segment-ge-MAX_SEGMENTS.false)
+
+pub returns-in_default-insert-clause-done : goal.returns-in_default-insert-clause-done
+returns-in_default-insert-clause-done g c = ap (λ (t : Table). mapped t c.self.inside.places.entries) c.in_default-insert.ensures.err ∙ c.self.view_is
+
+pub returns-in_default-insert-clause-memory : goal.returns-in_default-insert-clause-memory
+returns-in_default-insert-clause-memory g c = λ _.
+    let range = c.in-Some.ensures.some in
+    accepted (mapped c.self.inside.table c.self.inside.places.entries) c.args.self.now c.args.pid c.args.addr c.args.pages c.in-Some.first c.is_free.result c.self.view_is range.0 range.1
+    c.is_free.ensures c.if-not-is_free.false (omega (arith, c.next_segment.ensures, c.if-next_segment-ge-MAX_SEGMENTS.false))
+
+pub returns-clause-memory : goal.returns-clause-memory
+returns-clause-memory g c = λ _.
+    let range = c.in-Some.ensures.some in
+    accepted (mapped c.self.inside.table c.self.inside.places.entries) c.args.self.now c.args.pid c.args.addr c.args.pages c.in-Some.first c.is_free.result c.self.view_is range.0 range.1
+    c.is_free.ensures c.if-not-is_free.false (omega (arith, c.next_segment.ensures, c.if-next_segment-ge-MAX_SEGMENTS.false))
+
+pub returns-clause-number : goal.returns-clause-number
+returns-clause-number g c = c.in-Ok.ensures.number ∙ ap (λ (m : Mapped). m.next) c.self.view_is
+
+pub returns-clause-done : goal.returns-clause-done
+returns-clause-done g c =
+    let range = c.in-Some.ensures.some in (
+      accepted (mapped c.self.inside.table c.self.inside.places.entries) c.args.self.now c.args.pid c.args.addr c.args.pages c.in-Some.first c.is_free.result c.self.view_is range.0 range.1
+          c.is_free.ensures c.if-not-is_free.false (omega (arith, c.next_segment.ensures, c.if-next_segment-ge-MAX_SEGMENTS.false)),
+      inserted_at c.self.inside.table c.insert.new.self c.self.inside.places.entries c.args.pid c.args.addr c.args.pages c.in-Some.first c.args.shared range.0 c.in-Ok.ensures.ok
+          ∙ ap (λ (m : Mapped). inserted m c.args.pid c.args.addr c.args.pages c.args.shared) c.self.view_is,
+    )
 
 pub insert-requires-clause-new : goal.insert-requires-clause-new
 insert-requires-clause-new g c = none_next c.self.inside.table.segments c.self.inside.table.next c.self.invariant.0.numbers

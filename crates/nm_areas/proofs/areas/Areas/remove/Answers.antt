@@ -1,10 +1,14 @@
-use Rattle.std.proofs.Common.{◌≡◌, ℕ, ◌+◌, ◌/◌, not, ap, sym, subst, ◌∙◌, arith}
+use Rattle.std.proofs.Common.{◌≡◌, ℕ, ◌+◌, ◌/◌, not, length, refl, ap, sym, subst, ◌∙◌, arith}
 use Rattle.std.specs.Prelude.{Some, None, if◌then◌else◌}
+use Rattle.std.specs.List.{AllByRecursion}
+use Rattle.std.specs.List.Sorted.{IsStrictlySortedBy}
+use Rattle.std.specs.Map.{keys_of}
+use Rattle.std.specs.Ordering.{nat_cmp}
 use Rattle.nm_types.specs.declared.errno.Errno.TheVariants.{Einval}
-use Rattle.nm_areas.specs.Mapped.{Mapped, mapped}
+use Rattle.nm_areas.specs.Mapped.{Mapped, mapped, IsMapped, IsSomePages, HasIndices, AreasAreApart}
 use Rattle.nm_types.specs.State.{page_at}
 use Rattle.nm_areas.specs.Table.{Table}
-use Rattle.nm_areas.specs.Coverage.{IsCoverage}
+use Rattle.nm_areas.specs.Coverage.{IsCoverage, IsSteps, of_shared, ends_at, covers_at, splits_at}
 use Rattle.nm_types.specs.declared.area.Segment.{Segment}
 use Rattle.nm_types.specs.Map.{Map}
 use Rattle.nm_areas.proofs.Alone.{cut_apart, cut_once}
@@ -94,3 +98,85 @@ returns-clause-pages g c q v =
     ∙ ap (λ (n : ℕ). page_outside areas c.args.pid n c.new-end.result q v) range.0
     ∙ ap (λ (n : ℕ). page_outside areas c.args.pid (c.args.addr / 4096) n q v) end
     ∙ ap (λ (m : Mapped). page_outside m.areas c.args.pid (c.args.addr / 4096) (c.args.addr / 4096 + c.args.pages) q v) c.self.view_is
+
+pub returns-in_default-clause-done : goal.returns-in_default-clause-done
+returns-in_default-clause-done g c = (ap (λ b. if not b then Some Einval else None) c.in_default.ensures.none, refl)
+
+pub overflow_add-number : goal.overflow_add-number
+overflow_add-number g c = omega (arith, c.in-Some.ensures.some.3, c.number.ensures)
+
+pub split_steps-requires-clause-steps : goal.split_steps-requires-clause-steps
+split_steps-requires-clause-steps g c = c.self.invariant.1
+
+pub split_steps-requires-clause-apart : goal.split_steps-requires-clause-apart
+split_steps-requires-clause-apart g c = c.self.invariant.0.apart
+
+pub split_steps-requires-clause-whole : goal.split_steps-requires-clause-whole
+split_steps-requires-clause-whole g c = c.self.invariant.0.whole
+
+pub split_steps-requires-clause-indices : goal.split_steps-requires-clause-indices
+split_steps-requires-clause-indices g c = c.self.invariant.0.indices
+
+pub invariant_of-self : goal.invariant_of-self
+invariant_of-self g c = (c.self.invariant.0, c.in_err-split_steps.ensures.err)
+
+pub cut-requires-clause-apart : goal.cut-requires-clause-apart
+cut-requires-clause-apart g c = c.self.invariant.0.apart
+
+pub cut-requires-clause-whole : goal.cut-requires-clause-whole
+cut-requires-clause-whole g c = c.self.invariant.0.whole
+
+pub cut-requires-clause-indices : goal.cut-requires-clause-indices
+cut-requires-clause-indices g c = c.self.invariant.0.indices
+
+pub cut-requires-clause-ordered : goal.cut-requires-clause-ordered
+cut-requires-clause-ordered g c = c.self.invariant.0.ordered
+
+pub join_steps-requires-clause-steps : goal.join_steps-requires-clause-steps
+join_steps-requires-clause-steps g c =
+    subst (λ (t : Table). IsSteps c.split_steps.new.steps.entries (λ p. (of_shared t.segments (ends_at t.areas) p + of_shared t.segments (splits_at t.areas c.args.pid c.in-Some.first) p) + of_shared t.segments (splits_at t.areas c.args.pid c.new-end.result) p) (of_shared t.segments (covers_at t.areas)))
+    (sym c.in_default-cut.ensures.err) c.in_ok-split_steps.ensures.ok
+
+pub join_steps-requires-clause-apart : goal.join_steps-requires-clause-apart
+join_steps-requires-clause-apart g c = subst (λ (t : Table). AreasAreApart t.areas) (sym c.in_default-cut.ensures.err) c.self.invariant.0.apart
+
+pub join_steps-requires-clause-whole : goal.join_steps-requires-clause-whole
+join_steps-requires-clause-whole g c = subst (λ (t : Table). AllByRecursion IsSomePages t.areas) (sym c.in_default-cut.ensures.err) c.self.invariant.0.whole
+
+pub join_steps-requires-clause-indices : goal.join_steps-requires-clause-indices
+join_steps-requires-clause-indices g c = subst (λ (t : Table). AllByRecursion HasIndices t.areas) (sym c.in_default-cut.ensures.err) c.self.invariant.0.indices
+
+pub invariant_of-self-in_default-cut : goal.invariant_of-self-in_default-cut
+invariant_of-self-in_default-cut g c =
+    (subst (λ (t : Table). IsMapped (mapped t c.self.inside.places.entries)) (sym c.in_default-cut.ensures.err) c.self.invariant.0, c.join_steps.ensures)
+
+pub returns-in_default-cut-clause-done : goal.returns-in_default-cut-clause-done
+returns-in_default-cut-clause-done g c = ap (λ (t : Table). mapped t c.self.inside.places.entries) c.in_default-cut.ensures.err ∙ c.self.view_is
+
+pub returns-in_default-cut-clause-memory : goal.returns-in_default-cut-clause-memory
+returns-in_default-cut-clause-memory g c = λ _. ap (λ b. if not b then Some Einval else None) c.in-Some.ensures.some.1
+
+pub returns-in_err-freed-clause-memory : goal.returns-in_err-freed-clause-memory
+returns-in_err-freed-clause-memory g c = λ _. ap (λ b. if not b then Some Einval else None) c.in-Some.ensures.some.1
+
+pub returns-in_err-split_steps-clause-memory : goal.returns-in_err-split_steps-clause-memory
+returns-in_err-split_steps-clause-memory g c = λ _. ap (λ b. if not b then Some Einval else None) c.in-Some.ensures.some.1
+
+pub returns-clause-memory : goal.returns-clause-memory
+returns-clause-memory g c = λ _. ap (λ b. if not b then Some Einval else None) c.in-Some.ensures.some.1
+
+pub count_out_own-requires-clause-range : goal.count_out_own-requires-clause-range
+count_out_own-requires-clause-range g c = omega (arith, c.new-end.ensures, c.number.ensures)
+
+pub lose_all-requires-clause-range : goal.lose_all-requires-clause-range
+lose_all-requires-clause-range g c = omega (arith, c.new-end.ensures, c.number.ensures)
+
+pub lose_all-requires-clause-steps : goal.lose_all-requires-clause-steps
+lose_all-requires-clause-steps g c = c.count_out_own.ensures
+
+pub drop_own-requires-clause-named : goal.drop_own-requires-clause-named
+drop_own-requires-clause-named g c = subst (λ (t : Table). IsStrictlySortedBy nat_cmp (keys_of t.segments)) (sym c.in-Ok.ensures.ok) c.self.invariant.0.named
+
+pub returns-clause-room : goal.returns-clause-room
+returns-clause-room g c =
+    omega (arith, c.lose_all.ensures.room, c.in_ok-freed.ensures.exact, c.min-most.ensures, c.len.ensures.len, ap (λ (m : Mapped). length m.place) c.self.view_is)
