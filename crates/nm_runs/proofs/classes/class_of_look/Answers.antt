@@ -19,27 +19,33 @@ pub returns-in-Zero : goal.returns-in-Zero
 returns-in-Zero g c = rw (c.number-in-Zero.ensures, c.in-Zero.is)
 
 pub returns-then-not-all : goal.returns-then-not-all
-returns-then-not-all g c = rw (
-  c.number-then-not-all.ensures,
-  c.in-At.is,
-  ap (λ n. n == c.args.target) (sym c.node_of.ensures.node) ∙ sym c.eq.ensures ∙ c.if-eq.false,
-  lt-ltb 1 c.in-At.processes c.if-processes-gt1.true,
-  c.if-not-all.true,
-)
+returns-then-not-all g c =
+    let elsewhere : c.eq.result ≡ false = cc in
+    rw (
+      c.number-then-not-all.ensures,
+      c.in-At.is,
+      ap (λ n. n == c.args.target) (sym c.node_of.ensures.node) ∙ sym c.eq.ensures ∙ elsewhere,
+      lt-ltb 1 c.in-At.processes c.if-processes-gt1.true,
+      c.if-not-all.true,
+    )
 
 pub returns-then-pinned : goal.returns-then-pinned
-returns-then-pinned g c = rw (
-  c.number-then-pinned.ensures,
-  c.in-At.is,
-  ap (λ n. n == c.args.target) (sym c.node_of.ensures.node) ∙ sym c.eq.ensures ∙ c.if-eq.false,
-  not_kept c.in-At.processes c.args.all c.else-processes-gt1.either,
-  c.if-pinned.true,
-)
+returns-then-pinned g c =
+    let elsewhere : c.eq.result ≡ false = cc in
+    rw (
+      c.number-then-pinned.ensures,
+      c.in-At.is,
+      ap (λ n. n == c.args.target) (sym c.node_of.ensures.node) ∙ sym c.eq.ensures ∙ elsewhere,
+      not_kept c.in-At.processes c.args.all c.else-processes-gt1.either,
+      c.if-pinned.true,
+    )
 
 pub returns-else-pinned : goal.returns-else-pinned
-returns-else-pinned g c = rw (
-  c.in-At.is,
-  ap (λ n. n == c.args.target) (sym c.node_of.ensures.node) ∙ sym c.eq.ensures ∙ c.if-eq.false,
-  not_kept c.in-At.processes c.args.all c.else-processes-gt1.either,
-  c.if-pinned.false,
-)
+returns-else-pinned g c =
+    let elsewhere : c.eq.result ≡ false = cc in
+    rw (
+      c.in-At.is,
+      ap (λ n. n == c.args.target) (sym c.node_of.ensures.node) ∙ sym c.eq.ensures ∙ elsewhere,
+      not_kept c.in-At.processes c.args.all c.else-processes-gt1.either,
+      c.if-pinned.false,
+    )
