@@ -1,3 +1,4 @@
+use Rattle.std.proofs.Common.{rules}
 use Rattle.nm_engine.proofs.Tied.Mapped.{IsShownStill, still_tied, still_shows_at, policed_still}
 use Rattle.nm_engine.proofs.address_spaces.AddressSpaces.set_policy.Given.{Over}
 use Rattle.nm_engine.proofs.address_spaces.AddressSpaces.set_policy.Goals as goal
@@ -10,3 +11,9 @@ invariant_of-self g c = still_tied c.self.inside.tasks c.self.inside.areas c.spl
 
 pub returns-clause-same : goal.returns-clause-same
 returns-clause-same g c = still_shows_at c.self.inside.tasks c.self.inside.areas c.split_policy.new.self c.self.inside.rmap c.self.invariant (still g c) c.args.self.now c.self.view_is
+
+pub returns-clause-done : goal.returns-clause-done
+returns-clause-done g c = search rules
+
+pub returns-clause-memory : goal.returns-clause-memory
+returns-clause-memory g c = search rules

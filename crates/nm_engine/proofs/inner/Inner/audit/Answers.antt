@@ -1,6 +1,7 @@
-use Rattle.std.proofs.Common.{◌≡◌, [], ap, subst, ◌∙◌}
+use Rattle.std.proofs.Common.{◌≡◌, true, [], ap, subst, ◌∙◌}
+use Rattle.std.proofs.lemmas.Result.{IfOk-from_err}
 use Rattle.nm_engine.specs.MidRun.{MidRun}
-use Rattle.nm_engine.specs.Audited.{is_audited, numbered}
+use Rattle.nm_engine.specs.Audited.{audited, is_audited, numbered}
 use Rattle.nm_engine.specs.Shown.{shown_by}
 use Rattle.nm_engine.specs.Sound.{IsSoundMidRun}
 use Rattle.nm_engine.proofs.Soundness.Sounded.{sound_is_audited}
@@ -13,3 +14,22 @@ returns-clause-sound g c none =
     let left : i.frames.vacated ≡ [] = ap (λ (a : MidRun). a.left) c.self.view_is ∙ none in
     c.in_ok-once.ensures ∙ ap (is_audited s.layout (numbered 0 s.free)) (c.as_slice.ensures.value ∙ c.in_ok-places.ensures)
     ∙ sound_is_audited s (subst (λ l. IsSoundMidRun s l) left c.self.invariant.sound)
+
+pub returns-clause-told : goal.returns-clause-told
+returns-clause-told g c =
+    let i = c.self.inside in
+    let s = shown_by i.spaces i.frames i.online i.totals.moved i.totals.failed in
+    c.in_ok-once.ensures ∙ ap (is_audited s.layout (numbered 0 s.free)) (c.as_slice.ensures.value ∙ c.in_ok-places.ensures)
+    ∙ ap (λ (a : MidRun). audited a.state) c.self.view_is
+
+pub returns-in_err-places-clause-told : goal.returns-in_err-places-clause-told
+returns-in_err-places-clause-told g c = IfOk-from_err c.from_residual.result _ c.from_residual.ensures.0
+
+pub returns-in_err-places-clause-sound : goal.returns-in_err-places-clause-sound
+returns-in_err-places-clause-sound g c none = IfOk-from_err c.from_residual.result (λ b. b ≡ true) c.from_residual.ensures.0
+
+pub returns-in_err-once-clause-told : goal.returns-in_err-once-clause-told
+returns-in_err-once-clause-told g c = IfOk-from_err c.from_residual-in_err-once.result (λ b. b ≡ audited c.args.self.now.state) c.from_residual-in_err-once.ensures.0
+
+pub returns-in_err-once-clause-sound : goal.returns-in_err-once-clause-sound
+returns-in_err-once-clause-sound g c none = IfOk-from_err c.from_residual-in_err-once.result (λ b. b ≡ true) c.from_residual-in_err-once.ensures.0

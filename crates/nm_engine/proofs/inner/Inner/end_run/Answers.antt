@@ -1,4 +1,4 @@
-use Rattle.std.proofs.Common.{length, ap, ◌∙◌}
+use Rattle.std.proofs.Common.{length, ap, ◌∙◌, rules}
 use Rattle.nm_engine.specs.Run.{with_all_free, counted, failures, added}
 use Rattle.nm_engine.specs.MidRun.{MidRun}
 use Rattle.nm_engine.specs.AddressSpaces.{table_of}
@@ -30,3 +30,6 @@ returns-clause-state g c =
     (c.saturating_add.ensures ∙ ap (λ n. added c.self.inside.totals.moved n) c.vacated_count-moved.ensures)
     (c.saturating_add-2.ensures ∙ ap (λ n. added c.self.inside.totals.failed n) c.failures-failed.ensures)
     ∙ ap (λ (x : MidRun). counted (with_all_free x.state x.left) (length x.left) (failures c.args.statuses.now)) c.self.view_is
+
+pub returns-clause-left : goal.returns-clause-left
+returns-clause-left g c = search rules
