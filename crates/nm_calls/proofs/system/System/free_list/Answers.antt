@@ -1,0 +1,12 @@
+use Rattle.std.proofs.Common.{arith}
+use Rattle.nm_calls.specs.Outcome.{refused, refused_at_once, ended, runs_asked, start, sets_policy, accesses_asked}
+use Rattle.nm_calls.proofs.Outcomes.{answers, refuses, unchanged}
+use Rattle.nm_calls.proofs.system.System.free_list.Goals as goal
+
+pub returns-in_err-free_list : goal.returns-in_err-free_list
+unfolding refused refused_at_once ended runs_asked start sets_policy accesses_asked
+returns-in_err-free_list g c = grind (arith, answers, refuses, unchanged)
+
+pub returns : goal.returns
+unfolding refused refused_at_once ended runs_asked start sets_policy accesses_asked
+returns g c = grind (arith, answers, refuses, unchanged)
