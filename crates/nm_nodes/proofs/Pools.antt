@@ -162,6 +162,11 @@ pool_of-set rows node row frames within is =
     let lists : lists_of (set rows node (row.0, frames)) ≡ set (lists_of rows) node frames = map-set (λ (r : ℕ × List ℕ). r.1) rows node (row.0, frames) in
     cc
 
+-- a node's index is among the rows
+pub place_in : (rows : List (ℕ × List ℕ)) (p : Pool) (i node : ℕ) → pool_of rows ≡ p → i ≡ node → node < length p.lists → i < length rows
+place_in rows p i node shown at within =
+    let l : length (lists_of rows) ≡ length rows = length-map rows (λ (r : ℕ × List ℕ). r.1) in omega (arith, ap (λ (q : Pool). length q.lists) shown, l)
+
 -- a row read at a node's index, and written there
 module _ (rows : List (ℕ × List ℕ)) (p : Pool) (i node : ℕ) (row : ℕ × List ℕ) (shown : pool_of rows ≡ p) (at : i ≡ node) (within : node < length p.lists) (is : row ≡ get_or rows i row) where
   inside : i < length rows
