@@ -1,0 +1,5 @@
+use Rattle.std.proofs.Common.{rules}
+use Rattle.nm_nodes.proofs.list.FreeList.len.Goals as goal
+
+pub returns : goal.returns
+returns g c = search rules
