@@ -1,0 +1,42 @@
+use Rattle.std.proofs.Common.{◌≡◌, ℕ, ◌+◌, ◌<◌, ◌==◌, true, false, cond, List, [], ◌∷◌, ◌++◌, length, take, get_or, Result, Ok, Err, sym, ap, ◌∙◌, append_assoc, arith}
+use Rattle.std.specs.Result.{IfOk, IsErr}
+use Rattle.std.proofs.lemmas.List.{append-nil, take_all}
+use Rattle.std.proofs.lemmas.List.Elements.{filter_more}
+use Rattle.nm_policy.specs.declared.targets.Sent.{Sent}
+use Rattle.nm_policy.specs.Turns.{sent_to}
+use Rattle.nm_policy.proofs.targets.append_for.Goals.{then-eq+in_ok-push, else-eq}
+use Rattle.nm_policy.proofs.targets.append_for.Goals as goal
+
+not_ok : {T E : Type 0} (r : Result T E) (P : T → Type 0) → IsErr r → IfOk r P
+not_ok (Ok x) P e = absurd (cc)
+not_ok (Err x) P e = tt
+
+one_more : (all : List Sent) (node i : ℕ) (x : Sent) (bs ts ns : List Sent) → i < length all → x ≡ get_or all i x → ts ≡ bs ++ sent_to (take i all) node → ns ≡ ts ++ cond (x.to == node) (x ∷ []) [] → ns ≡ bs ++ sent_to (take (i + 1) all) node
+one_more all node i x bs ts ns lt at had now =
+    now ∙ (ap (λ l. l ++ cond (x.to == node) (x ∷ []) []) had ∙ (append_assoc bs (sent_to (take i all) node) (cond (x.to == node) (x ∷ []) [])
+    ∙ ap (λ l. bs ++ l) (ap (λ (z : Sent). sent_to (take i all) node ++ cond (z.to == node) (z ∷ []) []) at ∙ sym (filter_more (λ s. s.to == node) all i x lt))))
+
+pub loop-sent-init : goal.loop-sent-init
+loop-sent-init g c = sym (append-nil c.args.targets.now.items)
+
+pub bounds-dealt-sent-index : goal.bounds-dealt-sent-index
+bounds-dealt-sent-index g c = c.loop-sent-test.true
+
+pub returns-in_err-push : goal.returns-in_err-push
+returns-in_err-push g c = not_ok _ _ c.from_residual.ensures.0
+
+pub loop-sent-smaller : goal.loop-sent-smaller
+loop-sent-smaller g c = omega (arith, c.loop-sent-test.true)
+
+pub loop-sent-preserved : goal.loop-sent-preserved
+loop-sent-preserved g c =
+    let x = c.sent-item.result in
+    let ts = c.loop-sent.targets.items in
+    one_more c.args.dealt.now c.args.node c.loop-sent.sent-index x c.args.targets.now.items ts c.if-eq.targets.items c.loop-sent-test.true c.sent-item.is c.loop-sent.invariant
+    (elim c.if-eq.branch [
+      | then-eq+in_ok-push w ↦ ap (λ v. v.items) w.targets-is ∙ (w.in_ok-push.ensures.items ∙ ap (λ b. ts ++ cond b (x ∷ []) []) (sym (sym c.eq.ensures ∙ w.if-eq.true)))
+      | else-eq w ↦ ap (λ v. v.items) w.targets-is ∙ (sym (append-nil ts) ∙ ap (λ b. ts ++ cond b (x ∷ []) []) (sym (sym c.eq.ensures ∙ w.if-eq.false)))
+    ])
+
+pub returns : goal.returns
+returns g c = c.loop-sent.invariant ∙ ap (λ l. c.args.targets.now.items ++ sent_to l c.args.node) (take_all c.loop-sent.sent-index c.args.dealt.now c.loop-sent-test.false)
