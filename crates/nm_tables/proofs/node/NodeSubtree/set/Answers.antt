@@ -1,4 +1,6 @@
-use Rattle.std.proofs.Common.{◌≡◌, ◌/◌, refl, sym, ap, subst, ◌∙◌}
+use Rattle.std.specs.List.Sorted.{IsStrictlySortedBy}
+use Rattle.std.specs.Result.{IfOk, IsErr, OnErr}
+use Rattle.std.proofs.Common.{◌≡◌, ◌/◌, refl, sym, ap, subst, ◌∙◌, Result, Ok, Err}
 use Rattle.std.specs.List.{AllByRecursion}
 use Rattle.std.specs.Map.{keys_of}
 use Rattle.std.specs.Ordering.{nat_cmp}
@@ -10,6 +12,14 @@ use Rattle.nm_tables.proofs.Changed.{all-set}
 use Rattle.nm_tables.proofs.Nodes as node
 use Rattle.nm_tables.proofs.Parts.{found_at, written_at, absent_at, inserted_at}
 use Rattle.nm_tables.proofs.node.NodeSubtree.set.Goals as goal
+
+not_ok : {T E : Type 0} (r : Result T E) (P : T → Type 0) → IsErr r → IfOk r P
+not_ok (Ok x) P e = absurd (cc)
+not_ok (Err x) P e = tt
+
+err_is : {T E : Type 0} (r : Result T E) (P : Type 0) → P → OnErr r P
+err_is (Ok x) P p = tt
+err_is (Err x) P p = p
 
 pub returns-in-Ok-clause-ok : goal.returns-in-Ok-clause-ok
 returns-in-Ok-clause-ok g c =
@@ -66,3 +76,27 @@ returns-in_ok-insert-in-Err-clause-inside g c i all own =
     let part = c.in_ok-part-in-Err.part in
     let more = c.in_ok-insert-in-Err.ensures.items ∙ inserted_at parts c.as_slice.result.now (g.T.Subtree.number c.args.block) c.number_of-number.result c.in-Err.place c.as_slice.ensures.value c.number_of-number.ensures c.in-Err.ensures.fits part in
     subst (λ ps. AllByRecursion (λ k. k / 512 ≡ i) (keys_of ps)) (sym more) (all-set (λ k. k / 512 ≡ i) parts (g.T.Subtree.number c.args.block) part all own)
+
+pub place_of-requires : goal.place_of-requires
+place_of-requires g c = record { ordered = subst (λ l. IsStrictlySortedBy nat_cmp (keys_of l)) (sym c.as_slice.ensures.value) c.requires.kept.0 }
+
+pub set-requires-clause-kept : goal.set-requires-clause-kept
+set-requires-clause-kept g c =
+    let parts = c.args.self.now.parts.items in
+    let at = found_at parts c.as_slice.result.now (g.T.Subtree.number c.args.block) c.number_of-number.result c.in-Ok.place c.as_slice.ensures.value c.number_of-number.ensures c.index_mut.result.now c.requires.kept.0 c.in-Ok.ensures.found c.index_mut.ensures.value in
+    (node.found g.T.Subtree.slots g.T.Subtree.number g.T.Subtree.whole g.T.Subtree.is_in g.met.T.Subtree.parted g.met.T.Subtree.upwards parts c.requires.kept (g.T.Subtree.number c.args.block) c.index_mut.result.now.1 at).0
+
+pub returns-in_err-part-in-Err-clause-ok : goal.returns-in_err-part-in-Err-clause-ok
+returns-in_err-part-in-Err-clause-ok g c = not_ok _ _ c.from_residual.ensures.0
+
+pub returns-in_err-part-in-Err-clause-err : goal.returns-in_err-part-in-Err-clause-err
+returns-in_err-part-in-Err-clause-err g c = err_is c.from_residual.result _ refl
+
+pub returns-in_err-part-in-Err-clause-kept : goal.returns-in_err-part-in-Err-clause-kept
+returns-in_err-part-in-Err-clause-kept g c = c.requires.kept
+
+pub returns-in_err-part-in-Err-clause-inside : goal.returns-in_err-part-in-Err-clause-inside
+returns-in_err-part-in-Err-clause-inside g c i all own = all
+
+pub returns-in_err-insert-in-Err-clause-ok : goal.returns-in_err-insert-in-Err-clause-ok
+returns-in_err-insert-in-Err-clause-ok g c = not_ok _ _ c.from_residual-in_err-insert-in-Err.ensures.0
