@@ -1,18 +1,14 @@
-use Rattle.std.proofs.Common.{◌≡◌, ℕ, suc, ◌+◌, Bool, true, false, not, cond, List, [], ◌∷◌, ◌++◌, length, drop, Option, Some, None, Result, Ok, Err, IsTrue, refl, sym, ap, ◌∙◌, append_assoc, append-nil, ◌==◌, arith, rules, tests}
+use Rattle.std.proofs.Common.{◌≡◌, ℕ, suc, ◌+◌, Bool, true, false, not, cond, List, [], ◌∷◌, ◌++◌, length, drop, Some, None, IsTrue, refl, sym, ap, ◌∙◌, append_assoc, append-nil, ◌==◌, arith, rules, tests}
 use Rattle.std.specs.Prelude.{slice_get}
 use Rattle.std.specs.List.{filter}
-use Rattle.std.specs.Result.{IfOk, IsErr}
 use Rattle.std.proofs.lemmas.Bool.{false≢true}
 use Rattle.std.proofs.lemmas.List.Elements.{filter-append}
+use Rattle.std.proofs.lemmas.Result.{IfOk-from_err}
 use Rattle.nm_policy.specs.declared.pairing.Pair.{Pair}
 use Rattle.nm_policy.specs.Order.{turn}
 use Rattle.nm_policy.specs.Pairs.{dealt, stays, moving}
 use Rattle.nm_policy.proofs.pairing.moving.Goals.{then-not-stays+in_ok-push, else-not-stays}
 use Rattle.nm_policy.proofs.pairing.moving.Goals as goal
-
-not_ok : {T E : Type 0} (r : Result T E) (P : T → Type 0) → IsErr r → IfOk r P
-not_ok (Ok x) P e = absurd (cc)
-not_ok (Err x) P e = tt
 
 -- the pairs of a list that move
 abbrev movers : List ℕ → List ℕ → List Pair → List Pair
@@ -49,7 +45,7 @@ all_made old (m ∷ new) [] k b ps e h f made =
 all_made old (m ∷ new) (x ∷ rest) k b ps e h f made = absurd (cc)
 
 pub returns-in_err-pairs : goal.returns-in_err-pairs
-returns-in_err-pairs g c = not_ok _ _ c.from_residual.ensures.0
+returns-in_err-pairs g c = IfOk-from_err _ _ c.from_residual.ensures.0
 
 pub returns-then-is_empty : goal.returns-then-is_empty
 returns-then-is_empty g c = c.in_ok-pairs.ensures.items ∙ ap (λ n. moving c.args.old n) (sym (c.is_empty.ensures.0 c.if-is_empty.true))
@@ -58,7 +54,7 @@ pub loop-from-init : goal.loop-from-init
 loop-from-init g c = record { counted = omega arith; made = ap (λ l. l ++ movers c.args.old c.args.new (dealt 0 c.args.old c.args.new)) c.in_ok-pairs.ensures.items }
 
 pub returns-in_err-push : goal.returns-in_err-push
-returns-in_err-push g c = not_ok _ _ c.from_residual-in_err-push.ensures.0
+returns-in_err-push g c = IfOk-from_err _ _ c.from_residual-in_err-push.ensures.0
 
 pub loop-from-smaller : goal.loop-from-smaller
 loop-from-smaller g c = omega (arith, one_less c.loop-from.rest c.take_first.new.self c.in-Some.from c.in-Some.ensures.first c.in-Some.ensures.rest)

@@ -1,15 +1,11 @@
-use Rattle.std.proofs.Common.{◌≡◌, ℕ, ◌+◌, ◌<◌, ◌==◌, true, false, cond, List, [], ◌∷◌, ◌++◌, length, take, get_or, Result, Ok, Err, sym, ap, ◌∙◌, append_assoc, arith}
-use Rattle.std.specs.Result.{IfOk, IsErr}
+use Rattle.std.proofs.Common.{◌≡◌, ℕ, ◌+◌, ◌<◌, ◌==◌, cond, List, [], ◌∷◌, ◌++◌, length, take, get_or, sym, ap, ◌∙◌, append_assoc, arith}
 use Rattle.std.proofs.lemmas.List.{append-nil, take_all}
 use Rattle.std.proofs.lemmas.List.Elements.{filter_more}
+use Rattle.std.proofs.lemmas.Result.{IfOk-from_err}
 use Rattle.nm_policy.specs.declared.targets.Sent.{Sent}
 use Rattle.nm_policy.specs.Turns.{sent_to}
 use Rattle.nm_policy.proofs.targets.append_for.Goals.{then-eq+in_ok-push, else-eq}
 use Rattle.nm_policy.proofs.targets.append_for.Goals as goal
-
-not_ok : {T E : Type 0} (r : Result T E) (P : T → Type 0) → IsErr r → IfOk r P
-not_ok (Ok x) P e = absurd (cc)
-not_ok (Err x) P e = tt
 
 one_more : (all : List Sent) (node i : ℕ) (x : Sent) (bs ts ns : List Sent) → i < length all → x ≡ get_or all i x → ts ≡ bs ++ sent_to (take i all) node → ns ≡ ts ++ cond (x.to == node) (x ∷ []) [] → ns ≡ bs ++ sent_to (take (i + 1) all) node
 one_more all node i x bs ts ns lt at had now =
@@ -23,7 +19,7 @@ pub bounds-dealt-sent-index : goal.bounds-dealt-sent-index
 bounds-dealt-sent-index g c = c.loop-sent-test.true
 
 pub returns-in_err-push : goal.returns-in_err-push
-returns-in_err-push g c = not_ok _ _ c.from_residual.ensures.0
+returns-in_err-push g c = IfOk-from_err _ _ c.from_residual.ensures.0
 
 pub loop-sent-smaller : goal.loop-sent-smaller
 loop-sent-smaller g c = omega (arith, c.loop-sent-test.true)

@@ -1,15 +1,11 @@
-use Rattle.std.proofs.Common.{◌≡◌, ℕ, ◌+◌, ◌<◌, ◌%◌, List, [], ◌∷◌, ◌++◌, map, length, take, get_or, Result, Ok, Err, sym, ap, ◌∙◌, arith}
-use Rattle.std.specs.Result.{IfOk, IsErr}
+use Rattle.std.proofs.Common.{◌≡◌, ℕ, ◌+◌, ◌<◌, List, [], ◌∷◌, ◌++◌, map, length, take, get_or, sym, ap, ◌∙◌, arith}
 use Rattle.std.proofs.lemmas.List.{take_all, map_more, get_or_read}
+use Rattle.std.proofs.lemmas.Result.{IfOk-from_err}
 use Rattle.nm_policy.specs.declared.targets.Sent.{Sent}
 use Rattle.nm_policy.specs.declared.targets.Stray.{Stray}
 use Rattle.nm_policy.specs.Order.{turn}
 use Rattle.nm_policy.specs.Turns.{sent}
 use Rattle.nm_policy.proofs.targets.dealt.Goals as goal
-
-not_ok : {T E : Type 0} (r : Result T E) (P : T → Type 0) → IsErr r → IfOk r P
-not_ok (Ok x) P e = absurd (cc)
-not_ok (Err x) P e = tt
 
 one_more : (nodes : List ℕ) (pages : List Stray) (i t : ℕ) (e : Stray) (ds ns : List Sent) → i < length pages → e ≡ get_or pages i e → t ≡ turn nodes e.page.index → ds ≡ map (sent nodes) (take i pages)
     → ns ≡ ds ++ record { vpn = e.vpn; to = t } ∷ [] → ns ≡ map (sent nodes) (take (i + 1) pages)
@@ -18,7 +14,7 @@ one_more nodes pages i t e ds ns lt at is had now =
     ∙ (ap (λ (z : Stray). map (sent nodes) (take i pages) ++ sent nodes z ∷ []) at ∙ sym (map_more (sent nodes) pages i e lt))))
 
 pub returns-in_err-dealt : goal.returns-in_err-dealt
-returns-in_err-dealt g c = not_ok _ _ c.from_residual.ensures.0
+returns-in_err-dealt g c = IfOk-from_err _ _ c.from_residual.ensures.0
 
 pub loop-stray-init : goal.loop-stray-init
 loop-stray-init g c = c.in_ok-dealt.ensures.items
@@ -33,7 +29,7 @@ pub bounds-nodes-turn : goal.bounds-nodes-turn
 bounds-nodes-turn g c = omega (arith, c.requires)
 
 pub returns-in_err-push : goal.returns-in_err-push
-returns-in_err-push g c = not_ok _ _ c.from_residual-in_err-push.ensures.0
+returns-in_err-push g c = IfOk-from_err _ _ c.from_residual-in_err-push.ensures.0
 
 pub loop-stray-smaller : goal.loop-stray-smaller
 loop-stray-smaller g c = omega (arith, c.loop-stray-test.true)

@@ -1,16 +1,12 @@
-use Rattle.std.proofs.Common.{◌≡◌, ℕ, ◌+◌, ◌<◌, ◌≤◌, Bool, true, false, List, [], ◌∷◌, ◌++◌, map, length, take, get_or, Result, Ok, Err, IsTrue, refl, sym, ap, ◌∙◌, arith}
+use Rattle.std.proofs.Common.{◌≡◌, ℕ, ◌+◌, ◌<◌, ◌≤◌, Bool, false, List, [], ◌∷◌, ◌++◌, map, length, take, get_or, IsTrue, refl, sym, ap, ◌∙◌, arith}
 use Rattle.std.specs.List.{flat_map}
-use Rattle.std.specs.Result.{IfOk, IsErr}
 use Rattle.std.proofs.lemmas.Bool.{false≢true}
 use Rattle.std.proofs.lemmas.List.{take_all, take_more, flat_map_more}
+use Rattle.std.proofs.lemmas.Result.{IfOk-from_err}
 use Rattle.nm_policy.specs.declared.targets.Sent.{Sent}
 use Rattle.nm_policy.specs.declared.targets.Stray.{Stray}
 use Rattle.nm_policy.specs.Turns.{sent, sent_to, by_turns}
 use Rattle.nm_policy.proofs.targets.mbind_targets.Goals as goal
-
-not_ok : {T E : Type 0} (r : Result T E) (P : T → Type 0) → IsErr r → IfOk r P
-not_ok (Ok x) P e = absurd (cc)
-not_ok (Err x) P e = tt
 
 some_there : (xs : List ℕ) (b : Bool) → (xs ≡ [] → IsTrue b) → b ≡ false → 0 < length xs
 some_there [] b h e = absurd (false≢true (sym e ∙ h refl))
@@ -25,20 +21,20 @@ by_all pages nodes order xs ds ts i h le ex ed ea =
     h ∙ (ap (flat_map (sent_to ds)) (take_all i xs le ∙ ex) ∙ ap (λ l. flat_map (sent_to l) nodes) (ed ∙ ap (λ n. map (sent n) pages) ea))
 
 pub returns-in_err-targets : goal.returns-in_err-targets
-returns-in_err-targets g c = not_ok _ _ c.from_residual.ensures.0
+returns-in_err-targets g c = IfOk-from_err _ _ c.from_residual.ensures.0
 
 pub returns-then-is_empty : goal.returns-then-is_empty
 returns-then-is_empty g c = c.in_ok-targets.ensures.items ∙ ap (λ n. by_turns n c.args.pages.now) (sym (c.is_empty.ensures.0 c.if-is_empty.true))
 
 pub returns-in_err-order : goal.returns-in_err-order
-returns-in_err-order g c = not_ok _ _ c.from_residual-in_err-order.ensures.0
+returns-in_err-order g c = IfOk-from_err _ _ c.from_residual-in_err-order.ensures.0
 
 pub dealt-requires : goal.dealt-requires
 dealt-requires g c =
     omega (arith, ap length (c.as_slice.ensures.value ∙ c.in_ok-order.ensures), some_there c.args.nodes c.is_empty.result c.is_empty.ensures.1 c.if-is_empty.false)
 
 pub returns-in_err-dealt : goal.returns-in_err-dealt
-returns-in_err-dealt g c = not_ok _ _ c.from_residual-in_err-dealt.ensures.0
+returns-in_err-dealt g c = IfOk-from_err _ _ c.from_residual-in_err-dealt.ensures.0
 
 pub loop-node-init : goal.loop-node-init
 loop-node-init g c = c.in_ok-targets.ensures.items
@@ -47,7 +43,7 @@ pub bounds-node-items-node-index : goal.bounds-node-items-node-index
 bounds-node-items-node-index g c = c.loop-node-test.true
 
 pub returns-in_err-append_for : goal.returns-in_err-append_for
-returns-in_err-append_for g c = not_ok _ _ c.from_residual-in_err-append_for.ensures.0
+returns-in_err-append_for g c = IfOk-from_err _ _ c.from_residual-in_err-append_for.ensures.0
 
 pub loop-node-smaller : goal.loop-node-smaller
 loop-node-smaller g c = omega (arith, c.loop-node-test.true)
