@@ -4,14 +4,11 @@ use Rattle.nm_tables.specs.Tree.{joined}
 use Rattle.nm_types.specs.Map.{set}
 use Rattle.std.proofs.lemmas.List.{append-nil}
 use Rattle.std.specs.Ordering.{nat_cmp}
-use Rattle.std.specs.Result.{IfOk, IsErr, OnErr}
+use Rattle.std.specs.Result.{OnErr}
 use Rattle.std.proofs.Common.{Result, Ok, Err, refl, sym, ap, subst, ◌∙◌}
+use Rattle.std.proofs.lemmas.Result.{IfOk-from_err}
 use Rattle.nm_tables.proofs.Branches.{one_part}
 use Rattle.nm_tables.proofs.branch.BranchSubtree.set.Goals as goal
-
-not_ok : {T E : Type 0} (r : Result T E) (P : T → Type 0) → IsErr r → IfOk r P
-not_ok (Ok x) P e = absurd (cc)
-not_ok (Err x) P e = tt
 
 err_is : {T E : Type 0} (r : Result T E) (P : Type 0) → P → OnErr r P
 err_is (Ok x) P p = tt
@@ -22,7 +19,7 @@ returns-in_ok-part-in-Empty-clause-kept g c =
     one_part g.T.Subtree.whole g.T.Subtree.is_in c.number_of.result (g.T.Subtree.number c.args.block) c.in_ok-part-in-Empty.part c.in_ok-part-in-Empty.ensures.kept c.in_ok-part-in-Empty.ensures.inside c.number_of.ensures
 
 pub returns-in_err-part-in-Empty-clause-ok : goal.returns-in_err-part-in-Empty-clause-ok
-returns-in_err-part-in-Empty-clause-ok g c = not_ok _ _ c.from_residual.ensures.0
+returns-in_err-part-in-Empty-clause-ok g c = IfOk-from_err _ _ c.from_residual.ensures.0
 
 pub returns-in_err-part-in-Empty-clause-err : goal.returns-in_err-part-in-Empty-clause-err
 returns-in_err-part-in-Empty-clause-err g c = err_is c.from_residual.result _ refl

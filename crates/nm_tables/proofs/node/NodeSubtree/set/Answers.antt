@@ -1,9 +1,10 @@
 use Rattle.std.specs.List.Sorted.{IsStrictlySortedBy}
-use Rattle.std.specs.Result.{IfOk, IsErr, OnErr}
+use Rattle.std.specs.Result.{OnErr}
 use Rattle.std.proofs.Common.{◌≡◌, ◌/◌, refl, sym, ap, subst, ◌∙◌, Result, Ok, Err}
 use Rattle.std.specs.List.{AllByRecursion}
 use Rattle.std.specs.Map.{keys_of}
 use Rattle.std.specs.Ordering.{nat_cmp}
+use Rattle.std.proofs.lemmas.Result.{IfOk-from_err}
 use Rattle.nm_types.proofs.Keys.{keys-replace}
 use Rattle.nm_tables.specs.Tree.{joined}
 use Rattle.nm_tables.specs.Nodes.{shown, IsNode}
@@ -12,10 +13,6 @@ use Rattle.nm_tables.proofs.Changed.{all-set}
 use Rattle.nm_tables.proofs.Nodes as node
 use Rattle.nm_tables.proofs.Parts.{found_at, written_at, absent_at, inserted_at}
 use Rattle.nm_tables.proofs.node.NodeSubtree.set.Goals as goal
-
-not_ok : {T E : Type 0} (r : Result T E) (P : T → Type 0) → IsErr r → IfOk r P
-not_ok (Ok x) P e = absurd (cc)
-not_ok (Err x) P e = tt
 
 err_is : {T E : Type 0} (r : Result T E) (P : Type 0) → P → OnErr r P
 err_is (Ok x) P p = tt
@@ -87,7 +84,7 @@ set-requires-clause-kept g c =
     (node.found g.T.Subtree.slots g.T.Subtree.number g.T.Subtree.whole g.T.Subtree.is_in g.met.T.Subtree.parted g.met.T.Subtree.upwards parts c.requires.kept (g.T.Subtree.number c.args.block) c.index_mut.result.now.1 at).0
 
 pub returns-in_err-part-in-Err-clause-ok : goal.returns-in_err-part-in-Err-clause-ok
-returns-in_err-part-in-Err-clause-ok g c = not_ok _ _ c.from_residual.ensures.0
+returns-in_err-part-in-Err-clause-ok g c = IfOk-from_err _ _ c.from_residual.ensures.0
 
 pub returns-in_err-part-in-Err-clause-err : goal.returns-in_err-part-in-Err-clause-err
 returns-in_err-part-in-Err-clause-err g c = err_is c.from_residual.result _ refl
@@ -99,4 +96,4 @@ pub returns-in_err-part-in-Err-clause-inside : goal.returns-in_err-part-in-Err-c
 returns-in_err-part-in-Err-clause-inside g c i all own = all
 
 pub returns-in_err-insert-in-Err-clause-ok : goal.returns-in_err-insert-in-Err-clause-ok
-returns-in_err-insert-in-Err-clause-ok g c = not_ok _ _ c.from_residual-in_err-insert-in-Err.ensures.0
+returns-in_err-insert-in-Err-clause-ok g c = IfOk-from_err _ _ c.from_residual-in_err-insert-in-Err.ensures.0
