@@ -1,7 +1,7 @@
 -- What a machine's frames keep where one part of them changes.
-use Rattle.std.proofs.Common.{◌≡◌, ℕ, ◌+◌, ◌<◌, ◌≤◌, List, length, sym, ap, subst, ◌∙◌, arith, length-set}
+use Rattle.std.proofs.Common.{◌≡◌, ℕ, ◌<◌, List, length, sym, ap, subst, ◌∙◌, arith, length-set}
 use Rattle.std.specs.Prelude.{Some, slice_set}
-use Rattle.nm_types.specs.Layout.{Layout, node_count, frame_count}
+use Rattle.nm_types.specs.Layout.{node_count, frame_count}
 use Rattle.nm_frames.specs.Store.{Store, IsHome}
 use Rattle.nm_nodes.specs.Pool.{Pool}
 use Rattle.nm_engine.specs.Frames.{FramesView, HasAllFrames, CanFree, pool_of}

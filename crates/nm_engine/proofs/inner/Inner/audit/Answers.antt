@@ -1,4 +1,4 @@
-use Rattle.std.proofs.Common.{◌≡◌, true, [], ap, subst, ◌∙◌}
+use Rattle.std.proofs.Common.{◌≡◌, [], ap, subst, ◌∙◌}
 use Rattle.std.proofs.lemmas.Result.{IfOk-from_err}
 use Rattle.nm_engine.specs.MidRun.{MidRun}
 use Rattle.nm_engine.specs.Audited.{audited, is_audited, numbered}
@@ -26,10 +26,10 @@ pub returns-in_err-places-clause-told : goal.returns-in_err-places-clause-told
 returns-in_err-places-clause-told g c = IfOk-from_err c.from_residual.result _ c.from_residual.ensures.0
 
 pub returns-in_err-places-clause-sound : goal.returns-in_err-places-clause-sound
-returns-in_err-places-clause-sound g c none = IfOk-from_err c.from_residual.result (λ b. b ≡ true) c.from_residual.ensures.0
+returns-in_err-places-clause-sound g c none = IfOk-from_err c.from_residual.result _ c.from_residual.ensures.0
 
 pub returns-in_err-once-clause-told : goal.returns-in_err-once-clause-told
-returns-in_err-once-clause-told g c = IfOk-from_err c.from_residual-in_err-once.result (λ b. b ≡ audited c.args.self.now.state) c.from_residual-in_err-once.ensures.0
+returns-in_err-once-clause-told g c = IfOk-from_err c.from_residual-in_err-once.result _ c.from_residual-in_err-once.ensures.0
 
 pub returns-in_err-once-clause-sound : goal.returns-in_err-once-clause-sound
-returns-in_err-once-clause-sound g c none = IfOk-from_err c.from_residual-in_err-once.result (λ b. b ≡ true) c.from_residual-in_err-once.ensures.0
+returns-in_err-once-clause-sound g c none = IfOk-from_err c.from_residual-in_err-once.result _ c.from_residual-in_err-once.ensures.0
