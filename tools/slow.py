@@ -1,7 +1,8 @@
 #!/usr/bin/env python3
 """Tells which functions of a crate take longest to prove: seconds for each, the dearest first, and how many of them are the
-borrow checker's part, which grows faster than the function. `tools/slow.py CRATE` checks the crate from nothing with one job,
-`--test` its tests as well. The libraries that it stands on have to be built (`rt lib` in their folders, or `./build`).
+borrow checker's part, which grows faster than the function, and the search for what no answer says. `tools/slow.py CRATE` checks
+the crate from nothing with one job, `--test` its tests as well. The libraries that it stands on have to be built (`rt lib` in
+their folders, or `./build`).
 
 A check writes a file for each module once it is done, so the time between two of them is what the second took."""
 import argparse
@@ -56,7 +57,7 @@ def main():
     words.add_argument("--test", action="store_true", help="with the crate's tests")
     words.add_argument("--most", type=int, default=20, metavar="N", help="how many functions are told (20)")
     given = words.parse_args()
-    whole, borrows = collections.Counter(), collections.Counter()
+    whole, borrows, searches = collections.Counter(), collections.Counter(), collections.Counter()
     with tempfile.TemporaryDirectory() as kept:
         folder = os.path.join(ROOT, "crates", given.crate)
         ran = subprocess.run(check_words(given.crate, given.test, kept), cwd=folder, capture_output=True, text=True)
@@ -64,10 +65,11 @@ def main():
             function = re.sub(PARTS, "", name)
             whole[function] += seconds
             borrows[function] += seconds if ".Lts" in name else 0
-    print("seconds  borrows  function")
+            searches[function] += seconds if name.endswith(".Proof.decls") else 0
+    print("seconds  borrows   search  function")
     for function, seconds in whole.most_common(given.most):
-        print("%7.1f  %7.1f  %s" % (seconds, borrows[function], function))
-    print("%7.1f  %7.1f  all" % (sum(whole.values()), sum(borrows.values())))
+        print("%7.1f  %7.1f  %7.1f  %s" % (seconds, borrows[function], searches[function], function))
+    print("%7.1f  %7.1f  %7.1f  all" % (sum(whole.values()), sum(borrows.values()), sum(searches.values())))
     if ran.returncode != 0:
         print((ran.stdout + ran.stderr)[-2000:], file=sys.stderr)
     return ran.returncode

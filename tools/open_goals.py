@@ -1,0 +1,80 @@
+#!/usr/bin/env python3
+"""Tells which goals the edits of a crate leave open where no file of proofs/ answers them. The prover refuses an edit at once
+where the goal that it breaks has an answer, and searches to its limits twice where it has none (docs/PROVING.md).
+
+tools/open_goals.py CRATE [EDIT ..] applies the crate's edits of must-fail/ together, or those that are named, on a copy, as far
+as each still finds its text, and checks that. What calls a function that is not proved is not looked at: name its edits alone."""
+import glob
+import os
+import re
+import shutil
+import subprocess
+import sys
+import tempfile
+
+ROOT = os.path.dirname(os.path.dirname(os.path.abspath(__file__)))
+OPEN = re.compile(r"note: (src/\S+?:\d+):\d+: it is not proved .*\(`([^`]+)`\)")
+REFUSED = re.compile(r"(?:\./)?(proofs/\S+?:\d+):\d+: error: `([^`]+)`")
+WAITS = re.compile(r"fn (\S+): no proof: it calls (.*)")
+
+
+def pairs_of(path):
+    """The changes that an edit makes: a file, a text in it, and what is to stand there."""
+    file = old = None
+    with open(path, encoding="utf-8") as edit:
+        for line in edit.read().split("\n"):
+            if line.startswith("file: "):
+                file = line[len("file: "):].strip()
+            elif line.startswith("old: "):
+                old = line[len("old: "):]
+            elif line.startswith("new:"):
+                yield file, old, line[len("new:"):].removeprefix(" ")
+
+
+def apply(path, folder):
+    """Applies an edit to the crate in a folder, and says whether each of its texts stood there once."""
+    texts = {}
+    for file, old, new in pairs_of(path):
+        if file not in texts:
+            with open(os.path.join(folder, file), encoding="utf-8") as source:
+                texts[file] = source.read()
+        if texts[file].count(old) != 1:
+            return False
+        texts[file] = texts[file].replace(old, new)
+    for file, text in texts.items():
+        with open(os.path.join(folder, file), "w", encoding="utf-8") as source:
+            source.write(text)
+    return True
+
+
+def checked(crate, edits):
+    """What a check of a copy of the crate says, with these edits."""
+    with tempfile.TemporaryDirectory() as room:
+        shutil.copytree(os.path.join(ROOT, "crates"), os.path.join(room, "crates"), ignore=shutil.ignore_patterns("out", "must-fail"))
+        for name in ("crates.txt", "HANDLES"):
+            shutil.copy(os.path.join(ROOT, name), room)
+        folder = os.path.join(room, "crates", crate)
+        for edit in edits:
+            if not apply(edit, folder):
+                print("left out, since another edit changes its text: %s" % os.path.basename(edit))
+        ran = subprocess.run(["rt", "check"], cwd=folder, capture_output=True, text=True, errors="replace")
+        return (ran.stdout + ran.stderr).split("\n")
+
+
+def main():
+    if not sys.argv[1:]:
+        sys.exit("tools/open_goals.py: the name of a crate is wanted")
+    crate, names = sys.argv[1], sys.argv[2:]
+    edits = sorted(glob.glob(os.path.join(ROOT, "crates", crate, "must-fail", "*.edit")))
+    chosen = [edit for edit in edits if not names or os.path.basename(edit)[: -len(".edit")] in names]
+    if not chosen:
+        sys.exit("tools/open_goals.py: no such edit of %s" % crate)
+    for line in checked(crate, chosen):
+        for what, form in (("open", OPEN), ("refused by an answer", REFUSED), ("not looked at", WAITS)):
+            found = form.match(line)
+            if found:
+                print("%s: %s %s" % (what, found[1], found[2]))
+
+
+if __name__ == "__main__":
+    main()
