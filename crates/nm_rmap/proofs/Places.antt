@@ -1,5 +1,5 @@
 -- What both lists have at the place of one frame, as it is read and written.
-use Rattle.std.proofs.Common.{◌≡◌, ℕ, ◌<◌, ◌+◌, cond, List, length, get_or, [], sym, ap, ◌∙◌, arith}
+use Rattle.std.proofs.Common.{◌≡◌, ℕ, ◌<◌, ◌+◌, cond, List, length, get_or, [], sym, ap, subst, ◌∙◌, arith}
 use Rattle.std.proofs.Math.ListN.{set, length-set}
 use Rattle.std.specs.Prelude.{nat_lt}
 use Rattle.std.proofs.lemmas.Bool.{lt-ltb}
@@ -75,3 +75,14 @@ module _ (pins : List ℕ) (i now : ℕ) (i_in : i < length pins) (value : now �
   -- so one more fits
   pub few_pinned : now ≡ 0 → pinned_count pins < length pins
   few_pinned e = omega (arith, first_pin 1 e (omega arith), count_by-le-length (nat_lt 0) (set pins i 1), length-set pins i 1)
+
+-- ---- pins that were read, and written back as they were
+
+module _ (mappings : List (List Mapper)) (pins : List ℕ) (m : Mappers) (is : both mappings pins ≡ m) (frame i : ℕ) (at : i ≡ frame) (frame_in : frame < length m.mappings)
+    (as_many : length pins ≡ length mappings) where
+  pub pins_of : (len : ℕ) → len ≡ length pins → i < len
+  pins_of len told = subst (λ (n : ℕ). i < n) (sym told) (pins_in mappings pins m is frame i at frame_in as_many)
+
+  pub as_before : (now count : ℕ) → now ≡ get_or pins i now → count ≡ pinned_count pins
+      → (length (set pins i now) ≡ length mappings) × (count ≡ pinned_count (set pins i now))
+  as_before now count value counts = (length-set pins i now ∙ as_many, counts ∙ sym (same_count pins i now (pins_in mappings pins m is frame i at frame_in as_many) value))

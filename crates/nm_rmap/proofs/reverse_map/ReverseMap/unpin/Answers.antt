@@ -1,6 +1,6 @@
 use Rattle.std.proofs.Common.{◌≡◌, ℕ, ◌+◌, ◌-◌, ◌<◌, ◌≤◌, refl, sym, subst, ap, ◌∙◌, arith}
 use Rattle.std.proofs.Math.ListN.{length-set}
-use Rattle.nm_rmap.proofs.Places.{pins_in, reads_pins, same_pins, writes_pins, last_pin, other_pin, same_count}
+use Rattle.nm_rmap.proofs.Places.{pins_in, pins_of, as_before, reads_pins, same_pins, writes_pins, last_pin, other_pin}
 use Rattle.nm_rmap.proofs.reverse_map.ReverseMap.unpin.Goals as goal
 
 not_none : (n : ℕ) → (n ≡ 0 → ⊥) → 0 < n
@@ -16,17 +16,10 @@ has_one : (n count now : ℕ) → n ≡ count → now + 1 ≡ count → 1 ≤ n
 has_one n count now is e = omega arith
 
 pub index_mut-pins-requires : goal.index_mut-pins-requires
-index_mut-pins-requires g c =
-    let within = pins_in c.self.inside.mappings.items c.self.inside.pins.items c.args.self.now c.self.view_is c.args.frame c.index.result c.index.ensures c.requires c.self.invariant.0 in
-    subst (λ (n : ℕ). c.index.result < n) (sym c.self.inside.pins.ok.0) within
+index_mut-pins-requires g c = pins_of _ _ _ c.self.view_is _ _ c.index.ensures c.requires c.self.invariant.0 _ c.self.inside.pins.ok.0
 
 pub invariant_of-self : goal.invariant_of-self
-invariant_of-self g c =
-    let pins = c.self.inside.pins.items in
-    let i = c.index.result in
-    let now = c.index_mut-pins.result.now in
-    let within = pins_in c.self.inside.mappings.items pins c.args.self.now c.self.view_is c.args.frame i c.index.ensures c.requires c.self.invariant.0 in
-    (length-set pins i now ∙ c.self.invariant.0, c.self.invariant.1 ∙ sym (same_count pins i now within c.index_mut-pins.ensures.value))
+invariant_of-self g c = as_before _ _ _ c.self.view_is _ _ c.index.ensures c.requires c.self.invariant.0 _ _ c.index_mut-pins.ensures.value c.self.invariant.1
 
 pub returns-then-pins-eq0 : goal.returns-then-pins-eq0
 returns-then-pins-eq0 g c =
