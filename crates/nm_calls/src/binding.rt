@@ -34,7 +34,7 @@ const MPOL_INTERLEAVE: u32 = 3;
 const MPOL_LOCAL: u32 = 4;
 
 /// A range of page numbers of a process, and the policy that it is to have.
-#[derive(Clone, Copy, Debug, PartialEq, Eq)]
+#[derive(Clone, Copy)]
 pub(crate) struct Binding {
     /// The process.
     pub(crate) pid: Pid,
@@ -86,7 +86,7 @@ fn fits(mode: u32, nodes: NodeMask) -> bool
 }
 
 /// What a caller asks for with a mode, a set of nodes and flags.
-#[derive(Clone, Copy, Debug)]
+#[derive(Clone, Copy)]
 pub(crate) struct Asked {
     /// The policy, with the nodes that are kept: those that are online and that the caller may use.
     pub(crate) policy: Policy,

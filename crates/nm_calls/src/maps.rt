@@ -90,7 +90,7 @@ fn push_policy<A: Allocator>(line: &mut String<A>, policy: Policy) -> Result<(),
 }
 
 /// What is counted of the pages that a process sees in an area.
-#[derive(Clone, Copy, Debug)]
+#[derive(Clone, Copy)]
 struct Tally {
     /// How many there are.
     pages: u64,

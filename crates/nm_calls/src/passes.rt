@@ -24,7 +24,7 @@ use std::sync::Wait;
 use std::thread::Threads;
 
 /// What came of a batch.
-#[derive(Debug, Drop)]
+#[derive(Drop)]
 pub(crate) struct Made<A: Allocator + Copy> {
     /// How many runs it had.
     pub(crate) runs: usize,
@@ -95,7 +95,7 @@ fn all_to<A: Allocator + Copy>(
 }
 
 /// What came of a pass.
-#[derive(Debug, Drop)]
+#[derive(Drop)]
 struct Pass<A: Allocator + Copy> {
     /// How many runs it had.
     runs: usize,

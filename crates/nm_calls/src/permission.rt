@@ -11,7 +11,7 @@ use nm_types::{Errno, MoveFlags, NodeMask, Pid};
 use std::alloc::Allocator;
 
 /// What a caller may do with the pages of a process.
-#[derive(Clone, Copy, Debug)]
+#[derive(Clone, Copy)]
 pub(crate) struct Permit {
     /// The process.
     pub(crate) pid: Pid,

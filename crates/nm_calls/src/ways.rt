@@ -26,7 +26,7 @@ use std::sync::Wait;
 use std::thread::Threads;
 
 /// How pages move.
-#[derive(Debug, Drop)]
+#[derive(Drop)]
 pub(crate) enum Way<A: Allocator + Copy> {
     /// All go to the first of these nodes that has a free frame: a pass for each node.
     Passes {
