@@ -6,7 +6,7 @@ ghost use Rattle.nm_trace.specs.declared.step_error.StepError.TheVariants.{Memor
 use std::alloc::{AllocError, AllocFailed};
 
 /// Why there is no step.
-#[derive(Clone, Copy, Debug, PartialEq, Eq)]
+#[derive(Clone, Copy)]
 pub enum StepError {
     /// The value does not have the form of a step.
     Bad,
