@@ -46,10 +46,15 @@ fn put_lines(text: &mut String, lines: &[String<Heap<'_>>]) -> Result<(), AllocE
     Ok(())
 }
 
+/// Puts bytes.
+fn put_bytes(text: &mut String, bytes: &[u8]) -> Result<(), AllocError> {
+    write!(text, "{bytes:?} ")
+}
+
 /// Appends the answer to an access.
 fn put_access(text: &mut String, answer: &AccessAnswer<Heap<'_>>) -> Result<(), AllocError> {
     match answer {
-        AccessAnswer::Bytes(bytes) => write!(text, "{:?} ", bytes.as_slice()),
+        AccessAnswer::Bytes(bytes) => put_bytes(text, bytes.as_slice()),
         AccessAnswer::Done => text.push_str("done "),
         AccessAnswer::Held => text.push_str("held "),
         AccessAnswer::Refused(errno) => write!(text, "{errno} "),
@@ -70,15 +75,23 @@ fn put_moved(text: &mut String, moved: &Moved<Heap<'_>>) -> Result<(), AllocErro
     put_accesses(text, moved.answers.as_slice())
 }
 
+/// Puts a number.
+fn put_number(text: &mut String, number: u64) -> Result<(), AllocError> {
+    write!(text, "{number} ")
+}
+
 /// Appends the answer of a call.
 fn put_answer(text: &mut String, answer: &Answer<Heap<'_>>) -> Result<(), AllocError> {
     match answer {
-        Answer::Bytes(bytes) => write!(text, "{:?} ", bytes.as_slice()),
+        Answer::Bytes(bytes) => put_bytes(text, bytes.as_slice()),
         Answer::Statuses(moved) => put_moved(text, moved),
-        Answer::Failed(failed) => write!(text, "{failed} "),
+        Answer::Failed(failed) => put_number(text, *failed as u64),
         Answer::Frames(frames) => put_frames(text, frames.as_slice()),
         Answer::Entries(entries) => put_entries(text, entries.as_slice()),
-        Answer::Totals(totals) => write!(text, "{} {} ", totals.moved, totals.failed),
+        Answer::Totals(totals) => {
+            put_number(text, totals.moved)?;
+            put_number(text, totals.failed)
+        }
         Answer::Lines(lines) => put_lines(text, lines.as_slice()),
         Answer::Done | Answer::Segment(_) => Ok(()),
     }
