@@ -1,16 +1,73 @@
-use Rattle.std.proofs.Common.{◌≡◌, ℕ, ◌∙◌, refl, sym, ap, subst, Some, None, IsSome}
-use Rattle.std.specs.Prelude.{Option}
+use Rattle.std.proofs.Common.{◌≡◌, ℕ, ◌∙◌, refl, sym, ap, subst, Some, None, IsSome, Bool, true, false}
+use Rattle.std.proofs.lemmas.Bool.{false≢true}
+use Rattle.std.specs.Prelude.{Option, Result, Ok, Err, if◌then◌else◌}
+use Rattle.std.specs.Result.{IsErr, IsErrAnd}
+use Rattle.nm_types.specs.declared.errno.Errno.{Errno}
+use Rattle.nm_types.specs.declared.machine_error.MachineError.{MachineError}
+use Rattle.nm_types.specs.declared.machine_error.MachineError.TheVariants as error
+use Rattle.nm_types.specs.declared.page.Page.{Page}
+use Rattle.nm_types.specs.declared.sight.Sight.{Sight}
+use Rattle.nm_types.specs.State.{State, Process, Placed}
+use Rattle.nm_areas.specs.Lines.{is_shared}
+use Rattle.nm_engine.specs.declared.inner.resolved.Resolved.{Resolved}
+use Rattle.nm_engine.specs.Does.{Touches}
+use Rattle.nm_engine.specs.Touch.{shown_at, filled, joined, with_sight, touched_entry}
 use Rattle.nm_types.specs.declared.sight.Sight.TheVariants.{Sees, ZeroPage}
 use Rattle.nm_types.specs.Map.{get, page_cmp}
 use Rattle.std.specs.Ordering.{nat_cmp}
 use Rattle.nm_runs.specs.Seen.{sight_in, sight_at}
 use Rattle.nm_engine.specs.Shown.{shown, shown_by}
-use Rattle.nm_engine.specs.MidRun.{MidRun, IsKept, IsResolved}
-use Rattle.nm_engine.specs.Seeing.{frame_of}
-use Rattle.nm_engine.proofs.Together.Touches.{inside, not_none, none_sees, seen_kept, sees_now, private_here, private_unplaced_here, zero_unplaced}
+use Rattle.nm_engine.specs.MidRun.{MidRun, IsKept, IsResolved, spot_at, with_state}
+use Rattle.nm_engine.specs.Seeing.{frame_of, frame_seen}
+use Rattle.nm_engine.proofs.Together.Touches.{inside, outside, not_none, none_sees, seen_kept, sees_now, private_here, private_unplaced_here, zero_unplaced}
 use Rattle.nm_engine.specs.AddressSpaces.{SpacesView, table_of, with_seen}
 use Rattle.nm_engine.specs.Shown.{paged_frames}
 use Rattle.nm_engine.proofs.inner.Inner.touch.Goals as goal
+
+-- what the process sees is what its entry says
+entry_is : (s : State) (t : Resolved) (p : Process) (a : Placed) → IsResolved s t p a → {o : Option Sight} → sight_at s t.pid t.vpn ≡ o → get nat_cmp p.sees t.vpn ≡ o
+entry_is s t p a h e = ap (λ q. sight_in q t.vpn) (sym h.known) ∙ e
+
+-- the touch of a page that the process sees already, or of the page of zeros
+entry_touched : (s : State) (t : Resolved) (p : Process) (a : Placed) (writes : Bool) (o : Option Sight) → IsResolved s t p a → sight_at s t.pid t.vpn ≡ o
+    → touched_entry s (spot_at t p a) writes (get nat_cmp p.sees t.vpn) ≡ touched_entry s (spot_at t p a) writes o
+entry_touched s t p a writes o h e = ap (touched_entry s (spot_at t p a) writes) (entry_is s t p a h e)
+
+zero_touched : (s : State) (t : Resolved) (p : Process) (a : Placed) (writes : Bool) → IsResolved s t p a → sight_at s t.pid t.vpn ≡ Some ZeroPage → {b : Bool} → writes ≡ b
+    → touched_entry s (spot_at t p a) writes (get nat_cmp p.sees t.vpn) ≡ (if b then filled s (spot_at t p a) else Ok s)
+zero_touched s t p a writes h e w = entry_touched s t p a writes (Some ZeroPage) h e ∙ ap (λ b. if b then filled s (spot_at t p a) else Ok s) w
+
+-- where it sees nothing, the page's segment decides
+shared_at : (s : State) (t : Resolved) (p : Process) (a : Placed) → IsResolved s t p a → {b : Bool} → is_shared s.segments t.page.segment ≡ b → is_shared s.segments (shown_at (spot_at t p a)).segment ≡ b
+shared_at s t p a h e = ap (λ (q : Page). is_shared s.segments q.segment) h.page ∙ e
+
+shared_touched : (s : State) (t : Resolved) (p : Process) (a : Placed) (writes : Bool) → IsResolved s t p a → sight_at s t.pid t.vpn ≡ None → is_shared s.segments t.page.segment ≡ true
+    → touched_entry s (spot_at t p a) writes (get nat_cmp p.sees t.vpn) ≡ joined s (spot_at t p a) (get page_cmp s.place t.page)
+shared_touched s t p a writes h e shared =
+    let at = spot_at t p a in
+    entry_touched s t p a writes None h e
+    ∙ ap (λ b. if b then joined s at (get page_cmp s.place (shown_at at)) else (if writes then filled s at else Ok (with_sight s at ZeroPage))) (shared_at s t p a h shared)
+    ∙ ap (λ (q : Page). joined s at (get page_cmp s.place q)) h.page
+
+private_touched : (s : State) (t : Resolved) (p : Process) (a : Placed) (writes : Bool) → IsResolved s t p a → sight_at s t.pid t.vpn ≡ None → is_shared s.segments t.page.segment ≡ false → {b : Bool} → writes ≡ b
+    → touched_entry s (spot_at t p a) writes (get nat_cmp p.sees t.vpn) ≡ (if b then filled s (spot_at t p a) else Ok (with_sight s (spot_at t p a) ZeroPage))
+private_touched s t p a writes h e private w =
+    let at = spot_at t p a in
+    entry_touched s t p a writes None h e
+    ∙ ap (λ b. if b then joined s at (get page_cmp s.place (shown_at at)) else (if writes then filled s at else Ok (with_sight s at ZeroPage))) (shared_at s t p a h private)
+    ∙ ap (λ b. if b then filled s at else Ok (with_sight s at ZeroPage)) w
+
+-- an error that is handed on
+handed_on : {T U : Type 0} (q : Result T MachineError) (r : Result U MachineError) (e : MachineError) (old new : State) {f g : Result State Errno} → q ≡ Err e → IsErr r × IsErrAnd r (λ x. x ≡ e)
+    → g ≡ f → Touches q old new f → Touches r old new g
+handed_on q (Ok v) e old new is h same t = absurd (false≢true h.0)
+handed_on {T} {U} q (Err x) e old new {f} {g} is h same t =
+    subst (λ k. Touches {T = U} (Err x) old new k) (sym same) (subst (λ z. Touches {T = U} (Err z) old new f) (sym h.1) (subst (λ z. Touches {T = T} z old new f) is t))
+
+-- no memory, and nothing changed
+kept_then : {U : Type 0} (r : Result U MachineError) (old new : State) (f : Result State Errno) → IsErr r × IsErrAnd r (λ x. x ≡ error.HostMemory) → new ≡ old → Touches r old new f
+kept_then (Ok v) old new f h same = absurd (false≢true h.0)
+kept_then {U} (Err x) old new f h same = subst (λ z. Touches {T = U} (Err z) old new f) (sym h.1) same
 
 pub fill-requires-clause-unplaced : goal.fill-requires-clause-unplaced
 fill-requires-clause-unplaced g c =
@@ -57,3 +114,101 @@ returns-in_ok-see_zero-in-None-clause-zeros g c =
     let is = c.in_ok-see_zero-in-None.ensures.ok c.requires.0 touched.known in
     let seen = sees_now c.self.inside.spaces.processes (table_of c.self.inside.spaces) (paged_frames c.self.inside.spaces c.self.inside.frames) c.self.inside.online c.self.inside.totals.moved c.self.inside.totals.failed _ c.args.t c.requires.0 c.requires.1 c.self.invariant touched ZeroPage (with_seen c.self.inside.spaces c.args.t.pid c.requires.0 c.args.t.vpn ZeroPage).processes refl in
     ap (λ (z : SpacesView). sight_in (get nat_cmp z.processes c.args.t.pid) c.args.t.vpn) is ∙ seen
+
+pub returns-in-Some-Sees-clause-touches : goal.returns-in-Some-Sees-clause-touches
+returns-in-Some-Sees-clause-touches g c p a known =
+    let s = c.args.self.now.state in
+    entry_touched s c.args.t p a c.args.writes (Some (Sees c.in-Some-Sees.page)) known
+    (outside _ _ _ _ c.self.view_is (λ z. sight_at z c.args.t.pid c.args.t.vpn ≡ Some (Sees c.in-Some-Sees.page)) (sym c.sight.ensures ∙ c.in-Some-Sees.is ∙ ap Some c.in-Some-Sees.field-0-is))
+
+pub returns-in_ok-fill-in-Some-ZeroPage-clause-touches : goal.returns-in_ok-fill-in-Some-ZeroPage-clause-touches
+returns-in_ok-fill-in-Some-ZeroPage-clause-touches g c p a known =
+    let s = c.args.self.now.state in
+    zero_touched s c.args.t p a c.args.writes known
+    (outside _ _ _ _ c.self.view_is (λ z. sight_at z c.args.t.pid c.args.t.vpn ≡ Some ZeroPage) (sym c.sight.ensures ∙ c.in-Some-ZeroPage.is ∙ ap Some c.in-Some-ZeroPage.field-0-is)) c.if-writes.true
+    ∙ c.in_ok-fill-in-Some-ZeroPage.ensures.touches p a known
+
+pub returns-else-writes-clause-touches : goal.returns-else-writes-clause-touches
+returns-else-writes-clause-touches g c p a known =
+    let s = c.args.self.now.state in
+    zero_touched s c.args.t p a c.args.writes known
+    (outside _ _ _ _ c.self.view_is (λ z. sight_at z c.args.t.pid c.args.t.vpn ≡ Some ZeroPage) (sym c.sight.ensures ∙ c.in-Some-ZeroPage.is ∙ ap Some c.in-Some-ZeroPage.field-0-is)) c.if-writes.false
+
+pub returns-in_err-fill-in-Some-ZeroPage-clause-touches : goal.returns-in_err-fill-in-Some-ZeroPage-clause-touches
+returns-in_err-fill-in-Some-ZeroPage-clause-touches g c p a known =
+    let s = c.args.self.now.state in
+    handed_on c.fill.result c.from_residual.result _ s c.fill.new.self.state c.in_err-fill-in-Some-ZeroPage.was c.from_residual.ensures
+    (zero_touched s c.args.t p a c.args.writes known
+    (outside _ _ _ _ c.self.view_is (λ z. sight_at z c.args.t.pid c.args.t.vpn ≡ Some ZeroPage) (sym c.sight.ensures ∙ c.in-Some-ZeroPage.is ∙ ap Some c.in-Some-ZeroPage.field-0-is)) c.if-writes.true)
+    (c.fill.ensures.touches p a known)
+
+pub returns-in_ok-join-in-None-clause-touches : goal.returns-in_ok-join-in-None-clause-touches
+returns-in_ok-join-in-None-clause-touches g c p a known =
+    let s = c.args.self.now.state in
+    shared_touched s c.args.t p a c.args.writes known
+    (outside _ _ _ _ c.self.view_is (λ z. sight_at z c.args.t.pid c.args.t.vpn ≡ None) (sym c.sight.ensures ∙ c.in-None.is))
+    (outside _ _ _ _ c.self.view_is (λ z. is_shared z.segments c.args.t.page.segment ≡ true) (sym c.is_shared.ensures ∙ c.if-is_shared.true))
+    ∙ c.in_ok-join-in-None.ensures.touches p a known
+
+pub returns-in_err-join-in-None-clause-touches : goal.returns-in_err-join-in-None-clause-touches
+returns-in_err-join-in-None-clause-touches g c p a known =
+    let s = c.args.self.now.state in
+    handed_on c.join.result c.from_residual-in_err-join-in-None.result _ s c.join.new.self.state c.in_err-join-in-None.was c.from_residual-in_err-join-in-None.ensures
+    (shared_touched s c.args.t p a c.args.writes known
+    (outside _ _ _ _ c.self.view_is (λ z. sight_at z c.args.t.pid c.args.t.vpn ≡ None) (sym c.sight.ensures ∙ c.in-None.is))
+    (outside _ _ _ _ c.self.view_is (λ z. is_shared z.segments c.args.t.page.segment ≡ true) (sym c.is_shared.ensures ∙ c.if-is_shared.true)))
+    (c.join.ensures.touches p a known)
+
+pub returns-in_ok-fill-in-None-clause-touches : goal.returns-in_ok-fill-in-None-clause-touches
+returns-in_ok-fill-in-None-clause-touches g c p a known =
+    let s = c.args.self.now.state in
+    private_touched s c.args.t p a c.args.writes known
+    (outside _ _ _ _ c.self.view_is (λ z. sight_at z c.args.t.pid c.args.t.vpn ≡ None) (sym c.sight.ensures ∙ c.in-None.is))
+    (outside _ _ _ _ c.self.view_is (λ z. is_shared z.segments c.args.t.page.segment ≡ false) (sym c.is_shared.ensures ∙ c.if-is_shared.false)) c.if-writes-2.true
+    ∙ c.in_ok-fill-in-None.ensures.touches p a known
+
+pub returns-in_err-fill-in-None-clause-touches : goal.returns-in_err-fill-in-None-clause-touches
+returns-in_err-fill-in-None-clause-touches g c p a known =
+    let s = c.args.self.now.state in
+    handed_on c.fill-then-writes-2.result c.from_residual-in_err-fill-in-None.result _ s c.fill-then-writes-2.new.self.state c.in_err-fill-in-None.was c.from_residual-in_err-fill-in-None.ensures
+    (private_touched s c.args.t p a c.args.writes known
+    (outside _ _ _ _ c.self.view_is (λ z. sight_at z c.args.t.pid c.args.t.vpn ≡ None) (sym c.sight.ensures ∙ c.in-None.is))
+    (outside _ _ _ _ c.self.view_is (λ z. is_shared z.segments c.args.t.page.segment ≡ false) (sym c.is_shared.ensures ∙ c.if-is_shared.false)) c.if-writes-2.true)
+    (c.fill-then-writes-2.ensures.touches p a known)
+
+pub returns-in_ok-see_zero-in-None-clause-touches : goal.returns-in_ok-see_zero-in-None-clause-touches
+returns-in_ok-see_zero-in-None-clause-touches g c p a known =
+    let i = c.self.inside in
+    let touched = inside _ _ _ _ c.self.view_is (λ s. IsResolved s c.args.t p a) known in
+    private_touched c.args.self.now.state c.args.t p a c.args.writes known
+    (outside _ _ _ _ c.self.view_is (λ z. sight_at z c.args.t.pid c.args.t.vpn ≡ None) (sym c.sight.ensures ∙ c.in-None.is))
+    (outside _ _ _ _ c.self.view_is (λ z. is_shared z.segments c.args.t.page.segment ≡ false) (sym c.is_shared.ensures ∙ c.if-is_shared.false)) c.if-writes-2.false
+    ∙ ap (λ (y : MidRun). Ok (with_sight y.state (spot_at c.args.t p a) ZeroPage)) (sym c.self.view_is)
+    ∙ ap (λ (z : SpacesView). Ok (shown_by z i.frames i.online i.totals.moved i.totals.failed)) (sym (c.in_ok-see_zero-in-None.ensures.ok p touched.known))
+
+pub returns-in_err-see_zero-in-None-clause-touches : goal.returns-in_err-see_zero-in-None-clause-touches
+returns-in_err-see_zero-in-None-clause-touches g c p a known =
+    let i = c.self.inside in
+    kept_then c.from_residual-in_err-see_zero-in-None.result c.args.self.now.state _ _ c.from_residual-in_err-see_zero-in-None.ensures
+    (ap (λ (z : SpacesView). shown_by z i.frames i.online i.totals.moved i.totals.failed) c.in_err-see_zero-in-None.ensures.err ∙ ap (λ (y : MidRun). y.state) c.self.view_is)
+
+pub returns-in-Some-Sees-clause-frame : goal.returns-in-Some-Sees-clause-frame
+returns-in-Some-Sees-clause-frame g c =
+    c.place.ensures.place
+    ∙ ap (frame_of c.self.inside.spaces.place) (sym (sym c.sight.ensures ∙ c.in-Some-Sees.is ∙ ap Some c.in-Some-Sees.field-0-is))
+    ∙ ap (λ (y : MidRun). frame_seen y.state c.args.t.pid c.args.t.vpn) c.self.view_is
+
+pub returns-else-writes-clause-frame : goal.returns-else-writes-clause-frame
+returns-else-writes-clause-frame g c =
+    ap (frame_of c.self.inside.spaces.place) (sym (sym c.sight.ensures ∙ c.in-Some-ZeroPage.is ∙ ap Some c.in-Some-ZeroPage.field-0-is))
+    ∙ ap (λ (y : MidRun). frame_seen y.state c.args.t.pid c.args.t.vpn) c.self.view_is
+
+pub returns-in_err-see_zero-in-None-clause-same : goal.returns-in_err-see_zero-in-None-clause-same
+returns-in_err-see_zero-in-None-clause-same g c =
+    let i = c.self.inside in
+    ap (λ (y : MidRun). with_state y (shown_by c.see_zero.new.self i.frames i.online i.totals.moved i.totals.failed)) c.self.view_is
+
+pub returns-in_ok-see_zero-in-None-clause-same : goal.returns-in_ok-see_zero-in-None-clause-same
+returns-in_ok-see_zero-in-None-clause-same g c =
+    let i = c.self.inside in
+    ap (λ (y : MidRun). with_state y (shown_by c.see_zero.new.self i.frames i.online i.totals.moved i.totals.failed)) c.self.view_is
