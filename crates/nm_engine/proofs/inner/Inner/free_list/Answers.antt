@@ -1,15 +1,12 @@
 use Rattle.std.proofs.Common.{◌≡◌, arith, ℕ, List, ap, subst, ◌∙◌}
-use Rattle.std.specs.Prelude.{Option, None, Result, Ok, Err}
-use Rattle.nm_types.specs.declared.errno.Errno.{Errno}
-use Rattle.nm_types.specs.declared.machine_error.MachineError.{MachineError}
-use Rattle.nm_types.specs.declared.machine_error.MachineError.TheVariants.{Refused, HostMemory}
-use Rattle.nm_engine.specs.Does.{AsksLast}
+use Rattle.std.specs.Prelude.{None}
 use Rattle.nm_types.specs.State.{free_list}
 use Rattle.nm_engine.specs.Refused.{list_refusal}
 use Rattle.nm_engine.specs.MidRun.{MidRun}
 use Rattle.nm_engine.proofs.Together.Kept.{seen, list_fine}
 use Rattle.nm_engine.specs.AddressSpaces.{table_of}
 use Rattle.nm_engine.specs.Shown.{paged_frames}
+use Rattle.nm_engine.proofs.inner.HandedOn.{may_ask}
 use Rattle.nm_engine.proofs.inner.Inner.free_list.Goals as goal
 
 pub returns-clause-told : goal.returns-clause-told
@@ -21,12 +18,6 @@ returns-clause-told g c =
     in
     let frames : List ℕ = c.in_ok-free_list.field-0.items in
     (fine, c.in_ok-free_list.ensures ∙ ap (λ (a : MidRun). free_list a.state c.args.node) c.self.view_is)
-
--- a call that is not refused may ask for memory
-may_ask : {T : Type 0} (r : Result T MachineError) (refusal : Option Errno) → refusal ≡ None → AsksLast r refusal
-may_ask (Ok value) refusal none = tt
-may_ask (Err (Refused e)) refusal none = tt
-may_ask (Err HostMemory) refusal none = none
 
 pub returns-in_err-free_list-clause-memory : goal.returns-in_err-free_list-clause-memory
 returns-in_err-free_list-clause-memory g c =

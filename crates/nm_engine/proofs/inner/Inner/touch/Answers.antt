@@ -1,16 +1,10 @@
 use Rattle.std.proofs.Common.{◌≡◌, ℕ, ◌∙◌, refl, sym, ap, subst, Some, None, IsSome, Bool, true, false}
-use Rattle.std.proofs.lemmas.Bool.{false≢true}
-use Rattle.std.specs.Prelude.{Option, Result, Ok, Err, if◌then◌else◌}
-use Rattle.std.specs.Result.{IsErr, IsErrAnd}
-use Rattle.nm_types.specs.declared.errno.Errno.{Errno}
-use Rattle.nm_types.specs.declared.machine_error.MachineError.{MachineError}
-use Rattle.nm_types.specs.declared.machine_error.MachineError.TheVariants as error
+use Rattle.std.specs.Prelude.{Option, Ok, if◌then◌else◌}
 use Rattle.nm_types.specs.declared.page.Page.{Page}
 use Rattle.nm_types.specs.declared.sight.Sight.{Sight}
 use Rattle.nm_types.specs.State.{State, Process, Placed}
 use Rattle.nm_areas.specs.Lines.{is_shared}
 use Rattle.nm_engine.specs.declared.inner.resolved.Resolved.{Resolved}
-use Rattle.nm_engine.specs.Does.{Touches}
 use Rattle.nm_engine.specs.Touch.{shown_at, filled, joined, with_sight, touched_entry}
 use Rattle.nm_types.specs.declared.sight.Sight.TheVariants.{Sees, ZeroPage}
 use Rattle.nm_types.specs.Map.{get, page_cmp}
@@ -22,6 +16,7 @@ use Rattle.nm_engine.specs.Seeing.{frame_of, frame_seen}
 use Rattle.nm_engine.proofs.Together.Touches.{inside, outside, not_none, none_sees, seen_kept, sees_now, private_here, private_unplaced_here, zero_unplaced}
 use Rattle.nm_engine.specs.AddressSpaces.{SpacesView, table_of, with_seen}
 use Rattle.nm_engine.specs.Shown.{paged_frames}
+use Rattle.nm_engine.proofs.inner.HandedOn.{touch_handed_on, nothing_touched}
 use Rattle.nm_engine.proofs.inner.Inner.touch.Goals as goal
 
 -- what the process sees is what its entry says
@@ -56,18 +51,6 @@ private_touched s t p a writes h e private w =
     entry_touched s t p a writes None h e
     ∙ ap (λ b. if b then joined s at (get page_cmp s.place (shown_at at)) else (if writes then filled s at else Ok (with_sight s at ZeroPage))) (shared_at s t p a h private)
     ∙ ap (λ b. if b then filled s at else Ok (with_sight s at ZeroPage)) w
-
--- an error that is handed on
-handed_on : {T U : Type 0} (q : Result T MachineError) (r : Result U MachineError) (e : MachineError) (old new : State) {f g : Result State Errno} → q ≡ Err e → IsErr r × IsErrAnd r (λ x. x ≡ e)
-    → g ≡ f → Touches q old new f → Touches r old new g
-handed_on q (Ok v) e old new is h same t = absurd (false≢true h.0)
-handed_on {T} {U} q (Err x) e old new {f} {g} is h same t =
-    subst (λ k. Touches {T = U} (Err x) old new k) (sym same) (subst (λ z. Touches {T = U} (Err z) old new f) (sym h.1) (subst (λ z. Touches {T = T} z old new f) is t))
-
--- no memory, and nothing changed
-kept_then : {U : Type 0} (r : Result U MachineError) (old new : State) (f : Result State Errno) → IsErr r × IsErrAnd r (λ x. x ≡ error.HostMemory) → new ≡ old → Touches r old new f
-kept_then (Ok v) old new f h same = absurd (false≢true h.0)
-kept_then {U} (Err x) old new f h same = subst (λ z. Touches {T = U} (Err z) old new f) (sym h.1) same
 
 pub fill-requires-clause-unplaced : goal.fill-requires-clause-unplaced
 fill-requires-clause-unplaced g c =
@@ -137,7 +120,7 @@ returns-else-writes-clause-touches g c p a known =
 pub returns-in_err-fill-in-Some-ZeroPage-clause-touches : goal.returns-in_err-fill-in-Some-ZeroPage-clause-touches
 returns-in_err-fill-in-Some-ZeroPage-clause-touches g c p a known =
     let s = c.args.self.now.state in
-    handed_on c.fill.result c.from_residual.result _ s c.fill.new.self.state c.in_err-fill-in-Some-ZeroPage.was c.from_residual.ensures
+    touch_handed_on c.fill.result c.from_residual.result _ s c.fill.new.self.state c.in_err-fill-in-Some-ZeroPage.was c.from_residual.ensures
     (zero_touched s c.args.t p a c.args.writes known
     (outside _ _ _ _ c.self.view_is (λ z. sight_at z c.args.t.pid c.args.t.vpn ≡ Some ZeroPage) (sym c.sight.ensures ∙ c.in-Some-ZeroPage.is ∙ ap Some c.in-Some-ZeroPage.field-0-is)) c.if-writes.true)
     (c.fill.ensures.touches p a known)
@@ -153,7 +136,7 @@ returns-in_ok-join-in-None-clause-touches g c p a known =
 pub returns-in_err-join-in-None-clause-touches : goal.returns-in_err-join-in-None-clause-touches
 returns-in_err-join-in-None-clause-touches g c p a known =
     let s = c.args.self.now.state in
-    handed_on c.join.result c.from_residual-in_err-join-in-None.result _ s c.join.new.self.state c.in_err-join-in-None.was c.from_residual-in_err-join-in-None.ensures
+    touch_handed_on c.join.result c.from_residual-in_err-join-in-None.result _ s c.join.new.self.state c.in_err-join-in-None.was c.from_residual-in_err-join-in-None.ensures
     (shared_touched s c.args.t p a c.args.writes known
     (outside _ _ _ _ c.self.view_is (λ z. sight_at z c.args.t.pid c.args.t.vpn ≡ None) (sym c.sight.ensures ∙ c.in-None.is))
     (outside _ _ _ _ c.self.view_is (λ z. is_shared z.segments c.args.t.page.segment ≡ true) (sym c.is_shared.ensures ∙ c.if-is_shared.true)))
@@ -170,7 +153,7 @@ returns-in_ok-fill-in-None-clause-touches g c p a known =
 pub returns-in_err-fill-in-None-clause-touches : goal.returns-in_err-fill-in-None-clause-touches
 returns-in_err-fill-in-None-clause-touches g c p a known =
     let s = c.args.self.now.state in
-    handed_on c.fill-then-writes-2.result c.from_residual-in_err-fill-in-None.result _ s c.fill-then-writes-2.new.self.state c.in_err-fill-in-None.was c.from_residual-in_err-fill-in-None.ensures
+    touch_handed_on c.fill-then-writes-2.result c.from_residual-in_err-fill-in-None.result _ s c.fill-then-writes-2.new.self.state c.in_err-fill-in-None.was c.from_residual-in_err-fill-in-None.ensures
     (private_touched s c.args.t p a c.args.writes known
     (outside _ _ _ _ c.self.view_is (λ z. sight_at z c.args.t.pid c.args.t.vpn ≡ None) (sym c.sight.ensures ∙ c.in-None.is))
     (outside _ _ _ _ c.self.view_is (λ z. is_shared z.segments c.args.t.page.segment ≡ false) (sym c.is_shared.ensures ∙ c.if-is_shared.false)) c.if-writes-2.true)
@@ -189,7 +172,7 @@ returns-in_ok-see_zero-in-None-clause-touches g c p a known =
 pub returns-in_err-see_zero-in-None-clause-touches : goal.returns-in_err-see_zero-in-None-clause-touches
 returns-in_err-see_zero-in-None-clause-touches g c p a known =
     let i = c.self.inside in
-    kept_then c.from_residual-in_err-see_zero-in-None.result c.args.self.now.state _ _ c.from_residual-in_err-see_zero-in-None.ensures
+    nothing_touched c.from_residual-in_err-see_zero-in-None.result c.args.self.now.state _ _ c.from_residual-in_err-see_zero-in-None.ensures
     (ap (λ (z : SpacesView). shown_by z i.frames i.online i.totals.moved i.totals.failed) c.in_err-see_zero-in-None.ensures.err ∙ ap (λ (y : MidRun). y.state) c.self.view_is)
 
 pub returns-in-Some-Sees-clause-frame : goal.returns-in-Some-Sees-clause-frame

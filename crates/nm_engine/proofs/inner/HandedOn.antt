@@ -1,0 +1,32 @@
+-- What a call says of an error that it hands on.
+use Rattle.std.proofs.Common.{◌≡◌, true, false, sym, subst}
+use Rattle.std.proofs.lemmas.Bool.{false≢true}
+use Rattle.std.specs.Prelude.{Option, None, Result, Ok, Err}
+use Rattle.std.specs.Result.{IsErr, IsErrAnd}
+use Rattle.nm_types.specs.declared.errno.Errno.{Errno}
+use Rattle.nm_types.specs.declared.machine_error.MachineError.{MachineError}
+use Rattle.nm_types.specs.declared.machine_error.MachineError.TheVariants as error
+use Rattle.nm_types.specs.State.{State}
+use Rattle.nm_engine.specs.Does.{AsksLast, Makes, Touches}
+
+-- a call that is not refused may ask for memory
+pub may_ask : {T : Type 0} (r : Result T MachineError) (refusal : Option Errno) → refusal ≡ None → AsksLast r refusal
+may_ask (Ok value) refusal none = tt
+may_ask (Err (error.Refused e)) refusal none = tt
+may_ask (Err error.HostMemory) refusal none = none
+
+-- no memory, and nothing changed
+pub nothing_made : {T S : Type 0} (r : Result T MachineError) (old new : S) (refusal : Option Errno) (after : S) → IsErr r × IsErrAnd r (λ x. x ≡ error.HostMemory) → new ≡ old → Makes r old new refusal after
+nothing_made (Ok v) old new refusal after h same = absurd (false≢true h.0)
+nothing_made {T} (Err x) old new refusal after h same = subst (λ z. Makes {T = T} (Err z) old new refusal after) (sym h.1) same
+
+pub nothing_touched : {T : Type 0} (r : Result T MachineError) (old new : State) (f : Result State Errno) → IsErr r × IsErrAnd r (λ x. x ≡ error.HostMemory) → new ≡ old → Touches r old new f
+nothing_touched (Ok v) old new f h same = absurd (false≢true h.0)
+nothing_touched {T} (Err x) old new f h same = subst (λ z. Touches {T = T} (Err z) old new f) (sym h.1) same
+
+-- what a touch within the touch says, where both are defined to be the same
+pub touch_handed_on : {T U : Type 0} (q : Result T MachineError) (r : Result U MachineError) (e : MachineError) (old new : State) {f g : Result State Errno} → q ≡ Err e → IsErr r × IsErrAnd r (λ x. x ≡ e)
+    → g ≡ f → Touches q old new f → Touches r old new g
+touch_handed_on q (Ok v) e old new is h same t = absurd (false≢true h.0)
+touch_handed_on {T} {U} q (Err x) e old new {f} {g} is h same t =
+    subst (λ k. Touches {T = U} (Err x) old new k) (sym same) (subst (λ z. Touches {T = U} (Err z) old new f) (sym h.1) (subst (λ z. Touches {T = T} z old new f) is t))
