@@ -5,12 +5,14 @@ use Rattle.nm_types.specs.declared.page.Page.{Page}
 use Rattle.nm_types.specs.declared.sight.Sight.TheVariants.{Sees}
 use Rattle.nm_types.specs.Map.{get, page_cmp}
 use Rattle.nm_runs.specs.Seen.{sight_in, sight_at}
+use Rattle.nm_engine.specs.Does.{Touches}
 use Rattle.nm_engine.specs.Touch.{joined, with_sight}
 use Rattle.nm_engine.specs.AddressSpaces.{SpacesView, table_of, with_seen}
 use Rattle.nm_engine.specs.Shown.{shown_by, paged_frames}
-use Rattle.nm_engine.specs.MidRun.{MidRun, IsKept, IsResolved, spot_at}
+use Rattle.nm_engine.specs.MidRun.{MidRun, IsKept, IsResolved, spot_at, with_state}
 use Rattle.nm_engine.specs.Seeing.{frame_of}
-use Rattle.nm_engine.proofs.Together.Touches.{inside, none_sees, seen_kept, sees_now}
+use Rattle.nm_engine.proofs.Together.Touches.{inside, outside, none_sees, seen_kept, sees_now}
+use Rattle.nm_engine.proofs.inner.HandedOn.{nothing_touched}
 use Rattle.nm_engine.proofs.inner.Inner.join.Goals as goal
 
 pub invariant_of-self-2 : goal.invariant_of-self-2
@@ -38,3 +40,38 @@ returns-clause-frame g c =
     ap (λ (z : SpacesView). frame_of z.place (sight_in (get nat_cmp z.processes c.args.t.pid) c.args.t.vpn)) is
     ∙ ap (frame_of c.self.inside.spaces.place) (sees_now c.self.inside.spaces.processes (table_of c.self.inside.spaces) (paged_frames c.self.inside.spaces c.self.inside.frames) c.self.inside.online c.self.inside.totals.moved c.self.inside.totals.failed _ c.args.t c.requires.touched.0 c.requires.touched.1 c.self.invariant touched (Sees c.args.t.page) (with_seen c.self.inside.spaces c.args.t.pid c.requires.touched.0 c.args.t.vpn (Sees c.args.t.page)).processes refl)
     ∙ sym c.place.ensures.place ∙ c.in-Some.is
+
+-- the page has no frame yet
+pub returns-in_default-clause-touches : goal.returns-in_default-clause-touches
+returns-in_default-clause-touches g c p a known =
+    let s = c.args.self.now.state in
+    let none : get page_cmp s.place c.args.t.page ≡ None = outside _ _ _ _ c.self.view_is (λ z. get page_cmp z.place c.args.t.page ≡ None) (sym c.place.ensures.place ∙ c.in_default.is) in
+    subst (λ f. Touches c.fill.result s c.fill.new.self.state f) (sym (ap (joined s (spot_at c.args.t p a)) none)) (c.fill.ensures.touches p a known)
+
+pub returns-in_default-clause-frame : goal.returns-in_default-clause-frame
+returns-in_default-clause-frame g c = c.fill.ensures.frame
+
+pub returns-in_default-clause-same : goal.returns-in_default-clause-same
+returns-in_default-clause-same g c = c.fill.ensures.same
+
+-- the table finds no memory
+pub invariant_of-self : goal.invariant_of-self
+invariant_of-self g c =
+    let i = c.self.inside in
+    subst (λ (z : SpacesView). IsKept (shown_by z i.frames i.online i.totals.moved i.totals.failed) i.frames.vacated z.frames) (sym c.in_err-see.ensures.err) c.self.invariant
+
+pub returns-in_err-see-clause-touches : goal.returns-in_err-see-clause-touches
+returns-in_err-see-clause-touches g c p a known =
+    let i = c.self.inside in
+    nothing_touched c.from_residual.result c.args.self.now.state _ _ c.from_residual.ensures
+    (ap (λ (z : SpacesView). shown_by z i.frames i.online i.totals.moved i.totals.failed) c.in_err-see.ensures.err ∙ ap (λ (y : MidRun). y.state) c.self.view_is)
+
+pub returns-in_err-see-clause-same : goal.returns-in_err-see-clause-same
+returns-in_err-see-clause-same g c =
+    let i = c.self.inside in
+    ap (λ (y : MidRun). with_state y (shown_by c.see.new.self i.frames i.online i.totals.moved i.totals.failed)) c.self.view_is
+
+pub returns-clause-same : goal.returns-clause-same
+returns-clause-same g c =
+    let i = c.self.inside in
+    ap (λ (y : MidRun). with_state y (shown_by c.see.new.self i.frames i.online i.totals.moved i.totals.failed)) c.self.view_is
