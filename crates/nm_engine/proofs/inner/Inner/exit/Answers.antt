@@ -10,7 +10,7 @@ use Rattle.nm_engine.specs.Refused.{first_error, exit_refusal, is_unknown, shows
 use Rattle.nm_engine.specs.Sound.{IsSoundMidRun, IsSound}
 use Rattle.nm_engine.specs.AddressSpaces.{SpacesView}
 use Rattle.nm_engine.specs.Shown.{shown_by}
-use Rattle.nm_engine.specs.MidRun.{MidRun, IsKept}
+use Rattle.nm_engine.specs.MidRun.{MidRun, IsKept, with_state}
 use Rattle.nm_engine.proofs.Soundness.Dropped.{sees_none, exit_sound}
 use Rattle.nm_engine.proofs.Soundness.Gone.{sees_nothing}
 use Rattle.nm_engine.proofs.Together.Touches.{outside}
@@ -87,3 +87,11 @@ returns-clause-done g c =
       ap (λ (z : SpacesView). shown_by z j.frames j.online j.totals.moved j.totals.failed) c.remove_task.ensures
           ∙ ap out (ap (λ (a : MidRun). a.state) c.self-2.view_is ∙ c.in_ok-let_go.ensures.done.1),
     )
+
+pub returns-in_err-let_go-clause-same : goal.returns-in_err-let_go-clause-same
+returns-in_err-let_go-clause-same g c = c.let_go.ensures.same
+
+pub returns-clause-same : goal.returns-clause-same
+returns-clause-same g c =
+    let j = c.self-2.inside in
+    ap (λ (y : MidRun). with_state y (shown_by c.remove_task.new.self j.frames j.online j.totals.moved j.totals.failed)) (c.self-2.view_is ∙ c.in_ok-let_go.ensures.same)
