@@ -13,7 +13,7 @@ use Rattle.nm_runs.specs.Seen.{sight_in, sight_at}
 use Rattle.nm_engine.specs.Shown.{shown, shown_by}
 use Rattle.nm_engine.specs.MidRun.{MidRun, IsKept, IsResolved, spot_at, with_state}
 use Rattle.nm_engine.specs.Seeing.{frame_of, frame_seen}
-use Rattle.nm_engine.proofs.Together.Touches.{inside, outside, not_none, none_sees, seen_kept, sees_now, private_here, private_unplaced_here, zero_unplaced}
+use Rattle.nm_engine.proofs.Together.Touches.{inside, outside, not_none, none_sees, zero_sees, seen_kept, sees_now, private_here, private_unplaced_here, zero_unplaced}
 use Rattle.nm_engine.specs.AddressSpaces.{SpacesView, table_of, with_seen}
 use Rattle.nm_engine.specs.Shown.{paged_frames}
 use Rattle.nm_engine.proofs.inner.HandedOn.{touch_handed_on, nothing_touched}
@@ -195,3 +195,35 @@ pub returns-in_ok-see_zero-in-None-clause-same : goal.returns-in_ok-see_zero-in-
 returns-in_ok-see_zero-in-None-clause-same g c =
     let i = c.self.inside in
     ap (λ (y : MidRun). with_state y (shown_by c.see_zero.new.self i.frames i.online i.totals.moved i.totals.failed)) c.self.view_is
+
+pub fill-requires-clause-touched : goal.fill-requires-clause-touched
+fill-requires-clause-touched g c = c.requires
+
+pub fill-requires-clause-unseen : goal.fill-requires-clause-unseen
+fill-requires-clause-unseen g c = zero_sees (outside _ _ _ _ c.self.view_is (λ z. sight_at z c.args.t.pid c.args.t.vpn ≡ Some ZeroPage) (sym c.sight.ensures ∙ c.in-Some-ZeroPage.is ∙ ap Some c.in-Some-ZeroPage.field-0-is))
+
+pub join-requires-clause-touched : goal.join-requires-clause-touched
+join-requires-clause-touched g c = c.requires
+
+pub join-requires-clause-unseen : goal.join-requires-clause-unseen
+join-requires-clause-unseen g c = (outside _ _ _ _ c.self.view_is (λ z. sight_at z c.args.t.pid c.args.t.vpn ≡ None) (sym c.sight.ensures ∙ c.in-None.is))
+
+pub fill-requires-then-writes-2-clause-touched : goal.fill-requires-then-writes-2-clause-touched
+fill-requires-then-writes-2-clause-touched g c = c.requires
+
+pub fill-requires-then-writes-2-clause-unseen : goal.fill-requires-then-writes-2-clause-unseen
+fill-requires-then-writes-2-clause-unseen g c = none_sees (outside _ _ _ _ c.self.view_is (λ z. sight_at z c.args.t.pid c.args.t.vpn ≡ None) (sym c.sight.ensures ∙ c.in-None.is))
+
+pub see_zero-requires-clause-known : goal.see_zero-requires-clause-known
+see_zero-requires-clause-known g c =
+    let touched = inside _ _ _ _ c.self.view_is (λ s. IsResolved s c.args.t c.requires.0 c.requires.1) c.requires.2 in
+    subst (λ (o : Option Process). IsSome o) (sym touched.known) refl
+
+pub see_zero-requires-clause-unseen : goal.see_zero-requires-clause-unseen
+see_zero-requires-clause-unseen g c = none_sees (sym c.sight.ensures ∙ c.in-None.is)
+
+-- the table finds no memory
+pub invariant_of-self : goal.invariant_of-self
+invariant_of-self g c =
+    let i = c.self.inside in
+    subst (λ (z : SpacesView). IsKept (shown_by z i.frames i.online i.totals.moved i.totals.failed) i.frames.vacated z.frames) (sym c.in_err-see_zero-in-None.ensures.err) c.self.invariant
