@@ -1,5 +1,5 @@
-use Rattle.std.proofs.Common.{ℕ, ◌≡◌, [], true, false, refl, sym, ap, ◌∙◌}
-use Rattle.std.specs.Prelude.{Some, None, if◌then◌else◌}
+use Rattle.std.proofs.Common.{◌≡◌, true, false, refl, ap, ◌∙◌}
+use Rattle.std.specs.Prelude.{Some, if◌then◌else◌}
 use Rattle.std.specs.Ordering.{nat_cmp}
 use Rattle.nm_types.specs.declared.errno.Errno.TheVariants.{Esrch}
 use Rattle.nm_types.specs.Map.{get}
