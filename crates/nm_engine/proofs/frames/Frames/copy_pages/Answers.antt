@@ -1,4 +1,4 @@
-use Rattle.std.proofs.Common.{◌≡◌, length, map, ap, sym, subst, ◌∙◌}
+use Rattle.std.proofs.Common.{◌≡◌, ◌≤◌, arith, length, map, ap, sym, subst, ◌∙◌}
 use Rattle.std.specs.Prelude.{min, vec_capacity}
 use Rattle.std.specs.List.{AllByRecursion}
 use Rattle.nm_frames.specs.Store.{Store, IsHome}
@@ -48,3 +48,12 @@ pub returns-clause-answers : goal.returns-clause-answers
 returns-clause-answers g c =
     let dues = map (due_shown c.args.accesses.now) c.args.dues.items in
     c.copy_pages-jobs.ensures.answers ∙ ap (λ (v : FramesView). (all_done c.args.spaces.now.place (with_copies v.frames c.args.moves.now) dues).answers) c.self.view_is
+
+pub copy_pages-jobs-requires-clause-few : goal.copy_pages-jobs-requires-clause-few
+copy_pages-jobs-requires-clause-few g c κs within =
+    let fits = subst (λ (v : FramesView). length c.args.moves.now ≤ v.room) (sym c.self.view_is) c.requires.few in
+    let same = ap (λ jobs. vec_capacity jobs) c.replace-jobs.ensures.value in
+    omega (arith, fits, same)
+
+pub copy_pages-jobs-requires-clause-empty : goal.copy_pages-jobs-requires-clause-empty
+copy_pages-jobs-requires-clause-empty g c κs within = ap (λ jobs. jobs.items) c.replace-jobs.ensures.value ∙ c.self.invariant.2

@@ -1,6 +1,6 @@
-use Rattle.std.proofs.Common.{◌≡◌, length, ap, ◌∙◌}
+use Rattle.std.proofs.Common.{◌≡◌, ℕ, List, [], min, length, vec_capacity, ap, sym, subst, ◌∙◌}
 use Rattle.nm_nodes.specs.Pool.{Pool}
-use Rattle.nm_engine.specs.Frames.{with_freed}
+use Rattle.nm_engine.specs.Frames.{FramesView, CanFree, pool_of, with_freed, all_freed}
 use Rattle.nm_engine.proofs.Together.Free.{lists_stay, sizes_stay}
 use Rattle.nm_engine.proofs.frames.Frames.free_vacated.Goals as goal
 
@@ -15,3 +15,21 @@ invariant_of-self g c =
       },
       c.self.invariant.2,
     )
+
+pub free_frames-requires : goal.free_frames-requires
+free_frames-requires g c =
+    let k = c.self.inside in
+    let can = subst (λ (v : FramesView). CanFree (pool_of v) v.vacated) (sym c.self.view_is) c.requires in
+    subst (CanFree k.nodes) (sym c.as_slice.ensures.value) (subst (λ (sizes : List ℕ). CanFree (record { sizes = sizes; lists = k.nodes.lists }) k.vacated.items) (sym c.self.invariant.0) can)
+
+pub returns : goal.returns
+returns g c =
+    let k = c.self.inside in
+    let fields : Pool → List ℕ → ℕ → FramesView = λ p vacated room. record { layout = k.geometry; frames = k.frames; free = p.lists; vacated = vacated; room = min room (vec_capacity k.jobs) } in
+    let freed : c.free_frames.new.nodes ≡ with_freed k.nodes k.vacated.items = c.free_frames.ensures ∙ ap (λ frames. with_freed k.nodes frames) c.as_slice.ensures.value in
+    let sized = ap (λ (sizes : List ℕ). with_freed (record { sizes = sizes; lists = k.nodes.lists }) k.vacated.items) c.self.invariant.0 in
+    let after : Pool = with_freed (record { sizes = k.geometry.sizes; lists = k.nodes.lists }) k.vacated.items in
+    ap (λ p. fields p c.clear.new.self.items (vec_capacity c.clear.new.self)) (freed ∙ sized)
+    ∙ ap (λ vacated. fields after vacated (vec_capacity c.clear.new.self)) c.clear.ensures.items
+    ∙ ap (fields after []) c.clear.ensures.capacity
+    ∙ ap all_freed c.self.view_is

@@ -1,6 +1,8 @@
-use Rattle.std.proofs.Common.{ap, subst, ◌∙◌}
-use Rattle.nm_nodes.specs.Pool.{Pool}
-use Rattle.nm_engine.specs.Frames.{HasAllFrames}
+use Rattle.std.proofs.Common.{ℕ, List, ◌+◌, ◌≤◌, ◌++◌, min, length, drop, vec_capacity, ap, sym, subst, ◌∙◌, arith}
+use Rattle.std.specs.Prelude.{slice_set}
+use Rattle.nm_nodes.specs.Pool.{Pool, list_of}
+use Rattle.nm_engine.specs.Frames.{FramesView, HasAllFrames, free_on}
+use Rattle.nm_engine.specs.Early.{tos}
 use Rattle.nm_engine.proofs.Together.Shelves.{seen_node, list_set}
 use Rattle.nm_engine.proofs.frames.Frames.take_for.Goals as goal
 
@@ -16,3 +18,22 @@ invariant_of-self g c = (
 
 pub returns-clause-shelf : goal.returns-clause-shelf
 returns-clause-shelf g c = subst HasAllFrames c.self.view_is c.self.invariant.1
+
+pub push_tos-requires : goal.push_tos-requires
+push_tos-requires g c =
+    let fits = subst (λ (v : FramesView). length v.vacated + length c.args.moves.now ≤ v.room) (sym c.self.view_is) c.requires.room in
+    omega (arith, fits, c.self.inside.vacated.ok.0)
+
+pub returns-clause-taken : goal.returns-clause-taken
+returns-clause-taken g c =
+    let k = c.self.inside in
+    let moves = c.args.moves.now in
+    let node = c.args.node in
+    let fields : List (List ℕ) → List ℕ → ℕ → FramesView =
+    λ free vacated room. record { layout = k.geometry; frames = k.frames; free = free; vacated = vacated; room = min room (vec_capacity k.jobs) } in
+    let free = slice_set k.nodes.lists node (drop (length moves) (list_of k.nodes node)) in
+    let vacated = k.vacated.items ++ tos moves in
+    ap (λ (p : Pool). fields p.lists c.push_tos.new.taken.items (vec_capacity c.push_tos.new.taken)) c.take_fronts.ensures
+    ∙ ap (λ items. fields free items (vec_capacity c.push_tos.new.taken)) c.push_tos.ensures.items
+    ∙ ap (fields free vacated) c.push_tos.ensures.room
+    ∙ ap (λ (v : FramesView). record v { free = slice_set v.free node (drop (length moves) (free_on v node)); vacated = v.vacated ++ tos moves }) c.self.view_is

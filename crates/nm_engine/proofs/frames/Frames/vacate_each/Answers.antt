@@ -1,5 +1,6 @@
-use Rattle.std.proofs.Common.{subst}
-use Rattle.nm_engine.specs.Frames.{HasAllFrames}
+use Rattle.std.proofs.Common.{ℕ, List, ◌≤◌, ◌++◌, min, length, vec_capacity, ap, sym, subst, ◌∙◌, arith}
+use Rattle.nm_engine.specs.Frames.{FramesView, HasAllFrames}
+use Rattle.nm_engine.specs.Run.{left}
 use Rattle.nm_engine.proofs.frames.Frames.vacate_each.Goals as goal
 
 pub invariant_of-self : goal.invariant_of-self
@@ -9,3 +10,18 @@ invariant_of-self g c =
 
 pub returns-clause-shelf : goal.returns-clause-shelf
 returns-clause-shelf g c = subst HasAllFrames c.self.view_is c.self.invariant.1
+
+pub push_left-requires : goal.push_left-requires
+push_left-requires g c =
+    let fits = subst (λ (v : FramesView). length c.args.moves.now ≤ v.room) (sym c.self.view_is) c.requires in
+    omega (arith, fits, c.clear.ensures.len, c.clear.ensures.capacity)
+
+pub returns-clause-vacated : goal.returns-clause-vacated
+returns-clause-vacated g c =
+    let k = c.self.inside in
+    let moves = c.args.moves.now in
+    let fields : List ℕ → ℕ → FramesView = λ vacated room. record { layout = k.geometry; frames = k.frames; free = k.nodes.lists; vacated = vacated; room = min room (vec_capacity k.jobs) } in
+    let items = c.push_left.ensures.items ∙ ap (λ xs. xs ++ left moves) c.clear.ensures.items in
+    ap (λ vacated. fields vacated (vec_capacity c.push_left.new.vacated)) items
+    ∙ ap (fields (left moves)) (c.push_left.ensures.room ∙ c.clear.ensures.capacity)
+    ∙ ap (λ (v : FramesView). record v { vacated = left moves }) c.self.view_is

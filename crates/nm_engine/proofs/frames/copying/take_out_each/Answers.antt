@@ -1,4 +1,4 @@
-use Rattle.std.proofs.Common.{◌≡◌, ◌≢◌, ℕ, ◌+◌, List, [], ◌∷◌, ◌++◌, length, drop, IsSome, ap, sym, subst, ◌∙◌, arith, append_assoc, length-set}
+use Rattle.std.proofs.Common.{◌≡◌, ◌≢◌, ℕ, ◌+◌, List, [], ◌∷◌, ◌++◌, length, drop, IsSome, refl, ap, sym, subst, ◌∙◌, arith, append_assoc, length-set}
 use Rattle.std.specs.Prelude.{Option, None, slice_set, vec_len}
 use Rattle.std.specs.Option.{unwrap_or}
 use Rattle.std.proofs.Math.ListN.{drop_of_length-le}
@@ -77,3 +77,17 @@ returns-clause-jobs g c =
     sym (append-nil jobs)
     ∙ ap (λ (ts : List Taken). jobs ++ jobs_of {A = g.row.A.Denot} (vec_len c.loop-taken.jobs) c.loop-taken.frames ts) (sym (drop_of_length-le c.args.moves.now c.loop-taken-test.false))
     ∙ c.loop-taken.invariant.jobs
+
+pub loop-taken-init : goal.loop-taken-init
+loop-taken-init g c = record {
+  can = c.requires.can;
+  frames = refl;
+  jobs = refl;
+  fits = c.requires.room;
+  room = refl;
+}
+
+pub push_reserved-requires : goal.push_reserved-requires
+push_reserved-requires g c =
+    let less = ap (λ (ts : List Taken). length ts) (drop_item c.args.moves.now c.loop-taken.taken-index c.taken-item.result c.loop-taken-test.true c.taken-item.is) in
+    omega (arith, less, c.loop-taken.invariant.fits)

@@ -1,0 +1,19 @@
+use Rattle.std.proofs.Common.{take, ap, ◌∙◌, arith}
+use Rattle.std.proofs.lemmas.List.{take_all}
+use Rattle.std.proofs.lemmas.Result.{IfOk-weaker}
+use Rattle.nm_nodes.specs.Pool.{list_of}
+use Rattle.nm_engine.specs.Frames.{FramesView, free_on}
+use Rattle.nm_engine.proofs.Together.Shelves.{seen_node}
+use Rattle.nm_engine.proofs.frames.Frames.free_list.Goals as goal
+
+pub front_of-requires-clause-node : goal.front_of-requires-clause-node
+front_of-requires-clause-node g c = seen_node _ c.args.self.now c.args.node c.self.view_is c.self.invariant.1 c.requires
+
+pub front_of-requires-clause-count : goal.front_of-requires-clause-count
+front_of-requires-clause-count g c = omega (arith, c.free_count.ensures.count)
+
+pub returns : goal.returns
+returns g c =
+    let list = list_of c.self.inside.nodes c.args.node in
+    let all = take_all c.free_count.result list (omega (arith, c.free_count.ensures.count)) ∙ ap (λ (v : FramesView). free_on v c.args.node) c.self.view_is in
+    IfOk-weaker c.front_of.result _ _ (λ frames front. front ∙ all) c.front_of.ensures
