@@ -1,6 +1,7 @@
-use Rattle.std.proofs.Common.{◌≡◌, ℕ, ◌+◌, ◌++◌, List, [], ◌∷◌, Some, map, length, drop, refl, sym, ap, subst, ◌∙◌, arith, length-append, append_assoc}
+use Rattle.std.proofs.Common.{◌≡◌, ◌==◌, true, ℕ, ◌+◌, ◌++◌, List, [], ◌∷◌, Some, map, length, drop, refl, sym, ap, subst, ◌∙◌, arith, length-append, append_assoc}
 use Rattle.std.proofs.Math.ListN.{drop_of_length-le}
 use Rattle.std.proofs.lemmas.List.{map-append, append-nil}
+use Rattle.std.proofs.lemmas.Bool.Decides.{nat_tests}
 use Rattle.std.proofs.lemmas.Option.{slice_get-get_or}
 use Rattle.std.specs.List.{AllByRecursion, slice_get}
 use Rattle.nm_types.specs.State.{State}
@@ -127,3 +128,27 @@ returns-clause-len g c =
 
 pub returns-clause-same : goal.returns-clause-same
 returns-clause-same g c = c.loop-number.invariant.same
+
+-- without accesses nothing is made ready
+no_access : {X : Type 0} (xs : List X) → true ≡ (length xs == 0) → xs ≡ []
+no_access [] is = refl
+no_access (x ∷ xs) is = absurd (grind (arith, nat_tests))
+
+pub returns-then-is_empty-clause-state : goal.returns-then-is_empty-clause-state
+returns-then-is_empty-clause-state g c =
+    let none = no_access c.args.accesses.now (sym c.if-is_empty.true ∙ c.is_empty.ensures) in
+    ap (λ xs. (all_early c.args.self.now.state (pages_of c.args.moves.now) (map (access_shown {A = g.row.A.Denot}) xs)).state) (sym none)
+
+pub returns-then-is_empty-clause-dues : goal.returns-then-is_empty-clause-dues
+returns-then-is_empty-clause-dues g c =
+    let none = no_access c.args.accesses.now (sym c.if-is_empty.true ∙ c.is_empty.ensures) in
+    ap (map (due_shown c.args.accesses.now)) c.in_ok-dues.ensures.items
+    ∙ ap (λ xs. (all_early c.args.self.now.state (pages_of c.args.moves.now) (map (access_shown {A = g.row.A.Denot}) xs)).dues) (sym none)
+
+pub returns-then-is_empty-clause-room : goal.returns-then-is_empty-clause-room
+returns-then-is_empty-clause-room g c = subst (AllByRecursion HasRoom) (sym c.in_ok-dues.ensures.items) tt
+
+pub returns-then-is_empty-clause-len : goal.returns-then-is_empty-clause-len
+returns-then-is_empty-clause-len g c =
+    let none = no_access c.args.accesses.now (sym c.if-is_empty.true ∙ c.is_empty.ensures) in
+    c.in_ok-dues.ensures.len ∙ ap (λ xs. length xs) (sym none)
