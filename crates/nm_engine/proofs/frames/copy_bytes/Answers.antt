@@ -1,4 +1,5 @@
-use Rattle.std.proofs.Common.{◌+◌, ◌-◌, ◌∷◌, ◌++◌, [], refl, ap, sym, ◌∙◌, arith, append_assoc}
+use Rattle.std.proofs.Common.{◌≡◌, ◌+◌, ◌-◌, ◌∷◌, ◌++◌, [], refl, ap, sym, ◌∙◌, arith, append_assoc}
+use Rattle.std.proofs.lemmas.List.{append-nil}
 use Rattle.nm_frames.specs.Store.{bytes_of}
 use Rattle.nm_engine.specs.Frames.{stretch_of}
 use Rattle.nm_engine.proofs.Together.Paces.{stretch_step}
@@ -17,3 +18,13 @@ loop-k-preserved g c =
       end = refl;
       room = omega (arith, c.loop-k.invariant.room, c.loop-k-test.true, c.push_reserved.ensures.len, c.push_reserved.ensures.capacity);
     }
+
+pub returns : goal.returns
+returns g c =
+    let copied = c.loop-k.bytes.items in
+    let k = c.loop-k.k in
+    let none : (c.args.at + c.args.len) - k ≡ 0 = omega (arith, c.loop-k-test.false) in
+    sym (append-nil copied) ∙ ap (λ n. copied ++ stretch_of (bytes_of c.args.frames.now c.args.frame) k n) (sym none) ∙ c.loop-k.invariant.copied
+
+pub push_reserved-requires : goal.push_reserved-requires
+push_reserved-requires g c = omega (arith, c.loop-k.invariant.room, c.loop-k-test.true)
