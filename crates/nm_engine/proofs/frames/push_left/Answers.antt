@@ -1,4 +1,4 @@
-use Rattle.std.proofs.Common.{◌+◌, ◌∷◌, ◌++◌, [], List, length, ap, sym, ◌∙◌, arith, drop, append_assoc}
+use Rattle.std.proofs.Common.{◌+◌, ◌∷◌, ◌++◌, [], List, length, refl, ap, sym, ◌∙◌, arith, drop, append_assoc}
 use Rattle.std.proofs.Math.ListN.{drop_of_length-le}
 use Rattle.std.proofs.lemmas.List.{append-nil}
 use Rattle.nm_plan.specs.declared.Taken.{Taken}
@@ -26,3 +26,11 @@ pub returns-clause-items : goal.returns-clause-items
 returns-clause-items g c =
     let vacated = c.loop-taken.vacated.items in
     sym (append-nil vacated) ∙ ap (λ (ts : List Taken). vacated ++ left ts) (sym (drop_of_length-le c.args.moves.now c.loop-taken-test.false)) ∙ c.loop-taken.invariant.items
+
+pub push_reserved-requires : goal.push_reserved-requires
+push_reserved-requires g c =
+    let less = ap (λ (ts : List Taken). length ts) (drop_item c.args.moves.now c.loop-taken.taken-index c.taken-item.result c.loop-taken-test.true c.taken-item.is) in
+    omega (arith, less, c.loop-taken.invariant.fits)
+
+pub loop-taken-init : goal.loop-taken-init
+loop-taken-init g c = record { items = refl; fits = c.requires; room = refl }

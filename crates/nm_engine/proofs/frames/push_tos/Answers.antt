@@ -1,4 +1,4 @@
-use Rattle.std.proofs.Common.{◌+◌, ◌∷◌, ◌++◌, [], List, length, ap, sym, ◌∙◌, arith, drop, append_assoc}
+use Rattle.std.proofs.Common.{◌+◌, ◌∷◌, ◌++◌, [], List, length, refl, ap, sym, ◌∙◌, arith, drop, append_assoc}
 use Rattle.std.proofs.Math.ListN.{drop_of_length-le}
 use Rattle.std.proofs.lemmas.List.{append-nil}
 use Rattle.nm_plan.specs.declared.Taken.{Taken}
@@ -26,3 +26,11 @@ pub returns-clause-items : goal.returns-clause-items
 returns-clause-items g c =
     let taken = c.loop-t.taken.items in
     sym (append-nil taken) ∙ ap (λ (ts : List Taken). taken ++ tos ts) (sym (drop_of_length-le c.args.moves.now c.loop-t-test.false)) ∙ c.loop-t.invariant.items
+
+pub push_reserved-requires : goal.push_reserved-requires
+push_reserved-requires g c =
+    let less = ap (λ (ts : List Taken). length ts) (drop_item c.args.moves.now c.loop-t.t-index c.t-item.result c.loop-t-test.true c.t-item.is) in
+    omega (arith, less, c.loop-t.invariant.fits)
+
+pub loop-t-init : goal.loop-t-init
+loop-t-init g c = record { items = refl; fits = c.requires; room = refl }
