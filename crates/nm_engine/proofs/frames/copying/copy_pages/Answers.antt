@@ -57,3 +57,8 @@ returns-clause-answers g c =
     let copied_out = map copied (jobs_of {A = g.row.A.Denot} 0 store moves) in
     c.copy_while-copied.ensures.work.1 ∙ ap (λ (s : Store). (all_done place s dues).answers) (c.replace-store.ensures.value ∙ c.take_out_each.ensures.frames)
     ∙ (home_again place dues moves 0 store (all_done place out dues).store copied_out c.requires.can c.requires.due refl refl).told
+
+pub take_out_each-requires-clause-room : goal.take_out_each-requires-clause-room
+take_out_each-requires-clause-room g c =
+    let none : vec_len c.args.jobs ≡ 0 = c.args.jobs.ok.0 ∙ ap length c.requires.empty in
+    omega (arith, none, c.requires.few)
