@@ -7,6 +7,7 @@ pub mod Stretches
 pub mod Requests
 pub mod Outcomes
 pub mod Trails
+pub mod Made
 pub mod Reach
 pub mod Firsts
 pub mod Turns

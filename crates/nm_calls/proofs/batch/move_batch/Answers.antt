@@ -1,6 +1,7 @@
-use Rattle.std.proofs.Common.{arith, ap, ◌∙◌}
+use Rattle.std.proofs.Common.{arith, ap, refl, ◌∙◌}
 use Rattle.nm_runs.specs.Cut.{stretches_of}
 use Rattle.nm_runs.specs.Limit.{cut_within}
+use Rattle.nm_calls.proofs.Made.{none_moved, moved_same}
 use Rattle.nm_calls.proofs.Requests.{targets_below, runs_alike, entries_fit}
 use Rattle.nm_calls.proofs.batch.move_batch.Goals as goal
 
@@ -19,3 +20,17 @@ move_runs-requires-clause-room g c κs within =
     let runs = ap stretches_of c.as_slice-runs.ensures.value ∙ c.in_ok-runs.ensures ∙ ap (cut_within c.args.limit) (c.as_slice.ensures.value ∙ c.in_ok-requests.ensures) in
     let fit = entries_fit c.args.limit c.args.pid c.args.all c.args.pages.now c.args.nodes.now c.as_slice-runs.result.now c.requires.some runs in
     omega (arith, fit, c.in_ok-statuses.ensures.capacity)
+
+pub returns-in_err-requests : goal.returns-in_err-requests
+returns-in_err-requests g c = none_moved _ _ _ _ c.from_residual.ensures.1
+
+pub returns-in_err-runs : goal.returns-in_err-runs
+returns-in_err-runs g c = none_moved _ _ _ _ c.from_residual-in_err-runs.ensures.1
+
+pub returns-in_err-statuses : goal.returns-in_err-statuses
+returns-in_err-statuses g c = none_moved _ _ _ _ c.from_residual-in_err-statuses.ensures.1
+
+pub returns : goal.returns
+returns g c =
+    let runs = ap stretches_of c.as_slice-runs.ensures.value ∙ c.in_ok-runs.ensures ∙ ap (cut_within c.args.limit) (c.as_slice.ensures.value ∙ c.in_ok-requests.ensures) in
+    moved_same c.move_runs.result _ _ _ _ _ _ runs refl c.move_runs.ensures

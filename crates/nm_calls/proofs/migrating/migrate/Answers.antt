@@ -1,9 +1,12 @@
-use Rattle.std.proofs.Common.{arith, ◌<◌, ap, ◌∙◌}
+use Rattle.std.proofs.Common.{◌≡◌, arith, ◌<◌, ap, subst, ◌∙◌}
+use Rattle.std.specs.Result.{IsErrAnd}
 use Rattle.nm_types.specs.Layout.{node_count}
 use Rattle.nm_policy.specs.Pairs.{pairs}
 use Rattle.nm_runs.specs.Cut.{stretches_of}
 use Rattle.nm_runs.specs.Limit.{cut_within}
 use Rattle.nm_calls.specs.Migrating.{migrate_list}
+use Rattle.nm_calls.specs.During.{shown_during}
+use Rattle.nm_calls.proofs.Made.{none_moved, moved_same}
 use Rattle.nm_calls.proofs.Requests.{run_targets, run_entries, run_kinds}
 use Rattle.nm_calls.proofs.Lists.{asked_targets, asked_alike}
 use Rattle.nm_calls.proofs.migrating.migrate.Goals as goal
@@ -32,3 +35,25 @@ move_runs-requires-clause-room g c κs within =
     let runs = ap stretches_of c.as_slice-3.ensures.value ∙ c.in_ok-runs.ensures ∙ ap (cut_within c.args.limit) c.as_slice-2.ensures.value in
     let fit = run_entries c.args.limit c.in_ok-requests.requests.items c.as_slice-3.result.now c.requires.some runs in
     omega (arith, fit, c.in_ok-statuses.ensures.capacity)
+
+pub returns-in_err-pairs : goal.returns-in_err-pairs
+returns-in_err-pairs g c = none_moved _ _ _ _ c.from_residual.ensures.1
+
+pub returns-in_err-requests : goal.returns-in_err-requests
+returns-in_err-requests g c =
+    let r = c.from_residual-in_err-requests.result in
+    none_moved _ _ _ _ (subst (λ e. IsErrAnd r (λ x. x ≡ e)) c.in_err-requests.ensures.err c.from_residual-in_err-requests.ensures.1)
+
+pub returns-in_err-runs : goal.returns-in_err-runs
+returns-in_err-runs g c = none_moved _ _ _ _ c.from_residual-in_err-runs.ensures.1
+
+pub returns-in_err-statuses : goal.returns-in_err-statuses
+returns-in_err-statuses g c = none_moved _ _ _ _ c.from_residual-in_err-statuses.ensures.1
+
+pub returns : goal.returns
+returns g c =
+    let s = c.args.machine.now in
+    let what = c.args.what in
+    let list = c.in_ok-requests.ensures.list ∙ ap (migrate_list s what.pid what.all) (c.as_slice.ensures.value ∙ c.in_ok-pairs.ensures.value) in
+    let runs = ap stretches_of c.as_slice-3.ensures.value ∙ c.in_ok-runs.ensures ∙ ap (cut_within c.args.limit) (c.as_slice-2.ensures.value ∙ list) in
+    moved_same c.move_runs.result _ _ _ _ _ _ runs (ap shown_during c.as_slice-4.ensures) c.move_runs.ensures

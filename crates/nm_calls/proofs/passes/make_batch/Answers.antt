@@ -1,6 +1,9 @@
-use Rattle.std.proofs.Common.{arith, ap, ◌∙◌}
+use Rattle.std.proofs.Common.{arith, ap, length, ◌∙◌}
+use Rattle.std.proofs.lemmas.List.{length-map}
 use Rattle.nm_types.specs.Layout.{node_count}
-use Rattle.nm_runs.specs.Cut.{stretches_of}
+use Rattle.nm_runs.specs.Cut.{Stretch, stretches_of}
+use Rattle.nm_calls.specs.During.{shown_during}
+use Rattle.nm_calls.proofs.Made.{none_batched, batch_stopped, moved_batch}
 use Rattle.nm_calls.proofs.Requests.{run_targets, run_entries, runs_like}
 use Rattle.nm_calls.proofs.passes.make_batch.Goals as goal
 
@@ -19,3 +22,22 @@ move_runs-requires-clause-room g c κs within =
     let runs = ap stretches_of c.as_slice.ensures.value ∙ c.in_ok-runs.ensures in
     let fit = run_entries c.args.limit c.args.requests.now c.as_slice.result.now c.requires.some runs in
     omega (arith, fit, c.in_ok-statuses.ensures.capacity)
+
+pub returns-in_err-runs : goal.returns-in_err-runs
+returns-in_err-runs g c = none_batched _ _ _ _ c.from_residual.ensures.1
+
+pub returns-in_err-statuses : goal.returns-in_err-statuses
+returns-in_err-statuses g c = none_batched _ _ _ _ c.from_residual-in_err-statuses.ensures.1
+
+pub returns-in_err-moved : goal.returns-in_err-moved
+returns-in_err-moved g c =
+    let runs = ap stretches_of c.as_slice.ensures.value ∙ c.in_ok-runs.ensures in
+    batch_stopped c.move_runs.result _ _ _ _ _ _ _ _ c.in_err-moved.was c.from_residual-in_err-moved.ensures.1 runs (ap shown_during c.as_slice-2.ensures) c.move_runs.ensures
+
+pub returns : goal.returns
+returns g c =
+    let runs = ap stretches_of c.as_slice.ensures.value ∙ c.in_ok-runs.ensures in
+    let made = moved_batch c.in_ok-moved.moved _ _ _ _ _ runs (ap shown_during c.as_slice-2.ensures) c.in_ok-moved.ensures in
+    let count = ap length c.in_ok-runs.ensures in
+    let same = length-map {B = Stretch} c.in_ok-runs.runs.items (λ run. record { target = run.target; wanted = run.wanted.items }) in
+    (made.0, (omega (arith, count, same, c.len.ensures), made.1))
