@@ -1,5 +1,5 @@
 -- What comes of the runs of a batch, said by the functions that make them.
-use Rattle.std.proofs.Common.{◌≡◌, ℕ, List, [], refl, sym, ap, subst, ◌∙◌, arith, Result, Ok, Err}
+use Rattle.std.proofs.Common.{◌≡◌, ℕ, Bool, true, false, ◌&&◌, inl, inr, List, [], refl, sym, ap, subst, ◌∙◌, arith, Result, Ok, Err}
 use Rattle.std.specs.Result.{IsErrAnd}
 use Rattle.std.proofs.lemmas.Result.{err_from_is_err_and}
 use Rattle.nm_types.specs.State.{State}
@@ -12,7 +12,13 @@ use Rattle.nm_calls.specs.declared.call_error.CallError.TheVariants.{Refused, Ho
 use Rattle.nm_calls.specs.declared.call.Moved.{Moved}
 use Rattle.nm_calls.specs.Errors.{out_of_memory}
 use Rattle.nm_calls.specs.Does.{Moves}
-use Rattle.nm_calls.specs.Making.{Batches}
+use Rattle.nm_calls.specs.Making.{Batches, Stops, Keeps, Empties}
+use Rattle.std.specs.List.{list_any}
+use Rattle.nm_types.specs.Nodes.{is_in}
+use Rattle.nm_engine.specs.Locating.{placed_on}
+use Rattle.nm_calls.specs.Migrating.{is_on}
+use Rattle.nm_types.specs.declared.page.Page.{Page}
+use Rattle.nm_calls.specs.Offlining.{still_on}
 use Rattle.nm_calls.proofs.Trails.{first_state}
 
 -- the error that a question mark hands on
@@ -59,3 +65,20 @@ pub batch_told : {T U : Type 0} (m : Result T CallError) (r : Result U CallError
 batch_told {T = T} {U = U} m r e old new rs qs Gives Tells is err runs h =
     let all = subst (λ l. Batches m old new l Gives) runs h in
     subst (λ r. Batches r old new qs Tells) (sym (err_of r e err)) (told T U e old new qs Gives Tells (subst (λ m. Batches m old new qs Gives) is all))
+
+-- no memory before a node is emptied ..
+pub none_emptied : {T : Type 0} (r : Result T CallError) (s : State) (node : ℕ) (rs : List Stretch) → IsErrAnd r (λ e. e ≡ out_of_memory 0) → Empties r s s node rs
+none_emptied r s node rs h = subst (λ r. Empties r s s node rs) (sym (err_of r (out_of_memory 0) h)) (inl (refl, refl, refl))
+
+-- .. and none for one of its runs
+pub keeps_stopped : (e : CallError) (old new : State) (node : ℕ) (rs qs : List Stretch) → rs ≡ qs → Stops false e old new rs → Keeps e old new node qs
+keeps_stopped (Refused e) old new node rs qs runs h = absurd h
+keeps_stopped (HostMemory k policy_set) old new node rs qs runs h =
+    inr (subst (Stops false (HostMemory k policy_set) old new) runs h)
+
+-- whether a page is found on the node after the runs
+pub still_found : (old made new : State) (node : ℕ) (pages : List Page) (b : Bool) → is_in old.online node ≡ true → pages ≡ placed_on old node → made ≡ new → list_any (is_on made node) pages ≡ b → still_on old new node ≡ b
+still_found old made new node pages b online all after h =
+    ap (λ x. x && list_any (is_on new node) (placed_on old node)) online
+    ∙ ap (λ t. list_any (is_on t node) (placed_on old node)) (sym after)
+    ∙ ap (list_any (is_on made node)) (sym all) ∙ h

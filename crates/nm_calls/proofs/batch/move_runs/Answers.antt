@@ -8,6 +8,7 @@ use Rattle.nm_engine.specs.Batch.{accesses_of}
 use Rattle.nm_calls.specs.During.{shown_during, runs_named, in_order, left_shown}
 use Rattle.nm_calls.proofs.Lengths.{run_length, run_layout}
 use Rattle.nm_calls.proofs.Meanwhile.{list_there}
+use Rattle.nm_calls.proofs.Made.{none_moved}
 use Rattle.nm_calls.proofs.Trails.{states_are}
 use Rattle.nm_calls.proofs.Stretches.{none_run, one_more_run, some_run, all_run, next_left, entries_left, not_last}
 use Rattle.nm_calls.proofs.batch.move_runs.Goals as goal
@@ -89,3 +90,12 @@ returns g c =
     let none = drop_all c.loop-k.k runs (omega (arith, c.loop-k-test.false)) in
     let made = all_run c.args.machine.now (stretches_of runs) (stretches_of (drop c.loop-k.k runs)) during c.loop-k.k c.loop-k.machine c.loop-k.statuses.items (map left_shown c.loop-k.told.items) (ap stretches_of none) c.loop-k.invariant.made in
     (made.0, c.failures.ensures ∙ ap failures (c.as_slice-2.ensures.value ∙ made.0), c.in_order.ensures ∙ ap (in_order (runs_named during)) made.1, made.2)
+
+pub returns-in_err-accesses : goal.returns-in_err-accesses
+returns-in_err-accesses g c = none_moved _ _ _ _ c.from_residual.ensures.1
+
+pub returns-in_err-told : goal.returns-in_err-told
+returns-in_err-told g c = none_moved _ _ _ _ c.from_residual-in_err-told.ensures.1
+
+pub returns-in_err-answers : goal.returns-in_err-answers
+returns-in_err-answers g c = none_moved _ _ _ _ c.from_residual-in_err-answers.ensures.1
