@@ -1,12 +1,12 @@
 -- The areas of a process over page numbers from one up to another, one after another, and the first page that has a frame.
-use Rattle.std.proofs.Common.{◌≡◌, ℕ, ◌+◌, ◌≤◌, ◌<◌, true, false, refl, sym, ap, ◌∙◌, arith}
+use Rattle.std.proofs.Common.{◌≡◌, ℕ, ◌+◌, ◌≤◌, ◌<◌, true, false, refl, sym, ap, ◌∙◌, arith, option_map}
 use Rattle.std.specs.Prelude.{Option, Some, None, IfSome, IfNone, nat_lt}
 use Rattle.std.specs.List.{AllByRecursion}
 use Rattle.std.proofs.lemmas.Bool.{ltb-true, ltb-false}
 use Rattle.nm_types.specs.declared.page.Page.{Page}
 use Rattle.nm_types.specs.declared.area.Area.{Area}
 use Rattle.nm_types.specs.Map.{Map, get, page_cmp, spot_cmp}
-use Rattle.nm_types.specs.State.{area_over, page_of, page_shown, page_at}
+use Rattle.nm_types.specs.State.{Placed, area_over, page_of, page_shown, page_at}
 use Rattle.nm_types.proofs.Cases.{none_some, some_is}
 use Rattle.nm_areas.specs.Mapped.{AreasAreApart, IsSomePages}
 use Rattle.nm_areas.proofs.Apart.{covers_parts, covers_from}
@@ -23,6 +23,11 @@ module _ (areas : Map (ℕ × ℕ) Area) (apart : AreasAreApart areas) (pid : �
 
   pub over_all : (at start : ℕ) (x : Area) → Some ((pid, start), x) ≡ area_over areas pid at → (v : ℕ) → start ≤ v → v < start + x.pages → area_over areas pid v ≡ Some ((pid, start), x)
   over_all at start x h = over_its start x (among_over areas pid at ((pid, start), x) (sym h)).0
+
+  pub found_over : (at : ℕ) (o : Option (ℕ × Area)) → option_map {U = Placed} (λ found. ((pid, found.0), found.1)) o ≡ area_over areas pid at
+      → IfSome o (λ a. (v : ℕ) → a.0 ≤ v → v < a.0 + a.1.pages → area_over areas pid v ≡ Some ((pid, a.0), a.1))
+  found_over at None h = tt
+  found_over at (Some a) h = over_all at a.0 a.1 h
 
   pub begun_all : (start : ℕ) (x : Area) → get spot_cmp areas (pid, start) ≡ Some x → (v : ℕ) → start ≤ v → v < start + x.pages → area_over areas pid v ≡ Some ((pid, start), x)
   begun_all start x h = over_its start x (get_among areas (pid, start) x h)

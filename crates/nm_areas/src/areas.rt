@@ -1,6 +1,6 @@
 //! The areas of all processes.
 
-ghost use Rattle.std.specs.Prelude.{ℕ, OnOk, ◌≡◌, ◌<◌, ◌+◌, ◌/◌, true, IfOk, option_map};
+ghost use Rattle.std.specs.Prelude.{ℕ, OnOk, Some, ◌≡◌, ◌≤◌, ◌<◌, ◌+◌, ◌/◌, true, IfOk, IfSome, option_map};
 ghost use Rattle.nm_types.specs.State.{Placed, area_over};
 ghost use Rattle.nm_types.specs.Does.{Makes};
 ghost use Rattle.nm_areas.specs.Effect.{no_areas, new_area, inserted, attached, over_with};
@@ -54,9 +54,11 @@ impl<A: Allocator + Copy> Areas<A> {
         }
     }
 
-    /// The area of a process over a page number, with the area's first page number. None if no area is over it.
+    /// The area of a process over a page number, with the area's first page number. None if no area is over it. It is over
+    /// each of its page numbers, so whoever asks for one after another may keep it.
     pub fn find(&self, pid: Pid, vpn: Vpn) -> Option<(Vpn, Area)>
         ensures found { option_map {U = Placed} (λ found. ((pid, found.0), found.1)) result ≡ area_over self.now.areas pid vpn }
+        ensures over { IfSome result (λ a. (v : ℕ) → a.0 ≤ v → v < a.0 + a.1.pages → area_over self.now.areas pid v ≡ Some ((pid, a.0), a.1)) }
         ensures kept { IsMapped self.now }
     {
         self.table.over(pid, vpn)
