@@ -14,7 +14,7 @@ use Rattle.nm_types.proofs.Maps.{get-set, get-replace, replace_is_set}
 use Rattle.nm_types.proofs.Keys.{sorted-set, sorted-without, keys-replace}
 use Rattle.nm_tables.specs.Tree.{joined, IsPart, AreParts}
 use Rattle.nm_tables.specs.Orders.{sorted-joined}
-use Rattle.nm_tables.proofs.Joined.{less_equal, greater_equal, same_number, is_same, alike, get-without, at_once, at_other, get-joined, get-joined_none}
+use Rattle.nm_tables.proofs.Joined.{less_equal, greater_equal, same_number, is_same, one_or_other, alike, get-without, at_once, at_other, get-joined, get-joined_none}
 
 module _ {V : Type 0} where
   pub all-set : (P : ℕ → Type 0) (m : Map ℕ V) (k : ℕ) (v : V) → AllByRecursion P (keys_of m) → P k → AllByRecursion P (keys_of (set nat_cmp m k v))
@@ -26,7 +26,7 @@ module _ {V : Type 0} where
         | Greater ↦ (h.0, all-set P m k v h.1 p)
       ]
 
-  all-without : (P : ℕ → Type 0) (m : Map ℕ V) (k : ℕ) → AllByRecursion P (keys_of m) → AllByRecursion P (keys_of (without nat_cmp m k))
+  pub all-without : (P : ℕ → Type 0) (m : Map ℕ V) (k : ℕ) → AllByRecursion P (keys_of m) → AllByRecursion P (keys_of (without nat_cmp m k))
   all-without P [] k h = tt
   all-without P (e ∷ m) k h =
       elim (is_eq (nat_cmp k e.0)) as (λ b. AllByRecursion P (keys_of (cond b m (e ∷ without nat_cmp m k)))) [ true ↦ h.1 | false ↦ (h.0, all-without P m k h.1) ]
@@ -59,6 +59,11 @@ module _ {V : Type 0} where
         | Greater ↦ λ r. (h.0, all-put P m k v h.1 p)
       ] refl
 
+  pub all-taken : (P : ℕ → V → Type 0) (m : Map ℕ V) (k : ℕ) → AllByRecursion (λ e. P e.0 e.1) m → AllByRecursion (λ e. P e.0 e.1) (without nat_cmp m k)
+  all-taken P [] k h = tt
+  all-taken P (e ∷ m) k h =
+      elim (is_eq (nat_cmp k e.0)) as (λ b. AllByRecursion (λ e. P e.0 e.1) (cond b m (e ∷ without nat_cmp m k))) [ true ↦ h.1 | false ↦ (h.0, all-taken P m k h.1) ]
+
   -- a part after a change is a part
   pub part-set : (number : ℕ → ℕ) (i : ℕ) (m : Map ℕ V) (k : ℕ) (v : V) → IsPart number i m → number k ≡ i → IsPart number i (set nat_cmp m k v)
   part-set number i m k v is n = (sorted-set nat_cmp nat_cmp_total m k v is.0, all-set (λ k. number k ≡ i) m k v is.1 n)
@@ -73,15 +78,20 @@ module _ {V : Type 0} where
   get-put_other m k v q apart = get-set nat_cmp_total m k v q ∙ at_other q k (Some v) (get nat_cmp m q) apart
 
 module _ {V : Type 0} (number : ℕ → ℕ) (upwards : (a b : ℕ) → a ≤ b → number a ≤ number b) where
+  -- where the part is the same, it is joined the same
+  joined-same : (parts after : Map ℕ (Map ℕ V)) (q : ℕ) → AreParts number parts → AreParts number after → get nat_cmp after (number q) ≡ get nat_cmp parts (number q) → get nat_cmp (joined after) q ≡ get nat_cmp (joined parts) q
+  joined-same parts after q are then same =
+      elim (get nat_cmp parts (number q)) as (λ o. get nat_cmp parts (number q) ≡ o → get nat_cmp (joined after) q ≡ get nat_cmp (joined parts) q) [
+        | None ↦ λ o. get-joined_none number upwards after q then.1 (same ∙ o) ∙ sym (get-joined_none number upwards parts q are.1 o)
+        | Some p ↦ λ o. get-joined number upwards after q p then (same ∙ o) ∙ sym (get-joined number upwards parts q p are o)
+      ] refl
+
   -- other parts, of which one is changed or new, are joined to a map that has its keys changed
   joined-changed : (parts after : Map ℕ (Map ℕ V)) (i : ℕ) (part new : Map ℕ V) → AreParts number parts → AreParts number after → get nat_cmp after i ≡ Some part
       → ((j : ℕ) → (j ≡ i → ⊥) → get nat_cmp after j ≡ get nat_cmp parts j) → IsStrictlySortedBy nat_cmp (keys_of new)
       → ((q : ℕ) → number q ≡ i → get nat_cmp new q ≡ get nat_cmp part q) → ((q : ℕ) → (number q ≡ i → ⊥) → get nat_cmp new q ≡ get nat_cmp (joined parts) q) → joined after ≡ new
   joined-changed parts after i part new are then found others sorted here there =
-      let elsewhere = λ (q : ℕ) (apart : number q ≡ i → ⊥). elim (get nat_cmp parts (number q)) as (λ o. get nat_cmp parts (number q) ≡ o → get nat_cmp (joined after) q ≡ get nat_cmp (joined parts) q) [
-        | None ↦ λ o. get-joined_none number upwards after q then.1 (others (number q) apart ∙ o) ∙ sym (get-joined_none number upwards parts q are.1 o)
-        | Some p ↦ λ o. get-joined number upwards after q p then (others (number q) apart ∙ o) ∙ sym (get-joined number upwards parts q p are o)
-      ] refl in
+      let elsewhere = λ (q : ℕ) (apart : number q ≡ i → ⊥). joined-same parts after q are then (others (number q) apart) in
       alike (joined after) new (sorted-joined number upwards after then) sorted (λ q.
       elim (nat_cmp (number q) i) as (λ r. nat_cmp (number q) i ≡ r → get nat_cmp (joined after) q ≡ get nat_cmp new q) [
         | Less ↦ λ r. let apart : number q ≡ i → ⊥ = λ z. less_equal (sym r ∙ same_number (number q) i z) in elsewhere q apart ∙ sym (there q apart)
@@ -139,6 +149,23 @@ module _ {V : Type 0} (number : ℕ → ℕ) (upwards : (a b : ℕ) → a ≤ b 
               ∙ sym (subst (λ q. get nat_cmp (joined parts) q ≡ None) (is_same v q r) (get-joined_none number upwards parts v are.1 none))
           | Greater ↦ λ r. get-without (joined parts) v q sorted ∙ ap (λ r. cond (is_eq r) None (get nat_cmp (joined parts) q)) r
         ] refl)
+
+    -- a part that has nothing else goes
+    pub joined-gone : (part : Map ℕ V) → get nat_cmp parts (number v) ≡ Some part → without nat_cmp part v ≡ [] → joined (without nat_cmp parts (number v)) ≡ without nat_cmp (joined parts) v
+    joined-gone part found only =
+        let i = number v in
+        let is = all-found (IsPart number) parts i part are.1 found in
+        let sorted = sorted-joined number upwards parts are in
+        let then : AreParts number (without nat_cmp parts i) = (sorted-without nat_cmp parts i are.0, all-taken (IsPart number) parts i are.1) in
+        alike (joined (without nat_cmp parts i)) (without nat_cmp (joined parts) v) (sorted-joined number upwards (without nat_cmp parts i) then) (sorted-without nat_cmp (joined parts) v sorted) (λ q.
+        elim (one_or_other (number q) i) as (λ _. get nat_cmp (joined (without nat_cmp parts i)) q ≡ get nat_cmp (without nat_cmp (joined parts) v) q) [
+          | yes z ↦
+              get-joined_none number upwards (without nat_cmp parts i) q then.1 (get-without parts i (number q) are.0 ∙ at_once i (number q) None (get nat_cmp parts (number q)) (sym z))
+              ∙ sym (get-without (joined parts) v q sorted ∙ ap (cond (is_eq (nat_cmp v q)) None) (at_part parts i part q are found z) ∙ sym (get-without part v q is.0) ∙ ap (λ m. get nat_cmp m q) only)
+          | no n ↦
+              joined-same parts (without nat_cmp parts i) q are then (get-without parts i (number q) are.0 ∙ at_other i (number q) None (get nat_cmp parts (number q)) (λ z. n (sym z)))
+              ∙ sym (get-without (joined parts) v q sorted ∙ at_other v q None (get nat_cmp (joined parts) q) (λ z. n (ap number (sym z))))
+        ])
 
     -- a new part with one entry
     pub joined-new : (x : V) → get nat_cmp parts (number v) ≡ None → joined (set nat_cmp parts (number v) ((v, x) ∷ [])) ≡ set nat_cmp (joined parts) v x

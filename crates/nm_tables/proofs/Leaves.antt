@@ -89,6 +89,25 @@ module _ (p q : Places) (v : ℕ) (own : p.block ≡ v / 512) (same : q.block �
             ∙ sym (get-without (leaf_entries p) v k (leaf_ordered p) ∙ at_other v k None (get nat_cmp (leaf_entries p) k) (λ z. n (sym z)))
       ])
 
+-- a leaf that has nothing but at v
+module _ (p : Places) (v : ℕ) (own : p.block ≡ v / 512) where
+  pub only-without : ((i : ℕ) → i < 512 → (i ≡ v % 512 → ⊥) → stands_at p i ≡ None) → without nat_cmp (leaf_entries p) v ≡ []
+  unfolding IsStrictlySortedBy
+  only-without h =
+      alike (without nat_cmp (leaf_entries p) v) [] (sorted-without nat_cmp (leaf_entries p) v (leaf_ordered p)) tt (λ k.
+      elim (one_or_other k v) as (λ _. get nat_cmp (without nat_cmp (leaf_entries p) v) k ≡ None) [
+        | yes z ↦ get-without (leaf_entries p) v k (leaf_ordered p) ∙ at_once v k None (get nat_cmp (leaf_entries p) k) (sym z)
+        | no n ↦
+            get-without (leaf_entries p) v k (leaf_ordered p) ∙ at_other v k None (get nat_cmp (leaf_entries p) k) (λ z. n (sym z))
+            ∙ leaf-none p k (λ i l e. h i l (λ z. n (omega (arith, own, e, z))))
+      ])
+
+  pub without-only : without nat_cmp (leaf_entries p) v ≡ [] → (i : ℕ) → i < 512 → (i ≡ v % 512 → ⊥) → stands_at p i ≡ None
+  without-only none i l apart =
+      let differs : v ≡ p.block * 512 + i → ⊥ = λ z. apart (omega (arith, l, z)) in
+      sym (leaf-at p i l) ∙ sym (get-without (leaf_entries p) v (p.block * 512 + i) (leaf_ordered p) ∙ at_other v (p.block * 512 + i) None (get nat_cmp (leaf_entries p) (p.block * 512 + i)) differs)
+      ∙ ap (λ m. get nat_cmp m (p.block * 512 + i)) none
+
 -- a leaf of which no place is taken has no entry
 pub none_in : (p : Places) → ((i : ℕ) → stands_at p i ≡ None) → leaf_entries p ≡ []
 unfolding IsStrictlySortedBy

@@ -8,6 +8,8 @@ pub mod Leaves
 pub mod Trees
 pub mod Rests
 pub mod Slots
+pub mod Kept
+pub mod Removed
 pub mod Results
 pub mod Parts
 pub mod Branches

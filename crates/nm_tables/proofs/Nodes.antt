@@ -7,12 +7,12 @@ use Rattle.std.specs.Ordering.{nat_cmp}
 use Rattle.std.specs.Cmp.{nat_cmp_total}
 use Rattle.std.proofs.lemmas.Map.Lookups.{exact_unsigned}
 use Rattle.nm_types.specs.Map.{Map, get, set, replace, without}
-use Rattle.nm_types.proofs.Maps.{get-values, with_values-set, with_values-replace, with_values-replace_alike}
-use Rattle.nm_types.proofs.Keys.{keys-replace, sorted-set}
+use Rattle.nm_types.proofs.Maps.{get-values, with_values-set, with_values-replace, with_values-without, with_values-replace_alike}
+use Rattle.nm_types.proofs.Keys.{keys-replace, sorted-set, sorted-without}
 use Rattle.nm_tables.specs.Tree.{joined, IsPart, AreParts}
 use Rattle.nm_tables.proofs.Joined.{get-joined, get-joined_none}
 use Rattle.nm_tables.specs.Nodes.{shown, IsNode, are_parts}
-use Rattle.nm_tables.proofs.Changed.{all-found, all-replaced, all-put, joined-set, joined-replace, joined-without, joined-new, without-nothing}
+use Rattle.nm_tables.proofs.Changed.{all-found, all-replaced, all-put, all-taken, joined-set, joined-replace, joined-without, joined-gone, joined-new, without-nothing}
 
 module _ {P V : Type 0} (entries : P → Map ℕ V) (number : ℕ → ℕ) (whole : P → Type 0) (is_in : P → ℕ → Type 0)
     (part : (x : P) (i : ℕ) → whole x → is_in x i → IsPart number i (entries x)) (upwards : (a b : ℕ) → a ≤ b → number a ≤ number b) (parts : Map ℕ P) (is : IsNode whole is_in parts) where
@@ -64,6 +64,15 @@ module _ {P V : Type 0} (entries : P → Map ℕ V) (number : ℕ → ℕ) (whol
 
   pub node-more : (i : ℕ) (y : P) → whole y → is_in y i → IsNode whole is_in (set nat_cmp parts i y)
   node-more i y w n = (sorted-set nat_cmp nat_cmp_total parts i y is.0, all-put (λ i x. whole x × is_in x i) parts i y is.1 (w, n))
+
+  -- a part that has nothing else goes
+  pub node-gone : (v : ℕ) (x : P) → get nat_cmp parts (number v) ≡ Some x → without nat_cmp (entries x) v ≡ []
+      → joined (shown entries (without nat_cmp parts (number v))) ≡ without nat_cmp (joined (shown entries parts)) v
+  node-gone v x h only =
+      ap joined (with_values-without nat_cmp (λ i x. entries x) parts (number v)) ∙ joined-gone number upwards (shown entries parts) are v (entries x) (at_shown (number v) x h) only
+
+  pub node-less : (i : ℕ) → IsNode whole is_in (without nat_cmp parts i)
+  node-less i = (sorted-without nat_cmp parts i is.0, all-taken (λ i x. whole x × is_in x i) parts i is.1)
 
   pub node-without_nothing : (v : ℕ) → get nat_cmp parts (number v) ≡ None → without nat_cmp (joined (shown entries parts)) v ≡ joined (shown entries parts)
   node-without_nothing v h = without-nothing number upwards (shown entries parts) are v (none_shown (number v) h)

@@ -1,7 +1,7 @@
 -- A list of parts in order: what is found at a place, changed there, put there, and left from there on.
 use Rattle.std.proofs.Common.{◌≡◌, ℕ, zero, suc, ◌+◌, ◌≤◌, ◌<◌, List, [], ◌∷◌, length, get_or, take, drop, false, cond, refl, sym, ap, subst, ◌∙◌, arith, add-one}
 use Rattle.std.specs.Prelude.{Some, None, not, ◌&&◌, set as put}
-use Rattle.std.specs.List.{AllByRecursion, insert}
+use Rattle.std.specs.List.{AllByRecursion, insert, remove}
 use Rattle.std.specs.List.Sorted.{IsStrictlySortedBy}
 use Rattle.std.specs.Map.{keys_of}
 use Rattle.std.specs.Ordering.{nat_cmp, is_eq, is_le, match_ordering}
@@ -9,7 +9,7 @@ use Rattle.std.specs.Cmp.{nat_cmp_is, ranked}
 use Rattle.std.specs.declared.cmp.Ordering.TheVariants.{Less, Equal, Greater}
 use Rattle.std.specs.declared.ops.Bound.TheVariants.{Included, Unbounded}
 use Rattle.std.specs.BTreeMap.Range.{entries_between, range_contains}
-use Rattle.nm_types.specs.Map.{Map, get, set, replace}
+use Rattle.nm_types.specs.Map.{Map, get, set, replace, without}
 use Rattle.nm_tables.specs.Nodes.{IsNode}
 use Rattle.nm_tables.specs.Parts.{StandsAt, FitsAt, BeginsAt}
 use Rattle.nm_tables.proofs.Walks.{passes}
@@ -69,6 +69,29 @@ module _ {P : Type 0} where
   replace-at (e ∷ m) (suc i) d y s l =
       let rest : i < length m = omega (arith, l) in
       ap (λ n. e ∷ n) (replace-at m i d y s.1 rest) ∙ sym (replaced_later e m (get_or m i d).0 y (apart e.0 (get_or m i d).0 (later_key e.0 m i d s.0 rest)))
+
+  removed_later : (e : ℕ × P) (m : Map ℕ P) (q : ℕ) → (q ≡ e.0 → ⊥) → without nat_cmp (e ∷ m) q ≡ e ∷ without nat_cmp m q
+  removed_later e m q h =
+      elim (nat_cmp q e.0) as (λ r. nat_cmp q e.0 ≡ r → cond (is_eq r) m (e ∷ without nat_cmp m q) ≡ e ∷ without nat_cmp m q) [
+        | Less ↦ λ r. refl
+        | Equal ↦ λ r. absurd (h (is_same q e.0 r))
+        | Greater ↦ λ r. refl
+      ] refl
+
+  -- to remove what stands at a place is to take its key away
+  remove-at : (m : Map ℕ P) (i : ℕ) (d : ℕ × P) → IsStrictlySortedBy nat_cmp (keys_of m) → i < length m → remove m i ≡ without nat_cmp m (get_or m i d).0
+  unfolding IsStrictlySortedBy
+  remove-at [] i d s l = absurd (omega (arith, l))
+  remove-at (e ∷ m) zero d s l = ap (λ r. cond (is_eq r) m (e ∷ without nat_cmp m e.0)) (sym (same_number e.0 e.0 refl))
+  remove-at (e ∷ m) (suc i) d s l =
+      let rest : i < length m = omega (arith, l) in
+      ap (λ n. e ∷ n) (remove-at m i d s.1 rest) ∙ sym (removed_later e m (get_or m i d).0 (apart e.0 (get_or m i d).0 (later_key e.0 m i d s.0 rest)))
+
+  -- also where it was written before
+  remove-put : (m : Map ℕ P) (i : ℕ) (x : ℕ × P) → remove (put m i x) i ≡ remove m i
+  remove-put [] i x = refl
+  remove-put (e ∷ m) zero x = refl
+  remove-put (e ∷ m) (suc i) x = ap (λ n. e ∷ n) (remove-put m i x)
 
   below_it : (m : Map ℕ P) (i : ℕ) (d : ℕ × P) (n : ℕ) → IsStrictlySortedBy nat_cmp (keys_of m) → i < length m → (get_or m i d).0 < n → AllByRecursion (λ k. k < n) (keys_of (take (suc i) m))
   unfolding IsStrictlySortedBy
@@ -167,6 +190,10 @@ module _ {P : Type 0} (m seen : Map ℕ P) (number n i : ℕ) (shows : seen ≡ 
     -- a part that is written there is the part of the number
     pub written_at : (y : P) → put m i (e.0, y) ≡ replace nat_cmp m number y
     written_at y = subst (λ q. put m i (e.0, y) ≡ replace nat_cmp m q y) its_key (ap (λ d. put m i (d.0, y)) is ∙ replace-at m i e y sorted inside)
+
+    -- a part that is written there and removed is gone
+    pub removed_at : (y : P) → remove (put m i (e.0, y)) i ≡ without nat_cmp m number
+    removed_at y = subst (λ q. remove (put m i (e.0, y)) i ≡ without nat_cmp m q) its_key (remove-put m i (e.0, y) ∙ remove-at m i e sorted inside)
 
   fits_here : FitsAt seen n i → FitsAt m number i
   fits_here fits = subst (λ q. FitsAt m q i) named (subst (λ s. FitsAt s n i) shows fits)

@@ -18,7 +18,7 @@ use Rattle.nm_tables.specs.Blocks.{entries_there, slot_entries, IsLeafOf, IsOf, 
 use Rattle.nm_tables.specs.declared.entry.Entry.{Entry}
 use Rattle.nm_tables.specs.declared.places.Places.{Places}
 use Rattle.nm_tables.specs.declared.slot.Slot.{Slot}
-use Rattle.nm_tables.specs.declared.slot.Slot.TheVariants.{Bare, Lone, Leaf}
+use Rattle.nm_tables.specs.declared.slot.Slot.TheVariants.{Lone, Leaf}
 use Rattle.nm_tables.proofs.Joined.{less_equal, greater_equal, same_number, is_same, one_or_other, none_elsewhere}
 use Rattle.nm_tables.proofs.Changed.{joined-set, joined-without}
 use Rattle.nm_tables.specs.declared.blocks.Blocks.{Blocks}
@@ -37,7 +37,6 @@ part_there (Some leaf) block is = leaf_part leaf block is
 -- the entries of a block have its number
 pub slot_part : (leaves : List Places) (slot : Slot) (block : ℕ) → IsSlot slot → IsSlotOf leaves slot block → IsPart block_number block (slot_entries leaves slot)
 unfolding IsStrictlySortedBy
-slot_part leaves Bare block w is = (tt, tt)
 slot_part leaves (Lone v entry) block w is = ((tt, tt), (is.1, tt))
 slot_part leaves (Leaf i) block w is = part_there (slice_get leaves i) block is.1
 
@@ -59,7 +58,7 @@ get-written [] i q l = absurd (omega (arith, l))
 get-written (leaf ∷ leaves) zero q l = refl
 get-written (leaf ∷ leaves) (suc i) q l = get-written leaves i q (omega (arith, l))
 
-get-written_other : (leaves : List Places) (i j : ℕ) (q : Places) → (j ≡ i → ⊥) → slice_get (put leaves i q) j ≡ slice_get leaves j
+pub get-written_other : (leaves : List Places) (i j : ℕ) (q : Places) → (j ≡ i → ⊥) → slice_get (put leaves i q) j ≡ slice_get leaves j
 get-written_other [] i j q apart = refl
 get-written_other (leaf ∷ leaves) zero zero q apart = absurd (apart refl)
 get-written_other (leaf ∷ leaves) zero (suc j) q apart = refl
@@ -71,7 +70,7 @@ pub get-behind : (leaves : List Places) (q : Places) → slice_get (leaves ++ q 
 get-behind [] q = refl
 get-behind (leaf ∷ leaves) q = get-behind leaves q
 
-get-before : (leaves : List Places) (q : Places) (j : ℕ) → j < length leaves → slice_get (leaves ++ q ∷ []) j ≡ slice_get leaves j
+pub get-before : (leaves : List Places) (q : Places) (j : ℕ) → j < length leaves → slice_get (leaves ++ q ∷ []) j ≡ slice_get leaves j
 get-before [] q j l = absurd (omega (arith, l))
 get-before (leaf ∷ leaves) q zero l = refl
 get-before (leaf ∷ leaves) q (suc j) l = get-before leaves q j (omega (arith, l))
@@ -129,6 +128,15 @@ lacking-set (e ∷ index) b new h =
       | Greater ↦ λ h. let rest = lacking-set index b new h in omega (arith, rest)
     ] h
 
+-- how many blocks have no leaf without one of them
+pub lacking-without : (index : Map ℕ Slot) (b : ℕ) (old : Slot) → get nat_cmp index b ≡ Some old → without_leaf (without nat_cmp index b) + lacks old ≡ without_leaf index
+lacking-without [] b old h = absurd (none_some h)
+lacking-without (e ∷ index) b old h =
+    elim (is_eq (nat_cmp b e.0)) as (λ r. cond r (Some e.1) (get nat_cmp index b) ≡ Some old → without_leaf (cond r index (e ∷ without nat_cmp index b)) + lacks old ≡ without_leaf (e ∷ index)) [
+      | true ↦ λ h. let same : lacks e.1 ≡ lacks old = ap lacks (some_is h) in omega (arith, same)
+      | false ↦ λ h. let rest = lacking-without index b old h in omega (arith, rest)
+    ] h
+
 module _ (leaves : List Places) (index : Map ℕ Slot) (is : AreBlocks leaves index) where
   pub blocks-ordered : IsStrictlySortedBy nat_cmp (keys_of (entries_by leaves index))
   blocks-ordered = node_ordered (slot_entries leaves) block_number IsSlot (IsSlotOf leaves) (slot_part leaves) blocks_upwards index is
@@ -158,6 +166,14 @@ module _ (leaves : List Places) (index : Map ℕ Slot) (is : AreBlocks leaves in
   pub blocks-new : (v : ℕ) (e : Entry) → get nat_cmp index (v / 512) ≡ None → entries_by leaves (set nat_cmp index (v / 512) (Lone v e)) ≡ set nat_cmp (entries_by leaves index) v e
   blocks-new v e h = node.node-new (slot_entries leaves) block_number IsSlot (IsSlotOf leaves) (slot_part leaves) blocks_upwards index is v (Lone v e) e h refl
 
+  -- the block of v goes, which has no other entry
+  pub blocks-gone : (v : ℕ) (slot : Slot) → get nat_cmp index (v / 512) ≡ Some slot → without nat_cmp (slot_entries leaves slot) v ≡ []
+      → entries_by leaves (without nat_cmp index (v / 512)) ≡ without nat_cmp (entries_by leaves index) v
+  blocks-gone v slot h only = node.node-gone (slot_entries leaves) block_number IsSlot (IsSlotOf leaves) (slot_part leaves) blocks_upwards index is v slot h only
+
+  pub blocks-less : (b : ℕ) → AreBlocks leaves (without nat_cmp index b)
+  blocks-less b = node.node-less (slot_entries leaves) block_number IsSlot (IsSlotOf leaves) (slot_part leaves) blocks_upwards index is b
+
   pub blocks-kept : (b : ℕ) (new : Slot) → IsSlotOf leaves new b → AreBlocks leaves (replace nat_cmp index b new)
   blocks-kept b new of = node.node-kept (slot_entries leaves) block_number IsSlot (IsSlotOf leaves) (slot_part leaves) blocks_upwards index is b new tt of
 
@@ -183,8 +199,7 @@ module _ (leaves : List Places) (index : Map ℕ Slot) (is : AreBlocks leaves in
     other_leaf : (j k : ℕ) → (k ≡ v / 512 → ⊥) → IsLeafOf (slice_get leaves j) k → j ≡ i → ⊥
     other_leaf j k apart of e = apart (one_block (slice_get leaves i) k (v / 512) (subst (λ j. IsLeafOf (slice_get leaves j) k) e of) here)
 
-    other_slot : (slot : Slot) (k : ℕ) → (k ≡ v / 512 → ⊥) → IsSlot slot × IsSlotOf leaves slot k → slot_entries (put leaves i q) slot ≡ slot_entries leaves slot
-    other_slot Bare k apart of = refl
+    pub other_slot : (slot : Slot) (k : ℕ) → (k ≡ v / 512 → ⊥) → IsSlot slot × IsSlotOf leaves slot k → slot_entries (put leaves i q) slot ≡ slot_entries leaves slot
     other_slot (Lone w e) k apart of = refl
     other_slot (Leaf j) k apart of = ap entries_there (get-written_other leaves i j q (other_leaf j k apart of.1.1))
 
@@ -196,7 +211,6 @@ module _ (leaves : List Places) (index : Map ℕ Slot) (is : AreBlocks leaves in
     still_leaf j k (no n) of = subst (λ o. IsLeafOf o k) (sym (get-written_other leaves i j q n)) of
 
     still : (slot : Slot) (k : ℕ) → IsOf leaves slot k → IsOf (put leaves i q) slot k
-    still Bare k of = of
     still (Lone w e) k of = of
     still (Leaf j) k of = still_leaf j k (one_or_other j i) of
 
@@ -229,13 +243,11 @@ module _ (leaves : List Places) (index : Map ℕ Slot) (is : AreBlocks leaves in
     behind_there : (j k : ℕ) → IsLeafOf (slice_get leaves j) k → slice_get (leaves ++ q ∷ []) j ≡ slice_get leaves j
     behind_there j k of = get-before leaves q j (within leaves j k of)
 
-    behind_slot : (slot : Slot) (k : ℕ) → IsSlot slot × IsSlotOf leaves slot k → slot_entries (leaves ++ q ∷ []) slot ≡ slot_entries leaves slot
-    behind_slot Bare k of = refl
+    pub behind_slot : (slot : Slot) (k : ℕ) → IsSlot slot × IsSlotOf leaves slot k → slot_entries (leaves ++ q ∷ []) slot ≡ slot_entries leaves slot
     behind_slot (Lone w e) k of = refl
     behind_slot (Leaf j) k of = ap entries_there (behind_there j k of.1.1)
 
     behind_is : (slot : Slot) (k : ℕ) → IsOf leaves slot k → IsOf (leaves ++ q ∷ []) slot k
-    behind_is Bare k of = of
     behind_is (Lone w e) k of = of
     behind_is (Leaf j) k of = subst (λ o. IsLeafOf o k) (sym (behind_there j k of)) of
 

@@ -1,14 +1,15 @@
 -- The blocks of a page table: each has a slot, which says where its entries stand.
 use Rattle.std.specs.Prelude.{◌≡◌, ℕ, ◌+◌, ◌/◌, ◌<◌, ◌≤◌, ◌^◌, List, [], ◌∷◌, length, Option, Some, None, slice_get}
 use Rattle.std.specs.Vec.{vec_capacity}
-use Rattle.nm_types.specs.Map.{Map}
+use Rattle.std.specs.Ordering.{nat_cmp}
+use Rattle.nm_types.specs.Map.{Map, get}
 use Rattle.nm_tables.specs.Tree.{joined}
 use Rattle.nm_tables.specs.Nodes.{shown, IsNode}
 use Rattle.nm_tables.specs.Leaves.{leaf_entries}
 use Rattle.nm_tables.specs.declared.entry.Entry.{Entry}
 use Rattle.nm_tables.specs.declared.places.Places.{Places}
 use Rattle.nm_tables.specs.declared.slot.Slot.{Slot}
-use Rattle.nm_tables.specs.declared.slot.Slot.TheVariants.{Bare, Lone, Leaf}
+use Rattle.nm_tables.specs.declared.slot.Slot.TheVariants.{Lone, Leaf}
 use Rattle.nm_tables.specs.declared.blocks.Blocks.{Blocks}
 
 -- the entries of a leaf that there is
@@ -18,7 +19,6 @@ entries_there (Some leaf) = leaf_entries leaf
 
 -- the entries of a block with this slot
 abbrev pub slot_entries : List Places → Slot → Map ℕ Entry
-slot_entries leaves Bare = []
 slot_entries leaves (Lone v entry) = (v, entry) ∷ []
 slot_entries leaves (Leaf i) = entries_there (slice_get leaves i)
 
@@ -29,7 +29,6 @@ IsLeafOf (Some leaf) block = leaf.block ≡ block
 
 -- the slot may be that of this block: what it names belongs there
 abbrev pub IsOf : List Places → Slot → ℕ → Type 0
-IsOf leaves Bare block = Unit {0}
 IsOf leaves (Lone v entry) block = v / 512 ≡ block
 IsOf leaves (Leaf i) block = IsLeafOf (slice_get leaves i) block
 
@@ -43,7 +42,6 @@ IsSlot slot = Unit {0}
 
 -- one for a slot without a leaf
 abbrev pub lacks : Slot → ℕ
-lacks Bare = 1
 lacks (Lone v entry) = 1
 lacks (Leaf i) = 0
 
@@ -60,14 +58,24 @@ entries_by leaves index = joined (shown (slot_entries leaves) index)
 abbrev pub AreBlocks : List Places → Map ℕ Slot → Type 0
 AreBlocks leaves index = IsNode IsSlot (IsSlotOf leaves) index
 
+-- each leaf is that of its block
+abbrev pub EachLeafIsNamed : List Places → Map ℕ Slot → Type 0
+EachLeafIsNamed leaves index = (i : ℕ) (leaf : Places) → slice_get leaves i ≡ Some leaf → get nat_cmp index leaf.block ≡ Some (Leaf i)
+
+-- no block is without entries
+abbrev pub EachHasEntries : List Places → Map ℕ Slot → Type 0
+EachHasEntries leaves index = (block : ℕ) (slot : Slot) → get nat_cmp index block ≡ Some slot → slot_entries leaves slot ≡ [] → ⊥
+
 module _ {A : Type 0} where
   -- the entries of a page table
   abbrev pub block_entries : Blocks A → Map ℕ Entry
   block_entries blocks = entries_by blocks.leaves.items blocks.index
 
-  -- blocks of which those without a leaf are counted, and have room for one
+  -- blocks with entries, of which those without a leaf are counted, and have room for one
   abbrev pub IsBlocks : Blocks A → Type 0
   IsBlocks blocks =
       AreBlocks blocks.leaves.items blocks.index
       × (blocks.without ≡ without_leaf blocks.index)
       × (length blocks.leaves.items + blocks.without ≤ vec_capacity blocks.leaves)
+      × EachLeafIsNamed blocks.leaves.items blocks.index
+      × EachHasEntries blocks.leaves.items blocks.index

@@ -6,11 +6,11 @@ ghost use Rattle.std.specs.Map.{keys_of};
 ghost use Rattle.std.specs.Ordering.{nat_cmp};
 ghost use Rattle.nm_types.specs.Map.{get, set, replace, without};
 ghost use Rattle.nm_tables.specs.Blocks.{slot_entries, IsSlotOf, block_entries, IsBlocks};
-ghost use Rattle.nm_tables.specs.declared.slot.Slot.TheVariants.{Lone};
+ghost use Rattle.nm_tables.specs.declared.slot.Slot.TheVariants.{Lone, Leaf};
 
 use crate::entry::Entry;
 use crate::index::Index;
-use crate::leaf::{clear_in, entry_in, first_in, list_leaf, set_in};
+use crate::leaf::{clear_in, entry_in, first_in, has_no_other, list_leaf, set_in};
 use crate::places::Places;
 use crate::slot::Slot;
 use nm_types::Vpn;
@@ -20,9 +20,9 @@ use std::alloc::{AllocError, Allocator};
 /// leaf is set aside with its first, and costs no memory until it is written to.
 #[derive(Drop)]
 pub(crate) struct Blocks<A: Allocator + Copy> {
-    /// What each block has that has had an entry.
+    /// What each block has that has an entry.
     index: Index<A>,
-    /// In the order in which they came.
+    /// One for each block with a leaf, in any order.
     leaves: Vec<Places, A>,
     /// How many blocks have no leaf. There is room for as many more.
     without: usize,
@@ -55,7 +55,6 @@ impl<A: Allocator + Copy> Blocks<A> {
         ensures { result ≡ get nat_cmp (block_entries self.now) vpn }
     {
         match self.index.get(block_of(vpn))? {
-            Slot::Bare => None,
             Slot::Lone(own, entry) => { if own == vpn { Some(entry) } else { None } }
             Slot::Leaf(number) => entry_in(&self.leaves[number], vpn),
         }
@@ -78,7 +77,7 @@ impl<A: Allocator + Copy> Blocks<A> {
         None
     }
 
-    /// The first block from a number on that has had an entry, with its slot.
+    /// The first block from a number on that has an entry, with its slot.
     fn block_from(&self, from: u64) -> Option<(u64, Slot)>
         requires { IsBlocks self.now }
         ensures some { IfSome result (λ e. (from ≤ e.0) × (get nat_cmp self.now.index e.0 ≡ Some e.1)) }
@@ -97,14 +96,13 @@ impl<A: Allocator + Copy> Blocks<A> {
         ensures none { IfNone result ((v : ℕ) → at ≤ v → get nat_cmp (slot_entries self.now.leaves.items slot) v ≡ None) }
     {
         match slot {
-            Slot::Bare => None,
             Slot::Lone(own, entry) => { if own < at { None } else { Some((own, entry)) } }
             Slot::Leaf(number) => first_in(&self.leaves[number], at),
         }
     }
 
-    /// Puts an entry at a page number. An error means that the host is out of memory, that the block has had no entry, and
-    /// that nothing has changed but the room for leaves.
+    /// Puts an entry at a page number. An error means that the host is out of memory, that the block has no entry, and that
+    /// nothing has changed but the room for leaves.
     pub(crate) fn set(&mut self, vpn: Vpn, entry: Entry) -> Result<(), AllocError>
         requires { IsBlocks self.old }
         ensures ok { OnOk result (block_entries self.new ≡ set nat_cmp (block_entries self.old) vpn entry) }
@@ -121,7 +119,7 @@ impl<A: Allocator + Copy> Blocks<A> {
         }
     }
 
-    /// Puts the first entry into a block that has had none, and sets room aside for its leaf.
+    /// Puts the first entry into a block, and sets room aside for its leaf.
     fn begin(&mut self, vpn: Vpn, entry: Entry) -> Result<(), AllocError>
         requires kept { IsBlocks self.old }
         requires empty { get nat_cmp self.old.index (vpn / 512) ≡ None }
@@ -143,7 +141,6 @@ impl<A: Allocator + Copy> Blocks<A> {
         ensures kept { IsBlocks self.new }
     {
         match slot {
-            Slot::Bare => self.index.replace(block_of(vpn), Slot::Lone(vpn, entry)),
             Slot::Lone(own, first) => {
                 if own == vpn {
                     self.index.replace(block_of(vpn), Slot::Lone(vpn, entry));
@@ -196,14 +193,38 @@ impl<A: Allocator + Copy> Blocks<A> {
             return;
         };
         match slot {
-            Slot::Bare => {}
             Slot::Lone(own, _) => {
                 if own == vpn {
-                    self.index.replace(block, Slot::Bare);
+                    self.index.remove(block);
+                    self.without -= 1;
                 }
             }
-            Slot::Leaf(number) => clear_in(&mut self.leaves[number], vpn),
+            Slot::Leaf(number) => {
+                if has_no_other(&self.leaves[number], vpn) {
+                    self.remove_leaf(number, vpn);
+                } else {
+                    clear_in(&mut self.leaves[number], vpn);
+                }
+            }
         }
+    }
+
+    /// Takes away a leaf that has no entry but at this page number, and its block. The last leaf takes its number. It
+    /// takes no memory.
+    fn remove_leaf(&mut self, number: usize, vpn: Vpn)
+        requires kept { IsBlocks self.old }
+        requires there { get nat_cmp self.old.index (vpn / 512) ≡ Some (Leaf number) }
+        requires only { without nat_cmp (slot_entries self.old.leaves.items (Leaf number)) vpn ≡ [] }
+        ensures entries { block_entries self.new ≡ without nat_cmp (block_entries self.old) vpn }
+        ensures kept { IsBlocks self.new }
+    {
+        self.index.remove(block_of(vpn));
+        self.leaves.swap_remove(number);
+        if number == self.leaves.len() {
+            return;
+        }
+        let moved = self.leaves[number].block;
+        self.index.replace(moved, Slot::Leaf(number));
     }
 
     /// Appends all entries to a list, in ascending order.
@@ -214,7 +235,6 @@ impl<A: Allocator + Copy> Blocks<A> {
         let mut from = 0;
         while let Some((block, slot)) = self.block_from(from) {
             match slot {
-                Slot::Bare => {}
                 Slot::Lone(own, entry) => list.push((own, entry))?,
                 Slot::Leaf(number) => list_leaf(&self.leaves[number], list)?,
             }

@@ -133,6 +133,14 @@ impl<T: Subtree<A>, A: Allocator + Copy> Subtree<A> for Branch<T, A> {
         }
     }
 
+    fn remove(&mut self, block: u64) -> bool {
+        match self {
+            Branch::Empty => unreachable!(),
+            Branch::One(_, part) => part.remove(block),
+            Branch::Many(node) => node.remove(block),
+        }
+    }
+
     ghost ordered = { λ x w. node_ordered T.slots T.number T.whole T.is_in T.parted T.upwards (parts_of x) w };
 
     ghost parted = { λ x i w n. node_part T.slots T.number T.whole T.is_in T.parted T.upwards (parts_of x) i w n };

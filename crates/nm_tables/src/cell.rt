@@ -56,6 +56,10 @@ impl<A: Allocator + Copy> Subtree<A> for Cell {
         self.slot = slot;
     }
 
+    fn remove(&mut self, _block: u64) -> bool {
+        true
+    }
+
     ghost ordered = { λ x w. cell_ordered x.block x.slot };
 
     ghost parted = { λ x i w n. cell_part x.block x.slot i n };

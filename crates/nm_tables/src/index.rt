@@ -1,10 +1,10 @@
-//! The blocks of a page table that have had an entry, in order.
+//! The blocks of a page table that have entries, in order.
 
 ghost use Rattle.std.specs.Prelude.{◌≡◌, ◌≤◌, ◌<◌, ℕ, [], None, Some, IsSome, IfSome, IfNone, OnOk, OnErr};
 ghost use Rattle.std.specs.List.Sorted.{IsStrictlySortedBy};
 ghost use Rattle.std.specs.Map.{keys_of};
 ghost use Rattle.std.specs.Ordering.{nat_cmp};
-ghost use Rattle.nm_types.specs.Map.{get, set, replace};
+ghost use Rattle.nm_types.specs.Map.{get, set, replace, without};
 
 use crate::branch::Branch;
 use crate::cell::Cell;
@@ -82,5 +82,16 @@ impl<A: Allocator + Copy> Index<A> {
         ensures ordered { IsStrictlySortedBy nat_cmp (keys_of self.old) }
     {
         self.root.replace(block, slot);
+    }
+
+    /// Takes away a block that has a slot. It takes no memory.
+    pub(crate) fn remove(&mut self, block: u64)
+        requires { IsSome (get nat_cmp self.old block) }
+        ensures slot { self.new ≡ without nat_cmp self.old block }
+        ensures ordered { IsStrictlySortedBy nat_cmp (keys_of self.old) }
+    {
+        if self.root.remove(block) {
+            self.root = Branch::Empty;
+        }
     }
 }

@@ -1,6 +1,6 @@
 //! A leaf of a page table, by page numbers.
 
-ghost use Rattle.std.specs.Prelude.{◌≡◌, ◌≤◌, ◌<◌, ◌+◌, ◌*◌, ◌/◌, ◌%◌, ◌^◌, ◌++◌, ℕ, None, Some, IfSome, IfNone, OnOk};
+ghost use Rattle.std.specs.Prelude.{◌≡◌, ◌≤◌, ◌<◌, ◌+◌, ◌*◌, ◌/◌, ◌%◌, ◌^◌, ◌++◌, ℕ, [], true, false, None, Some, IfSome, IfNone, OnOk};
 ghost use Rattle.std.specs.Ordering.{nat_cmp};
 ghost use Rattle.nm_types.specs.Map.{get, set, without};
 ghost use Rattle.nm_tables.specs.Leaves.{leaf_entries};
@@ -57,6 +57,15 @@ pub(crate) fn clear_in(leaf: &mut Places, vpn: Vpn)
     ensures block { leaf.new.block ≡ leaf.old.block }
 {
     leaf.clear(place_of(vpn));
+}
+
+/// Whether a leaf has no entry but at this page number of its block.
+pub(crate) fn has_no_other(leaf: &Places, vpn: Vpn) -> bool
+    requires { leaf.now.block ≡ vpn / 512 }
+    ensures none { result ≡ true → without nat_cmp (leaf_entries leaf.now) vpn ≡ [] }
+    ensures some { result ≡ false → without nat_cmp (leaf_entries leaf.now) vpn ≡ [] → ⊥ }
+{
+    leaf.has_no_other(place_of(vpn))
 }
 
 /// The first entry of a leaf at a page number or past it.

@@ -126,6 +126,17 @@ impl<T: Subtree<A>, A: Allocator + Copy> Subtree<A> for Node<T, A> {
         self.parts[place].1.replace(block, slot);
     }
 
+    fn remove(&mut self, block: u64) -> bool {
+        let Ok(place) = place_of(self.parts.as_slice(), T::number_of(block)) else {
+            unreachable!()
+        };
+        if !self.parts[place].1.remove(block) {
+            return false;
+        }
+        self.parts.remove(place);
+        self.parts.is_empty()
+    }
+
     ghost ordered = { λ x w. node_ordered T.slots T.number T.whole T.is_in T.parted T.upwards x.parts.items w };
 
     ghost parted = { λ x i w n. node_part T.slots T.number T.whole T.is_in T.parted T.upwards x.parts.items i w n };

@@ -1,6 +1,6 @@
 //! The places of a leaf.
 
-ghost use Rattle.std.specs.Prelude.{◌≡◌, ◌≤◌, ◌<◌, ◌+◌, ℕ, None, Some, IfSome, IfNone};
+ghost use Rattle.std.specs.Prelude.{◌≡◌, ◌≤◌, ◌<◌, ◌+◌, ℕ, true, false, None, Some, IfSome, IfNone};
 ghost use Rattle.nm_tables.specs.Leaves.{entry_of, stands_at};
 
 use crate::entry::Entry;
@@ -108,6 +108,20 @@ impl Places {
             }
         }
         None
+    }
+
+    /// Whether no other place than this one has an entry.
+    pub(crate) fn has_no_other(&self, place: usize) -> bool
+        requires { place < 512 }
+        ensures none { result ≡ true → (i : ℕ) → i < 512 → (i ≡ place → ⊥) → stands_at self.now i ≡ None }
+        ensures some { result ≡ false → ((i : ℕ) → i < 512 → (i ≡ place → ⊥) → stands_at self.now i ≡ None) → ⊥ }
+    {
+        if let Some((first, _)) = self.first_from(0) {
+            if first < place {
+                return false;
+            }
+        }
+        self.first_from(place + 1).is_none()
     }
 
     /// How many places from this one on are absent, counted to the end of its word of marks.

@@ -3,12 +3,10 @@
 use crate::entry::Entry;
 use nm_types::Vpn;
 
-/// What an aligned block of 512 page numbers has, once it has had an entry.
+/// What an aligned block of 512 page numbers has that has an entry.
 #[derive(Clone, Copy)]
 pub(crate) enum Slot {
-    /// No entry now, and no leaf yet.
-    Bare,
-    /// One entry, at this page number, and no leaf yet.
+    /// One entry, at this page number, and no leaf.
     Lone(Vpn, Entry),
     /// The leaf of this number, with whatever entries the block has.
     Leaf(usize),

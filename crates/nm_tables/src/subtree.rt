@@ -1,10 +1,10 @@
 //! A part of an index.
 
-ghost use Rattle.std.specs.Prelude.{◌≡◌, ◌≤◌, ◌<◌, ℕ, [], ◌∷◌, None, Some, IsSome, IfSome, IfNone, IfOk, OnOk, OnErr};
+ghost use Rattle.std.specs.Prelude.{◌≡◌, ◌≤◌, ◌<◌, ℕ, [], ◌∷◌, true, false, None, Some, IsSome, IfSome, IfNone, IfOk, OnOk, OnErr};
 ghost use Rattle.std.specs.List.Sorted.{IsStrictlySortedBy};
 ghost use Rattle.std.specs.Map.{keys_of};
 ghost use Rattle.std.specs.Ordering.{nat_cmp};
-ghost use Rattle.nm_types.specs.Map.{Map, get, set, replace};
+ghost use Rattle.nm_types.specs.Map.{Map, get, set, replace, without};
 ghost use Rattle.nm_tables.specs.Tree.{IsPart};
 ghost use Rattle.nm_tables.specs.declared.slot.Slot.{Slot};
 
@@ -67,6 +67,16 @@ pub(crate) trait Subtree<A: Allocator + Copy>: Drop {
         requires inside { takes self.old block }
         requires there { IsSome (get nat_cmp (slots self.old) block) }
         ensures slot { slots self.new ≡ replace nat_cmp (slots self.old) block slot }
+        ensures kept { whole self.new }
+        ensures inside { (i : ℕ) → is_in self.old i → is_in self.new i };
+
+    /// Takes away a block that has a slot. Returns whether it was the last: then the part is to go, whatever it has.
+    fn remove(&mut self, block: u64) -> bool
+        requires kept { whole self.old }
+        requires inside { takes self.old block }
+        requires there { IsSome (get nat_cmp (slots self.old) block) }
+        ensures last { result ≡ true → without nat_cmp (slots self.old) block ≡ [] }
+        ensures left { result ≡ false → slots self.new ≡ without nat_cmp (slots self.old) block }
         ensures kept { whole self.new }
         ensures inside { (i : ℕ) → is_in self.old i → is_in self.new i };
 

@@ -2,10 +2,11 @@ use Rattle.std.proofs.Common.{◌≡◌, ◌/◌, [], ◌∷◌, ◌++◌, lengt
 use Rattle.std.specs.Ordering.{nat_cmp}
 use Rattle.nm_types.specs.Map.{set, replace}
 use Rattle.nm_tables.specs.Leaves.{leaf_entries}
-use Rattle.nm_tables.specs.Blocks.{AreBlocks, entries_by, without_leaf}
+use Rattle.nm_tables.specs.Blocks.{AreBlocks, entries_by, without_leaf, EachLeafIsNamed, EachHasEntries}
 use Rattle.nm_tables.specs.declared.slot.Slot.TheVariants.{Lone, Leaf}
 use Rattle.nm_tables.proofs.Leaves.{none_in}
 use Rattle.nm_tables.proofs.Slots.{blocks-found, second-kept, second-set, lacking-replace, one_lacks}
+use Rattle.nm_tables.proofs.Kept.{set_some, second_named, second_has}
 use Rattle.nm_tables.proofs.blocks.Blocks.add_leaf.Goals as goal
 
 pub set_in-requires : goal.set_in-requires
@@ -61,4 +62,9 @@ returns-clause-kept g c =
       subst (λ leaves. AreBlocks leaves c.replace.new.self) (sym c.push_reserved.ensures.items) (subst (AreBlocks (b.leaves.items ++ q ∷ [])) (sym index_now) are),
       omega (arith, less, after, counted),
       omega (arith, less, counted, room, old_len, new_len, more, same),
+      subst (λ leaves. EachLeafIsNamed leaves c.replace.new.self) (sym c.push_reserved.ensures.items)
+          (subst (EachLeafIsNamed (b.leaves.items ++ q ∷ [])) (sym index_now) (second_named b.leaves.items b.index c.requires.kept.3 c.requires.kept.4 (c.args.vpn / 512) c.args.own c.args.first c.requires.there q block)),
+      subst (λ leaves. EachHasEntries leaves c.replace.new.self) (sym c.push_reserved.ensures.items)
+          (subst (EachHasEntries (b.leaves.items ++ q ∷ [])) (sym index_now)
+          (second_has b.leaves.items b.index c.requires.kept.3 c.requires.kept.4 (c.args.vpn / 512) c.args.own c.args.first c.requires.there q c.requires.kept.0 (λ none. set_some (leaf_entries c.set_in.new.leaf) c.args.vpn c.args.entry (sym c.set_in-2.ensures.entries ∙ none)))),
     )

@@ -47,9 +47,6 @@ first_in-requires g c =
     let own : c.index.result.now.block ≡ c.requires.0 = subst (λ o. IsLeafOf o c.requires.0) at (subst (λ s. IsOf leaves s c.requires.0) c.in-Leaf.is c.requires.1.1) in
     omega (arith, own, c.requires.1.0)
 
-pub returns-in-Bare-clause-none : goal.returns-in-Bare-clause-none
-returns-in-Bare-clause-none g c = λ v le. ap (λ s. get nat_cmp (slot_entries c.args.self.now.leaves.items s) v) c.in-Bare.is
-
 pub returns-then-lt-clause-none : goal.returns-then-lt-clause-none
 returns-then-lt-clause-none g c = λ v le.
     ap (λ s. get nat_cmp (slot_entries c.args.self.now.leaves.items s) v) c.in-Lone.is

@@ -1,9 +1,9 @@
-use Rattle.std.proofs.Common.{◌≡◌, ◌+◌, ◌<◌, ◌^◌, ◌++◌, sym, ap, subst, ◌∙◌, arith, append-nil}
+use Rattle.std.proofs.Common.{◌≡◌, ◌+◌, ◌<◌, ◌^◌, ◌++◌, sym, ap, subst, ◌∙◌, arith}
 use Rattle.nm_tables.specs.Blocks.{slot_entries, entries_there, entries_by, IsSlotOf}
 use Rattle.nm_tables.proofs.Rests.{rest, rest_all}
 use Rattle.nm_tables.proofs.Slots.{within, read_leaf, read_block, list-step, list-end}
 use Rattle.nm_tables.proofs.blocks.Blocks.list.Goals as goal
-use Rattle.nm_tables.proofs.blocks.Blocks.list.Goals.{in-Bare, in-Lone+in_ok-push-in-Lone, in-Leaf+in_ok-list_leaf-in-Leaf}
+use Rattle.nm_tables.proofs.blocks.Blocks.list.Goals.{in-Lone+in_ok-push-in-Lone, in-Leaf+in_ok-list_leaf-in-Leaf}
 
 pub loop-block-init : goal.loop-block-init
 loop-block-init g c =
@@ -33,7 +33,6 @@ loop-block-preserved g c =
     let before = c.loop-block.list.items in
     let more : c.match-slot.list.items ≡ before ++ slot_entries b.leaves.items c.in-Some.slot =
     elim c.match-slot.branch [
-      | in-Bare w ↦ ap (λ v. v.items) w.list-is ∙ sym (append-nil before) ∙ ap (λ s. before ++ slot_entries b.leaves.items s) (sym w.in-Bare.is)
       | in-Lone+in_ok-push-in-Lone w ↦ ap (λ v. v.items) w.list-is ∙ w.in_ok-push-in-Lone.ensures.items ∙ ap (λ s. before ++ slot_entries b.leaves.items s) (sym w.in-Lone.is)
       | in-Leaf+in_ok-list_leaf-in-Leaf w ↦
           let of = subst (λ slot. IsSlotOf b.leaves.items slot c.in-Some.block) w.in-Leaf.is c.in-Some.ensures.slot in

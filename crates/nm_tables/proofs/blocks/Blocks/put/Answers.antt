@@ -2,9 +2,11 @@ use Rattle.std.proofs.Common.{◌≡◌, ◌+◌, ◌/◌, ◌<◌, ◌≤◌, r
 use Rattle.std.specs.Prelude.{Some}
 use Rattle.std.specs.Ordering.{nat_cmp}
 use Rattle.nm_types.specs.Map.{get, replace}
-use Rattle.nm_tables.specs.Blocks.{AreBlocks, entries_by, without_leaf}
-use Rattle.nm_tables.specs.declared.slot.Slot.TheVariants.{Bare, Lone, Leaf}
+use Rattle.nm_tables.specs.Blocks.{AreBlocks, entries_by, without_leaf, EachLeafIsNamed, EachHasEntries}
+use Rattle.nm_tables.specs.declared.slot.Slot.TheVariants.{Lone, Leaf}
 use Rattle.nm_tables.proofs.Slots.{blocks-found, blocks-kept, blocks-set, within, read_leaf, read_block, written-set, written-kept, lacking-replace, lone_set}
+use Rattle.nm_tables.specs.Leaves.{leaf_entries}
+use Rattle.nm_tables.proofs.Kept.{set_some, lone_named, lone_has, written_named, written_has}
 use Rattle.nm_tables.proofs.blocks.Blocks.put.Goals as goal
 
 pub index_mut-requires : goal.index_mut-requires
@@ -21,31 +23,12 @@ set_in-requires g c =
     read_block b.leaves.items c.in-Leaf.number (c.args.vpn / 512) c.index_mut.result.now (blocks-found b.leaves.items b.index c.requires.kept.0 (c.args.vpn / 512) (Leaf c.in-Leaf.number) at).1
     c.index_mut.ensures.value
 
-pub returns-in-Bare-clause-entries : goal.returns-in-Bare-clause-entries
-returns-in-Bare-clause-entries g c =
-    let b = c.args.self.now in
-    let new = Lone c.args.vpn c.args.entry in
-    ap (entries_by b.leaves.items) (c.replace.ensures.slot ∙ ap (λ k. replace nat_cmp b.index k new) c.block_of.ensures.number)
-    ∙ blocks-set b.leaves.items b.index c.requires.kept.0 c.args.vpn Bare new c.args.entry (c.requires.there ∙ ap Some c.in-Bare.is) refl
-
-pub returns-in-Bare-clause-kept : goal.returns-in-Bare-clause-kept
-returns-in-Bare-clause-kept g c =
-    let b = c.args.self.now in
-    let new = Lone c.args.vpn c.args.entry in
-    let at : get nat_cmp b.index (c.args.vpn / 512) ≡ Some Bare = c.requires.there ∙ ap Some c.in-Bare.is in
-    let index_now : c.replace.new.self ≡ replace nat_cmp b.index (c.args.vpn / 512) new = c.replace.ensures.slot ∙ ap (λ k. replace nat_cmp b.index k new) c.block_of.ensures.number in
-    let are = blocks-kept b.leaves.items b.index c.requires.kept.0 (c.args.vpn / 512) new ((blocks-found b.leaves.items b.index c.requires.kept.0 (c.args.vpn / 512) Bare at).0, refl) in
-    let counted = lacking-replace b.index (c.args.vpn / 512) Bare new at in
-    let after : without_leaf c.replace.new.self ≡ without_leaf (replace nat_cmp b.index (c.args.vpn / 512) new) = ap without_leaf index_now in
-    let before = c.requires.kept.1 in
-    (subst (AreBlocks b.leaves.items) (sym index_now) are, omega (arith, counted, after, before), c.requires.kept.2)
-
 pub returns-then-eq-clause-entries : goal.returns-then-eq-clause-entries
 returns-then-eq-clause-entries g c =
     let b = c.args.self.now in
     let new = Lone c.args.vpn c.args.entry in
     let same : c.args.vpn ≡ c.in-Lone.own = search rules in
-    ap (entries_by b.leaves.items) (c.replace-then-eq.ensures.slot ∙ ap (λ k. replace nat_cmp b.index k new) c.block_of-then-eq.ensures.number)
+    ap (entries_by b.leaves.items) (c.replace.ensures.slot ∙ ap (λ k. replace nat_cmp b.index k new) c.block_of.ensures.number)
     ∙ blocks-set b.leaves.items b.index c.requires.kept.0 c.args.vpn (Lone c.in-Lone.own c.in-Lone.first) new c.args.entry (c.requires.there ∙ ap Some c.in-Lone.is)
     (lone_set c.args.vpn c.in-Lone.own c.in-Lone.first c.args.entry same)
 
@@ -55,12 +38,17 @@ returns-then-eq-clause-kept g c =
     let new = Lone c.args.vpn c.args.entry in
     let old = Lone c.in-Lone.own c.in-Lone.first in
     let at : get nat_cmp b.index (c.args.vpn / 512) ≡ Some old = c.requires.there ∙ ap Some c.in-Lone.is in
-    let index_now : c.replace-then-eq.new.self ≡ replace nat_cmp b.index (c.args.vpn / 512) new = c.replace-then-eq.ensures.slot ∙ ap (λ k. replace nat_cmp b.index k new) c.block_of-then-eq.ensures.number in
+    let index_now : c.replace.new.self ≡ replace nat_cmp b.index (c.args.vpn / 512) new = c.replace.ensures.slot ∙ ap (λ k. replace nat_cmp b.index k new) c.block_of.ensures.number in
     let are = blocks-kept b.leaves.items b.index c.requires.kept.0 (c.args.vpn / 512) new ((blocks-found b.leaves.items b.index c.requires.kept.0 (c.args.vpn / 512) old at).0, refl) in
     let counted = lacking-replace b.index (c.args.vpn / 512) old new at in
-    let after : without_leaf c.replace-then-eq.new.self ≡ without_leaf (replace nat_cmp b.index (c.args.vpn / 512) new) = ap without_leaf index_now in
-    let before = c.requires.kept.1 in
-    (subst (AreBlocks b.leaves.items) (sym index_now) are, omega (arith, counted, after, before), c.requires.kept.2)
+    let after : without_leaf c.replace.new.self ≡ without_leaf (replace nat_cmp b.index (c.args.vpn / 512) new) = ap without_leaf index_now in
+    let before = c.requires.kept.1 in (
+      subst (AreBlocks b.leaves.items) (sym index_now) are,
+      omega (arith, counted, after, before),
+      c.requires.kept.2,
+      subst (EachLeafIsNamed b.leaves.items) (sym index_now) (lone_named b.leaves.items b.index c.requires.kept.3 c.requires.kept.4 (c.args.vpn / 512) c.in-Lone.own c.in-Lone.first at new),
+      subst (EachHasEntries b.leaves.items) (sym index_now) (lone_has b.leaves.items b.index c.requires.kept.3 c.requires.kept.4 (c.args.vpn / 512) c.in-Lone.own c.in-Lone.first at c.args.vpn c.args.entry),
+    )
 
 pub returns-in-Leaf-clause-entries : goal.returns-in-Leaf-clause-entries
 returns-in-Leaf-clause-entries g c =
@@ -82,4 +70,6 @@ returns-in-Leaf-clause-kept g c =
       written-kept b.leaves.items b.index c.requires.kept.0 c.args.vpn i c.set_in.new.leaf at (c.set_in.ensures.block ∙ own),
       c.requires.kept.1,
       subst (λ n. n + b.without ≤ b.leaves.cap) (sym (length-set b.leaves.items i c.set_in.new.leaf)) c.requires.kept.2,
+      written_named b.leaves.items b.index c.requires.kept.3 c.requires.kept.4 c.requires.kept.0 c.args.vpn i c.set_in.new.leaf at (c.set_in.ensures.block ∙ own),
+      written_has b.leaves.items b.index c.requires.kept.3 c.requires.kept.4 c.requires.kept.0 c.args.vpn i c.set_in.new.leaf at (c.set_in.ensures.block ∙ own) (λ none. set_some (leaf_entries c.index_mut.result.now) c.args.vpn c.args.entry (sym c.set_in.ensures.entries ∙ none)),
     )
