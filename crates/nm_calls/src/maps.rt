@@ -1,11 +1,13 @@
 //! The areas of a process as text.
 
-ghost use Rattle.std.specs.Prelude.{◌≡◌, ℕ, ◌+◌, ◌++◌, ◌∷◌, ◌<◌, ◌≤◌, ◌^◌, All, IfOk, OnOk, length, map, string_bytes, slice_index};
+ghost use Rattle.std.specs.Prelude.{◌≡◌, ℕ, ◌+◌, ◌++◌, ◌∷◌, ◌<◌, ◌≤◌, ◌^◌, All, Some, IfOk, OnOk, length, map, string_bytes, slice_index};
+ghost use Rattle.nm_types.specs.Layout.{node_count};
+ghost use Rattle.nm_types.specs.Map.{get, page_cmp};
 ghost use Rattle.nm_calls.specs.Maps.{stretches, stretch_text, set_text, policy_text, pages_of, count_on, most_users, area_text, lines_shown};
 ghost use Rattle.nm_calls.specs.Tallied.{comma, told_on, nodes_text, tally_text};
 
 use crate::words::{push_address, push_number};
-use nm_engine::{Line, Machine};
+use nm_engine::{Line, Located, Machine};
 use nm_types::{NodeId, NodeMask, Pid, Policy, Vpn};
 use std::alloc::{AllocError, Allocator};
 
@@ -100,33 +102,47 @@ struct Tally {
     on: [u64; 64],
 }
 
-/// Counts the pages that a process sees in an area. It asks for each of them, and for no other page number.
+/// Counts pages that processes see.
+fn tally_of<A: Allocator + Copy + Send + Sync>(machine: &Machine<A>, pages: &[Located]) -> Tally
+    requires placed { All (λ (page : Located). get page_cmp machine.now.place page.page ≡ Some page.frame) pages.now }
+    requires nodes { All (λ (page : Located). page.node < node_count machine.now.layout) pages.now }
+    ensures pages { result.pages ≡ length pages.now }
+    ensures most { result.most ≡ most_users machine.now pages.now }
+    ensures on { (node : ℕ) → node < 64 → slice_index result.on node ≡ count_on pages.now node }
+{
+    let mut count = 0;
+    let mut most = 0;
+    let mut on = [0u64; 64];
+    for page in pages {
+        let users = machine.users_in(page.frame);
+        let node = page.node.index();
+        prove!(machine.node_count() <= 64);
+        count += 1;
+        most = most.max(users);
+        on[node] += 1;
+    }
+    Tally {
+        pages: count,
+        most,
+        on,
+    }
+}
+
+/// Counts the pages that a process sees in an area. It walks once over what the process has there.
 fn count_pages<A: Allocator + Copy + Send + Sync>(
     machine: &Machine<A>,
     pid: Pid,
     area: &Line,
-) -> Tally
+) -> Result<Tally, AllocError>
     requires { area.now.first + area.now.pages < 2 ^ 64 }
-    ensures pages { result.pages ≡ length (pages_of machine.now pid area.now) }
-    ensures most { result.most ≡ most_users machine.now (pages_of machine.now pid area.now) }
-    ensures on { (node : ℕ) → node < 64 → slice_index result.on node ≡ count_on (pages_of machine.now pid area.now) node }
+    ensures pages { IfOk result (λ tally. tally.pages ≡ length (pages_of machine.now pid area.now)) }
+    ensures most { IfOk result (λ tally. tally.most ≡ most_users machine.now (pages_of machine.now pid area.now)) }
+    ensures on { IfOk result (λ tally. (node : ℕ) → node < 64 → slice_index tally.on node ≡ count_on (pages_of machine.now pid area.now) node) }
 {
     let first = area.first.number();
     let end = Vpn::new(first + area.pages);
-    let mut at = first;
-    let mut pages = 0;
-    let mut most = 0;
-    let mut on = [0u64; 64];
-    while let Some(found) = machine.page_from(pid, Vpn::new(at), end) {
-        let users = machine.users(found.page);
-        let node = found.node.index();
-        prove!(machine.node_count() <= 64);
-        at = found.vpn.number() + 1;
-        pages += 1;
-        most = most.max(users);
-        on[node] += 1;
-    }
-    Tally { pages, most, on }
+    let pages = machine.pages_between(pid, area.first, end)?;
+    Ok(tally_of(machine, pages.as_slice()))
 }
 
 /// Appends how many pages are on a node, if any are.
@@ -189,7 +205,7 @@ fn area_text<A: Allocator + Copy + Send + Sync>(
     push_address(&mut line, area.first)?;
     line.push_str(" ")?;
     push_policy(&mut line, area.policy)?;
-    let tally = count_pages(machine, pid, area);
+    let tally = count_pages(machine, pid, area)?;
     push_tally(&mut line, &tally, machine.node_count())?;
     Ok(line)
 }

@@ -1,9 +1,9 @@
 //! The pages of a range that are not where its policy wants them.
 
 ghost use Rattle.std.specs.Prelude.{◌≡◌, ◌+◌, ◌-◌, ◌<◌, ◌≤◌, not, [], ◌∷◌, IfOk, IfSome, IfNone, None, length};
-ghost use Rattle.std.specs.List.{list_any};
+ghost use Rattle.std.specs.List.{filter, list_any};
 ghost use Rattle.nm_policy.specs.Order.{follows};
-ghost use Rattle.nm_calls.specs.Binding.{strays_between, astray, strays, binding};
+ghost use Rattle.nm_calls.specs.Binding.{strays_between, once, astray, strays, binding};
 
 use crate::binding::Binding;
 use nm_engine::{Located, Machine};
@@ -42,8 +42,38 @@ pub(crate) fn stray_from<A: Allocator + Copy + Send + Sync>(
     None
 }
 
+/// Those of some pages that are not where a policy wants them.
+fn strays_among<A: Allocator + Copy>(
+    alloc: A,
+    policy: &Policy,
+    pages: &[Located],
+) -> Result<Vec<Located, A>, AllocError>
+    ensures { IfOk result (λ strays. strays.items ≡ filter (λ (page : Located). not (follows policy.now page.node)) pages.now) }
+{
+    pages
+        .iter()
+        .filter(|page| is_astray(policy, page))
+        .copied()
+        .collect(alloc)
+}
+
+/// Pages without those that come before.
+fn once<A: Allocator + Copy>(alloc: A, pages: &[Located]) -> Result<Vec<Located, A>, AllocError>
+    ensures list { IfOk result (λ all. all.items ≡ once pages.now) }
+    ensures few { IfOk result (λ all. length all.items ≤ length pages.now) }
+{
+    let mut seen = BTreeSet::new(alloc);
+    let mut all = Vec::new(alloc);
+    for page in pages {
+        if seen.insert(page.page)? {
+            all.push(*page)?;
+        }
+    }
+    Ok(all)
+}
+
 /// The pages that a process sees in a range and that are not where the policy wants them, by address, each at its
-/// lowest. It asks for each page of the range that the process sees, and for no other page number.
+/// lowest. It walks once over what the process has in the range.
 pub(crate) fn astray<A: Allocator + Copy + Send + Sync>(
     alloc: A,
     machine: &Machine<A>,
@@ -58,16 +88,9 @@ pub(crate) fn astray<A: Allocator + Copy + Send + Sync>(
         end,
         policy,
     } = binding;
-    let mut seen = BTreeSet::new(alloc);
-    let mut pages = Vec::new(alloc);
-    let mut at = first.number();
-    while let Some(found) = stray_from(machine, pid, Vpn::new(at), end, &policy) {
-        at = found.vpn.number() + 1;
-        if seen.insert(found.page)? {
-            pages.push(found)?;
-        }
-    }
-    Ok(pages)
+    let found = machine.pages_between(pid, first, end)?;
+    let strays = strays_among(alloc, &policy, found.as_slice())?;
+    once(alloc, strays.as_slice())
 }
 
 /// Whether a page is not where a policy wants it, wherever it has gone since it was found.

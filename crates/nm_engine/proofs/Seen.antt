@@ -1,3 +1,4 @@
+pub mod Listed
 pub mod Ranges
 pub mod Rewritten
 pub mod Sights

@@ -1,6 +1,7 @@
 -- The processes with their page tables.
 use Rattle.std.specs.Prelude.{ℕ, Bool, false, ◌==◌, nat_lt, nat_le, ◌||◌, if◌then◌else◌, List, [], ◌∷◌, Option, Some, None, IsSome}
 use Rattle.std.specs.List.{filter, fold}
+use Rattle.std.specs.Option.{unwrap_or, option_map}
 use Rattle.std.specs.Ordering.{nat_cmp}
 use Rattle.nm_types.specs.Map.{Map, get, set, replace, without, with_values}
 use Rattle.nm_tables.specs.declared.entry.Entry.{Entry}
@@ -29,6 +30,10 @@ task_info t = t.info
 -- its page table
 abbrev pub task_table : Task → Map ℕ Entry
 task_table t = t.table
+
+-- the page table of a process, and an empty one where it is not there
+abbrev pub entries_in : Map ℕ Task → ℕ → Map ℕ Entry
+entries_in tasks pid = unwrap_or (option_map task_table (get nat_cmp tasks pid)) []
 
 -- the entry of a process at a page number, if it is there
 abbrev pub entry_in : Option Task → ℕ → Option Entry

@@ -1,6 +1,6 @@
-//! Pages with their nodes.
+//! Pages with their frames and nodes.
 
-use nm_types::{NodeId, Page, Vpn};
+use nm_types::{FrameId, NodeId, Page, Vpn};
 
 /// A page that a process sees, and where it is.
 #[derive(Clone, Copy, Debug, PartialEq, Eq)]
@@ -9,6 +9,8 @@ pub struct Located {
     pub vpn: Vpn,
     /// The page.
     pub page: Page,
+    /// Its frame.
+    pub frame: FrameId,
     /// The node of its frame.
     pub node: NodeId,
 }

@@ -1,8 +1,9 @@
 //! The machine.
 
-ghost use Rattle.std.specs.Prelude.{◌≡◌, ◌<◌, ◌≤◌, ◌+◌, [], ◌∷◌, map, true, length, nat_le, IfOk, IfSome, IfNone, OnOk, OnErr, option_map};
+ghost use Rattle.std.specs.Prelude.{◌≡◌, ◌<◌, ◌≤◌, ◌+◌, ◌-◌, [], ◌∷◌, map, true, length, nat_le, All, Some, IfOk, IfSome, IfNone, OnOk, OnErr, option_map};
 ghost use Rattle.std.specs.List.{list_any};
 ghost use Rattle.std.specs.Ordering.{nat_cmp};
+ghost use Rattle.nm_types.specs.declared.page.Page.{Page};
 ghost use Rattle.nm_types.specs.Map.{get, page_cmp};
 ghost use Rattle.nm_types.specs.Layout.{node_count, node_of};
 ghost use Rattle.nm_types.specs.Nodes.{is_in};
@@ -389,12 +390,29 @@ impl<A: Allocator + Copy + Send + Sync> Machine<A> {
         self.inner.node_of_page(page)
     }
 
-    /// How many processes see a page. Two addresses of a process count once, and a page without a frame is seen by none.
-    /// It takes no memory.
-    pub fn users(&self, page: Page) -> usize
-        ensures { result ≡ length (users self.now page) }
+    /// The pages that a process sees at page numbers from `first` up to, and without, `end`, by page number, with their
+    /// frames and nodes: no page of zeros, and none where there is no such process. It walks once over what the process has
+    /// there, whatever the length of the range. An error means that the host is out of memory.
+    pub fn pages_between(
+        &self,
+        pid: Pid,
+        first: Vpn,
+        end: Vpn,
+    ) -> Result<Vec<Located, A>, AllocError>
+        ensures pages { IfOk result (λ pages. pages.items ≡ located_between self.now pid first end) }
+        ensures placed { IfOk result (λ pages. All (λ e. get page_cmp self.now.place e.page ≡ Some e.frame) pages.items) }
+        ensures nodes { IfOk result (λ pages. All (λ e. e.node < node_count self.now.layout) pages.items) }
+        ensures few { IfOk result (λ pages. length pages.items ≤ end - first) }
     {
-        self.inner.users(page)
+        self.inner.pages_between(pid, first, end)
+    }
+
+    /// How many processes see the page in a frame. Two addresses of a process count once. It takes no memory.
+    pub fn users_in(&self, frame: FrameId) -> usize
+        requires { (page : Page) × (get page_cmp self.now.place page ≡ Some frame) }
+        ensures { (page : Page) → get page_cmp self.now.place page ≡ Some frame → result ≡ length (users self.now page) }
+    {
+        self.inner.users_in(frame)
     }
 
     /// Where the page is that a process sees at a page number: its node's number, or an error's number with a minus sign:

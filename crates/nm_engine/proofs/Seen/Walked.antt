@@ -1,5 +1,5 @@
 -- Going through what a process sees, from one entry to the next.
-use Rattle.std.proofs.Common.{arith, ◌≡◌, ℕ, ◌+◌, ◌<◌, ◌≤◌, nat_lt, ◌&&◌, Bool, true, false, cond, List, [], ◌∷◌, refl, sym, ap, subst, ◌∙◌, inl, inr, lt-ltb, length}
+use Rattle.std.proofs.Common.{arith, ◌≡◌, ℕ, ◌+◌, ◌-◌, ◌<◌, ◌≤◌, nat_lt, ◌&&◌, Bool, true, false, cond, List, [], ◌∷◌, refl, sym, ap, subst, ◌∙◌, inl, inr, lt-ltb, length}
 use Rattle.std.proofs.lemmas.Bool.{cases_order}
 use Rattle.std.specs.Prelude.{nat_le, Option, Some, None, IsSome}
 use Rattle.std.specs.List.{filter, list_any, AllByRecursion}
@@ -26,7 +26,7 @@ use Rattle.nm_types.proofs.Keys.{All-get}
 use Rattle.nm_tables.specs.declared.entry.Entry.{Entry}
 use Rattle.nm_areas.specs.Mapped.{Mapped}
 use Rattle.nm_rmap.specs.Mappers.{Mappers}
-use Rattle.nm_engine.specs.ProcessTable.{Task, task_table, entry_in, entry_at}
+use Rattle.nm_engine.specs.ProcessTable.{Task, task_table, entries_in, entry_in, entry_at}
 use Rattle.nm_engine.specs.MidRun.{MidRun}
 use Rattle.nm_engine.specs.AddressSpaces.{SpacesView, spaces_view, sight_of, process_of, page_here}
 use Rattle.nm_runs.specs.Seen.{sight_in, sight_at, is_sight_of, sees_page, users, look_at_place}
@@ -123,11 +123,22 @@ module _ {V : Type 0} where
         | false ↦ λ b. rest
       ] refl
 
--- the page table of a process, and an empty one where it is not there
-abbrev pub table_of : Map ℕ Task → ℕ → Map ℕ Entry
-table_of tasks pid = unwrap_or (option_map task_table (get nat_cmp tasks pid)) []
+  -- a range has no more entries than numbers
+  pub few_between : (m : Map ℕ V) (first end : ℕ) → IsStrictlySortedBy nat_cmp (keys_of m) → length (between first end m) ≤ end - first
+  few_between [] first end s = omega arith
+  few_between (e ∷ m) first end s =
+      let tail = sorted_tail nat_cmp e.0 (keys_of m) s in
+      elim (nat_le first e.0 && nat_lt e.0 end) as (λ b. (nat_le first e.0 && nat_lt e.0 end) ≡ b → length (cond b (e ∷ between first end m) (between first end m)) ≤ end - first) [
+        | true ↦ λ b.
+            let low = in_low first e.0 end b in
+            let high = in_high first e.0 end b in
+            let rest = few_between m (e.0 + 1) end tail in
+            let same = ap length (same_above first (e.0 + 1) end m (above m first e.0 low (sorted_head nat_cmp e.0 (keys_of m) s))) in
+            omega (arith, low, high, rest, same)
+        | false ↦ λ b. few_between m first end tail
+      ] refl
 
-found_in : (o : Option Task) (v : ℕ) → entry_in o v ≡ get nat_cmp (unwrap_or (option_map task_table o) []) v
+pub found_in : (o : Option Task) (v : ℕ) → entry_in o v ≡ get nat_cmp (unwrap_or (option_map task_table o) []) v
 found_in None v = refl
 found_in (Some t) v = refl
 
@@ -135,7 +146,7 @@ shown_of : (areas : Map (ℕ × ℕ) Area) (pid : ℕ) (o : Option Task) → sig
 shown_of areas pid None = refl
 shown_of areas pid (Some t) = refl
 
-sorted_of : (tasks : Map ℕ Task) (pid : ℕ) (o : Option Task) → AllByRecursion (λ e. IsStrictlySortedBy nat_cmp (keys_of e.1.table)) tasks → get nat_cmp tasks pid ≡ o → IsStrictlySortedBy nat_cmp (keys_of (unwrap_or (option_map task_table o) []))
+pub sorted_of : (tasks : Map ℕ Task) (pid : ℕ) (o : Option Task) → AllByRecursion (λ e. IsStrictlySortedBy nat_cmp (keys_of e.1.table)) tasks → get nat_cmp tasks pid ≡ o → IsStrictlySortedBy nat_cmp (keys_of (unwrap_or (option_map task_table o) []))
 unfolding IsStrictlySortedBy
 sorted_of tasks pid None h e = tt
 sorted_of tasks pid (Some t) h e = All-get nat_cmp (λ (t : Task). IsStrictlySortedBy nat_cmp (keys_of t.table)) tasks pid t h e
@@ -150,30 +161,30 @@ between_values F (e ∷ m) first end =
     ]
 
 module _ (y : SpacesView) (tasks : Map ℕ Task) (m : Mapped) (r : Mappers) (pid : ℕ) (is : spaces_view tasks m r ≡ y) (h : IsTied tasks m r) where
-  sees_shown : sights_in (get nat_cmp y.processes pid) ≡ with_values (sight_of m.areas pid) (table_of tasks pid)
+  pub sees_shown : sights_in (get nat_cmp y.processes pid) ≡ with_values (sight_of m.areas pid) (entries_in tasks pid)
   sees_shown =
       ap (λ (y : SpacesView). sights_in (get nat_cmp y.processes pid)) (sym is)
       ∙ ap sights_in (get-values exact_unsigned (process_of m.areas) tasks pid)
       ∙ shown_of m.areas pid (get nat_cmp tasks pid)
 
-  range_shown : (first end : ℕ) → between first end (sights_in (get nat_cmp y.processes pid)) ≡ with_values (sight_of m.areas pid) (between first end (table_of tasks pid))
-  range_shown first end = ap (between first end) sees_shown ∙ between_values (sight_of m.areas pid) (table_of tasks pid) first end
+  pub range_shown : (first end : ℕ) → between first end (sights_in (get nat_cmp y.processes pid)) ≡ with_values (sight_of m.areas pid) (between first end (entries_in tasks pid))
+  range_shown first end = ap (between first end) sees_shown ∙ between_values (sight_of m.areas pid) (entries_in tasks pid) first end
 
   -- what is seen first, by the first entry
   pub next_sight : (first end v : ℕ) (e : Entry) (sight : Sight) → first ≤ v → v < end → entry_at tasks pid v ≡ Some e → ((w : ℕ) → first ≤ w → w < v → entry_at tasks pid w ≡ None) → sight_of m.areas pid v e ≡ sight
       → between first end (sights_in (get nat_cmp y.processes pid)) ≡ (v, sight) ∷ between (v + 1) end (sights_in (get nat_cmp y.processes pid))
   next_sight first end v e sight low high there none shows =
       range_shown first end
-      ∙ ap (with_values (sight_of m.areas pid)) (next_between (table_of tasks pid) first end v e (sorted_of tasks pid (get nat_cmp tasks pid) h.tables refl)
+      ∙ ap (with_values (sight_of m.areas pid)) (next_between (entries_in tasks pid) first end v e (sorted_of tasks pid (get nat_cmp tasks pid) h.tables refl)
       (sym (found_in (get nat_cmp tasks pid) v) ∙ there) low high (λ w a b. sym (found_in (get nat_cmp tasks pid) w) ∙ none w a b))
-      ∙ ap (λ s. (v, s) ∷ with_values (sight_of m.areas pid) (between (v + 1) end (table_of tasks pid))) shows
+      ∙ ap (λ s. (v, s) ∷ with_values (sight_of m.areas pid) (between (v + 1) end (entries_in tasks pid))) shows
       ∙ ap (λ es. (v, sight) ∷ es) (sym (range_shown (v + 1) end))
 
   -- nothing is seen where no entry is
   pub no_sight : (first end : ℕ) → ((w : ℕ) → first ≤ w → w < end → entry_at tasks pid w ≡ None) → between first end (sights_in (get nat_cmp y.processes pid)) ≡ []
   no_sight first end none =
       range_shown first end
-      ∙ ap (with_values (sight_of m.areas pid)) (none_between (table_of tasks pid) first end (sorted_of tasks pid (get nat_cmp tasks pid) h.tables refl)
+      ∙ ap (with_values (sight_of m.areas pid)) (none_between (entries_in tasks pid) first end (sorted_of tasks pid (get nat_cmp tasks pid) h.tables refl)
       (λ w a b. sym (found_in (get nat_cmp tasks pid) w) ∙ none w a b))
 
   -- the page that is shown where it is seen

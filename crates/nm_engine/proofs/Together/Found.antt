@@ -8,6 +8,7 @@ use Rattle.nm_types.specs.declared.area.Area.{Area}
 use Rattle.nm_types.specs.Map.{Map}
 use Rattle.nm_types.specs.State.{Placed, covers, area_over}
 use Rattle.nm_areas.specs.Mapped.{HasIndices}
+use Rattle.nm_engine.specs.Locating.{IsOver}
 
 -- what holds of all areas holds of the one over a page number, which begins at it or before and ends after it
 over_among : (areas : Map (ℕ × ℕ) Area) (pid v : ℕ) (a : Placed) → AllByRecursion HasIndices areas → area_over areas pid v ≡ Some a → HasIndices a × (a.0.1 ≤ v) × (v < a.0.1 + a.1.pages)
@@ -34,3 +35,14 @@ module _ (areas : Map (ℕ × ℕ) Area) (pid v : ℕ) (h : AllByRecursion HasIn
       let among = over_among areas pid v ((pid, a.0), a.1) h (sym e) in
       let within : v - a.0 < a.1.pages = omega (arith, among.1, among.2) in
       omega (arith, among.0, within)
+
+  -- it is over the page number
+  pub found_here : (o : Option (ℕ × Area)) → option_map {U = Placed} (λ found. ((pid, found.0), found.1)) o ≡ area_over areas pid v → IfSome o (λ a. (a.0 ≤ v) × (v < a.0 + a.1.pages))
+  found_here None e = tt
+  found_here (Some a) e = let among = over_among areas pid v ((pid, a.0), a.1) h (sym e) in (among.1, among.2)
+
+  -- it is over each of its page numbers, and its pages have indices
+  pub found_over : (o : Option (ℕ × Area)) → option_map {U = Placed} (λ found. ((pid, found.0), found.1)) o ≡ area_over areas pid v
+      → IfSome o (λ a. (w : ℕ) → a.0 ≤ w → w < a.0 + a.1.pages → area_over areas pid w ≡ Some ((pid, a.0), a.1)) → IfSome o (IsOver areas pid)
+  found_over None e over = tt
+  found_over (Some a) e over = (over, (over_among areas pid v ((pid, a.0), a.1) h (sym e)).0)

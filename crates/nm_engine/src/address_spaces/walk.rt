@@ -1,15 +1,22 @@
 //! Walks over what processes have, one after another.
 
 ghost use Rattle.std.specs.Ordering.{nat_cmp};
-ghost use Rattle.std.specs.Prelude.{IfNone, IfOk, IfSome, [], ◌+◌, ◌<◌, ◌∷◌, ◌≡◌, ◌≤◌};
+ghost use Rattle.std.specs.Prelude.{All, IfNone, IfOk, IfSome, Some, true, [], length, option_map, ◌+◌, ◌-◌, ◌<◌, ◌^◌, ◌∷◌, ◌≡◌, ◌≤◌};
 ghost use Rattle.nm_areas.specs.Lines.{lines_of};
+ghost use Rattle.nm_engine.specs.AddressSpaces.{page_here};
+ghost use Rattle.nm_engine.specs.Locating.{located_in, in_frame, IsOver};
 ghost use Rattle.nm_engine.specs.Sights.{between, sights_in};
-ghost use Rattle.nm_types.specs.Map.{get};
+ghost use Rattle.nm_runs.specs.Seen.{users_in};
+ghost use Rattle.nm_types.specs.Layout.{frame_count, node_count};
+ghost use Rattle.nm_types.specs.Map.{get, page_cmp};
+ghost use Rattle.nm_types.specs.State.{Placed, area_over, page_at, page_of};
+ghost use Rattle.nm_types.specs.declared.page.Page.{Page};
 
 use crate::address_spaces::AddressSpaces;
+use crate::located::Located;
 use nm_areas::Line;
 use nm_tables::Entry;
-use nm_types::{FrameId, Page, Pid, Sight, Vpn};
+use nm_types::{Area, FrameId, Geometry, Page, Pid, Sight, Vpn};
 use std::alloc::{AllocError, Allocator};
 
 impl<A: Allocator + Copy> AddressSpaces<A> {
@@ -43,5 +50,119 @@ impl<A: Allocator + Copy> AddressSpaces<A> {
             Entry::Frame(_) => Some((vpn, Sight::Sees(self.page_at(pid, vpn)?))),
             Entry::Held(_) => Some((vpn, Sight::Sees(self.page_at(pid, vpn)?))),
         }
+    }
+
+    /// The pages that a process sees from one page number up to another, by page number, with their frames and nodes. It
+    /// walks once over the entries that the process has there, and looks once for each area.
+    pub(crate) fn pages_between(
+        &self,
+        alloc: A,
+        geometry: &Geometry<A>,
+        pid: Pid,
+        first: Vpn,
+        end: Vpn,
+    ) -> Result<Vec<Located, A>, AllocError>
+        requires { self.now.frames ≡ frame_count geometry.now }
+        ensures pages { IfOk result (λ pages. pages.items ≡ located_in geometry.now self.now.place (between first end (sights_in (get nat_cmp self.now.processes pid)))) }
+        ensures placed { IfOk result (λ pages. All (λ e. get page_cmp self.now.place e.page ≡ Some e.frame) pages.items) }
+        ensures nodes { IfOk result (λ pages. All (λ e. e.node < node_count geometry.now) pages.items) }
+        ensures few { IfOk result (λ pages. length pages.items ≤ end - first) }
+    {
+        let entries = self.tasks.entries_between(pid, first, end)?;
+        let mut pages = Vec::new(alloc);
+        let mut last = None;
+        for (vpn, entry) in &entries {
+            match entry {
+                Entry::Zero => {}
+                Entry::Frame(frame) => {
+                    let page = self.seen_in(geometry, pid, *vpn, *frame, &mut last);
+                    pages.push(page)?;
+                }
+                Entry::Held(frame) => {
+                    let page = self.seen_in(geometry, pid, *vpn, *frame, &mut last);
+                    pages.push(page)?;
+                }
+            }
+        }
+        Ok(pages)
+    }
+
+    /// The page that a process sees in a frame at a page number, with its node. `last` is an area of the process, from page
+    /// to page the one over the last page number.
+    fn seen_in(
+        &self,
+        geometry: &Geometry<A>,
+        pid: Pid,
+        vpn: Vpn,
+        frame: FrameId,
+        last: &mut Option<(Vpn, Area)>,
+    ) -> Located
+        requires known { frame < frame_count geometry.now }
+        requires last { IfSome last.old (IsOver self.now.areas pid) }
+        requires seen { (p : Page) × (page_at self.now.areas pid vpn ≡ Some p) × (get page_cmp self.now.place p ≡ Some frame) }
+        ensures page { in_frame geometry.now vpn (page_here self.now.areas pid vpn) (Some frame) ≡ result ∷ [] }
+        ensures node { result.node < node_count geometry.now }
+        ensures last { IfSome last.new (IsOver self.now.areas pid) }
+    {
+        let near = self.area_near(pid, vpn, last);
+        let Some((start, area)) = &near else {
+            unreachable!()
+        };
+        let page = page_in(*start, area, vpn);
+        let node = geometry.node_of(frame);
+        *last = near;
+        Located {
+            vpn,
+            page,
+            frame,
+            node,
+        }
+    }
+
+    /// How many processes see the page in a frame.
+    pub(crate) fn users_in(&self, frame: FrameId) -> usize
+        requires { (page : Page) × (get page_cmp self.now.place page ≡ Some frame) }
+        ensures { (page : Page) → get page_cmp self.now.place page ≡ Some frame → result ≡ length (users_in self.now.processes page) }
+    {
+        self.rmap.processes(frame)
+    }
+
+    /// The area of a process over a page number: the one that was found last, where it is over this number too.
+    fn area_near(&self, pid: Pid, vpn: Vpn, last: &Option<(Vpn, Area)>) -> Option<(Vpn, Area)>
+        requires { IfSome last.now (IsOver self.now.areas pid) }
+        ensures found { option_map {U = Placed} (λ found. ((pid, found.0), found.1)) result ≡ area_over self.now.areas pid vpn }
+        ensures here { IfSome result (λ a. (a.0 ≤ vpn) × (vpn < a.0 + a.1.pages)) }
+        ensures over { IfSome result (IsOver self.now.areas pid) }
+    {
+        match last {
+            Some((first, area)) => {
+                if is_over(*first, *area, vpn) {
+                    Some((*first, *area))
+                } else {
+                    self.areas.find(pid, vpn)
+                }
+            }
+            None => self.areas.find(pid, vpn),
+        }
+    }
+}
+
+/// Whether an area from a page number on is over another page number.
+fn is_over(first: Vpn, area: Area, vpn: Vpn) -> bool
+    ensures { result ≡ true → (first ≤ vpn) × (vpn < first + area.pages) }
+{
+    vpn.number() >= first.number() && vpn.number() - first.number() < area.pages
+}
+
+/// The page that an area from a page number on shows at a page number that it is over.
+fn page_in(first: Vpn, area: &Area, vpn: Vpn) -> Page
+    requires over { first ≤ vpn }
+    requires index { area.now.page.index + (vpn - first) < 2 ^ 64 }
+    ensures { result ≡ page_of ((0, first), area.now) vpn }
+{
+    let Page { segment, index } = area.page;
+    Page {
+        segment,
+        index: index + (vpn.number() - first.number()),
     }
 }

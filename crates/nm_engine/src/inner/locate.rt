@@ -1,6 +1,6 @@
 //! Where the pages are that a process sees.
 
-ghost use Rattle.std.specs.Prelude.{IfNone, IfSome, [], length, option_map, ◌+◌, ◌<◌, ◌∷◌, ◌≡◌, ◌≤◌};
+ghost use Rattle.std.specs.Prelude.{All, IfNone, IfOk, IfSome, Some, [], length, option_map, ◌+◌, ◌-◌, ◌<◌, ◌∷◌, ◌≡◌, ◌≤◌};
 ghost use Rattle.nm_areas.specs.Lines.{lines_of};
 ghost use Rattle.nm_engine.specs.Does.{AsksLast, Tells};
 ghost use Rattle.nm_engine.specs.Locating.{located, located_between};
@@ -8,12 +8,13 @@ ghost use Rattle.nm_engine.specs.Refused.{entries_refusal};
 ghost use Rattle.nm_runs.specs.Seen.{users};
 ghost use Rattle.nm_types.specs.Layout.{node_count, node_of};
 ghost use Rattle.nm_types.specs.Map.{get, page_cmp};
+ghost use Rattle.nm_types.specs.declared.page.Page.{Page};
 
 use crate::inner::Inner;
 use crate::located::Located;
 use nm_areas::Line;
-use nm_types::{Errno, MachineError, NodeId, Page, Pid, Seen, Sight, Vpn};
-use std::alloc::Allocator;
+use nm_types::{Errno, FrameId, MachineError, NodeId, Page, Pid, Sight, Vpn};
+use std::alloc::{AllocError, Allocator};
 
 impl<A: Allocator + Copy> Inner<A> {
     /// The areas of a process, by address.
@@ -27,16 +28,28 @@ impl<A: Allocator + Copy> Inner<A> {
         Ok(self.spaces.lines(pid)?)
     }
 
-    /// How many processes see a page.
-    pub(crate) fn users(&self, page: Page) -> usize
-        ensures { result ≡ length (users self.now.state page) }
+    /// How many processes see the page in a frame.
+    pub(crate) fn users_in(&self, frame: FrameId) -> usize
+        requires { (page : Page) × (get page_cmp self.now.state.place page ≡ Some frame) }
+        ensures { (page : Page) → get page_cmp self.now.state.place page ≡ Some frame → result ≡ length (users self.now.state page) }
     {
-        match self.spaces.look_at_page(page) {
-            Seen::At { processes, .. } => processes,
-            Seen::NoArea => 0,
-            Seen::Absent => 0,
-            Seen::Zero => 0,
-        }
+        self.spaces.users_in(frame)
+    }
+
+    /// The pages that a process sees from one page number up to another, with their frames and nodes.
+    pub(crate) fn pages_between(
+        &self,
+        pid: Pid,
+        first: Vpn,
+        end: Vpn,
+    ) -> Result<Vec<Located, A>, AllocError>
+        ensures pages { IfOk result (λ pages. pages.items ≡ located_between self.now.state pid first end) }
+        ensures placed { IfOk result (λ pages. All (λ e. get page_cmp self.now.state.place e.page ≡ Some e.frame) pages.items) }
+        ensures nodes { IfOk result (λ pages. All (λ e. e.node < node_count self.now.state.layout) pages.items) }
+        ensures few { IfOk result (λ pages. length pages.items ≤ end - first) }
+    {
+        self.spaces
+            .pages_between(self.alloc, self.frames.geometry(), pid, first, end)
     }
 
     /// The first page that a process sees from one page number up to another, with its node.
@@ -76,6 +89,11 @@ impl<A: Allocator + Copy> Inner<A> {
         };
         let frame = self.spaces.place(page)?;
         let node = self.frames.geometry().node_of(frame);
-        Some(Located { vpn, page, node })
+        Some(Located {
+            vpn,
+            page,
+            frame,
+            node,
+        })
     }
 }
