@@ -1,3 +1,4 @@
+pub mod Numbers
 pub mod Joined
 pub mod Bits
 pub mod Words
@@ -6,10 +7,11 @@ pub mod Nodes
 pub mod Walks
 pub mod Leaves
 pub mod Trees
-pub mod Rests
+pub mod Within
 pub mod Slots
 pub mod Kept
 pub mod Removed
+pub mod Listed
 pub mod Results
 pub mod Parts
 pub mod Branches

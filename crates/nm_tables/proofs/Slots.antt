@@ -23,7 +23,6 @@ use Rattle.nm_tables.proofs.Joined.{less_equal, greater_equal, same_number, is_s
 use Rattle.nm_tables.proofs.Changed.{joined-set, joined-without}
 use Rattle.nm_tables.specs.declared.blocks.Blocks.{Blocks}
 use Rattle.std.proofs.Math.Decide.{dec_lt}
-use Rattle.nm_tables.proofs.Rests.{rest, rest_next, rest_none}
 use Rattle.nm_tables.proofs.Nodes as node
 
 -- the number of the block of a page number
@@ -355,18 +354,6 @@ module _ (leaves : List Places) (index : Map ℕ Slot) (is : AreBlocks leaves in
     walk-first slot k e h found first v low high =
         let own = own_block block k slot e h found in
         walk-on slot h v low (omega (arith, own, high)) (first v low high)
-
--- the entries of the blocks from one on, behind those that are listed
-module _ (leaves : List Places) (index : Map ℕ Slot) (is : AreBlocks leaves index) (list to : Map ℕ Entry) (from : ℕ)
-    (before : list ++ entries_by leaves (rest from index) ≡ to) where
-  pub list-step : (block : ℕ) (slot : Slot) → from ≤ block → get nat_cmp index block ≡ Some slot → ((k : ℕ) → from ≤ k → k < block → get nat_cmp index k ≡ None)
-      → (list ++ slot_entries leaves slot) ++ entries_by leaves (rest (block + 1) index) ≡ to
-  list-step block slot low h none =
-      append_assoc list (slot_entries leaves slot) (entries_by leaves (rest (block + 1) index))
-      ∙ ap (λ m. list ++ entries_by leaves m) (sym (rest_next from index is.0 block slot low h none)) ∙ before
-
-  pub list-end : ((k : ℕ) → from ≤ k → get nat_cmp index k ≡ None) → list ≡ to
-  list-end none = sym (append-nil list) ∙ ap (λ m. list ++ entries_by leaves m) (sym (rest_none from index is.0 none)) ∙ before
 
 module _ {A : Type 0} where
   -- the entries of a table are in ascending order

@@ -18,7 +18,7 @@ use Rattle.nm_tables.proofs.Joined.{one_or_other, get-here, get-later, get-absen
 use Rattle.nm_tables.specs.Nodes.{shown, IsNode, are_parts}
 use Rattle.nm_tables.proofs.Nodes.{node-get, node-get_none}
 
-from_it : (a k : ℕ) → a ≤ k → is_le (nat_cmp a k) ≡ true
+pub from_it : (a k : ℕ) → a ≤ k → is_le (nat_cmp a k) ≡ true
 from_it a k l =
     elim (nat_cmp a k) as (λ r. nat_cmp a k ≡ r → is_le r ≡ true) [
       | Less ↦ λ r. refl
@@ -30,7 +30,7 @@ pub passes : (a k : ℕ) → a ≤ k → range_contains nat_cmp (Included a) Unb
 passes a k l = ap (λ b. b && not false) (from_it a k l)
 
 module _ {P : Type 0} (p : ℕ → Bool) where
-  all-filter : (Q : ℕ × P → Type 0) (ps : Map ℕ P) → AllByRecursion Q ps → AllByRecursion Q (filter (λ e. p e.0) ps)
+  pub all-filter : (Q : ℕ × P → Type 0) (ps : Map ℕ P) → AllByRecursion Q ps → AllByRecursion Q (filter (λ e. p e.0) ps)
   all-filter Q [] h = tt
   all-filter Q (e ∷ ps) h = elim (p e.0) as (λ b. AllByRecursion Q (cond b (e ∷ filter (λ e. p e.0) ps) (filter (λ e. p e.0) ps))) [ true ↦ (h.0, all-filter Q ps h.1) | false ↦ all-filter Q ps h.1 ]
 

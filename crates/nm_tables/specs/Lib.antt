@@ -9,3 +9,4 @@ pub mod Cells
 pub mod Index
 pub mod Blocks
 pub mod Parts
+pub mod Lists

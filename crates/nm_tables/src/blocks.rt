@@ -4,7 +4,10 @@ ghost use Rattle.std.specs.Prelude.{◌≡◌, ◌≤◌, ◌<◌, ◌/◌, ◌^
 ghost use Rattle.std.specs.List.Sorted.{IsStrictlySortedBy};
 ghost use Rattle.std.specs.Map.{keys_of};
 ghost use Rattle.std.specs.Ordering.{nat_cmp};
+ghost use Rattle.std.specs.declared.ops.Bound.TheVariants.{Included};
+ghost use Rattle.std.specs.BTreeMap.Range.{entries_between};
 ghost use Rattle.nm_types.specs.Map.{get, set, replace, without};
+ghost use Rattle.nm_tables.specs.Lists.{Extends};
 ghost use Rattle.nm_tables.specs.Blocks.{slot_entries, IsSlotOf, block_entries, IsBlocks};
 ghost use Rattle.nm_tables.specs.declared.slot.Slot.TheVariants.{Lone, Leaf};
 
@@ -227,19 +230,49 @@ impl<A: Allocator + Copy> Blocks<A> {
         self.index.replace(moved, Slot::Leaf(number));
     }
 
-    /// Appends all entries to a list, in ascending order.
-    pub(crate) fn list(&self, list: &mut Vec<(Vpn, Entry), A>) -> Result<(), AllocError>
+    /// Appends the entries from one page number to another, both included, to a list, in ascending order.
+    pub(crate) fn list_within(
+        &self,
+        first: Vpn,
+        last: Vpn,
+        list: &mut Vec<(Vpn, Entry), A>,
+    ) -> Result<(), AllocError>
         requires { IsBlocks self.now }
-        ensures { OnOk result (list.new.items ≡ list.old.items ++ block_entries self.now) }
+        ensures ok { OnOk result (list.new.items ≡ list.old.items ++ entries_between nat_cmp (Included first) (Included last) (block_entries self.now)) }
+        ensures before { Extends list.old.items list.new.items }
     {
-        let mut from = 0;
+        let mut from = block_of(first);
         while let Some((block, slot)) = self.block_from(from) {
-            match slot {
-                Slot::Lone(own, entry) => list.push((own, entry))?,
-                Slot::Leaf(number) => list_leaf(&self.leaves[number], list)?,
+            if block > block_of(last) {
+                return Ok(());
             }
+            self.list_slot(slot, first, last, list)?;
             from = block + 1;
         }
         Ok(())
+    }
+
+    /// The same of the entries of a block with this slot.
+    fn list_slot(
+        &self,
+        slot: Slot,
+        first: Vpn,
+        last: Vpn,
+        list: &mut Vec<(Vpn, Entry), A>,
+    ) -> Result<(), AllocError>
+        requires { (block : ℕ) × IsSlotOf self.now.leaves.items slot block }
+        ensures ok { OnOk result (list.new.items ≡ list.old.items ++ entries_between nat_cmp (Included first) (Included last) (slot_entries self.now.leaves.items slot)) }
+        ensures before { Extends list.old.items list.new.items }
+    {
+        match slot {
+            Slot::Lone(own, entry) => {
+                if own < first || last < own {
+                    return Ok(());
+                }
+                list.push((own, entry))?;
+                Ok(())
+            }
+            Slot::Leaf(number) => list_leaf(&self.leaves[number], first, last, list),
+        }
     }
 }

@@ -3,7 +3,10 @@
 ghost use Rattle.std.specs.Prelude.{◌≡◌, ◌≤◌, ◌<◌, ◌+◌, ◌*◌, ◌/◌, ◌%◌, ◌^◌, ◌++◌, ℕ, [], true, false, None, Some, IfSome, IfNone, OnOk};
 ghost use Rattle.std.specs.Ordering.{nat_cmp};
 ghost use Rattle.nm_types.specs.Map.{get, set, without};
+ghost use Rattle.std.specs.declared.ops.Bound.TheVariants.{Included};
+ghost use Rattle.std.specs.BTreeMap.Range.{entries_between};
 ghost use Rattle.nm_tables.specs.Leaves.{leaf_entries};
+ghost use Rattle.nm_tables.specs.Lists.{Extends};
 
 use crate::entry::Entry;
 use crate::places::Places;
@@ -80,17 +83,24 @@ pub(crate) fn first_in(leaf: &Places, at: Vpn) -> Option<(Vpn, Entry)>
     Some((Vpn::new(block * 512 + place as u64), entry))
 }
 
-/// Appends the entries of a leaf to a list, in ascending order.
+/// Appends the entries of a leaf from one page number to another, both included, to a list, in ascending order.
 pub(crate) fn list_leaf<A: Allocator + Copy>(
     leaf: &Places,
+    first: Vpn,
+    last: Vpn,
     list: &mut Vec<(Vpn, Entry), A>,
 ) -> Result<(), AllocError>
     requires { leaf.now.block < 2 ^ 55 }
-    ensures { OnOk result (list.new.items ≡ list.old.items ++ leaf_entries leaf.now) }
+    ensures ok { OnOk result (list.new.items ≡ list.old.items ++ entries_between nat_cmp (Included first) (Included last) (leaf_entries leaf.now)) }
+    ensures before { Extends list.old.items list.new.items }
 {
-    let mut from = 0;
+    let mut from = place_from(leaf.block, first);
     while let Some((place, entry)) = leaf.first_from(from) {
-        list.push((Vpn::new(leaf.block * 512 + place as u64), entry))?;
+        let vpn = Vpn::new(leaf.block * 512 + place as u64);
+        if last < vpn {
+            return Ok(());
+        }
+        list.push((vpn, entry))?;
         from = place + 1;
     }
     Ok(())

@@ -1,3 +1,5 @@
+ghost use Rattle.std.specs.Prelude.{◌<◌};
+
 use crate::{Entry, PageTable};
 use nm_types::{FrameId, Vpn};
 use std::alloc::{AllocError, Global};
@@ -32,6 +34,17 @@ const UPWARDS: [u64; 8] = [
 
 /// The same upwards but for 511.
 const LEFT: [u64; 7] = [0, 512, 262_143, 262_144, 134_217_727, 134_217_728, LAST];
+
+/// Numbers from which entries at the ends are listed, and those before which each of these lists ends.
+const FIRSTS: [u64; 5] = [511, 0, 512, 134_217_727, LAST];
+
+const BEFORE: [u64; 5] = [262_144, 0, 512, LAST, u64::MAX];
+
+/// What they have together.
+const BETWEEN: [u64; 6] = [511, 512, 262_143, 134_217_727, 134_217_728, LAST];
+
+/// What is left of the blocks that come and go.
+const STAYED: [u64; 6] = [2_567, 3_071, 204_295, 204_799, 409_095, 409_599];
 
 /// A table of two pages, the first of which was zero and is on its way to frame 2.
 fn two_pages(alloc: Global) -> Result<PageTable<Global>, AllocError> {
@@ -100,15 +113,19 @@ fn with_ends(alloc: Global) -> Result<PageTable<Global>, AllocError> {
     Ok(table)
 }
 
-/// Whether a table has zero pages at these page numbers and nowhere else, listed upwards.
-fn has_zeros(table: &PageTable<Global>, numbers: &[u64]) -> Result<bool, AllocError> {
-    let entries = table.entries()?;
-    let told = entries.as_slice();
+/// Whether a list has zero pages at these page numbers, in their order.
+fn are_zeros(told: &[(Vpn, Entry)], numbers: &[u64]) -> bool {
     let mut same = told.len() == numbers.len();
     for ((vpn, entry), number) in told.iter().zip(numbers.iter()) {
         same = same && vpn.number() == *number && *entry == Entry::Zero;
     }
-    Ok(same)
+    same
+}
+
+/// Whether a table has zero pages at these page numbers and nowhere else, listed upwards.
+fn has_zeros(table: &PageTable<Global>, numbers: &[u64]) -> Result<bool, AllocError> {
+    let entries = table.entries()?;
+    Ok(are_zeros(entries.as_slice(), numbers))
 }
 
 /// What was set downwards, on both sides of where leaves and nodes end, comes upwards.
@@ -134,5 +151,64 @@ fn goes_on(alloc: Global) -> Result<bool, AllocError> {
 #[test]
 fn the_end_of_a_leaf_is_cleared(rt: HostRuntime) -> Result<(), Fail> {
     assert!(rt; goes_on(rt.alloc())?);
+    Ok(())
+}
+
+/// Whether of the entries at the ends those from a number up to another are listed, behind what was listed before.
+fn lists_between(alloc: Global) -> Result<bool, AllocError> {
+    let table = with_ends(alloc)?;
+    let mut list = Vec::new(alloc);
+    for (first, end) in FIRSTS.iter().zip(BEFORE.iter()) {
+        table.list_between(Vpn::new(*first), Vpn::new(*end), &mut list)?;
+    }
+    Ok(are_zeros(list.as_slice(), BETWEEN.as_slice()))
+}
+
+#[test]
+fn ranges_are_listed(rt: HostRuntime) -> Result<(), Fail> {
+    assert!(rt; lists_between(rt.alloc())?);
+    Ok(())
+}
+
+/// Puts two zero pages into a block.
+fn come(table: &mut PageTable<Global>, block: u64) -> Result<(), AllocError>
+    requires { block < 1000 }
+{
+    table.set(Vpn::new(block * 512 + 7), Entry::Zero)?;
+    table.set(Vpn::new(block * 512 + 511), Entry::Zero)
+}
+
+/// Takes them away.
+fn go(table: &mut PageTable<Global>, block: u64)
+    requires { block < 1000 }
+{
+    table.clear(Vpn::new(block * 512 + 7));
+    table.clear(Vpn::new(block * 512 + 511));
+}
+
+/// Fills a table with 1,000 blocks, of which two stay and one comes back.
+fn come_and_go(table: &mut PageTable<Global>) -> Result<(), AllocError> {
+    for block in 0..1000u64 {
+        come(table, block)?;
+    }
+    for block in 0..1000u64 {
+        if block % 400 != 399 {
+            go(table, block);
+        }
+    }
+    come(table, 5)
+}
+
+/// Whether of many blocks that come and go those are listed that are there in the end.
+fn some_stay(alloc: Global) -> Result<bool, AllocError> {
+    let mut table = PageTable::new(alloc);
+    come_and_go(&mut table)?;
+    let first = Some((Vpn::new(STAYED[2]), Entry::Zero));
+    Ok(table.first_from(Vpn::new(3072)) == first && has_zeros(&table, STAYED.as_slice())?)
+}
+
+#[test]
+fn blocks_come_and_go(rt: HostRuntime) -> Result<(), Fail> {
+    assert!(rt; some_stay(rt.alloc())?);
     Ok(())
 }

@@ -1,23 +1,43 @@
-use Rattle.std.proofs.Common.{◌≡◌, ◌+◌, ◌*◌, ◌++◌, [], ◌∷◌, sym, ap, ◌∙◌, arith, append-nil, append_assoc}
-use Rattle.nm_tables.specs.Leaves.{front}
-use Rattle.nm_tables.proofs.Leaves.{leaf-start, leaf-step, leaf-end}
+use Rattle.std.proofs.Common.{◌≡◌, ◌+◌, ◌*◌, ◌≤◌, ◌<◌, ◌++◌, [], ◌∷◌, sym, ap, subst, ◌∙◌, arith, append-nil, append_assoc}
+use Rattle.nm_tables.specs.Leaves.{leaf_entries}
+use Rattle.nm_tables.proofs.Numbers.{is_below, is_not_below}
+use Rattle.nm_tables.proofs.Within.{within}
+use Rattle.nm_tables.proofs.Listed.{extended, unextended, leaf-first, leaf-next, leaf-beyond, leaf-done}
 use Rattle.nm_tables.proofs.leaf.list_leaf.Goals as goal
 
 pub loop-place-init : goal.loop-place-init
-loop-place-init g c = (omega arith, sym (append-nil c.args.list.now.items) ∙ ap (λ m. c.args.list.now.items ++ m) (sym (leaf-start c.args.leaf.now)))
+loop-place-init g c =
+    record {
+      fits = c.place_from-from.ensures.fits;
+      left = ap (λ m. c.args.list.now.items ++ m) (sym (leaf-first c.args.leaf.now c.args.last c.args.first c.place_from-from.result c.place_from-from.ensures.reached c.place_from-from.ensures.past));
+      before = unextended c.args.list.now.items;
+    }
 
 pub loop-place-preserved : goal.loop-place-preserved
 loop-place-preserved g c =
     let p = c.args.leaf.now in
+    let l = c.loop-place in
     let some = c.in-Some.ensures.some in
-    let at : c.new.result ≡ p.block * 512 + c.in-Some.place = c.new.ensures in (
-      omega (arith, some.1),
-      c.in_ok-push.ensures.items ∙ ap (λ m. m ++ (c.new.result, c.in-Some.entry) ∷ []) c.loop-place.invariant.1
-          ∙ append_assoc c.args.list.now.items (front p c.loop-place.from) ((c.new.result, c.in-Some.entry) ∷ [])
-          ∙ ap (λ m. c.args.list.now.items ++ m)
-          (ap (λ n. front p c.loop-place.from ++ (n, c.in-Some.entry) ∷ []) at ∙ sym (leaf-step p c.loop-place.from c.in-Some.place c.in-Some.entry some.0 some.1 c.in-Some.ensures.first some.2)),
-    )
+    let at : c.new-vpn.result ≡ p.block * 512 + c.in-Some.place = c.new-vpn.ensures in
+    let high : p.block * 512 + c.in-Some.place ≤ c.args.last = subst (λ n. n ≤ c.args.last) at (is_not_below c.args.last c.new-vpn.result c.lt.result c.lt.ensures c.if-lt.false) in
+    let next = leaf-next p c.args.last l.from c.in-Some.place c.in-Some.entry some.0 some.1 c.in-Some.ensures.first some.2 high in
+    let rest = within (p.block * 512 + (c.in-Some.place + 1)) c.args.last (leaf_entries p) in
+    record {
+      fits = omega (arith, some.1);
+      left = ap (λ ls. ls ++ rest) c.in_ok-push.ensures.items ∙ append_assoc l.list.items ((c.new-vpn.result, c.in-Some.entry) ∷ []) rest
+          ∙ ap (λ m. l.list.items ++ m) (ap (λ n. (n, c.in-Some.entry) ∷ rest) at ∙ sym next) ∙ l.invariant.left;
+      before = extended c.args.list.now.items l.list.items ((c.new-vpn.result, c.in-Some.entry) ∷ []) c.push.new.self.items l.invariant.before c.in_ok-push.ensures.items;
+    }
 
-pub returns : goal.returns
-returns g c =
-    c.loop-place.invariant.1 ∙ ap (λ m. c.args.list.now.items ++ m) (sym (leaf-end c.args.leaf.now c.loop-place.from c.loop-place.invariant.0 c.in_default.ensures.none))
+pub returns-then-lt-clause-ok : goal.returns-then-lt-clause-ok
+returns-then-lt-clause-ok g c =
+    let p = c.args.leaf.now in
+    let l = c.loop-place in
+    let at : c.new-vpn.result ≡ p.block * 512 + c.in-Some.place = c.new-vpn.ensures in
+    let high = subst (λ n. c.args.last < n) at (is_below c.args.last c.new-vpn.result c.lt.result c.lt.ensures c.if-lt.true) in
+    sym (append-nil l.list.items) ∙ ap (λ m. l.list.items ++ m) (sym (leaf-beyond p c.args.last l.from c.in-Some.place c.in-Some.ensures.first high)) ∙ l.invariant.left
+
+pub returns-clause-ok : goal.returns-clause-ok
+returns-clause-ok g c =
+    let l = c.loop-place in
+    sym (append-nil l.list.items) ∙ ap (λ m. l.list.items ++ m) (sym (leaf-done c.args.leaf.now c.args.last l.from c.in_default.ensures.none)) ∙ l.invariant.left

@@ -10,6 +10,7 @@ use Rattle.nm_tables.specs.declared.slot.Slot.{Slot}
 use Rattle.nm_tables.specs.declared.slot.Slot.TheVariants.{Leaf}
 use Rattle.nm_tables.specs.Blocks.{entries_there, slot_entries, IsLeafOf, IsOf}
 use Rattle.nm_tables.specs.Leaves.{leaf_entries}
+use Rattle.nm_tables.proofs.Numbers.{is_below, is_not_below}
 use Rattle.nm_tables.proofs.blocks.Blocks.first_of.Goals as goal
 
 there : (leaves : List Places) (i b : ℕ) → IsLeafOf (slice_get leaves i) b → i < length leaves
@@ -29,12 +30,6 @@ lone_same v entry = grind (arith, common_steps)
 lone_other : (own v : ℕ) (entry : Entry) → v ≢ own → get nat_cmp ((own, entry) ∷ []) v ≡ None
 lone_other own v entry ne = grind (arith, common_steps)
 
-below : (a b : ℕ) (r : Bool) → r ≡ is_lt (nat_cmp a b) → r ≡ true → a < b
-below a b r e t = grind (arith, common_steps)
-
-not_below : (a b : ℕ) (r : Bool) → r ≡ is_lt (nat_cmp a b) → r ≡ false → b ≤ a
-not_below a b r e t = grind (arith, common_steps)
-
 pub index-requires : goal.index-requires
 index-requires g c =
     let leaves = c.args.self.now.leaves.items in
@@ -50,11 +45,11 @@ first_in-requires g c =
 pub returns-then-lt-clause-none : goal.returns-then-lt-clause-none
 returns-then-lt-clause-none g c = λ v le.
     ap (λ s. get nat_cmp (slot_entries c.args.self.now.leaves.items s) v) c.in-Lone.is
-    ∙ lone_other c.in-Lone.own v c.in-Lone.entry (λ q. omega (arith, below c.in-Lone.own c.args.at c.lt.result c.lt.ensures c.if-lt.true))
+    ∙ lone_other c.in-Lone.own v c.in-Lone.entry (λ q. omega (arith, is_below c.in-Lone.own c.args.at c.lt.result c.lt.ensures c.if-lt.true))
 
 pub returns-else-lt-clause-some : goal.returns-else-lt-clause-some
 returns-else-lt-clause-some g c = (
-  not_below c.in-Lone.own c.args.at c.lt.result c.lt.ensures c.if-lt.false,
+  is_not_below c.in-Lone.own c.args.at c.lt.result c.lt.ensures c.if-lt.false,
   ap (λ s. get nat_cmp (slot_entries c.args.self.now.leaves.items s) c.in-Lone.own) c.in-Lone.is ∙ lone_same c.in-Lone.own c.in-Lone.entry,
 )
 

@@ -1,0 +1,31 @@
+use Rattle.std.proofs.Common.{◌≡◌, ◌+◌, ◌++◌, sym, ap, ◌∙◌, arith, append-nil}
+use Rattle.std.specs.Ordering.{nat_cmp}
+use Rattle.std.specs.declared.ops.Bound.TheVariants.{Included, Excluded}
+use Rattle.std.specs.BTreeMap.Range.{entries_between}
+use Rattle.nm_tables.proofs.Results.{on_ok}
+use Rattle.nm_tables.proofs.Slots.{ordered_by}
+use Rattle.nm_tables.proofs.Within.{within, within_end, none_below}
+use Rattle.nm_tables.proofs.table.PageTable.list_between.Goals as goal
+
+pub returns-then-number-eq0-clause-all : goal.returns-then-number-eq0-clause-all
+returns-then-number-eq0-clause-all g c =
+    let items = c.args.list.now.items in
+    sym (append-nil items)
+    ∙ ap (λ m. items ++ m) (sym (none_below c.args.first c.args.self.now) ∙ ap (λ n. entries_between nat_cmp (Included c.args.first) (Excluded n) c.args.self.now) (sym c.if-number-eq0.true ∙ c.number.ensures))
+
+pub returns-then-number-eq0-clause-ordered : goal.returns-then-number-eq0-clause-ordered
+returns-then-number-eq0-clause-ordered g c = ordered_by c.self.inside.blocks c.args.self.now c.self.view_is c.self.invariant
+
+pub returns-clause-all : goal.returns-clause-all
+returns-clause-all g c =
+    let is = c.number.ensures in
+    let again = c.number-2.ensures in
+    let some = c.if-number-eq0.false in
+    let made = c.new.ensures in
+    let end : c.new.result + 1 ≡ c.args.end = omega (arith, is, again, some, made) in
+    on_ok c.list_within.result
+    (λ all. all ∙ ap (λ m. c.args.list.now.items ++ m) (ap (within c.args.first c.new.result) c.self.view_is ∙ within_end c.args.first c.new.result c.args.end end c.args.self.now))
+    c.list_within.ensures.ok
+
+pub returns-clause-ordered : goal.returns-clause-ordered
+returns-clause-ordered g c = ordered_by c.self.inside.blocks c.args.self.now c.self.view_is c.self.invariant
