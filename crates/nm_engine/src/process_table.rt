@@ -98,7 +98,12 @@ impl<A: Allocator + Copy> ProcessTable<A> {
     ) -> Result<Vec<(Vpn, Entry), A>, AllocError>
         ensures { IfOk result (λ entries. entries.items ≡ between first end (entries_in self.now pid)) }
     {
-        Err(AllocError)
+        let mut entries = Vec::new(self.alloc);
+        let Some(task) = self.tasks.get(&pid) else {
+            return Ok(entries);
+        };
+        task.table.list_between(first, end, &mut entries)?;
+        Ok(entries)
     }
 
     /// Adds a process that has touched nothing.

@@ -1,13 +1,15 @@
 -- Going through what a process sees, from one entry to the next.
 use Rattle.std.proofs.Common.{arith, ◌≡◌, ℕ, ◌+◌, ◌-◌, ◌<◌, ◌≤◌, nat_lt, ◌&&◌, Bool, true, false, cond, List, [], ◌∷◌, refl, sym, ap, subst, ◌∙◌, inl, inr, lt-ltb, length}
 use Rattle.std.proofs.lemmas.Bool.{cases_order}
-use Rattle.std.specs.Prelude.{nat_le, Option, Some, None, IsSome}
+use Rattle.std.specs.Prelude.{nat_le, not, Option, Some, None, IsSome}
 use Rattle.std.specs.List.{filter, list_any, AllByRecursion}
 use Rattle.std.specs.List.Sorted.{IsStrictlySortedBy}
 use Rattle.std.specs.Map.{keys_of}
-use Rattle.std.specs.Ordering.{nat_cmp, is_eq}
+use Rattle.std.specs.Ordering.{nat_cmp, is_eq, is_le}
 use Rattle.std.specs.Cmp.{nat_cmp_total, nat_cmp_is, ranked}
-use Rattle.std.specs.declared.cmp.Ordering.TheVariants.{Less, Greater}
+use Rattle.std.specs.declared.cmp.Ordering.TheVariants.{Less, Equal, Greater}
+use Rattle.std.specs.declared.ops.Bound.TheVariants.{Included, Excluded}
+use Rattle.std.specs.BTreeMap.Range.{entries_between}
 use Rattle.std.specs.BTreeMap.{is_at}
 use Rattle.std.proofs.lemmas.Map.{lookup-none}
 use Rattle.std.proofs.lemmas.Map.Entries.{none_below_head}
@@ -137,6 +139,32 @@ module _ {V : Type 0} where
             omega (arith, low, high, rest, same)
         | false ↦ λ b. few_between m first end tail
       ] refl
+
+-- a range as maps have it
+low_same : (a v : ℕ) → is_le (nat_cmp a v) ≡ nat_le a v
+low_same a v = elim (cases_order a v) [
+  | inl e ↦ ap is_le (sym (nat_cmp_is a v Equal e)) ∙ sym (is_low a v (omega (arith, e)))
+  | inr o ↦ elim o [
+    | inl lt ↦ ap is_le (sym (nat_cmp_is a v Less lt)) ∙ sym (is_low a v (omega (arith, lt)))
+    | inr gt ↦ ap is_le (sym (nat_cmp_is a v Greater gt)) ∙ sym (is_past a v gt)
+  ]
+]
+
+high_same : (v b : ℕ) → not (nat_le b v) ≡ nat_lt v b
+high_same v b = elim (cases_order v b) [
+  | inl e ↦ ap not (is_low b v (omega (arith, e))) ∙ sym (let out : nat_lt v b ≡ false = grind (arith, e) in out)
+  | inr o ↦ elim o [
+    | inl lt ↦ ap not (is_past b v lt) ∙ sym (lt-ltb v b lt)
+    | inr gt ↦ ap not (is_low b v (omega (arith, gt))) ∙ sym (let out : nat_lt v b ≡ false = grind (arith, gt) in out)
+  ]
+]
+
+pub ranged : {V : Type 0} (m : Map ℕ V) (first end : ℕ) → entries_between nat_cmp (Included first) (Excluded end) m ≡ between first end m
+ranged [] first end = refl
+ranged (e ∷ m) first end =
+    let test : (is_le (nat_cmp first e.0) && not (is_le (nat_cmp end e.0))) ≡ (nat_le first e.0 && nat_lt e.0 end) = λ j. low_same first e.0 j && (ap not (low_same end e.0) ∙ high_same e.0 end) j in
+    ap (λ b. cond b (e ∷ entries_between nat_cmp (Included first) (Excluded end) m) (entries_between nat_cmp (Included first) (Excluded end) m)) test
+    ∙ ap (λ es. cond (nat_le first e.0 && nat_lt e.0 end) (e ∷ es) es) (ranged m first end)
 
 pub found_in : (o : Option Task) (v : ℕ) → entry_in o v ≡ get nat_cmp (unwrap_or (option_map task_table o) []) v
 found_in None v = refl
