@@ -1,5 +1,6 @@
 -- Pages that are not where a policy wants them, each once.
-use Rattle.std.proofs.Common.{◌≡◌, Bool, true, false, not, ◌||◌, cond, List, [], ◌∷◌, ◌++◌, refl, sym, ap, ◌∙◌, append_assoc}
+use Rattle.std.proofs.Common.{◌≡◌, ◌≤◌, length, arith, Bool, true, false, not, ◌||◌, cond, List, [], ◌∷◌, ◌++◌, refl, sym, ap, ◌∙◌, append_assoc}
+use Rattle.std.specs.Prelude.{Result, Ok, Err, IfOk}
 use Rattle.std.specs.List.{filter, list_any}
 use Rattle.std.specs.BTreeMap.{is_at}
 use Rattle.std.specs.BTreeSet.{BTreeSet, Updates, contains}
@@ -83,3 +84,15 @@ not_true false h = refl
 pub not_false : (b : Bool) → not b ≡ false → b ≡ true
 not_false true h = refl
 not_false false h = let z : ⊥ = cc in absurd z
+
+-- what follows of a list that was made
+pub if_listed : {X E : Type 0} {P Q : X → Type 0} (r : Result X E) → ((x : X) → P x → Q x) → IfOk r P → IfOk r Q
+if_listed (Ok x) f h = f x h
+if_listed (Err e) f h = tt
+
+-- no more pass a test than there are
+pub few_pass : (test : Located → Bool) (pages : List Located) → length (filter test pages) ≤ length pages
+few_pass test [] = omega arith
+few_pass test (p ∷ pages) =
+    let rest = few_pass test pages in
+    elim (test p) as (λ b. length (cond b (p ∷ filter test pages) (filter test pages)) ≤ length (p ∷ pages)) [ true ↦ omega (arith, rest) | false ↦ omega (arith, rest) ]

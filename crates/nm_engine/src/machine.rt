@@ -409,8 +409,8 @@ impl<A: Allocator + Copy + Send + Sync> Machine<A> {
 
     /// How many processes see the page in a frame. Two addresses of a process count once. It takes no memory.
     pub fn users_in(&self, frame: FrameId) -> usize
-        requires { (page : Page) × (get page_cmp self.now.place page ≡ Some frame) }
-        ensures { (page : Page) → get page_cmp self.now.place page ≡ Some frame → result ≡ length (users self.now page) }
+        requires placed { (page : Page) × (get page_cmp self.now.place page ≡ Some frame) }
+        ensures users { (page : Page) → get page_cmp self.now.place page ≡ Some frame → result ≡ length (users self.now page) }
     {
         self.inner.users_in(frame)
     }

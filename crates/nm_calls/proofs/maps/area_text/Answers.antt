@@ -11,11 +11,11 @@ returns g c =
     let a = c.args.area.now in
     let few = c.node_count.ensures.few in
     let count = c.node_count.ensures.count in
-    let told = ap (tally_text c.count_pages-tally.result) count
-    ∙ tally_tells s (pages_of s c.args.pid a) c.count_pages-tally.result c.count_pages-tally.ensures.pages c.count_pages-tally.ensures.most c.count_pages-tally.ensures.on (omega (arith, few, count)) in
+    let told = ap (tally_text c.in_ok-tally.tally) count
+    ∙ tally_tells s (pages_of s c.args.pid a) c.in_ok-tally.tally c.in_ok-tally.ensures.pages c.in_ok-tally.ensures.most c.in_ok-tally.ensures.on (omega (arith, few, count)) in
     c.in_ok-push_tally.ensures
-    ∙ ap (λ t. t ++ tally_text c.count_pages-tally.result c.node_count.result) c.in_ok-push_policy.ensures
-    ∙ ap (λ t. t ++ policy_text a.policy ++ tally_text c.count_pages-tally.result c.node_count.result) c.in_ok-push_str.ensures.bytes
-    ∙ ap (λ t. t ++ codes " " ++ policy_text a.policy ++ tally_text c.count_pages-tally.result c.node_count.result) c.in_ok-push_address.ensures
-    ∙ ap (λ t. t ++ address_text a.first ++ codes " " ++ policy_text a.policy ++ tally_text c.count_pages-tally.result c.node_count.result) c.new-line.ensures.bytes
+    ∙ ap (λ t. t ++ tally_text c.in_ok-tally.tally c.node_count.result) c.in_ok-push_policy.ensures
+    ∙ ap (λ t. t ++ policy_text a.policy ++ tally_text c.in_ok-tally.tally c.node_count.result) c.in_ok-push_str.ensures.bytes
+    ∙ ap (λ t. t ++ codes " " ++ policy_text a.policy ++ tally_text c.in_ok-tally.tally c.node_count.result) c.in_ok-push_address.ensures
+    ∙ ap (λ t. t ++ address_text a.first ++ codes " " ++ policy_text a.policy ++ tally_text c.in_ok-tally.tally c.node_count.result) c.new-line.ensures.bytes
     ∙ ap (λ t. address_text a.first ++ codes " " ++ policy_text a.policy ++ t) told
