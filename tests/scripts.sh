@@ -1,6 +1,6 @@
 #!/bin/sh
 # The scripts `numatrace` and `build`, over a program and a toolchain that stand in for the real ones: words, streams and status are
-# handed on, and what was proved is kept.
+# handed on, crates are proved in their order, and what was proved is kept. And the version is the same wherever it stands.
 set -eu
 cd "$(dirname "$0")/.."
 there=$(mktemp -d)
@@ -11,51 +11,176 @@ fail() {
     exit 1
 }
 
-mkdir -p "$there/crates/numatrace/out" "$there/crates/numatrace/src"
-cp numatrace build "$there/"
-printf '#!/bin/sh\nprintf "%%s;" "$@"\ncat\nprintf err >&2\nexit 4\n' > "$there/crates/numatrace/out/numatrace"
-chmod +x "$there/crates/numatrace/out/numatrace"
-touch -t 200001010000 "$there/crates.txt"
+# Which version it is stands in the file VERSION, and where no file can be read.
+version=$(cat VERSION)
+grep -qxF "const VERSION: &str = \"$version\";" crates/numatrace/src/words.rt || fail "the program tells another version than $version"
+grep -q "^\.TH NUMATRACE 1 [0-9-]* \"numatrace $version\" " docs/numatrace.1 || fail "the man page tells another version than $version"
+[ "$(sed -n 's/^## \([0-9.]*\).*/\1/p' CHANGELOG.md | head -n 1)" = "$version" ] || fail "CHANGELOG.md does not begin with $version"
 
-status=0
-printf 'in\000put' | "$there/numatrace" --one 'two words' '' > "$there/out" 2> "$there/err" || status=$?
-[ "$status" = 4 ] || fail "the status is $status and not the program's"
-printf -- '--one;two words;;in\000put' | cmp -s - "$there/out" || fail "words or streams differ"
-[ "$(cat "$there/err")" = err ] || fail "standard error is not the program's alone"
+# ---- The script numatrace
 
-# Where a source is newer it says so, and starts the program all the same.
-touch -t 209901010000 "$there/crates/numatrace/src/main.rt"
+clone=$there/clone
+mkdir -p "$clone/crates/numatrace/out" "$clone/crates/numatrace/src" "$there/bin"
+cp numatrace build "$clone/"
+printf 'numatrace: clap\n' > "$clone/crates.txt"
+echo 'fn main() {}' > "$clone/crates/numatrace/src/main.rt"
+cat > "$there/stand_in" << 'END'
+#!/bin/sh
+printf '%s;' "$@"
+cat
+printf 'err %s' "$GLIBC_TUNABLES" >&2
+exit 4
+END
+chmod +x "$there/stand_in"
+program=$clone/crates/numatrace/out/numatrace
+cp "$there/stand_in" "$program"
+
+# Calls the script that a path names, on a trace and two words, and wants the program's own answer; other words are set for it.
+expect_handed_on() {
+    script=$1
+    shift
+    status=0
+    printf 'in\000put' | env "$@" "$script" --one 'two words' '' > "$there/out" 2> "$there/err" || status=$?
+    [ "$status" = 4 ] || fail "$script ends with $status and not with the program's status"
+    printf -- '--one;two words;;in\000put' | cmp -s - "$there/out" || fail "$script does not hand on words or streams"
+}
+expect_told() {
+    [ "$(cat "$there/err")" = "$1" ] || fail "$2: $(cat "$there/err")"
+}
+
+# Words, streams and status are handed on, also through a link, and the memory's pages are huge unless the user says otherwise.
+expect_handed_on "$clone/numatrace" -u GLIBC_TUNABLES
+expect_told 'err glibc.malloc.hugetlb=1' "standard error is not the program's alone"
+ln -s clone/numatrace "$there/link"
+ln -s ../link "$there/bin/numatrace"
+expect_handed_on "$there/link" GLIBC_TUNABLES=glibc.malloc.check=1
+expect_told 'err glibc.malloc.check=1' "GLIBC_TUNABLES is not the user's"
+expect_handed_on "$there/bin/numatrace" GLIBC_TUNABLES=
+expect_told 'err ' "an empty GLIBC_TUNABLES is not the user's"
+
+# That sources changed is told by what they hold: not where only their times did, nor of a program that came from elsewhere.
+changed="numatrace: the sources have changed since the program was built: ./build builds it anew
+err "
+record() {
+    printf '#!/bin/sh\nexit 0\n' > "$there/bin/rt"
+    chmod +x "$there/bin/rt"
+    (cd "$clone" && PATH="$there/bin:$PATH" ./build 2> "$there/told") || fail "a build that has nothing to do fails: $(cat "$there/told")"
+}
+echo 'Handles allowed: none.' > "$clone/HANDLES"
+record
+touch -t 209901010000 "$clone/crates/numatrace/src/main.rt"
+expect_handed_on "$clone/numatrace" GLIBC_TUNABLES=
+expect_told 'err ' "a source that has only another time is told as changed"
+echo 'fn main() { }' > "$clone/crates/numatrace/src/main.rt"
+touch -t 200001010000 "$clone/crates/numatrace/src/main.rt"
+echo 0 > "$program.looked"
+expect_handed_on "$clone/numatrace" GLIBC_TUNABLES=
+expect_told "$changed" "a source that changed goes unnoticed"
+cp -R "$clone" "$there/elsewhere"
+echo 'fn main() {}' > "$there/elsewhere/crates/numatrace/src/main.rt"
+echo 0 > "$there/elsewhere/crates/numatrace/out/numatrace.looked"
+expect_handed_on "$there/elsewhere/numatrace" GLIBC_TUNABLES=
+expect_told 'err ' "a program that was copied is told as older than its own sources"
+echo '# another' >> "$program"
+echo 0 > "$program.looked"
+expect_handed_on "$clone/numatrace" GLIBC_TUNABLES=
+expect_told 'err ' "a program that no build made is told as older"
+
+# Without the kit and without a program, a line says where a release comes from.
+rm "$program"
+mkdir "$there/few"
+for tool in sh readlink; do ln -s "$(command -v "$tool")" "$there/few/$tool"; done
 status=0
-"$there/numatrace" < /dev/null > "$there/out" 2> "$there/err" || status=$?
-[ "$status" = 4 ] || fail "an old program is not started"
-grep -q 'older than its sources' "$there/err" || fail "an old program goes unnoticed"
+PATH="$there/few" "$clone/numatrace" < /dev/null > "$there/out" 2> "$there/err" || status=$?
+[ "$status $(wc -l < "$there/err")" = '1 1' ] || fail "without the kit it ends with $status and says: $(cat "$there/err")"
+grep -q 'no Rattle kit .*\./release' "$there/err" || fail "without the kit it does not say where a release comes from"
 
 # The first call shows what an unproved build reports, on standard error, and then hands on the built program's report.
-mv "$there/crates/numatrace/out/numatrace" "$there/proved"
-mkdir "$there/bin"
 printf '#!/bin/sh\necho "unproved $*"\ncat\necho noise >&2\n' > "$there/bin/rt"
-printf '#!/bin/sh\nmv "$(dirname "$0")/proved" "$(dirname "$0")/crates/numatrace/out/numatrace"\n' > "$there/build"
-chmod +x "$there/bin/rt" "$there/build"
+printf '#!/bin/sh\ncp "%s" "%s"\n' "$there/stand_in" "$program" > "$clone/build"
 status=0
-printf 'input' | PATH="$there/bin:$PATH" "$there/numatrace" --one > "$there/out" 2> "$there/err" || status=$?
+printf 'input' | PATH="$there/bin:$PATH" "$clone/numatrace" --one > "$there/out" 2> "$there/err" || status=$?
 [ "$status" = 4 ] || fail "the first call's status is $status and not the program's"
 printf -- '--one;input' | cmp -s - "$there/out" || fail "the first call's words or streams differ"
 grep -q 'unproved try -- --one' "$there/err" || fail "the first call shows no report of an unproved build"
 grep -q '^input' "$there/err" || fail "the unproved build does not get the trace"
 ! grep -q 'noise' "$there/err" || fail "the toolchain's own lines are shown"
 
-# A build brings back what it proved, also where a proof fails, says so, and leaves no lock. Two do not work at a time.
-mkdir "$there/clone"
-cp -R build crates.txt HANDLES "$there/clone/"
-for crate in crates/*/; do mkdir -p "$there/clone/$crate/src" "$there/clone/$crate/out"; done
-printf '#!/bin/sh\nexit 1\n' > "$there/bin/rt"
+# ---- The script build
+
+# A toolchain that notes where it is called, wants the libraries of the crates below, and makes one; FAILS and SLOW name crates.
+toolchain() {
+    cat > "$there/bin/rt" << 'END'
+#!/bin/sh
+name=$(basename "$(pwd)")
+cd ../..
+echo "begins $name" >> "$NOTES"
+for below in $(sed -n "s/^$name[^:]*://p" crates.txt); do
+    ! grep -q "^$below[ :]" "$ALL/crates.txt" || [ -f "crates/$below/out/rlib/stamp" ] || { echo "$name lacks $below" >> "$NOTES"; exit 1; }
+done
+[ "$name" != "$SLOW" ] || exec sleep 60
+[ "$name" != "$FAILS" ] || { echo "a goal is open"; exit 1; }
+mkdir -p "crates/$name/out/rlib"
+echo "$name" > "crates/$name/out/rlib/stamp"
+[ "$1" = lib ] || { echo program > crates/numatrace/out/numatrace && chmod +x crates/numatrace/out/numatrace; }
+echo "ends $name" >> "$NOTES"
+END
+    chmod +x "$there/bin/rt"
+}
+toolchain
+all=$there/all
+mkdir "$all"
+cp -R build crates.txt HANDLES "$all/"
+for crate in crates/*/; do mkdir -p "$all/$crate/src"; done
+: > "$all/crates/numatrace/stdin"
+build_all() {
+    : > "$there/notes"
+    FAILS=$1 SLOW=$2 NOTES="$there/notes" ALL="$all" PATH="$there/bin:$PATH" "$all/build" 2> "$there/err"
+}
+count() {
+    find "$all"/crates/*/out -name "$1" | wc -l
+}
+
+expect_kept() {
+    [ "$(cat "$all/crates/nm_crew/out/kept")$(count room)" = kept0 ] || fail "$1"
+}
+
+# Each crate of the program is proved once, after those below it; no room is left, and nothing is proved of what has no part in it.
+build_all '' '' || fail "a build fails: $(cat "$there/err" "$there/notes")"
+[ "$(grep -c '^begins' "$there/notes")" = "$(count stamp)" ] || fail "a crate is proved more than once"
+[ "$(count room)" = 0 ] || fail "a build leaves a room"
+[ ! -e "$all/crates/nm_checks/out" ] || fail "a build proves what the program does not stand on"
+[ -x "$all/crates/numatrace/out/numatrace" ] || fail "a build makes no program"
+[ -s "$all/crates/numatrace/out/numatrace.sources" ] || fail "a build does not note the sources"
+
+# One that fails says which crate was not proved and where it says why, and keeps what was proved, the failed one's as well.
+rm -r "$all"/crates/nm_crew/out/rlib
+echo kept > "$all/crates/nm_crew/out/kept"
 status=0
-PATH="$there/bin:$PATH" "$there/clone/build" 2> "$there/err" || status=$?
+build_all nm_crew '' || status=$?
 [ "$status" = 1 ] || fail "a build that fails ends with $status"
-grep -q 'not proved: crates/build.log says why' "$there/err" || fail "a build that fails does not say why"
-for crate in crates/*/; do [ -d "$there/clone/$crate/out" ] || fail "a build that fails loses what was proved of $crate"; done
-mkdir "$there/clone/crates/build.lock" || fail "a build that fails leaves its lock"
+grep -q 'nm_crew was not proved: crates/nm_crew/out/build.log says why' "$there/err" || fail "a build that fails says: $(cat "$there/err")"
+grep -q 'a goal is open' "$all/crates/nm_crew/out/build.log" || fail "the log of a crate does not say why"
+expect_kept "a build that fails loses what was kept"
+[ "$(count stamp)" = 15 ] || fail "a build that fails loses what was proved"
+
+# One that is told to end ends soon, with what it had; and two do not work at a time.
+: > "$there/notes"
+env FAILS= SLOW=nm_crew NOTES="$there/notes" ALL="$all" PATH="$there/bin:$PATH" "$all/build" 2> "$there/err" &
+building=$!
+until grep -q 'begins nm_crew' "$there/notes"; do sleep 0.1; done
 status=0
-PATH="$there/bin:$PATH" "$there/clone/build" 2> "$there/err" || status=$?
+PATH="$there/bin:$PATH" "$all/build" 2> "$there/second" || status=$?
 [ "$status" = 1 ] || fail "two builds work at a time"
-grep -q 'another build' "$there/err" || fail "a second build does not say why it ends"
+grep -q 'another build' "$there/second" || fail "a second build says: $(cat "$there/second")"
+kill "$building"
+status=0
+wait "$building" || status=$?
+[ "$status" = 130 ] || fail "a build that is told to end ends with $status"
+expect_kept "a build that is told to end loses what was kept"
+
+# What one that was killed left in a room is taken back by the next.
+mkdir -p "$all/crates/nm_crew/out/room/crates/nm_crew/out"
+mv "$all/crates/nm_crew/out/kept" "$all/crates/nm_crew/out/room/crates/nm_crew/out/"
+build_all '' '' || fail "a build after one that was killed fails: $(cat "$there/err")"
+expect_kept "what a killed build left is lost"
