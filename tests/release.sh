@@ -1,0 +1,159 @@
+#!/bin/sh
+# Makes a release of the built program and tries it where there is no kit: the archive is unpacked, and its install called, in a
+# root that has a shell, some tools and the C library alone, and the package is installed into one. Then install and the scripts
+# in this clone. With --twins CLONE it only compares the program with the one of another clone, and prints the sum of both; with
+# --twins alone it makes that clone, and builds there, which may take as long as ./build does.
+set -eu
+cd "$(dirname "$0")/.."
+program=crates/numatrace/out/numatrace
+fail() {
+    echo "tests/release.sh: $1" >&2
+    exit 1
+}
+note() {
+    echo "tests/release.sh: $1" >&2
+}
+[ -x "$program" ] || fail "there is no program: ./build makes it"
+there=$(mktemp -d)
+trap 'rm -rf "$there"' EXIT
+trap 'exit 130' HUP INT TERM
+
+twins() {
+    other=${1-}
+    if [ -z "$other" ]; then
+        other=$there/another/folder
+        mkdir -p "$other"
+        git ls-files -z | tar --null -T - -cf - | tar -C "$other" -xf -
+        "$other/build" < /dev/null
+    fi
+    cmp "$program" "$other/$program" || fail "the programs of two clones differ"
+    echo "one program in two folders: sha256 $(sha256sum < "$program" | cut -c 1-64)"
+}
+case ${1-} in
+'') ;;
+--twins)
+    twins "${2-}"
+    exit
+    ;;
+*) fail "no word but --twins is known" ;;
+esac
+
+version=$(cat VERSION)
+name=numatrace-$version-x86_64-linux
+trace=$PWD/examples/three_pages.json
+report=$PWD/examples/three_pages.report
+root=$there/root
+
+# The release, made twice, is the same byte for byte, and the second time in another folder for temporary files.
+./release > "$there/sums"
+mv dist "$there/first"
+mkdir "$there/tmp"
+TMPDIR=$there/tmp TZ=Asia/Tokyo ./release > "$there/again"
+cmp "$there/sums" "$there/again" || fail "a release that is made twice differs"
+rm -r "$there/first"
+package=dist/numatrace_${version}_amd64.deb
+
+# A root with these tools and what they load, and nothing else: no kit, no Python, no mounts.
+make_root() {
+    mkdir -p "$root/tmp" "$root/dev" "$root/bin"
+    : > "$root/dev/null"
+    for tool in sh cat chmod cp dirname find grep mkdir mktemp mv readlink rm rmdir sed sort; do
+        cp -L "$(command -v "$tool")" "$root/bin/$tool"
+        ldd "$root/bin/$tool"
+    done | grep -o '/[^ )]*\.so[^ )]*' | sort -u | while read -r library; do
+        mkdir -p "$root${library%/*}"
+        cp -L "$library" "$root$library"
+    done
+}
+enter() {
+    if [ "$(id -u)" = 0 ]; then chroot "$root" "$@"; else unshare -r chroot "$root" "$@"; fi
+}
+# Plays the example by a command, and wants its report, byte for byte.
+expect_report() {
+    "$@" < "$trace" > "$there/out" 2> "$there/err" || fail "$* ends with $?: $(cat "$there/err")"
+    cmp -s "$there/out" "$report" || fail "$* gives another report"
+    [ ! -s "$there/err" ] || fail "$* says: $(cat "$there/err")"
+}
+
+make_root
+! enter /bin/sh -c 'command -v rt || command -v python3' > "$there/out" || fail "the root has a kit"
+tar -C "$root" -xzf "dist/$name.tar.gz"
+expect_report enter "/$name/bin/numatrace"
+enter "/$name/install" --prefix '/opt/a prefix' > "$there/out" || fail "install of a release fails in the root"
+expect_report enter '/opt/a prefix/bin/numatrace'
+rm -r "${root:?}/$name"
+expect_report enter '/opt/a prefix/bin/numatrace' --workers 64
+tar -C "$root" -xzf "dist/$name.tar.gz"
+enter "/$name/install" --uninstall --prefix '/opt/a prefix'
+[ -z "$(find "$root/opt" -mindepth 1)" ] || fail "--uninstall leaves something of a release: $(find "$root/opt")"
+grep -q "^sha256:   $(sha256sum < "$program" | cut -c 1-64)$" "$root/$name/PROVENANCE" || fail "PROVENANCE has another sum"
+rm -r "${root:?}/$name"
+
+# The package puts the command and the man page in place, and its removal takes them away.
+dpkg_there() {
+    PATH=$PATH:/usr/sbin:/sbin dpkg --root="$root" --force-not-root "$@" > "$there/said" 2>&1 || fail "dpkg $1 fails: $(cat "$there/said")"
+}
+mkdir -p "$root/var/lib/dpkg/info" "$root/var/lib/dpkg/updates"
+cat > "$root/var/lib/dpkg/status" << END
+Package: libc6
+Status: install ok installed
+Architecture: amd64
+Maintainer: none
+Version: $(dpkg-query -W -f '${Version}' libc6)
+Description: the C library that was copied
+END
+dpkg_there -i "$package"
+expect_report enter /usr/bin/numatrace
+if command -v man > /dev/null; then
+    [ "$(MANPATH=$root/usr/share/man man -w numatrace)" = "$root/usr/share/man/man1/numatrace.1.gz" ] || fail "man does not find the page of the package"
+    MANPATH=$root/usr/share/man man --warnings numatrace > "$there/out" 2> "$there/err" || fail "man cannot show the page"
+    grep -q -- '--workers' "$there/out" || fail "man shows another page"
+    [ ! -s "$there/err" ] || fail "man says: $(cat "$there/err")"
+else
+    note "there is no command man, so the page is only looked for"
+    gzip -dc "$root/usr/share/man/man1/numatrace.1.gz" | cmp - docs/numatrace.1 || fail "the package has no man page"
+fi
+dpkg_there -r numatrace
+left=$(find "$root" -path "$root/var" -prune -o -name '*numatrace*' -print)
+[ -z "$left" ] || fail "the removal of the package leaves $left"
+
+# install from this clone, below a prefix that has a folder already: it takes back what it made, and replaces nothing of others.
+prefix=$there/prefix
+mkdir -p "$prefix/bin"
+./install --prefix "$prefix" > "$there/out"
+expect_report "$prefix/bin/numatrace"
+ln -s "$prefix/bin/numatrace" "$there/link"
+expect_report "$there/link"
+./install --prefix "$prefix" > "$there/out" || fail "install over an earlier one fails"
+./install --uninstall --prefix "$prefix"
+[ "$(find "$prefix" -mindepth 1)" = "$prefix/bin" ] || fail "--uninstall leaves something: $(find "$prefix")"
+echo mine > "$prefix/bin/numatrace"
+! ./install --prefix "$prefix" > "$there/out" 2>&1 || fail "install replaces what another put there"
+[ "$(cat "$prefix/bin/numatrace")$(find "$prefix" -type f | wc -l)" = mine1 ] || fail "install changes something before it ends with an error"
+rm "$prefix/bin/numatrace"
+! ./install --uninstall --prefix "$prefix" > "$there/out" 2>&1 || fail "what is not installed is taken back"
+
+# The script of this clone, also through a link.
+expect_report ./numatrace
+ln -s "$PWD/numatrace" "$there/clone"
+expect_report "$there/clone"
+
+# Both scripts start the program within 3 ms. (It gets no trace, and so ends with 2.)
+if ! command -v hyperfine > /dev/null; then
+    note "there is no command hyperfine, so that the scripts start within 3 ms is not tried"
+    exit
+fi
+./install --prefix "$prefix" > "$there/out"
+hyperfine -N -i --style none --warmup 50 --runs 500 --export-json "$there/times" \
+    "$PWD/$program" "$PWD/numatrace" "$prefix/bin/numatrace" > "$there/out" 2>&1 || fail "hyperfine: $(cat "$there/out")"
+python3 - "$there/times" << 'END'
+import json
+import sys
+
+with open(sys.argv[1], encoding="utf-8") as file:
+    times = [1000 * result["median"] for result in json.load(file)["results"]]
+for name, time in zip(("./numatrace", "an installed numatrace"), times[1:]):
+    if time > times[0] + 3:
+        sys.exit(f"tests/release.sh: {name} takes {time:.1f} ms, and the program by itself {times[0]:.1f}")
+print("started in ms: the program {:.2f}, ./numatrace {:.2f}, an installed numatrace {:.2f}".format(*times))
+END
