@@ -112,6 +112,7 @@ grep -q '^input' "$there/err" || fail "the unproved build does not get the trace
 toolchain() {
     cat > "$there/bin/rt" << 'END'
 #!/bin/sh
+[ "$1" != version ] || { echo "the kit"; exit; }
 name=$(basename "$(pwd)")
 cd ../..
 echo "begins $name" >> "$NOTES"
@@ -151,7 +152,8 @@ build_all '' '' || fail "a build fails: $(cat "$there/err" "$there/notes")"
 [ "$(count room)" = 0 ] || fail "a build leaves a room"
 [ ! -e "$all/crates/nm_checks/out" ] || fail "a build proves what the program does not stand on"
 [ -x "$all/crates/numatrace/out/numatrace" ] || fail "a build makes no program"
-[ -s "$all/crates/numatrace/out/numatrace.sources" ] || fail "a build does not note the sources"
+grep -q ' the kit$' "$all/crates/numatrace/out/numatrace.sources" || fail "a build does not note sources and kit"
+[ "$("$all/build" --sources)" = same ] || fail "the sources that were built are not known again"
 
 # One that fails says which crate was not proved and where it says why, and keeps what was proved, the failed one's as well.
 rm -r "$all"/crates/nm_crew/out/rlib
