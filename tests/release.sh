@@ -133,6 +133,13 @@ echo mine > "$prefix/bin/numatrace"
 rm "$prefix/bin/numatrace"
 ! ./install --uninstall --prefix "$prefix" > "$there/out" 2>&1 || fail "what is not installed is taken back"
 
+# bash completes the words that the program takes, and no others.
+if command -v bash > /dev/null; then
+    "$program" --help 2>&1 | grep -o -- '--[a-z]*' | sort -u > "$there/words"
+    bash -c '. completions/numatrace; COMP_WORDS=(numatrace --) COMP_CWORD=1; _numatrace; printf "%s\n" "${COMPREPLY[@]}"' | sort | cmp - "$there/words" ||
+        fail "the completion has other words than the program"
+fi
+
 # The script of this clone, also through a link.
 expect_report ./numatrace
 ln -s "$PWD/numatrace" "$there/clone"
