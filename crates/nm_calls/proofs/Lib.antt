@@ -20,6 +20,7 @@ pub mod Stretched
 pub mod Tallies
 pub mod Listed
 pub mod Passing
+pub mod Staying
 pub mod Straying
 pub mod Nodes
 pub mod Sending

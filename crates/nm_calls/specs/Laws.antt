@@ -50,6 +50,10 @@ EachAccessIsAnswered =
     AllByRecursion (λ run. run < length (runs_of y call)) (runs_named during) →
     (outcome y call).answer ≡ Statuses failed statuses answers → length answers ≡ length during
 
+-- a sound system stays sound, whatever is called, and whether the call is refused or not
+abbrev pub CallsStaySound : Type 0
+CallsStaySound = (y : SystemState) (call : Call) → IsSound y.state → IsSound (outcome y call).system.state
+
 -- whether a call may write bytes of its own, or lets areas come or go
 abbrev pub writes_or_maps : Call → Bool
 writes_or_maps (MapPages pid addr pages shared) = true

@@ -1,6 +1,6 @@
 //! What holds of every call, as the contracts of functions that do nothing.
 
-ghost use Rattle.nm_calls.specs.Laws.{RefusalsChangeNothing, TrailIsAfterRuns, CallsKeepMemory, TrailKeepsMemory, WithoutAccessesNone, AnswersGoByPlace, EachAccessIsAnswered};
+ghost use Rattle.nm_calls.specs.Laws.{RefusalsChangeNothing, TrailIsAfterRuns, CallsStaySound, CallsKeepMemory, TrailKeepsMemory, WithoutAccessesNone, AnswersGoByPlace, EachAccessIsAnswered};
 ghost use Rattle.nm_calls.specs.MigrateLaws.{EachPageIsListedOnce, RunsGoToNodesOnline};
 ghost use Rattle.nm_calls.specs.MigrateRows.{EachPageGoesOnce, HalfWay, TwoOfFourGo, SharedPageGoesByPrivilege, MigrationsAreRefused, NothingMigrates, SizesOfWhatIsKept, PageIsListedOnce, RunsHaveALimit};
 ghost use Rattle.nm_calls.specs.Binding.{NoStrayIsListedTwice};
@@ -18,6 +18,11 @@ pub fn refusals_change_nothing()
 /// The states in which a call may leave the system if the host is out of memory are those after its first runs.
 pub fn trail_is_after_runs()
     ensures { TrailIsAfterRuns }
+{}
+
+/// A sound system stays sound, whatever is called, and whether the call is refused or not.
+pub fn calls_stay_sound()
+    ensures { CallsStaySound }
 {}
 
 /// No call but a write, and those by which areas come or go, changes a byte that a process has, whether the call ends

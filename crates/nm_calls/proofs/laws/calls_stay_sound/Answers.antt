@@ -1,0 +1,5 @@
+use Rattle.nm_calls.proofs.Staying.{calls_stay_sound}
+use Rattle.nm_calls.proofs.laws.calls_stay_sound.Goals as goal
+
+pub returns : goal.returns
+returns c = calls_stay_sound
