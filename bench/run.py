@@ -26,10 +26,10 @@ def make_trace(kind, size, path):
         subprocess.run([sys.executable, os.path.join(ROOT, "bench/traces.py"), kind, str(size)], stdout=trace, check=True)
 
 
-def run_once(path, program=PROGRAM):
-    """Seconds of processor time, in the program and in the kernel for it, and peak memory in KiB of one run."""
+def run_once(path, program=PROGRAM, *words):
+    """Seconds of processor time, in the program and in the kernel for it, and peak memory in KiB of one run with these words."""
     with open(path, "rb") as trace, open(os.devnull, "wb") as out:
-        child = subprocess.Popen([program], stdin=trace, stdout=out)
+        child = subprocess.Popen([program, *words], stdin=trace, stdout=out)
         _, status, used = os.wait4(child.pid, 0)
     if status != 0:
         sys.exit("bench/run.py: the program ended with status %d" % os.waitstatus_to_exitcode(status))

@@ -4,6 +4,7 @@ pub mod Texts
 pub mod Known
 pub mod InParts
 pub mod FromBytes
+pub mod Headlines
 pub mod Lines
 pub mod Least
 pub mod Trees

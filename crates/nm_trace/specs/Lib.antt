@@ -5,5 +5,6 @@ pub mod Faults
 pub mod Plans
 pub mod Report
 pub mod Played
+pub mod Headline
 pub mod Laws
 pub mod Flights

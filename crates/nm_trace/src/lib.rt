@@ -14,6 +14,6 @@ mod tree;
 
 pub use playing::{Summary, play};
 pub use reading::read_trace;
-pub use running::{TRACE_LIMIT, run_trace};
+pub use running::{Played, TRACE_LIMIT, run_on, run_trace};
 pub use trace::Trace;
 pub use trace_error::TraceError;

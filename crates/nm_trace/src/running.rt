@@ -1,7 +1,8 @@
 //! From a reader's bytes to a writer's report.
 
-ghost use Rattle.std.specs.Prelude.{◌≡◌, ◌⊎◌, ◌<◌, ◌≤◌, length, IfOk, IfErr, IfSome};
-ghost use Rattle.nm_trace.specs.Faults.{OfSomeBytes, trace_of, trace_limit};
+ghost use Rattle.std.specs.Prelude.{◌≡◌, ◌⊎◌, ◌<◌, ◌≤◌, length, Ok, IfOk, IfErr, IfSome};
+ghost use Rattle.nm_trace.specs.Faults.{OfSomeBytes, Plan, trace_of, trace_limit};
+ghost use Rattle.nm_trace.specs.Headline.{IsPlayed, summary_of};
 ghost use Rattle.nm_trace.specs.Played.{Runs, IsSilent, WritesFront};
 
 use crate::playing::{Summary, play_calls};
@@ -45,6 +46,15 @@ fn read_all<A: Allocator + Copy, R: Read>(
     Err(TraceError::ReadFault)
 }
 
+/// A trace that was played to its end.
+#[derive(Drop)]
+pub struct Played<A: Allocator + Copy + Send + Sync> {
+    /// How many steps were made.
+    pub summary: Summary,
+    /// The system that they left.
+    pub system: System<A>,
+}
+
 /// Checks the bytes of a trace whole, and then plays it on a new system with `workers` workers.
 fn run_bytes<R: Threads + Wait + Sync, A: Allocator + Copy + Send + Sync, W: Write, G: Gate + Sync>(
     rt: &R,
@@ -54,9 +64,10 @@ fn run_bytes<R: Threads + Wait + Sync, A: Allocator + Copy + Send + Sync, W: Wri
     writer: &mut W,
     workers: usize,
     gate: &G,
-) -> Result<Summary, TraceError>
+) -> Result<Played<A>, TraceError>
     requires { (0 < workers) × (workers ≤ 64) }
-    ensures runs { Runs (trace_of bytes.now) (W.contents writer.old) (W.contents writer.new) result }
+    ensures played { IfOk result (λ p. (plan : Plan) × (trace_of bytes.now ≡ Ok plan) × IsPlayed plan p.summary.steps p.system (W.contents writer.old) (W.contents writer.new)) }
+    ensures runs { Runs (trace_of bytes.now) (W.contents writer.old) (W.contents writer.new) (summary_of (λ p. p.summary) result) }
     ensures silent { IfErr result (λ e. IsSilent e (W.contents writer.old) (W.contents writer.new)) }
 {
     let trace = read_trace(alloc, heap, bytes)?;
@@ -68,15 +79,48 @@ fn run_bytes<R: Threads + Wait + Sync, A: Allocator + Copy + Send + Sync, W: Wri
     let Ok(mut system) = System::with_run_limit(alloc, geometry, workers, run_limit) else {
         return Err(TraceError::HostMemory(0));
     };
-    play_calls(rt, alloc, &mut system, calls.as_slice(), writer, gate)
+    let summary = play_calls(rt, alloc, &mut system, calls.as_slice(), writer, gate)?;
+    Ok(Played { summary, system })
 }
 
 /// Reads a trace to its end, checks it whole, plays it on a new system and writes the report, with 1 to 64 workers that
-/// pass the gate; how many they are changes no byte of the report. The system, the bytes and the lines stand in the
-/// memory of `alloc`, and the JSON tree in that of `heap`.
+/// pass the gate. Returns the system as well, for whoever wants to look at it or to go on.
+///
+/// Where it returns no fault, the report on the trace was written: on its calls, made one after another, each as one request
+/// after another, with the frames that a run leaves free at its end; the system is in the state of these calls, and its
+/// machine is sound; and no call but a write, and those by which areas come or go, changed a byte that a process reads, but
+/// by its own writes in flight. How many the workers are makes no difference to any of this. The system, the bytes and the
+/// lines stand in the memory of `alloc`, and the JSON tree in that of `heap`.
 ///
 /// Faults in order: `ReadFault` where the reader failed or gave more than 16,777,216 bytes; those of `read_trace`; those
 /// of `play`. Nothing is written before the whole trace is checked.
+pub fn run_on<
+    T: Threads + Wait + Sync,
+    A: Allocator + Copy + Send + Sync,
+    R: Read,
+    W: Write,
+    G: Gate + Sync,
+>(
+    rt: &T,
+    alloc: A,
+    heap: Global,
+    reader: &mut R,
+    writer: &mut W,
+    workers: usize,
+    gate: &G,
+) -> Result<Played<A>, TraceError>
+    requires { (0 < workers) × (workers ≤ 64) }
+    ensures played { OfSomeBytes (R.remaining reader.old) (λ trace. IfOk result (λ p. (plan : Plan) × (trace ≡ Ok plan)
+        × IsPlayed plan p.summary.steps p.system (W.contents writer.old) (W.contents writer.new))) }
+    ensures runs { OfSomeBytes (R.remaining reader.old) (λ trace. Runs trace (W.contents writer.old) (W.contents writer.new) (summary_of (λ p. p.summary) result)
+        × WritesFront trace (W.contents writer.old) (W.contents writer.new)) }
+    ensures silent { IfErr result (λ e. IsSilent e (W.contents writer.old) (W.contents writer.new)) }
+{
+    let bytes = read_all(alloc, reader)?;
+    run_bytes(rt, alloc, heap, bytes.as_slice(), writer, workers, gate)
+}
+
+/// `run_on`, without the system: only the report and how many steps it is on.
 pub fn run_trace<
     T: Threads + Wait + Sync,
     A: Allocator + Copy + Send + Sync,
@@ -97,6 +141,6 @@ pub fn run_trace<
         × WritesFront trace (W.contents writer.old) (W.contents writer.new)) }
     ensures silent { IfErr result (λ e. IsSilent e (W.contents writer.old) (W.contents writer.new)) }
 {
-    let bytes = read_all(alloc, reader)?;
-    run_bytes(rt, alloc, heap, bytes.as_slice(), writer, workers, gate)
+    let played = run_on(rt, alloc, heap, reader, writer, workers, gate)?;
+    Ok(played.summary)
 }
