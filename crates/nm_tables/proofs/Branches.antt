@@ -1,5 +1,5 @@
 -- One part by itself: what is found of it, and what comes beside it.
-use Rattle.std.proofs.Common.{◌≡◌, ◌==◌, ℕ, ◌<◌, ◌≤◌, [], ◌∷◌, true, false, refl, sym, ap, subst, ◌∙◌, arith}
+use Rattle.std.proofs.Common.{◌≡◌, ◌==◌, ℕ, ◌<◌, ◌≤◌, List, [], ◌∷◌, true, false, refl, sym, ap, subst, ◌∙◌, arith}
 use Rattle.std.proofs.lemmas.Bool.{eqb-true, eq-eqb}
 use Rattle.std.specs.Prelude.{Some, None}
 use Rattle.std.specs.List.Sorted.{IsStrictlySortedBy}
@@ -9,14 +9,13 @@ use Rattle.nm_types.proofs.Cases.{some_none}
 use Rattle.nm_tables.specs.Nodes.{IsNode}
 use Rattle.nm_tables.specs.Branches.{IsOne}
 use Rattle.nm_tables.specs.declared.branch.Branch.{Branch}
-use Rattle.nm_tables.specs.declared.branch.Branch.TheVariants.{Empty, One, Many}
+use Rattle.nm_tables.specs.declared.branch.Branch.TheVariants.{One, Many}
 use Rattle.nm_tables.proofs.Joined.{get-here, get-later}
 use Rattle.nm_tables.proofs.Parts.{set-between}
 
 module _ {P A : Type 0} where
   -- what is one part by itself is no other
   pub is_no_other : (b : Branch P A) → IsOne b → ((n : ℕ) (x : P) → b ≡ One n x → ⊥) → ⊥
-  is_no_other Empty one other = one
   is_no_other (One n x) one other = other n x refl
   is_no_other (Many node) one other = one
 
@@ -42,6 +41,10 @@ module _ {P : Type 0} where
 
   pub set_before : (n q : ℕ) (x y : P) → q < n → (q, y) ∷ (n, x) ∷ [] ≡ set nat_cmp ((n, x) ∷ []) q y
   set_before n q x y l = set-between ((n, x) ∷ []) 0 q y (omega arith, tt, (l, tt))
+
+-- a part by itself is not nothing
+pub one_some : {X : Type 0} (parts : List X) (x : X) → parts ≡ x ∷ [] → parts ≡ [] → ⊥
+one_some parts x one none = cc
 
 -- where something is found that one number alone can have, it is this number
 pub its_number : (n q : ℕ) (Found : Type 0) → ((n ≡ q → ⊥) → Found → ⊥) → Found → n ≡ q

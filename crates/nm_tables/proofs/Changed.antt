@@ -74,6 +74,17 @@ module _ {V : Type 0} where
   pub get-put : (m : Map ℕ V) (k : ℕ) (v : V) → get nat_cmp (set nat_cmp m k v) k ≡ Some v
   get-put m k v = get-set nat_cmp_total m k v k ∙ at_once k k (Some v) (get nat_cmp m k) refl
 
+  -- what was put or replaced is there
+  pub set_some : (m : Map ℕ V) (k : ℕ) (v : V) → set nat_cmp m k v ≡ [] → ⊥
+  set_some m k v none = none_some (ap (λ m. get nat_cmp m k) (sym none) ∙ get-put m k v)
+
+  no_keys : (m : Map ℕ V) → keys_of m ≡ [] → m ≡ []
+  no_keys [] e = refl
+  no_keys (x ∷ m) e = let no : ⊥ = cc in absurd no
+
+  pub replace_some : (m : Map ℕ V) (k : ℕ) (v : V) → (m ≡ [] → ⊥) → replace nat_cmp m k v ≡ [] → ⊥
+  replace_some m k v some none = some (no_keys m (sym (keys-replace nat_cmp m k v) ∙ ap keys_of none))
+
   pub get-put_other : (m : Map ℕ V) (k : ℕ) (v : V) (q : ℕ) → (q ≡ k → ⊥) → get nat_cmp (set nat_cmp m k v) q ≡ get nat_cmp m q
   get-put_other m k v q apart = get-set nat_cmp_total m k v q ∙ at_other q k (Some v) (get nat_cmp m q) apart
 

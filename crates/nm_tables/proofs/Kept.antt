@@ -17,7 +17,7 @@ use Rattle.nm_tables.specs.declared.places.Places.{Places}
 use Rattle.nm_tables.specs.declared.slot.Slot.{Slot}
 use Rattle.nm_tables.specs.declared.slot.Slot.TheVariants.{Lone, Leaf}
 use Rattle.nm_tables.proofs.Joined.{one_or_other, get-without, at_once, at_other}
-use Rattle.nm_tables.proofs.Changed.{get-put, get-put_other}
+use Rattle.nm_tables.proofs.Changed.{get-put, get-put_other, set_some}
 use Rattle.nm_tables.proofs.Slots.{within, blocks-found, get-written, get-written_other, get-behind, get-before, other_slot, behind_slot}
 
 -- what is found after one key is changed
@@ -33,10 +33,6 @@ module _ {V : Type 0} (m : Map ℕ V) (b : ℕ) where
 
   pub taken_other : IsStrictlySortedBy nat_cmp (keys_of m) → (k : ℕ) → (k ≡ b → ⊥) → get nat_cmp (without nat_cmp m b) k ≡ get nat_cmp m k
   taken_other sorted k apart = get-without m b k sorted ∙ at_other b k None (get nat_cmp m k) (λ z. apart (sym z))
-
--- what was put is there
-pub set_some : {V : Type 0} (m : Map ℕ V) (k : ℕ) (v : V) → set nat_cmp m k v ≡ [] → ⊥
-set_some m k v none = none_some (ap (λ m. get nat_cmp m k) (sym none) ∙ get-put m k v)
 
 lone_some : (v : ℕ) (e : Entry) → slot_entries [] (Lone v e) ≡ [] → ⊥
 lone_some v e none = cc

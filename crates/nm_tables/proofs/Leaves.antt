@@ -9,7 +9,7 @@ use Rattle.nm_types.proofs.Maps.{get-set}
 use Rattle.nm_types.proofs.Keys.{sorted-set, sorted-without}
 use Rattle.nm_tables.specs.Tree.{listed, and_then}
 use Rattle.nm_tables.proofs.Joined.{one_or_other, get-here, get-later, get-absent, alike, get-without, at_once, at_other}
-use Rattle.nm_tables.specs.Leaves.{front, leaf_entries, leaf_ordered, stands_at, keys_from}
+use Rattle.nm_tables.specs.Leaves.{leaf_entries, leaf_ordered, stands_at, keys_from}
 use Rattle.nm_tables.specs.declared.places.Places.{Places}
 use Rattle.nm_tables.specs.declared.entry.Entry.{Entry}
 use Rattle.nm_tables.proofs.Changed.{get-put_other}
@@ -39,11 +39,11 @@ module _ {V : Type 0} (f : ℕ → Option V) where
   get-listed s n q l u = get-listed_at s n q (q - s) (omega (arith, l)) (omega (arith, l, u))
 
 pub leaf-get : (p : Places) (v : ℕ) → p.block ≡ v / 512 → get nat_cmp (leaf_entries p) v ≡ stands_at p (v % 512)
-unfolding front
+unfolding leaf_entries
 leaf-get p v e = get-listed (λ v. stands_at p (v % 512)) (p.block * 512) 512 v (omega (arith, e)) (omega (arith, e))
 
 pub leaf-outside : (p : Places) (v : ℕ) → (p.block ≡ v / 512 → ⊥) → get nat_cmp (leaf_entries p) v ≡ None
-unfolding front
+unfolding leaf_entries
 leaf-outside p v apart = get-listed_outside (λ v. stands_at p (v % 512)) (p.block * 512) 512 v (λ h. let low = h.0 in let high = h.1 in apart (omega (arith, low, high)))
 
 -- at a place of its own
@@ -112,54 +112,3 @@ module _ (p : Places) (v : ℕ) (own : p.block ≡ v / 512) where
 pub none_in : (p : Places) → ((i : ℕ) → stands_at p i ≡ None) → leaf_entries p ≡ []
 unfolding IsStrictlySortedBy
 none_in p h = alike (leaf_entries p) [] (leaf_ordered p) tt (λ k. leaf-none p k (λ i l e. h i))
-
--- what is listed of more numbers
-module _ {V : Type 0} (f : ℕ → Option V) where
-  listed_more : (s a b : ℕ) → listed f s (a + b) ≡ listed f s a ++ listed f (s + a) b
-  listed_more s zero b = let z : s ≡ s + 0 = omega arith in let e : 0 + b ≡ b = omega arith in ap (listed f s) e ∙ ap (λ s. listed f s b) z
-  listed_more s (suc a) b =
-      let e : suc a + b ≡ suc (a + b) = omega arith in
-      let z : suc s + a ≡ s + suc a = omega arith in
-      let rest = listed_more (suc s) a b in
-      ap (listed f s) e
-      ∙ elim (f s) as (λ o. and_then o s (listed f (suc s) (a + b)) ≡ and_then o s (listed f (suc s) a) ++ listed f (s + suc a) b) [
-        | None ↦ rest ∙ ap (λ k. listed f (suc s) a ++ listed f k b) z
-        | Some x ↦ ap (λ m. (s, x) ∷ m) (rest ∙ ap (λ k. listed f (suc s) a ++ listed f k b) z)
-      ]
-
-  listed_none : (s n : ℕ) → ((k : ℕ) → s ≤ k → k < s + n → f k ≡ None) → listed f s n ≡ []
-  listed_none s zero h = refl
-  listed_none s (suc n) h = ap (λ o. and_then o s (listed f (suc s) n)) (h s (omega arith) (omega arith)) ∙ listed_none (suc s) n (λ k l u. h k (omega (arith, l)) (omega (arith, u)))
-
--- the places from one up to another are absent
-pub bare : (p : Places) (from more : ℕ) → ((i : ℕ) → from ≤ i → i < from + more → stands_at p i ≡ None) → from + more ≤ 512 → front p (from + more) ≡ front p from
-unfolding front
-bare p from more h fits =
-    listed_more (λ v. stands_at p (v % 512)) (p.block * 512) from more
-    ∙ ap (λ m. listed (λ v. stands_at p (v % 512)) (p.block * 512) from ++ m)
-    (listed_none (λ v. stands_at p (v % 512)) (p.block * 512 + from) more (λ k l u. h (k % 512) (omega (arith, l, u, fits)) (omega (arith, l, u, fits))))
-    ∙ append-nil (listed (λ v. stands_at p (v % 512)) (p.block * 512) from)
-
-one_more : (p : Places) (place : ℕ) (e : Entry) → place < 512 → stands_at p place ≡ Some e → front p (place + 1) ≡ front p place ++ (p.block * 512 + place, e) ∷ []
-unfolding front
-one_more p place e fits here =
-    let at : (p.block * 512 + place) % 512 ≡ place = omega (arith, fits) in
-    listed_more (λ v. stands_at p (v % 512)) (p.block * 512) place 1
-    ∙ ap (λ o. listed (λ v. stands_at p (v % 512)) (p.block * 512) place ++ and_then o (p.block * 512 + place) []) (ap (stands_at p) at ∙ here)
-
-pub leaf-step : (p : Places) (from place : ℕ) (e : Entry) → from ≤ place → place < 512 → ((i : ℕ) → from ≤ i → i < place → stands_at p i ≡ None) → stands_at p place ≡ Some e
-    → front p (place + 1) ≡ front p from ++ (p.block * 512 + place, e) ∷ []
-leaf-step p from place e l fits none here =
-    let back : from + (place - from) ≡ place = omega (arith, l) in
-    one_more p place e fits here
-    ∙ ap (λ m. m ++ (p.block * 512 + place, e) ∷ [])
-    (ap (front p) (sym back) ∙ bare p from (place - from) (λ i a b. none i a (subst (λ n. i < n) back b)) (omega (arith, fits, l)))
-
-pub leaf-end : (p : Places) (from : ℕ) → from ≤ 512 → ((i : ℕ) → from ≤ i → i < 512 → stands_at p i ≡ None) → leaf_entries p ≡ front p from
-leaf-end p from l none =
-    let back : from + (512 - from) ≡ 512 = omega (arith, l) in
-    ap (front p) (sym back) ∙ bare p from (512 - from) (λ i a b. none i a (subst (λ n. i < n) back b)) (omega (arith, l))
-
-pub leaf-start : (p : Places) → front p 0 ≡ []
-unfolding front
-leaf-start p = refl

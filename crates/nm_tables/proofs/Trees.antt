@@ -1,14 +1,14 @@
 -- The slots of an index are in ascending order.
+use Rattle.std.specs.Prelude.{Option, Some, None}
 use Rattle.std.proofs.Common.{◌≡◌, ℕ, ◌≤◌, ◌/◌, [], sym, subst}
 use Rattle.std.specs.List.Sorted.{IsStrictlySortedBy}
 use Rattle.std.specs.Map.{keys_of}
 use Rattle.std.specs.Ordering.{nat_cmp}
 use Rattle.nm_types.specs.Map.{Map}
 use Rattle.nm_tables.specs.Tree.{IsPart}
-use Rattle.nm_tables.specs.Nodes.{IsNode, node_ordered, node_part, upwards_again}
+use Rattle.nm_tables.specs.Nodes.{node_ordered, node_part, upwards_again}
 use Rattle.nm_tables.specs.Cells.{cell_part}
-use Rattle.nm_tables.specs.Index.{slots_in_cell, IsCell, IsCellOf, slots_in, IsInner, IsInnerOf, tree_slots, IsTree}
-use Rattle.nm_tables.proofs.Parts.{no_parts}
+use Rattle.nm_tables.specs.Index.{slots_in_cell, IsCell, IsCellOf, slots_in, IsInner, IsInnerOf, tree_slots, IsTree, root_slots, IsRoot}
 use Rattle.nm_tables.specs.declared.slot.Slot.{Slot}
 use Rattle.nm_tables.specs.declared.cell.Cell.{Cell}
 use Rattle.nm_tables.specs.declared.branch.Branch.{Branch}
@@ -37,7 +37,7 @@ inner_parted : {A P : Type 0} (slots : P → Map ℕ Slot) (number : ℕ → ℕ
     (part : (x : P) (i : ℕ) → whole x → is_in x i → IsPart number i (slots x)) → ((v w : ℕ) → v ≤ w → number v ≤ number w)
     → (x : Branch P A) (i : ℕ) → IsInner whole is_in x → IsInnerOf x i → IsPart (above number) i (slots_in slots x)
 unfolding above
-inner_parted slots number whole is_in part up x i w n = node_part slots number whole is_in part up (parts_of x) i w n
+inner_parted slots number whole is_in part up x i w n = node_part slots number whole is_in part up (parts_of x) i w.0 n
 
 tree_ordered : {A : Type 0} (root : Branch (Branch (Branch Cell A) A) A) → IsTree root → IsStrictlySortedBy nat_cmp (keys_of (tree_slots root))
 tree_ordered {A} root w =
@@ -45,13 +45,12 @@ tree_ordered {A} root w =
     (inner_parted (slots_in {A = A} slots_in_cell) (above block_of) (IsInner IsCell IsCellOf) IsInnerOf
     (inner_parted slots_in_cell block_of IsCell IsCellOf cell_parted block_of_upwards)
     (above_upwards block_of block_of_upwards))
-    (above_upwards (above block_of) (above_upwards block_of block_of_upwards)) (parts_of root) w
+    (above_upwards (above block_of) (above_upwards block_of block_of_upwards)) (parts_of root) w.0
 
-pub ordered_by : {A : Type 0} (root : Branch (Branch (Branch Cell A) A) A) (m : Map ℕ Slot) → tree_slots root ≡ m → IsTree root → IsStrictlySortedBy nat_cmp (keys_of m)
-ordered_by root m e w = subst (λ m. IsStrictlySortedBy nat_cmp (keys_of m)) e (tree_ordered root w)
+root_ordered : {A : Type 0} (root : Option (Branch (Branch (Branch Cell A) A) A)) → IsRoot root → IsStrictlySortedBy nat_cmp (keys_of (root_slots root))
+unfolding IsStrictlySortedBy
+root_ordered None w = tt
+root_ordered (Some root) w = tree_ordered root w
 
--- a root without parts is a tree
-pub empty_tree : {A : Type 0} (root : Branch (Branch (Branch Cell A) A) A) → (parts_of root) ≡ [] → IsTree root
-empty_tree {A} root e =
-    subst (IsNode (IsInner {A = A} (IsInner {A = A} IsCell IsCellOf) (IsInnerOf {A = A})) (IsInnerOf {A = A})) (sym e)
-    (no_parts (IsInner {A = A} (IsInner {A = A} IsCell IsCellOf) (IsInnerOf {A = A})) (IsInnerOf {A = A}))
+pub ordered_by : {A : Type 0} (root : Option (Branch (Branch (Branch Cell A) A) A)) (m : Map ℕ Slot) → root_slots root ≡ m → IsRoot root → IsStrictlySortedBy nat_cmp (keys_of m)
+ordered_by root m e w = subst (λ m. IsStrictlySortedBy nat_cmp (keys_of m)) e (root_ordered root w)

@@ -3,6 +3,7 @@ use Rattle.std.proofs.Common.{◌≡◌, ℕ, [], ◌∷◌}
 use Rattle.std.specs.List.Sorted.{IsStrictlySortedBy}
 use Rattle.std.specs.Map.{keys_of}
 use Rattle.std.specs.Ordering.{nat_cmp}
+use Rattle.nm_types.specs.Map.{Map}
 use Rattle.nm_tables.specs.Tree.{IsPart}
 
 module _ {V : Type 0} where
@@ -10,6 +11,10 @@ module _ {V : Type 0} where
   pub cell_ordered : (block : ℕ) (slot : V) → IsStrictlySortedBy nat_cmp (keys_of ((block, slot) ∷ []))
   unfolding IsStrictlySortedBy
   cell_ordered block slot = (tt, tt)
+
+  -- and is not nothing
+  pub cell_filled : (block : ℕ) (slot : V) → ◌≡◌ {A = Map ℕ V} ((block, slot) ∷ []) [] → ⊥
+  cell_filled block slot e = cc
 
   -- and has its own number
   pub cell_part : (block : ℕ) (slot : V) (i : ℕ) → block ≡ i → IsPart (λ v. v) i ((block, slot) ∷ [])

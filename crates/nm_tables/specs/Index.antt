@@ -1,10 +1,10 @@
 -- An index: blocks, and three levels of inner nodes over them.
-use Rattle.std.specs.Prelude.{◌≡◌, ℕ, ◌/◌, [], ◌∷◌}
+use Rattle.std.specs.Prelude.{◌≡◌, ℕ, ◌/◌, [], ◌∷◌, Option, Some, None}
 use Rattle.std.specs.List.{AllByRecursion}
 use Rattle.std.specs.Map.{keys_of}
 use Rattle.nm_types.specs.Map.{Map}
 use Rattle.nm_tables.specs.Tree.{joined}
-use Rattle.nm_tables.specs.Nodes.{shown, IsNode}
+use Rattle.nm_tables.specs.Nodes.{shown, IsFilledNode}
 use Rattle.nm_tables.specs.declared.slot.Slot.{Slot}
 use Rattle.nm_tables.specs.declared.cell.Cell.{Cell}
 use Rattle.nm_tables.specs.Branches.{parts_of}
@@ -27,19 +27,28 @@ module _ {A P : Type 0} where
   abbrev pub slots_in : (P → Map ℕ Slot) → Branch P A → Map ℕ Slot
   slots_in slots node = joined (shown slots (parts_of node))
 
-  -- parts in order, each whole and of its own number
+  -- parts that there are, in order, each whole and of its own number
   abbrev pub IsInner : (P → Type 0) → (P → ℕ → Type 0) → Branch P A → Type 0
-  IsInner whole is_in node = IsNode whole is_in (parts_of node)
+  IsInner whole is_in node = IsFilledNode whole is_in (parts_of node)
 
   -- the node of this number
   abbrev pub IsInnerOf : Branch P A → ℕ → Type 0
   IsInnerOf node i = AllByRecursion (λ k. k / 512 ≡ i) (keys_of (parts_of node))
 
 module _ {A : Type 0} where
-  -- the slots of an index
+  -- the slots of a tree
   abbrev pub tree_slots : Branch (Branch (Branch Cell A) A) A → Map ℕ Slot
   tree_slots root = slots_in (slots_in (slots_in slots_in_cell)) root
 
   -- a tree of which each part is where its number says
   abbrev pub IsTree : Branch (Branch (Branch Cell A) A) A → Type 0
   IsTree root = IsInner (IsInner (IsInner IsCell IsCellOf) IsInnerOf) IsInnerOf root
+
+  -- the slots of an index, which may have no block
+  abbrev pub root_slots : Option (Branch (Branch (Branch Cell A) A) A) → Map ℕ Slot
+  root_slots None = []
+  root_slots (Some root) = tree_slots root
+
+  abbrev pub IsRoot : Option (Branch (Branch (Branch Cell A) A) A) → Type 0
+  IsRoot None = Unit {0}
+  IsRoot (Some root) = IsTree root

@@ -25,13 +25,9 @@ entry_of true true frame = Some (Held frame)
 abbrev pub stands_at : Places → ℕ → Option Entry
 stands_at places i = entry_of (is_marked places.named.words i) (is_marked places.marked.words i) (slice_index_or places.frames i 0)
 
--- the entries of the first places of a leaf
-unfoldable pub front : Places → ℕ → Map ℕ Entry
-front places n = listed (λ v. stands_at places (v % 512)) (places.block * 512) n
-
 -- the entries of a leaf
-abbrev pub leaf_entries : Places → Map ℕ Entry
-leaf_entries places = front places 512
+unfoldable pub leaf_entries : Places → Map ℕ Entry
+leaf_entries places = listed (λ v. stands_at places (v % 512)) (places.block * 512) 512
 
 module _ {V : Type 0} where
   module _ (f : ℕ → Option V) where
@@ -66,11 +62,11 @@ blocks_upwards a b l = omega (arith, l)
 
 -- the entries of a leaf are in ascending order
 pub leaf_ordered : (places : Places) → IsStrictlySortedBy nat_cmp (keys_of (leaf_entries places))
-unfolding front
+unfolding leaf_entries
 leaf_ordered places = sorted-listed (λ v. stands_at places (v % 512)) (places.block * 512) 512
 
 -- the entries of a leaf have the number of its block
 pub leaf_part : (places : Places) (i : ℕ) → places.block ≡ i → IsPart (λ v. v / 512) i (leaf_entries places)
-unfolding front
+unfolding leaf_entries
 leaf_part places i e =
     subst (λ i. IsPart (λ v. v / 512) i (leaf_entries places)) e (block_part (λ v. stands_at places (v % 512)) places.block)

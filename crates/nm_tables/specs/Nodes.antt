@@ -1,5 +1,5 @@
 -- An inner node: parts by their numbers, each with a map whose keys are its own.
-use Rattle.std.proofs.Common.{◌≡◌, ℕ, ◌≤◌, ◌/◌, List, [], ◌∷◌, sym, ap, subst, ◌∙◌, arith}
+use Rattle.std.proofs.Common.{◌≡◌, ℕ, ◌≤◌, ◌/◌, List, [], ◌∷◌, ◌++◌, refl, sym, ap, subst, ◌∙◌, arith}
 use Rattle.std.specs.List.{AllByRecursion}
 use Rattle.std.specs.List.Sorted.{IsStrictlySortedBy}
 use Rattle.std.specs.Map.{keys_of}
@@ -13,6 +13,10 @@ module _ {P : Type 0} where
   -- parts in order, each whole and of its own number
   abbrev pub IsNode : (P → Type 0) → (P → ℕ → Type 0) → Map ℕ P → Type 0
   IsNode whole is_in parts = IsStrictlySortedBy nat_cmp (keys_of parts) × AllByRecursion (λ e. whole e.1 × is_in e.1 e.0) parts
+
+  -- the same of parts that there are
+  abbrev pub IsFilledNode : (P → Type 0) → (P → ℕ → Type 0) → Map ℕ P → Type 0
+  IsFilledNode whole is_in parts = IsNode whole is_in parts × (parts ≡ [] → ⊥)
 
 module _ {P V : Type 0} where
   -- the entries of each part
@@ -53,6 +57,16 @@ module _ {P V : Type 0} (entries : P → Map ℕ V) (number : ℕ → ℕ) (whol
       → AllByRecursion (λ k. k / 512 ≡ i) (keys_of parts)
       → IsPart (λ k. number k / 512) i (joined (shown entries parts))
   node_part upwards parts i is keys = (node_ordered upwards parts is, node_keys parts i is.1 keys)
+
+module _ {P V : Type 0} (entries : P → Map ℕ V) (whole : P → Type 0) (is_in : P → ℕ → Type 0) (filled : (x : P) → whole x → entries x ≡ [] → ⊥) where
+  front_filled : (a b : Map ℕ V) → a ++ b ≡ [] → (a ≡ [] → ⊥) → ⊥
+  front_filled [] b e some = some refl
+  front_filled (x ∷ a) b e some = cc
+
+  -- where no part is without entries, the node is not
+  pub node_filled : (parts : Map ℕ P) → IsFilledNode whole is_in parts → joined (shown entries parts) ≡ [] → ⊥
+  node_filled [] is e = is.1 refl
+  node_filled (x ∷ parts) is e = front_filled (entries x.1) (joined (shown entries parts)) e (filled x.1 is.0.1.0.0)
 
 module _ (number : ℕ → ℕ) where
   -- numbers that never go down, and theirs

@@ -63,7 +63,8 @@ impl<A: Allocator + Copy> Blocks<A> {
         }
     }
 
-    /// The first entry at a page number or past it.
+    /// The first entry at a page number or past it. It stands in one of the first two blocks from that of the number on,
+    /// as each block has an entry, and the first may have entries before the number alone.
     pub(crate) fn first_from(&self, at: Vpn) -> Option<(Vpn, Entry)>
         requires { IsBlocks self.now }
         ensures some { IfSome result (λ e. (at ≤ e.0) × (get nat_cmp (block_entries self.now) e.0 ≡ Some e.1)) }

@@ -1,4 +1,4 @@
-//! The inner nodes of an index: no part, one, or several.
+//! The inner nodes of an index: one part, or several.
 
 ghost use Rattle.std.specs.Prelude.{◌≡◌, ◌/◌, ℕ, None, OnOk, OnErr};
 ghost use Rattle.std.specs.List.{AllByRecursion};
@@ -6,7 +6,7 @@ ghost use Rattle.std.specs.Map.{keys_of};
 ghost use Rattle.std.specs.Ordering.{nat_cmp};
 ghost use Rattle.nm_types.specs.Map.{get, set};
 ghost use Rattle.nm_tables.specs.Tree.{joined};
-ghost use Rattle.nm_tables.specs.Nodes.{shown, IsNode};
+ghost use Rattle.nm_tables.specs.Nodes.{shown, IsFilledNode};
 ghost use Rattle.nm_tables.specs.Branches.{parts_of, IsOne};
 
 use crate::node::Node;
@@ -20,8 +20,6 @@ use std::mem;
 /// above each block.
 #[derive(Drop)]
 pub(crate) enum Branch<T: Drop, A: Allocator + Copy> {
-    /// No part, as in the root of a new index.
-    Empty,
     /// One part, behind its number.
     One(u64, T),
     /// Several parts.
@@ -33,17 +31,17 @@ impl<T: Subtree<A>, A: Allocator + Copy> Branch<T, A> {
     /// is out of memory, and that nothing has changed.
     fn set_beside(&mut self, alloc: A, block: u64, slot: Slot) -> Result<(), AllocError>
         requires one { IsOne self.old }
-        requires kept { IsNode T.whole T.is_in (parts_of self.old) }
+        requires kept { IsFilledNode T.whole T.is_in (parts_of self.old) }
         requires apart { get nat_cmp (parts_of self.old) (T.number block) ≡ None }
         ensures ok { OnOk result (joined (shown T.slots (parts_of self.new)) ≡ set nat_cmp (joined (shown T.slots (parts_of self.old))) block slot) }
         ensures err { OnErr result (joined (shown T.slots (parts_of self.new)) ≡ joined (shown T.slots (parts_of self.old))) }
-        ensures kept { IsNode T.whole T.is_in (parts_of self.new) }
+        ensures kept { IsFilledNode T.whole T.is_in (parts_of self.new) }
         ensures inside { (i : ℕ) → AllByRecursion (λ k. k / 512 ≡ i) (keys_of (parts_of self.old)) → T.number block / 512 ≡ i → AllByRecursion (λ k. k / 512 ≡ i) (keys_of (parts_of self.new)) }
     {
         let own = T::number_of(block);
         let part = T::holding(alloc, block, slot)?;
         let mut parts = Vec::with_capacity(alloc, 2)?;
-        let Branch::One(number, first) = mem::replace(self, Branch::Empty) else {
+        let Branch::One(number, first) = mem::replace(self, Branch::Many(Node::new(alloc))) else {
             unreachable!()
         };
         if number < own {
@@ -63,14 +61,14 @@ impl<T: Subtree<A>, A: Allocator + Copy> Subtree<A> for Branch<T, A> {
     ghost use Rattle.std.specs.List.{AllByRecursion};
     ghost use Rattle.std.specs.Map.{keys_of};
     ghost use Rattle.nm_tables.specs.Tree.{joined};
-    ghost use Rattle.nm_tables.specs.Nodes.{shown, IsNode, node_ordered, node_part, upwards_again};
+    ghost use Rattle.nm_tables.specs.Nodes.{shown, IsFilledNode, node_ordered, node_filled, node_part, upwards_again};
     ghost use Rattle.nm_tables.specs.Branches.{parts_of};
 
     ghost slots = { λ b. joined (shown T.slots (parts_of b)) };
 
     ghost number = { λ v. T.number v / 512 };
 
-    ghost whole = { λ b. IsNode T.whole T.is_in (parts_of b) };
+    ghost whole = { λ b. IsFilledNode T.whole T.is_in (parts_of b) };
 
     ghost is_in = { λ b i. AllByRecursion (λ k. k / 512 ≡ i) (keys_of (parts_of b)) };
 
@@ -87,7 +85,6 @@ impl<T: Subtree<A>, A: Allocator + Copy> Subtree<A> for Branch<T, A> {
 
     fn get(&self, block: u64) -> Option<Slot> {
         match self {
-            Branch::Empty => None,
             Branch::One(number, part) => {
                 if *number == T::number_of(block) {
                     part.get(block)
@@ -101,7 +98,6 @@ impl<T: Subtree<A>, A: Allocator + Copy> Subtree<A> for Branch<T, A> {
 
     fn first_from(&self, at: u64) -> Option<(u64, Slot)> {
         match self {
-            Branch::Empty => None,
             Branch::One(_, part) => part.first_from(at),
             Branch::Many(node) => node.first_from(at),
         }
@@ -109,11 +105,6 @@ impl<T: Subtree<A>, A: Allocator + Copy> Subtree<A> for Branch<T, A> {
 
     fn set(&mut self, alloc: A, block: u64, slot: Slot) -> Result<(), AllocError> {
         match self {
-            Branch::Empty => {
-                let part = T::holding(alloc, block, slot)?;
-                *self = Branch::One(T::number_of(block), part);
-                Ok(())
-            }
             Branch::One(number, part) => {
                 if *number == T::number_of(block) {
                     part.set(alloc, block, slot)
@@ -127,7 +118,6 @@ impl<T: Subtree<A>, A: Allocator + Copy> Subtree<A> for Branch<T, A> {
 
     fn replace(&mut self, block: u64, slot: Slot) {
         match self {
-            Branch::Empty => unreachable!(),
             Branch::One(_, part) => part.replace(block, slot),
             Branch::Many(node) => node.replace(block, slot),
         }
@@ -135,15 +125,16 @@ impl<T: Subtree<A>, A: Allocator + Copy> Subtree<A> for Branch<T, A> {
 
     fn remove(&mut self, block: u64) -> bool {
         match self {
-            Branch::Empty => unreachable!(),
             Branch::One(_, part) => part.remove(block),
             Branch::Many(node) => node.remove(block),
         }
     }
 
-    ghost ordered = { λ x w. node_ordered T.slots T.number T.whole T.is_in T.parted T.upwards (parts_of x) w };
+    ghost ordered = { λ x w. node_ordered T.slots T.number T.whole T.is_in T.parted T.upwards (parts_of x) w.0 };
 
-    ghost parted = { λ x i w n. node_part T.slots T.number T.whole T.is_in T.parted T.upwards (parts_of x) i w n };
+    ghost filled = { λ x w. node_filled T.slots T.whole T.is_in T.filled (parts_of x) w };
+
+    ghost parted = { λ x i w n. node_part T.slots T.number T.whole T.is_in T.parted T.upwards (parts_of x) i w.0 n };
 
     ghost takes_own = { λ x v n. tt };
 

@@ -15,7 +15,7 @@ pub(crate) struct Cell {
 
 impl<A: Allocator + Copy> Subtree<A> for Cell {
     ghost use Rattle.std.specs.Prelude.{◌≡◌, [], ◌∷◌};
-    ghost use Rattle.nm_tables.specs.Cells.{cell_ordered, cell_part};
+    ghost use Rattle.nm_tables.specs.Cells.{cell_ordered, cell_part, cell_filled};
 
     ghost slots = { λ c. (c.block, c.slot) ∷ [] };
 
@@ -61,6 +61,8 @@ impl<A: Allocator + Copy> Subtree<A> for Cell {
     }
 
     ghost ordered = { λ x w. cell_ordered x.block x.slot };
+
+    ghost filled = { λ x w. cell_filled x.block x.slot };
 
     ghost parted = { λ x i w n. cell_part x.block x.slot i n };
 

@@ -20,7 +20,8 @@ type Root<A> = Branch<Branch<Branch<Cell, A>, A>, A>;
 #[derive(Drop)]
 pub(crate) struct Index<A: Allocator + Copy> {
     alloc: A,
-    root: Root<A>,
+    /// None if there is no block.
+    root: Option<Root<A>>,
 }
 
 impl<A: Allocator + Copy> Model for Index<A> {
@@ -30,11 +31,11 @@ impl<A: Allocator + Copy> Model for Index<A> {
 
     ghost Value = { Map ℕ Slot };
 
-    ghost use Rattle.nm_tables.specs.Index.{tree_slots, IsTree};
+    ghost use Rattle.nm_tables.specs.Index.{root_slots, IsRoot};
 
-    ghost view = { λ t. tree_slots t.root };
+    ghost view = { λ t. root_slots t.root };
 
-    ghost invariant = { λ t. IsTree t.root };
+    ghost invariant = { λ t. IsRoot t.root };
 }
 
 impl<A: Allocator + Copy> Index<A> {
@@ -42,10 +43,7 @@ impl<A: Allocator + Copy> Index<A> {
     pub(crate) fn new(alloc: A) -> Self
         ensures { result ≡ [] }
     {
-        Index {
-            alloc,
-            root: Branch::Empty,
-        }
+        Index { alloc, root: None }
     }
 
     /// The slot of a block.
@@ -53,7 +51,10 @@ impl<A: Allocator + Copy> Index<A> {
         ensures slot { result ≡ get nat_cmp self.now block }
         ensures ordered { IsStrictlySortedBy nat_cmp (keys_of self.now) }
     {
-        self.root.get(block)
+        match &self.root {
+            None => None,
+            Some(root) => root.get(block),
+        }
     }
 
     /// The first block from a number on that has a slot, with it.
@@ -63,7 +64,10 @@ impl<A: Allocator + Copy> Index<A> {
         ensures none { IfNone result ((v : ℕ) → at ≤ v → get nat_cmp self.now v ≡ None) }
         ensures ordered { IsStrictlySortedBy nat_cmp (keys_of self.now) }
     {
-        self.root.first_from(at)
+        match &self.root {
+            None => None,
+            Some(root) => root.first_from(at),
+        }
     }
 
     /// Gives a block a slot. An error means that the host is out of memory, and that the index is as it was.
@@ -72,7 +76,13 @@ impl<A: Allocator + Copy> Index<A> {
         ensures err { OnErr result (self.new ≡ self.old) }
         ensures ordered { IsStrictlySortedBy nat_cmp (keys_of self.old) }
     {
-        self.root.set(self.alloc, block, slot)
+        match &mut self.root {
+            None => {
+                self.root = Some(Branch::holding(self.alloc, block, slot)?);
+                Ok(())
+            }
+            Some(root) => root.set(self.alloc, block, slot),
+        }
     }
 
     /// Gives a block that has a slot another one. It takes no memory.
@@ -81,7 +91,10 @@ impl<A: Allocator + Copy> Index<A> {
         ensures slot { self.new ≡ replace nat_cmp self.old block slot }
         ensures ordered { IsStrictlySortedBy nat_cmp (keys_of self.old) }
     {
-        self.root.replace(block, slot);
+        match &mut self.root {
+            None => unreachable!(),
+            Some(root) => root.replace(block, slot),
+        }
     }
 
     /// Takes away a block that has a slot. It takes no memory.
@@ -90,8 +103,11 @@ impl<A: Allocator + Copy> Index<A> {
         ensures slot { self.new ≡ without nat_cmp self.old block }
         ensures ordered { IsStrictlySortedBy nat_cmp (keys_of self.old) }
     {
-        if self.root.remove(block) {
-            self.root = Branch::Empty;
+        let Some(root) = &mut self.root else {
+            unreachable!()
+        };
+        if root.remove(block) {
+            self.root = None;
         }
     }
 }

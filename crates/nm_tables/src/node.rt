@@ -67,13 +67,13 @@ impl<T: Subtree<A>, A: Allocator + Copy> Subtree<A> for Node<T, A> {
     ghost use Rattle.std.specs.List.{AllByRecursion};
     ghost use Rattle.std.specs.Map.{keys_of};
     ghost use Rattle.nm_tables.specs.Tree.{joined};
-    ghost use Rattle.nm_tables.specs.Nodes.{shown, IsNode, node_ordered, node_part, upwards_again};
+    ghost use Rattle.nm_tables.specs.Nodes.{shown, IsFilledNode, node_ordered, node_filled, node_part, upwards_again};
 
     ghost slots = { λ n. joined (shown T.slots n.parts.items) };
 
     ghost number = { λ v. T.number v / 512 };
 
-    ghost whole = { λ n. IsNode T.whole T.is_in n.parts.items };
+    ghost whole = { λ n. IsFilledNode T.whole T.is_in n.parts.items };
 
     ghost is_in = { λ n i. AllByRecursion (λ k. k / 512 ≡ i) (keys_of n.parts.items) };
 
@@ -137,9 +137,11 @@ impl<T: Subtree<A>, A: Allocator + Copy> Subtree<A> for Node<T, A> {
         self.parts.is_empty()
     }
 
-    ghost ordered = { λ x w. node_ordered T.slots T.number T.whole T.is_in T.parted T.upwards x.parts.items w };
+    ghost ordered = { λ x w. node_ordered T.slots T.number T.whole T.is_in T.parted T.upwards x.parts.items w.0 };
 
-    ghost parted = { λ x i w n. node_part T.slots T.number T.whole T.is_in T.parted T.upwards x.parts.items i w n };
+    ghost filled = { λ x w. node_filled T.slots T.whole T.is_in T.filled x.parts.items w };
+
+    ghost parted = { λ x i w n. node_part T.slots T.number T.whole T.is_in T.parted T.upwards x.parts.items i w.0 n };
 
     ghost takes_own = { λ x v n. tt };
 

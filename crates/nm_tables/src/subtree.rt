@@ -12,7 +12,7 @@ use crate::slot::Slot;
 use std::alloc::{AllocError, Allocator};
 
 /// A part of an index: blocks whose numbers begin with the same bits, more of them the higher it stands. Its number is
-/// these bits. A method that takes no memory returns no error.
+/// these bits. It has at least one block. A method that takes no memory returns no error.
 pub(crate) trait Subtree<A: Allocator + Copy>: Drop {
     /// The slots of its blocks, by their numbers.
     ghost slots: { Self → Map ℕ Slot };
@@ -77,11 +77,14 @@ pub(crate) trait Subtree<A: Allocator + Copy>: Drop {
         requires there { IsSome (get nat_cmp (slots self.old) block) }
         ensures last { result ≡ true → without nat_cmp (slots self.old) block ≡ [] }
         ensures left { result ≡ false → slots self.new ≡ without nat_cmp (slots self.old) block }
-        ensures kept { whole self.new }
+        ensures kept { result ≡ false → whole self.new }
         ensures inside { (i : ℕ) → is_in self.old i → is_in self.new i };
 
     /// The blocks are in ascending order.
     ghost ordered: { (x : Self) → whole x → IsStrictlySortedBy nat_cmp (keys_of (slots x)) };
+
+    /// No part is without blocks.
+    ghost filled: { (x : Self) → whole x → slots x ≡ [] → ⊥ };
 
     /// All blocks of a part have its number.
     ghost parted: { (x : Self) (i : ℕ) → whole x → is_in x i → IsPart number i (slots x) };

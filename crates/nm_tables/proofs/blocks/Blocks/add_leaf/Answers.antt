@@ -6,7 +6,8 @@ use Rattle.nm_tables.specs.Blocks.{AreBlocks, entries_by, without_leaf, EachLeaf
 use Rattle.nm_tables.specs.declared.slot.Slot.TheVariants.{Lone, Leaf}
 use Rattle.nm_tables.proofs.Leaves.{none_in}
 use Rattle.nm_tables.proofs.Slots.{blocks-found, second-kept, second-set, lacking-replace, one_lacks}
-use Rattle.nm_tables.proofs.Kept.{set_some, second_named, second_has}
+use Rattle.nm_tables.proofs.Changed.{set_some}
+use Rattle.nm_tables.proofs.Kept.{second_named, second_has}
 use Rattle.nm_tables.proofs.blocks.Blocks.add_leaf.Goals as goal
 
 pub set_in-requires : goal.set_in-requires

@@ -6,7 +6,8 @@ use Rattle.nm_tables.specs.Blocks.{AreBlocks, entries_by, without_leaf, EachLeaf
 use Rattle.nm_tables.specs.declared.slot.Slot.TheVariants.{Lone, Leaf}
 use Rattle.nm_tables.proofs.Slots.{blocks-found, blocks-kept, blocks-set, within, read_leaf, read_block, written-set, written-kept, lacking-replace, lone_set}
 use Rattle.nm_tables.specs.Leaves.{leaf_entries}
-use Rattle.nm_tables.proofs.Kept.{set_some, lone_named, lone_has, written_named, written_has}
+use Rattle.nm_tables.proofs.Changed.{set_some}
+use Rattle.nm_tables.proofs.Kept.{lone_named, lone_has, written_named, written_has}
 use Rattle.nm_tables.proofs.blocks.Blocks.put.Goals as goal
 
 pub index_mut-requires : goal.index_mut-requires

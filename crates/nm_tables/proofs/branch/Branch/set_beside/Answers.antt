@@ -4,6 +4,7 @@ use Rattle.nm_types.specs.Map.{set}
 use Rattle.nm_tables.specs.Tree.{joined}
 use Rattle.nm_tables.specs.Nodes.{shown, IsNode}
 use Rattle.nm_tables.specs.Branches.{parts_of}
+use Rattle.nm_tables.proofs.Changed.{set_some}
 use Rattle.nm_tables.proofs.Nodes as node
 use Rattle.nm_tables.proofs.Branches.{is_no_other, another, set_behind, set_before, above_it}
 use Rattle.nm_tables.proofs.branch.Branch.set_beside.Given.{Over}
@@ -41,9 +42,11 @@ both g c =
 pub returns-clause-ok : goal.returns-clause-ok
 returns-clause-ok g c =
     ap (λ ps. joined (shown g.T.Subtree.slots ps)) (both g c)
-    ∙ node.node-new g.T.Subtree.slots g.T.Subtree.number g.T.Subtree.whole g.T.Subtree.is_in g.met.T.Subtree.parted g.met.T.Subtree.upwards (parts_of c.args.self.now) c.requires.kept c.args.block c.in_ok-part.part c.args.slot c.requires.apart c.in_ok-part.ensures.one
+    ∙ node.node-new g.T.Subtree.slots g.T.Subtree.number g.T.Subtree.whole g.T.Subtree.is_in g.met.T.Subtree.parted g.met.T.Subtree.upwards (parts_of c.args.self.now) c.requires.kept.0 c.args.block c.in_ok-part.part c.args.slot c.requires.apart c.in_ok-part.ensures.one
 
 pub returns-clause-kept : goal.returns-clause-kept
-returns-clause-kept g c =
-    subst (IsNode g.T.Subtree.whole g.T.Subtree.is_in) (sym (both g c))
-    (node.node-more g.T.Subtree.slots g.T.Subtree.number g.T.Subtree.whole g.T.Subtree.is_in g.met.T.Subtree.parted g.met.T.Subtree.upwards (parts_of c.args.self.now) c.requires.kept (g.T.Subtree.number c.args.block) c.in_ok-part.part c.in_ok-part.ensures.kept c.in_ok-part.ensures.inside)
+returns-clause-kept g c = (
+  subst (IsNode g.T.Subtree.whole g.T.Subtree.is_in) (sym (both g c))
+      (node.node-more g.T.Subtree.slots g.T.Subtree.number g.T.Subtree.whole g.T.Subtree.is_in g.met.T.Subtree.parted g.met.T.Subtree.upwards (parts_of c.args.self.now) c.requires.kept.0 (g.T.Subtree.number c.args.block) c.in_ok-part.part c.in_ok-part.ensures.kept c.in_ok-part.ensures.inside),
+  λ none. set_some (parts_of c.args.self.now) (g.T.Subtree.number c.args.block) c.in_ok-part.part (sym (both g c) ∙ none),
+)

@@ -1,5 +1,8 @@
 use Rattle.nm_tables.proofs.Trees.{ordered_by}
 use Rattle.nm_tables.proofs.index.Index.get.Goals as goal
 
-pub returns-clause-ordered : goal.returns-clause-ordered
-returns-clause-ordered g c = ordered_by c.self.inside.root c.args.self.now c.self.view_is c.self.invariant
+pub returns-in-None-clause-ordered : goal.returns-in-None-clause-ordered
+returns-in-None-clause-ordered g c = ordered_by c.self.inside.root c.args.self.now c.self.view_is c.self.invariant
+
+pub returns-in-Some-clause-ordered : goal.returns-in-Some-clause-ordered
+returns-in-Some-clause-ordered g c = ordered_by c.self.inside.root c.args.self.now c.self.view_is c.self.invariant

@@ -23,9 +23,9 @@ loop-part-init g c =
     between_is parts from (g.T.Subtree.number c.args.at) begins ∙ sym left in
     record {
       kept = subst (IsNode g.T.Subtree.whole g.T.Subtree.is_in) all
-          (walk.node-range g.T.Subtree.slots g.T.Subtree.number g.T.Subtree.whole g.T.Subtree.is_in g.met.T.Subtree.parted g.met.T.Subtree.upwards (g.T.Subtree.number c.args.at) parts c.requires.kept);
+          (walk.node-range g.T.Subtree.slots g.T.Subtree.number g.T.Subtree.whole g.T.Subtree.is_in g.met.T.Subtree.parted g.met.T.Subtree.upwards (g.T.Subtree.number c.args.at) parts c.requires.kept.0);
       same = λ v low.
-          walk.walk-start g.T.Subtree.slots g.T.Subtree.number g.T.Subtree.whole g.T.Subtree.is_in g.met.T.Subtree.parted g.met.T.Subtree.upwards c.args.at parts c.requires.kept v low
+          walk.walk-start g.T.Subtree.slots g.T.Subtree.number g.T.Subtree.whole g.T.Subtree.is_in g.met.T.Subtree.parted g.met.T.Subtree.upwards c.args.at parts c.requires.kept.0 v low
           ∙ ap (λ ps. get nat_cmp (joined (shown g.T.Subtree.slots ps)) v) all;
     }
 

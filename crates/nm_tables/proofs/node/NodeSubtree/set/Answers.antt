@@ -9,7 +9,7 @@ use Rattle.nm_types.proofs.Keys.{keys-replace}
 use Rattle.nm_tables.specs.Tree.{joined}
 use Rattle.nm_tables.specs.Nodes.{shown, IsNode}
 use Rattle.nm_tables.proofs.Results.{on_ok, on_err}
-use Rattle.nm_tables.proofs.Changed.{all-set}
+use Rattle.nm_tables.proofs.Changed.{all-set, set_some, replace_some}
 use Rattle.nm_tables.proofs.Nodes as node
 use Rattle.nm_tables.proofs.Parts.{found_at, written_at, absent_at, inserted_at}
 use Rattle.nm_tables.proofs.node.NodeSubtree.set.Goals as goal
@@ -22,33 +22,35 @@ pub returns-in-Ok-clause-ok : goal.returns-in-Ok-clause-ok
 returns-in-Ok-clause-ok g c =
     let parts = c.args.self.now.parts.items in
     let y = c.set.new.self in
-    let at = found_at parts c.as_slice.result.now (g.T.Subtree.number c.args.block) c.number_of-number.result c.in-Ok.place c.as_slice.ensures.value c.number_of-number.ensures c.index_mut.result.now c.requires.kept.0 c.in-Ok.ensures.found c.index_mut.ensures.value in
-    let held = written_at parts c.as_slice.result.now (g.T.Subtree.number c.args.block) c.number_of-number.result c.in-Ok.place c.as_slice.ensures.value c.number_of-number.ensures c.index_mut.result.now c.requires.kept.0 c.in-Ok.ensures.found c.index_mut.ensures.value y in
-    on_ok c.set.result (λ is. ap (λ ps. joined (shown g.T.Subtree.slots ps)) held ∙ node.node-set g.T.Subtree.slots g.T.Subtree.number g.T.Subtree.whole g.T.Subtree.is_in g.met.T.Subtree.parted g.met.T.Subtree.upwards parts c.requires.kept c.args.block c.index_mut.result.now.1 y at c.args.slot is) c.set.ensures.ok
+    let at = found_at parts c.as_slice.result.now (g.T.Subtree.number c.args.block) c.number_of-number.result c.in-Ok.place c.as_slice.ensures.value c.number_of-number.ensures c.index_mut.result.now c.requires.kept.0.0 c.in-Ok.ensures.found c.index_mut.ensures.value in
+    let held = written_at parts c.as_slice.result.now (g.T.Subtree.number c.args.block) c.number_of-number.result c.in-Ok.place c.as_slice.ensures.value c.number_of-number.ensures c.index_mut.result.now c.requires.kept.0.0 c.in-Ok.ensures.found c.index_mut.ensures.value y in
+    on_ok c.set.result (λ is. ap (λ ps. joined (shown g.T.Subtree.slots ps)) held ∙ node.node-set g.T.Subtree.slots g.T.Subtree.number g.T.Subtree.whole g.T.Subtree.is_in g.met.T.Subtree.parted g.met.T.Subtree.upwards parts c.requires.kept.0 c.args.block c.index_mut.result.now.1 y at c.args.slot is) c.set.ensures.ok
 
 pub returns-in-Ok-clause-err : goal.returns-in-Ok-clause-err
 returns-in-Ok-clause-err g c =
     let parts = c.args.self.now.parts.items in
     let y = c.set.new.self in
-    let at = found_at parts c.as_slice.result.now (g.T.Subtree.number c.args.block) c.number_of-number.result c.in-Ok.place c.as_slice.ensures.value c.number_of-number.ensures c.index_mut.result.now c.requires.kept.0 c.in-Ok.ensures.found c.index_mut.ensures.value in
-    let held = written_at parts c.as_slice.result.now (g.T.Subtree.number c.args.block) c.number_of-number.result c.in-Ok.place c.as_slice.ensures.value c.number_of-number.ensures c.index_mut.result.now c.requires.kept.0 c.in-Ok.ensures.found c.index_mut.ensures.value y in
-    on_err c.set.result (λ is. ap (λ ps. joined (shown g.T.Subtree.slots ps)) held ∙ node.node-same g.T.Subtree.slots g.T.Subtree.number g.T.Subtree.whole g.T.Subtree.is_in g.met.T.Subtree.parted g.met.T.Subtree.upwards parts c.requires.kept c.args.block c.index_mut.result.now.1 y at is) c.set.ensures.err
+    let at = found_at parts c.as_slice.result.now (g.T.Subtree.number c.args.block) c.number_of-number.result c.in-Ok.place c.as_slice.ensures.value c.number_of-number.ensures c.index_mut.result.now c.requires.kept.0.0 c.in-Ok.ensures.found c.index_mut.ensures.value in
+    let held = written_at parts c.as_slice.result.now (g.T.Subtree.number c.args.block) c.number_of-number.result c.in-Ok.place c.as_slice.ensures.value c.number_of-number.ensures c.index_mut.result.now c.requires.kept.0.0 c.in-Ok.ensures.found c.index_mut.ensures.value y in
+    on_err c.set.result (λ is. ap (λ ps. joined (shown g.T.Subtree.slots ps)) held ∙ node.node-same g.T.Subtree.slots g.T.Subtree.number g.T.Subtree.whole g.T.Subtree.is_in g.met.T.Subtree.parted g.met.T.Subtree.upwards parts c.requires.kept.0 c.args.block c.index_mut.result.now.1 y at is) c.set.ensures.err
 
 pub returns-in-Ok-clause-kept : goal.returns-in-Ok-clause-kept
 returns-in-Ok-clause-kept g c =
     let parts = c.args.self.now.parts.items in
     let y = c.set.new.self in
-    let at = found_at parts c.as_slice.result.now (g.T.Subtree.number c.args.block) c.number_of-number.result c.in-Ok.place c.as_slice.ensures.value c.number_of-number.ensures c.index_mut.result.now c.requires.kept.0 c.in-Ok.ensures.found c.index_mut.ensures.value in
-    let held = written_at parts c.as_slice.result.now (g.T.Subtree.number c.args.block) c.number_of-number.result c.in-Ok.place c.as_slice.ensures.value c.number_of-number.ensures c.index_mut.result.now c.requires.kept.0 c.in-Ok.ensures.found c.index_mut.ensures.value y in
-    let part = node.found g.T.Subtree.slots g.T.Subtree.number g.T.Subtree.whole g.T.Subtree.is_in g.met.T.Subtree.parted g.met.T.Subtree.upwards parts c.requires.kept (g.T.Subtree.number c.args.block) c.index_mut.result.now.1 at in
-    subst (IsNode g.T.Subtree.whole g.T.Subtree.is_in) (sym held)
-    (node.node-kept g.T.Subtree.slots g.T.Subtree.number g.T.Subtree.whole g.T.Subtree.is_in g.met.T.Subtree.parted g.met.T.Subtree.upwards parts c.requires.kept (g.T.Subtree.number c.args.block) y c.set.ensures.kept (c.set.ensures.inside (g.T.Subtree.number c.args.block) part.1 refl))
+    let at = found_at parts c.as_slice.result.now (g.T.Subtree.number c.args.block) c.number_of-number.result c.in-Ok.place c.as_slice.ensures.value c.number_of-number.ensures c.index_mut.result.now c.requires.kept.0.0 c.in-Ok.ensures.found c.index_mut.ensures.value in
+    let held = written_at parts c.as_slice.result.now (g.T.Subtree.number c.args.block) c.number_of-number.result c.in-Ok.place c.as_slice.ensures.value c.number_of-number.ensures c.index_mut.result.now c.requires.kept.0.0 c.in-Ok.ensures.found c.index_mut.ensures.value y in
+    let part = node.found g.T.Subtree.slots g.T.Subtree.number g.T.Subtree.whole g.T.Subtree.is_in g.met.T.Subtree.parted g.met.T.Subtree.upwards parts c.requires.kept.0 (g.T.Subtree.number c.args.block) c.index_mut.result.now.1 at in (
+      subst (IsNode g.T.Subtree.whole g.T.Subtree.is_in) (sym held)
+          (node.node-kept g.T.Subtree.slots g.T.Subtree.number g.T.Subtree.whole g.T.Subtree.is_in g.met.T.Subtree.parted g.met.T.Subtree.upwards parts c.requires.kept.0 (g.T.Subtree.number c.args.block) y c.set.ensures.kept (c.set.ensures.inside (g.T.Subtree.number c.args.block) part.1 refl)),
+      λ none. replace_some parts (g.T.Subtree.number c.args.block) y c.requires.kept.1 (sym held ∙ none),
+    )
 
 pub returns-in-Ok-clause-inside : goal.returns-in-Ok-clause-inside
 returns-in-Ok-clause-inside g c i all own =
     let parts = c.args.self.now.parts.items in
     let y = c.set.new.self in
-    let held = written_at parts c.as_slice.result.now (g.T.Subtree.number c.args.block) c.number_of-number.result c.in-Ok.place c.as_slice.ensures.value c.number_of-number.ensures c.index_mut.result.now c.requires.kept.0 c.in-Ok.ensures.found c.index_mut.ensures.value y in
+    let held = written_at parts c.as_slice.result.now (g.T.Subtree.number c.args.block) c.number_of-number.result c.in-Ok.place c.as_slice.ensures.value c.number_of-number.ensures c.index_mut.result.now c.requires.kept.0.0 c.in-Ok.ensures.found c.index_mut.ensures.value y in
     subst (λ ks. AllByRecursion (λ k. k / 512 ≡ i) ks) (sym (ap keys_of held ∙ keys-replace nat_cmp parts (g.T.Subtree.number c.args.block) y)) all
 
 pub returns-in_ok-insert-in-Err-clause-ok : goal.returns-in_ok-insert-in-Err-clause-ok
@@ -57,15 +59,17 @@ returns-in_ok-insert-in-Err-clause-ok g c =
     let part = c.in_ok-part-in-Err.part in
     let none = absent_at parts c.as_slice.result.now (g.T.Subtree.number c.args.block) c.number_of-number.result c.in-Err.place c.as_slice.ensures.value c.number_of-number.ensures c.in-Err.ensures.fits in
     let more = c.in_ok-insert-in-Err.ensures.items ∙ inserted_at parts c.as_slice.result.now (g.T.Subtree.number c.args.block) c.number_of-number.result c.in-Err.place c.as_slice.ensures.value c.number_of-number.ensures c.in-Err.ensures.fits part in
-    ap (λ ps. joined (shown g.T.Subtree.slots ps)) more ∙ node.node-new g.T.Subtree.slots g.T.Subtree.number g.T.Subtree.whole g.T.Subtree.is_in g.met.T.Subtree.parted g.met.T.Subtree.upwards parts c.requires.kept c.args.block part c.args.slot none c.in_ok-part-in-Err.ensures.one
+    ap (λ ps. joined (shown g.T.Subtree.slots ps)) more ∙ node.node-new g.T.Subtree.slots g.T.Subtree.number g.T.Subtree.whole g.T.Subtree.is_in g.met.T.Subtree.parted g.met.T.Subtree.upwards parts c.requires.kept.0 c.args.block part c.args.slot none c.in_ok-part-in-Err.ensures.one
 
 pub returns-in_ok-insert-in-Err-clause-kept : goal.returns-in_ok-insert-in-Err-clause-kept
 returns-in_ok-insert-in-Err-clause-kept g c =
     let parts = c.args.self.now.parts.items in
     let part = c.in_ok-part-in-Err.part in
-    let more = c.in_ok-insert-in-Err.ensures.items ∙ inserted_at parts c.as_slice.result.now (g.T.Subtree.number c.args.block) c.number_of-number.result c.in-Err.place c.as_slice.ensures.value c.number_of-number.ensures c.in-Err.ensures.fits part in
-    subst (IsNode g.T.Subtree.whole g.T.Subtree.is_in) (sym more)
-    (node.node-more g.T.Subtree.slots g.T.Subtree.number g.T.Subtree.whole g.T.Subtree.is_in g.met.T.Subtree.parted g.met.T.Subtree.upwards parts c.requires.kept (g.T.Subtree.number c.args.block) part c.in_ok-part-in-Err.ensures.kept c.in_ok-part-in-Err.ensures.inside)
+    let more = c.in_ok-insert-in-Err.ensures.items ∙ inserted_at parts c.as_slice.result.now (g.T.Subtree.number c.args.block) c.number_of-number.result c.in-Err.place c.as_slice.ensures.value c.number_of-number.ensures c.in-Err.ensures.fits part in (
+      subst (IsNode g.T.Subtree.whole g.T.Subtree.is_in) (sym more)
+          (node.node-more g.T.Subtree.slots g.T.Subtree.number g.T.Subtree.whole g.T.Subtree.is_in g.met.T.Subtree.parted g.met.T.Subtree.upwards parts c.requires.kept.0 (g.T.Subtree.number c.args.block) part c.in_ok-part-in-Err.ensures.kept c.in_ok-part-in-Err.ensures.inside),
+      λ none. set_some parts (g.T.Subtree.number c.args.block) part (sym more ∙ none),
+    )
 
 pub returns-in_ok-insert-in-Err-clause-inside : goal.returns-in_ok-insert-in-Err-clause-inside
 returns-in_ok-insert-in-Err-clause-inside g c i all own =
@@ -75,13 +79,13 @@ returns-in_ok-insert-in-Err-clause-inside g c i all own =
     subst (λ ps. AllByRecursion (λ k. k / 512 ≡ i) (keys_of ps)) (sym more) (all-set (λ k. k / 512 ≡ i) parts (g.T.Subtree.number c.args.block) part all own)
 
 pub place_of-requires : goal.place_of-requires
-place_of-requires g c = record { ordered = subst (λ l. IsStrictlySortedBy nat_cmp (keys_of l)) (sym c.as_slice.ensures.value) c.requires.kept.0 }
+place_of-requires g c = record { ordered = subst (λ l. IsStrictlySortedBy nat_cmp (keys_of l)) (sym c.as_slice.ensures.value) c.requires.kept.0.0 }
 
 pub set-requires-clause-kept : goal.set-requires-clause-kept
 set-requires-clause-kept g c =
     let parts = c.args.self.now.parts.items in
-    let at = found_at parts c.as_slice.result.now (g.T.Subtree.number c.args.block) c.number_of-number.result c.in-Ok.place c.as_slice.ensures.value c.number_of-number.ensures c.index_mut.result.now c.requires.kept.0 c.in-Ok.ensures.found c.index_mut.ensures.value in
-    (node.found g.T.Subtree.slots g.T.Subtree.number g.T.Subtree.whole g.T.Subtree.is_in g.met.T.Subtree.parted g.met.T.Subtree.upwards parts c.requires.kept (g.T.Subtree.number c.args.block) c.index_mut.result.now.1 at).0
+    let at = found_at parts c.as_slice.result.now (g.T.Subtree.number c.args.block) c.number_of-number.result c.in-Ok.place c.as_slice.ensures.value c.number_of-number.ensures c.index_mut.result.now c.requires.kept.0.0 c.in-Ok.ensures.found c.index_mut.ensures.value in
+    (node.found g.T.Subtree.slots g.T.Subtree.number g.T.Subtree.whole g.T.Subtree.is_in g.met.T.Subtree.parted g.met.T.Subtree.upwards parts c.requires.kept.0 (g.T.Subtree.number c.args.block) c.index_mut.result.now.1 at).0
 
 pub returns-in_err-part-in-Err-clause-ok : goal.returns-in_err-part-in-Err-clause-ok
 returns-in_err-part-in-Err-clause-ok g c = IfOk-from_err _ _ c.from_residual.ensures.0
