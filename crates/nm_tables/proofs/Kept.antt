@@ -17,7 +17,7 @@ use Rattle.nm_tables.specs.declared.places.Places.{Places}
 use Rattle.nm_tables.specs.declared.slot.Slot.{Slot}
 use Rattle.nm_tables.specs.declared.slot.Slot.TheVariants.{Lone, Leaf}
 use Rattle.nm_tables.proofs.Joined.{one_or_other, get-without, at_once, at_other}
-use Rattle.nm_tables.proofs.Changed.{get-put, get-put_other, set_some}
+use Rattle.nm_tables.proofs.Changed.{get-put, get-put_other}
 use Rattle.nm_tables.proofs.Slots.{within, blocks-found, get-written, get-written_other, get-behind, get-before, other_slot, behind_slot}
 
 -- what is found after one key is changed

@@ -1,14 +1,11 @@
 -- What a leaf, a block and a page table have from one page number to another.
 use Rattle.std.proofs.Common.{◌≡◌, ℕ, ◌+◌, ◌*◌, ◌/◌, ◌^◌, ◌≤◌, ◌<◌, List, Option, [], ◌∷◌, ◌++◌, refl, sym, ap, ◌∙◌, arith, append-nil, append_assoc}
 use Rattle.std.specs.Prelude.{Some, None}
-use Rattle.std.specs.List.Sorted.{IsStrictlySortedBy}
-use Rattle.std.specs.Map.{keys_of}
 use Rattle.std.specs.Ordering.{nat_cmp}
 use Rattle.std.specs.declared.ops.Bound.TheVariants.{Included}
 use Rattle.std.specs.BTreeMap.Range.{range_contains}
 use Rattle.std.proofs.lemmas.List.Elements.{filter-append}
 use Rattle.nm_types.specs.Map.{Map, get}
-use Rattle.nm_types.proofs.Cases.{none_some}
 use Rattle.nm_tables.specs.Leaves.{leaf_entries, leaf_ordered, stands_at}
 use Rattle.nm_tables.specs.Lists.{Extends}
 use Rattle.nm_tables.specs.Blocks.{slot_entries, IsSlot, IsSlotOf, entries_by, AreBlocks}

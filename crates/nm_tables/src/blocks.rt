@@ -19,8 +19,9 @@ use crate::slot::Slot;
 use nm_types::Vpn;
 use std::alloc::{AllocError, Allocator};
 
-/// The entries of a page table, by blocks of 512 page numbers. A block has a leaf from its second entry on. Room for the
-/// leaf is set aside with its first, and costs no memory until it is written to.
+/// The entries of a page table, by blocks of 512 page numbers. A block has a leaf from its second entry on, until its last
+/// one goes and the block with it. Room for the leaf is set aside with the first, and costs no memory until it is written
+/// to.
 #[derive(Drop)]
 pub(crate) struct Blocks<A: Allocator + Copy> {
     /// What each block has that has an entry.

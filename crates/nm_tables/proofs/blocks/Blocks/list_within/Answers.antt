@@ -1,4 +1,4 @@
-use Rattle.std.proofs.Common.{◌≡◌, ◌+◌, ◌/◌, ◌<◌, ◌≤◌, ◌^◌, ◌++◌, sym, ap, subst, ◌∙◌, arith}
+use Rattle.std.proofs.Common.{◌+◌, ◌/◌, ◌≤◌, ◌++◌, ap, ◌∙◌, arith}
 use Rattle.nm_tables.specs.Blocks.{entries_by}
 use Rattle.nm_tables.proofs.Within.{within}
 use Rattle.nm_tables.proofs.Listed.{unextended, extended_by, list-start, list-step, list-end}

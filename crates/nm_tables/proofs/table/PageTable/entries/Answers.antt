@@ -1,4 +1,4 @@
-use Rattle.std.proofs.Common.{◌≡◌, ◌++◌, ap, ◌∙◌, arith}
+use Rattle.std.proofs.Common.{◌++◌, ap, ◌∙◌, arith}
 use Rattle.nm_tables.specs.Blocks.{block_entries}
 use Rattle.nm_tables.proofs.Within.{within}
 use Rattle.nm_tables.proofs.Listed.{list-all}
