@@ -26,4 +26,5 @@ pub mod Stretches
 pub mod Covered
 pub mod Masked
 pub mod Alone
+pub mod Rests
 mod CoverageExamples

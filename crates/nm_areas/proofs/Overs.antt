@@ -32,7 +32,7 @@ spot_ranked a b r h =
       | Greater ↦ λ k e. inr (inl (ranked a.0 b.0 Greater k))
     ] refl h
 
-spot_before : (a b : ℕ × ℕ) → a.0 < b.0 → spot_cmp a b ≡ Less
+pub spot_before : (a b : ℕ × ℕ) → a.0 < b.0 → spot_cmp a b ≡ Less
 spot_before a b h = ap (λ r. ordering_then r (nat_cmp a.1 b.1)) (sym (nat_cmp_is a.0 b.0 Less h))
 
 pub spot_behind : (a b : ℕ × ℕ) → b.0 < a.0 → spot_cmp a b ≡ Greater

@@ -58,6 +58,9 @@ none_before m pid at r rest e range first v low past =
 pub past_first : (n pid : ℕ) → true ≡ (n == pid) → n ≡ pid
 past_first n pid own = eqb-true n pid (sym own)
 
+pub past_not : (n pid : ℕ) → false ≡ (n == pid) → n ≡ pid → ⊥
+past_not n pid other same = true_false (sym (eq-eqb n pid same) ∙ sym other)
+
 -- another process's area comes after all of this one's
 pub past_other : (m : BTreeMap (ℕ × ℕ) Area) (pid at : ℕ) (r rest : List Placed) (e : Placed) (v : ℕ) → IsRangeOf spot_cmp (Included (pid, at)) Unbounded m r → r ≡ e ∷ rest → false ≡ (e.0.0 == pid)
     → (pid < e.0.0) ⊎ ((e.0.0 ≡ pid) × (v < e.0.1))

@@ -9,3 +9,4 @@ pub mod Lines
 pub mod Removed
 pub mod Shifted
 pub mod Coverage
+pub mod Rests

@@ -2,14 +2,17 @@
 
 ghost use Rattle.std.specs.List.Sorted.{IsStrictlySortedBy};
 ghost use Rattle.std.specs.Map.{keys_of};
-ghost use Rattle.std.specs.Prelude.{IfNone, IfSome, None, Some, ℕ, ◌<◌, ◌≡◌, ◌≤◌};
+ghost use Rattle.std.specs.Prelude.{IfNone, IfSome, None, Some, ℕ, ◌+◌, ◌<◌, ◌≡◌, ◌≤◌};
 ghost use Rattle.nm_areas.specs.Removed.{page_in};
-ghost use Rattle.nm_types.specs.Map.{get, page_cmp, replace, spot_cmp};
+ghost use Rattle.nm_areas.specs.Rests.{IsRest};
+ghost use Rattle.nm_types.specs.Map.{Map, get, page_cmp, replace, spot_cmp};
+ghost use Rattle.nm_types.specs.declared.area.Area.{Area};
 
 use crate::area_table::AreaTable;
 use nm_types::{Area, Page, Pid, Vpn};
 use std::alloc::Allocator;
 use std::collections::BTreeMap;
+use std::collections::btree_map::Range;
 
 impl<A: Allocator + Copy> AreaTable<A> {
     /// The first area of the process that begins from one page number up to another.
@@ -36,6 +39,25 @@ pub(crate) fn next_area<A: Allocator + Copy>(
     ensures ordered { IsStrictlySortedBy spot_cmp (keys_of areas.now.entries) }
 {
     let ((owner, start), area) = areas.range((pid, at)..).next()?;
+    if *owner == pid && start.number() < end.number() {
+        Some((*start, *area))
+    } else {
+        None
+    }
+}
+
+/// The next area of a process in front of a page number, of the areas from some place on.
+pub(crate) fn step_area(
+    rest: &mut Range<'_, (Pid, Vpn), Area>,
+    pid: Pid,
+    end: Vpn,
+) -> Option<(Vpn, Area)>
+    ensures some { (areas : Map (ℕ × ℕ) Area) (at : ℕ) → IsRest spot_cmp areas (pid, at) rest.old → IfSome result (λ a. (at ≤ a.0) × (a.0 < end) × (get spot_cmp areas (pid, a.0) ≡ Some a.1)) }
+    ensures first { (areas : Map (ℕ × ℕ) Area) (at : ℕ) → IsRest spot_cmp areas (pid, at) rest.old → IfSome result (λ a. (v : ℕ) → at ≤ v → v < a.0 → get spot_cmp areas (pid, v) ≡ None) }
+    ensures none { (areas : Map (ℕ × ℕ) Area) (at : ℕ) → IsRest spot_cmp areas (pid, at) rest.old → IfNone result ((v : ℕ) → at ≤ v → v < end → get spot_cmp areas (pid, v) ≡ None) }
+    ensures rest { (areas : Map (ℕ × ℕ) Area) (at : ℕ) → IsRest spot_cmp areas (pid, at) rest.old → IfSome result (λ a. IsRest spot_cmp areas (pid, a.0 + 1) rest.new) }
+{
+    let ((owner, start), area) = rest.next()?;
     if *owner == pid && start.number() < end.number() {
         Some((*start, *area))
     } else {
