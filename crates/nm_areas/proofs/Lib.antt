@@ -27,4 +27,5 @@ pub mod Covered
 pub mod Masked
 pub mod Alone
 pub mod Rests
+pub mod Filled
 mod CoverageExamples

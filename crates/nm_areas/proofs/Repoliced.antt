@@ -84,6 +84,15 @@ pub mapped_next : (areas : Map (ℕ × ℕ) Area) (pid at end start n : ℕ) (ar
     → is_mapped areas pid at (end - at) ≡ is_mapped areas pid (n + area.pages) (end - (n + area.pages))
 mapped_next areas pid at end start n area apart over is more = mapped_on areas pid at end start (n + area.pages) area apart over (ap (λ (k : ℕ). k + area.pages) is) more
 
+-- an area that is over all of them
+pub mapped_whole : (areas : Map (ℕ × ℕ) Area) (pid at count start : ℕ) (area : Area) → AreasAreApart areas → Some ((pid, start), area) ≡ area_over areas pid at → at + count ≤ start + area.pages → is_mapped areas pid at count ≡ true
+mapped_whole areas pid at count start area apart over long =
+    let a : Placed = ((pid, start), area) in
+    let facts = over_facts pid at areas start area over in
+    let sum : count ≡ count + 0 = omega arith in
+    ap (is_mapped areas pid at) sum
+    ∙ mapped_step areas pid count 0 at (λ v low high. ap is_some (over_among areas pid v a apart facts.0 (covers_from a pid v refl (omega (arith, facts.1, low)) (omega (arith, high, long)))))
+
 -- ---- what is inside has the policy
 
 joined : (xs ys zs : List Placed) → (xs ++ ys) ++ zs ≡ xs ++ (ys ++ zs)

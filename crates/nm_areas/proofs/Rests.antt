@@ -1,10 +1,10 @@
 -- What a map has from a key on, one entry after another.
 use Rattle.std.proofs.Common.{◌≡◌, ℕ, ◌+◌, ◌≤◌, ◌<◌, List, [], ◌∷◌, Bool, true, false, ◌&&◌, cond, refl, sym, ap, subst, ◌∙◌, arith, inl, inr}
 use Rattle.std.specs.Prelude.{Option, Some, None, IfSome, ◌⊎◌, not}
-use Rattle.std.specs.List.{AllByRecursion, filter}
+use Rattle.std.specs.List.{AllByRecursion}
 use Rattle.std.specs.List.Sorted.{IsStrictlySortedBy}
 use Rattle.std.specs.Map.{keys_of}
-use Rattle.std.specs.Ordering.{nat_cmp, is_eq, is_gt, is_le}
+use Rattle.std.specs.Ordering.{is_eq, is_gt, is_le}
 use Rattle.std.specs.Cmp.{IsTotalOrder, tied_itself, nat_cmp_is, ranked}
 use Rattle.std.proofs.lemmas.Cmp.{upto}
 use Rattle.std.specs.BTreeMap.{is_at}
@@ -18,11 +18,10 @@ use Rattle.std.proofs.lemmas.Map.Keys.{sorted_head, sorted_tail}
 use Rattle.std.proofs.lemmas.Map.Lookups.{CmpEqualImpliesEq}
 use Rattle.nm_types.specs.declared.page.Page.{Page}
 use Rattle.nm_types.specs.Map.{Map, get, spot_cmp, page_cmp}
-use Rattle.nm_types.proofs.Maps.{equal, spot_cmp_total, page_cmp_total, exact_page}
+use Rattle.nm_types.proofs.Maps.{equal, spot_cmp_total, page_cmp_total}
 use Rattle.nm_areas.specs.Rests.{IsRest}
 use Rattle.nm_areas.specs.Removed.{page_in}
 use Rattle.nm_areas.proofs.Overs.{up_to, from_up_to, spot_before, spot_behind, spot_same}
-use Rattle.nm_areas.proofs.Painted.{exact_spot}
 
 -- what is said of a value that is there
 pub given : {X : Type 0} (P : X → Type 0) (o : Option X) (x : X) → o ≡ Some x → IfSome o P → P x

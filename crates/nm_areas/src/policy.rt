@@ -3,7 +3,7 @@
 ghost use Rattle.std.specs.List.{AllByRecursion, flat_map};
 ghost use Rattle.std.specs.List.Sorted.{IsStrictlySortedBy};
 ghost use Rattle.std.specs.Map.{keys_of};
-ghost use Rattle.std.specs.Prelude.{None, OnErr, OnOk, Some, false, true, ℕ, ◌*◌, ◌+◌, ◌<◌, ◌^◌, ◌≡◌, ◌≤◌, IfErr};
+ghost use Rattle.std.specs.Prelude.{None, OnErr, OnOk, Some, false, true, ℕ, ◌*◌, ◌+◌, ◌-◌, ◌<◌, ◌^◌, ◌≡◌, ◌≤◌, IfErr};
 ghost use Rattle.nm_types.specs.Does.{Makes};
 ghost use Rattle.nm_areas.specs.Effect.{with_policy};
 ghost use Rattle.nm_areas.specs.Mapped.{AreasAreApart, EndsLow, HasIndices, IsSomePages};
@@ -11,13 +11,13 @@ ghost use Rattle.nm_areas.specs.Policy.{is_mapped, painted, repoliced};
 ghost use Rattle.nm_areas.specs.Refused.{range_refusal};
 ghost use Rattle.nm_areas.specs.Table.{with_areas};
 ghost use Rattle.nm_types.specs.Map.{spot_cmp, with_values};
-ghost use Rattle.nm_types.specs.State.{page_at};
+ghost use Rattle.nm_types.specs.State.{area_over, page_at};
 
 use crate::area_table::AreaTable;
 use crate::areas::Areas;
 use crate::counting::{join_steps, split_steps};
 use crate::ranges::whole_pages;
-use crate::scan::{next_area, put};
+use crate::scan::{next_area, put, step_area};
 use nm_types::{Area, Errno, MachineError, Pid, Policy, Vpn};
 use std::alloc::{AllocError, Allocator};
 use std::collections::BTreeMap;
@@ -82,15 +82,14 @@ impl<A: Allocator + Copy> AreaTable<A> {
         requires end { first + count < 2 ^ 64 }
         ensures { result ≡ is_mapped self.now.areas pid first count }
     {
-        let end = first.number() + count;
-        let mut at = first.number();
-        while at < end {
-            let Some((start, area)) = self.over(pid, Vpn::new(at)) else {
-                return false;
-            };
-            at = start.number() + area.pages;
+        match self.over(pid, first) {
+            Some((start, area)) => {
+                let end = first.number() + count;
+                let past = start.number() + area.pages;
+                past >= end || goes_on(&self.areas, pid, start, area, end)
+            }
+            None => count == 0,
         }
-        true
     }
 
     /// Splits the areas of the process at both ends of one or more pages from a page number on, and sets the policy of
@@ -116,6 +115,32 @@ impl<A: Allocator + Copy> AreaTable<A> {
         paint(&mut self.areas, pid, first, end, &policy);
         Ok(())
     }
+}
+
+/// Whether areas of the process are over all page numbers behind an area, given with its first page number, up to another.
+fn goes_on<A: Allocator + Copy>(
+    areas: &BTreeMap<(Pid, Vpn), Area, A>,
+    pid: Pid,
+    first: Vpn,
+    area: Area,
+    end: u64,
+) -> bool
+    requires apart { AreasAreApart areas.now.entries }
+    requires whole { AllByRecursion IsSomePages areas.now.entries }
+    requires low { AllByRecursion EndsLow areas.now.entries }
+    requires some { 0 < area.pages }
+    requires over { (v : ℕ) → first ≤ v → v < first + area.pages → area_over areas.now.entries pid v ≡ Some ((pid, first), area) }
+    ensures { result ≡ is_mapped areas.now.entries pid (first + area.pages) (end - (first + area.pages)) }
+{
+    let mut at = first.number() + area.pages;
+    let mut rest = areas.range((pid, Vpn::new(at))..);
+    while at < end {
+        let Some((start, area)) = step_area(&mut rest, pid, Vpn::new(at + 1)) else {
+            return false;
+        };
+        at = start.number() + area.pages;
+    }
+    true
 }
 
 /// Sets the policy of the areas of a process that begin from one page number up to another.

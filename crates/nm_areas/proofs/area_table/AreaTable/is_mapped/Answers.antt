@@ -1,26 +1,43 @@
-use Rattle.std.proofs.Common.{◌+◌, ◌-◌, ◌∙◌, ap, arith, sym}
-use Rattle.nm_areas.specs.Mapped.{EndsLow}
+use Rattle.std.proofs.Common.{◌+◌, ◌-◌, ◌≡◌, refl, ap, sym, ◌∙◌, arith}
+use Rattle.std.proofs.lemmas.Bool.{le-leb}
+use Rattle.nm_areas.specs.Mapped.{EndsLow, IsSomePages}
 use Rattle.nm_areas.specs.Policy.{is_mapped}
+use Rattle.nm_areas.specs.Table.{Table}
 use Rattle.nm_areas.proofs.Parted.{All-among}
 use Rattle.nm_areas.proofs.Cut.{over_facts}
-use Rattle.nm_areas.proofs.Repoliced.{mapped_next}
+use Rattle.nm_areas.proofs.Repoliced.{mapped_next, mapped_whole}
+use Rattle.nm_areas.proofs.Searched.{over_all}
+use Rattle.nm_areas.proofs.Filled.{over_inside, mapped_inside}
 use Rattle.nm_areas.proofs.area_table.AreaTable.is_mapped.Goals as goal
 
-pub overflow_add-at : goal.overflow_add-at
-overflow_add-at g c =
-    let facts = over_facts c.args.pid c.new.result c.args.self.now.areas _ _ c.in-Some.ensures in
+pub overflow_add-past : goal.overflow_add-past
+overflow_add-past g c =
+    let facts = over_facts c.args.pid c.args.first c.args.self.now.areas _ _ c.in-Some.ensures in
     let low = All-among EndsLow c.args.self.now.areas _ c.requires.low facts.0 in
-    omega (arith, low, c.number-in-loop-at.ensures)
+    omega (arith, low, c.number-in-Some.ensures)
 
-pub loop-at-smaller : goal.loop-at-smaller
-loop-at-smaller g c =
-    let facts = over_facts c.args.pid c.new.result c.args.self.now.areas _ _ c.in-Some.ensures in
-    omega (arith, facts.2, c.number-in-loop-at.ensures, c.new.ensures, c.loop-at-test.true)
+pub goes_on-requires-clause-some : goal.goes_on-requires-clause-some
+goes_on-requires-clause-some g c =
+    let facts = over_facts c.args.pid c.args.first c.args.self.now.areas _ _ c.in-Some.ensures in
+    All-among IsSomePages c.args.self.now.areas _ c.requires.whole facts.0
 
-pub loop-at-preserved : goal.loop-at-preserved
-loop-at-preserved g c = record {
-  rest =
-      c.loop-at.invariant.rest
-      ∙ ap (λ n. is_mapped c.args.self.now.areas c.args.pid n (c.number.result + c.args.count - n)) (sym c.new.ensures)
-      ∙ mapped_next c.args.self.now.areas c.args.pid c.new.result (c.number.result + c.args.count) _ _ _ c.requires.apart c.in-Some.ensures c.number-in-loop-at.ensures (omega (arith, c.loop-at-test.true, c.new.ensures));
-}
+pub goes_on-requires-clause-over : goal.goes_on-requires-clause-over
+goes_on-requires-clause-over g c =
+    over_inside c.self.inside.areas.entries c.args.self.now.areas (ap (λ (t : Table). t.areas) c.self.view_is) c.args.pid _ _
+    (over_all c.args.self.now.areas c.requires.apart c.args.pid c.args.first _ _ c.in-Some.ensures)
+
+pub returns-then-past-end : goal.returns-then-past-end
+returns-then-past-end g c =
+    let long = c.if-past-end.true in
+    le-leb _ _ long
+    ∙ sym (mapped_whole c.args.self.now.areas c.args.pid c.args.first c.args.count _ _ c.requires.apart c.in-Some.ensures (omega (arith, long, c.number.ensures, c.number-in-Some.ensures)))
+
+pub returns-else-past-end : goal.returns-else-past-end
+returns-else-past-end g c =
+    let areas = c.args.self.now.areas in
+    let end = c.number.result + c.args.count in
+    let facts = over_facts c.args.pid c.args.first areas _ _ c.in-Some.ensures in
+    let size : c.args.count ≡ end - c.args.first = omega (arith, c.number.ensures) in
+    c.goes_on.ensures
+    ∙ mapped_inside c.self.inside.areas.entries areas (ap (λ (t : Table). t.areas) c.self.view_is) c.args.pid _ _
+    ∙ sym (ap (is_mapped areas c.args.pid c.args.first) size ∙ mapped_next areas c.args.pid c.args.first end _ _ _ c.requires.apart c.in-Some.ensures refl (omega (arith, facts.2, c.if-past-end.false, c.number-in-Some.ensures)))

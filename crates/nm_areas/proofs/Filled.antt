@@ -1,0 +1,92 @@
+-- Areas of a process, one right behind another.
+use Rattle.std.proofs.Common.{◌≡◌, ℕ, ◌+◌, ◌≤◌, ◌<◌, true, false, ◌&&◌, refl, sym, ap, subst, ◌∙◌, arith}
+use Rattle.std.specs.Prelude.{Some, None, zero, suc, max, nat_lt}
+use Rattle.std.specs.Option.{is_some}
+use Rattle.std.specs.List.{AllByRecursion}
+use Rattle.std.proofs.lemmas.Bool.{ltb-true, ltb-false}
+use Rattle.nm_types.specs.declared.area.Area.{Area}
+use Rattle.nm_types.specs.Map.{Map, get, spot_cmp}
+use Rattle.nm_types.specs.State.{Placed, covers, area_over}
+use Rattle.nm_types.proofs.Cases.{none_some, some_is}
+use Rattle.nm_areas.specs.Mapped.{AreasAreApart, IsSomePages}
+use Rattle.nm_areas.specs.Policy.{is_mapped}
+use Rattle.nm_areas.proofs.Apart.{covers_parts, covers_from}
+use Rattle.nm_areas.proofs.Parted.{Among, All-among, among_over, over_among}
+use Rattle.nm_areas.proofs.Overs.{get_among, get_not_none}
+use Rattle.nm_areas.proofs.Own.{NoneBegins}
+use Rattle.nm_areas.proofs.Searched.{begun_all}
+
+-- no area that is over a page number begins in front of it
+abbrev pub NoneReaches : Map (ℕ × ℕ) Area → ℕ → ℕ → Type 0
+NoneReaches areas pid at = (a : Placed) → Among a areas → covers a pid at ≡ true → at ≤ a.0.1
+
+-- an area is over all of its page numbers
+abbrev pub IsOver : Map (ℕ × ℕ) Area → ℕ → ℕ → Area → Type 0
+IsOver areas pid start x = (v : ℕ) → start ≤ v → v < start + x.pages → area_over areas pid v ≡ Some ((pid, start), x)
+
+pub pages_some : (areas : Map (ℕ × ℕ) Area) (pid start : ℕ) (x : Area) → AllByRecursion IsSomePages areas → get spot_cmp areas (pid, start) ≡ Some x → 0 < x.pages
+pages_some areas pid start x whole there = All-among IsSomePages areas ((pid, start), x) whole (get_among areas (pid, start) x there)
+
+-- behind an area
+module _ (areas : Map (ℕ × ℕ) Area) (apart : AreasAreApart areas) (whole : AllByRecursion IsSomePages areas) (pid start : ℕ) (x : Area) (some : 0 < x.pages) (its : IsOver areas pid start x) where
+  pub none_within : NoneBegins areas pid (start + 1) (start + x.pages)
+  none_within v low high =
+      elim (get spot_cmp areas (pid, v)) as (λ o. get spot_cmp areas (pid, v) ≡ o → o ≡ None) [
+        | None ↦ λ o. refl
+        | Some y ↦ λ o.
+            let some = All-among IsSomePages areas ((pid, v), y) whole (get_among areas (pid, v) y o) in
+            let one : ((pid, v), y) ≡ ((pid, start), x) = some_is (sym (begun_all areas apart pid v y o v (omega arith) (omega (arith, some))) ∙ its v (omega (arith, low)) high) in
+            let same : v ≡ start = ap (λ (a : Placed). a.0.1) one in
+            absurd (omega (arith, low, same))
+      ] refl
+
+  reaches_none : NoneReaches areas pid (start + x.pages)
+  reaches_none a m over =
+      let parts = covers_parts a pid (start + x.pages) over in
+      elim (nat_lt a.0.1 (start + x.pages)) as (λ b. nat_lt a.0.1 (start + x.pages) ≡ b → start + x.pages ≤ a.0.1) [
+        | false ↦ λ b. ltb-false a.0.1 (start + x.pages) b
+        | true ↦ λ b.
+            let before : a.0.1 < start + x.pages = ltb-true a.0.1 (start + x.pages) b in
+            let v = max start a.0.1 in
+            let one : a ≡ ((pid, start), x) = some_is (sym (over_among areas pid v a apart m (covers_from a pid v parts.0 (omega arith) (omega (arith, some, before, parts.2)))) ∙ its v (omega arith) (omega (arith, some, before))) in
+            let end : a.0.1 + a.1.pages ≡ start + x.pages = ap (λ (a : Placed). a.0.1 + a.1.pages) one in
+            absurd (omega (arith, end, parts.2))
+      ] refl
+
+  pub none_reaches : (n : ℕ) → n ≡ start → NoneReaches areas pid (n + x.pages)
+  none_reaches n is = subst (λ (n : ℕ). NoneReaches areas pid (n + x.pages)) (sym is) reaches_none
+
+module _ (areas : Map (ℕ × ℕ) Area) (pid at : ℕ) (reaches : NoneReaches areas pid at) where
+  -- where none begins
+  pub none_there : get spot_cmp areas (pid, at) ≡ None → area_over areas pid at ≡ None
+  none_there none =
+      elim (area_over areas pid at) as (λ o. area_over areas pid at ≡ o → o ≡ None) [
+        | None ↦ λ o. refl
+        | Some a ↦ λ o.
+            let found = among_over areas pid at a o in
+            let parts = covers_parts a pid at found.1 in
+            let up = reaches a found.0 found.1 in
+            let same : a.0.1 ≡ at = omega (arith, up, parts.1) in
+            absurd (get_not_none areas a found.0 (ap (λ (k : ℕ × ℕ). get spot_cmp areas k) (λ i. (parts.0 i, same i)) ∙ none))
+      ] refl
+
+-- an area that begins from there on, where none begins in front of a page number
+pub begins_from : (areas : Map (ℕ × ℕ) Area) (pid from at start : ℕ) (x : Area) → NoneBegins areas pid from at → from ≤ start → get spot_cmp areas (pid, start) ≡ Some x → at ≤ start
+begins_from areas pid from at start x none low there =
+    elim (nat_lt start at) as (λ b. nat_lt start at ≡ b → at ≤ start) [
+      | true ↦ λ b. absurd (none_some (sym (none start low (ltb-true start at b)) ∙ there))
+      | false ↦ λ b. ltb-false start at b
+    ] refl
+
+-- a page number without an area
+pub hole_first : (areas : Map (ℕ × ℕ) Area) (pid at n : ℕ) → 0 < n → area_over areas pid at ≡ None → is_mapped areas pid at n ≡ false
+hole_first areas pid at zero some none = absurd (omega (arith, some))
+hole_first areas pid at (suc n) some none = ap (λ o. is_some o && is_mapped areas pid (at + 1) n) none
+
+-- the same areas by another name
+module _ (inside areas : Map (ℕ × ℕ) Area) (is : inside ≡ areas) (pid at : ℕ) where
+  pub over_inside : (x : Area) → IsOver areas pid at x → IsOver inside pid at x
+  over_inside x = subst (λ m. IsOver m pid at x) (sym is)
+
+  pub mapped_inside : (n : ℕ) → is_mapped inside pid at n ≡ is_mapped areas pid at n
+  mapped_inside n = ap (λ m. is_mapped m pid at n) is
