@@ -13,7 +13,6 @@ pub mod Scanned
 pub mod Searched
 pub mod Own
 pub mod Private
-pub mod Framed
 pub mod Lost
 pub mod Gone
 pub mod Letting

@@ -33,43 +33,11 @@ put_nowhere (e ∷ m) k x h =
       | false ↦ λ h. ap (λ es. e ∷ es) (put_nowhere m k x h)
     ] h
 
--- ---- the first area from a place on
-
--- nothing comes from there on
-pub none_at_all : (m : BTreeMap (ℕ × ℕ) Area) (pid at : ℕ) (r : List Placed) → IsRangeOf spot_cmp (Included (pid, at)) Unbounded m r → r ≡ []
-    → (v : ℕ) → at ≤ v → get spot_cmp m.entries (pid, v) ≡ None
-none_at_all m pid at r range empty v low = range.5 empty (pid, v) (from_up_to (pid, at) (pid, v) refl low, tt)
-
--- nothing comes before the first
-pub none_before : (m : BTreeMap (ℕ × ℕ) Area) (pid at : ℕ) (r rest : List Placed) (e : Placed) → IsRangeOf spot_cmp (Included (pid, at)) Unbounded m r → r ≡ e ∷ rest
-    → (v : ℕ) → at ≤ v → (pid < e.0.0) ⊎ ((e.0.0 ≡ pid) × (v < e.0.1)) → get spot_cmp m.entries (pid, v) ≡ None
-none_before m pid at r rest e range first v low past =
-    let behind : spot_cmp e.0 (pid, v) ≡ Greater = elim past as (λ _. spot_cmp e.0 (pid, v) ≡ Greater) [
-      | inl k ↦ spot_behind e.0 (pid, v) k
-      | inr k ↦ spot_same e.0 (pid, v) k.0 ∙ sym (nat_cmp_is e.0.1 v Greater k.1)
-    ] in
-    elim (get spot_cmp m.entries (pid, v)) as (λ o. get spot_cmp m.entries (pid, v) ≡ o → o ≡ None) [
-      | None ↦ λ o. refl
-      | Some x ↦ λ o.
-          let least = subst (λ (es : List Placed). IsRangeOf spot_cmp (Included (pid, at)) Unbounded m es) first range in
-          absurd (true_false (sym (ap is_gt behind) ∙ least.2 (pid, v) (from_up_to (pid, at) (pid, v) refl low, tt) (subst IsSome (sym o) refl)))
-    ] refl
-
 pub past_first : (n pid : ℕ) → true ≡ (n == pid) → n ≡ pid
 past_first n pid own = eqb-true n pid (sym own)
 
 pub past_not : (n pid : ℕ) → false ≡ (n == pid) → n ≡ pid → ⊥
 past_not n pid other same = true_false (sym (eq-eqb n pid same) ∙ sym other)
-
--- another process's area comes after all of this one's
-pub past_other : (m : BTreeMap (ℕ × ℕ) Area) (pid at : ℕ) (r rest : List Placed) (e : Placed) (v : ℕ) → IsRangeOf spot_cmp (Included (pid, at)) Unbounded m r → r ≡ e ∷ rest → false ≡ (e.0.0 == pid)
-    → (pid < e.0.0) ⊎ ((e.0.0 ≡ pid) × (v < e.0.1))
-past_other m pid at r rest e v range first other =
-    let here = subst (λ (es : List Placed). IsRangeOf spot_cmp (Included (pid, at)) Unbounded m es) first range in
-    elim (up_to (pid, at) e.0 here.1.0.0) as (λ _. (pid < e.0.0) ⊎ ((e.0.0 ≡ pid) × (v < e.0.1))) [
-      | inl k ↦ inl k
-      | inr k ↦ absurd (true_false (sym (eq-eqb e.0.0 pid (sym k.0)) ∙ sym other))
-    ]
 
 -- ---- policies that are set one after another
 

@@ -2,11 +2,12 @@
 
 ghost use Rattle.std.specs.List.Sorted.{IsStrictlySortedBy};
 ghost use Rattle.std.specs.Map.{keys_of};
-ghost use Rattle.std.specs.Prelude.{IfNone, IfSome, None, Some, ℕ, ◌+◌, ◌<◌, ◌≡◌, ◌≤◌};
+ghost use Rattle.std.specs.Prelude.{IfNone, IfSome, None, Some, length, ℕ, ◌+◌, ◌<◌, ◌≡◌, ◌≤◌};
 ghost use Rattle.nm_areas.specs.Removed.{page_in};
 ghost use Rattle.nm_areas.specs.Rests.{IsRest};
 ghost use Rattle.nm_types.specs.Map.{Map, get, page_cmp, replace, spot_cmp};
 ghost use Rattle.nm_types.specs.declared.area.Area.{Area};
+ghost use Rattle.nm_types.specs.declared.page.Page.{Page};
 
 use crate::area_table::AreaTable;
 use nm_types::{Area, Page, Pid, Vpn};
@@ -38,12 +39,8 @@ pub(crate) fn next_area<A: Allocator + Copy>(
     ensures none { IfNone result ((v : ℕ) → at ≤ v → v < end → get spot_cmp areas.now.entries (pid, v) ≡ None) }
     ensures ordered { IsStrictlySortedBy spot_cmp (keys_of areas.now.entries) }
 {
-    let ((owner, start), area) = areas.range((pid, at)..).next()?;
-    if *owner == pid && start.number() < end.number() {
-        Some((*start, *area))
-    } else {
-        None
-    }
+    let mut rest = areas.range((pid, at)..);
+    step_area(&mut rest, pid, end)
 }
 
 /// The next area of a process in front of a page number, of the areas from some place on.
@@ -56,6 +53,7 @@ pub(crate) fn step_area(
     ensures first { (areas : Map (ℕ × ℕ) Area) (at : ℕ) → IsRest spot_cmp areas (pid, at) rest.old → IfSome result (λ a. (v : ℕ) → at ≤ v → v < a.0 → get spot_cmp areas (pid, v) ≡ None) }
     ensures none { (areas : Map (ℕ × ℕ) Area) (at : ℕ) → IsRest spot_cmp areas (pid, at) rest.old → IfNone result ((v : ℕ) → at ≤ v → v < end → get spot_cmp areas (pid, v) ≡ None) }
     ensures rest { (areas : Map (ℕ × ℕ) Area) (at : ℕ) → IsRest spot_cmp areas (pid, at) rest.old → IfSome result (λ a. IsRest spot_cmp areas (pid, a.0 + 1) rest.new) }
+    ensures fewer { IfSome result (λ a. length rest.new < length rest.old) }
 {
     let ((owner, start), area) = rest.next()?;
     if *owner == pid && start.number() < end.number() {
@@ -93,7 +91,23 @@ pub(crate) fn next_of<V: Copy, A: Allocator + Copy>(
     ensures ordered { IsStrictlySortedBy page_cmp (keys_of pages.now.entries) }
 {
     let from = Page { segment, index: at };
-    let (page, value) = pages.range(from..).next()?;
+    let mut rest = pages.range(from..);
+    step_page(&mut rest, segment, past)
+}
+
+/// The next entry of a segment in front of an index, of the entries from some page on.
+pub(crate) fn step_page<V: Copy>(
+    rest: &mut Range<'_, Page, V>,
+    segment: u32,
+    past: u64,
+) -> Option<(u64, V)>
+    ensures some { (pages : Map Page V) (at : ℕ) → IsRest page_cmp pages (page_in segment at) rest.old → IfSome result (λ p. (at ≤ p.0) × (p.0 < past) × (get page_cmp pages (page_in segment p.0) ≡ Some p.1)) }
+    ensures first { (pages : Map Page V) (at : ℕ) → IsRest page_cmp pages (page_in segment at) rest.old → IfSome result (λ p. (i : ℕ) → at ≤ i → i < p.0 → get page_cmp pages (page_in segment i) ≡ None) }
+    ensures none { (pages : Map Page V) (at : ℕ) → IsRest page_cmp pages (page_in segment at) rest.old → IfNone result ((i : ℕ) → at ≤ i → i < past → get page_cmp pages (page_in segment i) ≡ None) }
+    ensures rest { (pages : Map Page V) (at : ℕ) → IsRest page_cmp pages (page_in segment at) rest.old → IfSome result (λ p. IsRest page_cmp pages (page_in segment (p.0 + 1)) rest.new) }
+    ensures fewer { IfSome result (λ p. length rest.new < length rest.old) }
+{
+    let (page, value) = rest.next()?;
     if page.segment == segment && page.index < past {
         Some((page.index, *value))
     } else {
