@@ -14,7 +14,8 @@ use Rattle.nm_areas.proofs.Apart.{covers_parts, covers_from}
 use Rattle.nm_areas.proofs.Parted.{Among, All-among, among_over, over_among}
 use Rattle.nm_areas.proofs.Overs.{get_among, get_not_none}
 use Rattle.nm_areas.proofs.Own.{NoneBegins}
-use Rattle.nm_areas.proofs.Searched.{begun_all}
+use Rattle.nm_areas.proofs.Cut.{over_facts}
+use Rattle.nm_areas.proofs.Searched.{begun_all, over_all}
 
 -- no area that is over a page number begins in front of it
 abbrev pub NoneReaches : Map (ℕ × ℕ) Area → ℕ → ℕ → Type 0
@@ -90,3 +91,27 @@ module _ (inside areas : Map (ℕ × ℕ) Area) (is : inside ≡ areas) (pid at 
 
   pub mapped_inside : (n : ℕ) → is_mapped inside pid at n ≡ is_mapped areas pid at n
   mapped_inside n = ap (λ m. is_mapped m pid at n) is
+
+-- where an area is over a later page number, and begins no later than this one
+module _ (areas : Map (ℕ × ℕ) Area) (apart : AreasAreApart areas) (pid at v start : ℕ) (x : Area) (later : at ≤ v) (there : area_over areas pid v ≡ Some ((pid, start), x)) where
+  over_earlier : start ≤ at → area_over areas pid at ≡ Some ((pid, start), x)
+  over_earlier low = let facts = over_facts pid v areas start x (sym there) in over_all areas apart pid v start x (sym there) at low (omega (arith, later, facts.2))
+
+  pub begin_some : (other : ℕ) (y : Area) → Some ((pid, other), y) ≡ area_over areas pid at → other ≤ start
+  begin_some other y over =
+      elim (nat_lt start other) as (λ b. nat_lt start other ≡ b → other ≤ start) [
+        | false ↦ λ b. ltb-false start other b
+        | true ↦ λ b.
+            let before : start < other = ltb-true start other b in
+            let facts = over_facts pid at areas other y over in
+            let one : ((pid, other), y) ≡ ((pid, start), x) = some_is (over ∙ over_earlier (omega (arith, before, facts.1))) in
+            let same : other ≡ start = ap (λ (a : Placed). a.0.1) one in
+            absurd (omega (arith, before, same))
+      ] refl
+
+  pub begin_none : None ≡ area_over areas pid at → at ≤ start
+  begin_none free =
+      elim (nat_lt start at) as (λ b. nat_lt start at ≡ b → at ≤ start) [
+        | false ↦ λ b. ltb-false start at b
+        | true ↦ λ b. let before : start < at = ltb-true start at b in absurd (none_some (free ∙ over_earlier (omega (arith, before))))
+      ] refl

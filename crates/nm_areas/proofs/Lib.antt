@@ -27,4 +27,5 @@ pub mod Masked
 pub mod Alone
 pub mod Rests
 pub mod Filled
+pub mod Tallied
 mod CoverageExamples

@@ -1,25 +1,19 @@
 -- The areas of a process from one page number up to another, one after another, and their policy.
-use Rattle.std.proofs.Common.{◌≡◌, ℕ, ◌+◌, ◌≤◌, ◌<◌, List, [], ◌∷◌, true, false, ◌&&◌, cond, refl, sym, ap, subst, ◌∙◌, arith, inl, inr, eq-eqb}
-use Rattle.std.specs.Prelude.{Some, None, IsSome, nat_lt, nat_le, ◌==◌, ◌⊎◌}
+use Rattle.std.proofs.Common.{◌≡◌, ℕ, ◌+◌, ◌≤◌, ◌<◌, [], ◌∷◌, true, false, ◌&&◌, cond, refl, sym, ap, subst, ◌∙◌, arith, eq-eqb}
+use Rattle.std.specs.Prelude.{Some, None, IsSome, nat_lt, nat_le, ◌==◌}
 use Rattle.std.specs.Option.{option_map}
-use Rattle.std.specs.BTreeMap.{BTreeMap}
-use Rattle.std.specs.BTreeMap.Range.{IsRangeOf}
-use Rattle.std.specs.declared.ops.Bound.TheVariants.{Included, Unbounded}
 use Rattle.std.specs.List.Sorted.{IsStrictlySortedBy}
 use Rattle.std.specs.Map.{keys_of}
-use Rattle.std.specs.Ordering.{nat_cmp, is_eq, is_gt}
-use Rattle.std.specs.Cmp.{nat_cmp_is, tied_itself}
-use Rattle.std.specs.declared.cmp.Ordering.TheVariants.{Greater}
+use Rattle.std.specs.Ordering.{nat_cmp, is_eq}
+use Rattle.std.specs.Cmp.{tied_itself}
 use Rattle.std.proofs.lemmas.Bool.{eqb-true, leb-true, ltb-true, ltb-false, lt-ltb, le-leb, and_from}
 use Rattle.std.proofs.lemmas.Map.Lookups.{exact_unsigned, exact_pairs, CmpEqualImpliesEq}
 use Rattle.nm_types.specs.declared.area.Policy.{Policy}
 use Rattle.nm_types.specs.declared.area.Area.{Area}
 use Rattle.nm_types.specs.Map.{Map, get, set, replace, with_values, spot_cmp}
-use Rattle.nm_types.specs.State.{Placed}
 use Rattle.nm_types.proofs.Cases.{true_false, some_none}
 use Rattle.nm_areas.specs.Policy.{painted}
 use Rattle.nm_types.proofs.Maps.{spot_cmp_total, get-values, agree, set_agree, set_same, replace_is_set}
-use Rattle.nm_areas.proofs.Overs.{up_to, from_up_to, spot_behind, spot_same}
 
 pub exact_spot : CmpEqualImpliesEq spot_cmp
 exact_spot = exact_pairs nat_cmp nat_cmp exact_unsigned exact_unsigned

@@ -7,6 +7,7 @@ ghost use Rattle.std.specs.List.Sorted.{IsStrictlySortedBy};
 ghost use Rattle.std.specs.Map.{keys_of};
 ghost use Rattle.nm_types.specs.Map.{get, set, replace, without, spot_cmp};
 ghost use Rattle.nm_types.specs.State.{Placed, area_over};
+ghost use Rattle.nm_types.specs.declared.area.Area.{Area};
 ghost use Rattle.nm_areas.specs.Effect.{new_area};
 ghost use Rattle.nm_areas.specs.Lines.{is_shared};
 ghost use Rattle.nm_areas.specs.Mapped.{AreasAreApart, EndsLow, IsSomePages};
@@ -108,6 +109,20 @@ impl<A: Allocator + Copy> AreaTable<A> {
             Some((*first, *area))
         } else {
             None
+        }
+    }
+
+    /// Where the area of a process begins that is over a page number, or the page number if none is. No area of the process
+    /// that is over it or a later one begins in front.
+    pub(crate) fn begin(&self, pid: Pid, vpn: Vpn) -> Vpn
+        requires apart { AreasAreApart self.now.areas }
+        requires whole { AllByRecursion IsSomePages self.now.areas }
+        ensures low { result ≤ vpn }
+        ensures first { (v start : ℕ) (area : Area) → vpn ≤ v → area_over self.now.areas pid v ≡ Some ((pid, start), area) → result ≤ start }
+    {
+        match self.over(pid, vpn) {
+            Some((start, _)) => start,
+            None => vpn,
         }
     }
 

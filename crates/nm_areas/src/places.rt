@@ -1,6 +1,6 @@
 //! The frames of pages.
 
-ghost use Rattle.std.specs.Prelude.{ℕ, ◌≡◌, ◌≤◌, ◌<◌, ◌+◌, ◌^◌, None, Some, IsSome, IfSome, IfNone, IfOk, OnOk, OnErr};
+ghost use Rattle.std.specs.Prelude.{ℕ, ◌≡◌, ◌≤◌, ◌<◌, ◌+◌, ◌^◌, nat_lt, true, false, slice_index_or, None, Some, IsSome, IfSome, IfNone, IfOk, OnOk, OnErr};
 ghost use Rattle.std.specs.List.Sorted.{IsStrictlySortedBy};
 ghost use Rattle.std.specs.Map.{keys_of, values_of};
 ghost use Rattle.nm_types.specs.declared.page.Page.{Page};
@@ -8,10 +8,11 @@ ghost use Rattle.nm_types.specs.Map.{get, page_cmp, with_values};
 ghost use Rattle.nm_types.specs.State.{page_of, page_at};
 ghost use Rattle.nm_areas.specs.Effect.{with_frame, moved, without_frame};
 ghost use Rattle.nm_areas.specs.Mapped.{IsMapped, mapped};
+ghost use Rattle.nm_areas.specs.Removed.{page_in};
 
 use crate::area_table::AreaTable;
 use crate::areas::Areas;
-use crate::scan::next_of;
+use crate::scan::{next_of, step_area, step_page};
 use nm_types::{Area, FrameId, Page, Pid, Vpn};
 use std::alloc::{AllocError, Allocator};
 use std::collections::BTreeMap;
@@ -33,6 +34,16 @@ impl<A: Allocator + Copy> Areas<A> {
         ensures kept { IsMapped self.now }
     {
         frame_from(&self.table, &self.places, pid, at, end)
+    }
+
+    /// Whether an area of a process shows, at a page number from one up to another, a page with a frame that has a number
+    /// over 0 in a list by frame. A frame past the end of the list has none. It takes no memory.
+    pub fn shows_counted(&self, pid: Pid, first: Vpn, end: Vpn, counts: &[u32]) -> bool
+        ensures shown { result ≡ true → (v : ℕ) × (p : Page) × (frame : ℕ) × (first ≤ v) × (v < end) × (page_at self.now.areas pid v ≡ Some p) × (get page_cmp self.now.place p ≡ Some frame) × (0 < slice_index_or counts.now frame 0) }
+        ensures none { result ≡ false → (v : ℕ) (p : Page) (frame : ℕ) → first ≤ v → v < end → page_at self.now.areas pid v ≡ Some p → get page_cmp self.now.place p ≡ Some frame → slice_index_or counts.now frame 0 ≡ 0 }
+        ensures kept { IsMapped self.now }
+    {
+        shows_counted(&self.table, &self.places, pid, first, end, counts)
     }
 
     /// The frames of the pages that have one, in the order of the pages. An error means that the host is out of memory.
@@ -127,6 +138,84 @@ fn frame_in<A: Allocator + Copy>(
     let back = area.pages.min(end.number() - first.number());
     let (found, frame) = next_of(places, segment, index + front, index + back)?;
     Some((Vpn::new(first.number() + (found - index)), frame))
+}
+
+/// Whether an area of a process shows, at a page number from one up to another, a page with a frame that has a number over
+/// 0 in a list by frame.
+fn shows_counted<A: Allocator + Copy>(
+    table: &AreaTable<A>,
+    places: &BTreeMap<Page, FrameId, A>,
+    pid: Pid,
+    first: Vpn,
+    end: Vpn,
+    counts: &[u32],
+) -> bool
+    requires { IsMapped (mapped table.now places.now.entries) }
+    ensures shown { result ≡ true → (v : ℕ) × (p : Page) × (frame : ℕ) × (first ≤ v) × (v < end) × (page_at table.now.areas pid v ≡ Some p) × (get page_cmp places.now.entries p ≡ Some frame) × (0 < slice_index_or counts.now frame 0) }
+    ensures none { result ≡ false → (v : ℕ) (p : Page) (frame : ℕ) → first ≤ v → v < end → page_at table.now.areas pid v ≡ Some p → get page_cmp places.now.entries p ≡ Some frame → slice_index_or counts.now frame 0 ≡ 0 }
+{
+    let begin = table.begin(pid, first);
+    let mut rest = table.areas.range((pid, begin)..);
+    while let Some((start, area)) = step_area(&mut rest, pid, end) {
+        if area_shows_counted(places, start, area, first, end, counts) {
+            return true;
+        }
+    }
+    false
+}
+
+/// The same of an area, given with its first page number.
+fn area_shows_counted<A: Allocator + Copy>(
+    places: &BTreeMap<Page, FrameId, A>,
+    start: Vpn,
+    area: Area,
+    first: Vpn,
+    end: Vpn,
+    counts: &[u32],
+) -> bool
+    requires begins { start < end }
+    requires indices { area.page.index + area.pages < 2 ^ 64 }
+    ensures shown { result ≡ true → (v : ℕ) × (frame : ℕ) × (first ≤ v) × (v < end) × (start ≤ v) × (v < start + area.pages) × (get page_cmp places.now.entries (page_of ((0, start), area) v) ≡ Some frame) × (0 < slice_index_or counts.now frame 0) }
+    ensures none { result ≡ false → (v frame : ℕ) → first ≤ v → v < end → start ≤ v → v < start + area.pages → get page_cmp places.now.entries (page_of ((0, start), area) v) ≡ Some frame → slice_index_or counts.now frame 0 ≡ 0 }
+{
+    let Page { segment, index } = area.page;
+    let front = first
+        .number()
+        .saturating_sub(start.number())
+        .min(area.pages);
+    let back = area.pages.min(end.number() - start.number());
+    has_counted(places, segment, index + front, index + back, counts)
+}
+
+/// The same of the pages of a segment from an index up to another.
+fn has_counted<A: Allocator + Copy>(
+    places: &BTreeMap<Page, FrameId, A>,
+    segment: u32,
+    at: u64,
+    past: u64,
+    counts: &[u32],
+) -> bool
+    ensures shown { result ≡ true → (i : ℕ) × (frame : ℕ) × (at ≤ i) × (i < past) × (get page_cmp places.now.entries (page_in segment i) ≡ Some frame) × (0 < slice_index_or counts.now frame 0) }
+    ensures none { result ≡ false → (i frame : ℕ) → at ≤ i → i < past → get page_cmp places.now.entries (page_in segment i) ≡ Some frame → slice_index_or counts.now frame 0 ≡ 0 }
+{
+    let from = Page { segment, index: at };
+    let mut rest = places.range(from..);
+    while let Some((_, frame)) = step_page(&mut rest, segment, past) {
+        if is_counted(counts, frame) {
+            return true;
+        }
+    }
+    false
+}
+
+/// Whether a frame has a number over 0 in a list by frame.
+fn is_counted(counts: &[u32], frame: FrameId) -> bool
+    ensures { result ≡ nat_lt 0 (slice_index_or counts.now frame 0) }
+{
+    match counts.get(frame.index()) {
+        Some(count) => *count > 0,
+        None => false,
+    }
 }
 
 /// The frames of pages, in the order of the pages.

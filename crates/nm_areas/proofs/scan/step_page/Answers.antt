@@ -1,6 +1,6 @@
 use Rattle.std.proofs.Common.{arith, inr}
 use Rattle.nm_types.specs.declared.page.Page.{Page}
-use Rattle.nm_areas.proofs.Rests.{page_before_first, page_other, page_first, page_next}
+use Rattle.nm_areas.proofs.Rests.{page_before_first, page_other, page_next}
 use Rattle.nm_areas.proofs.scan.step_page.Goals as goal
 use Rattle.nm_areas.proofs.scan.step_page.Goals.{else-page-segment-via-then-page-segment+else-page-past, else-page-segment-via-else-page-segment}
 
