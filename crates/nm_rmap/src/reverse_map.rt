@@ -161,6 +161,13 @@ impl<A: Allocator + Copy> ReverseMap<A> {
         self.pins[frame.index()]
     }
 
+    /// How often each frame is pinned, by frame. It takes no memory.
+    pub fn pin_counts(&self) -> &[u32]
+        ensures { result.now ≡ self.now.pins }
+    {
+        self.pins.as_slice()
+    }
+
     /// Whether any frame is pinned. It takes no memory.
     pub fn has_pins(&self) -> bool
         ensures { result ≡ is_any_pinned self.now }

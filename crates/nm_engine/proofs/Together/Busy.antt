@@ -103,37 +103,16 @@ module _ (y : SpacesView) (tasks : Map ℕ Task) (m : Mapped) (r : Mappers) (is 
       ap (λ (y : SpacesView). nat_lt 0 (pins_here y p)) (sym is)
       ∙ ap (λ o. nat_lt 0 (unwrap_or o 0)) (get-values exact_page (λ q f. pins_of_frame r f) m.place p ∙ ap (option_map (λ f. pins_of_frame r f)) none)
 
-  -- none is pinned as far as one with a frame that is not pinned, and those in front of it without a frame
-  pub none_so_far : (pid first at begin n w : ℕ) (q : Page) (f : ℕ) → begin ≡ at → n ≡ w → ((v : ℕ) (p : Page) → first ≤ v → v < at → page_at y.areas pid v ≡ Some p → nat_lt 0 (pins_here y p) ≡ false)
-      → ((v : ℕ) (p : Page) → begin ≤ v → v < w → page_at m.areas pid v ≡ Some p → get page_cmp m.place p ≡ None) → page_at m.areas pid w ≡ Some q → get page_cmp m.place q ≡ Some f → pins_of_frame r f ≤ 0
-      → (v : ℕ) (p : Page) → first ≤ v → v < n + 1 → page_at y.areas pid v ≡ Some p → nat_lt 0 (pins_here y p) ≡ false
-  none_so_far pid first at begin n w q f b e none unplaced shown placed free v p low high here =
-      let there : page_at m.areas pid v ≡ Some p = ap (λ (y : SpacesView). page_at y.areas pid v) is ∙ here in
-      elim (nat_lt v at) as (λ t. nat_lt v at ≡ t → nat_lt 0 (pins_here y p) ≡ false) [
-        | true ↦ λ t. none v p low (ltb-true v at t) here
-        | false ↦ λ t.
-            let from : at ≤ v = ltb-false v at t in
-            elim (v == w) as (λ u. (v == w) ≡ u → nat_lt 0 (pins_here y p) ≡ false) [
-              | true ↦ λ u.
-                  let same : q ≡ p = some_is (sym shown ∙ ap (page_at m.areas pid) (sym (eqb-true v w u)) ∙ there) in
-                  let zero : pins_of_frame r f ≡ 0 = omega (arith, free) in
-                  ap (λ p. nat_lt 0 (pins_here y p)) (sym same) ∙ ap (nat_lt 0) (placed_pins q f placed ∙ zero)
-              | false ↦ λ u.
-                  let other = eqb-false v w u in
-                  unplaced_pins p (unplaced v p (omega (arith, b, from)) (omega (arith, e, high, other)) there)
-            ] refl
-      ] refl
-
-  -- none is pinned at all
-  pub none_at_all : (pid first at begin end : ℕ) → begin ≡ at → AreasAreApart m.areas → ((v : ℕ) (p : Page) → first ≤ v → v < at → page_at y.areas pid v ≡ Some p → nat_lt 0 (pins_here y p) ≡ false)
-      → ((v : ℕ) (p : Page) → begin ≤ v → v < end → page_at m.areas pid v ≡ Some p → get page_cmp m.place p ≡ None) → shows_pinned y.areas y.pins pid first end ≡ false
-  none_at_all pid first at begin end b apart none unplaced =
+  -- none is pinned where no frame of a page is that is shown
+  pub none_at_all : (pid first end : ℕ) → AreasAreApart m.areas → ((v : ℕ) (p : Page) (f : ℕ) → first ≤ v → v < end → page_at m.areas pid v ≡ Some p → get page_cmp m.place p ≡ Some f → pins_of_frame r f ≡ 0)
+      → shows_pinned y.areas y.pins pid first end ≡ false
+  none_at_all pid first end apart none =
       let same : y.areas ≡ m.areas = ap (λ (y : SpacesView). y.areas) (sym is) in
       none_busy y.areas y.pins pid first end (subst AreasAreApart (sym same) apart) (λ v p low high here.
       let there : page_at m.areas pid v ≡ Some p = ap (λ areas. page_at areas pid v) (sym same) ∙ here in
-      elim (nat_lt v at) as (λ t. nat_lt v at ≡ t → nat_lt 0 (pins_here y p) ≡ false) [
-        | true ↦ λ t. none v p low (ltb-true v at t) here
-        | false ↦ λ t. let from : at ≤ v = ltb-false v at t in unplaced_pins p (unplaced v p (omega (arith, b, from)) high there)
+      elim (get page_cmp m.place p) as (λ o. get page_cmp m.place p ≡ o → nat_lt 0 (pins_here y p) ≡ false) [
+        | None ↦ λ e. unplaced_pins p e
+        | Some f ↦ λ e. ap (nat_lt 0) (placed_pins p f e ∙ none v p f low high there e)
       ] refl)
 
   -- one is pinned

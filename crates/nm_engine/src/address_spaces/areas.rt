@@ -79,7 +79,8 @@ impl<A: Allocator + Copy> AddressSpaces<A> {
         self.areas.split_policy(pid, addr, len, policy)
     }
 
-    /// Whether an area of a process shows a pinned page from one page number up to another.
+    /// Whether an area of a process shows a pinned page from one page number up to another. It walks once over the areas and
+    /// the pages with a frame there, as far as the first pin, and not at all where no page is pinned.
     pub(crate) fn has_pinned(&self, pid: Pid, first: Vpn, end: Vpn) -> bool
         requires { first ≤ end }
         ensures { result ≡ shows_pinned self.now.areas self.now.pins pid first end }
@@ -87,23 +88,8 @@ impl<A: Allocator + Copy> AddressSpaces<A> {
         if !self.rmap.has_pins() {
             return false;
         }
-        self.finds_pinned(pid, first, end)
-    }
-
-    /// Whether an area of a process shows a pinned page from one page number up to another, by a look at each page with a
-    /// frame there.
-    fn finds_pinned(&self, pid: Pid, first: Vpn, end: Vpn) -> bool
-        requires { first ≤ end }
-        ensures { result ≡ shows_pinned self.now.areas self.now.pins pid first end }
-    {
-        let mut at = first.number();
-        while let Some((vpn, frame)) = self.areas.frame_from(pid, Vpn::new(at), end) {
-            if self.rmap.pins(frame) > 0 {
-                return true;
-            }
-            at = vpn.number() + 1;
-        }
-        false
+        self.areas
+            .shows_counted(pid, first, end, self.rmap.pin_counts())
     }
 
     /// Unmaps `pages` pages of a process from an address on, of which none is pinned: it loses what it sees there, and
