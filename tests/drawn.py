@@ -1,5 +1,5 @@
 #!/usr/bin/env python3
-"""Plays drawn traces on the built program and on the plain machine of tests/model.py, which have to give the same reports. First the
+"""Plays drawn traces on the built program and on the plain machine of lab/numalab/model.py, which have to give the same reports. First the
 plain machine plays each trace that has a report beside it.
 
 `tests/drawn.py [PROGRAM]` takes crates/numatrace/out/numatrace, as `rt ci` and `./build` leave it, and plays 2,000 traces with 1,
@@ -18,9 +18,10 @@ import sys
 import time
 
 sys.dont_write_bytecode = True
-import model  # It stands beside this script, and leaves no bytecode there.
-
 ROOT = os.path.dirname(os.path.dirname(os.path.abspath(__file__)))
+sys.path.insert(0, os.path.join(ROOT, "lab"))
+from numalab import model  # noqa: E402
+
 PROGRAM = os.path.join(ROOT, "crates/numatrace/out/numatrace")
 TRACES = 2000
 MOST_WAIT = 120

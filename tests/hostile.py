@@ -4,14 +4,13 @@ mutated from those of examples/ and tests/traces/, the greatest that there are, 
 little memory.
 
 `tests/hostile.py [PROGRAM]` takes crates/numatrace/out/numatrace, as `rt ci` and `./build` leave it. Tables say what the program has
-to say of some traces, and tools/why.py, which knows the schema of traces, says it of the others. Nothing is printed where all
+to say of some traces, and lab/numalab/faults.py, which knows the schema of traces, says it of the others. Nothing is printed where all
 is well; else what differs, and then the status is 1. With --short it makes only the parts that take seconds, with --times it
 tells what each part took. The traces are the same each time."""
 import argparse
 import collections
 import fcntl
 import glob
-import importlib.util
 import json
 import multiprocessing
 import os
@@ -29,6 +28,9 @@ import time
 
 sys.dont_write_bytecode = True
 ROOT = os.path.dirname(os.path.dirname(os.path.abspath(__file__)))
+sys.path.insert(0, os.path.join(ROOT, "lab"))
+from numalab import faults  # noqa: E402
+
 PROGRAM = os.path.join(ROOT, "crates/numatrace/out/numatrace")
 MUTATED = 10000
 MOST_BYTES = 16777216
@@ -41,17 +43,6 @@ SETTINGS = {"program": PROGRAM}
 
 class Fault(Exception):
     """What differs from what should be."""
-
-
-def loaded(name):
-    """A script of the repository as a module."""
-    spec = importlib.util.spec_from_file_location(os.path.basename(name)[:-3], os.path.join(ROOT, name))
-    module = importlib.util.module_from_spec(spec)
-    spec.loader.exec_module(module)
-    return module
-
-
-WHY = loaded("tools/why.py")
 
 
 def text_of(name):
@@ -96,7 +87,7 @@ def is_report(out, steps):
 
 
 def told(verdict):
-    """Status and standard error for what tools/why.py says of a trace."""
+    """Status and standard error for what numalab says of a trace."""
     if verdict == "good":
         return 0, b""
     head = verdict.split(":")[0]
@@ -105,7 +96,7 @@ def told(verdict):
 
 def check_trace(data, words=(), verdict=None):
     """Fails where the program says something else of a trace than it should. Gives how it ended."""
-    verdict = verdict or WHY.verdict(data)
+    verdict = verdict or faults.verdict(data)
     status, out, err = play(data, words)
     if (status, err) != told(verdict):
         raise Fault(f"status {status} and {err[:200]!r}, where this is to be told: {verdict[:200]}")
@@ -421,7 +412,7 @@ ODD = """0 1 2 -1 -0 1.0 1e0 1E+2 0.5 63 64 255 256 4095 4096 4097 16384 16385 6
 ODD += ["1" + "0" * 308, "1" + "0" * 309, "7" * 400, "0." + "0" * 5000 + "1", '"' + "61" * 4096 + '"', '"' + "61" * 4097 + '"']
 ODD += ["[" * depth + "]" * depth for depth in (100, 123, 124, 125, 126, 127, 128, 200)]
 ODD += ['{"a":' * depth + "0" + "}" * depth for depth in (100, 124, 125, 126, 127, 128)]
-OPS = list(WHY.Form().steps)
+OPS = list(faults.Form().steps)
 KEYS = """version machine nodes distance steps run_limit op pid uid home allowed privileged addr pages shared segment offset len data
 caller flags old new mode node during run note""".split()
 TOKEN = re.compile(r'"[^"\\]*(?:\\.[^"\\]*)*"|-?[0-9][0-9.eE+-]*|true|false|null|[\[\]{}:,]')
@@ -705,7 +696,7 @@ EDGES += ["18446744073709551615", "18446744073709551616", "-1", "1.0"]
 def with_edges(schema, edge):
     """A value that fits a part of the schema, with the number at its edge in it, or None where it takes no number."""
     if "$ref" in schema:
-        return with_edges(WHY.Form().resolved(schema), edge)
+        return with_edges(faults.Form().resolved(schema), edge)
     if "oneOf" in schema or schema["type"] != "array":
         return edge if schema.get("type") == "integer" else None
     item = with_edges(schema["items"], edge)
@@ -714,7 +705,7 @@ def with_edges(schema, edge):
 
 def usual(schema):
     """A value that fits a part of the schema."""
-    schema = WHY.Form().resolved(schema)
+    schema = faults.Form().resolved(schema)
     return with_edges(schema, "1") or {"boolean": "true", "string": '"61"', "array": "[]"}[schema["type"]]
 
 
@@ -731,7 +722,7 @@ def edges_of(op, schema):
 
 def edges():
     """For each field of each step, and each number at an edge, a trace that has the number there."""
-    form, front = WHY.Form(), FIRST[: FIRST.index('{"op":"move_pages"')]
+    form, front = faults.Form(), FIRST[: FIRST.index('{"op":"move_pages"')]
     for op, schema in form.steps.items():
         for step in edges_of(op, schema):
             yield front + step + "]}"

@@ -1,25 +1,23 @@
-#!/usr/bin/env python3
-"""Checks tools/picture.py: what it draws of reports, with and without their traces, that nothing overlaps or leaves the
-picture, that docs/ has the picture that it draws now, and what it says of bad input."""
+"""What is drawn of reports, with and without their traces, that nothing overlaps or leaves the picture, that docs/ has the
+picture that is drawn now, and what is said of bad input."""
 import glob
 import json
 import os
 import re
-import subprocess
-import sys
 import tempfile
+import unittest
 import xml.etree.ElementTree as ElementTree
 from collections import Counter, namedtuple
 
-ROOT = os.path.dirname(os.path.dirname(os.path.abspath(__file__)))
+from support import ROOT, fail, run
+from numalab import drawing
+from numalab.commands import picture
+from numalab.traces import Bad, read_file, trace_of
+
 NO_SQUARES = ("zeros", "flight")
 SHOWN = "docs/chain_of_nodes.svg", "examples/chain_of_nodes"
 Box = namedtuple("Box", "left top right bottom")
 Square = namedtuple("Square", "box kind tip")
-
-sys.dont_write_bytecode = True
-sys.path.insert(0, os.path.join(ROOT, "tools"))
-import picture  # noqa: E402
 
 # Reports by hand, each with whether its trace is given, and the squares of its picture: column by column, by frame.
 TWO_NODES = '{"version":1,"machine":{"nodes":[2,3],"distance":[[10,20],[20,10]]},"steps":[%s]}'
@@ -138,8 +136,10 @@ OTHER = [
 ]
 
 
-def fail(words):
-    sys.exit("tests/picture.py: " + words)
+def picture_of(report, trace=None, steps=None):
+    """The SVG of the report at a path, with the trace at another and a range of steps."""
+    top = trace and trace_of(trace, read_file(trace)).check().top
+    return drawing.picture_of(read_file(report), report, top, steps and picture.step_range(steps))
 
 
 # ---- what a picture shows
@@ -177,7 +177,7 @@ def in_columns(squares):
     """The squares column by column, and in each by frame: a column's squares stand apart from those of others by the gap."""
     columns = []
     for square in sorted(squares, key=lambda square: square.box.left):
-        if not columns or square.box.left > max(other.box.right for other in columns[-1]) + picture.GAP / 2:
+        if not columns or square.box.left > max(other.box.right for other in columns[-1]) + drawing.GAP / 2:
             columns.append([])
         columns[-1].append(square)
     return [square for column in columns for square in sorted(column, key=lambda square: (square.box.top, square.box.left))]
@@ -230,7 +230,7 @@ def check_drawn(there):
     for text, steps, wanted in DRAWN:
         report = written(there, "some.report", text)
         trace = written(there, "some.json", TWO_NODES % steps) if steps is not None else None
-        svg = ElementTree.fromstring(picture.picture_of(report, trace))
+        svg = ElementTree.fromstring(picture_of(report, trace))
         check_geometry(text, svg)
         told = [f"{square.kind} {square.tip}".strip() for square in in_columns(squares_of(svg))]
         if told != wanted:
@@ -279,7 +279,7 @@ def check_reports():
     """Each report of the repository is drawn as it tells, with and without its trace."""
     for path in sorted(glob.glob(os.path.join(ROOT, "examples/*.report")) + glob.glob(os.path.join(ROOT, "tests/traces/*.report"))):
         trace = path.removesuffix(".report") + ".json"
-        plain, full = (ElementTree.fromstring(picture.picture_of(path, given)) for given in (None, trace))
+        plain, full = (ElementTree.fromstring(picture_of(path, given)) for given in (None, trace))
         check_geometry(path, plain)
         check_geometry(path + " with its trace", full)
         if shown_by(plain) != told_by(path):
@@ -313,7 +313,7 @@ def check_large(there):
         free = sum(frame % (processes + 1) == 0 for frame in range((nodes - 1) * frames))
         held = sum(frame % (processes + 1) != 0 for frame in range(nodes * frames))
         for given in (None, paths[1]):
-            svg = ElementTree.fromstring(picture.picture_of(paths[0], given))
+            svg = ElementTree.fromstring(picture_of(paths[0], given))
             check_geometry(f"{nodes} nodes of {frames} frames", svg)
             kinds = Counter(square.kind for square in squares_of(svg))
             if (kinds["free"], kinds["held"], kinds["taken"]) != (free, held, 0):
@@ -322,16 +322,10 @@ def check_large(there):
                 fail(f"{nodes} nodes of {frames} frames take {svg.get('height')} points from top to bottom")
 
 
-def run(*words):
-    """Status, standard output and standard error of the tool."""
-    ran = subprocess.run([os.path.join(ROOT, "tools/picture.py"), *words], capture_output=True, check=False)
-    return ran.returncode, ran.stdout.decode(), ran.stderr.decode()
-
-
 def said_of(report, trace):
     try:
-        picture.picture_of(report, trace)
-    except picture.Bad as fault:
+        picture_of(report, trace)
+    except Bad as fault:
         return str(fault)
     return None
 
@@ -357,7 +351,7 @@ def check_steps(there):
         '{"op":"read","pid":8,"addr":0,"len":1}', '{"op":"free","node":0}', '{"op":"vmstat"}']))
     for steps, heads in [("0-9", ["step 0", "steps 2 to 3", "step 5"]), ("1-2", ["steps 2 to 3"]), ("3-3", ["steps 2 to 3"]),
                          ("4-5", ["step 5"]), ("0-2", ["step 0", "steps 2 to 3"]), ("6-9", []), ("3-1", []), ("4-4", [])]:
-        svg = ElementTree.fromstring(picture.picture_of(report, trace, steps))
+        svg = ElementTree.fromstring(picture_of(report, trace, steps))
         check_geometry(f"steps {steps}", svg)
         words = [element.text for element in svg if named(element, "text")]
         if [word for word in words if re.fullmatch("step.* [0-9]+", word)] != heads:
@@ -367,7 +361,7 @@ def check_steps(there):
         fills = {part.get("fill") for group in svg if group.get("class") == "held" for part in group if named(part, "rect")}
         if steps == "1-2" and ("process 7" in words or "process 8" not in words):
             fail(f"the legend has other processes than the picture: {words}")
-        if steps == "1-2" and fills != {"none", picture.COLOURS[1]}:
+        if steps == "1-2" and fills != {"none", drawing.COLOURS[1]}:
             fail(f"a process changes its colour: {fills}")
 
 
@@ -376,11 +370,11 @@ def check_shared(there):
     text = "0 pagemap 1: 00010000=0\n1 pagemap 2: 00010000=0 00011000=zero\n2 pagemap 2: 00010000=0 00011000=zero\n"
     look = '{"op":"pagemap","pid":%d}'
     trace = written(there, "shared.json", TWO_NODES % ",".join([look % 7, look % 8, look % 8]))
-    svg = ElementTree.fromstring(picture.picture_of(written(there, "shared.report", text), trace))
+    svg = ElementTree.fromstring(picture_of(written(there, "shared.report", text), trace))
     check_geometry("a shared page", svg)
     groups = {group.get("class"): group for group in svg if named(group, "g") and group.get("class") in ("held", "zeros")}
     fills = [part.get("fill") for part in groups["held"] if named(part, "rect")]
-    if fills != [picture.COLOURS[0], picture.COLOURS[1], "none"]:
+    if fills != [drawing.COLOURS[0], drawing.COLOURS[1], "none"]:
         fail(f"a page of two processes has the colours {fills}")
     told = [groups["held"][0].text] + [part.text for part in groups["zeros"]]
     if told != ["frame 0: page 10 of process 7, page 10 of process 8", "page 11 of process 8", "page of zeros: 1 entry"]:
@@ -400,13 +394,13 @@ def check_flight(there):
               ("in flight: 1", "5.0 read error ESRCH"),
               ("in flight: 1234, held: 1234", ", ".join(f"7.{j} read held" for j in range(20)) + ", and 1,214 more")]
     for trace in (None, written(there, "flight.json", TWO_NODES % (steps + ',{"op":"free","node":0}'))):
-        svg = ElementTree.fromstring(picture.picture_of(report, trace))
+        svg = ElementTree.fromstring(picture_of(report, trace))
         check_geometry("accesses in flight", svg)
         told = [(group[1].text, group[0].text) for group in svg if named(group, "g") and group.get("class") == "flight"]
         if told != wanted:
             fail(f"of accesses in flight is told {told}")
     front = written(there, "front.report", looks[: looks.index("1.1 ")])
-    if len(squares_of(ElementTree.fromstring(picture.picture_of(front, trace)))) == 0:
+    if len(squares_of(ElementTree.fromstring(picture_of(front, trace)))) == 0:
         fail("a report that ends among accesses in flight is not drawn")
 
 
@@ -421,55 +415,55 @@ def check_most(there):
 def check_names(there):
     """The picture has room for the name of its report."""
     report = written(there, 60 * "name" + ".report", "0 free 1: 1\n")
-    check_geometry("a long name", ElementTree.fromstring(picture.picture_of(report, None)))
+    check_geometry("a long name", ElementTree.fromstring(picture_of(report, None)))
 
 
 def check_command(there):
     """Statuses and streams: one line and status 2 for what is bad, and nothing on standard output."""
     report = written(there, "a&b\n.report", "0 free 1: 1\n")
-    status, out, err = run(report)
+    status, out, err = run("picture", report)
     if (status, err) != (0, "") or "a&amp;b?.report" not in out or ElementTree.fromstring(out) is None:
         fail(f"a picture ends with {status} and {err}")
     bad, other = written(there, "bad.report", "0 free 2: 1\n"), os.path.join(there, "none\nsuch")
-    bytes_in_it = os.path.join(there, "bytes.report")
+    bytes_in_it, trace = os.path.join(there, "bytes.report"), written(there, "bad.json", "{")
     with open(bytes_in_it, "wb") as file:
         file.write(b"0 spawn ok\n1 \xff\n")
-    usage = "wanted is REPORT, and with it --trace TRACE or --steps A-B or both"
-    steps = "--steps wants the numbers of two steps, as 5-20"
-    for words, line in [([], usage), ([bad, "--trace"], usage), ([bad, bad], usage), (["--trace", bad], usage),
-                        ([bad, "--size", bad], usage),
-                        ([bad, "--steps", "1-2", "--steps", "1-2"], usage), ([report, "--steps", "5"], steps),
-                        ([report, "--steps", ""], steps), ([report, "--steps", "-1-5"], steps),
+    for words, line in [([bad, bad], f"{bad} and {bad} are two reports: wanted are a trace, a report, or both"),
+                        ([bad, bad, bad], "wanted are a trace, a report, or both"),
                         ([bad], "line 1: wanted is a list behind the count of its items"),
                         ([bytes_in_it], f"{bytes_in_it}: byte 13 is none of a report"),
                         ([other], f"{other}: No such file or directory".replace("\n", "?")),
-                        ([bad, "--trace", bad], f"{bad}: not JSON: line 1, column 3: extra data")]:
-        if run(*words) != (2, "", f"picture.py: {line}\n"):
-            fail(f"the tool ran with {words} as {run(*words)}")
+                        ([report, trace], f"{trace}: not JSON: line 1, column 2: expecting property name enclosed in double quotes")]:
+        if run("picture", *words) != (2, "", f"numalab: {line}\n"):
+            fail(f"the command ran with {words} as {run('picture', *words)}")
+    for words in [[], [bad, "--trace"], [bad, "--size", bad], [report, "--steps", "5"], [report, "--steps", ""], [report, "--steps", "-1-5"]]:
+        status, out, err = run("picture", *words)
+        if (status, out) != (2, "") or not err.startswith("usage: numalab"):
+            fail(f"the command ran with {words} as {(status, out, err)}")
 
 
 def check_shown():
-    """The picture in docs/ is what the tool draws."""
+    """The picture in docs/ is what is drawn."""
     path, example = (os.path.join(ROOT, name) for name in SHOWN)
     with open(path, encoding="utf-8") as file:
-        if file.read() != picture.picture_of(example + ".report", example + ".json"):
-            fail(f"{SHOWN[0]} is not what tools/picture.py draws of {SHOWN[1]}.report with its trace")
+        if file.read() != picture_of(example + ".report", example + ".json"):
+            fail(f"{SHOWN[0]} is not what numalab picture draws of {SHOWN[1]}.report with its trace")
 
 
-def main():
-    with tempfile.TemporaryDirectory() as there:
-        check_drawn(there)
-        check_bad(there)
-        check_large(there)
-        check_steps(there)
-        check_shared(there)
-        check_flight(there)
-        check_most(there)
-        check_names(there)
-        check_command(there)
-    check_reports()
-    check_shown()
+class Drawings(unittest.TestCase):
+    """Each check in a folder of its own."""
+
+    def test_with_files(self):
+        for check in (check_drawn, check_bad, check_large, check_steps, check_shared, check_flight, check_most, check_names, check_command):
+            with self.subTest(check.__name__), tempfile.TemporaryDirectory() as there:
+                check(there)
+
+    def test_reports(self):
+        check_reports()
+
+    def test_shown(self):
+        check_shown()
 
 
 if __name__ == "__main__":
-    main()
+    unittest.main()

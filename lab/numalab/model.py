@@ -2,8 +2,10 @@
 
 Its rules were written by someone who had not read the program's code, so that one can be tested against the other, which
 tests/drawn.py does. It is slow and simple on purpose. It reads no JSON and checks no form: it takes the object that json.loads
-gives, and tools/why.py says which traces are good."""
+gives, and faults.py says which traces are good. Nothing of it is proved."""
 import collections
+
+from .words import nodes_text
 
 PAGE = 4096
 # Areas lie below this page number, and so does all that a process has.
@@ -116,14 +118,7 @@ def pairs(old, new):
 
 def policy_text(policy):
     """A policy as numa_maps tells it, with consecutive nodes as a range."""
-    stretches = []
-    for node in policy.nodes:
-        if stretches and stretches[-1][1] == node - 1:
-            stretches[-1][1] = node
-        else:
-            stretches.append([node, node])
-    texts = [f"{first}" if first == last else f"{first}-{last}" for first, last in stretches]
-    return f"{policy.kind}:{','.join(texts)}" if texts else policy.kind
+    return f"{policy.kind}:{nodes_text(policy.nodes)}" if policy.nodes else policy.kind
 
 
 class Machine:

@@ -1,44 +1,27 @@
-#!/usr/bin/env python3
-"""Draws where pages are, as a report tells it, as an SVG on standard output:
+"""Draws where pages are, as a report tells it, as an SVG.
 
-    tools/picture.py REPORT [--trace TRACE] [--steps A-B]
-
-A column is a moment at which the report shows `free` or `pagemap` lines with nothing between them that moves a page or
-takes or frees a frame; over it stands how many accesses in flight the batch before it had, and how many were held. A band is a node, and a square in it a frame: free, held by a page, or not known. A report alone tells
-neither the node of a `free` line nor the process of a `pagemap` line; with its trace the picture has both, and all frames of
-the machine. --steps draws the moments alone that look at a step from A to B. What is not known is drawn as not known. A bad
-report or trace is told of in one line, with status 2."""
+A column is a moment at which the report shows `free` or `pagemap` lines with nothing between them that moves a page or takes
+or frees a frame; over it stands how many accesses in flight the batch before it had, and how many were held. A band is a node,
+and a square in it a frame: free, held by a page, or not known. A report alone tells neither the node of a `free` line nor the
+process of a `pagemap` line; with its trace the picture has both, and all frames of the machine. What is not known is drawn as
+not known."""
 import html
 import os
-import re
-import sys
 import textwrap
 from collections import namedtuple
 from itertools import groupby
 
-import why
+from .report import Layout, moments_of, read_report
+from .traces import Bad
+from .words import printable
 
-LINE = re.compile(r"(0|[1-9][0-9]*) ([a-z_]+) (.*)")
-# The line of an access in flight: its step, its number, and what it answers.
-FLIGHT = re.compile(r"(0|[1-9][0-9]*)\.(0|[1-9][0-9]*) (read (?:(?:[0-9a-f]{2})+|held|error [A-Z]+)|write (?:ok|held|error [A-Z]+))")
-LIST = re.compile(r"(0|[1-9][0-9]*):((?: \S+)*)")
-NUMBER = re.compile(r"0|[1-9][0-9]*")
-FRAME = re.compile(r"(?P<frame>0|[1-9][0-9]{0,4})")
-ENTRY = re.compile(r"(?P<page>[0-9a-f]{5,9})000=(?:zero|(?P<frame>0|[1-9][0-9]{0,4}))")
-# The refusals that may come after moves.
-LATE = {("mbind", "error EIO"), ("offline", "error EBUSY")}
-# The steps that move no page, and neither take nor free a frame. Any other may.
-KEEPS = {"spawn", "map", "attach", "pin", "unpin", "online", "query", "free", "pagemap", "numa_maps", "vmstat"}
-USAGE = "wanted is REPORT, and with it --trace TRACE or --steps A-B or both"
-MOST_FRAMES, MOST_SQUARES = 16384, 200000
+MOST_SQUARES = 200000
 MOST_TOLD, MOST_LETTERS = 20, 60  # of the accesses in flight in a tooltip, and of one of them
 LEFT, GAP, EDGE = 150, 24, 12
 FONT = "DejaVu Sans, Verdana, sans-serif"
 COLOURS = ["#7fb3e6", "#f2b35e", "#7fcf9f", "#e39ac4", "#cdb94f", "#a79be8", "#6fd0d6", "#e58f7b"]
 UNTOLD, TAKEN, FREE, INK, PALE = "#9db8d2", "#c6c6c6", "#eef5e6", "#222222", "#6b6b6b"
 
-
-Line = namedtuple("Line", "number op answer flight")  # its number in the file, and the lines of accesses in flight behind it
 Band = namedtuple("Band", "name frames node")  # its frames upwards; the node is None where it is not known
 Grid = namedtuple("Grid", "across width height")  # how many squares a row has, and how wide and high one is
 DARK, DASHED = ' stroke="#444444"', ' stroke="#9a9a9a" stroke-dasharray="2 2"'
@@ -52,154 +35,6 @@ NO_TRACE = (
     "has frames that lists of free frames show to be together, and two such bands may be on one node; of the others the node is "
     "not told."
 )
-
-
-class Bad(Exception):
-    """What is wrong of a report or a trace."""
-
-
-# ---- reading
-
-
-def is_refused(line):
-    return line.answer.startswith("error ")
-
-
-def is_access(text, lines):
-    """Whether a line is that of the next access in flight behind the lines before it."""
-    match = FLIGHT.fullmatch(text)
-    if not match or not lines or lines[-1].op != "move_pages" or is_refused(lines[-1]):
-        return False
-    return (match[1], match[2]) == (str(len(lines) - 1), str(len(lines[-1].flight)))
-
-
-def report_lines(text):
-    """The lines of the steps of a report."""
-    if text and not text.endswith("\n"):
-        raise Bad("the last line has no line feed: the report was cut")
-    lines, skipped, ops = [], 0, why.Form().steps
-    for number, line in enumerate(text.split("\n")[:-1], 1):
-        if skipped:
-            skipped -= 1
-            continue
-        if is_access(line, lines):
-            lines[-1].flight.append(line)
-            continue
-        match = LINE.fullmatch(line)
-        if not match or match[2] not in ops or match[1] != str(len(lines)):
-            raise Bad(f"line {number}: wanted is the line of step {len(lines)}")
-        if match[2] == "numa_maps" and not match[3].startswith("error "):
-            if not NUMBER.fullmatch(match[3]):
-                raise Bad(f"line {number}: wanted is a number of areas")
-            skipped = int(match[3])
-        lines.append(Line(number, match[2], match[3], []))
-    if skipped:
-        raise Bad(f"{skipped} line{' of numa_maps is' if skipped == 1 else 's of numa_maps are'} missing: the report was cut")
-    return lines
-
-
-def items_of(number, answer, form):
-    """The items of a list behind its count, each as the match of its form."""
-    match = LIST.fullmatch(answer)
-    items = match[2].split() if match else []
-    if not match or match[1] != str(len(items)):
-        raise Bad(f"line {number}: wanted is a list behind the count of its items")
-    found = [form.fullmatch(item) for item in items]
-    for item, one in zip(items, found):
-        if not one or int(one["frame"] or 0) >= MOST_FRAMES:
-            raise Bad(f"line {number}: {item[:40]} is no item of this list")
-    return found
-
-
-class Machine:
-    """What a trace tells beyond its report."""
-
-    def __init__(self, path):
-        data = read_file(path)
-        line = why.verdict(data)
-        if line != "good":
-            raise Bad(f"{path}: {line}")
-        top, _ = why.read_json(data)
-        self.steps, self.ranges, end = top["steps"], [], 0
-        for size in top["machine"]["nodes"]:
-            self.ranges.append(range(end, end + size))
-            end += size
-
-    def check(self, lines):
-        """Refuses the report of another trace, as far as the names of steps tell."""
-        for k, line in enumerate(lines):
-            if k >= len(self.steps) or self.steps[k]["op"] != line.op:
-                raise Bad(f"line {line.number}: the trace has another step {k}")
-            if line.op == "move_pages" and not is_refused(line):
-                told = [access.split(" ")[1] for access in line.flight]
-                wanted = [access["op"] for access in self.steps[k].get("during", [])]
-                if told != (wanted[: len(told)] if k + 1 == len(lines) else wanted):
-                    raise Bad(f"line {line.number}: the trace has other accesses in flight in step {k}")
-
-
-class Moment:
-    """What the report tells of frames between two changes."""
-
-    def __init__(self, after, flight=()):
-        self.after = after  # the step that may have changed something last, and its op
-        self.flight = flight  # the lines of its accesses in flight
-        self.steps = []  # the steps that look
-        self.free = {}  # by frame: its place in its node's list, from 1
-        self.held = {}  # by frame: the pages that it holds, as (process, page number, None), or (None, page number, step)
-        self.zeros = []  # where the page of zeros is seen, likewise
-        self.lists = []  # for each list of free frames its lowest and its highest, where it has one
-        self.nodes = set()  # the nodes whose list is told, where they are known
-
-    def add_free(self, k, number, answer, machine):
-        node = machine and machine.steps[k]["node"]
-        if machine and node >= len(machine.ranges):
-            raise Bad(f"line {number}: node {node} is none of the trace")
-        frames = [int(match["frame"]) for match in items_of(number, answer, FRAME)]
-        for place, frame in enumerate(frames, 1):
-            if self.free.setdefault(frame, place) != place:
-                raise Bad(f"line {number}: frame {frame} stands twice")
-            if machine and frame not in machine.ranges[node]:
-                raise Bad(f"line {number}: frame {frame} is not on node {node} of the trace")
-        if machine:
-            self.nodes.add(node)
-        if frames:
-            self.lists.append((min(frames), max(frames)))
-        self.steps.append(k)
-
-    def add_pagemap(self, k, number, answer, machine):
-        below = -1
-        for match in items_of(number, answer, ENTRY):
-            page = (machine.steps[k]["pid"], int(match["page"], 16), None) if machine else (None, int(match["page"], 16), k)
-            if page[1] <= below:
-                raise Bad(f"line {number}: the entries do not go up")
-            below = page[1]
-            if not match["frame"]:
-                self.zeros.append(page)
-                continue
-            if machine and int(match["frame"]) >= machine.ranges[-1].stop:
-                raise Bad(f"line {number}: frame {match['frame']} is none of the trace")
-            self.held.setdefault(int(match["frame"]), []).append(page)
-        self.steps.append(k)
-
-
-def moments_of(lines, machine):
-    """The moments at which a report shows something."""
-    found, now = [], Moment(None)
-    for k, line in enumerate(lines):
-        refused = is_refused(line)
-        if line.op == "free" and not refused:
-            now.add_free(k, line.number, line.answer, machine)
-        elif line.op == "pagemap" and not refused:
-            now.add_pagemap(k, line.number, line.answer, machine)
-        elif line.op not in KEEPS and (not refused or (line.op, line.answer) in LATE):
-            found.append(now)
-            now = Moment((k, line.op), line.flight)
-    found = [moment for moment in found + [now] if moment.steps]
-    for moment in found:
-        both = sorted(set(moment.free) & set(moment.held))
-        if both:
-            raise Bad(f"steps {moment.steps[0]} to {moment.steps[-1]}: frame {both[0]} is both free and held")
-    return found
 
 
 # ---- bands
@@ -443,66 +278,17 @@ def drawing(name, moments, machine, processes, count):
     return picture.whole(width, y + 16, name)
 
 
-# ---- the command
-
-
-def printable(text):
-    return "".join(character if character.isprintable() else "?" for character in text)
-
-
-def read_file(path):
-    try:
-        with open(path, "rb") as file:
-            return file.read()
-    except OSError as error:
-        raise Bad(f"{path}: {error.strerror}") from error
-
-
 def picked(moments, steps):
-    """The moments that look at a step of a range as "5-20"."""
-    match = re.fullmatch("([0-9]{1,20})-([0-9]{1,20})", steps)
-    if not match:
-        raise Bad("--steps wants the numbers of two steps, as 5-20")
-    return [moment for moment in moments if moment.steps[0] <= int(match[2]) and int(match[1]) <= moment.steps[-1]]
+    """The moments that look at a step of a range, which is its first and last step."""
+    return [moment for moment in moments if moment.steps[0] <= steps[1] and steps[0] <= moment.steps[-1]]
 
 
-def picture_of(path, trace=None, steps=None):
-    """The SVG of the report at a path, with its trace and a range of steps where they are given."""
+def picture_of(data, path, top=None, steps=None):
+    """The SVG of the report of some bytes, which is called as its path is, with its trace and a range of steps where they are
+    given."""
+    layout, lines = top and Layout(top), read_report(data, path)
+    if layout:
+        layout.check(lines)
+    moments = moments_of(lines, layout)
     name = printable(os.path.basename(path))
-    machine = Machine(trace) if trace else None
-    try:
-        lines = report_lines(read_file(path).decode("ascii"))
-        if machine:
-            machine.check(lines)
-        moments = moments_of(lines, machine)
-    except UnicodeDecodeError as error:
-        raise Bad(f"{path}: byte {error.start} is none of a report") from error
-    return drawing(name, picked(moments, steps) if steps is not None else moments, machine, processes_of(moments), len(lines))
-
-
-def options_of(words):
-    """The report, and what the options say."""
-    found, words = {}, list(words)
-    while words:
-        word = words.pop(0)
-        key = word if word.startswith("--") else "REPORT"
-        if key in found or key not in ("REPORT", "--trace", "--steps") or key != "REPORT" and not words:
-            raise Bad(USAGE)
-        found[key] = word if key == "REPORT" else words.pop(0)
-    if "REPORT" not in found:
-        raise Bad(USAGE)
-    return found
-
-
-def main(words):
-    try:
-        found = options_of(words)
-        sys.stdout.buffer.write(picture_of(found["REPORT"], found.get("--trace"), found.get("--steps")).encode())
-    except Bad as fault:
-        print(f"picture.py: {printable(str(fault))}", file=sys.stderr)
-        return 2
-    return 0
-
-
-if __name__ == "__main__":
-    sys.exit(main(sys.argv[1:]))
+    return drawing(name, picked(moments, steps) if steps else moments, layout, processes_of(moments), len(lines))

@@ -1,16 +1,12 @@
-#!/usr/bin/env python3
-"""Checks tools/why.py: what it says of good and bad traces, and that tests/hostile.py has the program tell the same of them."""
-import glob
-import importlib.util
+"""What is said of good and bad traces, and that tests/hostile.py has the program tell the same of them."""
 import json
-import os
 import re
-import subprocess
-import sys
-import tempfile
+import unittest
 
-ROOT = os.path.dirname(os.path.dirname(os.path.abspath(__file__)))
-U32 = "wanted is a whole number from 0 to 4,294,967,295, in digits alone"
+from support import EXAMPLES, TRACES, U32, Case, fail, loaded, read, run
+from numalab import faults
+from numalab.faults import verdict
+
 U64 = "wanted is a whole number from 0 to 18,446,744,073,709,551,615, in digits alone"
 NODE = "wanted is a whole number from 0 to 63, in digits alone"
 LIMIT = "wanted is a whole number from 1 to 16,384, in digits alone"
@@ -273,36 +269,17 @@ WHOLE = [
 ]
 
 
-sys.dont_write_bytecode = True
-
-
-def loaded(name):
-    """A script of the repository as a module."""
-    spec = importlib.util.spec_from_file_location(os.path.basename(name)[:-3] + "_of_" + os.path.dirname(name), os.path.join(ROOT, name))
-    module = importlib.util.module_from_spec(spec)
-    spec.loader.exec_module(module)
-    return module
-
-
-WHY = loaded("tools/why.py")
-
-
-def read(name):
-    with open(os.path.join(ROOT, name), encoding="utf-8") as file:
-        return file.read()
-
-
 def changed(text, old, new):
     if old not in text:
-        sys.exit(f"tests/why.py: {old} is not in the trace")
+        fail(f"{old} is not in the trace")
     return text.replace(old, new, 1)
 
 
 def expect(trace, line, what=None):
     """Ends where something else is said of a trace, given as text or bytes."""
-    told = WHY.verdict(trace if isinstance(trace, bytes) else trace.encode())
+    told = verdict(trace if isinstance(trace, bytes) else trace.encode())
     if told != line:
-        sys.exit(f"tests/why.py: of {what or trace[:200]} is said\n  {told}\nand not\n  {line}")
+        fail(f"of {what or trace[:200]} is said\n  {told}\nand not\n  {line}")
 
 
 def trace_of(sizes, rows, steps):
@@ -366,9 +343,9 @@ def check_program():
     for during in hostile.DURING:
         told.append((changed(text, '"flags":2', '"flags":2,"during":' + during).encode(), "bad step 5"))
     for data, fault in told:
-        line = WHY.verdict(data)
+        line = verdict(data)
         if not line.startswith(fault + ": "):
-            sys.exit(f"tests/why.py: of {data[:1000]} is said\n  {line}\nand by the program\n  {fault}")
+            fail(f"of {data[:1000]} is said\n  {line}\nand by the program\n  {fault}")
     for old, new in hostile.SAME:
         expect(changed(text, old, new), "good", new)
 
@@ -379,37 +356,13 @@ def check_schema():
     for old, new in schema.SAME + schema.MORE:
         expect(changed(text, old, new), "good", new)
     for old, new in schema.FAULTS:
-        line = WHY.verdict(changed(text, old, new).encode())
+        line = verdict(changed(text, old, new).encode())
         if not re.match(r"bad (machine|step \d+): ", line):
-            sys.exit(f"tests/why.py: of {new} for {old} is said\n  {line}")
+            fail(f"of {new} for {old} is said\n  {line}")
 
 
-def run(*words):
-    """Status, standard output and standard error of the tool."""
-    ran = subprocess.run([os.path.join(ROOT, "tools/why.py"), *words], capture_output=True, text=True, check=False)
-    return ran.returncode, ran.stdout, ran.stderr
-
-
-def check_command():
-    """Statuses and streams."""
-    good = os.path.join(ROOT, "examples/three_pages.json")
-    with tempfile.TemporaryDirectory() as there:
-        bad = os.path.join(there, "bad.json")
-        with open(bad, "w", encoding="utf-8") as file:
-            file.write("[]")
-        missing = os.path.join(there, "missing.json")
-        ran = [run(good), run(bad), run(missing), run(), run(good, bad)]
-    usage = (1, "", "why.py: wanted is one word, the path of a trace\n")
-    wanted = [(0, "good\n", ""), (2, "bad machine: the top is a list: wanted is an object\n", ""),
-              (1, "", f"why.py: {missing}: No such file or directory\n"), usage, usage]
-    if ran != wanted:
-        sys.exit(f"tests/why.py: the tool ran as {ran}")
-
-
-def main():
-    for path in sorted(glob.glob(os.path.join(ROOT, "examples/*.json")) + glob.glob(os.path.join(ROOT, "tests/traces/*.json"))):
-        with open(path, "rb") as file:
-            expect(file.read(), "good", path)
+def check_tables():
+    """Each row of the tables."""
     text = read("examples/three_pages.json")
     for old, new, line in CHANGED:
         expect(changed(text, old, new), line, f"{new} for {old}")
@@ -421,13 +374,34 @@ def main():
                f"bad step 0: move_pages: {line}" if line else "good")
     for data, line in WHOLE:
         expect(data, line)
-    check_limits()
-    check_runs()
-    check_order()
-    check_program()
-    check_schema()
-    check_command()
+
+
+class Verdicts(Case):
+    """The first fault of a trace."""
+
+    def test_tables(self):
+        check_tables()
+
+    def test_good(self):
+        for path in TRACES:
+            with open(path, "rb") as file:
+                expect(file.read(), "good", path)
+
+    def test_limits(self):
+        check_limits()
+
+    def test_runs(self):
+        check_runs()
+
+    def test_order(self):
+        check_order()
+
+    def test_program(self):
+        check_program()
+
+    def test_schema(self):
+        check_schema()
 
 
 if __name__ == "__main__":
-    main()
+    unittest.main()

@@ -1,0 +1,1 @@
+"""Traces for numatrace that a person can write, and its reports as a person can read them. Nothing here is proved."""

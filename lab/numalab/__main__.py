@@ -1,0 +1,6 @@
+"""python -m numalab."""
+import sys
+
+from .cli import main
+
+sys.exit(main())

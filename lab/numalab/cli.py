@@ -1,0 +1,48 @@
+"""The command numalab: finds the command that is asked for, and ends with its status.
+
+A command is a module of numalab.commands with a SUMMARY, arguments(parser), which says what words it takes, and run(asked),
+which gives the status: 0, 1 where something differs or was refused, 2 for wrong words and bad traces."""
+import argparse
+import os
+import sys
+
+from .commands import picture, why
+from .program import Failed
+from .traces import Bad
+from .words import printable
+
+COMMANDS = {"why": why, "picture": picture}
+ABOUT = "Traces for numatrace that a person can write, and its reports as a person can read them."
+PROMISE = "Every report comes from the program numatrace, which is proved. Nothing that numalab itself says is proved."
+
+
+def parser():
+    """What words there are."""
+    top = argparse.ArgumentParser(prog="numalab", description=ABOUT, epilog=PROMISE)
+    commands = top.add_subparsers(dest="command", metavar="COMMAND", required=True)
+    for name, module in COMMANDS.items():
+        words = commands.add_parser(name, help=module.SUMMARY, description=module.__doc__, epilog=PROMISE,
+                                    formatter_class=argparse.RawDescriptionHelpFormatter)
+        module.arguments(words)
+    return top
+
+
+def main(words=None):
+    """Runs a command; gives the status."""
+    for stream in (sys.stdout, sys.stderr):
+        stream.reconfigure(encoding="utf-8", errors="backslashreplace")
+    asked = parser().parse_args(words)
+    try:
+        status = COMMANDS[asked.command].run(asked)
+        sys.stdout.flush()
+        return status
+    except (Bad, Failed) as fault:
+        sys.stdout.flush()
+        print(f"numalab: {printable(str(fault))}", file=sys.stderr)
+        return 2 if isinstance(fault, Bad) else 1
+    except BrokenPipeError:
+        # Nobody reads any more: what Python would write when it ends goes nowhere.
+        os.dup2(os.open(os.devnull, os.O_WRONLY), sys.stdout.fileno())
+        return 1
+    except KeyboardInterrupt:
+        return 130

@@ -1,0 +1,64 @@
+"""All that is wrong of a trace, as lines for people."""
+import re
+
+from .faults import MOST_BYTES, Form, faults_of, ignored_keys
+from .jsontext import first_fault, line_and_column, places
+
+MOST_TOLD = 200
+AT = re.compile(r"[^\n]*:[0-9]+")
+
+
+class Diagnosis:
+    """What there is to say of the bytes of a trace."""
+
+    def __init__(self, name, data, strict=False):
+        self.name, self.strict = name, strict
+        self.faults, self.warnings, self.hints, self.more = [], [], [], 0
+        if len(data) > MOST_BYTES:
+            self.faults = [f"{name}: read fault: the trace has more than {MOST_BYTES:,} bytes"]
+        else:
+            self.look(data)
+
+    def look(self, data):
+        """Looks at a trace in JSON."""
+        self.top, self.text, fault = first_fault(data)
+        if fault:
+            line, column = line_and_column(self.text, fault[0])
+            self.faults = [f"{self.name}:{line}:{column}: not JSON: {fault[1]}"]
+            return
+        form = Form()
+        faults, ignored = faults_of(form, self.top), ignored_keys(form, self.top)
+        self.more = max(len(faults) - MOST_TOLD, 0) + max(len(ignored) - MOST_TOLD, 0)
+        faults, ignored = faults[:MOST_TOLD], ignored[:MOST_TOLD]
+        self.found = places(self.text, {fault.path for fault in faults + ignored}) if faults or ignored else {}
+        self.faults = [self.told(fault, "", 1) for fault in faults]
+        kind = "" if self.strict else "warning: "
+        self.warnings = [self.told(fault, kind, 0) for fault in ignored]
+
+    @property
+    def bad(self):
+        return bool(self.faults or self.strict and self.warnings)
+
+    def told(self, fault, kind, part):
+        """The line on a fault. The place is that of the value, or that of its key (0)."""
+        step = self.step_of(fault.path)
+        if step is not None:
+            where = step
+        else:
+            line, column = line_and_column(self.text, self.found.get(fault.path, (0, 0))[part])
+            where = f"{self.name}:{line}:{column}"
+        guess = f": did you mean {fault.guess}?" if fault.guess else ""
+        return f"{where}: {kind}{fault.text}{guess}"
+
+    def step_of(self, path):
+        """Where the step of a path says that it was written, if it does."""
+        if len(path) < 2 or path[0] != "steps":
+            return None
+        step = self.top["steps"][path[1]]
+        at = step.get("at") if isinstance(step, dict) else None
+        return at if isinstance(at, str) and AT.fullmatch(at) else None
+
+    def lines(self):
+        """All lines, the faults first, as far as anyone would read them."""
+        more = [f"{self.name}: and {self.more:,} more"] if self.more else []
+        return self.faults + self.warnings + more + self.hints

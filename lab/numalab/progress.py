@@ -1,0 +1,25 @@
+"""A line on standard error for what takes over two seconds, at a terminal alone."""
+import sys
+import time
+
+PATIENCE, PAUSE = 2.0, 0.2
+
+
+class Progress:
+    """Tells how far something has come; used in a `with`, which takes the line away in the end."""
+
+    def __init__(self, what):
+        self.what, self.next = what, time.monotonic() + PATIENCE
+        self.shown, self.terminal = False, sys.stderr is not None and sys.stderr.isatty()
+
+    def __enter__(self):
+        return self
+
+    def __exit__(self, *_):
+        if self.shown:
+            print("\r\033[K", end="", file=sys.stderr, flush=True)
+
+    def at(self, done, total):
+        if self.terminal and time.monotonic() >= self.next:
+            print(f"\r\033[K{self.what}: {done:,} of {total:,}", end="", file=sys.stderr, flush=True)
+            self.shown, self.next = True, time.monotonic() + PAUSE

@@ -1,0 +1,91 @@
+"""Traces as commands take them: files or standard input, in JSON or in the notation for people."""
+import json
+import os
+import sys
+
+from .faults import MOST_BYTES, verdict
+
+
+class Bad(Exception):
+    """What is wrong of a trace, a report or a word. Its command ends with status 2."""
+
+
+def read_file(path, most=-1):
+    """The bytes of a file, or of standard input for -."""
+    try:
+        if path == "-":
+            return sys.stdin.buffer.read(most)
+        with open(path, "rb") as file:
+            return file.read(most)
+    except OSError as error:
+        raise Bad(f"{path}: {error.strerror}") from error
+
+
+def write_file(path, data):
+    """Writes text to a file, or to standard output where there is no path."""
+    if path is None or path == "-":
+        sys.stdout.write(data)
+        return
+    try:
+        with open(path, "w", encoding="utf-8", newline="\n") as file:
+            file.write(data)
+    except OSError as error:
+        raise Bad(f"{path}: {error.strerror}") from error
+
+
+def json_text(top):
+    """A trace as JSON, a line for each step."""
+    head = {key: value for key, value in top.items() if key != "steps"}
+    front = json.dumps(head, separators=(",", ":"))[:-1]
+    steps = ",\n".join(json.dumps(step, separators=(",", ":")) for step in top["steps"])
+    return f'{front}{"," if head else ""}"steps":[\n{steps}]}}\n'
+
+
+class Trace:
+    """A trace: its name, its bytes as JSON, and the value of these once it is asked for."""
+
+    def __init__(self, name, data, top=None):
+        self.name, self.data, self._top = name, data, top
+
+    @property
+    def top(self):
+        if self._top is None:
+            self._top = json.loads(self.data)
+        return self._top
+
+    @property
+    def steps(self):
+        return self.top["steps"]
+
+    def check(self):
+        """Refuses a bad trace."""
+        line = verdict(self.data)
+        if line != "good":
+            raise Bad(f"{self.name}: {line}")
+        return self
+
+
+def is_notation(path):
+    return path.endswith(".nt")
+
+
+def looks_like_trace(path, data):
+    """Whether a file is a trace, and not a report: a report begins with a digit."""
+    return is_notation(path) or data.lstrip()[:1] in (b"{", b"[")
+
+
+def trace_of(path, data):
+    """The trace of the bytes of a file. JSON is not looked at yet."""
+    if not is_notation(path):
+        return Trace(path, data)
+    from .notation import translated
+    top = translated(data, path)
+    return Trace(path, json_text(top).encode(), top)
+
+
+def load(path):
+    return trace_of(path, read_file(path, MOST_BYTES + 1))
+
+
+def name_without_ending(path):
+    return os.path.splitext(path)[0]

@@ -1,0 +1,48 @@
+"""Names and small texts that all commands share."""
+
+# Flags of move_pages, query and mbind, and the modes of mbind by their numbers.
+FLAGS = {1: "MPOL_MF_STRICT", 2: "MPOL_MF_MOVE", 4: "MPOL_MF_MOVE_ALL"}
+MODES = ["MPOL_DEFAULT", "MPOL_PREFERRED", "MPOL_BIND", "MPOL_INTERLEAVE", "MPOL_LOCAL"]
+# Errors that calls and statuses tell, by their numbers.
+ERRORS = {1: "EPERM", 2: "ENOENT", 3: "ESRCH", 5: "EIO", 12: "ENOMEM", 13: "EACCES", 14: "EFAULT", 16: "EBUSY", 19: "ENODEV",
+          22: "EINVAL"}
+PAGE = 4096
+
+
+def elements(values):
+    return "1 element" if len(values) == 1 else f"{len(values):,} elements"
+
+
+def counted(count, one, more=None):
+    """A count with its noun."""
+    return f"{count:,} {one if count == 1 else more or one + 's'}"
+
+
+def flags_text(flags):
+    """Flags by their names, if all have one."""
+    names = [name for flag, name in FLAGS.items() if flags & flag]
+    return "|".join(names) if names and flags < 8 else str(flags)
+
+
+def mode_text(mode):
+    return MODES[mode] if mode < len(MODES) else str(mode)
+
+
+def status_text(status):
+    """A status of a page with its name where it is an error."""
+    return f"{status} {ERRORS.get(-status, '')}".strip() if status < 0 else str(status)
+
+
+def nodes_text(nodes):
+    """A list of nodes, consecutive ones as a range; read as a list, the text gives the same list again."""
+    stretches = []
+    for node in nodes:
+        if stretches and stretches[-1][1] == node - 1:
+            stretches[-1][1] = node
+        else:
+            stretches.append([node, node])
+    return ",".join(f"{first}" if first == last else f"{first}-{last}" for first, last in stretches) or "none"
+
+
+def printable(text):
+    return "".join(character if character.isprintable() else "?" for character in text)

@@ -1,0 +1,73 @@
+"""What the tests of numalab share."""
+import glob
+import importlib.util
+import os
+import subprocess
+import sys
+import tempfile
+import unittest
+
+ROOT = os.path.dirname(os.path.dirname(os.path.dirname(os.path.abspath(__file__))))
+LAB = os.path.join(ROOT, "lab")
+sys.dont_write_bytecode = True
+sys.path.insert(0, LAB)
+
+from numalab import program  # noqa: E402
+from numalab.traces import Bad  # noqa: E402
+
+COMMAND = os.path.join(ROOT, "numalab")
+EXAMPLES = sorted(glob.glob(os.path.join(ROOT, "examples/*.json")))
+TRACES = EXAMPLES + sorted(glob.glob(os.path.join(ROOT, "tests/traces/*.json")))
+U32 = "wanted is a whole number from 0 to 4,294,967,295, in digits alone"
+
+
+def fail(words):
+    raise AssertionError(words)
+
+
+def built():
+    """The path of the program, or None."""
+    try:
+        return program.found()
+    except Bad:
+        return None
+
+
+needs_program = unittest.skipUnless(built(), "there is no program: ./build makes it")
+
+
+def loaded(name):
+    """A script of the repository's tests as a module."""
+    spec = importlib.util.spec_from_file_location("repository_" + os.path.basename(name)[:-3], os.path.join(ROOT, name))
+    module = importlib.util.module_from_spec(spec)
+    spec.loader.exec_module(module)
+    return module
+
+
+def read(name):
+    with open(os.path.join(ROOT, name), encoding="utf-8") as file:
+        return file.read()
+
+
+def run(*words, given=None, folder=None, command=COMMAND, environment=None):
+    """Status, standard output and standard error of the command, which is given some text."""
+    ran = subprocess.run([command, *words], input=None if given is None else given.encode(), capture_output=True, check=False,
+                         cwd=folder, env=environment, stdin=subprocess.DEVNULL if given is None else None)
+    return ran.returncode, ran.stdout.decode(), ran.stderr.decode()
+
+
+class Case(unittest.TestCase):
+    """A test with a folder of its own."""
+
+    maxDiff = 4000
+
+    def setUp(self):
+        folder = tempfile.TemporaryDirectory()
+        self.addCleanup(folder.cleanup)
+        self.there = folder.name
+
+    def written(self, name, text):
+        path = os.path.join(self.there, name)
+        with open(path, "wb") as file:
+            file.write(text if isinstance(text, bytes) else text.encode())
+        return path
