@@ -3,6 +3,8 @@ import re
 
 from .faults import MOST_BYTES, Form, faults_of, ignored_keys
 from .jsontext import first_fault, line_and_column, places
+from .traces import is_notation, json_text
+from .translate import translated
 
 MOST_TOLD = 200
 AT = re.compile(r"[^\n]*:[0-9]+")
@@ -16,8 +18,17 @@ class Diagnosis:
         self.faults, self.warnings, self.hints, self.more = [], [], [], 0
         if len(data) > MOST_BYTES:
             self.faults = [f"{name}: read fault: the trace has more than {MOST_BYTES:,} bytes"]
+        elif is_notation(name):
+            self.look_at_notation(data)
         else:
             self.look(data)
+
+    def look_at_notation(self, data):
+        """Looks at a file in the notation, and where that has no fault at its trace."""
+        top, faults = translated(data, self.name)
+        self.faults = [f"{self.name}:{line}:{column}: {text}" for line, column, text in faults]
+        if not faults:
+            self.look(json_text(top).encode())
 
     def look(self, data):
         """Looks at a trace in JSON."""

@@ -78,9 +78,12 @@ def trace_of(path, data):
     """The trace of the bytes of a file. JSON is not looked at yet."""
     if not is_notation(path):
         return Trace(path, data)
-    from .notation import translated
-    top = translated(data, path)
-    return Trace(path, json_text(top).encode(), top)
+    from .translate import trace_from  # It stands on this module.
+    top = trace_from(data, path)
+    text = json_text(top).encode()
+    if len(text) > MOST_BYTES:
+        raise Bad(f"{path}: the trace would have {len(text):,} bytes, and at most {MOST_BYTES:,} are read")
+    return Trace(path, text, top)
 
 
 def load(path):

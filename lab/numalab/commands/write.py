@@ -1,0 +1,56 @@
+"""Writes a trace in JSON from the notation for people (docs/NOTATION.md), or with --from the notation from a trace.
+
+Each step keeps where it was written under the key `at`, which the program ignores; faults point there. With -o the form is that
+of the file's ending, .json or .nt; where it is a folder, each FILE is written there under its own name."""
+import os
+
+from ..faults import Form
+from ..notate import notation_of
+from ..traces import Bad, json_text, name_without_ending, read_file, write_file
+from ..translate import trace_from
+from ..traces import Trace
+
+SUMMARY = "write a trace from the notation, or back"
+
+
+def arguments(words):
+    words.add_argument("files", metavar="FILE", nargs="*", default=["-"], help="notation, or traces with --from; - is standard input")
+    words.add_argument("--from", dest="back", action="store_true", help="read traces in JSON, and write the notation")
+    words.add_argument("--no-places", action="store_true", help="leave out where each step was written")
+    words.add_argument("-o", metavar="OUT", dest="out", help="a file, .json or .nt, or a folder; standard output if none is named")
+
+
+def without_places(top):
+    """The trace without the keys that tell where each step was written."""
+    def bare(step):
+        step = {key: value for key, value in step.items() if key != "at"}
+        return {**step, "during": [bare(access) for access in step["during"]]} if "during" in step else step
+
+    return {**top, "steps": [bare(step) for step in top["steps"]]}
+
+
+def text_of(path, asked, ending):
+    """What is to be written of a file."""
+    data = read_file(path)
+    back = asked.back or path.endswith(".json")
+    top = Trace(path, data).check().top if back else trace_from(data, path)
+    if ending == ".nt":
+        return notation_of(Form(), top)
+    return json_text(without_places(top) if asked.no_places else top)
+
+
+def run(asked):
+    folder = asked.out is not None and (os.path.isdir(asked.out) or asked.out.endswith(os.sep))
+    if len(asked.files) > 1 and not folder:
+        raise Bad("several files go to a folder: -o FOLDER/")
+    for path in asked.files:
+        ending = ".nt" if asked.back or path.endswith(".json") else ".json"
+        out = asked.out
+        if folder:
+            out = os.path.join(out, os.path.basename(name_without_ending(path)) + ending)
+        elif out and os.path.splitext(out)[1] in (".nt", ".json"):
+            ending = os.path.splitext(out)[1]
+        if out and out != "-" and os.path.exists(out) and os.path.exists(path) and os.path.samefile(out, path):
+            raise Bad(f"{path} would be written over itself")
+        write_file(out, text_of(path, asked, ending))
+    return 0

@@ -1,0 +1,261 @@
+"""From a trace back to the notation: the text of a machine, and of each step."""
+import json
+
+from .notation import FIRST_ADDRESS, PAGE, next_free
+from .statements import tier_distances
+from .words import flags_text, mode_text, nodes_text
+
+MOST_NAMED = 1 << 35
+LETTERS = "ABCDEFGHIJKLMNOPQRSTUVWXYZ"
+# Steps that differ in their address alone are one statement over several pages.
+BY_PAGE = ("read", "write", "pin", "unpin")
+
+
+def area_name(number):
+    """A, B, .. Z, A1, B1 .."""
+    return LETTERS[number % 26] + (str(number // 26) if number >= 26 else "")
+
+
+def data_text(data):
+    """Bytes as text where that says the same, or as hexadecimal digits."""
+    plain = bytes.fromhex(data)
+    if data == data.lower() and all(32 <= byte < 127 for byte in plain):
+        return json.dumps(plain.decode("ascii"))
+    return data
+
+
+def stretches(values, may_join):
+    """Splits a list into its longest stretches: a value joins those before it where that may be."""
+    found = []
+    for value in values:
+        if found and may_join(found[-1], value):
+            found[-1].append(value)
+        else:
+            found.append([value])
+    return found
+
+
+class Notator:
+    """Writes steps in the notation, one after another, with names for the processes and areas that it has met. Where it is
+    brief, it leaves out what would be so anyway."""
+
+    def __init__(self, top, brief=True):
+        self.top, self.count, self.brief = top, len(top["machine"]["nodes"]), brief
+        self.pids, self.areas, self.named, self.next_address = set(), {}, 0, FIRST_ADDRESS
+
+    def unless(self, usual, text):
+        """A text with a space before it, but for what is usual."""
+        return "" if self.brief and usual else " " + text
+
+    # ---- the machine
+
+    def machine(self):
+        """The lines that tell the machine."""
+        sizes, rows = self.top["machine"]["nodes"], self.top["machine"]["distance"]
+        tiers = [(min(row[to] for to in range(len(row)) if to != own) - 20) // 10 if len(row) > 1 else 0 for own, row in enumerate(rows)]
+        short = tiers == sorted(tiers) and tier_distances(tiers) == rows and sorted(set(tiers)) == list(range(tiers[-1] + 1))
+        tiers = tiers if short else [0] * len(sizes)
+        groups = stretches(list(zip(sizes, tiers)), lambda group, pair: group[-1] == pair)
+        text = ""
+        for k, group in enumerate(groups):
+            size, tier = group[0]
+            text += ("" if k == 0 else ", " if groups[k - 1][0][1] == tier else " + ") + (f"{len(group)}x{size}" if len(group) > 1 else str(size))
+        lines = [f"run_limit {self.top['run_limit']}"] if self.top["version"] == 2 else []
+        return lines + [f"nodes {text}"] + ([] if short else ["distance " + " ".join(map(str, row)) for row in rows])
+
+    # ---- small things
+
+    def process(self, pid):
+        return f"p{pid}" if pid in self.pids else str(pid)
+
+    def set(self, nodes):
+        return "all" if nodes == list(range(self.count)) else nodes_text(nodes)
+
+    def area_at(self, pid, address):
+        """The name, address and pages of the area of a process that was told last over an address, or None."""
+        return next((area for area in self.areas.get(pid, []) if area[1] <= address < area[1] + area[2] * PAGE), None)
+
+    def address(self, pid, address):
+        """An address, by its area where it has one."""
+        area = self.area_at(pid, address)
+        if not area:
+            return hex(address)
+        page, offset = divmod(address - area[1], PAGE)
+        return f"{area[0]}[{page}]" + (f"+{offset}" if offset else "")
+
+    def pages(self, pid, addresses):
+        """Addresses with one distance between each and the next, at least two of them whole pages apart."""
+        if len(addresses) == 1:
+            return self.address(pid, addresses[0])
+        step, area = (addresses[1] - addresses[0]) // PAGE, self.area_at(pid, addresses[0])
+        base = area[1] if area else addresses[0]
+        first, end = (addresses[0] - base) // PAGE, (addresses[-1] - base) // PAGE + 1
+        if area and step == 1 and (first, end) == (0, area[2]):
+            return f"{area[0]}[*]"
+        return f"{area[0] if area else hex(base)}[{first}:{end}" + (f":{step}]" if step > 1 else "]")
+
+    def joins(self, pid, before, address):
+        """Whether an address goes on as those before it do: whole pages, one distance, one area."""
+        step = address - before[-1]
+        if step <= 0 or step % PAGE or address % PAGE or len(before) > 1 and step != before[-1] - before[-2]:
+            return False
+        return self.area_at(pid, before[-1]) == self.area_at(pid, address)
+
+    def entries(self, pid, step):
+        """The entries of a batch, those with one target together."""
+        pairs = list(zip(step["pages"], step.get("nodes", [None] * len(step["pages"]))))
+        groups = stretches(pairs, lambda group, pair: group[-1][1] == pair[1] and self.joins(pid, [at for at, _ in group[-2:]], pair[0]))
+        texts = [(self.pages(pid, [at for at, _ in group]), group[0][1]) for group in groups]
+        told = []
+        for k, (text, node) in enumerate(texts):
+            last = k + 1 == len(texts) or texts[k + 1][1] != node
+            told.append(text + (f" to {node}" if node is not None and last else ""))
+        return ", ".join(told) or "none"
+
+    # ---- steps
+
+    def text(self, step):
+        """The statement of a step; that of a batch with accesses in flight has several lines."""
+        op = step["op"]
+        if hasattr(self, "tell_" + op):
+            return f"{op} " + getattr(self, "tell_" + op)(step)
+        if op in ("offline", "online", "free"):
+            return f"{op} {step['node']}"
+        return op if op == "vmstat" else f"{op} {self.process(step['pid'])}"
+
+    def tell_spawn(self, step):
+        pid, usual = step["pid"], max([0, *self.pids]) + 1
+        self.pids.add(pid)
+        flag = {True: " privileged", False: " unprivileged", None: ""}[step.get("privileged")]
+        allowed = self.set(step["allowed"])
+        return (self.process(pid) + self.unless(pid == usual, f"pid {pid}") + f" uid {step['uid']} home {step['home']}" +
+                self.unless(allowed == "all", f"allowed {allowed}") + flag)
+
+    def new_area(self, step):
+        """Gives an area a name."""
+        name = area_name(self.named)
+        self.named += 1
+        if step["pages"] < MOST_NAMED and step["addr"] % PAGE == 0:
+            self.areas.setdefault(step["pid"], []).insert(0, (name, step["addr"], step["pages"]))
+        self.usual_place = step["addr"] == self.next_address
+        self.next_address = next_free(step["addr"], step["pages"], self.next_address)
+        return name
+
+    def tell_map(self, step):
+        flag = {True: " shared", False: " private", None: ""}[step.get("shared")]
+        name = self.new_area(step)
+        place = self.unless(self.usual_place, f"at {step['addr']:#x}")
+        return f"{self.process(step['pid'])} {name} {step['pages']}{place}{flag}"
+
+    def tell_attach(self, step):
+        name = self.new_area(step)
+        place = self.unless(self.usual_place, f"at {step['addr']:#x}")
+        return f"{self.process(step['pid'])} {name} segment {step['segment']} offset {step['offset']} pages {step['pages']}{place}"
+
+    def tell_unmap(self, step):
+        area = self.area_at(step["pid"], step["addr"])
+        if area and step["addr"] % PAGE == 0 and 0 < step["pages"] <= area[2] - (step["addr"] - area[1]) // PAGE:
+            return f"{self.process(step['pid'])} " + self.stretch(step["pid"], step["addr"], step["pages"])
+        return f"{self.process(step['pid'])} {step['addr']:#x} pages {step['pages']}"
+
+    def stretch(self, pid, address, pages):
+        """So many pages side by side, inside an area."""
+        name, base, most = self.area_at(pid, address)
+        first = (address - base) // PAGE
+        if (first, pages) == (0, most):
+            return f"{name}[*]"
+        return f"{name}[{first}]" if pages == 1 else f"{name}[{first}:{first + pages}]"
+
+    def access(self, step, addresses):
+        more = self.unless(step["len"] == 1, f"len {step['len']}") if step["op"] == "read" else " " + data_text(step["data"])
+        return f"{self.process(step['pid'])} {self.pages(step['pid'], addresses)}{more}"
+
+    def tell_pin(self, step):
+        return f"{self.process(step['pid'])} {self.address(step['pid'], step['addr'])}"
+
+    tell_unpin = tell_pin
+
+    def tell_read(self, step):
+        return self.access(step, [step["addr"]])
+
+    tell_write = tell_read
+
+    def flags(self, step, usual):
+        return self.unless(step["flags"] == usual, f"flags {flags_text(step['flags'])}")
+
+    def target(self, step):
+        """The caller, and the process whose pages are asked for where it is named."""
+        return self.process(step["caller"]) + (f" of {self.process(step['pid'])}" if step["pid"] else "")
+
+    def tell_move_pages(self, step):
+        text = f"{self.target(step)} {self.entries(step['pid'] or step['caller'], step)}" + self.flags(step, 2)
+        if "during" not in step:
+            return text
+        lines = [f"    run {access['run']} {access['op']} {self.access(access, [access['addr']])}" for access in step["during"]]
+        return "\n".join([text + " during", *lines, "end"])
+
+    def tell_query(self, step):
+        return f"{self.target(step)} {self.entries(step['pid'] or step['caller'], step)}" + self.flags(step, 0)
+
+    def tell_migrate_pages(self, step):
+        return f"{self.target(step)} from {self.set(step['old'])} to {self.set(step['new'])}"
+
+    def tell_mbind(self, step):
+        pid, address, pages = step["caller"], step["addr"], step["len"] // PAGE
+        area = self.area_at(pid, address)
+        inside = area and address % PAGE == step["len"] % PAGE == 0 and 0 < pages <= area[2] - (address - area[1]) // PAGE
+        place = self.stretch(pid, address, pages) if inside else f"{self.address(pid, address)} len {step['len']}"
+        nodes = f" {self.set(step['nodes'])}" if step["nodes"] else ""
+        return f"{self.process(pid)} {place} {mode_text(step['mode'])}{nodes}" + self.flags(step, 0)
+
+    # ---- whole traces
+
+    def may_merge(self, group, step):
+        """Whether a step can be told with those before it."""
+        first = group[0]
+        if first["op"] == step["op"] == "free":
+            return True
+        if step["op"] not in BY_PAGE or {**first, "addr": 0} != {**step, "addr": 0}:
+            return False
+        return self.joins(step["pid"], [before["addr"] for before in group[-2:]], step["addr"]) and first["addr"] % PAGE == 0
+
+    def merged(self, group):
+        """The statement of steps that are told together."""
+        if len(group) == 1:
+            return self.text(group[0])
+        if group[0]["op"] == "free":
+            return "free " + self.set([step["node"] for step in group])
+        addresses = [step["addr"] for step in group]
+        if group[0]["op"] in ("pin", "unpin"):
+            return f"{group[0]['op']} {self.process(group[0]['pid'])} {self.pages(group[0]['pid'], addresses)}"
+        return f"{group[0]['op']} {self.access(group[0], addresses)}"
+
+    def whole(self):
+        """The text of the trace."""
+        lines, group = self.machine(), []
+        for step in self.top["steps"]:
+            if group and not self.may_merge(group, step):
+                lines.append(self.merged(group))
+                group = []
+            group.append(step)
+        return "\n".join(lines + ([self.merged(group)] if group else [])) + "\n"
+
+
+def known_keys(form, top):
+    """The trace without the keys that the program ignores."""
+    def kept(value, schema, more=()):
+        return {key: part for key, part in value.items() if key in schema["properties"] or key in more}
+
+    accesses, steps = form.ops(form.top["$defs"]["access"]), []
+    for step in top["steps"]:
+        step = kept(step, form.steps[step["op"]])
+        if "during" in step:
+            step["during"] = [kept(access, accesses[access["op"]]) for access in step["during"]]
+        steps.append(step)
+    limit = ("run_limit",) if top["version"] == 2 else ()
+    return {**kept(top, form.top, limit), "machine": kept(top["machine"], form.top["properties"]["machine"]), "steps": steps}
+
+
+def notation_of(form, top):
+    """The notation of a good trace, which says the same trace again but for keys that the program ignores."""
+    return Notator(known_keys(form, top)).whole()

@@ -1,0 +1,338 @@
+"""What each statement of the notation means: the steps of a trace."""
+import re
+
+from .faults import MOST_BYTES, MOST_ENTRIES
+from .notation import (FARTHER, FIRST_ADDRESS, LEAST_STEP, MOST, NAME, NEAR, NUMBER, PAGE, Area, Numbers, Word, Wrong, count,
+                       data_of, guessed, next_free)
+
+U32 = (1 << 32) - 1
+MOST_STEPS = MOST_BYTES // LEAST_STEP
+
+
+def tier_distances(tiers):
+    """The rows of the short form: 10 from a node to itself, 20 between two nodes of the first tier, and 10 more for each tier
+    that the farther one of two nodes is behind it."""
+    return [[10 if own == to else NEAR + FARTHER * max(tiers[own], tiers[to]) for to in range(len(tiers))] for own in range(len(tiers))]
+
+
+class Translation(Numbers):
+    """A file in the notation, statement by statement, and the trace that comes of it."""
+
+    def __init__(self, name):
+        super().__init__()
+        self.name, self.line = name, 0
+        self.tiers, self.rows, self.run_limit = [], [], None
+        self.steps, self.alive, self.maps, self.next_address = [], [], 0, FIRST_ADDRESS
+
+    @property
+    def top(self):
+        """The trace."""
+        version = {"version": 1} if self.run_limit is None else {"version": 2, "run_limit": self.run_limit}
+        rows = self.rows or tier_distances(self.tiers)
+        return {**version, "machine": {"nodes": self.nodes, "distance": rows}, "steps": self.steps}
+
+    def at(self):
+        return {"at": f"{self.name}:{self.line}"}
+
+    def step(self, **keys):
+        if len(self.steps) >= MOST_STEPS:
+            raise Wrong(f"the trace would have more than {MOST_BYTES:,} bytes", 1)
+        self.steps.append({**keys, **self.at()})
+
+    def new_name(self, words, what):
+        """A name that may be given, with its place."""
+        word = words.next(what)
+        if not NAME.fullmatch(word.text) or word.text in ("all", "none"):
+            raise Wrong(f"{word.text} is no name", word.column)
+        return word.text
+
+    # ---- the machine
+
+    def say_nodes(self, words):
+        self.before_steps(words)
+        if self.nodes:
+            raise Wrong("nodes were told before", 1)
+        tier = 0
+        while True:
+            name = words.next("a number of frames").text if words.peek() and NAME.fullmatch(words.peek()) else None
+            word = words.next("a number of frames, as 1200 or 2x1200")
+            match = re.fullmatch(r"(?:([0-9]{1,5})x)?([0-9]{1,10}[KMG]?)", word.text)
+            if not match:
+                raise Wrong(f"{word.text} is no number of frames, as 1200 or 2x1200", word.column)
+            first, many = len(self.nodes), int(match[1] or 1)
+            if not 1 <= many or first + many > 64:
+                raise Wrong(f"{word.text} makes {first + many} nodes, where 1 to 64 are wanted", word.column)
+            self.nodes += [self.page_count(Word(match[2], word.column))] * many
+            self.tiers += [tier] * many
+            if name:
+                self.node_names[name] = list(range(first, first + many))
+            joined = words.has("+", ",")
+            if not joined:
+                break
+            tier += joined == "+"
+        words.done("+")
+
+    def before_steps(self, words):
+        if self.steps:
+            raise Wrong(f"{words.words[0].text} stands before all steps", words.words[0].column)
+
+    def say_distance(self, words):
+        self.before_steps(words)
+        row = []
+        while words.peek() is not None:
+            if words.has("/"):
+                self.rows.append(row)
+                row = []
+            else:
+                row.append(self.number(words.next("a distance"), 255))
+        self.rows.append(row)
+
+    def say_run_limit(self, words):
+        self.before_steps(words)
+        self.run_limit = self.number(words.next("a number of entries"))
+        words.done()
+
+    # ---- processes and areas
+
+    def say_spawn(self, words):
+        word, keys = words.next("a name"), {}
+        if not NUMBER.fullmatch(word.text):
+            words.taken -= 1
+            self.new_name(words, "a name")
+        while words.peek() is not None:
+            option = words.has("pid", "uid", "home", "allowed", "privileged", "unprivileged")
+            if option in ("pid", "uid"):
+                keys[option] = self.number(words.next("a number"), U32)
+            elif option == "home":
+                keys["home"] = self.node_list(words.next("a node"), True)[0]
+            elif option == "allowed":
+                keys["allowed"] = self.node_list(words.next("a set of nodes"))
+            elif option:
+                keys["privileged"] = option == "privileged"
+            else:
+                words.done("pid", "uid", "home", "allowed", "privileged", "unprivileged")
+        pid = keys.get("pid", int(word.text) if NUMBER.fullmatch(word.text) else self.free_pid())
+        self.processes[word.text] = pid
+        flag = {"privileged": keys["privileged"]} if "privileged" in keys else {}
+        self.step(op="spawn", pid=pid, uid=keys.get("uid", 1000), home=keys.get("home", 0),
+                  allowed=keys.get("allowed", list(range(len(self.nodes)))), **flag)
+        if pid not in self.alive:
+            self.alive.append(pid)
+
+    def free_pid(self):
+        return max([0, *self.processes.values()]) + 1
+
+    def area_options(self, words, more):
+        """What may stand behind a new area."""
+        keys, known = {}, ("at", *more)
+        while words.peek() is not None:
+            option = words.has(*known)
+            if option in ("shared", "private"):
+                keys["shared"] = option == "shared"
+            elif option == "pages":
+                keys["pages"] = self.page_count(words.next("a number of pages"))
+            elif option:
+                keys[option] = self.number(words.next("a number"))
+            else:
+                words.done(*known)
+        return keys
+
+    def new_area(self, name, keys, pages, segment, offset):
+        """Gives an area its name and its address, which is one of its own where none is told."""
+        address = keys.get("at", self.next_address)
+        self.areas[name] = Area(address, pages, segment, offset)
+        self.next_address = next_free(address, pages, self.next_address)
+        return address
+
+    def say_map(self, words):
+        pid, name = self.pid(words.next("a process")), self.new_name(words, "a name for the area")
+        pages = self.page_count(words.next("a number of pages, or a size"))
+        words.has("pages")
+        keys = self.area_options(words, ("shared", "private"))
+        flag = {"shared": keys["shared"]} if "shared" in keys else {}
+        self.step(op="map", pid=pid, addr=self.new_area(name, keys, pages, self.maps, 0), pages=pages, **flag)
+        self.maps += 1
+
+    def say_attach(self, words):
+        pid, name = self.pid(words.next("a process")), self.new_name(words, "a name for the area")
+        if words.has("of"):
+            word = words.next("an area, or pages of one")
+            area, (address, pages) = self.areas.get(word.text.split("[")[0]), self.stretch(word)
+            if area is None:
+                raise Wrong(f"{word.text} is no area with a name", word.column)
+            segment, offset = area.segment, area.offset + (address - area.address) // PAGE
+            keys = self.area_options(words, ())
+        else:
+            words.need("segment")
+            segment = self.number(words.next("the number of a segment"))
+            keys = self.area_options(words, ("offset", "pages"))
+            offset, pages = keys.get("offset", 0), keys.get("pages", 1)
+        address = self.new_area(name, keys, pages, segment, offset)
+        self.step(op="attach", pid=pid, addr=address, segment=segment, offset=offset, pages=pages)
+
+    def say_unmap(self, words):
+        pid = self.pid(words.next("a process"))
+        word = words.next("pages")
+        if words.has("pages"):
+            place = self.place(word)
+            address, pages = place.address + place.numbers.start * PAGE, self.page_count(words.next("a number of pages"))
+        else:
+            address, pages = self.stretch(word)
+        words.done("pages")
+        self.step(op="unmap", pid=pid, addr=address, pages=pages)
+
+    def say_exit(self, words):
+        pid = self.pid(words.next("a process"))
+        words.done()
+        self.step(op="exit", pid=pid)
+        if pid in self.alive:
+            self.alive.remove(pid)
+
+    # ---- single pages
+
+    def each(self, pages, column, **keys):
+        """A step for each page."""
+        if count(pages) > MOST_STEPS:
+            raise Wrong(f"the trace would have more than {MOST_BYTES:,} bytes", column)
+        for number in pages.numbers:
+            self.step(**{key: pages.address + number * PAGE if key == "addr" else value for key, value in keys.items()})
+
+    def say_pin(self, words):
+        op, pid, word = words.words[0].text, self.pid(words.next("a process")), words.next("a page")
+        words.done()
+        self.each(self.place(word), word.column, op=op, pid=pid, addr=0)
+
+    def access(self, op, words):
+        """The keys of a read or a write but for its address, and its pages."""
+        pid, word = self.pid(words.next("a process")), words.next("a page")
+        pages = self.place(word)
+        if op == "read":
+            more = {"len": self.number(words.next("a number of bytes")) if words.has("len") else 1}
+        else:
+            more = {"data": data_of(words.next('bytes, as 61 or "a"'))}
+        words.done("len")
+        return {"op": op, "pid": pid, "addr": 0, **more}, pages, word
+
+    def say_access(self, words):
+        keys, pages, word = self.access(words.words[0].text, words)
+        self.each(pages, word.column, **keys)
+
+    # ---- batches
+
+    def target(self, words):
+        """The caller and the pid of a call on a process: 0 where it is the caller's own."""
+        caller = self.pid(words.next("a process"))
+        return caller, self.pid(words.next("a process")) if words.has("of") else 0
+
+    def entries(self, words, targets):
+        """The addresses of a batch, and their nodes where it has targets."""
+        addresses, nodes = [], []
+        if words.has("none"):
+            return addresses, nodes
+        while True:
+            word = words.next("a page")
+            addresses += self.addresses(word)
+            if targets and words.has("to"):
+                found = self.node_list(words.next("a node"))
+                if not found:
+                    raise Wrong("no node is no target", words.words[words.taken - 1].column)
+                nodes += [found[k % len(found)] for k in range(len(addresses) - len(nodes))]
+            if not words.has(","):
+                break
+        if targets and len(nodes) < len(addresses):
+            words.need("to")
+        if len(addresses) > MOST_ENTRIES:
+            raise Wrong(f"the batch has {len(addresses):,} entries, and at most {MOST_ENTRIES:,} are wanted", word.column)
+        return addresses, nodes
+
+    def say_move_pages(self, words, during=None):
+        caller, pid = self.target(words)
+        pages, nodes = self.entries(words, True)
+        flags = self.flags(words.next("flags")) if words.has("flags") else 2
+        words.has("during")
+        words.done("flags", "during")
+        more = {} if during is None else {"during": during}
+        self.step(op="move_pages", caller=caller, pid=pid, pages=pages, nodes=nodes, flags=flags, **more)
+
+    def flight(self, words):
+        """The accesses in flight of a line of a `during` block."""
+        run = self.number(words.next("the number of a run")) if words.has("run") else 0
+        op = words.next("read or write")
+        if op.text not in ("read", "write"):
+            raise Wrong(f"{op.text} is neither read nor write{guessed(op.text, ['read', 'write'])}", op.column)
+        keys, pages, _ = self.access(op.text, words)
+        addresses = [pages.address + number * PAGE for number in pages.numbers[:MOST_ENTRIES]]
+        return [{"run": run, **keys, "addr": address, **self.at()} for address in addresses]
+
+    def say_query(self, words):
+        caller, pid = self.target(words)
+        pages, _ = self.entries(words, False)
+        flags = self.flags(words.next("flags")) if words.has("flags") else 0
+        words.done("flags")
+        self.step(op="query", caller=caller, pid=pid, pages=pages, flags=flags)
+
+    def say_migrate_pages(self, words):
+        caller, pid = self.target(words)
+        words.need("from")
+        old = self.node_list(words.next("a set of nodes"))
+        words.need("to")
+        new = self.node_list(words.next("a set of nodes"))
+        words.done()
+        self.step(op="migrate_pages", caller=caller, pid=pid, old=old, new=new)
+
+    def say_mbind(self, words):
+        caller, word = self.pid(words.next("a process")), words.next("pages")
+        if words.has("len"):
+            pages = self.place(word)
+            if not pages.single:
+                raise Wrong(f"{word.text} are pages: len is for one address", word.column)
+            address, length = pages.address + pages.numbers[0] * PAGE, self.number(words.next("a number of bytes"))
+        else:
+            address, length = self.stretch(word)
+            length *= PAGE
+            if length > MOST:
+                raise Wrong(f"{word.text} has more than 2^64 bytes", word.column)
+        mode = self.mode(words.next("a mode, as MPOL_BIND"))
+        nodes = self.node_list(words.next("a set of nodes")) if words.peek() not in (None, "flags") else []
+        flags = self.flags(words.next("flags")) if words.has("flags") else 0
+        words.done("flags")
+        self.step(op="mbind", caller=caller, addr=address, len=length, mode=mode, nodes=nodes, flags=flags)
+
+    # ---- nodes, and looking
+
+    def say_node(self, words):
+        op, nodes = words.words[0].text, self.node_list(words.next("a node"))
+        words.done()
+        for node in nodes:
+            self.step(op=op, node=node)
+
+    def say_process(self, words):
+        op = words.words[0].text
+        pids = list(self.alive) if words.has("all") else [self.pid(words.next("a process, or all"))]
+        words.done()
+        for pid in pids:
+            self.step(op=op, pid=pid)
+
+    def say_vmstat(self, words):
+        words.done()
+        self.step(op="vmstat")
+
+    def say_look(self, words):
+        words.done()
+        for node in range(len(self.nodes)):
+            self.step(op="free", node=node)
+        for pid in self.alive:
+            self.step(op="pagemap", pid=pid)
+            self.step(op="numa_maps", pid=pid)
+
+
+MACHINE = {"nodes": Translation.say_nodes, "distance": Translation.say_distance, "run_limit": Translation.say_run_limit}
+STEPS = {
+    "spawn": Translation.say_spawn, "map": Translation.say_map, "attach": Translation.say_attach, "unmap": Translation.say_unmap,
+    "exit": Translation.say_exit, "pin": Translation.say_pin, "unpin": Translation.say_pin, "read": Translation.say_access,
+    "write": Translation.say_access, "move_pages": Translation.say_move_pages, "query": Translation.say_query,
+    "migrate_pages": Translation.say_migrate_pages, "mbind": Translation.say_mbind, "offline": Translation.say_node,
+    "online": Translation.say_node, "free": Translation.say_node, "pagemap": Translation.say_process,
+    "numa_maps": Translation.say_process, "vmstat": Translation.say_vmstat, "look": Translation.say_look,
+}
+BLOCKS = ("repeat", "end")

@@ -1,0 +1,185 @@
+"""The notation: what it means, the way back, the examples, and its faults."""
+import json
+import os
+import unittest
+
+from support import EXAMPLES, ROOT, TRACES, Case, loaded, read, run
+from numalab.commands.write import without_places
+from numalab.faults import Form, verdict
+from numalab.notate import known_keys, notation_of
+from numalab.traces import json_text
+from numalab.translate import translated
+
+HEAD = "nodes 2x4\nspawn p uid 100\nmap p A 4\n"
+DRAWN = 300
+
+# A statement behind the head, and the steps that it makes.
+SAID = [
+    ("map p B 64K shared", [{"op": "map", "pid": 1, "addr": 0x20000, "pages": 16, "shared": True}]),
+    ("spawn q privileged home 1 allowed !0", [{"op": "spawn", "pid": 2, "uid": 1000, "home": 1, "allowed": [1], "privileged": True}]),
+    ("spawn 7 allowed 1,0-1", [{"op": "spawn", "pid": 7, "uid": 1000, "home": 0, "allowed": [1, 0, 1]}]),
+    ("attach p B of A[1:3] at 0x50000", [{"op": "attach", "pid": 1, "addr": 0x50000, "segment": 0, "offset": 1, "pages": 2}]),
+    ("attach 9 B segment 5", [{"op": "attach", "pid": 9, "addr": 0x20000, "segment": 5, "offset": 0, "pages": 1}]),
+    ("unmap p A[1:]", [{"op": "unmap", "pid": 1, "addr": 0x11000, "pages": 3}]),
+    ("unmap p 0x10001 pages 18446744073709551615", [{"op": "unmap", "pid": 1, "addr": 0x10001, "pages": (1 << 64) - 1}]),
+    ("pin p A[::3]", [{"op": "pin", "pid": 1, "addr": 0x10000}, {"op": "pin", "pid": 1, "addr": 0x13000}]),
+    ("read p A[1]+4095 len 2", [{"op": "read", "pid": 1, "addr": 0x11FFF, "len": 2}]),
+    ('write p A[3] "\\u00e4#\\""', [{"op": "write", "pid": 1, "addr": 0x13000, "data": "c3a42322"}]),
+    ("write p 0 aF # text", [{"op": "write", "pid": 1, "addr": 0, "data": "aF"}]),
+    ("move_pages p A[1:3], 0x99001 to 1, A[0] to 0", [
+        {"op": "move_pages", "caller": 1, "pid": 0, "pages": [0x11000, 0x12000, 0x99001, 0x10000], "nodes": [1, 1, 1, 0], "flags": 2}]),
+    ("move_pages p of 3 A to 0,1 flags MPOL_MF_MOVE|MPOL_MF_STRICT", [
+        {"op": "move_pages", "caller": 1, "pid": 3, "pages": [0x10000, 0x11000, 0x12000, 0x13000], "nodes": [0, 1, 0, 1], "flags": 3}]),
+    ("move_pages p none during\nend", [
+        {"op": "move_pages", "caller": 1, "pid": 0, "pages": [], "nodes": [], "flags": 2, "during": []}]),
+    ("move_pages p A[0] to 1 during # now\n  read p A[0]\n\n  run 0 write p A[1] 61 # and\nend", [
+        {"op": "move_pages", "caller": 1, "pid": 0, "pages": [0x10000], "nodes": [1], "flags": 2, "during": [
+            {"run": 0, "op": "read", "pid": 1, "addr": 0x10000, "len": 1}, {"run": 0, "op": "write", "pid": 1, "addr": 0x11000, "data": "61"}]}]),
+    ("query p none", [{"op": "query", "caller": 1, "pid": 0, "pages": [], "flags": 0}]),
+    ("migrate_pages p from all to !0", [{"op": "migrate_pages", "caller": 1, "pid": 0, "old": [0, 1], "new": [1]}]),
+    ("mbind p A[0:2] MPOL_LOCAL", [{"op": "mbind", "caller": 1, "addr": 0x10000, "len": 8192, "mode": 4, "nodes": [], "flags": 0}]),
+    ("mbind p 7 len 5 9 63 flags 99", [{"op": "mbind", "caller": 1, "addr": 7, "len": 5, "mode": 9, "nodes": [63], "flags": 99}]),
+    ("offline !1", [{"op": "offline", "node": 0}]),
+    ("free all", [{"op": "free", "node": 0}, {"op": "free", "node": 1}]),
+    ("look", [{"op": "free", "node": 0}, {"op": "free", "node": 1}, {"op": "pagemap", "pid": 1}, {"op": "numa_maps", "pid": 1}]),
+    ("repeat 2 as i\nrepeat 2 as j\nread p A[i*2+j] len i%2+1\nend\nend", [
+        {"op": "read", "pid": 1, "addr": 0x10000 + 4096 * k, "len": k // 2 + 1} for k in range(4)]),
+    ("repeat 0\nlook\nend", []),
+]
+
+# Lines behind the head, and what is said of them: line, column and words.
+WRONG = [
+    ("wirte p A 61", [(4, 1, "wirte is no statement: did you mean write?")]),
+    ("read q A", [(4, 6, "there is no process q")]),
+    ("read p B", [(4, 8, "there is no area B")]),
+    ("read p A[4]", [(4, 8, "A[4] is behind the last of 4 pages")]),
+    ("read p A[0:5]", [(4, 8, "A[0:5] are no pages of the area")]),
+    ("read p A[0:2]+1", [(4, 8, "A[0:2]+1 has a byte behind more than one page")]),
+    ("read p 0x10000[*]", [(4, 8, "[*] is for an area that has a name")]),
+    ("read p A[0", [(4, 8, "A[0 is no place of a page")]),
+    ("read p", [(4, 7, "a page is missing")]),
+    ("read p A len", [(4, 13, "a number of bytes is missing")]),
+    ("read p A leng 2", [(4, 10, "leng is not wanted here: did you mean len?")]),
+    ("write p A 616", [(4, 11, "616 is neither a text in quotes nor an even number of hexadecimal digits")]),
+    ('write p A "a', [(4, 11, "a text has no end")]),
+    ("move_pages p A", [(4, 15, "to is missing")]),
+    ("move_pages p A to 1 flags MPOL_MF_MOV", [(4, 27, "MPOL_MF_MOV is no flag: did you mean MPOL_MF_MOVE?")]),
+    ("move_pages p 0[0:16385] to 1", [(4, 14, "0[0:16385] are 16,385 pages, and a batch has at most 16,384")]),
+    ("mbind p A MPOL_BID 1", [(4, 11, "MPOL_BID is no mode: did you mean MPOL_BIND?")]),
+    ("mbind p A[::2] MPOL_BIND 1", [(4, 9, "A[::2] has gaps, where pages side by side are wanted")]),
+    ("spawn p hom 1", [(4, 9, "hom is not wanted here: did you mean home?")]),
+    ("spawn p home 0-1", [(4, 14, "0-1 are 2 nodes, where one is wanted")]),
+    ("map p B 5K", [(4, 9, "5K is not whole pages of 4K")]),
+    ("free cxl", [(4, 6, "cxl is no node")]),
+    ("nodes 4", [(4, 1, "nodes stands before all steps")]),
+    ("repeat 2\nlook", [(4, 1, "the block has no end")]),
+    ("end", [(4, 1, "end ends no block")]),
+    ("repeat 3\nread q A\nend", [(5, 6, "there is no process q")]),
+    ("move_pages p A[0] to 1 during\npin p A[0]\nend", [(5, 1, "pin is neither read nor write")]),
+    ("look now\nread p A[9]\nlok", [(4, 6, "now is not wanted here"), (5, 8, "A[9] is behind the last of 4 pages"),
+                                     (6, 1, "lok is no statement: did you mean look?")]),
+    ("write p 0[0:99999999999999] 61", [(4, 9, "the trace would have more than 16,777,216 bytes")]),
+    ("read p 18446744073709551615[0:2]", [(4, 8, "18446744073709551615[0:2] is past the last address")]),
+    ("read p A[0-1]", [(4, 8, "0-1 is no number from 0 to 18,446,744,073,709,551,615")]),
+]
+MACHINES = [
+    ("nodes 4", [4], [[10]]),
+    ("nodes cpu 2x8, 4 + cxl 64K + 2x1", [8, 8, 4, 16, 1, 1], [
+        [10, 20, 20, 30, 40, 40], [20, 10, 20, 30, 40, 40], [20, 20, 10, 30, 40, 40], [30, 30, 30, 10, 40, 40],
+        [40, 40, 40, 40, 10, 40], [40, 40, 40, 40, 40, 10]]),
+    ("nodes 4, 8\ndistance 10 255\ndistance 11 10", [4, 8], [[10, 255], [11, 10]]),
+    ("distance 10 20 / 30 10\nnodes 2x1", [1, 1], [[10, 20], [30, 10]]),
+]
+
+
+class Notation(Case):
+    """What the notation means, and what is said of faults."""
+
+    def test_said(self):
+        for text, steps in SAID:
+            top, faults = translated((HEAD + text + "\n").encode(), "x.nt")
+            self.assertEqual((without_places(top)["steps"][2:], faults), (steps, []), text)
+
+    def test_wrong(self):
+        for text, wanted in WRONG:
+            self.assertEqual(translated((HEAD + text + "\n").encode(), "x.nt")[1], wanted, text)
+
+    def test_machines(self):
+        for text, sizes, rows in MACHINES:
+            top, faults = translated(text.encode(), "x.nt")
+            self.assertEqual((top, faults), ({"version": 1, "machine": {"nodes": sizes, "distance": rows}, "steps": []}, []))
+        top, _ = translated(b"run_limit 3\r\nnodes 1\r\n", "x.nt")
+        self.assertEqual((top["version"], top["run_limit"]), (2, 3))
+
+    def test_places(self):
+        top, _ = translated((HEAD + "move_pages p A[0] to 1 during\nread p A[0]\nend\n").encode(), "dir/x.nt")
+        self.assertEqual([step["at"] for step in top["steps"]], ["dir/x.nt:2", "dir/x.nt:3", "dir/x.nt:4"])
+        self.assertEqual(top["steps"][2]["during"][0]["at"], "dir/x.nt:5")
+
+    def test_other_files(self):
+        for data, fault in [(b"", (1, 1, "nodes is missing: wanted is a line as `nodes 2x4`")), (b"nodes 1\n\xff", (2, 1, "no UTF-8")),
+                            (b"look", (1, 1, "the nodes come first, as `nodes 2x4`")),
+                            (b"nodes 65x1", (1, 7, "65x1 makes 65 nodes, where 1 to 64 are wanted"))]:
+            self.assertEqual(translated(data, "x.nt")[1][0], fault, data)
+
+
+class Back(Case):
+    """From traces to the notation, and to the same trace again."""
+
+    def check_back(self, top, what):
+        form = Form()
+        back, faults = translated(notation_of(form, top).encode(), "x.nt")
+        self.assertEqual(faults, [], what)
+        self.assertEqual(without_places(back), known_keys(form, top), what)
+
+    def test_traces(self):
+        for path in TRACES:
+            with open(path, encoding="utf-8") as file:
+                self.check_back(json.load(file), path)
+
+    def test_drawn(self):
+        drawn = loaded("tests/drawn.py")
+        for number in range(DRAWN):
+            self.check_back(drawn.Drawing(number).draw().trace, number)
+
+    def test_examples(self):
+        for path in EXAMPLES:
+            with open(path[: -len("json")] + "nt", "rb") as file:
+                top, faults = translated(file.read(), "x.nt")
+            self.assertEqual((without_places(top), faults), (json.loads(read(path)), []), path)
+
+    def test_ten_lines(self):
+        text = read("examples/half_demoted.nt")
+        self.assertEqual(sum(not line.startswith("#") for line in text.splitlines()), 9)
+        top, _ = translated(text.encode(), "x.nt")
+        self.assertEqual(len([step for step in top["steps"] if step["op"] == "write"]), 2000)
+        self.assertEqual([len(step["pages"]) for step in top["steps"] if step["op"] == "move_pages"], [1000])
+        self.assertEqual(verdict(json_text(top).encode()), "good")
+
+
+class Command(Case):
+    """numalab write: files, folders and statuses."""
+
+    def test_there_and_back(self):
+        source = self.written("a.nt", HEAD + "read p A[0]\n")
+        self.assertEqual(run("write", "a.nt", "-o", "b.json", folder=self.there), (0, "", ""))
+        self.assertEqual(run("write", "b.json", "-o", "c.nt", folder=self.there), (0, "", ""))
+        self.assertEqual(read(os.path.join(self.there, "c.nt")), HEAD.replace(" p", " p1").replace("100", "100 home 0") + "read p1 A[0]\n")
+        self.assertIn('"at":"a.nt:4"', read(os.path.join(self.there, "b.json")))
+        self.assertEqual(run("write", "--no-places", given=HEAD), run("write", "--no-places", "-", given=HEAD))
+        self.assertEqual(run("write", source, source)[0], 2)
+        self.assertEqual(run("write", source, "-o", source)[0], 2)
+
+    def test_folder(self):
+        self.assertEqual(run("write", *(path[:-4] + "nt" for path in EXAMPLES), "-o", self.there), (0, "", ""))
+        self.assertEqual(len(os.listdir(self.there)), len(EXAMPLES))
+
+    def test_faults(self):
+        self.assertEqual(run("write", given=HEAD + "lok\nlook 1\n"), (
+            2, "", "numalab: -:4:1: lok is no statement: did you mean look? (numalab why - tells 1 more)\n"))
+        self.assertEqual(run("write", "--from", given="{}")[0], 2)
+        self.assertEqual(run("write", "none.nt", folder=self.there), (2, "", "numalab: none.nt: No such file or directory\n"))
+
+
+if __name__ == "__main__":
+    unittest.main()
