@@ -6,12 +6,12 @@ import argparse
 import os
 import sys
 
-from .commands import picture, why, write
+from .commands import picture, show, why, write
 from .program import Failed
 from .traces import Bad
 from .words import printable
 
-COMMANDS = {"write": write, "why": why, "picture": picture}
+COMMANDS = {"write": write, "why": why, "show": show, "picture": picture}
 ABOUT = "Traces for numatrace that a person can write, and its reports as a person can read them."
 PROMISE = "Every report comes from the program numatrace, which is proved. Nothing that numalab itself says is proved."
 

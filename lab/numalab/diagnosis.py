@@ -1,8 +1,11 @@
 """All that is wrong of a trace, as lines for people."""
 import re
+from itertools import islice
 
-from .faults import MOST_BYTES, Form, faults_of, ignored_keys
+from .faults import MOST_BYTES, Fault, Form, faults_of, ignored_keys
 from .jsontext import first_fault, line_and_column, places
+from .progress import Progress
+from .reasons import hints
 from .traces import is_notation, json_text
 from .translate import translated
 
@@ -13,8 +16,8 @@ AT = re.compile(r"[^\n]*:[0-9]+")
 class Diagnosis:
     """What there is to say of the bytes of a trace."""
 
-    def __init__(self, name, data, strict=False):
-        self.name, self.strict = name, strict
+    def __init__(self, name, data, strict=False, hints=True):
+        self.name, self.strict, self.wants_hints = name, strict, hints
         self.faults, self.warnings, self.hints, self.more = [], [], [], 0
         if len(data) > MOST_BYTES:
             self.faults = [f"{name}: read fault: the trace has more than {MOST_BYTES:,} bytes"]
@@ -45,6 +48,19 @@ class Diagnosis:
         self.faults = [self.told(fault, "", 1) for fault in faults]
         kind = "" if self.strict else "warning: "
         self.warnings = [self.told(fault, kind, 0) for fault in ignored]
+        if self.wants_hints and not faults:
+            self.hint()
+
+    def hint(self):
+        """Tells of a good trace which steps the plain model refuses, and why."""
+        with Progress(f"{self.name}: the model plays step") as progress:
+            found = list(islice(hints(self.top, progress), MOST_TOLD + 1))
+        paths = [("steps", k) + (("during", int(about)) if about is not None else ()) for k, about, _ in found[:MOST_TOLD]]
+        self.found = places(self.text, set(paths)) if paths else {}
+        steps = [f"step {k}: {text}" for k, _, text in found]
+        self.hints = [self.told(Fault(path, text), "hint: ", 1) for path, text in zip(paths, steps)]
+        if len(found) > MOST_TOLD:
+            self.hints.append(f"{self.name}: and further refusals")
 
     @property
     def bad(self):
@@ -62,11 +78,14 @@ class Diagnosis:
         return f"{where}: {kind}{fault.text}{guess}"
 
     def step_of(self, path):
-        """Where the step of a path says that it was written, if it does."""
+        """Where the step of a path, or the access in flight, says that it was written, if it does."""
         if len(path) < 2 or path[0] != "steps":
             return None
-        step = self.top["steps"][path[1]]
-        at = step.get("at") if isinstance(step, dict) else None
+        part, at = self.top, None
+        for key in path:
+            part = part[key] if isinstance(part, list) and isinstance(key, int) else part.get(key) if isinstance(part, dict) else None
+            if isinstance(part, dict):
+                at = part.get("at", at)
         return at if isinstance(at, str) and AT.fullmatch(at) else None
 
     def lines(self):

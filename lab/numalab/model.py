@@ -144,7 +144,7 @@ class Machine:
     def play(self, step):
         """The lines of the next step."""
         try:
-            answer, *lines = CALLS[step["op"]](self, step)
+            answer, *lines = getattr(self, CALLS[step["op"]])(step)
         except Refused as refusal:
             answer, lines = f"error {refusal}", []
         head = f"{self.steps} {step['op']}"
@@ -601,12 +601,12 @@ class Machine:
         return [f"pgmigrate_success {self.moved} pgmigrate_fail {self.failed}"]
 
 
+# The method that makes each step, where it is not called as the step is.
+METHODS = {"read": "read_or_write", "write": "read_or_write", "online": "bring_online", "free": "free_list"}
 CALLS = {
-    "spawn": Machine.spawn, "map": Machine.map, "attach": Machine.attach, "unmap": Machine.unmap, "exit": Machine.exit,
-    "read": Machine.read_or_write, "write": Machine.read_or_write, "pin": Machine.pin, "unpin": Machine.unpin,
-    "move_pages": Machine.move_pages, "query": Machine.query, "migrate_pages": Machine.migrate_pages, "mbind": Machine.mbind,
-    "offline": Machine.offline, "online": Machine.bring_online, "free": Machine.free_list, "pagemap": Machine.pagemap,
-    "numa_maps": Machine.numa_maps, "vmstat": Machine.vmstat,
+    op: METHODS.get(op, op)
+    for op in ("spawn", "map", "attach", "unmap", "exit", "read", "write", "pin", "unpin", "move_pages", "query", "migrate_pages",
+               "mbind", "offline", "online", "free", "pagemap", "numa_maps", "vmstat")
 }
 
 

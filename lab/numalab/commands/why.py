@@ -1,22 +1,32 @@
-"""Says what in a trace breaks its form, every fault with its place: FILE:LINE:COLUMN, or where the trace was written in the
-notation, the line there. The words behind the place begin as the program's own do. Keys that the program does not know, and
-so ignores, are told as well. Of a good trace each refused step has a hint."""
+"""Says what in a trace breaks its form: every fault with its place, FILE:LINE:COLUMN, or the line of the notation that a step
+says it was written in. The words behind the place begin as the program's own do. Keys that the program does not know, and so
+ignores, are told as warnings. Of a good trace each refused step has a hint why; hints come from a plain model of the machine.
+
+The status is 0 where all traces are good, and 2 where one is not."""
+import json
+
 from ..diagnosis import Diagnosis
+from ..faults import MOST_BYTES, Form, strict_schema
 from ..traces import read_file
-from ..faults import MOST_BYTES
 
 SUMMARY = "say all that is wrong with a trace, and where"
 
 
 def arguments(words):
     words.add_argument("files", metavar="FILE", nargs="*", default=["-"], help="traces; - is standard input, also where none is named")
-    words.add_argument("--strict", action="store_true", help="take an unknown key as a fault, with status 2")
+    words.add_argument("--strict", action="store_true", help="take a key that the program ignores as a fault")
+    words.add_argument("--no-hints", action="store_true", help="do not play good traces on the model")
+    words.add_argument("--schema", action="store_true", help="print the JSON Schema of traces, or with --strict the strict one, and end")
 
 
 def run(asked):
+    if asked.schema:
+        schema = Form().top
+        print(json.dumps(strict_schema(schema) if asked.strict else schema, indent=2))
+        return 0
     status = 0
     for path in asked.files:
-        told = Diagnosis(path, read_file(path, MOST_BYTES + 1), asked.strict)
+        told = Diagnosis(path, read_file(path, MOST_BYTES + 1), asked.strict, not asked.no_hints)
         for line in told.lines():
             print(line)
         if not told.bad:

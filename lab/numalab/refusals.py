@@ -1,0 +1,232 @@
+"""Why a call is refused: the conditions of each call in the order in which they count, with words.
+
+Each function takes a machine of the plain model, in which a refused call has changed nothing, and the step. It gives the errors
+that the call may have, each with whether it is so and what there is to say; the first that is so decides. It may rely on those
+before it not being so. Nothing here is proved."""
+from .model import END, MODES as KINDS, MOST_ADDRESS, MOST_PINS, MOST_PROCESSES, MOST_SEGMENTS, MOVE, MOVE_ALL, STRICT, ZERO
+from .words import FLAGS, MODES, PAGE, counted, nodes_text
+
+LAST = END * PAGE - 1
+
+
+def no_process(machine, pid, who="pid"):
+    """That there is no such process."""
+    told = f"{who} 0 is no process" if pid == 0 else f"process {pid} has ended" if pid in machine.ended else f"{who} {pid} was never spawned"
+    return "ESRCH", pid not in machine.processes, told
+
+
+def no_node(machine, node):
+    most = len(machine.nodes) - 1
+    return "EINVAL", node not in machine.nodes, f"there is no node {node}: the machine has {'node 0 alone' if most == 0 else f'nodes 0 to {most}'}"
+
+
+def no_area(process, number):
+    return "EFAULT", process.area(number) is None, f"no area is over {number * PAGE:#x}"
+
+
+def whole_pages(step):
+    address, pages = step["addr"], step["pages"]
+    yield "EINVAL", address % PAGE != 0, f"{address:#x} is inside a page, which begins at {address // PAGE * PAGE:#x}"
+    yield "EINVAL", pages == 0, "no page is asked for"
+    yield "EINVAL", address // PAGE + pages > END, f"{counted(pages, 'page')} from {address:#x} on end past the last address, {LAST:#x}"
+
+
+def spawn(machine, step):
+    pid = step["pid"]
+    yield "EINVAL", pid == 0, "pid 0 stands for a caller, and is no process's"
+    yield "EINVAL", pid in machine.processes, f"process {pid} is alive"
+    yield "EINVAL", not step["allowed"], "no node is allowed"
+    for node in [step["home"], *step["allowed"]]:
+        yield no_node(machine, node)
+    yield "ENOMEM", len(machine.processes) >= MOST_PROCESSES, f"{MOST_PROCESSES:,} processes are alive, and no more can be"
+
+
+def new_area(machine, step):
+    yield no_process(machine, step["pid"])
+    yield from whole_pages(step)
+    first, end = step["addr"] // PAGE, step["addr"] // PAGE + step["pages"]
+    for area in machine.processes[step["pid"]].areas:
+        yield "EINVAL", bool(area.part(first, end)), f"an area is there already, from {area.first * PAGE:#x} to {area.end * PAGE - 1:#x}"
+
+
+def map_(machine, step):
+    yield from new_area(machine, step)
+    yield "ENOMEM", machine.segments_made >= MOST_SEGMENTS, f"{MOST_SEGMENTS:,} segments were made, and no more can be"
+
+
+def attach(machine, step):
+    yield from new_area(machine, step)
+    number, segment = step["segment"], machine.segments.get(step["segment"])
+    gone = "no area shows it any more" if number < machine.segments_made else "was never made"
+    yield "EINVAL", segment is None, f"segment {number} {'is gone: ' if number < machine.segments_made else ''}{gone}"
+    yield "EINVAL", not segment.shared, f"segment {number} is private"
+    end = step["offset"] + step["pages"]
+    yield "EINVAL", end > segment.pages, f"segment {number} has {counted(segment.pages, 'page')}, and the area would end behind page {end:,}"
+
+
+def pinned(machine, process, first, end):
+    for page in [page for page, count in machine.pins.items() if count]:
+        numbers = [area.number_of(page) for area in process.areas]
+        inside = [number for number in numbers if number is not None and first <= number < end]
+        yield "EBUSY", bool(inside), f"the page at {min(inside, default=0) * PAGE:#x} is pinned"
+
+
+def unmap(machine, step):
+    yield no_process(machine, step["pid"])
+    yield from whole_pages(step)
+    first = step["addr"] // PAGE
+    yield from pinned(machine, machine.processes[step["pid"]], first, first + step["pages"])
+
+
+def exit_(machine, step):
+    yield no_process(machine, step["pid"])
+    yield from pinned(machine, machine.processes[step["pid"]], 0, END)
+
+
+def page_to_pin(machine, step):
+    yield no_process(machine, step["pid"])
+    process, number = machine.processes[step["pid"]], step["addr"] // PAGE
+    yield no_area(process, number)
+    page = process.seen.get(number)
+    yield "EFAULT", page == ZERO, f"{number * PAGE:#x} is the page of zeros: it was read, and never written"
+    yield "ENOENT", page is None, f"nothing was touched at {number * PAGE:#x}"
+
+
+def pin(machine, step):
+    yield from page_to_pin(machine, step)
+    yield "EBUSY", True, f"the page has {MOST_PINS:,} pins, and no more can be"
+
+
+def unpin(machine, step):
+    yield from page_to_pin(machine, step)
+    yield "EINVAL", True, f"the page at {step['addr'] // PAGE * PAGE:#x} has no pin"
+
+
+def access(machine, step):
+    yield no_process(machine, step["pid"])
+    process, (number, offset) = machine.processes[step["pid"]], divmod(step["addr"], PAGE)
+    length = step["len"] if step["op"] == "read" else len(step["data"]) // 2
+    yield "EINVAL", length == 0, "no byte is asked for"
+    crosses = f"the {step['op']} crosses a page: {counted(length, 'byte')} from {step['addr']:#x} on, and the page ends at {number * PAGE + PAGE - 1:#x}"
+    yield "EINVAL", offset + length > PAGE, crosses
+    yield no_area(process, number)
+    area = process.area(number)
+    order = machine.order(process, area.policy, area.page(number)[1])
+    asked = machine.order_text(process, area.policy, order)
+    yield "ENOMEM", True, f"no node in {asked} has a free frame" if order else f"{asked}: none that may be taken from is online"
+
+
+def rights(machine, step):
+    """The refusals of a call on a process: who calls, and whose pages they are."""
+    caller, pid = machine.processes[step["caller"]], step["pid"] or step["caller"]
+    yield no_process(machine, pid)
+    owner = machine.processes[pid]
+    yield ("EPERM", owner.user != caller.user and not caller.privileged,
+           f"process {pid} is user {owner.user}'s, and the caller is user {caller.user}'s and not privileged")
+
+
+def unprivileged(machine, step):
+    not_allowed = step["flags"] & MOVE_ALL and not machine.processes[step["caller"]].privileged
+    return "EPERM", bool(not_allowed), f"{FLAGS[MOVE_ALL]} is for privileged callers, which process {step['caller']} is not"
+
+
+def query(machine, step):
+    yield no_process(machine, step["caller"], "caller")
+    flags = step["flags"]
+    known = f"{MOVE} ({FLAGS[MOVE]}) and {MOVE_ALL} ({FLAGS[MOVE_ALL]}) are known here"
+    yield "EINVAL", bool(flags & ~(MOVE | MOVE_ALL | STRICT)), f"flags {flags}: {known}"
+    yield "EINVAL", bool(flags & STRICT), f"flag {STRICT} ({FLAGS[STRICT]}) is for mbind"
+    yield unprivileged(machine, step)
+    yield from rights(machine, step)
+
+
+def move_pages(machine, step):
+    yield from query(machine, step)
+    pid = step["pid"] or step["caller"]
+    allowed = machine.processes[pid].allowed
+    for place, node in enumerate(step["nodes"]):
+        absent = "offline" if node in machine.nodes else f"none of the {counted(len(machine.nodes), 'node')}"
+        yield "ENODEV", node not in machine.online, f"entry {place}: node {node} is {absent}"
+        yield "EACCES", node not in allowed, f"entry {place}: process {pid} may not use node {node} (it may use {nodes_text(sorted(allowed))})"
+
+
+def migrate_pages(machine, step):
+    yield no_process(machine, step["caller"], "caller")
+    for node in step["old"] + step["new"]:
+        yield no_node(machine, node)
+    yield from rights(machine, step)
+    caller, pid = machine.processes[step["caller"]], step["pid"] or step["caller"]
+    allowed = machine.processes[pid].allowed
+    others = sorted(set(step["new"]) - allowed)
+    yield ("EPERM", bool(others) and not caller.privileged,
+           f"process {pid} may not use {nodes_text(others)} (it may use {nodes_text(sorted(allowed))}), and the caller is not privileged")
+    yield "EINVAL", True, f"of the new nodes {nodes_text(sorted(set(step['new'])))} none is online and allowed to process {pid}"
+
+
+def policy(machine, step):
+    """The refusals of the policy that mbind asks for."""
+    flags, mode, nodes = step["flags"], step["mode"], step["nodes"]
+    process = machine.processes[step["caller"]]
+    yield "EINVAL", flags > STRICT | MOVE | MOVE_ALL, f"flags {flags}: 1, 2 and 4 are known"
+    yield "EINVAL", mode >= len(MODES), f"mode {mode}: 0 to {len(MODES) - 1} are known"
+    kind = KINDS[mode]
+    yield "EINVAL", bool(nodes) and kind in ("default", "local"), f"{MODES[mode]} takes no nodes"
+    yield "EINVAL", not nodes and kind in ("bind", "interleave"), f"{MODES[mode]} wants nodes"
+    for node in nodes:
+        yield no_node(machine, node)
+    kept = machine.usable(nodes, process)
+    yield "EINVAL", bool(nodes) and not kept, f"of the nodes {nodes_text(sorted(set(nodes)))} none is online and allowed to process {step['caller']}"
+    yield unprivileged(machine, step)
+
+
+def mbind(machine, step):
+    yield no_process(machine, step["caller"], "caller")
+    yield from policy(machine, step)
+    process, address = machine.processes[step["caller"]], step["addr"]
+    first, end = address // PAGE, (address + step["len"] + PAGE - 1) // PAGE
+    yield "EINVAL", address % PAGE != 0, f"{address:#x} is inside a page, which begins at {address // PAGE * PAGE:#x}"
+    yield "EINVAL", end * PAGE > MOST_ADDRESS, f"{step['len']:,} bytes from {address:#x} on end past 2^64 - 1"
+    hole = first_hole(process, first, end)
+    yield "EFAULT", hole is not None, f"no area is over {(hole or 0) * PAGE:#x}"
+    strays = [f"{number * PAGE:#x} is on node {machine.node(page)}" for number, page in machine.strays(step, first, end)]
+    late = " after the moves" if step["flags"] & (MOVE | MOVE_ALL) else ""
+    yield "EIO", bool(strays), f"{FLAGS[STRICT]}: {machine.asked_text(step)} wants other nodes{late}; " + machine.some(strays)
+
+
+def first_hole(process, first, end):
+    """The first page number of a range without an area."""
+    for area in process.areas:
+        if area.first <= first < area.end:
+            first = area.end
+    return first if first < end else None
+
+
+def offline(machine, step):
+    node = step["node"]
+    yield no_node(machine, node)
+    yield "EBUSY", machine.online == {node}, f"node {node} is the only one online"
+    stay = [machine.page_text(page) for page in sorted(machine.place) if machine.node(page) == node]
+    yield "EBUSY", True, f"{counted(len(stay), 'page')} of node {node} {'stays' if len(stay) == 1 else 'stay'}: {machine.some(stay)}"
+
+
+def node_alone(machine, step):
+    yield no_node(machine, step["node"])
+
+
+def process_alone(machine, step):
+    yield no_process(machine, step["pid"])
+
+
+REFUSALS = {
+    "spawn": spawn, "map": map_, "attach": attach, "unmap": unmap, "exit": exit_, "pin": pin, "unpin": unpin, "read": access,
+    "write": access, "move_pages": move_pages, "query": query, "migrate_pages": migrate_pages, "mbind": mbind,
+    "offline": offline, "online": node_alone, "free": node_alone, "pagemap": process_alone, "numa_maps": process_alone,
+}
+
+
+def refusal(machine, step):
+    """The error of a refused call and why it is so; or None and that nobody knows."""
+    for error, is_so, text in REFUSALS[step["op"]](machine, step):
+        if is_so:
+            return error, text
+    return None, "no rule that is known here refuses this"

@@ -1,0 +1,170 @@
+"""Steps and their answers side by side, as lines for people."""
+from .answers import answer_of
+from .notate import Notator, stretches
+from .report import node_ranges
+from .words import PAGE, counted, status_text
+
+WIDTH, MOST_BYTES, MOST_RANGES = 58, 24, 12
+
+
+class Plain(Notator):
+    """Steps in the notation, by pids and addresses alone."""
+
+    def __init__(self, top):
+        super().__init__(top, brief=False)
+
+    def process(self, pid):
+        return str(pid)
+
+    def area_at(self, pid, address):
+        return None
+
+    def tell_map(self, step):
+        flag = {True: " shared", False: " private", None: ""}[step.get("shared")]
+        return f"{step['pid']} {counted(step['pages'], 'page')} at {step['addr']:#x}{flag}"
+
+    def tell_attach(self, step):
+        return (f"{step['pid']} segment {step['segment']} offset {step['offset']} {counted(step['pages'], 'page')} at {step['addr']:#x}")
+
+    def tell_spawn(self, step):
+        flag = {True: " privileged", False: " unprivileged", None: ""}[step.get("privileged")]
+        return f"{step['pid']} uid {step['uid']} home {step['home']} allowed {self.set(step['allowed'])}{flag}"
+
+    def tell_move_pages(self, step):
+        return f"{self.target(step)} {counted(len(step['pages']), 'entry', 'entries')}{self.flags(step, 2)}"
+
+    def tell_query(self, step):
+        return f"{self.target(step)} {counted(len(step['pages']), 'entry', 'entries')}{self.flags(step, 0)}"
+
+
+def ranges_text(numbers):
+    """Numbers in their order, three or more consecutive ones as a range."""
+    texts = []
+    for group in stretches(numbers, lambda group, number: number == group[-1] + 1):
+        texts += [f"{group[0]}..{group[-1]}"] if len(group) > 2 else map(str, group)
+    more = f" .. and {len(texts) - MOST_RANGES:,} more" if len(texts) > MOST_RANGES else ""
+    return " ".join(texts[:MOST_RANGES]) + more
+
+
+def pages_text(first, last, step):
+    """Pages at one distance, by address."""
+    if first == last:
+        return f"{first:#x}"
+    apart = f", {step // PAGE} pages apart" if step > PAGE else ""
+    return f"{first:#x}..{last:#x} ({counted((last - first) // step + 1, 'page')}{apart})"
+
+
+def data_shown(data):
+    """Bytes in hexadecimal, and as text where they are printable or zero."""
+    if len(data) > 2 * MOST_BYTES:
+        return f"{data[: 2 * MOST_BYTES]}.. ({counted(len(data) // 2, 'byte')})"
+    plain = bytes.fromhex(data)
+    if any(plain) and all(32 <= byte < 127 or byte == 0 for byte in plain):
+        return f'{data}  "{"".join(chr(byte) if byte else "." for byte in plain)}"'
+    return data
+
+
+class Table:
+    """The lines on each step."""
+
+    def __init__(self, top):
+        self.plain, self.steps = Plain(top), top["steps"]
+        self.owner = [node for node, frames in enumerate(node_ranges(top)) for _ in frames]
+
+    def row(self, left, right, head=""):
+        room = WIDTH - len(head)
+        if len(left) > room:
+            return f"{head:>6}  {left}\n{'':{WIDTH + 2}}  {right}" if right else f"{head:>6}  {left}"
+        return f"{head:>6}  {left:<{WIDTH - 6}}  {right}".rstrip()
+
+    def lines(self, k, line, reasons=None):
+        """The lines on step k, with reasons by what they are about where these are told."""
+        step, told = self.steps[k], {}
+        for about, text in reasons or ():
+            told.setdefault(about, []).append(text)
+        text = self.plain.text(step if step["op"] != "move_pages" else {key: step[key] for key in step if key != "during"})
+        found = [self.row(text, self.answer(step, line), str(k))]
+        found += [self.because(text) for text in told.get(None, ())]
+        if not line.answer.startswith("error "):
+            found += self.parts(step, line, told)
+        return found
+
+    @staticmethod
+    def because(text):
+        return f"{'':8}   because: {text}"
+
+    def answer(self, step, line):
+        """The answer of a step on its own line."""
+        if line.answer.startswith("error "):
+            return "error " + line.answer[6:]
+        if line.op in ("move_pages", "query"):
+            count = line.answer.split(":")[0]
+            return f"{count} failed" if line.op == "move_pages" else count
+        if line.op == "read":
+            return data_shown(line.answer)
+        if line.op == "free":
+            frames = answer_of(line)["frames"]
+            return f"{counted(len(frames), 'free frame')}" + (f": {ranges_text(frames)}" if frames else "")
+        if line.op == "pagemap":
+            return counted(int(line.answer.split(":")[0]), "entry", "entries")
+        return counted(int(line.answer), "area") if line.op == "numa_maps" else line.answer
+
+    def parts(self, step, line, told):
+        """The lines under a step: its entries, its accesses in flight, its pages or its areas."""
+        if line.op in ("move_pages", "query"):
+            return self.entries(step, line, told) + self.flights(step, line, told)
+        if line.op == "pagemap":
+            return self.pagemap(answer_of(line)["entries"])
+        return [self.row("  " + area, "") for area in line.areas]
+
+    def entries(self, step, line, told):
+        """Entries of one target and status at one distance are one line; with reasons each is one."""
+        statuses = answer_of(line)["statuses"]
+        targets = step.get("nodes") or [None] * len(statuses)
+        rows = zip(step["pages"], targets, statuses, range(len(statuses)))
+
+        def joins(group, row):
+            if told or group[-1][1:3] != row[1:3]:
+                return False
+            apart = row[0] - group[-1][0]
+            return apart > 0 and apart % PAGE == 0 and (len(group) == 1 or apart == group[1][0] - group[0][0])
+
+        found = []
+        for group in stretches(rows, joins):
+            address, target, status, place = group[0]
+            left = "  " + pages_text(address, group[-1][0], group[1][0] - address if len(group) > 1 else PAGE)
+            moved = "" if target is None else f" to node {target}"
+            found.append(self.row(left + moved, status_text(status)))
+            found += [self.because(text) for text in told.get(place, ())]
+        return found
+
+    def flights(self, step, line, told):
+        found = []
+        for j, (access, text) in enumerate(zip(step.get("during", ()), line.flight)):
+            answer = text.split(" ", 2)[2]
+            left = f"  .{j} in run {access['run']}: {self.plain.text(access)}"
+            plain = access["op"] == "write" or answer == "held" or answer.startswith("error ")
+            found.append(self.row(left, answer if plain else data_shown(answer)))
+            found += [self.because(reason) for reason in told.get(str(j), ())]
+        return found
+
+    def pagemap(self, entries):
+        """Pages and frames side by side that go up together are one line."""
+        def joins(group, entry):
+            last = group[-1]
+            if entry["address"] != last["address"] + PAGE or (entry["frame"] is None) != (last["frame"] is None):
+                return False
+            if entry["frame"] is None:
+                return True
+            return entry["frame"] == last["frame"] + 1 and self.owner[entry["frame"]] == self.owner[last["frame"]]
+
+        found = []
+        for group in stretches(entries, joins):
+            first, last = group[0], group[-1]
+            if first["frame"] is None:
+                right = "the page of zeros"
+            else:
+                frames = f"frame {first['frame']}" if len(group) == 1 else f"frames {first['frame']}..{last['frame']}"
+                right = f"{frames} on node {self.owner[first['frame']]}"
+            found.append(self.row("  " + pages_text(first["address"], last["address"], PAGE), right))
+        return found
