@@ -1,1 +1,4 @@
 """Traces for numatrace that a person can write, and its reports as a person can read them. Nothing here is proved."""
+from .machine import Machine
+
+__all__ = ["Machine"]

@@ -25,7 +25,7 @@ UNTOLD, TAKEN, FREE, INK, PALE = "#9db8d2", "#c6c6c6", "#eef5e6", "#222222", "#6
 Band = namedtuple("Band", "name frames node")  # its frames upwards; the node is None where it is not known
 Grid = namedtuple("Grid", "across width height")  # how many squares a row has, and how wide and high one is
 DARK, DASHED = ' stroke="#444444"', ' stroke="#9a9a9a" stroke-dasharray="2 2"'
-BORDERS = {"free": ' stroke="#7d8a70"', "held": DARK, "taken": DARK, "unknown": DASHED}
+BORDERS = {"free": ' stroke="#7d8a70"', "held": DARK, "taken": DARK, "unknown": DASHED, "counted": DASHED}
 ABOUT = (
     "A column is a moment at which the report looks, a square a frame. The number in a square is its page's: the address in "
     "hexadecimal without the last three digits; a plus tells of further addresses. Point at a square for all that is known of it."
@@ -117,7 +117,7 @@ class Picture:
 
     def square(self, x, y, width, height, kind, processes=()):
         """A frame's square: a stripe for each process that sees its page, four at most."""
-        fill = {"free": FREE, "taken": TAKEN}.get(kind, "#ffffff")
+        fill = {"free": FREE, "taken": TAKEN, "counted": UNTOLD}.get(kind, "#ffffff")
         stripes = list(processes)[:4]
         for k, process in enumerate(stripes):
             self.rect(x + k * width / len(stripes), y, width / len(stripes), height, self.colours[process])
@@ -149,11 +149,26 @@ def rows_in(band, grid):
     return -(-len(band.frames) // grid.across)
 
 
+def draw_counts(picture, x, y, width, height, band, counts):
+    """How many pages of each process numa_maps tells on a node, whose frames nothing tells."""
+    most = max(counts.values(), default=0)
+    words = ", ".join(f"process {process}: {count:,}" for process, count in sorted(counts.items())) or "no page"
+    picture.parts.append(f'<g class="counted"><title>{html.escape("pages by numa_maps: " + words)}</title>')
+    picture.rect(x + 1, y + 1, width - 2, height - 2, "none", BORDERS["unknown"])
+    picture.rect(x + 1, y + 1, (width - 2) * min(1, most / len(band.frames)), height - 2, UNTOLD)
+    letters = int(width / 5)
+    picture.text(x + width / 2, y + height / 2 + 3, 8, words if len(words) <= letters else words[: letters - 2] + "..", "middle")
+    picture.parts.append("</g>")
+
+
 def draw_cell(picture, x, y, grid, band, moment):
     """The squares of a band at a moment, or the words that nothing is known."""
     squares = [square_of(moment, frame, band.node) for frame in band.frames]
     if all(kind == "unknown" for kind, _, _ in squares):
         width, height = min(len(squares), grid.across) * grid.width, rows_in(band, grid) * grid.height
+        if moment.counts:
+            draw_counts(picture, x, y, max(width, 130), height, band, moment.counts.get(band.node, {}))
+            return
         picture.parts.append('<g class="nothing">')
         picture.rect(x + 1, y + 1, max(width, 90) - 2, height - 2, "none", BORDERS["unknown"])
         picture.text(x + max(width, 90) / 2, y + height / 2 + 3, 8, "nothing is known", "middle", PALE)
@@ -208,7 +223,8 @@ def legend_of(moments, machine):
         items += [("taken", (), "not free, page not shown")]
     else:
         items += [("held", (None,), "held by a page")]
-    return items + [("unknown", (), "not known")]
+    counted = [("counted", (), "pages that numa_maps counts, of a node's frames")] if any(moment.counts for moment in moments) else []
+    return items + counted + [("unknown", (), "not known")]
 
 
 def draw_legend(picture, y, width, items):

@@ -112,6 +112,7 @@ class Moment:
         self.zeros = []  # where the page of zeros is seen, likewise
         self.lists = []  # for each list of free frames its lowest and its highest, where it has one
         self.nodes = set()  # the nodes whose list is told, where they are known
+        self.counts = {}  # by node, where nodes are known: by process, how many pages numa_maps tells
 
     def add_free(self, k, number, answer, machine):
         node = machine and machine.steps[k]["node"]
@@ -144,6 +145,14 @@ class Moment:
             self.held.setdefault(int(match["frame"]), []).append(page)
         self.steps.append(k)
 
+    def add_numa_maps(self, k, line, machine):
+        """Counts the pages of a process on each node. It tells no frame."""
+        self.steps.append(k)
+        for area in line.areas:
+            for node, count in re.findall(r" N([0-9]+)=([0-9]+)", area):
+                told = self.counts.setdefault(int(node), {})
+                told[machine.steps[k]["pid"]] = told.get(machine.steps[k]["pid"], 0) + int(count)
+
 
 def moments_of(lines, machine):
     """The moments at which a report shows something."""
@@ -154,6 +163,8 @@ def moments_of(lines, machine):
             now.add_free(k, line.number, line.answer, machine)
         elif line.op == "pagemap" and not refused:
             now.add_pagemap(k, line.number, line.answer, machine)
+        elif line.op == "numa_maps" and not refused and machine:
+            now.add_numa_maps(k, line, machine)
         elif line.op not in KEEPS and (not refused or (line.op, line.answer) in LATE):
             found.append(now)
             now = Moment((k, line.op), line.flight)

@@ -77,13 +77,18 @@ class Table:
             return f"{head:>6}  {left}\n{'':{WIDTH + 2}}  {right}" if right else f"{head:>6}  {left}"
         return f"{head:>6}  {left:<{WIDTH - 6}}  {right}".rstrip()
 
+    def head(self, k, line):
+        """A step, and its answer as far as it stands on its own line."""
+        step = self.steps[k]
+        text = self.plain.text(step if step["op"] != "move_pages" else {key: step[key] for key in step if key != "during"})
+        return text, self.answer(step, line)
+
     def lines(self, k, line, reasons=None):
         """The lines on step k, with reasons by what they are about where these are told."""
         step, told = self.steps[k], {}
         for about, text in reasons or ():
             told.setdefault(about, []).append(text)
-        text = self.plain.text(step if step["op"] != "move_pages" else {key: step[key] for key in step if key != "during"})
-        found = [self.row(text, self.answer(step, line), str(k))]
+        found = [self.row(*self.head(k, line), str(k))]
         found += [self.because(text) for text in told.get(None, ())]
         if not line.answer.startswith("error "):
             found += self.parts(step, line, told)

@@ -14,7 +14,7 @@ from numalab import drawing
 from numalab.commands import picture
 from numalab.traces import Bad, read_file, trace_of
 
-NO_SQUARES = ("zeros", "flight")
+NO_SQUARES = ("zeros", "flight", "counted")
 SHOWN = "docs/chain_of_nodes.svg", "examples/chain_of_nodes"
 Box = namedtuple("Box", "left top right bottom")
 Square = namedtuple("Square", "box kind tip")
@@ -404,6 +404,18 @@ def check_flight(there):
         fail("a report that ends among accesses in flight is not drawn")
 
 
+def check_numa_maps(there):
+    """A trace that looks by numa_maps alone is drawn as far as that tells: how many pages of each process are on each node."""
+    report = written(there, "maps.report", "0 numa_maps 2\n00010000 default anon=2 N0=1 N1=1 kernelpagesize_kB=4\n00020000 default anon=1 N1=1 "
+                     "kernelpagesize_kB=4\n1 numa_maps 1\n00010000 local\n2 read 00\n3 numa_maps error ESRCH\n")
+    looks = '{"op":"numa_maps","pid":7},{"op":"numa_maps","pid":8},{"op":"read","pid":7,"addr":0,"len":1},{"op":"numa_maps","pid":9}'
+    svg = ElementTree.fromstring(picture_of(report, written(there, "maps.json", TWO_NODES % looks)))
+    check_geometry("numa_maps alone", svg)
+    told = [group[0].text for group in svg if named(group, "g") and group.get("class") == "counted"]
+    if told != ["pages by numa_maps: process 7: 1", "pages by numa_maps: process 7: 2"]:
+        fail(f"of numa_maps is told {told}")
+
+
 def check_most(there):
     """A picture has at most 200,000 squares."""
     text = "".join(f"{2 * k} free 1: {k}\n{2 * k + 1} write ok\n" for k in range(448))
@@ -454,7 +466,7 @@ class Drawings(unittest.TestCase):
     """Each check in a folder of its own."""
 
     def test_with_files(self):
-        for check in (check_drawn, check_bad, check_large, check_steps, check_shared, check_flight, check_most, check_names, check_command):
+        for check in (check_drawn, check_bad, check_large, check_steps, check_shared, check_flight, check_numa_maps, check_most, check_names, check_command):
             with self.subTest(check.__name__), tempfile.TemporaryDirectory() as there:
                 check(there)
 
