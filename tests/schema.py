@@ -1,5 +1,5 @@
 #!/usr/bin/env python3
-"""Checks docs/trace.schema.json: each example and each trace of the tests fits it, and traces that the program refuses do
+"""Checks docs/trace.schema.json (lab/tests check the strict one beside it): each example and each trace of the tests fits it, and traces that the program refuses do
 not, wherever a schema can say so. It knows the keywords that the schema uses, and refuses any other."""
 import glob
 import json
@@ -97,6 +97,8 @@ def fault_of_value(schema, value):
             return "has another form"
         if word == "required" and not all(key in value for key in limit):
             return "lacks a key"
+        if word == "additionalProperties" and not set(value) <= set(schema["properties"]):
+            return "has an unknown key"
     return None
 
 
@@ -117,7 +119,11 @@ def fault_of_parts(schema, value, top):
 
 
 def fault_of(schema, value, top):
-    """The first fault of a value by a schema, or None."""
+    """The first fault of a value by a schema, or None. In the strict schema a key may have any value, and `not` is an object's."""
+    if schema is True:
+        return None
+    if "not" in schema and fault_of_value(schema["not"], value) is None:
+        return "is what it may not be"
     if "$ref" in schema:
         return fault_of(top["$defs"][schema["$ref"].removeprefix("#/$defs/")], value, top)
     return fault_of_type(schema, value) or fault_of_value(schema, value) or fault_of_parts(schema, value, top)

@@ -200,12 +200,14 @@ class Explained(model.Machine):
     def offline(self, step):
         listed = [page for page in sorted(self.place) if self.node(page) == step["node"]] if self.wordy else []
         before = {page: self.place[page] for page in listed}
-        answer = super().offline(step)
-        for page in listed:
-            if self.place[page] != before[page]:
-                self.tell(None, f"page {page[1]} of segment {page[0]}: frame {before[page]} to frame {self.place[page]}, "
-                                f"on node {self.node(page)}")
-        return answer
+        try:
+            return super().offline(step)
+        finally:
+            # Also where a page stays, and the call is refused, what has moved has moved.
+            for page in listed:
+                if self.place[page] != before[page]:
+                    self.tell(None, f"page {page[1]} of segment {page[0]}: frame {before[page]} to frame {self.place[page]}, "
+                                    f"on node {self.node(page)}")
 
 
 def explained(top, progress=None, wordy=True):

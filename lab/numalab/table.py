@@ -46,10 +46,10 @@ def ranges_text(numbers):
     return " ".join(texts[:MOST_RANGES]) + more
 
 
-def pages_text(first, last, step):
-    """Pages at one distance, by address."""
+def pages_text(first, last, step, times):
+    """Pages at one distance, by address; or one page, which is named so many times."""
     if first == last:
-        return f"{first:#x}"
+        return f"{first:#x}" + (f", {times:,} times" if times > 1 else "")
     apart = f", {step // PAGE} pages apart" if step > PAGE else ""
     return f"{first:#x}..{last:#x} ({counted((last - first) // step + 1, 'page')}{apart})"
 
@@ -132,12 +132,12 @@ class Table:
             if told or group[-1][1:3] != row[1:3]:
                 return False
             apart = row[0] - group[-1][0]
-            return apart > 0 and apart % PAGE == 0 and (len(group) == 1 or apart == group[1][0] - group[0][0])
+            return apart >= 0 and apart % PAGE == 0 and (len(group) == 1 or apart == group[1][0] - group[0][0])
 
         found = []
         for group in stretches(rows, joins):
             address, target, status, place = group[0]
-            left = "  " + pages_text(address, group[-1][0], group[1][0] - address if len(group) > 1 else PAGE)
+            left = "  " + pages_text(address, group[-1][0], group[1][0] - address if len(group) > 1 else PAGE, len(group))
             moved = "" if target is None else f" to node {target}"
             found.append(self.row(left + moved, status_text(status)))
             found += [self.because(text) for text in told.get(place, ())]
@@ -171,5 +171,5 @@ class Table:
             else:
                 frames = f"frame {first['frame']}" if len(group) == 1 else f"frames {first['frame']}..{last['frame']}"
                 right = f"{frames} on node {self.owner[first['frame']]}"
-            found.append(self.row("  " + pages_text(first["address"], last["address"], PAGE), right))
+            found.append(self.row("  " + pages_text(first["address"], last["address"], PAGE, 1), right))
         return found
