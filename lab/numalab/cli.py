@@ -3,6 +3,7 @@
 A command is a module of numalab.commands with a SUMMARY, arguments(parser), which says what words it takes, and run(asked),
 which gives the status: 0, 1 where something differs or was refused, 2 for wrong words and bad traces."""
 import argparse
+import gc
 import os
 import sys
 
@@ -32,6 +33,7 @@ def main(words=None):
     for stream in (sys.stdout, sys.stderr):
         stream.reconfigure(encoding="utf-8", errors="backslashreplace")
     asked = parser().parse_args(words)
+    gc.disable()  # Traces and reports have a million small parts and no cycles, and to look for cycles takes half of the time.
     try:
         status = COMMANDS[asked.command].run(asked)
         sys.stdout.flush()

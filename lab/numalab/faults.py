@@ -143,14 +143,14 @@ class Form:
 
 def op_faults(path, ops, value):
     """The fault of a value that is to be an object with one of these ops."""
-    name, one_of = name_of(path + ("op",)), f"wanted is one of {', '.join(ops)}"
     if not isinstance(value, dict):
         return [Fault(path, f"{name_of(path) or 'the step'} is {shown(value)}: wanted is an object")]
+    if isinstance(value.get("op"), str) and value["op"] in ops:
+        return []
+    name, one_of = name_of(path + ("op",)), f"wanted is one of {', '.join(ops)}"
     if "op" not in value:
         return [Fault(path, f"{name} is missing: {one_of}")]
-    if not isinstance(value["op"], str) or value["op"] not in ops:
-        return [Fault(path + ("op",), f"{name} is {shown(value['op'])}: {one_of}", close(value["op"], ops))]
-    return []
+    return [Fault(path + ("op",), f"{name} is {shown(value['op'])}: {one_of}", close(value["op"], ops))]
 
 
 # ---- what a schema cannot say
@@ -237,7 +237,7 @@ def step_faults(form, step, limit):
     found = form.keys_faults((), form.steps[op], step)
     if not found and op == "move_pages":
         found = batch_faults(step, limit)
-    return under((), found, op + ": ")
+    return under((), found, op + ": ") if found else found
 
 
 def faults_of(form, top):
@@ -247,7 +247,9 @@ def faults_of(form, top):
         limit = top.get("run_limit") if top.get("version") == 2 else MOST_ENTRIES
         limit = limit if type(limit) is int and limit > 0 else 1
         for k, step in enumerate(top["steps"]):
-            found += under(("steps", k), step_faults(form, step, limit), f"bad step {k}: ")
+            faults = step_faults(form, step, limit)
+            if faults:
+                found += under(("steps", k), faults, f"bad step {k}: ")
     return found
 
 
@@ -256,7 +258,10 @@ def faults_of(form, top):
 
 def unknown_keys(path, schema, value, more=()):
     """Keys of an object that its schema does not name."""
-    known = [*schema["properties"], *more]
+    known = schema["properties"]
+    if all(key in known for key in value):
+        return []
+    known = [*known, *more]
     return [Fault(path + (key,), f"{json.dumps(key)} is an unknown key", close(key, known)) for key in value if key not in known]
 
 
@@ -282,7 +287,9 @@ def ignored_keys(form, top):
     if isinstance(top.get("machine"), dict):
         found += unknown_keys(("machine",), form.top["properties"]["machine"], top["machine"], FOR_PEOPLE)
     for k, step in enumerate(top["steps"] if isinstance(top.get("steps"), list) else []):
-        found += under(("steps", k), ignored_in_step(form, step), f"step {k}: ")
+        ignored = ignored_in_step(form, step)
+        if ignored:
+            found += under(("steps", k), ignored, f"step {k}: ")
     return found
 
 

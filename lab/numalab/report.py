@@ -27,9 +27,9 @@ def is_refused(line):
 
 
 def is_access(text, lines):
-    """Whether a line is that of the next access in flight behind the lines before it."""
+    """Whether a line is that of the next access in flight behind the lines before it, the last of which is a batch's."""
     match = FLIGHT.fullmatch(text)
-    if not match or not lines or lines[-1].op != "move_pages" or is_refused(lines[-1]):
+    if not match or is_refused(lines[-1]):
         return False
     return (match[1], match[2]) == (str(len(lines) - 1), str(len(lines[-1].flight)))
 
@@ -44,7 +44,7 @@ def report_lines(text):
             skipped -= 1
             lines[-1].areas.append(line)
             continue
-        if is_access(line, lines):
+        if lines and lines[-1].op == "move_pages" and is_access(line, lines):
             lines[-1].flight.append(line)
             continue
         match = LINE.fullmatch(line)
@@ -54,7 +54,7 @@ def report_lines(text):
             if not NUMBER.fullmatch(match[3]):
                 raise Bad(f"line {number}: wanted is a number of areas")
             skipped = int(match[3])
-        lines.append(Line(number, match[2], match[3], [], []))
+        lines.append(Line(number, match[2], match[3], [] if match[2] == "move_pages" else (), [] if match[2] == "numa_maps" else ()))
     if skipped:
         raise Bad(f"{skipped} line{' of numa_maps is' if skipped == 1 else 's of numa_maps are'} missing: the report was cut")
     return lines
