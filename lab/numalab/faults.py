@@ -267,7 +267,7 @@ def unknown_keys(path, schema, value, more=()):
 
 def ignored_in_step(form, step):
     """Keys of a step and of its accesses in flight that the program ignores."""
-    if not isinstance(step, dict) or step.get("op") not in form.steps:
+    if not isinstance(step, dict) or not isinstance(step.get("op"), str) or step["op"] not in form.steps:
         return []
     schema = form.steps[step["op"]]
     found, during = unknown_keys((), schema, step, FOR_PEOPLE), step.get("during")

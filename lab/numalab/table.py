@@ -4,7 +4,7 @@ from .notate import Notator, stretches
 from .report import node_ranges
 from .words import PAGE, counted, status_text
 
-WIDTH, MOST_BYTES, MOST_RANGES = 58, 24, 12
+WIDTH, MOST_BYTES, MOST_RANGES, MOST_ROWS = 58, 24, 12, 64
 
 
 class Plain(Notator):
@@ -67,8 +67,8 @@ def data_shown(data):
 class Table:
     """The lines on each step."""
 
-    def __init__(self, top):
-        self.plain, self.steps = Plain(top), top["steps"]
+    def __init__(self, top, all_rows=True):
+        self.plain, self.steps, self.all_rows = Plain(top), top["steps"], all_rows
         self.owner = [node for node, frames in enumerate(node_ranges(top)) for _ in frames]
 
     def row(self, left, right, head=""):
@@ -172,4 +172,6 @@ class Table:
                 frames = f"frame {first['frame']}" if len(group) == 1 else f"frames {first['frame']}..{last['frame']}"
                 right = f"{frames} on node {self.owner[first['frame']]}"
             found.append(self.row("  " + pages_text(first["address"], last["address"], PAGE, 1), right))
+        if len(found) > MOST_ROWS and not self.all_rows:
+            found[MOST_ROWS:] = [f"{'':10}and {len(found) - MOST_ROWS:,} more rows, which --all shows"]
         return found

@@ -21,6 +21,7 @@ def arguments(words):
     words.add_argument("trace", metavar="TRACE", help="a trace, .json or .nt; - is standard input")
     words.add_argument("report", metavar="REPORT", nargs="?", help="its report; the program plays the trace if none is named")
     words.add_argument("--why", action="store_true", help="tell which rule decided, and from what")
+    words.add_argument("--all", action="store_true", help="also where a pagemap has more than 64 rows")
     words.add_argument("--jsonl", action="store_true", help="an object of JSON for each step, for programs")
     words.add_argument("--program", metavar="PATH", help="the program numatrace")
 
@@ -58,8 +59,8 @@ def objects(trace, lines, reasons):
         yield json.dumps(told, separators=(",", ":"))
 
 
-def rows(trace, lines, reasons):
-    table = Table(trace.top)
+def rows(trace, lines, reasons, all_rows):
+    table = Table(trace.top, all_rows)
     for k, line in enumerate(lines):
         yield from table.lines(k, line, reasons and reasons[k])
 
@@ -76,8 +77,9 @@ def run(asked):
     lines = read_report(data, name)
     Layout(trace.top).check(lines)
     reasons = reasons_of(trace, data) if asked.why else None
-    with Progress("step") as progress:
-        for k, row in enumerate((objects if asked.jsonl else rows)(trace, lines, reasons)):
+    told = objects(trace, lines, reasons) if asked.jsonl else rows(trace, lines, reasons, asked.all)
+    with Progress("row") as progress:
+        for k, row in enumerate(told):
             sys.stdout.write(row + "\n")
             if k % 256 == 0:
                 progress.at(k, len(lines))
