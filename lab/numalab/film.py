@@ -146,17 +146,18 @@ class Differs(Exception):
 
 
 def looks_of(top, lines):
-    """For each step what the report tells of the state after it: the nodes whose lists it tells and the processes whose pages."""
-    found = [[[], []] for _ in lines]
+    """For each step what the report tells of the state after it: the nodes whose lists it tells, the processes whose pages it
+    tells, and the number of the moment."""
+    found = [[[], [], -1] for _ in lines]
     bounds = moments_of(lines, Layout(top))
     starts = [moment.after[0] if moment.after else -1 for moment in bounds]
     changes = change_steps(lines)
-    for moment, start in zip(bounds, starts):
+    for number, (moment, start) in enumerate(zip(bounds, starts)):
         place = bisect_right(changes, start)
         end = changes[place] if place < len(changes) else len(lines)
         pids = sorted({top["steps"][k]["pid"] for k in moment.steps if top["steps"][k]["op"] == "pagemap"})
         for k in range(max(start, 0), end):
-            found[k] = [sorted(moment.nodes), pids]
+            found[k] = [sorted(moment.nodes), pids, number]
     return found
 
 
