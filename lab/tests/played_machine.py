@@ -2,10 +2,15 @@
 import errno
 import json
 import os
+import re
+import shutil
+import subprocess
+import sys
+import textwrap
 import unittest
 from unittest import mock
 
-from support import Case, built, needs_program, read
+from support import COMMAND, ROOT, Case, built, needs_program, read
 from numalab import Machine
 from numalab import machine as module
 from numalab.traces import load
@@ -93,6 +98,54 @@ class Calls(Case):
         self.assertEqual(m.vmstat().pgmigrate_success, 4)
         with self.assertRaises(AttributeError):
             print(m.vmstat().statuses)
+
+
+def blocks(words):
+    """The blocks of code in the manual that begin with a line."""
+    return [textwrap.dedent(block) for block in re.findall(r"(?m)^((?:    .*\n|\n(?=    ))+)", read("docs/MANUAL.md"))
+            if textwrap.dedent(block).lstrip("\n").startswith(words)]
+
+
+@needs_program
+class Manual(Case):
+    """The examples of the manual do what they say."""
+
+    def test_calls(self):
+        code, = blocks("from numalab import Machine\nm = ")
+        code, said = re.subn(r"print\(moved\.statuses\) +(\[.*\])", r"assert moved.statuses == \1", code)
+        self.assertEqual(said, 1)
+        here = os.getcwd()
+        self.addCleanup(os.chdir, here)
+        os.chdir(self.there)
+        exec(compile(code, "MANUAL.md", "exec"), {})
+        self.assertEqual(len(load("trace.json").steps), 4)
+
+    def test_pytest(self):
+        code, = blocks("import pytest")
+        self.assertLessEqual(len([line for line in code.splitlines() if line]), 20)
+        raises = mock.Mock(fixture=lambda function: function, raises=lambda kind: self.assertRaises(kind))
+        names = {}
+        with mock.patch.dict(sys.modules, pytest=raises):
+            exec(compile(code, "MANUAL.md", "exec"), names)
+            tests = [function for name, function in names.items() if name.startswith("test_")]
+            for test in tests:
+                test(names["machine"]())
+        self.assertEqual(len(tests), 2)
+
+    def test_integration(self):
+        block, = blocks("./build && ./numalab why")
+        os.makedirs(os.path.join(self.there, "traces"))
+        for name in ("build", "numalab", "numatrace"):
+            program = {"build": "true", "numalab": COMMAND, "numatrace": built()}[name]
+            self.written(name, f'#!/bin/sh\nexec {program} "$@"\n')
+            os.chmod(os.path.join(self.there, name), 0o755)
+        for name in ("evacuate", "shortage"):
+            for ending in (".nt", ".report"):
+                shutil.copy(os.path.join(ROOT, "examples", name + ending), os.path.join(self.there, "traces"))
+        ran = subprocess.run(block, shell=True, cwd=self.there, capture_output=True, check=False)
+        self.assertEqual((ran.returncode, ran.stderr), (0, b""))
+        self.written("traces/shortage.report", "0 spawn ok\n")
+        self.assertEqual(subprocess.run(block, shell=True, cwd=self.there, capture_output=True, check=False).returncode, 1)
 
 
 if __name__ == "__main__":
