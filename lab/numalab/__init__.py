@@ -2,3 +2,4 @@
 from .machine import Machine
 
 __all__ = ["Machine"]
+__version__ = "1.0.0"

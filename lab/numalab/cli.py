@@ -7,6 +7,7 @@ import gc
 import os
 import sys
 
+from . import __version__
 from .commands import picture, show, why, write
 from .program import Failed
 from .traces import Bad
@@ -20,6 +21,7 @@ PROMISE = "Every report comes from the program numatrace, which is proved. Nothi
 def parser():
     """What words there are."""
     top = argparse.ArgumentParser(prog="numalab", description=ABOUT, epilog=PROMISE)
+    top.add_argument("--version", action="version", version=f"numalab {__version__}")
     commands = top.add_subparsers(dest="command", metavar="COMMAND", required=True)
     for name, module in COMMANDS.items():
         words = commands.add_parser(name, help=module.SUMMARY, description=module.__doc__, epilog=PROMISE,

@@ -58,9 +58,10 @@ class Explained(model.Machine):
     # ---- texts
 
     @staticmethod
-    def some(texts):
-        """The first of some texts, and how many more there are."""
-        return "; ".join(texts[:MOST_NAMED]) + (f"; and {len(texts) - MOST_NAMED:,} more" if len(texts) > MOST_NAMED else "")
+    def some(items, text):
+        """The texts of the first of some items, and how many more there are."""
+        more = f"; and {len(items) - MOST_NAMED:,} more" if len(items) > MOST_NAMED else ""
+        return "; ".join(text(item) for item in items[:MOST_NAMED]) + more
 
     def order_text(self, process, policy, order):
         """The order in which nodes are asked for a frame."""

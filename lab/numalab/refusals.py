@@ -188,9 +188,10 @@ def mbind(machine, step):
     yield "EINVAL", end * PAGE > MOST_ADDRESS, f"{step['len']:,} bytes from {address:#x} on end past 2^64 - 1"
     hole = first_hole(process, first, end)
     yield "EFAULT", hole is not None, f"no area is over {(hole or 0) * PAGE:#x}"
-    strays = [f"{number * PAGE:#x} is on node {machine.node(page)}" for number, page in machine.strays(step, first, end)]
+    strays = machine.strays(step, first, end)
     late = " after the moves" if step["flags"] & (MOVE | MOVE_ALL) else ""
-    yield "EIO", bool(strays), f"{FLAGS[STRICT]}: {machine.asked_text(step)} wants other nodes{late}; " + machine.some(strays)
+    yield "EIO", bool(strays), f"{FLAGS[STRICT]}: {machine.asked_text(step)} wants other nodes{late}; " + machine.some(
+        strays, lambda stray: f"{stray[0] * PAGE:#x} is on node {machine.node(stray[1])}")
 
 
 def first_hole(process, first, end):
@@ -205,8 +206,8 @@ def offline(machine, step):
     node = step["node"]
     yield no_node(machine, node)
     yield "EBUSY", machine.online == {node}, f"node {node} is the only one online"
-    stay = [machine.page_text(page) for page in sorted(machine.place) if machine.node(page) == node]
-    yield "EBUSY", True, f"{counted(len(stay), 'page')} of node {node} {'stays' if len(stay) == 1 else 'stay'}: {machine.some(stay)}"
+    stay = [page for page in sorted(machine.place) if machine.node(page) == node]
+    yield "EBUSY", True, f"{counted(len(stay), 'page')} of node {node} {'stays' if len(stay) == 1 else 'stay'}: {machine.some(stay, machine.page_text)}"
 
 
 def node_alone(machine, step):

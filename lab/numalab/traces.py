@@ -2,6 +2,7 @@
 import json
 import os
 import sys
+from contextlib import contextmanager
 
 from .faults import MOST_BYTES, verdict
 
@@ -21,16 +22,23 @@ def read_file(path, most=-1):
         raise Bad(f"{path}: {error.strerror}") from error
 
 
-def write_file(path, data):
-    """Writes text to a file, or to standard output where there is no path."""
+@contextmanager
+def opened(path):
+    """A file to write text to, or standard output where there is no path."""
     if path is None or path == "-":
-        sys.stdout.write(data)
+        yield sys.stdout
         return
     try:
         with open(path, "w", encoding="utf-8", newline="\n") as file:
-            file.write(data)
+            yield file
     except OSError as error:
         raise Bad(f"{path}: {error.strerror}") from error
+
+
+def write_file(path, data):
+    """Writes text to a file, or to standard output where there is no path."""
+    with opened(path) as file:
+        file.write(data)
 
 
 def json_text(top):

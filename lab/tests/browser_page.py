@@ -207,6 +207,10 @@ class Page(Case):
         self.assertTrue(state["plot"].startswith("Heat map of nodes by steps: after step 504, 500 of 1536"))
         self.assertLessEqual(browser.value("document.body.scrollWidth"), 1200)
 
+    def test_nothing_to_show(self):
+        state = self.page("", self.written("empty.nt", "nodes 2x4\n"), self.written("empty.report", "")).state()
+        self.assertEqual((state["told"], state["captions"]), ("before the first step", ["node 0: 0 of 4", "node 1: 0 of 4"]))
+
     def test_numa_maps_alone(self):
         text = "nodes 2x4\nspawn p\nmap p A 3\nwrite p A 61\nnuma_maps p\n"
         trace = self.written("maps.nt", text)

@@ -440,8 +440,8 @@ def check_command(there):
     bytes_in_it, trace = os.path.join(there, "bytes.report"), written(there, "bad.json", "{")
     with open(bytes_in_it, "wb") as file:
         file.write(b"0 spawn ok\n1 \xff\n")
-    for words, line in [([bad, bad], f"{bad} and {bad} are two reports: wanted are a trace, a report, or both"),
-                        ([bad, bad, bad], "wanted are a trace, a report, or both"),
+    for words, line in [([bad, bad], "what comes of several files goes to a folder: -o FOLDER/"), (["-", "-"], "standard input can be named once"),
+                        ([report, "--html"], f"{report}: a page with a slider wants the trace".replace("\n", "?")),
                         ([bad], "line 1: wanted is a list behind the count of its items"),
                         ([bytes_in_it], f"{bytes_in_it}: byte 13 is none of a report"),
                         ([other], f"{other}: No such file or directory".replace("\n", "?")),

@@ -3,8 +3,7 @@ import json
 import re
 import unittest
 
-from support import EXAMPLES, TRACES, U32, Case, fail, loaded, read, run
-from numalab import faults
+from support import TRACES, U32, Case, fail, loaded, read
 from numalab.faults import verdict
 
 U64 = "wanted is a whole number from 0 to 18,446,744,073,709,551,615, in digits alone"

@@ -3,7 +3,7 @@ import json
 import os
 import unittest
 
-from support import EXAMPLES, ROOT, TRACES, Case, loaded, read, run
+from support import EXAMPLES, TRACES, Case, loaded, read, run
 from numalab.commands.write import without_places
 from numalab.faults import Form, verdict
 from numalab.notate import known_keys, notation_of

@@ -9,6 +9,7 @@ import zipfile
 from unittest import mock
 
 from support import LAB, ROOT, Case, read
+import numalab
 from numalab import progress
 
 sys.path.insert(0, LAB)
@@ -25,7 +26,7 @@ class Package(Case):
 
     def test_says_the_same_twice(self):
         project = read("lab/pyproject.toml")
-        for key, value in [("name", wheel_of.NAME), ("version", wheel_of.VERSION), ("description", wheel_of.SUMMARY)]:
+        for key, value in [("name", wheel_of.NAME), ("version", wheel_of.VERSION), ("version", numalab.__version__), ("description", wheel_of.SUMMARY)]:
             self.assertIn(f'{key} = "{value}"', project)
         self.assertIn(re.search(r"numalab = (\S+)", wheel_of.COMMANDS)[1], project)
 

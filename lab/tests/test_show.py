@@ -120,7 +120,7 @@ class Show(Case):
         other = self.written("other.report", read("examples/three_pages.report").replace("1: 7", "1: 4"))
         status, out, err = run("show", "--why", trace, other)
         self.assertEqual((status, "because" in out), (1, False))
-        self.assertEqual(err, "numalab: the plain model has another line 8 than the report, so no reasons are given\n")
+        self.assertEqual(err, f"numalab: {other}: the plain model has another line 8 than the report, so no reasons are given\n")
         for text, fault in [("0 map ok\n", "line 1: the trace has another step 0"), ("0 spawn ok", "the last line has no line feed: the report was cut"),
                             ("0 spawn ok\n1 map 7\n", "line 2: 7 is no answer of map")]:
             report = self.written("bad.report", text)

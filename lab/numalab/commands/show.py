@@ -1,34 +1,33 @@
 """Shows each step of a trace and its answer side by side, addresses in hexadecimal and statuses with their names.
 
-The report is the one of the program, which plays the trace, or the REPORT that is named. With --why each status, access, refusal
+The report is the one of the program, which plays the trace, or the one that is named behind the trace. With --why each status, access, refusal
 and new page has its reason. Reasons come from a plain model of the machine, which is not proved; they are printed only where the
 model's whole report is the one that is shown, and else the status is 1."""
 import json
 import sys
 
 from ..answers import answer_of
-from ..program import played
+from ..inputs import inputs_of, lines_of, out_for, with_report
 from ..progress import Progress
 from ..reasons import explained
-from ..report import Layout, read_report
 from ..table import Table
-from ..traces import Bad, load, read_file
+from ..traces import Bad, opened
 
 SUMMARY = "show steps and answers side by side, and why"
 
 
 def arguments(words):
-    words.add_argument("trace", metavar="TRACE", help="a trace, .json or .nt; - is standard input")
-    words.add_argument("report", metavar="REPORT", nargs="?", help="its report; the program plays the trace if none is named")
+    words.add_argument("files", metavar="FILE", nargs="+", help="traces, .json or .nt, each with its report behind it or not; - is standard input")
     words.add_argument("--why", action="store_true", help="tell which rule decided, and from what")
     words.add_argument("--all", action="store_true", help="also where a pagemap has more than 64 rows")
-    words.add_argument("--jsonl", action="store_true", help="an object of JSON for each step, for programs")
+    words.add_argument("--jsonl", action="store_true", help="an object of JSON for each step; the ending .jsonl of OUT says so as well")
+    words.add_argument("-o", metavar="OUT", dest="out", help="a file, or a folder; standard output if none is named")
     words.add_argument("--program", metavar="PATH", help="the program numatrace")
 
 
-def reasons_of(trace, data):
+def reasons_of(one):
     """For each step its reasons; None where the model has another report."""
-    found, lines = [], []
+    found, lines, trace, data = [], [], one.trace, one.data
     with Progress("the model plays step") as progress:
         for played_lines, reasons in explained(trace.top, progress):
             lines += played_lines
@@ -37,7 +36,7 @@ def reasons_of(trace, data):
     if own == data or data and data.endswith(b"\n") and own.startswith(data):
         return found
     other = next(k for k, pair in enumerate(zip(own.split(b"\n"), data.split(b"\n"))) if pair[0] != pair[1])
-    print(f"numalab: the plain model has another line {other + 1} than the report, so no reasons are given", file=sys.stderr)
+    print(f"numalab: {one.name}: the plain model has another line {other + 1} than the report, so no reasons are given", file=sys.stderr)
     return None
 
 
@@ -65,22 +64,29 @@ def rows(trace, lines, reasons, all_rows):
         yield from table.lines(k, line, reasons and reasons[k])
 
 
-def run(asked):
-    if asked.trace == asked.report == "-":
-        raise Bad("the trace and the report cannot both be standard input")
-    trace = load(asked.trace)
-    if asked.report is None:
-        name, data = asked.trace, played(trace, asked.program)
-    else:
-        name, data = asked.report, read_file(asked.report)
-        trace.check()
-    lines = read_report(data, name)
-    Layout(trace.top).check(lines)
-    reasons = reasons_of(trace, data) if asked.why else None
-    told = objects(trace, lines, reasons) if asked.jsonl else rows(trace, lines, reasons, asked.all)
+def show(one, asked, file, jsonl):
+    """Shows a trace and its report; gives the status."""
+    lines = lines_of(one)
+    reasons = reasons_of(one) if asked.why else None
+    told = objects(one.trace, lines, reasons) if jsonl else rows(one.trace, lines, reasons, asked.all)
     with Progress("row") as progress:
         for k, row in enumerate(told):
-            sys.stdout.write(row + "\n")
+            file.write(row + "\n")
             if k % 256 == 0:
                 progress.at(k, len(lines))
     return 1 if asked.why and reasons is None else 0
+
+
+def run(asked):
+    found, status = inputs_of(asked.files), 0
+    for one in found:
+        if one.trace is None:
+            raise Bad(f"{one.name}: a report is shown beside its trace")
+        jsonl = asked.jsonl or (asked.out or "").endswith(".jsonl")
+        out = out_for(asked.out, one.trace.name, ".jsonl" if jsonl else ".txt", len(found) > 1 and asked.out is not None)
+        one = with_report(one, asked.program)
+        with opened(out) as file:
+            if len(found) > 1 and not jsonl and out is None:
+                file.write(f"{one.trace.name}:\n")
+            status = max(status, show(one, asked, file, jsonl))
+    return status

@@ -5,10 +5,10 @@ of the file's ending, .json or .nt; where it is a folder, each FILE is written t
 import os
 
 from ..faults import Form
+from ..inputs import out_for
 from ..notate import notation_of
-from ..traces import Bad, json_text, name_without_ending, read_file, write_file
+from ..traces import Trace, json_text, read_file, write_file
 from ..translate import trace_from
-from ..traces import Trace
 
 SUMMARY = "write a trace from the notation, or back"
 
@@ -40,17 +40,10 @@ def text_of(path, asked, ending):
 
 
 def run(asked):
-    folder = asked.out is not None and (os.path.isdir(asked.out) or asked.out.endswith(os.sep))
-    if len(asked.files) > 1 and not folder:
-        raise Bad("several files go to a folder: -o FOLDER/")
     for path in asked.files:
         ending = ".nt" if asked.back or path.endswith(".json") else ".json"
-        out = asked.out
-        if folder:
-            out = os.path.join(out, os.path.basename(name_without_ending(path)) + ending)
-        elif out and os.path.splitext(out)[1] in (".nt", ".json"):
+        out = out_for(asked.out, path, ending, len(asked.files) > 1)
+        if out and os.path.splitext(out)[1] in (".nt", ".json"):
             ending = os.path.splitext(out)[1]
-        if out and out != "-" and os.path.exists(out) and os.path.exists(path) and os.path.samefile(out, path):
-            raise Bad(f"{path} would be written over itself")
         write_file(out, text_of(path, asked, ending))
     return 0
