@@ -1,9 +1,10 @@
 """All that is wrong of a trace, as lines for people."""
+import json
 import re
 from itertools import islice
 
 from .faults import MOST_BYTES, Fault, Form, faults_of, ignored_keys
-from .jsontext import first_fault, line_and_column, places
+from .jsontext import doubles, first_fault, has_doubles, line_and_column, places
 from .progress import Progress
 from .reasons import hints
 from .traces import is_notation, json_text
@@ -48,6 +49,9 @@ class Diagnosis:
         self.faults = [self.told(fault, "", 1) for fault in faults]
         kind = "" if self.strict else "warning: "
         self.warnings = [self.told(fault, kind, 0) for fault in ignored]
+        for key, at in doubles(self.text)[:MOST_TOLD] if has_doubles(self.text) else []:
+            line, column = line_and_column(self.text, at)
+            self.warnings.append(f"{self.name}:{line}:{column}: {kind}{json.dumps(key)} stands here again: the last one counts")
         if self.wants_hints and not faults:
             self.hint()
 

@@ -73,6 +73,40 @@ def first_fault(data):
     return value, text, min(faults, key=lambda found: found[0]) if faults else None
 
 
+def has_doubles(text):
+    """Whether a key stands twice in an object of a JSON text."""
+    found = []
+
+    def pairs(items):
+        made = dict(items)
+        if len(made) < len(items):
+            found.append(True)
+        return made
+
+    json.loads(text, object_pairs_hook=pairs)
+    return bool(found)
+
+
+def doubles(text):
+    """The keys that stand in an object before: each with its place."""
+    found, keys, wants_key = [], [], False
+    for match in PIECES.finditer(text):
+        token = match[0]
+        if token in "[{":
+            keys.append(set() if token == "{" else None)
+            wants_key = token == "{"
+        elif token in "]}":
+            keys.pop()
+        elif token == ",":
+            wants_key = keys[-1] is not None
+        elif wants_key:
+            key, wants_key = json.loads(token), False
+            if key in keys[-1]:
+                found.append((key, match.start()))
+            keys[-1].add(key)
+    return found
+
+
 # ---- where values stand
 
 

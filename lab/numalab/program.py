@@ -2,8 +2,10 @@
 import os
 import shutil
 import subprocess
+import time
 
 from .faults import verdict
+from .progress import Progress
 from .traces import Bad
 
 HERE = os.path.dirname(os.path.abspath(__file__))
@@ -37,13 +39,27 @@ def played(trace, asked=None):
     """The report of a trace, as bytes."""
     program = found(asked)
     try:
-        ran = subprocess.run([program], input=trace.data, capture_output=True, check=False)
+        status, out, err = run([program], trace.data)
     except OSError as error:
         raise Failed(f"{program}: {error.strerror}") from error
-    if ran.returncode == 2:
+    told = err.decode("utf-8", "replace").strip().split("\n")[0]
+    if status == 2:
         line = verdict(trace.data)
-        raise Bad(f"{trace.name}: {line if line != 'good' else ran.stderr.decode('utf-8', 'replace').strip()}")
-    if ran.returncode != 0:
-        told = ran.stderr.decode("utf-8", "replace").strip().split("\n")[0]
-        raise Failed(f"{trace.name}: {told or 'the program says nothing'} (status {ran.returncode} of {program})")
-    return ran.stdout
+        raise Bad(f"{trace.name}: {line if line != 'good' else told}")
+    if status != 0:
+        raise Failed(f"{trace.name}: {told or 'the program says nothing'} (status {status} of {program})")
+    return out
+
+
+def run(words, data):
+    """Runs a command on some bytes: its status, standard output and standard error."""
+    begun = time.monotonic()
+    with Progress("seconds that the program plays") as progress, subprocess.Popen(
+            words, stdin=subprocess.PIPE, stdout=subprocess.PIPE, stderr=subprocess.PIPE) as process:
+        while True:
+            try:
+                out, err = process.communicate(data, timeout=0.5)
+                return process.returncode, out, err
+            except subprocess.TimeoutExpired:
+                data = None  # What was given is not given again.
+                progress.at(int(time.monotonic() - begun))

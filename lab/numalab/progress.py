@@ -19,7 +19,9 @@ class Progress:
         if self.shown:
             print("\r\033[K", end="", file=sys.stderr, flush=True)
 
-    def at(self, done, total):
+    def at(self, done, total=None):
+        """Tells how many are done, and of how many where that is known."""
         if self.terminal and time.monotonic() >= self.next:
-            print(f"\r\033[K{self.what}: {done:,} of {total:,}", end="", file=sys.stderr, flush=True)
+            of = "" if total is None else f" of {total:,}"
+            print(f"\r\033[K{self.what}: {done:,}{of}", end="", file=sys.stderr, flush=True)
             self.shown, self.next = True, time.monotonic() + PAUSE

@@ -1,6 +1,7 @@
 """From a file in the notation to a trace: lines, blocks and faults."""
 from .faults import MOST_BYTES
 from .notation import NAME, Words, Wrong, guessed
+from .progress import Progress
 from .statements import BLOCKS, MACHINE, STEPS, Translation
 from .traces import Bad
 
@@ -17,6 +18,11 @@ class File:
         except UnicodeDecodeError as error:
             self.faults.append((data.count(b"\n", 0, error.start) + 1, 1, "no UTF-8"))
             return
+        with Progress(f"{name}: steps") as self.progress:
+            self.look(text)
+
+    def look(self, text):
+        """Plays all lines, or tells what is wrong with their form."""
         self.lines = [self.words(number, line) for number, line in enumerate(text.split("\n"), 1)]
         self.ends = self.block_ends()
         if not self.faults:
@@ -57,6 +63,7 @@ class File:
             words, at = self.lines[k], k
             k = self.ends.get(k, k) + 1
             words.taken = 0
+            self.progress.at(len(self.made.steps))
             self.made.line = at + 1
             if words.words:
                 try:

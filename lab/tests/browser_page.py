@@ -6,6 +6,7 @@ import os
 import select
 import shutil
 import subprocess
+import sys
 import tempfile
 import unittest
 
@@ -30,6 +31,10 @@ STATE = """JSON.stringify({told: document.getElementById("told").textContent, so
   hidden: [...document.querySelectorAll("figure")].filter(one => one.hidden).length,
   table: [...document.querySelectorAll("#table tr")].map(row => [...row.children].map(one => one.textContent)),
   says: document.getElementById("slider").getAttribute("aria-valuetext"), plot: document.getElementById("plot").getAttribute("aria-label")})"""
+
+
+if CHROMIUM is None:
+    print("browser_page.py: there is no Chromium, so the page is not tried in one: apt-get install chromium", file=sys.stderr)
 
 
 class Browser:

@@ -44,15 +44,16 @@ class Package(Case):
 class Waiting(unittest.TestCase):
     """Progress is told at a terminal alone, and only of what takes long."""
 
-    def shown(self, stream, patience):
+    def shown(self, stream, patience, *done):
         with mock.patch.object(sys, "stderr", stream), mock.patch.object(progress, "PATIENCE", patience):
             with progress.Progress("step") as told:
-                told.at(3, 10)
+                told.at(*(done or (3, 10)))
         return stream.getvalue()
 
     def test_progress(self):
         self.assertEqual(self.shown(Terminal(), 0), "\r\033[Kstep: 3 of 10\r\033[K")
         self.assertEqual(self.shown(Terminal(), 60), "")
+        self.assertEqual(self.shown(Terminal(), 0, 3), "\r\033[Kstep: 3\r\033[K")
         self.assertEqual(self.shown(io.StringIO(), 0), "")
 
 

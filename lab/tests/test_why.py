@@ -78,6 +78,13 @@ class Why(Case):
         known = read("examples/three_pages.json").replace('"pages":3', '"pages":3,"at":"x:1","note":[]').replace('"version"', '"$schema":"","version"')
         self.assertEqual(self.why(known, "--strict"), (0, "good\n", ""))
 
+    def test_doubles(self):
+        text = read("examples/three_pages.json").replace('"pid":1,"uid"', '"pid":1,"pid":2,"note":{"a":[{"a":0}],"b":{}},\n"uid":7,"uid"')
+        told = ['x.json:2:23: {}"pid" stands here again: the last one counts', 'x.json:3:9: {}"uid" stands here again: the last one counts']
+        status, out, _ = self.why(text, "--no-hints")
+        self.assertEqual((status, out.splitlines()), (0, [line.format("warning: ") for line in told] + ["good"]))
+        self.assertEqual(self.why(text, "--strict")[:2], (2, "".join(line.format("") + "\n" for line in told)))
+
     def test_hints(self):
         for text, hint in HINTS:
             status, out, err = self.why(HEAD + text + "\n", name="x.nt")
