@@ -52,7 +52,7 @@ class Diagnosis:
         for key, at in doubles(self.text)[:MOST_TOLD] if has_doubles(self.text) else []:
             line, column = line_and_column(self.text, at)
             self.warnings.append(f"{self.name}:{line}:{column}: {kind}{json.dumps(key)} stands here again: the last one counts")
-        if self.wants_hints and not faults:
+        if self.wants_hints and not self.bad:
             self.hint()
 
     def hint(self):
