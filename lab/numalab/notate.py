@@ -6,6 +6,8 @@ from .statements import tier_distances
 from .words import flags_text, mode_text, nodes_text
 
 MOST_NAMED = 1 << 35
+# Pages farther apart than this are not told as one stretch.
+MOST_APART = 16 * PAGE
 LETTERS = "ABCDEFGHIJKLMNOPQRSTUVWXYZ"
 # Steps that differ in their address alone are one statement over several pages.
 BY_PAGE = ("read", "write", "pin", "unpin")
@@ -97,7 +99,7 @@ class Notator:
     def joins(self, pid, before, address):
         """Whether an address goes on as those before it do: whole pages, one distance, one area."""
         step = address - before[-1]
-        if step <= 0 or step % PAGE or address % PAGE or len(before) > 1 and step != before[-1] - before[-2]:
+        if not 0 < step <= MOST_APART or step % PAGE or address % PAGE or len(before) > 1 and step != before[-1] - before[-2]:
             return False
         return self.area_at(pid, before[-1]) == self.area_at(pid, address)
 

@@ -1,6 +1,6 @@
 """Steps and their answers side by side, as lines for people."""
 from .answers import answer_of
-from .notate import Notator, stretches
+from .notate import MOST_APART, Notator, stretches
 from .report import node_ranges
 from .words import PAGE, counted, status_text
 
@@ -132,7 +132,7 @@ class Table:
             if told or group[-1][1:3] != row[1:3]:
                 return False
             apart = row[0] - group[-1][0]
-            return apart >= 0 and apart % PAGE == 0 and (len(group) == 1 or apart == group[1][0] - group[0][0])
+            return 0 <= apart <= MOST_APART and apart % PAGE == 0 and (len(group) == 1 or apart == group[1][0] - group[0][0])
 
         found = []
         for group in stretches(rows, joins):
