@@ -10,18 +10,21 @@
 
 A call is made a step of a trace, and gives its answer at once; what is in the answer is known once it is asked for. Then the
 program plays all steps so far in one go, and each call that it refused raises an OSError with its errno: the one that is asked,
-or the first before it that nobody has asked. So a list of calls costs one play, and no refusal is lost. The calls of this module
-are not proved; the report that the program gives is."""
+or the first before it that nobody has asked. So a list of calls costs one play, and no refusal is lost. What has not the form of
+a step, as a negative number, is a ValueError at once. The calls of this module are not proved; the report that the program gives
+is."""
 import errno
 import os
 import sys
 
 from .answers import answer_of
+from .faults import MOST_ENTRIES, Form, machine_faults, step_faults
+from .notate import notation_of
 from .notation import FIRST_ADDRESS, next_free
 from .program import played
 from .report import Layout, read_report
 from .statements import tier_distances
-from .traces import Trace, json_text, write_file
+from .traces import Bad, Trace, json_text, write_file
 from .words import FLAGS, MODES, PAGE
 
 MOVE, MOVE_ALL, STRICT = 2, 4, 1
@@ -151,18 +154,27 @@ class Machine:
         nodes = list(nodes)
         version = {"version": 1} if run_limit is None else {"version": 2, "run_limit": run_limit}
         rows = [list(row) for row in distance] if distance is not None else tier_distances([0] * len(nodes))
-        self._top = {**version, "machine": {"nodes": nodes, "distance": rows}, "steps": []}
+        self._top, self._form = {**version, "machine": {"nodes": nodes, "distance": rows}, "steps": []}, Form()
+        self._refuse(machine_faults(self._form, self._top))
         self._program, self._played, self._report, self._told = program, [], "", set()
         self._next, self._pid = FIRST_ADDRESS, 0
 
     # ---- calls
+
+    @staticmethod
+    def _refuse(faults):
+        """What breaks the form of a trace is no call: a ValueError, at once."""
+        if faults:
+            raise Bad(faults[0].text)
 
     def _step(self, op, **keys):
         """One more step. Where it was asked for is kept for faults."""
         frame = sys._getframe(1)
         while frame.f_back and frame.f_code.co_filename == __file__:
             frame = frame.f_back
-        self._top["steps"].append({"op": op, **keys, "at": f"{frame.f_code.co_filename}:{frame.f_lineno}"})
+        step = {"op": op, **keys, "at": f"{frame.f_code.co_filename}:{frame.f_lineno}"}
+        self._refuse(step_faults(self._form, step, self._top.get("run_limit", MOST_ENTRIES)))
+        self._top["steps"].append(step)
         return Answer(self, len(self._top["steps"]) - 1)
 
     def _area(self, process, op, addr, pages, **keys):
@@ -269,8 +281,6 @@ class Machine:
     def save(self, path):
         """Writes the calls so far as a trace, and where the path ends in .nt as notation."""
         if str(path).endswith(".nt"):
-            from .faults import Form
-            from .notate import notation_of
-            write_file(str(path), notation_of(Form(), self._top))
+            write_file(str(path), notation_of(self._form, self._top))
         else:
             write_file(str(path), json_text(self._top))

@@ -13,7 +13,7 @@ BUILT = os.path.join(os.path.dirname(os.path.dirname(HERE)), "crates", "numatrac
 NONE = "there is no program numatrace: ./build makes it, and --program PATH or the variable NUMATRACE names another"
 
 
-class Failed(Exception):
+class Failed(RuntimeError):
     """The program did not give a report. The command ends with status 1."""
 
 

@@ -7,7 +7,7 @@ from contextlib import contextmanager
 from .faults import MOST_BYTES, verdict
 
 
-class Bad(Exception):
+class Bad(ValueError):
     """What is wrong of a trace, a report or a word. Its command ends with status 2."""
 
 

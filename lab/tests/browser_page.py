@@ -196,6 +196,21 @@ class Page(Case):
             self.choose(browser, "node", node)
             self.assertEqual(browser.state()["hidden"], hidden)
 
+    def test_frames_as_text(self):
+        browser = self.example("shared_page", "#8")
+        browser.value("document.getElementById('listed').open = true")
+        text = "document.getElementById('frames').textContent"
+        for _ in range(50):
+            if browser.value(text):
+                break
+        self.assertEqual(browser.value(text).splitlines(), [
+            "frame 0 on node 0: 0x10000 of process 1, 0x20000 of process 2; asked for, and stayed: -13 EACCES",
+            "frame 4 on node 1: 0x11000 of process 1; arrived in this step"])
+        self.choose(browser, "process", "2")
+        self.assertEqual(len(browser.value(text).splitlines()), 1)
+        self.choose(browser, "node", "1")
+        self.assertEqual(browser.value(text), "none")
+
     def test_pages_that_stay(self):
         state = self.example("why_not_moved", "#6").state()
         self.assertIn("2 left, 2 arrived, 1 stayed", state["told"])

@@ -75,6 +75,19 @@ class Calls(Case):
         self.assertEqual((known.error, bytes(p.read(a[0])), p.read(a[0]).error), ("EFAULT", b"a", None))
         self.assertIn("error EFAULT", m.report())
 
+    def test_no_calls(self):
+        m, p, a = self.three_pages()
+        for call, words in [(lambda: p.map(pages=-1), "map: pages is -1: wanted is"), (lambda: m.free("0"), 'free: node is "0": wanted is'),
+                            (lambda: m.move_pages(p, a, nodes=[1]), "move_pages: nodes has 1 element: wanted are 3"),
+                            (lambda: m.move_pages(p, a), "move_pages: nodes[0] is null: wanted is"),
+                            (lambda: Machine([4, 0]), "machine.nodes[1] is 0: wanted is"),
+                            (lambda: Machine([4, 4], distance=[[10]]), "machine.distance has 1 rows: wanted is")]:
+            with self.assertRaises(ValueError) as caught:
+                call()
+            self.assertTrue(str(caught.exception).startswith(words), caught.exception)
+        self.assertEqual(len(m.trace()["steps"]), 5)
+        m.check()
+
     def test_other_calls(self):
         m = Machine(nodes=[4, 4, 4], distance=[[10, 20, 30], [20, 10, 20], [30, 20, 10]], run_limit=1, program=built())
         p, q = m.spawn(home=0), m.spawn(home=1, uid=2, privileged=True, pid=9)
