@@ -6,7 +6,6 @@ import os
 import select
 import shutil
 import subprocess
-import sys
 import tempfile
 import unittest
 
@@ -31,10 +30,6 @@ STATE = """JSON.stringify({told: document.getElementById("told").textContent, so
   hidden: [...document.querySelectorAll("figure")].filter(one => one.hidden).length,
   table: [...document.querySelectorAll("#table tr")].map(row => [...row.children].map(one => one.textContent)),
   says: document.getElementById("slider").getAttribute("aria-valuetext"), plot: document.getElementById("plot").getAttribute("aria-label")})"""
-
-
-if CHROMIUM is None:
-    print("browser_page.py: there is no Chromium, so the page is not tried in one: apt-get install chromium", file=sys.stderr)
 
 
 class Browser:
@@ -112,7 +107,7 @@ class Browser:
         self.input.close()
 
 
-@unittest.skipUnless(CHROMIUM, "there is no Chromium: apt-get install chromium")
+@unittest.skipUnless(CHROMIUM, "the page is not tried in a browser, as there is no Chromium: apt-get install chromium")
 class Page(Case):
     """One browser for all tests, which each open a page."""
 
