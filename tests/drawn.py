@@ -1,6 +1,6 @@
 #!/usr/bin/env python3
-"""Plays drawn traces on the built program and on the plain machine of lab/numalab/model.py, which have to give the same reports. First the
-plain machine plays each trace that has a report beside it.
+"""Plays drawn traces on the built program and on the plain machine of lab/numalab/model.py, which have to give the same reports.
+First the plain machine plays each trace that has a report beside it.
 
 `tests/drawn.py [PROGRAM]` takes crates/numatrace/out/numatrace, as `rt ci` and `./build` leave it, and plays 2,000 traces with 1,
 2 or 3 workers. A trace is drawn from its number alone, and --trace writes the one of a number. Nothing is printed where all is

@@ -4,9 +4,9 @@ mutated from those of examples/ and tests/traces/, the greatest that there are, 
 little memory.
 
 `tests/hostile.py [PROGRAM]` takes crates/numatrace/out/numatrace, as `rt ci` and `./build` leave it. Tables say what the program has
-to say of some traces, and lab/numalab/faults.py, which knows the schema of traces, says it of the others. Nothing is printed where all
-is well; else what differs, and then the status is 1. With --short it makes only the parts that take seconds, with --times it
-tells what each part took. The traces are the same each time."""
+to say of some traces, and lab/numalab/faults.py, which knows the schema of traces, says it of the others. Nothing is printed
+where all is well; else what differs, and then the status is 1. With --short it makes only the parts that take seconds, with
+--times it tells what each part took. The traces are the same each time."""
 import argparse
 import collections
 import fcntl

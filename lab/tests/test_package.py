@@ -28,6 +28,7 @@ class Package(Case):
         project = read("lab/pyproject.toml")
         for key, value in [("name", wheel_of.NAME), ("version", wheel_of.VERSION), ("version", numalab.__version__), ("description", wheel_of.SUMMARY)]:
             self.assertIn(f'{key} = "{value}"', project)
+        self.assertEqual(read("VERSION").strip(), wheel_of.VERSION)
         self.assertIn(re.search(r"numalab = (\S+)", wheel_of.COMMANDS)[1], project)
 
     def test_wheel(self):

@@ -153,6 +153,18 @@ class Reasons(unittest.TestCase):
                 check_told(self, step, lines, reasons)
 
 
+# How the reason of each status begins or ends.
+WORDS = {-14: ("no area is there", "the page of zeros"), -2: ("nothing was touched there",), -13: ("process",), -16: ("it has",),
+         -12: ("node",), None: ("it moved from frame", "it is there already", "it is in frame")}
+ENDS = {-13: ("it too",), -16: ("pin", "pins"), -12: ("no free frame", "frame", "frames")}
+
+
+def check_status(case, status, text):
+    """The reason of a status speaks of it, and of no other."""
+    case.assertTrue(text.startswith(WORDS[status if status < 0 else None]), (status, text))
+    case.assertTrue(text.endswith(ENDS.get(status, "")), (status, text))
+
+
 def check_told(case, step, lines, reasons):
     """Each status, access and refusal has its reason, which does not speak of another error."""
     answer = lines[0].split(" ", 2)[2]
@@ -162,6 +174,8 @@ def check_told(case, step, lines, reasons):
         case.assertEqual(about.count(None) > 0, True, (step, lines))
     elif step["op"] in ("move_pages", "query"):
         case.assertEqual([one for one in about if isinstance(one, int)], list(range(len(step["pages"]))), (step, lines))
+        for status, reason in zip(answer.split(" ")[1:], [one for one in reasons if isinstance(one.about, int)]):
+            check_status(case, int(status), reason.text)
         flights = {str(j) for j in range(len(step.get("during", []) if step["op"] == "move_pages" else []))}
         case.assertEqual({one for one in about if isinstance(one, str)}, flights, (step, lines))
     elif step["op"] in ("read", "write"):

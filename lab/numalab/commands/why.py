@@ -8,6 +8,7 @@ import json
 from ..diagnosis import Diagnosis
 from ..faults import MOST_BYTES, Form, strict_schema
 from ..traces import read_file
+from ..words import printable
 
 SUMMARY = "say all that is wrong with a trace, and where"
 
@@ -28,8 +29,8 @@ def run(asked):
     for path in asked.files:
         told = Diagnosis(path, read_file(path, MOST_BYTES + 1), asked.strict, not asked.no_hints)
         for line in told.lines():
-            print(line)
+            print(printable(line))
         if not told.bad:
-            print("good" if len(asked.files) == 1 else f"{path}: good")
+            print("good" if len(asked.files) == 1 else printable(f"{path}: good"))
         status = max(status, 2 if told.bad else 0)
     return status
