@@ -5,14 +5,14 @@ from .progress import Progress
 from .statements import BLOCKS, MACHINE, STEPS, Translation
 from .traces import Bad
 
-MOST_FAULTS, MOST_TIMES = 100, 1 << 24
+MOST_FAULTS, MOST_TIMES = 100, 1 << 22
 
 
 class File:
     """The lines of a file, as they are played, and their faults as (line, column, text)."""
 
     def __init__(self, data, name):
-        self.made, self.faults = Translation(name), []
+        self.made, self.faults, self.times = Translation(name), [], 0
         try:
             text = data.decode("utf-8")
         except UnicodeDecodeError as error:
@@ -101,13 +101,17 @@ class File:
 
     def repeat(self, words, at):
         """Plays a block as often as is said."""
-        times, name = self.made.number(words.next("how often"), MOST_TIMES), None
+        word = words.next("how often")
+        times, name = self.made.number(word), None
         if words.has("as"):
-            word = words.next("a name")
-            if not NAME.fullmatch(word.text) or not word.text.isidentifier():
-                raise Wrong(f"{word.text} is no name for a number", word.column)
-            name = word.text
+            named = words.next("a name")
+            if not NAME.fullmatch(named.text) or not named.text.isidentifier():
+                raise Wrong(f"{named.text} is no name for a number", named.column)
+            name = named.text
         words.done("as")
+        self.times += times
+        if self.times > MOST_TIMES:
+            raise Wrong(f"blocks would be played over {MOST_TIMES:,} times", word.column)
         before = dict(self.made.variables)
         for number in range(times):
             if name:

@@ -72,6 +72,7 @@ WRONG = [
     ("map p B 5K", [(4, 9, "5K is not whole pages of 4K")]),
     ("free cxl", [(4, 6, "cxl is no node")]),
     ("nodes 4", [(4, 1, "nodes stands before all steps")]),
+    ("repeat 4000\nrepeat 4000\nend\nend", [(5, 8, "blocks would be played over 4,194,304 times")]),
     ("repeat 2\nlook", [(4, 1, "the block has no end")]),
     ("end", [(4, 1, "end ends no block")]),
     ("repeat 3\nread q A\nend", [(5, 6, "there is no process q")]),
