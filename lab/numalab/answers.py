@@ -7,6 +7,7 @@ from .words import ERRORS
 
 NUMBERS = {name: number for number, name in ERRORS.items()}
 AREA = re.compile(r"([0-9a-f]{8,}) (\S+)(?: anon=(\d+))?(?: mapmax=(\d+))?((?: N\d+=\d+)*)(?: kernelpagesize_kB=4)?")
+DATA = re.compile("(?:[0-9a-f]{2})+")
 VMSTAT = re.compile(r"pgmigrate_success (\d+) pgmigrate_fail (\d+)")
 
 
@@ -70,12 +71,12 @@ def simple_answer(line):
         match = VMSTAT.fullmatch(answer)
         if match:
             return {"pgmigrate_success": int(match[1]), "pgmigrate_fail": int(match[2])}
-    elif op == "map" and answer.startswith("segment="):
+    elif op == "map" and answer.startswith("segment=") and answer[8:].isdecimal():
         return {"segment": int(answer[8:])}
-    elif op == "read":
+    elif op == "read" and DATA.fullmatch(answer):
         return {"data": answer}
-    elif op in ("mbind", "migrate_pages") and answer.isdigit():
+    elif op in ("mbind", "migrate_pages") and answer.isdecimal():
         return {"answer": int(answer)}
-    elif answer == "ok":
+    elif answer == "ok" and op != "read":
         return {"ok": True}
     raise Bad(f"line {line.number}: {answer[:40]} is no answer of {op}")

@@ -1,12 +1,14 @@
 """What each statement of the notation means: the steps of a trace."""
 import re
 
-from .faults import MOST_BYTES, MOST_ENTRIES
+from .faults import MOST_BYTES, MOST_ENTRIES, Form, step_faults
 from .notation import (FARTHER, FIRST_ADDRESS, LEAST_STEP, MOST, NAME, NEAR, NUMBER, PAGE, Area, Numbers, Word, Wrong, count,
                        data_of, guessed, next_free)
 
 U32 = (1 << 32) - 1
 MOST_STEPS = MOST_BYTES // LEAST_STEP
+# Steps with sets, nodes or runs that may be out of range; of all others each number is in range as it is read.
+WITH_LISTS = ("spawn", "move_pages", "migrate_pages", "mbind")
 
 
 def tier_distances(tiers):
@@ -20,7 +22,7 @@ class Translation(Numbers):
 
     def __init__(self, name):
         super().__init__()
-        self.name, self.line = name, 0
+        self.name, self.line, self.form = name, 0, Form()
         self.tiers, self.rows, self.run_limit = [], [], None
         self.steps, self.alive, self.maps, self.next_address = [], [], 0, FIRST_ADDRESS
 
@@ -37,7 +39,11 @@ class Translation(Numbers):
     def step(self, **keys):
         if len(self.steps) >= MOST_STEPS:
             raise Wrong(f"the trace would have more than {MOST_BYTES:,} bytes", 1)
-        self.steps.append({**keys, **self.at()})
+        step = {**keys, **self.at()}
+        if keys["op"] in WITH_LISTS:
+            for fault in step_faults(self.form, step, self.run_limit or MOST_ENTRIES):
+                raise Wrong(fault.text, 1)
+        self.steps.append(step)
 
     def new_name(self, words, what):
         """A name that may be given, with its place."""
@@ -111,7 +117,7 @@ class Translation(Numbers):
                 keys["privileged"] = option == "privileged"
             else:
                 words.done("pid", "uid", "home", "allowed", "privileged", "unprivileged")
-        pid = keys.get("pid", int(word.text) if NUMBER.fullmatch(word.text) else self.free_pid())
+        pid = keys.get("pid", self.number(word, U32) if NUMBER.fullmatch(word.text) else self.free_pid())
         self.processes[word.text] = pid
         flag = {"privileged": keys["privileged"]} if "privileged" in keys else {}
         self.step(op="spawn", pid=pid, uid=keys.get("uid", 1000), home=keys.get("home", 0),
@@ -120,7 +126,7 @@ class Translation(Numbers):
             self.alive.append(pid)
 
     def free_pid(self):
-        return max([0, *self.processes.values()]) + 1
+        return min(max([0, *self.processes.values()]) + 1, U32)
 
     def area_options(self, words, more):
         """What may stand behind a new area."""

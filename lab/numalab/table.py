@@ -2,6 +2,7 @@
 from .answers import answer_of
 from .notate import MOST_APART, Notator, stretches
 from .report import node_ranges
+from .traces import Bad
 from .words import PAGE, counted, status_text
 
 WIDTH, MOST_BYTES, MOST_RANGES, MOST_ROWS = 58, 24, 12, 64
@@ -77,54 +78,57 @@ class Table:
             return f"{head:>6}  {left}\n{'':{WIDTH + 2}}  {right}" if right else f"{head:>6}  {left}"
         return f"{head:>6}  {left:<{WIDTH - 6}}  {right}".rstrip()
 
-    def head(self, k, line):
+    def head(self, k, line, value=None):
         """A step, and its answer as far as it stands on its own line."""
         step = self.steps[k]
         text = self.plain.text(step if step["op"] != "move_pages" else {key: step[key] for key in step if key != "during"})
-        return text, self.answer(step, line)
+        return text, self.answer(line, value or answer_of(line))
 
     def lines(self, k, line, reasons=None):
         """The lines on step k, with reasons by what they are about where these are told."""
-        step, told = self.steps[k], {}
+        told, value = {}, answer_of(line)
         for about, text in reasons or ():
             told.setdefault(about, []).append(text)
-        found = [self.row(*self.head(k, line), str(k))]
+        found = [self.row(*self.head(k, line, value), str(k))]
         found += [self.because(text) for text in told.get(None, ())]
-        if not line.answer.startswith("error "):
-            found += self.parts(step, line, told)
+        if "error" not in value:
+            found += self.parts(self.steps[k], line, value, told)
         return found
 
     @staticmethod
     def because(text):
         return f"{'':8}   because: {text}"
 
-    def answer(self, step, line):
+    @staticmethod
+    def answer(line, value):
         """The answer of a step on its own line."""
-        if line.answer.startswith("error "):
-            return "error " + line.answer[6:]
+        if "error" in value or line.op in ("vmstat", "map"):
+            return line.answer
         if line.op in ("move_pages", "query"):
-            count = line.answer.split(":")[0]
-            return f"{count} failed" if line.op == "move_pages" else count
+            return f"{value['answer']} failed" if line.op == "move_pages" else str(value["answer"])
         if line.op == "read":
             return data_shown(line.answer)
         if line.op == "free":
-            frames = answer_of(line)["frames"]
+            frames = value["frames"]
             return f"{counted(len(frames), 'free frame')}" + (f": {ranges_text(frames)}" if frames else "")
         if line.op == "pagemap":
-            return counted(int(line.answer.split(":")[0]), "entry", "entries")
-        return counted(int(line.answer), "area") if line.op == "numa_maps" else line.answer
+            return counted(len(value["entries"]), "entry", "entries")
+        return counted(len(value["areas"]), "area") if line.op == "numa_maps" else line.answer
 
-    def parts(self, step, line, told):
+    def parts(self, step, line, value, told):
         """The lines under a step: its entries, its accesses in flight, its pages or its areas."""
         if line.op in ("move_pages", "query"):
-            return self.entries(step, line, told) + self.flights(step, line, told)
+            if len(value["statuses"]) != len(step["pages"]):
+                raise Bad(f"line {line.number}: wanted are {counted(len(step['pages']), 'status', 'statuses')}")
+            return self.entries(step, value["statuses"], told) + self.flights(step, line, told)
         if line.op == "pagemap":
-            return self.pagemap(answer_of(line)["entries"])
+            if any((entry["frame"] or 0) >= len(self.owner) for entry in value["entries"]):
+                raise Bad(f"line {line.number}: a frame is none of the trace")
+            return self.pagemap(value["entries"])
         return [self.row("  " + area, "") for area in line.areas]
 
-    def entries(self, step, line, told):
+    def entries(self, step, statuses, told):
         """Entries of one target and status at one distance are one line; with reasons each is one."""
-        statuses = answer_of(line)["statuses"]
         targets = step.get("nodes") or [None] * len(statuses)
         rows = zip(step["pages"], targets, statuses, range(len(statuses)))
 

@@ -1,5 +1,5 @@
 """From a file in the notation to a trace: lines, blocks and faults."""
-from .faults import MOST_BYTES
+from .faults import MOST_BYTES, machine_faults
 from .notation import NAME, Words, Wrong, guessed
 from .progress import Progress
 from .statements import BLOCKS, MACHINE, STEPS, Translation
@@ -29,6 +29,15 @@ class File:
             self.play(0, len(self.lines))
         if not self.faults and not self.made.nodes:
             self.faults.append((1, 1, "nodes is missing: wanted is a line as `nodes 2x4`"))
+        elif not self.faults:
+            top = {**self.made.top, "steps": []}
+            self.faults = [(self.line_of(fault.path), 1, fault.text) for fault in machine_faults(self.made.form, top)]
+
+    def line_of(self, path):
+        """The first line that tells a part of the machine."""
+        word = "run_limit" if path[0] == "run_limit" else path[1]
+        lines = [k + 1 for k, words in enumerate(self.lines) if words.words and words.words[0].text == word]
+        return lines[0] if lines else 1
 
     def words(self, number, line):
         try:

@@ -1,6 +1,7 @@
 """The notation: what it means, the way back, the examples, and its faults."""
 import json
 import os
+import random
 import unittest
 
 from support import EXAMPLES, TRACES, Case, loaded, read, run
@@ -11,7 +12,12 @@ from numalab.traces import json_text
 from numalab.translate import translated
 
 HEAD = "nodes 2x4\nspawn p uid 100\nmap p A 4\n"
-DRAWN = 300
+DRAWN, MUTATED = 300, 2000
+# Words that a mutated file has somewhere.
+ODD = ["!", "!!0", "0-", "-", "[", "A[", "A[]", "A[:]", "A[::0]", "A[1:0]", "A+", "A[0]+", "0x", "1x", "x", '"', '""', '"\\"', '"\\u"', "1M*", "A[i]",
+       "18446744073709551616", "18446744073709551615", "99999999999999999999", "1K", "repeat", "end", "during", "i", "as", "of", "to", "none",
+       "all", "A[*]+1", "0[0:0]", "0[5:1]", "2x", "64x1", "65x1", "0x4", "1-0", "0-63", "63-0", "64", "#", "/", ",", ",,", "A,B", "\x00", "\u00e4",
+       "A[1%0]", "pages", "len", "at", "look", "nodes", "distance", "A", "p1", "flags", "MPOL_MF_MOVE|", "MPOL_BIND", "16385", "4294967296"]
 
 # A statement behind the head, and the steps that it makes.
 SAID = [
@@ -67,6 +73,8 @@ WRONG = [
     ("move_pages p 0[0:16385] to 1", [(4, 14, "0[0:16385] are 16,385 pages, and a batch has at most 16,384")]),
     ("mbind p A MPOL_BID 1", [(4, 11, "MPOL_BID is no mode: did you mean MPOL_BIND?")]),
     ("mbind p A[::2] MPOL_BIND 1", [(4, 9, "A[::2] has gaps, where pages side by side are wanted")]),
+    ("spawn q allowed 64", [(4, 1, "spawn: allowed[0] is 64: wanted is a whole number from 0 to 63, in digits alone")]),
+    ("move_pages p A[0] to 1 during\nrun 1 read p A\nend", [(4, 1, "move_pages: during[0].run is 1: wanted is a number below 1, the number of runs")]),
     ("spawn p hom 1", [(4, 9, "hom is not wanted here: did you mean home?")]),
     ("spawn p home 0-1", [(4, 14, "0-1 are 2 nodes, where one is wanted")]),
     ("map p B 5K", [(4, 9, "5K is not whole pages of 4K")]),
@@ -120,8 +128,40 @@ class Notation(Case):
     def test_other_files(self):
         for data, fault in [(b"", (1, 1, "nodes is missing: wanted is a line as `nodes 2x4`")), (b"nodes 1\n\xff", (2, 1, "no UTF-8")),
                             (b"look", (1, 1, "the nodes come first, as `nodes 2x4`")),
+                            (b"nodes 2x1\nvmstat\n\n", None), (b"run_limit 0\nnodes 1", (1, 1, "run_limit is 0: wanted is a whole number from 1 to 16,384, in digits alone")),
+                            (b"nodes 4, 0", (1, 1, "machine.nodes[1] is 0: wanted is a whole number from 1 to 16,384, in digits alone")),
+                            (b"nodes 2x4\n\ndistance 10 20 / 20 10 / 10", (3, 1, "machine.distance has 3 rows: wanted is one for each of 2 nodes")),
                             (b"nodes 65x1", (1, 7, "65x1 makes 65 nodes, where 1 to 64 are wanted"))]:
-            self.assertEqual(translated(data, "x.nt")[1][0], fault, data)
+            self.assertEqual((translated(data, "x.nt")[1] or [None])[0], fault, data)
+
+
+def mutated(rng, text):
+    """A file in the notation with up to four words or lines changed."""
+    lines = text.split("\n")
+    for _ in range(rng.randint(1, 4)):
+        k = rng.randrange(len(lines))
+        words = lines[k].split(" ")
+        place, other = rng.randrange(len(words)), rng.choice(ODD)
+        change = rng.randrange(4)
+        if change == 3:
+            lines.insert(k, rng.choice(lines))
+            continue
+        words[place : place + (change != 1)] = [other] if change < 2 else []
+        lines[k] = " ".join(words)
+    return "\n".join(lines)
+
+
+class Odd(Case):
+    """Whatever stands in a file, what is said of it is a fault, or a good trace."""
+
+    def test_mutated(self):
+        rng = random.Random(7)
+        texts = [read(path[: -len("json")] + "nt") for path in EXAMPLES]
+        for _ in range(MUTATED):
+            text = mutated(rng, rng.choice(texts))
+            top, faults = translated(text.encode(), "x.nt")
+            if not faults:
+                self.assertEqual(verdict(json_text(top).encode()), "good", text)
 
 
 class Back(Case):
