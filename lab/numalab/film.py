@@ -113,6 +113,7 @@ class Film:
         if self.last - self.first >= MOST_STEPS:
             raise Bad(f"the picture would have {self.last - self.first + 1:,} steps, and at most {MOST_STEPS:,} are drawn: --steps A-B picks some")
         self.machine, self.count = Watched(top), 0
+        self.alive = []  # the processes that are alive after each step
 
     def frames(self, progress=None):
         """For each step of the range what it changes; before it, all that the steps before it have changed together. Compares
@@ -123,6 +124,7 @@ class Film:
             line = self.lines[k]
             if lines != [f"{k} {line.op} {line.answer}", *line.flight, *line.areas]:
                 raise Differs(k)
+            self.alive.append(set(self.machine.processes) if k >= self.first else None)
             if k == self.first - 1 or k >= self.first:
                 found.append(self.step(k, step, line))
             if progress:
@@ -166,11 +168,13 @@ def change_steps(lines):
     return [k for k, line in enumerate(lines) if line.op not in KEEPS and (not is_refused(line) or (line.op, line.answer) in LATE)]
 
 
-def step_text(table, k, line, looks):
-    """A step and its answer as words, and what the report tells of the state after it."""
+def step_text(table, k, line, looks, alive):
+    """A step and its answer as words, and what the report tells of the state after it: of which nodes and processes, in which
+    moment, and whether that is all."""
+    full = len(looks[0]) == table.plain.count and alive <= set(looks[1])
     rows = table.lines(k, line)
     cut = [f"and {len(rows) - MOST_ROWS - 1:,} more lines"] if len(rows) > MOST_ROWS + 1 else []
-    return {"t": "   →   ".join(table.head(k, line)), "m": rows[1 : MOST_ROWS + 1] + cut, "at": table.steps[k].get("at", ""), "l": looks}
+    return {"t": "   →   ".join(table.head(k, line)), "m": rows[1 : MOST_ROWS + 1] + cut, "at": table.steps[k].get("at", ""), "l": [*looks, full]}
 
 
 def film_of(name, top, lines, steps=None, progress=None):
@@ -178,7 +182,7 @@ def film_of(name, top, lines, steps=None, progress=None):
     film = Film(top, lines, steps)
     changes = film.frames(progress)
     table, looks = Table(top), looks_of(top, lines)
-    texts = [step_text(table, k, lines[k], looks[k]) for k in range(film.first, film.last + 1)]
+    texts = [step_text(table, k, lines[k], looks[k], film.alive[k]) for k in range(film.first, film.last + 1)]
     return {"name": name, "nodes": [[frames.start, len(frames)] for frames in node_ranges(top)], "first": film.first, "changes": changes,
             "steps": texts, "processes": sorted({step["pid"] for step in top["steps"] if step["op"] == "spawn"}),
             "total": len(top["steps"]), "lines": len(lines)}

@@ -73,7 +73,12 @@ class Changes(Case):
 
     def test_looks(self):
         top = json.loads(read("examples/three_pages.json"))
-        self.assertEqual([step["l"] for step in self.film(top)["steps"]], [[[], [], -1]] * 5 + [[[0, 1], [1], 0]] * 4 + [[[], [], -1]])
+        none, all_of_it = [[], [], -1, False], [[0, 1], [1], 0, True]
+        self.assertEqual([step["l"] for step in self.film(top)["steps"]], [none] * 5 + [all_of_it] * 4 + [none])
+        for steps, looks in [("free all", [[0], [], 0, False]), ("pagemap p", [[], [1], 0, False]), ("free 0\npagemap p\nspawn q", [[0], [1], 0, False]),
+                             ("free 0\npagemap p", [[0], [1], 0, True])]:
+            top = trace_from(f"nodes 4\nspawn p\n{steps}\n".encode(), "x.nt")
+            self.assertEqual(self.film(top)["steps"][-1]["l"], looks, steps)
 
     def test_marks(self):
         top = json.loads(read("examples/why_not_moved.json"))
