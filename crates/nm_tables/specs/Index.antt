@@ -49,6 +49,7 @@ module _ {A : Type 0} where
   root_slots None = []
   root_slots (Some root) = tree_slots root
 
+  -- a tree, if there is one
   abbrev pub IsRoot : Option (Branch (Branch (Branch Cell A) A) A) → Type 0
   IsRoot None = Unit {0}
   IsRoot (Some root) = IsTree root
