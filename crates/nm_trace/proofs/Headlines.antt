@@ -1,20 +1,19 @@
 -- A trace that is played to its end leaves a sound system, and no move on the way changes a byte that a process reads.
-use Rattle.std.proofs.Common.{◌≡◌, ℕ, zero, suc, ◌+◌, false, List, [], ◌∷◌, take, refl, sym, ap, subst, ◌∙◌, arith}
-use Rattle.std.specs.Prelude.{Option, Some, None, slice_get, Result, Ok, Err, IfErr, length}
+use Rattle.std.proofs.Common.{◌≡◌, ℕ, zero, suc, ◌+◌, List, [], ◌∷◌, take, sym, ap, subst, ◌∙◌, arith}
+use Rattle.std.specs.Prelude.{Option, Some, slice_get, Result, Ok, Err, IfErr, length}
 use Rattle.std.specs.Io.KnownBytes.{Appends}
 use Rattle.nm_types.proofs.Cases.{some_is, none_some}
 use Rattle.nm_engine.specs.Memory.{mem}
 use Rattle.nm_engine.specs.Sound.{IsSound}
 use Rattle.nm_engine.proofs.Soundness.New.{new_sound}
 use Rattle.nm_calls.specs.Calls.{Call}
-use Rattle.nm_calls.specs.Laws.{byte_after}
-use Rattle.nm_calls.specs.Outcome.{outcome, runs_of}
+use Rattle.nm_calls.specs.Outcome.{outcome}
 use Rattle.nm_calls.specs.Systems.{SystemState, system_with}
 use Rattle.nm_calls.proofs.Bytes.{calls_keep_memory}
 use Rattle.nm_calls.proofs.Staying.{calls_stay_sound}
 use Rattle.nm_trace.specs.Faults.{Plan}
 use Rattle.nm_trace.specs.Headline.{summary_of, KeepMemory, IsPlayed}
-use Rattle.nm_trace.specs.Played.{Plays, report_of}
+use Rattle.nm_trace.specs.Played.{Plays}
 use Rattle.nm_trace.specs.Report.{report_from, state_after}
 use Rattle.nm_trace.specs.declared.playing.Summary.{Summary}
 use Rattle.nm_trace.specs.declared.trace_error.TraceError.{TraceError}

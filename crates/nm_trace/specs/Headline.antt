@@ -1,5 +1,5 @@
 -- The headline: what a trace comes to that is played to its end on a new machine.
-use Rattle.std.specs.Prelude.{◌≡◌, ℕ, ◌+◌, Bool, false, List, length, take, slice_get, Option, Some, Result, Ok, Err}
+use Rattle.std.specs.Prelude.{◌≡◌, ℕ, ◌+◌, false, List, length, take, slice_get, Option, Some, Result, Ok, Err}
 use Rattle.std.specs.Io.KnownBytes.{Appends}
 use Rattle.nm_engine.specs.Memory.{mem}
 use Rattle.nm_engine.specs.Sound.{IsSound}

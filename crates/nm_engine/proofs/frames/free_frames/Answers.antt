@@ -1,4 +1,4 @@
-use Rattle.std.proofs.Common.{◌+◌, List, ap, sym, subst, ◌∙◌, drop}
+use Rattle.std.proofs.Common.{◌+◌, ap, sym, subst, ◌∙◌, drop}
 use Rattle.std.proofs.Math.ListN.{drop_of_length-le}
 use Rattle.nm_nodes.specs.Pool.{Pool}
 use Rattle.nm_engine.specs.Frames.{CanFree, with_freed}

@@ -35,6 +35,8 @@ returns-clause-runs g c =
 pub returns-clause-played : goal.returns-clause-played
 returns-clause-played g c =
     let old = g.W.Write.contents c.args.writer.now in
-    let new = g.W.Write.contents c.play_calls.new.writer in
-    (plan_in c.in_ok-trace.trace, c.in_ok-trace.ensures,
-    played (plan_in c.in_ok-trace.trace) _ _ _ old new c.play_calls.result c.in_ok-summary.summary c.in-Ok.ensures (ap (map call_of) c.as_slice.ensures.value) c.in_ok-summary.was c.play_calls.ensures)
+    let new = g.W.Write.contents c.play_calls.new.writer in (
+      plan_in c.in_ok-trace.trace,
+      c.in_ok-trace.ensures,
+      played (plan_in c.in_ok-trace.trace) _ _ _ old new c.play_calls.result c.in_ok-summary.summary c.in-Ok.ensures (ap (map call_of) c.as_slice.ensures.value) c.in_ok-summary.was c.play_calls.ensures,
+    )

@@ -1,4 +1,4 @@
-use Rattle.std.proofs.Common.{rules, ◌≡◌, Err, ap, sym, subst, ◌∙◌}
+use Rattle.std.proofs.Common.{rules, ◌≡◌, Err, ap, sym, subst}
 use Rattle.std.specs.Prelude.{Ok, IfOk}
 use Rattle.nm_trace.specs.Faults.{Plan}
 use Rattle.nm_trace.specs.Headline.{IsPlayed, summary_of}

@@ -1,4 +1,4 @@
-use Rattle.std.proofs.Common.{ap, subst, ◌∙◌, ℕ, ◌<◌, length}
+use Rattle.std.proofs.Common.{ap, ◌∙◌, length}
 use Rattle.nm_runs.specs.Seen.{users_in}
 use Rattle.nm_engine.specs.AddressSpaces.{SpacesView}
 use Rattle.nm_engine.proofs.Tied.Counted.{users_counted}

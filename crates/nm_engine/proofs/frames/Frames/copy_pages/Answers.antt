@@ -1,4 +1,4 @@
-use Rattle.std.proofs.Common.{◌≡◌, ◌≤◌, arith, length, map, ap, sym, subst, ◌∙◌}
+use Rattle.std.proofs.Common.{◌≤◌, arith, length, map, ap, sym, subst, ◌∙◌}
 use Rattle.std.specs.Prelude.{min, vec_capacity}
 use Rattle.std.specs.List.{AllByRecursion}
 use Rattle.nm_frames.specs.Store.{Store, IsHome}

@@ -1,4 +1,4 @@
-use Rattle.std.proofs.Common.{take, ap, ◌∙◌, arith}
+use Rattle.std.proofs.Common.{ap, ◌∙◌, arith}
 use Rattle.std.proofs.lemmas.List.{take_all}
 use Rattle.std.proofs.lemmas.Result.{IfOk-weaker}
 use Rattle.nm_nodes.specs.Pool.{list_of}

@@ -1,4 +1,4 @@
-use Rattle.std.proofs.Common.{ℕ, List, ◌+◌, ◌≤◌, min, ap, ◌∙◌, arith, vec_capacity}
+use Rattle.std.proofs.Common.{ℕ, List, min, ap, ◌∙◌, arith, vec_capacity}
 use Rattle.std.proofs.lemmas.Result.{on_ok_weaker}
 use Rattle.nm_engine.specs.Frames.{FramesView}
 use Rattle.nm_engine.proofs.frames.Frames.reserve.Goals as goal

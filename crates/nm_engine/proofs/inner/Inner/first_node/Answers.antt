@@ -1,4 +1,4 @@
-use Rattle.std.proofs.Common.{◌≡◌, ℕ, Bool, true, false, cond, List, [], ◌∷◌, Option, Some, length, refl, ap, ◌∙◌}
+use Rattle.std.proofs.Common.{◌≡◌, ℕ, true, false, cond, List, [], ◌∷◌, Option, Some, length, refl, ap, ◌∙◌}
 use Rattle.std.specs.Prelude.{◌==◌, find, not, slice_index_or}
 use Rattle.nm_types.specs.Layout.{Layout}
 use Rattle.nm_types.specs.Nodes.{is_in}
