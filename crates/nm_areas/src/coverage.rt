@@ -6,7 +6,7 @@
 //! the greatest one, which none reaches: there are fewer areas than 2^63.
 
 ghost use Rattle.std.specs.Option.{option_map};
-ghost use Rattle.std.specs.Prelude.{None, OnErr, OnOk, Some, ℕ, ◌+◌, ◌<◌, ◌^◌, ◌≡◌, ◌≤◌, if◌then◌else◌};
+ghost use Rattle.std.specs.Prelude.{false, None, OnErr, OnOk, Some, ℕ, ◌+◌, ◌<◌, ◌^◌, ◌≡◌, ◌≤◌, if◌then◌else◌};
 ghost use Rattle.nm_areas.specs.Coverage.{IsFlat, IsSteps, covers_of, ends_of};
 ghost use Rattle.nm_areas.specs.Removed.{page_in};
 ghost use Rattle.nm_areas.specs.Shifted.{shifted, shifted_in};
@@ -119,11 +119,25 @@ fn shift<A: Allocator + Copy>(
     requires range { first ≤ past }
     ensures { (p : Page) → get page_cmp steps.new.entries p ≡ option_map (shifted_in segment first past up p) (get page_cmp steps.old.entries p) }
 {
-    let mut at = first;
-    while let Some((index, step)) = next_of(steps, segment, at, past) {
-        put_step(steps, Page { segment, index }, shifted(step, up));
-        at = index + 1;
-    }
+    let from = Page {
+        segment,
+        index: first,
+    };
+    let to = Page {
+        segment,
+        index: past,
+    };
+    // Each is changed where it stands, and none is taken out.
+    let mut walk = steps.extract_if(
+        from..to,
+        move |_page: &Page, step: &mut Step| -> bool
+            ensures { (result ≡ false) × (step.new ≡ shifted up step.old) }
+        {
+            *step = shifted(*step, up);
+            false
+        },
+    );
+    walk.next();
 }
 
 /// A step with one area more that covers its page, or one less.

@@ -1,17 +1,25 @@
-use Rattle.std.proofs.Common.{arith}
-use Rattle.nm_areas.proofs.Steps.{shift_next, shift_end}
+use Rattle.std.proofs.Common.{ap, sym, ◌∙◌, rules}
+use Rattle.std.specs.List.{filter}
+use Rattle.std.specs.BTreeMap.{BTreeMap}
+use Rattle.std.specs.declared.ops.Range.{Range}
+use Rattle.std.specs.declared.ops.Bound.TheVariants.{Excluded}
+use Rattle.nm_types.specs.declared.page.Page.{Page}
+use Rattle.nm_types.specs.Map.{get, page_cmp, with_values}
+use Rattle.nm_types.proofs.Maps.{get-values, exact_page}
+use Rattle.nm_areas.specs.declared.coverage.Step.{Step}
+use Rattle.nm_areas.specs.Shifted.{shifted, shifted_in}
+use Rattle.nm_areas.proofs.Swept.{sweeps}
+use Rattle.nm_areas.proofs.Shifts.{in_range, shifted_inside, shifted_outside}
 use Rattle.nm_areas.proofs.coverage.shift.Goals as goal
 
-pub loop-index-preserved : goal.loop-index-preserved
-loop-index-preserved g c =
-    let a = c.args in
-    let some = c.in-Some.ensures.some in
-    let now = c.loop-index.invariant in
-    record {
-      shows = shift_next a.steps.now.entries a.segment a.first a.up c.loop-index.steps.entries c.put_step.new.steps.entries c.loop-index.at c.in-Some.index c.in-Some.step c.shifted.result now.shows now.from some.0 some.2 c.in-Some.ensures.first c.shifted.ensures c.put_step.ensures;
-      from = omega (arith, now.from, some.0);
-      to = omega (arith, some.1);
-    }
-
 pub returns : goal.returns
-returns g c = shift_end c.args.steps.now.entries c.args.segment c.args.first c.args.up c.loop-index.steps.entries c.loop-index.at c.args.past c.loop-index.invariant.shows c.loop-index.invariant.to c.in_default.ensures.none
+returns g c p =
+    let change = shifted_in c.args.segment c.args.first c.args.past c.args.up in
+    let steps = c.extract_if-walk.ensures in
+    let ran = c.next.ensures.steps in
+    let entries = λ (m : BTreeMap Page Step). m.entries in
+    let swept = sweeps _ page_cmp _ (λ (r : Range Page). Excluded r.end) _ _ (in_range c.args.segment c.args.first c.args.past) (shifted c.args.up) change
+    (shifted_inside c.args.segment c.args.first c.args.past c.args.up) (shifted_outside c.args.segment c.args.first c.args.past c.args.up) (λ k v b w f t. search rules) (λ q. tt) c.extract_if-walk.result c.next.new.self c.next.result
+    ran steps.holds (steps.rest tt ∙ ap (λ (m : BTreeMap Page Step). filter (λ e. in_range c.args.segment c.args.first c.args.past e.0) m.entries) (sym steps.unchanged)) in
+    ap (λ m. get page_cmp m p) (ap entries (c.steps-1.given.1 (sym (ran.0 ∙ steps.same_map))) ∙ swept ∙ ap (λ (m : BTreeMap Page Step). with_values change m.entries) steps.unchanged)
+    ∙ get-values exact_page change c.args.steps.now.entries p
