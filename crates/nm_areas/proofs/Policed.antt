@@ -17,7 +17,7 @@ use Rattle.nm_areas.specs.Parts.{parts_outside}
 use Rattle.nm_areas.specs.Policy.{repoliced, split_at, painted}
 use Rattle.nm_areas.proofs.Apart.{covers_from}
 use Rattle.nm_areas.proofs.Parted.{All-among, flat_among, part_of, part_there, any_among, among_any}
-use Rattle.nm_areas.proofs.Painted.{keys_painted}
+use Rattle.nm_areas.proofs.Shifts.{keys_painted}
 use Rattle.nm_areas.proofs.Shown.{repoliced_shows}
 use Rattle.nm_areas.proofs.Repoliced.{all_parts, split_some, split_indices, split_apart, split_sorted, all_repoliced}
 
@@ -82,7 +82,7 @@ module _ (pid first end : ℕ) (policy : Policy) where
   fine_painted : (areas : Map (ℕ × ℕ) Area) → IsFine areas → IsFine (with_values paint areas)
   fine_painted areas fine =
       record {
-        ordered = subst (IsStrictlySortedBy spot_cmp) (sym (keys_painted pid first policy areas end)) fine.ordered;
+        ordered = subst (IsStrictlySortedBy spot_cmp) (sym (keys_painted pid first end policy areas)) fine.ordered;
         apart = apart_painted areas fine.apart;
         whole = all_painted IsSomePages IsSomePages (λ e some. any_policy (λ x. IsSomePages (e.0, x)) e.0 e.1 some some) areas fine.whole;
         low = all_painted EndsLow EndsLow (λ e under. any_policy (λ x. EndsLow (e.0, x)) e.0 e.1 under under) areas fine.low;

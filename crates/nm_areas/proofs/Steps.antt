@@ -8,7 +8,7 @@ use Rattle.std.specs.declared.ops.Bound.TheVariants.{Included, Unbounded}
 use Rattle.std.specs.Ordering.{is_eq, is_lt}
 use Rattle.std.specs.Cmp.{nat_cmp_is, tied_itself}
 use Rattle.std.specs.declared.cmp.Ordering.TheVariants.{Less}
-use Rattle.std.proofs.lemmas.Bool.{eqb-true, leb-true, ltb-true, ltb-false, lt-ltb, le-leb, and_parts, and_from, false_from_ne_true}
+use Rattle.std.proofs.lemmas.Bool.{eqb-true, leb-true, ltb-true, lt-ltb, le-leb, and_parts, and_from, false_from_ne_true}
 use Rattle.nm_types.specs.declared.page.Page.{Page}
 use Rattle.nm_types.specs.Map.{Map, get, replace, page_cmp, same_page}
 use Rattle.nm_types.proofs.Cases.{true_false, some_none, none_some, some_is}
@@ -19,7 +19,6 @@ use Rattle.nm_areas.specs.Shifted.{shifted, shifted_in, is_between}
 use Rattle.nm_areas.specs.Removed.{page_in}
 use Rattle.nm_areas.proofs.Overs.{up_to, from_up_to, spot_same}
 use Rattle.nm_areas.proofs.Halves.{less_from}
-use Rattle.nm_areas.proofs.Own.{same_test}
 
 pub pages_same : (p q : Page) → same_page p q ≡ true → p ≡ q
 pages_same p q h = exact_page p q (equal _ h)
@@ -161,71 +160,6 @@ between_parts segment first past p h =
 
 pub between_from : (segment first past : ℕ) (p : Page) → segment ≡ p.segment → first ≤ p.index → p.index < past → is_between segment first past p ≡ true
 between_from segment first past p same low high = and_from _ _ (eq-eqb segment p.segment same) (and_from _ _ (le-leb first p.index low) (lt-ltb p.index past high))
-
-module _ (m : Map Page Step) (segment first : ℕ) (up : Bool) where
-  abbrev Shows : ℕ → Map Page Step → Type 0
-  Shows at now = (p : Page) → get page_cmp now p ≡ option_map (shifted_in segment first at up p) (get page_cmp m p)
-
-  -- the same steps are between, where none is from the one end to the other
-  same_between : (at to : ℕ) (p : Page) → at ≤ to → (segment ≡ p.segment → at ≤ p.index → p.index < to → ⊥) → is_between segment first at p ≡ is_between segment first to p
-  same_between at to p range none =
-      same_test _ _
-      (λ h. let parts = between_parts segment first at p h in between_from segment first to p parts.0 parts.1 (omega (arith, parts.2, range)))
-      (λ h.
-      let parts = between_parts segment first to p h in
-      elim (nat_lt p.index at) as (λ b. nat_lt p.index at ≡ b → is_between segment first at p ≡ true) [
-        | true ↦ λ b. between_from segment first at p parts.0 parts.1 (ltb-true p.index at b)
-        | false ↦ λ b. absurd (none parts.0 (ltb-false p.index at b) parts.2)
-      ] refl)
-
-  same_shift : (now : Map Page Step) (at to : ℕ) → Shows at now → at ≤ to → (p : Page) → (segment ≡ p.segment → at ≤ p.index → p.index < to → get page_cmp now p ≡ None) → get page_cmp now p ≡ option_map (shifted_in segment first to up p) (get page_cmp m p)
-  same_shift now at to shows range p none =
-      shows p ∙ elim (get page_cmp m p) as (λ o. get page_cmp m p ≡ o → option_map (shifted_in segment first at up p) o ≡ option_map (shifted_in segment first to up p) o) [
-        | None ↦ λ o. refl
-        | Some x ↦ λ o.
-            ap (λ b. Some (if b then shifted up x else x)) (same_between at to p range (λ same low high.
-            some_none (sym (ap (option_map (shifted_in segment first at up p)) o) ∙ sym (shows p) ∙ none same low high)))
-      ] refl
-
-  -- no more step comes
-  pub shift_end : (now : Map Page Step) (at to : ℕ) → Shows at now → at ≤ to → ((i : ℕ) → at ≤ i → i < to → get page_cmp now (page_in segment i) ≡ None) → (p : Page) → get page_cmp now p ≡ option_map (shifted_in segment first to up p) (get page_cmp m p)
-  shift_end now at to shows range none p = same_shift now at to shows range p (λ same low high. ap (λ n. get page_cmp now (page_in n p.index)) (sym same) ∙ none p.index low high)
-
-  -- one more
-  module _ (now new : Map Page Step) (at index : ℕ) (step w : Step) (shows : Shows at now) (from : first ≤ at) (low : at ≤ index) (found : get page_cmp now (page_in segment index) ≡ Some step)
-      (none : (i : ℕ) → at ≤ i → i < index → get page_cmp now (page_in segment i) ≡ None) (put : w ≡ shifted up step) (is : new ≡ replace page_cmp now (page_in segment index) w) where
-    abbrev it : Page
-    it = page_in segment index
-
-    old : get page_cmp m it ≡ Some step
-    old =
-        let not_yet : is_between segment first at it ≡ false = false_from_ne_true _ (λ h. let parts = between_parts segment first at it h in absurd (omega (arith, parts.2, low))) in
-        elim (get page_cmp m it) as (λ o. option_map (shifted_in segment first at up it) o ≡ Some step → o ≡ Some step) [
-          | None ↦ λ k. absurd (none_some k)
-          | Some x ↦ λ k. sym (ap (λ b. Some (if b then shifted up x else x)) not_yet) ∙ k
-        ] (sym (shows it) ∙ found)
-
-    new_here : Some w ≡ option_map (shifted_in segment first (index + 1) up it) (get page_cmp m it)
-    new_here =
-        ap Some put
-        ∙ sym (ap (λ b. Some (if b then shifted up step else step)) (between_from segment first (index + 1) it refl (omega (arith, from, low)) (omega arith)))
-        ∙ sym (ap (option_map (shifted_in segment first (index + 1) up it)) old)
-
-    pub shift_next : (p : Page) → get page_cmp new p ≡ option_map (shifted_in segment first (index + 1) up p) (get page_cmp m p)
-    shift_next p =
-        ap (λ es. get page_cmp es p) is ∙ get-replace page_cmp_total exact_page now it w p (subst IsSome (sym found) refl)
-        ∙ elim (is_eq (page_cmp it p)) as (λ b. is_eq (page_cmp it p) ≡ b → cond b (Some w) (get page_cmp now p) ≡ option_map (shifted_in segment first (index + 1) up p) (get page_cmp m p)) [
-          | true ↦ λ b. new_here ∙ ap (λ (q : Page). option_map (shifted_in segment first (index + 1) up q) (get page_cmp m q)) (pages_same it p b)
-          | false ↦ λ b. same_shift now at (index + 1) shows (omega (arith, low)) p (λ same up_from high.
-              elim (nat_lt p.index index) as (λ k. nat_lt p.index index ≡ k → get page_cmp now p ≡ None) [
-                | true ↦ λ k. ap (λ n. get page_cmp now (page_in n p.index)) (sym same) ∙ none p.index up_from (ltb-true p.index index k)
-                | false ↦ λ k.
-                    let past : index ≤ p.index = ltb-false p.index index k in
-                    let here : index ≡ p.index = omega (arith, past, high) in
-                    let path : it ≡ p = λ i. record { segment = same i; index = here i } in
-                    absurd (true_false (sym (page_itself it p path) ∙ b))
-              ] refl)
-        ] refl
 
 -- ---- the numbers of a stretch that is covered once more, or once less
 

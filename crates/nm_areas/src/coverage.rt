@@ -10,12 +10,15 @@ ghost use Rattle.std.specs.Prelude.{false, None, OnErr, OnOk, Some, ℕ, ◌+◌
 ghost use Rattle.nm_areas.specs.Coverage.{IsFlat, IsSteps, covers_of, ends_of};
 ghost use Rattle.nm_areas.specs.Removed.{page_in};
 ghost use Rattle.nm_areas.specs.Shifted.{shifted, shifted_in};
-ghost use Rattle.nm_types.specs.Map.{get, page_cmp, replace, same_page};
+ghost use Rattle.nm_areas.specs.Rests.{IsRest};
+ghost use Rattle.nm_areas.specs.declared.coverage.Step.{Step};
+ghost use Rattle.nm_types.specs.Map.{Map, get, page_cmp, replace, same_page};
 
-use crate::scan::next_of;
+use crate::scan::step_page;
 use nm_types::{Area, Page};
 use std::alloc::{AllocError, Allocator};
 use std::collections::BTreeMap;
+use std::collections::btree_map::Range;
 
 /// What stands at a page where an area begins, or that is after the last page of one.
 #[derive(Clone, Copy)]
@@ -190,20 +193,17 @@ fn ends_at<A: Allocator + Copy>(steps: &BTreeMap<Page, Step, A>, page: Page) -> 
     }
 }
 
-/// The first index after one at which an area begins or ends, or another one if that comes first.
-pub(crate) fn next_change<A: Allocator + Copy>(
-    steps: &BTreeMap<Page, Step, A>,
-    segment: u32,
-    at: u64,
-    past: u64,
-) -> u64
-    requires { at < past }
-    ensures low { at < result }
-    ensures high { result ≤ past }
-    ensures none { (i : ℕ) → at < i → i < result → get page_cmp steps.now.entries (page_in segment i) ≡ None }
+/// The next index in front of another one at which an area begins or ends, of the steps from some page on, with how many
+/// areas cover that page; or that other one.
+pub(crate) fn step_change(rest: &mut Range<'_, Page, Step>, segment: u32, past: u64) -> (u64, u64)
+    ensures low { (steps : Map Page Step) (at : ℕ) → IsRest page_cmp steps (page_in segment at) rest.old → at ≤ past → at ≤ result.0 }
+    ensures high { result.0 ≤ past }
+    ensures none { (steps : Map Page Step) (at : ℕ) → IsRest page_cmp steps (page_in segment at) rest.old → (i : ℕ) → at ≤ i → i < result.0 → get page_cmp steps (page_in segment i) ≡ None }
+    ensures count { (steps : Map Page Step) (at : ℕ) → IsRest page_cmp steps (page_in segment at) rest.old → (ends covers : Page → ℕ) → IsSteps steps ends covers → result.0 < past → result.1 ≡ covers (page_in segment result.0) }
+    ensures rest { (steps : Map Page Step) (at : ℕ) → IsRest page_cmp steps (page_in segment at) rest.old → result.0 < past → IsRest page_cmp steps (page_in segment (result.0 + 1)) rest.new }
 {
-    match next_of(steps, segment, at + 1, past) {
-        Some((index, _)) => index,
-        None => past,
+    match step_page(rest, segment, past) {
+        Some((index, step)) => (index, step.covers),
+        None => (past, 0),
     }
 }

@@ -17,7 +17,7 @@ use crate::area_table::AreaTable;
 use crate::areas::Areas;
 use crate::counting::{join_steps, split_steps};
 use crate::ranges::whole_pages;
-use crate::scan::{next_area, put, step_area};
+use crate::scan::step_area;
 use nm_types::{Area, Errno, MachineError, Pid, Policy, Vpn};
 use std::alloc::{AllocError, Allocator};
 use std::collections::BTreeMap;
@@ -154,11 +154,18 @@ fn paint<A: Allocator + Copy>(
     requires { first ≤ end }
     ensures { areas.new.entries ≡ with_values (painted pid first end policy.now) areas.old.entries }
 {
-    let mut at = first.number();
-    while let Some((start, area)) = next_area(areas, pid, Vpn::new(at), end) {
-        put(areas, (pid, start), policed(area, *policy));
-        at = start.number() + 1;
-    }
+    let policy = *policy;
+    // Each is changed where it stands, and none is taken out.
+    let mut walk = areas.extract_if(
+        (pid, first)..(pid, end),
+        move |_spot: &(Pid, Vpn), area: &mut Area| -> bool
+            ensures { (result ≡ false) × (area.new ≡ record (area.old) { policy = policy }) }
+        {
+            *area = policed(*area, policy);
+            false
+        },
+    );
+    walk.next();
 }
 
 /// An area with another policy.

@@ -106,6 +106,7 @@ pub(crate) fn step_page<V: Copy>(
     ensures none { (pages : Map Page V) (at : ℕ) → IsRest page_cmp pages (page_in segment at) rest.old → IfNone result ((i : ℕ) → at ≤ i → i < past → get page_cmp pages (page_in segment i) ≡ None) }
     ensures rest { (pages : Map Page V) (at : ℕ) → IsRest page_cmp pages (page_in segment at) rest.old → IfSome result (λ p. IsRest page_cmp pages (page_in segment (p.0 + 1)) rest.new) }
     ensures fewer { IfSome result (λ p. length rest.new < length rest.old) }
+    ensures high { IfSome result (λ p. p.0 < past) }
 {
     let (page, value) = rest.next()?;
     if page.segment == segment && page.index < past {

@@ -19,7 +19,7 @@ ghost use Rattle.nm_types.specs.State.{page_at};
 use crate::area_table::AreaTable;
 use crate::areas::Areas;
 use crate::counting::{count_out_own, join_steps, split_steps};
-use crate::coverage::{Step, count_at, next_change};
+use crate::coverage::{Step, count_at, step_change};
 use crate::ranges::range_start;
 use crate::scan::next_of;
 use nm_types::{Area, Errno, FrameId, MachineError, Page, Pid, Vpn};
@@ -178,13 +178,19 @@ fn lose<A: Allocator + Copy>(
     let Page { segment, index } = area.page;
     let past = index + area.pages;
     let mut at = index;
+    let mut others = count_at(steps, area.page);
+    let after = Page {
+        segment,
+        index: index.saturating_add(1),
+    };
+    let mut rest = steps.range(after..);
     while at < past {
-        let change = next_change(steps, segment, at, past);
-        let others = count_at(steps, Page { segment, index: at });
+        let (change, next) = step_change(&mut rest, segment, past);
         if others == 0 {
             lose_stretch(segment, at, change, places, freed);
         }
         at = change;
+        others = next;
     }
 }
 

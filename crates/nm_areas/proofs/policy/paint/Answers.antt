@@ -1,33 +1,23 @@
-use Rattle.std.proofs.Common.{◌≡◌, ℕ, ◌+◌, ap, sym, subst, ◌∙◌, arith}
-use Rattle.nm_types.specs.Map.{with_values, replace, spot_cmp}
+use Rattle.std.proofs.Common.{ℕ, ap, sym, ◌∙◌, rules}
+use Rattle.std.specs.List.{filter}
+use Rattle.std.specs.BTreeMap.{BTreeMap}
+use Rattle.std.specs.declared.ops.Range.{Range}
+use Rattle.std.specs.declared.ops.Bound.TheVariants.{Excluded}
+use Rattle.nm_types.specs.declared.area.Area.{Area}
+use Rattle.nm_types.specs.Map.{spot_cmp, with_values}
 use Rattle.nm_areas.specs.Policy.{painted}
-use Rattle.nm_areas.proofs.Painted.{paint_none, paint_next, paint_end}
+use Rattle.nm_areas.proofs.Swept.{sweeps}
+use Rattle.nm_areas.proofs.Shifts.{among_spots, painted_inside, painted_outside}
 use Rattle.nm_areas.proofs.policy.paint.Goals as goal
-
-pub loop-start-init : goal.loop-start-init
-loop-start-init g c = record {
-  painted = paint_none c.args.pid c.args.first c.args.policy.now c.args.areas.now.entries
-      ∙ ap (λ (n : ℕ). with_values (painted c.args.pid c.args.first n c.args.policy.now) c.args.areas.now.entries) (sym c.number-at.ensures);
-  from = omega arith;
-  up = omega arith;
-}
-
-pub loop-start-preserved : goal.loop-start-preserved
-loop-start-preserved g c =
-    let now = subst (λ (n : ℕ). c.loop-start.areas.entries ≡ with_values (painted c.args.pid c.args.first n c.args.policy.now) c.args.areas.now.entries) (sym c.new.ensures) c.loop-start.invariant.painted in
-    let at = c.in-Some.ensures.some in
-    record {
-      painted =
-          c.put.ensures.entries ∙ ap (replace spot_cmp c.loop-start.areas.entries _) c.policed.ensures
-          ∙ paint_next c.args.pid c.args.first c.args.policy.now c.args.areas.now.entries c.loop-start.areas.entries c.new.result now c.next_area.ensures.ordered _ _
-          (omega (arith, c.new.ensures, c.loop-start.invariant.from)) at.0 at.2 c.in-Some.ensures.first
-          ∙ ap (λ (n : ℕ). with_values (painted c.args.pid c.args.first (n + 1) c.args.policy.now) c.args.areas.now.entries) (sym c.number-at-in-Some.ensures);
-      from = omega (arith, c.number-at-in-Some.ensures, c.new.ensures, c.loop-start.invariant.from, at.0);
-      up = omega (arith, c.number-at-in-Some.ensures, at.1);
-    }
 
 pub returns : goal.returns
 returns g c =
-    paint_end c.args.pid c.args.first c.args.policy.now c.args.areas.now.entries c.loop-start.areas.entries c.new.result
-    (subst (λ (n : ℕ). c.loop-start.areas.entries ≡ with_values (painted c.args.pid c.args.first n c.args.policy.now) c.args.areas.now.entries) (sym c.new.ensures) c.loop-start.invariant.painted)
-    c.next_area.ensures.ordered c.args.end (omega (arith, c.new.ensures, c.loop-start.invariant.up)) c.in_default.ensures.none
+    let policy = c.args.policy.now in
+    let change = painted c.args.pid c.args.first c.args.end policy in
+    let areas = c.extract_if-walk.ensures in
+    let ran = c.next.ensures.steps in
+    let entries = λ (m : BTreeMap (ℕ × ℕ) Area). m.entries in
+    let swept = sweeps _ spot_cmp _ (λ (r : Range (ℕ × ℕ)). Excluded r.end) _ _ (among_spots c.args.pid c.args.first c.args.end) (λ (x : Area). record x { policy = policy }) change
+    (painted_inside c.args.pid c.args.first c.args.end policy) (painted_outside c.args.pid c.args.first c.args.end policy) (λ k v b w f t. search rules) (λ q. tt) c.extract_if-walk.result c.next.new.self c.next.result
+    ran areas.holds (areas.rest tt ∙ ap (λ (m : BTreeMap (ℕ × ℕ) Area). filter (λ e. among_spots c.args.pid c.args.first c.args.end e.0) m.entries) (sym areas.unchanged)) in
+    ap entries (c.areas-1.given.1 (sym (ran.0 ∙ areas.same_map))) ∙ swept ∙ ap (λ (m : BTreeMap (ℕ × ℕ) Area). with_values change m.entries) areas.unchanged
