@@ -36,7 +36,9 @@ module _ (areas : Map (ℕ × ℕ) Area) (apart : AreasAreApart areas) (whole : 
         | None ↦ λ o. refl
         | Some y ↦ λ o.
             let some = All-among IsSomePages areas ((pid, v), y) whole (get_among areas (pid, v) y o) in
-            let one : ((pid, v), y) ≡ ((pid, start), x) = some_is (sym (begun_all areas apart pid v y o v (omega arith) (omega (arith, some))) ∙ its v (omega (arith, low)) high) in
+            let mine : Placed = ((pid, v), y) in
+            let other : Placed = ((pid, start), x) in
+            let one : mine ≡ other = some_is (sym (begun_all areas apart pid v y o v (omega arith) (omega (arith, some))) ∙ its v (omega (arith, low)) high) in
             let same : v ≡ start = ap (λ (a : Placed). a.0.1) one in
             absurd (omega (arith, low, same))
       ] refl
@@ -104,7 +106,9 @@ module _ (areas : Map (ℕ × ℕ) Area) (apart : AreasAreApart areas) (pid at v
         | true ↦ λ b.
             let before : start < other = ltb-true start other b in
             let facts = over_facts pid at areas other y over in
-            let one : ((pid, other), y) ≡ ((pid, start), x) = some_is (over ∙ over_earlier (omega (arith, before, facts.1))) in
+            let mine : Placed = ((pid, other), y) in
+            let earlier : Placed = ((pid, start), x) in
+            let one : mine ≡ earlier = some_is (over ∙ over_earlier (omega (arith, before, facts.1))) in
             let same : other ≡ start = ap (λ (a : Placed). a.0.1) one in
             absurd (omega (arith, before, same))
       ] refl

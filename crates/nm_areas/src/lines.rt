@@ -6,7 +6,7 @@ ghost use Rattle.nm_areas.specs.Lines.{is_shared, line_of, lines_of};
 ghost use Rattle.nm_areas.specs.Mapped.{EndsLow, IsSomePages};
 
 use crate::areas::Areas;
-use crate::scan::next_area;
+use crate::scan::step_area;
 use nm_types::limits::PAGE_NUMBERS;
 use nm_types::{Area, Page, Pid, Policy, Segment, Vpn};
 use std::alloc::{AllocError, Allocator};
@@ -49,10 +49,9 @@ fn list_lines<A: Allocator + Copy>(
     ensures { IfOk result (λ lines. lines.items ≡ lines_of segments.now.entries areas.now.entries pid) }
 {
     let mut lines = Vec::new(alloc);
-    let mut at = 0;
-    while let Some((first, area)) = next_area(areas, pid, Vpn::new(at), Vpn::new(PAGE_NUMBERS)) {
+    let mut rest = areas.range((pid, Vpn::new(0))..);
+    while let Some((first, area)) = step_area(&mut rest, pid, Vpn::new(PAGE_NUMBERS)) {
         lines.push(line_of(segments, first, area))?;
-        at = first.number() + 1;
     }
     Ok(lines)
 }

@@ -1,26 +1,39 @@
-use Rattle.std.proofs.Common.{ℕ, ◌+◌, ◌++◌, ◌∷◌, [], ap, ◌∙◌, arith}
+use Rattle.std.proofs.Common.{ℕ, ◌++◌, ◌∷◌, [], ap, subst, ◌∙◌, arith}
+use Rattle.nm_types.specs.Map.{spot_cmp}
+use Rattle.nm_types.proofs.Maps.{spot_cmp_total}
+use Rattle.nm_areas.specs.Rests.{IsRest}
+use Rattle.nm_areas.proofs.Painted.{exact_spot}
+use Rattle.nm_areas.proofs.Rests.{rest_begins}
 use Rattle.nm_areas.proofs.Own.{lines_from, lines_begin, lines_next, lines_end}
 use Rattle.nm_areas.proofs.lines.list_lines.Goals as goal
 
 pub loop-first-init : goal.loop-first-init
 loop-first-init g c = record {
-  listed = ap (λ l. l ++ lines_from c.args.segments.now.entries c.args.areas.now.entries c.args.pid 0) c.new-lines.ensures.items
-      ∙ lines_begin c.args.segments.now.entries c.args.areas.now.entries c.args.pid c.requires.whole c.requires.low;
-  up = omega arith;
+  rest = (
+    0,
+    subst (λ (n : ℕ). IsRest spot_cmp c.args.areas.now.entries (c.args.pid, n) c.range-rest.result) c.new.ensures
+        (rest_begins spot_cmp_total (c.args.pid, c.new.result) exact_spot c.args.areas.now.entries c.range-rest.result c.range-rest.ensures.ordered (c.range-rest.ensures.between tt)),
+    ap (λ l. l ++ lines_from c.args.segments.now.entries c.args.areas.now.entries c.args.pid 0) c.new-lines.ensures.items ∙ lines_begin c.args.segments.now.entries c.args.areas.now.entries c.args.pid c.requires.whole c.requires.low,
+  );
 }
 
 pub loop-first-preserved : goal.loop-first-preserved
 loop-first-preserved g c =
-    let some = c.in-Some.ensures.some in
+    let areas = c.args.areas.now.entries in
+    let rest = c.loop-first.invariant.rest in
+    let some = c.in-Some.ensures.some areas rest.0 rest.1 in
     record {
-      listed = ap (λ (n : ℕ). c.push.new.self.items ++ lines_from c.args.segments.now.entries c.args.areas.now.entries c.args.pid (n + 1)) c.number-at.ensures
-          ∙ lines_next c.args.segments.now.entries c.args.areas.now.entries c.args.pid c.loop-first.lines.items c.push.new.self.items c.loop-first.at _ _ (omega (arith, some.1, c.new-in-loop-first.ensures)) c.next_area.ensures.ordered
-          (omega (arith, some.0, c.new.ensures)) some.2 (λ v low high. c.in-Some.ensures.first v (omega (arith, low, c.new.ensures)) high)
-          (c.in_ok-push.ensures.items ∙ ap (λ x. c.loop-first.lines.items ++ x ∷ []) c.line_of.ensures) c.loop-first.invariant.listed;
-      up = omega (arith, c.number-at.ensures, some.1, c.new-in-loop-first.ensures);
+      rest = (
+        _,
+        c.in-Some.ensures.rest areas rest.0 rest.1,
+        lines_next c.args.segments.now.entries areas c.args.pid c.loop-first.lines.items c.push.new.self.items rest.0 _ _ (omega (arith, some.1, c.new-in-loop-first.ensures)) c.range-rest.ensures.ordered some.0 some.2
+            (c.in-Some.ensures.first areas rest.0 rest.1) (c.in_ok-push.ensures.items ∙ ap (λ x. c.loop-first.lines.items ++ x ∷ []) c.line_of.ensures) rest.2,
+      );
     }
 
 pub returns : goal.returns
 returns g c =
-    lines_end c.args.segments.now.entries c.args.areas.now.entries c.args.pid c.loop-first.lines.items c.loop-first.at
-    (λ v low high. c.in_default.ensures.none v (omega (arith, low, c.new.ensures)) (omega (arith, high, c.new-in-loop-first.ensures))) c.loop-first.invariant.listed
+    let areas = c.args.areas.now.entries in
+    let rest = c.loop-first.invariant.rest in
+    lines_end c.args.segments.now.entries areas c.args.pid c.loop-first.lines.items rest.0
+    (λ v low high. c.in_default.ensures.none areas rest.0 rest.1 v low (omega (arith, high, c.new-in-loop-first.ensures))) rest.2
