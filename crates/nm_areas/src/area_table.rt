@@ -15,7 +15,7 @@ ghost use Rattle.nm_areas.specs.Refused.{overlaps, is_stretch};
 ghost use Rattle.nm_areas.specs.Table.{with_areas};
 
 use crate::lines::is_shared;
-use crate::scan::{next_area, put};
+use crate::scan::put;
 use nm_types::{Area, Page, Pid, Policy, Segment, Vpn};
 use std::alloc::{AllocError, Allocator};
 use std::collections::{BTreeMap, BTreeSet};
@@ -124,24 +124,6 @@ impl<A: Allocator + Copy> AreaTable<A> {
             Some((start, _)) => start,
             None => vpn,
         }
-    }
-
-    /// The first area of a process that is over a page number from one up to another.
-    pub(crate) fn next_over(&self, pid: Pid, at: Vpn, end: Vpn) -> Option<(Vpn, Area)>
-        requires apart { AreasAreApart self.now.areas }
-        requires whole { AllByRecursion IsSomePages self.now.areas }
-        ensures some { IfSome result (λ a. (a.0 < end) × (at < a.0 + a.1.pages) × (0 < a.1.pages)) }
-        ensures over { IfSome result (λ a. (v : ℕ) → a.0 ≤ v → v < a.0 + a.1.pages → area_over self.now.areas pid v ≡ Some ((pid, a.0), a.1)) }
-        ensures first { IfSome result (λ a. (v : ℕ) → at ≤ v → v < a.0 → area_over self.now.areas pid v ≡ None) }
-        ensures none { IfNone result ((v : ℕ) → at ≤ v → v < end → area_over self.now.areas pid v ≡ None) }
-    {
-        if at.number() >= end.number() {
-            return None;
-        }
-        if let Some(found) = self.over(pid, at) {
-            return Some(found);
-        }
-        next_area(&self.areas, pid, at, end)
     }
 
     /// Whether no area of the process is over any of the `pages` page numbers from `first` on.

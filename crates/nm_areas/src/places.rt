@@ -12,7 +12,7 @@ ghost use Rattle.nm_areas.specs.Removed.{page_in};
 
 use crate::area_table::AreaTable;
 use crate::areas::Areas;
-use crate::scan::{next_of, step_area, step_page};
+use crate::scan::{step_area, step_page};
 use nm_types::{Area, FrameId, Page, Pid, Vpn};
 use std::alloc::{AllocError, Allocator};
 use std::collections::BTreeMap;
@@ -23,17 +23,6 @@ impl<A: Allocator + Copy> Areas<A> {
         ensures { result ≡ get page_cmp self.now.place page }
     {
         self.places.get(&page).copied()
-    }
-
-    /// The first page number from one up to another at which an area of a process shows a page that has a frame, with
-    /// the frame. None if there is none, or no such process. It takes no memory.
-    pub fn frame_from(&self, pid: Pid, at: Vpn, end: Vpn) -> Option<(Vpn, FrameId)>
-        ensures some { IfSome result (λ r. (p : Page) × (at ≤ r.0) × (r.0 < end) × (page_at self.now.areas pid r.0 ≡ Some p) × (get page_cmp self.now.place p ≡ Some r.1)) }
-        ensures first { IfSome result (λ r. (v : ℕ) (p : Page) → at ≤ v → v < r.0 → page_at self.now.areas pid v ≡ Some p → get page_cmp self.now.place p ≡ None) }
-        ensures none { IfNone result ((v : ℕ) (p : Page) → at ≤ v → v < end → page_at self.now.areas pid v ≡ Some p → get page_cmp self.now.place p ≡ None) }
-        ensures kept { IsMapped self.now }
-    {
-        frame_from(&self.table, &self.places, pid, at, end)
     }
 
     /// Whether an area of a process shows, at a page number from one up to another, a page with a frame that has a number
@@ -89,55 +78,6 @@ impl<A: Allocator + Copy> Areas<A> {
     {
         self.places.remove(&page);
     }
-}
-
-/// The first page number from one up to another at which an area of a process shows a page that has a frame, with the
-/// frame.
-fn frame_from<A: Allocator + Copy>(
-    table: &AreaTable<A>,
-    places: &BTreeMap<Page, FrameId, A>,
-    pid: Pid,
-    at: Vpn,
-    end: Vpn,
-) -> Option<(Vpn, FrameId)>
-    requires { IsMapped (mapped table.now places.now.entries) }
-    ensures some { IfSome result (λ r. (p : Page) × (at ≤ r.0) × (r.0 < end) × (page_at table.now.areas pid r.0 ≡ Some p) × (get page_cmp places.now.entries p ≡ Some r.1)) }
-    ensures first { IfSome result (λ r. (v : ℕ) (p : Page) → at ≤ v → v < r.0 → page_at table.now.areas pid v ≡ Some p → get page_cmp places.now.entries p ≡ None) }
-    ensures none { IfNone result ((v : ℕ) (p : Page) → at ≤ v → v < end → page_at table.now.areas pid v ≡ Some p → get page_cmp places.now.entries p ≡ None) }
-{
-    let mut from = at.number();
-    while let Some((first, area)) = table.next_over(pid, Vpn::new(from), end) {
-        let past = first.number() + area.pages;
-        if let Some(found) = frame_in(places, first, area, Vpn::new(from), end) {
-            return Some(found);
-        }
-        from = past;
-    }
-    None
-}
-
-/// The first page number from one up to another at which an area, given with its first page number, shows a page that
-/// has a frame, with the frame.
-fn frame_in<A: Allocator + Copy>(
-    places: &BTreeMap<Page, FrameId, A>,
-    first: Vpn,
-    area: Area,
-    at: Vpn,
-    end: Vpn,
-) -> Option<(Vpn, FrameId)>
-    requires begins { first < end }
-    requires ends { at < first + area.pages }
-    requires low { first + area.pages ≤ 2 ^ 35 }
-    requires indices { area.page.index + area.pages < 2 ^ 64 }
-    ensures some { IfSome result (λ r. (at ≤ r.0) × (r.0 < end) × (first ≤ r.0) × (r.0 < first + area.pages) × (get page_cmp places.now.entries (page_of ((0, first), area) r.0) ≡ Some r.1)) }
-    ensures first { IfSome result (λ r. (v : ℕ) → at ≤ v → first ≤ v → v < r.0 → get page_cmp places.now.entries (page_of ((0, first), area) v) ≡ None) }
-    ensures none { IfNone result ((v : ℕ) → at ≤ v → first ≤ v → v < end → v < first + area.pages → get page_cmp places.now.entries (page_of ((0, first), area) v) ≡ None) }
-{
-    let Page { segment, index } = area.page;
-    let front = at.number().saturating_sub(first.number());
-    let back = area.pages.min(end.number() - first.number());
-    let (found, frame) = next_of(places, segment, index + front, index + back)?;
-    Some((Vpn::new(first.number() + (found - index)), frame))
 }
 
 /// Whether an area of a process shows, at a page number from one up to another, a page with a frame that has a number over

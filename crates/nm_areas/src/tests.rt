@@ -208,29 +208,39 @@ fn shared_pages(alloc: Global) -> Result<Areas<Global>, MachineError> {
     Ok(areas)
 }
 
-/// The first page number of a process from one up to 40 with a page that has a frame, and the frame's number.
-fn first_frame(areas: &Areas<Global>, pid: u32, at: u64) -> Option<(u64, u16)> {
-    let (vpn, frame) = areas.frame_from(Pid::new(pid), Vpn::new(at), Vpn::new(40))?;
-    Some((vpn.number(), frame.number()))
+/// Whether a process shows the page in a frame at a page number from one up to 40.
+fn shows(areas: &Areas<Global>, pid: u32, first: u64, frame: usize) -> bool {
+    let mut counts = [0u32; 8];
+    if let Some(count) = counts.get_mut(frame) {
+        *count = 1;
+    }
+    areas.shows_counted(
+        Pid::new(pid),
+        Vpn::new(first),
+        Vpn::new(40),
+        counts.as_slice(),
+    )
 }
 
-/// Whether the frames of shared pages come in the order of the page numbers, and none where none is.
-fn come_one_after_another(alloc: Global) -> Result<bool, MachineError> {
+/// Whether the frames of shared pages are found where they are shown, and none where none is.
+fn are_found(alloc: Global) -> Result<bool, MachineError> {
     let mut areas = shared_pages(alloc)?;
     areas.insert(Pid::new(3), 0x10000, 3, false)?;
     let found = [
-        first_frame(&areas, 1, 0),
-        first_frame(&areas, 1, 18),
-        first_frame(&areas, 1, 19),
-        first_frame(&areas, 2, 17),
-        first_frame(&areas, 3, 0),
+        shows(&areas, 1, 0, 7),
+        shows(&areas, 1, 17, 7),
+        shows(&areas, 1, 18, 5),
+        shows(&areas, 1, 19, 6),
+        shows(&areas, 2, 16, 6),
+        shows(&areas, 2, 17, 6),
+        shows(&areas, 3, 0, 7),
     ];
-    Ok(found == [Some((16, 7)), Some((18, 5)), Some((32, 6)), None, None])
+    Ok(found == [true, false, true, true, true, false, false])
 }
 
 #[test]
-fn frames_one_after_another(rt: HostRuntime) -> Result<(), Fail> {
-    assert!(rt; come_one_after_another(rt.alloc())?);
+fn frames_are_found_where_they_are_shown(rt: HostRuntime) -> Result<(), Fail> {
+    assert!(rt; are_found(rt.alloc())?);
     Ok(())
 }
 

@@ -58,7 +58,8 @@ module _ {P V : Type 0} (entries : P → Map ℕ V) (number : ℕ → ℕ) (whol
       → IsPart (λ k. number k / 512) i (joined (shown entries parts))
   node_part upwards parts i is keys = (node_ordered upwards parts is, node_keys parts i is.1 keys)
 
-module _ {P V : Type 0} (entries : P → Map ℕ V) (whole : P → Type 0) (is_in : P → ℕ → Type 0) (filled : (x : P) → whole x → entries x ≡ [] → ⊥) where
+module _ {P V : Type 0} (entries : P → Map ℕ V) (whole : P → Type 0) (is_in : P → ℕ → Type 0)
+    (filled : (x : P) → whole x → entries x ≡ [] → ⊥) where
   front_filled : (a b : Map ℕ V) → a ++ b ≡ [] → (a ≡ [] → ⊥) → ⊥
   front_filled [] b e some = some refl
   front_filled (x ∷ a) b e some = cc
