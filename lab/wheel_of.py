@@ -16,7 +16,9 @@ COMMANDS = "[console_scripts]\nnumalab = numalab.cli:main\n"
 
 
 def files_of_package():
-    """Each file of the package by its name in the wheel."""
+    """Each file of the package by its name in the wheel, and the schema of traces, which stands in docs/."""
+    with open(os.path.join(HERE, "../docs/trace.schema.json"), "rb") as file:
+        yield f"{NAME}/trace.schema.json", file.read()
     for folder, _, names in sorted(os.walk(os.path.join(HERE, NAME))):
         for name in sorted(names):
             if name.endswith((".py", ".json", ".html")):

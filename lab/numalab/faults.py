@@ -12,7 +12,9 @@ from itertools import groupby
 from .jsontext import Other, first_fault, line_and_column
 from .words import FLAGS, MODES, elements
 
-SCHEMA = os.path.join(os.path.dirname(os.path.abspath(__file__)), "trace.schema.json")
+HERE = os.path.dirname(os.path.abspath(__file__))
+# The schema stands in docs/ of the repository; a package that is installed holds a copy.
+SCHEMAS = [os.path.join(HERE, "trace.schema.json"), os.path.join(HERE, "../../docs/trace.schema.json")]
 MOST_BYTES = 16777216
 MOST_FRAMES = 16384
 MOST_ENTRIES = 16384
@@ -96,7 +98,7 @@ class Form:
     """The schema of traces."""
 
     def __init__(self):
-        with open(SCHEMA, encoding="utf-8") as file:
+        with open(next(filter(os.path.exists, SCHEMAS)), encoding="utf-8") as file:
             self.top = json.load(file)
         self.steps = self.ops(self.top["$defs"]["step"])
 
