@@ -138,6 +138,9 @@ if command -v bash > /dev/null; then
     "$program" --help 2>&1 | grep -o -- '--[a-z]*' | sort -u > "$there/words"
     bash -c '. completions/numatrace; COMP_WORDS=(numatrace --) COMP_CWORD=1; _numatrace; printf "%s\n" "${COMPREPLY[@]}"' | sort | cmp - "$there/words" ||
         fail "the completion has other words than the program"
+    bash -c '. completions/numalab; COMP_WORDS=(./numalab w) COMP_CWORD=1; _numalab; printf "%s " "${COMPREPLY[@]}"
+        COMP_WORDS=(./numalab why --) COMP_CWORD=2; _numalab; printf "%s " "${COMPREPLY[@]}"' > "$there/words"
+    [ "$(cat "$there/words")" = "write why --help --strict --no-hints --schema " ] || fail "the completion of numalab has other words than its help"
 fi
 
 # The script of this clone, also through a link.
