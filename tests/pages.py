@@ -1,0 +1,26 @@
+#!/usr/bin/env python3
+"""Whether tools/pages.py finds what it should: names that are there and names that are not, and headings as a forge makes them.
+Prints those that it takes for the other, and then ends with status 1."""
+import os
+import sys
+
+sys.dont_write_bytecode = True
+sys.path.insert(0, os.path.join(os.path.dirname(os.path.abspath(__file__)), "../tools"))
+import pages
+
+GOOD_PATHS = "./build docs/MODEL.md nm_calls/specs/Calls.antt specs/Calls.antt crates/NAME/x crates/numatrace/out/x tests/*.none /proc/x"
+BAD_PATHS = "./nothing docs/NOTHING.md nm_calls/specs/Nothing.antt specs/Nothing.antt crates/nothing/src tests/nothing.json"
+GOOD_NAMES = "System::call Vpn::offset(addr) nm_calls::System CallError::HostMemory laws::pages_migrate Vec::nothing"
+BAD_NAMES = "System::nothing Nothing::call nm_calls::nothing laws::nothing CallError::Nothing"
+PAGE = "# One `two`: it's\n## a_b\n```\n# code\n```\n## a_b\n"
+
+sources = pages.Sources()
+wrong = [word for words, lacks in ((GOOD_PATHS, False), (BAD_PATHS, True)) for word in words.split() if sources.lacks_path(word) != lacks]
+wrong += [word for words, lacks in ((GOOD_NAMES, False), (BAD_NAMES, True)) for word in words.split() if sources.lacks_name(word) != lacks]
+if pages.headings(PAGE) != {"one-two-its", "a_b", "a_b-1"}:
+    wrong.append(f"headings {pages.headings(PAGE)}")
+if not pages.bad_link("docs/MODEL.md", "#nothing", {}) or pages.bad_link("docs/MODEL.md", "../README.md", {}):
+    wrong.append("links")
+for word in wrong:
+    print(f"tools/pages.py is wrong about {word}")
+sys.exit(1 if wrong else 0)
