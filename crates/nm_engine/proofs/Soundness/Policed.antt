@@ -21,7 +21,7 @@ use Rattle.nm_areas.proofs.Apart.{all_then}
 use Rattle.nm_engine.proofs.Soundness.Allocated.{area_covers}
 use Rattle.nm_areas.proofs.Parted.{All-among, all_from_among, over_among, among_flat, part_of, any_among}
 use Rattle.nm_engine.proofs.Soundness.Dropped.{covers_shown, shown_number, part_within}
-use Rattle.nm_areas.proofs.Painted.{keys_painted}
+use Rattle.nm_areas.proofs.Shifts.{keys_painted}
 use Rattle.nm_areas.proofs.Shown.{split_shows, painted_shows}
 use Rattle.nm_areas.proofs.Policed.{paint, any_policy, all_painted, apart_painted}
 use Rattle.nm_areas.proofs.Repoliced.{split_apart, split_sorted, all_repoliced}
@@ -101,7 +101,7 @@ module _ (pid first end : ℕ) (policy : Policy) where
   alike_painted : (s : State) (areas : Map (ℕ × ℕ) Area) → IsAlike s areas → IsAlike s (with_values (paint pid first end policy) areas)
   alike_painted s areas alike =
       record {
-        sorted = subst (IsStrictlySortedBy spot_cmp) (sym (keys_painted pid first policy areas end)) alike.sorted;
+        sorted = subst (IsStrictlySortedBy spot_cmp) (sym (keys_painted pid first end policy areas)) alike.sorted;
         apart = apart_painted pid first end policy areas alike.apart;
         whole = all_painted pid first end policy (IsWhole s) (IsWhole s) (λ e whole. any_policy pid first end policy (λ x. IsWhole s (e.0, x)) e.0 e.1 whole whole) areas alike.whole;
         same = λ q w. painted_shows pid first end policy areas q w ∙ alike.same q w;
