@@ -1,0 +1,182 @@
+"""What the player is to do for a trace: its instructions, one a line, and what a trace has that no kernel can be made to play.
+
+Where a call is the model's own (a spawn, a map in the way of another, a pin of what is not there) and the model refuses it, the
+player prints the model's answer. A node that is full in the model is filled by a process of the player before the step."""
+from ..model import END, MOST_PINS, PAGE, Machine
+from ..traces import Bad
+from ..words import counted
+
+LOWEST, HIGHEST = 0x10000, 0x550000000000
+FIRST_USER = 20000
+MOST_PAGES = 1 << 20
+MOST_PROCESSES, MOST_SEGMENTS, MOST_AT_ONCE = 256, 1024, 256
+# The privilege of a privileged process.
+PRIVILEGES = {"nice": 1, "both": 2}
+# The steps that the player says the model's answer for where the model refuses them, and those that it never makes.
+OWN = {"spawn", "map", "attach", "pin", "unpin"}
+
+
+class Watched(Machine):
+    """The plain model, which tells of targets that run full within a step."""
+
+    def __init__(self, trace):
+        super().__init__(trace)
+        self.full, self.ran_full = set(), None
+
+    def status_of_page(self, run, page, target):
+        status = super().status_of_page(run, page, target)
+        if status == -12 and target not in self.full:
+            self.ran_full = target
+        return status
+
+
+class Instructions:
+    """The instructions for a trace."""
+
+    def __init__(self, trace, here=False, privilege="both"):
+        self.name, self.top, self.here, self.privilege = trace.name, trace.top, here, PRIVILEGES[privilege]
+        self.machine = Watched(trace.top)
+        self.users, self.pins, self.pins_made, self.filled = [], {}, 0, set()
+        self.shared, self.body = [], []
+        self.offlined = {step["node"] for step in trace.steps if step["op"] in ("offline", "online")}
+        for self.k, step in enumerate(trace.steps):
+            self.add(step)
+
+    @property
+    def nodes(self):
+        return len(self.top["machine"]["nodes"])
+
+    def text(self):
+        name = "".join(letter if letter.isalnum() or letter in "._-/" else "_" for letter in self.name)
+        return "".join(line + "\n" for line in [f"trace {name}", *self.shared, *self.body])
+
+    def cannot(self, why):
+        raise Bad(f"{self.name}: step {self.k}: {why}")
+
+    def add(self, step):
+        """Adds a step, and plays it on the model."""
+        machine, op = self.machine, step["op"]
+        machine.full = {node for node in machine.nodes if not machine.free[node]}
+        self.fill(machine.full)
+        machine.ran_full = None
+        place = self.pinned_page(step) if op in ("pin", "unpin") else None
+        head = machine.play(step)[0].split(" ", 2)[2]
+        if machine.ran_full is not None:
+            self.cannot(f"node {machine.ran_full} runs full within the step, and a kernel's node is made full before a step alone")
+        refused = head.startswith("error ")
+        if op == "free":
+            self.say(op, "-" if not refused else head)
+        elif refused and (op in OWN or op in ("read", "write") and head in ("error EINVAL", "error ESRCH")):
+            self.say(op, head)
+        else:
+            self.body.append(f"{self.k} {op} {getattr(self, op)(step) if place is None else self.pin_words(step, place)}")
+
+    def say(self, op, text):
+        self.body.append(f"{self.k} say {op} {text}")
+
+    def fill(self, full):
+        """Makes the full nodes so, and the others not."""
+        if full and self.here:
+            self.cannot(f"node {min(full)} is full, and --here fills no node of this machine")
+        if full and len(full) == self.nodes:
+            self.cannot("all nodes are full, and a kernel needs some memory for itself")
+        self.body += [f"drain {node}" for node in sorted(self.filled - full)]
+        source = min(set(range(self.nodes)) - full, default=0)
+        self.body += [f"fill {node} {source}" for node in sorted(full - self.filled)]
+        self.filled = full
+
+    # ---- the words of each step
+
+    def spawn(self, step):
+        if step["uid"] not in self.users:
+            self.users.append(step["uid"])
+        if len(self.machine.processes) > MOST_PROCESSES:
+            self.cannot(f"at most {MOST_PROCESSES} processes are played at a time")
+        allowed = sorted(set(step["allowed"]))
+        everywhere = len(allowed) == self.nodes
+        if self.here and not everywhere:
+            self.cannot("the process may not use all nodes, and --here makes no cpuset")
+        user = FIRST_USER + self.users.index(step["uid"])
+        privilege = self.privilege if step.get("privileged", False) else 0
+        return f"{step['pid']} {user} {privilege} {step['home']} {'-' if everywhere else ','.join(map(str, allowed))}"
+
+    def place(self, step):
+        end = step["addr"] + step["pages"] * PAGE
+        if step["addr"] < LOWEST or end > HIGHEST:
+            self.cannot(f"areas are played from {LOWEST:#x} to {HIGHEST:#x} alone")
+        if step["pages"] > MOST_PAGES:
+            self.cannot(f"an area of at most {counted(MOST_PAGES, 'page')} is played")
+
+    def map(self, step):
+        self.place(step)
+        segment = self.machine.segments_made - 1
+        if segment >= MOST_SEGMENTS:
+            self.cannot(f"at most {MOST_SEGMENTS:,} segments are played")
+        if step.get("shared", False):
+            self.shared.append(f"shared {segment} {step['pages']}")
+        return f"{step['pid']} {step['addr']:#x} {step['pages']} {segment} {int(step.get('shared', False))}"
+
+    def attach(self, step):
+        self.place(step)
+        return f"{step['pid']} {step['addr']:#x} {step['segment']} {step['offset']} {step['pages']}"
+
+    def unmap(self, step):
+        return f"{step['pid']} {step['addr']:#x} {min(step['pages'], END)}"
+
+    def exit(self, step):
+        return str(step["pid"])
+
+    pagemap = numa_maps = exit
+
+    def vmstat(self, _):
+        return ""
+
+    def offline(self, step):
+        if self.here:
+            self.cannot("--here takes no node of this machine away")
+        return str(step["node"])
+
+    online = offline
+
+    def pinned_page(self, step):
+        process = self.machine.processes.get(step["pid"])
+        return (process and process.seen.get(step["addr"] // PAGE)) or "nothing"
+
+    def pin_words(self, step, page):
+        """A pin is made by the process that asks for it, and let go by the one that made it."""
+        held = self.pins.setdefault(page, [])
+        if step["op"] == "unpin":
+            pid, number = held.pop()
+            return f"{pid} {number}"
+        if self.pins_made >= min(MOST_PINS, MOST_AT_ONCE):
+            self.cannot(f"at most {MOST_AT_ONCE} pins are played")
+        held.append((step["pid"], self.pins_made))
+        self.pins_made += 1
+        return f"{step['pid']} {step['addr']:#x} {held[-1][1]}"
+
+    def read(self, step):
+        return f"{step['pid']} {step['addr']:#x} {step['len']}"
+
+    def write(self, step):
+        return f"{step['pid']} {step['addr']:#x} {step['data']}"
+
+    def move_pages(self, step):
+        if step.get("during"):
+            self.cannot("accesses in flight are the model's own, and no kernel can be told when to make them")
+        entries = "".join(f" {address:#x} {node}" for address, node in zip(step["pages"], step["nodes"]))
+        return f"{step['caller']} {step['pid']} {step['flags']} {len(step['pages'])}{entries}"
+
+    def query(self, step):
+        entries = "".join(f" {address:#x}" for address in step["pages"])
+        return f"{step['caller']} {step['pid']} {step['flags']} {len(step['pages'])}{entries}"
+
+    def migrate_pages(self, step):
+        return f"{step['caller']} {step['pid']} {mask(step['old']):#x} {mask(step['new']):#x}"
+
+    def mbind(self, step):
+        return f"{step['caller']} {step['addr']:#x} {step['len']} {step['mode']} {mask(step['nodes']):#x} {step['flags']}"
+
+
+def mask(nodes):
+    """A set of nodes as a number with a bit for each."""
+    return sum(1 << node for node in set(nodes))

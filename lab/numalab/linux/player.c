@@ -1,0 +1,840 @@
+// Makes the calls of a trace for real, and prints what the kernel answers as a report, with nodes in place of frames.
+//
+// Standard input has one instruction a line, as numalab/linux/translate.py writes them. Each process of the trace is a child, which
+// gets the lines of its own calls by a pipe and answers each by a line. As process 1 of a guest the player mounts what it needs,
+// reads /program, writes the report to the second serial line, and turns the machine off.
+#define _GNU_SOURCE
+#include <ctype.h>
+#include <dirent.h>
+#include <errno.h>
+#include <fcntl.h>
+#include <linux/capability.h>
+#include <poll.h>
+#include <sched.h>
+#include <setjmp.h>
+#include <signal.h>
+#include <stdarg.h>
+#include <stdbool.h>
+#include <stdint.h>
+#include <stdio.h>
+#include <stdlib.h>
+#include <string.h>
+#include <sys/mman.h>
+#include <sys/mount.h>
+#include <sys/prctl.h>
+#include <sys/reboot.h>
+#include <sys/stat.h>
+#include <sys/syscall.h>
+#include <sys/uio.h>
+#include <sys/utsname.h>
+#include <sys/wait.h>
+#include <termios.h>
+#include <unistd.h>
+
+enum { PAGE = 4096, MOST_ENTRIES = 16384, MOST_PROCESSES = 256, MOST_SEGMENTS = 1024, MOST_PINS = 256, MOST_NODES = 64 };
+enum { BUFFER = 1 << 20, UNWRITTEN = -9999, PATIENCE = 60, NO_PID = 0x3ffffff };
+#define TIME_LIMIT_OF_OFFLINE 10
+
+struct process {
+    unsigned number; // as the trace has it; 0 where there is none
+    pid_t pid;
+    int to, from;
+};
+
+static struct process processes[MOST_PROCESSES];
+static int segments[MOST_SEGMENTS];
+static pid_t fillers[MOST_NODES];
+static int pins[MOST_PINS][2];
+static char line[BUFFER], answer[BUFFER];
+static size_t told; // how long the answer is so far
+static void *pages[MOST_ENTRIES];
+static int nodes[MOST_ENTRIES], statuses[MOST_ENTRIES];
+static unsigned long own_low = ~0UL; // the lowest address that the player itself has something at
+static long moved_before, failed_before;
+static FILE *report;
+static sigjmp_buf fault;
+
+// ---- texts
+
+static void stop(const char *what)
+{
+    fprintf(stderr, "player: %s: %s\n", what, strerror(errno));
+    if (getpid() == 1) {
+        sync();
+        reboot(RB_POWER_OFF);
+    }
+    exit(3);
+}
+
+static const char *error_name(int error)
+{
+    const char *name = strerrorname_np(error);
+    return name ? name : "UNKNOWN";
+}
+
+static void say_nothing(void)
+{
+    told = 0;
+    answer[0] = 0;
+}
+
+// Adds to the answer, which keeps room for what stands around it.
+static void say(const char *form, ...)
+{
+    va_list words;
+    va_start(words, form);
+    int length = vsnprintf(answer + told, sizeof answer - 64 - told, form, words);
+    va_end(words);
+    told += (size_t)length < sizeof answer - 64 - told ? (size_t)length : 0;
+}
+
+// Puts a count before what was said.
+static void say_before(unsigned long count, const char *between)
+{
+    static char held[BUFFER];
+    memcpy(held, answer, told + 1);
+    say_nothing();
+    say("%lu%s%s", count, between, held);
+}
+
+static void say_result(long result)
+{
+    if (result < 0)
+        say("error %s", error_name(errno));
+    else
+        say("ok");
+}
+
+// The next word of the line that is being read.
+static char *words;
+static char *word(void)
+{
+    char *found = strtok_r(NULL, " \n", &words);
+    return found ? found : (char *)"";
+}
+
+static unsigned long number(void)
+{
+    return strtoul(word(), NULL, 0);
+}
+
+static void write_text(const char *path, const char *text)
+{
+    int file = open(path, O_WRONLY | O_CLOEXEC);
+    if (file < 0 || write(file, text, strlen(text)) < 0)
+        stop(path);
+    close(file);
+}
+
+static void write_all(int file, const char *text)
+{
+    for (size_t left = strlen(text); left;) {
+        ssize_t done = write(file, text, left);
+        if (done < 0)
+            return; // The other end is gone, which the answer will tell.
+        text += done;
+        left -= (size_t)done;
+    }
+}
+
+// Reads up to the end of a line, and says whether there was one within some seconds.
+static bool read_line(int file, char *to, int seconds)
+{
+    size_t length = 0;
+    while (length + 1 < BUFFER) {
+        struct pollfd wait = {.fd = file, .events = POLLIN};
+        if (poll(&wait, 1, seconds < 0 ? -1 : seconds * 1000) <= 0)
+            return false;
+        ssize_t got = read(file, to + length, BUFFER - 1 - length);
+        if (got <= 0)
+            return false;
+        length += (size_t)got;
+        to[length] = 0;
+        if (to[length - 1] == '\n') {
+            to[length - 1] = 0;
+            return true;
+        }
+    }
+    return false;
+}
+
+// ---- what a process of the trace does
+
+static void on_fault(int number_of_signal)
+{
+    (void)number_of_signal;
+    siglongjmp(fault, 1);
+}
+
+static void do_read(void)
+{
+    const volatile unsigned char *from = (void *)number();
+    size_t length = number();
+    if (sigsetjmp(fault, 1)) {
+        say_nothing();
+        say("error EFAULT");
+        return;
+    }
+    for (size_t at = 0; at < length; at++)
+        say("%02x", from[at]);
+}
+
+static void do_write(void)
+{
+    volatile unsigned char *to = (void *)number();
+    const char *data = word();
+    if (sigsetjmp(fault, 1)) {
+        say("error EFAULT");
+        return;
+    }
+    unsigned byte;
+    for (size_t at = 0; sscanf(data + 2 * at, "%2x", &byte) == 1; at++)
+        to[at] = (unsigned char)byte;
+    say("ok");
+}
+
+static void do_map(void)
+{
+    void *at = (void *)number();
+    size_t length = number() * PAGE;
+    unsigned long segment = number(), shared = number();
+    int flags = MAP_FIXED_NOREPLACE | MAP_NORESERVE | (shared ? MAP_SHARED : MAP_PRIVATE | MAP_ANONYMOUS);
+    void *got = mmap(at, length, PROT_READ | PROT_WRITE, flags, shared ? segments[segment] : -1, 0);
+    if (got == MAP_FAILED)
+        say_result(-1);
+    else
+        say("segment=%lu", segment);
+}
+
+static void do_attach(void)
+{
+    void *at = (void *)number();
+    int file = segments[number()];
+    off_t offset = (off_t)(number() * PAGE);
+    size_t length = number() * PAGE;
+    void *got = mmap(at, length, PROT_READ | PROT_WRITE, MAP_FIXED_NOREPLACE | MAP_NORESERVE | MAP_SHARED, file, offset);
+    say_result(got == MAP_FAILED ? -1 : 0);
+}
+
+static void do_unmap(void)
+{
+    void *at = (void *)number();
+    say_result(munmap(at, number() * PAGE));
+}
+
+// A pin is a pipe that holds the page.
+static void do_pin(void)
+{
+    struct iovec part = {(void *)number(), 1};
+    int *pin = pins[number() % MOST_PINS];
+    if (pipe2(pin, O_CLOEXEC) < 0)
+        say_result(-1);
+    else
+        say_result(vmsplice(pin[1], &part, 1, 0));
+}
+
+static void do_unpin(void)
+{
+    int *pin = pins[number() % MOST_PINS];
+    close(pin[0]);
+    say_result(close(pin[1]));
+}
+
+static void say_statuses(long result, unsigned long count)
+{
+    if (result < 0) {
+        say_result(result);
+        return;
+    }
+    say("%ld:", result);
+    for (unsigned long at = 0; at < count; at++)
+        say(statuses[at] == UNWRITTEN ? " -" : " %d", statuses[at]);
+}
+
+static void do_move_pages(bool query)
+{
+    pid_t pid = (pid_t)number();
+    int flags = (int)number();
+    unsigned long count = number();
+    for (unsigned long at = 0; at < count && at < MOST_ENTRIES; at++) {
+        pages[at] = (void *)number();
+        nodes[at] = query ? 0 : (int)number();
+        statuses[at] = UNWRITTEN;
+    }
+    long result = syscall(SYS_move_pages, pid, count, pages, query ? NULL : nodes, statuses, flags);
+    say_statuses(result, count);
+}
+
+static void do_migrate_pages(void)
+{
+    pid_t pid = (pid_t)number();
+    unsigned long from = number(), to = number();
+    long result = syscall(SYS_migrate_pages, pid, 8 * sizeof from + 1, &from, &to);
+    if (result < 0)
+        say_result(result);
+    else
+        say("%ld", result);
+}
+
+static void do_mbind(void)
+{
+    void *at = (void *)number();
+    unsigned long length = number(), mode = number(), mask = number(), flags = number();
+    long result = syscall(SYS_mbind, at, length, mode, mask ? &mask : NULL, mask ? 8 * sizeof mask + 1 : 0, flags);
+    if (result < 0)
+        say_result(result);
+    else
+        say("%ld", result);
+}
+
+// The pages of a range that this process has something at, by address.
+static unsigned long say_range(int map, unsigned long first, unsigned long end)
+{
+    unsigned long found = 0;
+    for (unsigned long at = first; at < end; at += PAGE) {
+        uint64_t entry = 0;
+        if (pread(map, &entry, sizeof entry, (off_t)(at / PAGE * sizeof entry)) != sizeof entry || !(entry >> 63))
+            continue;
+        void *page = (void *)at;
+        int status = UNWRITTEN;
+        syscall(SYS_move_pages, 0, 1, &page, NULL, &status, 0);
+        if (status >= 0)
+            say(" %08lx=%d", at, status);
+        else
+            say(" %08lx=zero", at);
+        found++;
+    }
+    return found;
+}
+
+static void do_pagemap(void)
+{
+    FILE *maps = fopen("/proc/self/maps", "re");
+    int map = open("/proc/self/pagemap", O_RDONLY | O_CLOEXEC);
+    if (!maps || map < 0) {
+        say_result(-1);
+        return;
+    }
+    unsigned long first, end, found = 0;
+    while (fscanf(maps, "%lx-%lx%*[^\n]", &first, &end) == 2)
+        if (first < own_low)
+            found += say_range(map, first, end);
+    fclose(maps);
+    close(map);
+    say_before(found, ":");
+}
+
+// One line of numa_maps, with the fields that a report has. Lines are parted by ; on the way to the player.
+static void say_area(char *text)
+{
+    unsigned long counts[MOST_NODES] = {0}, sum = 0, most = 0, node, count;
+    char *rest = text, *address = strtok_r(rest, " \n", &rest), *policy = strtok_r(rest, " \n", &rest), *field;
+    while ((field = strtok_r(rest, " \n", &rest))) {
+        if (sscanf(field, "N%lu=%lu", &node, &count) == 2 && node < MOST_NODES)
+            sum += counts[node] = count;
+        sscanf(field, "mapmax=%lu", &most);
+    }
+    say(";%s %s", address, policy);
+    if (!sum)
+        return;
+    say(" anon=%lu", sum);
+    if (most > 1)
+        say(" mapmax=%lu", most);
+    for (node = 0; node < MOST_NODES; node++)
+        if (counts[node])
+            say(" N%lu=%lu", node, counts[node]);
+    say(" kernelpagesize_kB=4");
+}
+
+static void do_numa_maps(void)
+{
+    static char text[PAGE];
+    FILE *maps = fopen("/proc/self/numa_maps", "re");
+    unsigned long found = 0;
+    if (!maps) {
+        say_result(-1);
+        return;
+    }
+    while (fgets(text, sizeof text, maps)) {
+        if (strtoul(text, NULL, 16) < own_low) {
+            say_area(text);
+            found++;
+        }
+    }
+    fclose(maps);
+    say_before(found, "");
+}
+
+static void perform(const char *call)
+{
+    static const struct { const char *name; void (*act)(void); } acts[] = {
+        {"read", do_read}, {"write", do_write}, {"map", do_map}, {"attach", do_attach}, {"unmap", do_unmap}, {"pin", do_pin},
+        {"unpin", do_unpin}, {"migrate_pages", do_migrate_pages}, {"mbind", do_mbind}, {"pagemap", do_pagemap},
+        {"numa_maps", do_numa_maps},
+    };
+    say_nothing();
+    if (!strcmp(call, "move_pages") || !strcmp(call, "query"))
+        do_move_pages(*call == 'q');
+    for (size_t at = 0; at < sizeof acts / sizeof *acts; at++)
+        if (!strcmp(call, acts[at].name))
+            acts[at].act();
+}
+
+// Who a process is: its user, and its privilege, which is CAP_SYS_NICE and, unless it has that alone, CAP_SYS_PTRACE.
+static void become(unsigned long user, unsigned long privilege)
+{
+    struct __user_cap_header_struct head = {_LINUX_CAPABILITY_VERSION_3, 0};
+    struct __user_cap_data_struct sets[2] = {{0}};
+    if (privilege >= 1)
+        sets[0].effective |= 1U << CAP_SYS_NICE;
+    if (privilege >= 2)
+        sets[0].effective |= 1U << CAP_SYS_PTRACE;
+    sets[0].permitted = sets[0].effective;
+    prctl(PR_SET_KEEPCAPS, 1);
+    if (user && (setresgid((gid_t)user, (gid_t)user, (gid_t)user) < 0 || setresuid((uid_t)user, (uid_t)user, (uid_t)user) < 0))
+        stop("setresuid");
+    if (user && syscall(SYS_capset, &head, sets) < 0)
+        stop("capset");
+    prctl(PR_SET_DUMPABLE, 1); // A change of user takes this away, and others of the same user may look no more.
+}
+
+static void live(int from, int to, unsigned long user, unsigned long privilege, unsigned long home, bool here)
+{
+    cpu_set_t where;
+    CPU_ZERO(&where);
+    CPU_SET(home, &where);
+    if (!here && sched_setaffinity(0, sizeof where, &where) < 0)
+        stop("sched_setaffinity");
+    struct sigaction act = {.sa_handler = on_fault, .sa_flags = SA_NODEFER};
+    sigaction(SIGSEGV, &act, NULL);
+    sigaction(SIGBUS, &act, NULL);
+    write_text("/proc/self/oom_score_adj", "1000");
+    prctl(PR_SET_THP_DISABLE, 1, 0, 0, 0);
+    prctl(PR_SET_PDEATHSIG, SIGKILL);
+    become(user, privilege);
+    write_all(to, "ok\n");
+    while (read_line(from, line, -1)) {
+        words = line;
+        perform(word());
+        strcat(answer, "\n");
+        write_all(to, answer);
+    }
+    _exit(0);
+}
+
+// ---- the player
+
+static struct process *process_of(unsigned long asked)
+{
+    for (int at = 0; at < MOST_PROCESSES; at++)
+        if (asked && processes[at].number == asked)
+            return &processes[at];
+    return NULL;
+}
+
+static void bury(struct process *process)
+{
+    kill(process->pid, SIGKILL);
+    waitpid(process->pid, NULL, 0);
+    close(process->to);
+    close(process->from);
+    process->number = 0;
+}
+
+// Puts a process that is not yet its user's into a cpuset of these nodes.
+static void confine(pid_t pid, const char *allowed)
+{
+    char path[128], text[32];
+    snprintf(path, sizeof path, "/sys/fs/cgroup/p%d", pid);
+    if (mkdir(path, 0755) < 0)
+        stop(path);
+    snprintf(path, sizeof path, "/sys/fs/cgroup/p%d/cpuset.mems", pid);
+    write_text(path, allowed);
+    snprintf(path, sizeof path, "/sys/fs/cgroup/p%d/cgroup.procs", pid);
+    snprintf(text, sizeof text, "%d", pid);
+    write_text(path, text);
+}
+
+static void start_process(struct process *process, bool here)
+{
+    int down[2], up[2];
+    unsigned long user = number(), privilege = number(), home = number();
+    const char *allowed = word();
+    if (pipe2(down, O_CLOEXEC) < 0 || pipe2(up, O_CLOEXEC) < 0)
+        stop("pipe");
+    process->pid = fork();
+    if (process->pid < 0)
+        stop("fork");
+    if (process->pid == 0) {
+        close(down[1]);
+        close(up[0]);
+        char go;
+        if (read(down[0], &go, 1) != 1)
+            _exit(0);
+        live(down[0], up[1], user, privilege, home, here);
+    }
+    close(down[0]);
+    close(up[1]);
+    process->to = down[1];
+    process->from = up[0];
+    if (*allowed != '-')
+        confine(process->pid, allowed);
+    write_all(process->to, "\n");
+    if (!read_line(process->from, answer, PATIENCE))
+        stop("a process did not start");
+}
+
+static void do_spawn(bool here)
+{
+    unsigned long asked = number();
+    for (int at = 0; at < MOST_PROCESSES; at++) {
+        if (!processes[at].number) {
+            processes[at].number = (unsigned)asked;
+            start_process(&processes[at], here);
+            return;
+        }
+    }
+    say("error EAGAIN");
+}
+
+static void do_exit(void)
+{
+    struct process *process = process_of(number());
+    if (process)
+        bury(process);
+    say(process ? "ok" : "error ESRCH");
+}
+
+// A call of a process goes to it, with the real pids of those that it names.
+static void hand_on(const char *call)
+{
+    static char sent[BUFFER];
+    struct process *process = process_of(number());
+    bool names = !strcmp(call, "move_pages") || !strcmp(call, "query") || !strcmp(call, "migrate_pages");
+    if (!process) {
+        say("error ESRCH");
+        return;
+    }
+    if (names) {
+        unsigned long asked = number();
+        struct process *target = process_of(asked);
+        snprintf(sent, sizeof sent, "%s %d %s\n", call, asked == 0 ? 0 : target ? target->pid : NO_PID, words ? words : "");
+    } else {
+        snprintf(sent, sizeof sent, "%s %s\n", call, words ? words : "");
+    }
+    write_all(process->to, sent);
+    if (!read_line(process->from, answer, PATIENCE)) {
+        bool gone = waitpid(process->pid, NULL, WNOHANG) == process->pid;
+        bury(process);
+        say_nothing();
+        say(gone ? "killed" : "hangs");
+    }
+}
+
+static void read_totals(long *moved, long *failed)
+{
+    char name[64];
+    long value;
+    FILE *file = fopen("/proc/vmstat", "re");
+    *moved = *failed = 0;
+    while (file && fscanf(file, "%63s %ld", name, &value) == 2) {
+        if (!strcmp(name, "pgmigrate_success"))
+            *moved = value;
+        if (!strcmp(name, "pgmigrate_fail"))
+            *failed = value;
+    }
+    if (file)
+        fclose(file);
+}
+
+static void do_vmstat(void)
+{
+    long moved, failed;
+    read_totals(&moved, &failed);
+    say("pgmigrate_success %ld pgmigrate_fail %ld", moved - moved_before, failed - failed_before);
+}
+
+// ---- full nodes: a process takes what there is, by first touches while there is plenty and by moves up to the watermark
+
+static unsigned long free_pages_of(unsigned long node)
+{
+    char path[96], text[256];
+    unsigned long kilobytes = 0;
+    snprintf(path, sizeof path, "/sys/devices/system/node/node%lu/meminfo", node);
+    FILE *file = fopen(path, "re");
+    while (file && fgets(text, sizeof text, file))
+        sscanf(text, "Node %*u MemFree: %lu", &kilobytes);
+    if (file)
+        fclose(file);
+    return kilobytes / 4;
+}
+
+static void touch_on(unsigned long node, unsigned long count)
+{
+    unsigned long mask = 1UL << node;
+    char *at = mmap(NULL, count * PAGE, PROT_READ | PROT_WRITE, MAP_PRIVATE | MAP_ANONYMOUS, -1, 0);
+    if (at == MAP_FAILED || syscall(SYS_mbind, at, count * PAGE, 1, &mask, 8 * sizeof mask + 1, 0) < 0)
+        stop("a node cannot be filled");
+    for (unsigned long page = 0; page < count; page++)
+        at[page * PAGE] = 1;
+}
+
+// Moves pages to the node until there is no room for one more.
+static void move_to(unsigned long node, unsigned long source, unsigned long most)
+{
+    for (unsigned long step = 32, tried = 0; tried < most; tried += step) {
+        unsigned long mask = 1UL << source;
+        char *at = mmap(NULL, step * PAGE, PROT_READ | PROT_WRITE, MAP_PRIVATE | MAP_ANONYMOUS, -1, 0);
+        if (at == MAP_FAILED || syscall(SYS_mbind, at, step * PAGE, 1, &mask, 8 * sizeof mask + 1, 0) < 0)
+            stop("a node cannot be filled");
+        for (unsigned long page = 0; page < step; page++) {
+            at[page * PAGE] = 1;
+            pages[page] = at + page * PAGE;
+            nodes[page] = (int)node;
+        }
+        if (syscall(SYS_move_pages, 0, step, pages, nodes, statuses, 2) == 0)
+            continue;
+        if (step == 1)
+            return;
+        step = 1;
+    }
+}
+
+static void do_fill(void)
+{
+    unsigned long node = number(), source = number();
+    long moved[2], failed[2];
+    int up[2];
+    read_totals(&moved[0], &failed[0]);
+    if (pipe2(up, O_CLOEXEC) < 0)
+        stop("pipe");
+    fillers[node] = fork();
+    if (fillers[node] == 0) {
+        prctl(PR_SET_PDEATHSIG, SIGKILL);
+        prctl(PR_SET_THP_DISABLE, 1, 0, 0, 0);
+        write_text("/proc/self/oom_score_adj", "-1000");
+        unsigned long there = free_pages_of(node);
+        if (there > 2048)
+            touch_on(node, there - 2048);
+        move_to(node, source, 1 << 16);
+        write_all(up[1], "ok\n");
+        pause();
+        _exit(0);
+    }
+    close(up[1]);
+    if (!read_line(up[0], answer, PATIENCE))
+        stop("a node was not filled");
+    close(up[0]);
+    read_totals(&moved[1], &failed[1]);
+    moved_before += moved[1] - moved[0];
+    failed_before += failed[1] - failed[0];
+}
+
+static void drain(unsigned long node)
+{
+    if (!fillers[node])
+        return;
+    kill(fillers[node], SIGKILL);
+    waitpid(fillers[node], NULL, 0);
+    fillers[node] = 0;
+}
+
+// ---- nodes that go and come
+
+static bool set_blocks(unsigned long node, const char *state)
+{
+    char path[128], block[512];
+    bool well = true;
+    snprintf(path, sizeof path, "/sys/devices/system/node/node%lu", node);
+    DIR *folder = opendir(path);
+    for (struct dirent *entry; folder && (entry = readdir(folder));) {
+        if (strncmp(entry->d_name, "memory", 6) || !isdigit((unsigned char)entry->d_name[6]))
+            continue;
+        snprintf(block, sizeof block, "%s/%s/state", path, entry->d_name);
+        int file = open(block, O_WRONLY | O_CLOEXEC);
+        if (file < 0 || (write(file, state, strlen(state)) < 0 && errno != EINVAL))
+            well = false;
+        if (file >= 0)
+            close(file);
+    }
+    if (folder)
+        closedir(folder);
+    return folder && well;
+}
+
+static void on_alarm(int number_of_signal)
+{
+    (void)number_of_signal;
+}
+
+static void do_offline(void)
+{
+    unsigned long node = number();
+    int status = 0;
+    pid_t helper = fork();
+    if (helper == 0) {
+        struct sigaction act = {.sa_handler = on_alarm};
+        sigaction(SIGALRM, &act, NULL);
+        alarm(TIME_LIMIT_OF_OFFLINE);
+        _exit(set_blocks(node, "offline") ? 0 : 1);
+    }
+    waitpid(helper, &status, 0);
+    if (status == 0) {
+        say("ok");
+        return;
+    }
+    set_blocks(node, "online_movable");
+    say("error EBUSY");
+}
+
+static void do_online(void)
+{
+    say(set_blocks(number(), "online_movable") ? "ok" : "error EIO");
+}
+
+// ---- a trace
+
+static void do_shared(void)
+{
+    unsigned long segment = number(), count = number();
+    int file = memfd_create("segment", MFD_CLOEXEC);
+    if (segment >= MOST_SEGMENTS || file < 0 || ftruncate(file, (off_t)(count * PAGE)) < 0)
+        stop("memfd_create");
+    segments[segment] = file;
+}
+
+static void forget_all(void)
+{
+    for (int at = 0; at < MOST_PROCESSES; at++) {
+        if (processes[at].number)
+            bury(&processes[at]);
+    }
+    for (unsigned long node = 0; node < MOST_NODES; node++)
+        drain(node);
+    for (int at = 0; at < MOST_SEGMENTS; at++) {
+        if (segments[at])
+            close(segments[at]);
+        segments[at] = 0;
+    }
+}
+
+static void print_step(const char *step, const char *call)
+{
+    fprintf(report, "%s %s ", step, call);
+    for (char *at = answer; *at; at++)
+        fputc(*at == ';' && !strcmp(call, "numa_maps") ? '\n' : *at, report);
+    fputc('\n', report);
+    fflush(report);
+}
+
+static void play_step(const char *step, const char *call, bool here)
+{
+    say_nothing();
+    if (!strcmp(call, "say")) {
+        call = word();
+        say("%s", words ? words : "");
+        answer[strcspn(answer, "\n")] = 0;
+    } else if (!strcmp(call, "spawn"))
+        do_spawn(here);
+    else if (!strcmp(call, "exit"))
+        do_exit();
+    else if (!strcmp(call, "vmstat"))
+        do_vmstat();
+    else if (!strcmp(call, "offline"))
+        do_offline();
+    else if (!strcmp(call, "online"))
+        do_online();
+    else
+        hand_on(call);
+    print_step(step, call);
+}
+
+static void play_line(bool here)
+{
+    char *first = word();
+    if (!strcmp(first, "trace")) {
+        forget_all();
+        read_totals(&moved_before, &failed_before);
+        fprintf(report, "# trace %s\n", word());
+    } else if (!strcmp(first, "shared"))
+        do_shared();
+    else if (!strcmp(first, "fill"))
+        do_fill();
+    else if (!strcmp(first, "drain"))
+        drain(number());
+    else if (*first) {
+        char *call = word();
+        play_step(first, call, here);
+    }
+}
+
+static void find_own(void)
+{
+    FILE *maps = fopen("/proc/self/maps", "re");
+    if (!maps || fscanf(maps, "%lx", &own_low) != 1)
+        stop("/proc/self/maps");
+    fclose(maps);
+}
+
+static void play(FILE *program, bool here)
+{
+    struct utsname name;
+    uname(&name);
+    find_own();
+    fprintf(report, "# Linux %s\n", name.release);
+    while (fgets(line, sizeof line, program)) {
+        words = line;
+        play_line(here);
+    }
+    forget_all();
+    fprintf(report, "# end\n");
+    fflush(report);
+}
+
+// ---- a guest
+
+static void mount_all(void)
+{
+    mkdir("/proc", 0755);
+    mkdir("/sys", 0755);
+    mkdir("/dev", 0755);
+    if (mount("proc", "/proc", "proc", 0, NULL) < 0 || mount("sysfs", "/sys", "sysfs", 0, NULL) < 0)
+        stop("mount");
+    if (mount("devtmpfs", "/dev", "devtmpfs", 0, NULL) < 0 || mount("cgroup2", "/sys/fs/cgroup", "cgroup2", 0, NULL) < 0)
+        stop("mount");
+    write_text("/sys/fs/cgroup/cgroup.subtree_control", "+cpuset");
+}
+
+static FILE *serial_line(void)
+{
+    struct termios raw;
+    int file = open("/dev/ttyS1", O_WRONLY | O_NOCTTY | O_CLOEXEC);
+    if (file < 0 || tcgetattr(file, &raw) < 0)
+        stop("/dev/ttyS1");
+    cfmakeraw(&raw);
+    tcsetattr(file, TCSANOW, &raw);
+    return fdopen(file, "w");
+}
+
+static void be_init(void)
+{
+    mount_all();
+    FILE *program = fopen("/program", "re");
+    report = serial_line();
+    if (!program || !report)
+        stop("/program");
+    play(program, false);
+    tcdrain(fileno(report));
+    reboot(RB_POWER_OFF);
+    for (;;)
+        pause();
+}
+
+int main(void)
+{
+    if (getpid() == 1)
+        be_init();
+    report = stdout;
+    play(stdin, true);
+    return 0;
+}
