@@ -1,0 +1,65 @@
+"""Reports of kernels: the form of the program's, with nodes in place of frames, and lines that begin with # around them."""
+import re
+from collections import namedtuple
+
+from ..report import node_ranges
+from ..traces import Bad
+
+HEAD = re.compile(r"# Linux (\S+)")
+STEP = re.compile(r"(0|[1-9][0-9]*) ([a-z_]+) (.*)")
+ENTRY = re.compile(r"=(\d+)")
+
+# What a kernel told of a trace: its release, and for each step its lines.
+Replayed = namedtuple("Replayed", "release steps")
+
+
+def by_step(lines, name):
+    """The lines of a report by steps."""
+    steps = []
+    for number, line in enumerate(lines, 1):
+        match = STEP.fullmatch(line)
+        if match and match[1] == str(len(steps)):
+            steps.append([line])
+        elif steps and re.match(r"[0-9a-f]{8,}[ ;]|\d+\.\d+ ", line):
+            steps[-1].append(line)
+        else:
+            raise Bad(f"{name}: line {number}: wanted is the line of step {len(steps)}")
+    return steps
+
+
+def read_replayed(text, name):
+    """What a replay of one trace told."""
+    release, lines = None, []
+    for line in text.split("\n"):
+        head = HEAD.match(line)
+        if head:
+            release = head[1]
+        elif line and not line.startswith("#"):
+            lines.append(line)
+    if release is None:
+        raise Bad(f"{name}: the line '# Linux RELEASE' is missing: this is no report of a replay")
+    if not text.endswith("# end\n"):
+        raise Bad(f"{name}: the line '# end' is missing: the report was cut")
+    return Replayed(release, by_step(lines, name))
+
+
+def parts(text):
+    """The reports of several traces that one guest played, in their order, each with its head and end."""
+    head, *rest = re.split(r"(?m)^# trace .*\n", text)
+    bodies = [body[: -len("# end\n")] if body.endswith("# end\n") else body for body in rest]
+    return [f"{head}{body}# end\n" for body in bodies]
+
+
+def frames_apart(top, lines):
+    """The lines of a step with nodes in place of frames, and without lists of free frames."""
+    ranges = node_ranges(top)
+
+    def node(match):
+        return "=" + str(next(place for place, frames in enumerate(ranges) if int(match[1]) in frames))
+
+    _, op, answer = lines[0].split(" ", 2)
+    if op == "free" and not answer.startswith("error "):
+        return [lines[0].split(" ", 2)[0] + " free -"]
+    if op == "pagemap" and not answer.startswith("error "):
+        return [ENTRY.sub(node, lines[0])]
+    return lines
