@@ -45,6 +45,7 @@ static struct process processes[MOST_PROCESSES];
 static int segments[MOST_SEGMENTS];
 static pid_t fillers[MOST_NODES];
 static int pins[MOST_PINS][2];
+static bool away[MOST_NODES];
 static char line[BUFFER], answer[BUFFER];
 static size_t told; // how long the answer is so far
 static void *pages[MOST_ENTRIES];
@@ -329,12 +330,15 @@ static void say_area(char *text)
 {
     unsigned long counts[MOST_NODES] = {0}, sum = 0, most = 0, node, count;
     char *rest = text, *address = strtok_r(rest, " \n", &rest), *policy = strtok_r(rest, " \n", &rest), *field;
+    const char *many = "";
     while ((field = strtok_r(rest, " \n", &rest))) {
+        if (*field == '(')
+            many = field; // prefer (many):1
         if (sscanf(field, "N%lu=%lu", &node, &count) == 2 && node < MOST_NODES)
             sum += counts[node] = count;
         sscanf(field, "mapmax=%lu", &most);
     }
-    say(";%s %s", address, policy);
+    say(";%s %s%s", address, policy, many);
     if (!sum)
         return;
     say(" anon=%lu", sum);
@@ -424,6 +428,31 @@ static void live(int from, int to, unsigned long user, unsigned long privilege, 
 
 // ---- the player
 
+static void read_totals(long *moved, long *failed)
+{
+    char name[64];
+    long value;
+    FILE *file = fopen("/proc/vmstat", "re");
+    *moved = *failed = 0;
+    while (file && fscanf(file, "%63s %ld", name, &value) == 2) {
+        if (!strcmp(name, "pgmigrate_success"))
+            *moved = value;
+        if (!strcmp(name, "pgmigrate_fail"))
+            *failed = value;
+    }
+    if (file)
+        fclose(file);
+}
+
+// What the player itself moves does not count: how many pages there were before and are after it.
+static void leave_out(long moved, long failed)
+{
+    long moved_now, failed_now;
+    read_totals(&moved_now, &failed_now);
+    moved_before += moved_now - moved;
+    failed_before += failed_now - failed;
+}
+
 static struct process *process_of(unsigned long asked)
 {
     for (int at = 0; at < MOST_PROCESSES; at++)
@@ -477,8 +506,11 @@ static void start_process(struct process *process, bool here)
     close(up[1]);
     process->to = down[1];
     process->from = up[0];
+    long moved, failed;
+    read_totals(&moved, &failed);
     if (*allowed != '-')
         confine(process->pid, allowed);
+    leave_out(moved, failed);
     write_all(process->to, "\n");
     if (!read_line(process->from, answer, PATIENCE))
         stop("a process did not start");
@@ -505,46 +537,71 @@ static void do_exit(void)
     say(process ? "ok" : "error ESRCH");
 }
 
+// The nodes of the pages that a process has of the player itself, which migrate_pages moves as well.
+static unsigned long own_pages(pid_t pid, void **found, int *where)
+{
+    char path[64], text[512];
+    unsigned long first, end, count = 0;
+    snprintf(path, sizeof path, "/proc/%d/maps", pid);
+    FILE *maps = fopen(path, "re");
+    while (maps && fgets(text, sizeof text, maps)) {
+        if (sscanf(text, "%lx-%lx", &first, &end) != 2 || first < own_low)
+            continue;
+        for (unsigned long at = first; at < end && count < MOST_ENTRIES; at += PAGE)
+            found[count++] = (void *)at;
+    }
+    if (maps)
+        fclose(maps);
+    if (!count || syscall(SYS_move_pages, pid, count, found, NULL, where, 0) != 0)
+        return 0;
+    return count;
+}
+
+static void ask(struct process *process, const char *sent)
+{
+    write_all(process->to, sent);
+    if (read_line(process->from, answer, PATIENCE))
+        return;
+    usleep(20000);
+    bool gone = waitpid(process->pid, NULL, WNOHANG) == process->pid;
+    bury(process);
+    say_nothing();
+    say(gone ? "killed" : "hangs");
+}
+
+// migrate_pages, with the player's own pages left out of the totals. The same page may have had another node before.
+static void ask_to_migrate(struct process *process, struct process *target, const char *sent)
+{
+    static int before[MOST_ENTRIES], after[MOST_ENTRIES];
+    unsigned long count = target ? own_pages(target->pid, pages, before) : 0;
+    ask(process, sent);
+    if (!count || own_pages(target->pid, pages, after) != count)
+        return;
+    for (unsigned long at = 0; at < count; at++)
+        moved_before += before[at] >= 0 && after[at] >= 0 && before[at] != after[at];
+}
+
 // A call of a process goes to it, with the real pids of those that it names.
 static void hand_on(const char *call)
 {
     static char sent[BUFFER];
     struct process *process = process_of(number());
-    bool names = !strcmp(call, "move_pages") || !strcmp(call, "query") || !strcmp(call, "migrate_pages");
     if (!process) {
         say("error ESRCH");
         return;
     }
-    if (names) {
-        unsigned long asked = number();
-        struct process *target = process_of(asked);
-        snprintf(sent, sizeof sent, "%s %d %s\n", call, asked == 0 ? 0 : target ? target->pid : NO_PID, words ? words : "");
-    } else {
+    if (strcmp(call, "move_pages") && strcmp(call, "query") && strcmp(call, "migrate_pages")) {
         snprintf(sent, sizeof sent, "%s %s\n", call, words ? words : "");
+        ask(process, sent);
+        return;
     }
-    write_all(process->to, sent);
-    if (!read_line(process->from, answer, PATIENCE)) {
-        bool gone = waitpid(process->pid, NULL, WNOHANG) == process->pid;
-        bury(process);
-        say_nothing();
-        say(gone ? "killed" : "hangs");
-    }
-}
-
-static void read_totals(long *moved, long *failed)
-{
-    char name[64];
-    long value;
-    FILE *file = fopen("/proc/vmstat", "re");
-    *moved = *failed = 0;
-    while (file && fscanf(file, "%63s %ld", name, &value) == 2) {
-        if (!strcmp(name, "pgmigrate_success"))
-            *moved = value;
-        if (!strcmp(name, "pgmigrate_fail"))
-            *failed = value;
-    }
-    if (file)
-        fclose(file);
+    unsigned long asked = number();
+    struct process *target = asked ? process_of(asked) : process;
+    snprintf(sent, sizeof sent, "%s %d %s\n", call, !asked ? 0 : target ? target->pid : NO_PID, words ? words : "");
+    if (*call == 'm' && call[1] == 'i')
+        ask_to_migrate(process, target, sent);
+    else
+        ask(process, sent);
 }
 
 static void do_vmstat(void)
@@ -579,33 +636,39 @@ static void touch_on(unsigned long node, unsigned long count)
         at[page * PAGE] = 1;
 }
 
-// Moves pages to the node until there is no room for one more.
-static void move_to(unsigned long node, unsigned long source, unsigned long most)
+// Moves some pages to the node, and says whether there was room for them.
+static bool moved_to(unsigned long node, unsigned long source, unsigned long count)
 {
-    for (unsigned long step = 32, tried = 0; tried < most; tried += step) {
-        unsigned long mask = 1UL << source;
-        char *at = mmap(NULL, step * PAGE, PROT_READ | PROT_WRITE, MAP_PRIVATE | MAP_ANONYMOUS, -1, 0);
-        if (at == MAP_FAILED || syscall(SYS_mbind, at, step * PAGE, 1, &mask, 8 * sizeof mask + 1, 0) < 0)
-            stop("a node cannot be filled");
-        for (unsigned long page = 0; page < step; page++) {
-            at[page * PAGE] = 1;
-            pages[page] = at + page * PAGE;
-            nodes[page] = (int)node;
-        }
-        if (syscall(SYS_move_pages, 0, step, pages, nodes, statuses, 2) == 0)
-            continue;
-        if (step == 1)
-            return;
-        step = 1;
+    unsigned long mask = 1UL << source;
+    char *at = mmap(NULL, count * PAGE, PROT_READ | PROT_WRITE, MAP_PRIVATE | MAP_ANONYMOUS, -1, 0);
+    if (at == MAP_FAILED || syscall(SYS_mbind, at, count * PAGE, 1, &mask, 8 * sizeof mask + 1, 0) < 0)
+        stop("a node cannot be filled");
+    for (unsigned long page = 0; page < count; page++) {
+        at[page * PAGE] = 1;
+        pages[page] = at + page * PAGE;
+        nodes[page] = (int)node;
+    }
+    return syscall(SYS_move_pages, 0, count, pages, nodes, statuses, 2) == 0;
+}
+
+// Moves pages to the node until there is no room for one more, also after the kernel had time to find some.
+static void move_to(unsigned long node, unsigned long source)
+{
+    while (moved_to(node, source, 32))
+        continue;
+    for (int tries = 0; tries < 4; tries++) {
+        while (moved_to(node, source, 1))
+            tries = 0;
+        usleep(30000);
     }
 }
 
 static void do_fill(void)
 {
     unsigned long node = number(), source = number();
-    long moved[2], failed[2];
+    long moved, failed;
     int up[2];
-    read_totals(&moved[0], &failed[0]);
+    read_totals(&moved, &failed);
     if (pipe2(up, O_CLOEXEC) < 0)
         stop("pipe");
     fillers[node] = fork();
@@ -616,7 +679,7 @@ static void do_fill(void)
         unsigned long there = free_pages_of(node);
         if (there > 2048)
             touch_on(node, there - 2048);
-        move_to(node, source, 1 << 16);
+        move_to(node, source);
         write_all(up[1], "ok\n");
         pause();
         _exit(0);
@@ -625,9 +688,7 @@ static void do_fill(void)
     if (!read_line(up[0], answer, PATIENCE))
         stop("a node was not filled");
     close(up[0]);
-    read_totals(&moved[1], &failed[1]);
-    moved_before += moved[1] - moved[0];
-    failed_before += failed[1] - failed[0];
+    leave_out(moved, failed);
 }
 
 static void drain(unsigned long node)
@@ -679,17 +740,21 @@ static void do_offline(void)
         _exit(set_blocks(node, "offline") ? 0 : 1);
     }
     waitpid(helper, &status, 0);
-    if (status == 0) {
-        say("ok");
-        return;
-    }
-    set_blocks(node, "online_movable");
-    say("error EBUSY");
+    away[node] = status == 0;
+    if (!away[node])
+        set_blocks(node, "online_movable");
+    say(away[node] ? "ok" : "error EBUSY");
+}
+
+static bool bring_back(unsigned long node)
+{
+    away[node] = false;
+    return set_blocks(node, "online_movable");
 }
 
 static void do_online(void)
 {
-    say(set_blocks(number(), "online_movable") ? "ok" : "error EIO");
+    say(bring_back(number()) ? "ok" : "error EIO");
 }
 
 // ---- a trace
@@ -709,8 +774,11 @@ static void forget_all(void)
         if (processes[at].number)
             bury(&processes[at]);
     }
-    for (unsigned long node = 0; node < MOST_NODES; node++)
+    for (unsigned long node = 0; node < MOST_NODES; node++) {
         drain(node);
+        if (away[node])
+            bring_back(node);
+    }
     for (int at = 0; at < MOST_SEGMENTS; at++) {
         if (segments[at])
             close(segments[at]);
