@@ -1,0 +1,89 @@
+"""A report of the program and one of a kernel, step by step: the same, different as a row of differences.json says, or different.
+
+A difference is one that rows explain where the plain model with the rules of these rows gives the kernel's line."""
+import re
+from collections import namedtuple
+
+from . import kernel
+from .differences import row_of
+from .replayed import by_step, frames_apart
+
+SAME, EXPLAINED, OTHER = "same", "differs", "DIFFERS"
+# A step's number, how it compares, the rows that explain it, and the lines of the model, of the kernel, and of the rules.
+Compared = namedtuple("Compared", "step kind rows model kernel expected")
+
+
+def rules_for(release):
+    """The kernel whose rules are those of a release, and what there is to say about it."""
+    found = re.match(r"(\d+)\.(\d+)", release)
+    version = (int(found[1]), int(found[2])) if found else (0, 0)
+    name = "6.1" if version < (6, 12) else "6.12"
+    exact = f"{version[0]}.{version[1]}" == name
+    return name, "" if exact else f"for Linux {release} no rows are on record: those of {name} are taken"
+
+
+def fits(expected, told):
+    """Whether lines are as expected, where ? stands for what is not known."""
+    if len(expected) != len(told):
+        return False
+    for line, other in zip(expected, told):
+        form = re.escape(str(line)).replace(r"=\?", r"=\d+").replace(r" \? ", r" (?:N\d+=\d+ )+").replace(r" \?", r" -?\d+")
+        if not re.fullmatch(form, other):
+            return False
+    return True
+
+
+def compared(top, report, replayed, privilege=kernel.BOTH):
+    """Each step of a trace with the lines of the program's report and those of a replay."""
+    own = [frames_apart(top, lines) for lines in by_step(report.decode().split("\n")[:-1], "the report")]
+    version, _ = rules_for(replayed.release)
+    last, found = [], []
+    for k, one in enumerate(kernel.given(top, version, privilege)):
+        told = replayed.steps[k] if k < len(replayed.steps) else ["(nothing)"]
+        last = one.rows or last
+        if told == own[k]:
+            found.append(Compared(k, SAME, [], own[k], told, one.lines))
+        elif fits(one.lines, told) and last:
+            found.append(Compared(k, EXPLAINED, one.rows or last, own[k], told, one.lines))
+        else:
+            found.append(Compared(k, OTHER, [], own[k], told, one.lines))
+    return found
+
+
+def words_of_row(name, version):
+    """A row in words."""
+    row = row_of(name)
+    told = row["kernels"].get(version, row["kernels"].get("document"))
+    return f"{name}: {row['situation']}. This model: {row['model']}. Linux {version}: {told}. {row['reason'] or 'No reason is on record.'}"
+
+
+def lines_of(found, release):
+    """What a comparison says, step by step, with each row once behind it."""
+    version, note = rules_for(release)
+    named = []
+    if note:
+        yield note
+    for one in found:
+        op = one.model[0].split(" ")[1]
+        if one.kind == SAME:
+            yield f"{one.step:6}  {op:14} same"
+            continue
+        as_rows = f"differs as said: {', '.join(one.rows)}" if one.kind == EXPLAINED else "DIFFERS"
+        yield f"{one.step:6}  {op:14} {as_rows}"
+        for who, lines in [("this model", one.model), (f"Linux {version}", one.kernel), *([("expected", one.expected)] if one.kind == OTHER else [])]:
+            yield from (f"          {who + ':' if place == 0 else '':12} {line}" for place, line in enumerate(lines))
+        named += [row for row in one.rows if row not in named]
+    for name in named:
+        yield words_of_row(name, version)
+
+
+def tally(found):
+    """How many steps compare how."""
+    kinds = [one.kind for one in found]
+    return {kind: kinds.count(kind) for kind in (SAME, EXPLAINED, OTHER)}
+
+
+def worst(found):
+    """How a whole trace compares."""
+    kinds = {one.kind for one in found}
+    return OTHER if OTHER in kinds else EXPLAINED if EXPLAINED in kinds else SAME

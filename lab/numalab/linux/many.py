@@ -1,0 +1,50 @@
+"""Replays of one trace or many: on this machine, or in guests, each of which plays all traces of one shape."""
+import os
+
+from ..traces import Bad, load
+from . import guest, player
+from .differences import rows
+from .instructions import Instructions
+from .kernel import BOTH
+from .replayed import parts
+
+SCENARIOS = os.path.join(os.path.dirname(os.path.dirname(os.path.dirname(os.path.abspath(__file__)))), "scenarios")
+
+
+def scenarios():
+    """The traces of the repository that kernels are asked with, each with what a privileged process of it has."""
+    if not os.path.isdir(SCENARIOS):
+        raise Bad("the scenarios are in the repository, in lab/scenarios, and not in what is installed")
+    privileges = {row["id"]: row["privilege"] for row in rows() if "privilege" in row}
+    names = sorted(name for name in os.listdir(SCENARIOS) if name.endswith(".nt"))
+    return [(load(os.path.join(SCENARIOS, name)).check(), privileges.get(name[:-3], BOTH)) for name in names]
+
+
+def shape_of(trace, instructions):
+    """What traces have to have in common for one guest."""
+    machine = trace.top["machine"]
+    if len(machine["nodes"]) > guest.MOST_NODES:
+        raise Bad(f"{trace.name}: a guest has at most {guest.MOST_NODES} nodes")
+    if 0 in instructions.offlined:
+        raise Bad(f"{trace.name}: a guest's node 0 does not go")
+    return tuple(map(tuple, machine["distance"])), frozenset(instructions.offlined)
+
+
+def replay_in_guest(traces, kernel, progress=None):
+    """The reports of a kernel for traces, each with what a privileged process of it has, in their order."""
+    groups, texts = {}, {}
+    for place, (trace, privilege) in enumerate(traces):
+        instructions = Instructions(trace, privilege=privilege)
+        groups.setdefault(shape_of(trace, instructions), []).append((place, trace, instructions.text()))
+    for number, ((distance, removable), group) in enumerate(groups.items()):
+        if progress:
+            progress.at(number, len(groups))
+        sizes = [max(frames) for frames in zip(*(trace.top["machine"]["nodes"] for _, trace, _ in group))]
+        program = "".join(text for _, _, text in group)
+        told = parts(guest.boot(kernel, player.built(), program, (sizes, distance, removable), len(group)))
+        texts.update({place: text for (place, _, _), text in zip(group, told)})
+    return [texts[place] for place in range(len(traces))]
+
+
+def replay_here(trace, privilege=BOTH):
+    return player.play_here(trace, privilege)
