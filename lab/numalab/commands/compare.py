@@ -9,7 +9,7 @@ from ..linux import guest, many
 from ..linux.compare import EXPLAINED, OTHER, SAME, compared, lines_of, tally, worst
 from ..linux.differences import KERNELS
 from ..linux.replayed import read_replayed
-from ..program import played
+from ..program import found as program_found, played
 from ..progress import Progress
 from ..traces import Bad, load, read_file, write_file
 from .replay import arguments_of_kernel, privilege_of, replayed_text
@@ -76,6 +76,7 @@ def compare_all(asked, version, kernel):
 def run(asked):
     if asked.all != (asked.trace is None):
         raise Bad("a trace is named, or --all is said")
+    program_found(asked.program)  # Before a kernel is asked, which takes longer.
     if not asked.all:
         if asked.replayed and (asked.here or asked.qemu):
             raise Bad("a kernel is asked where no replay is named")

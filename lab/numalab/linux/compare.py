@@ -27,8 +27,9 @@ def fits(expected, told):
     if len(expected) != len(told):
         return False
     for line, other in zip(expected, told):
-        form = re.escape(str(line)).replace(r"=\?", r"=\d+").replace(r" \? ", r" (?:N\d+=\d+ )+").replace(r" \?", r" -?\d+")
-        if not re.fullmatch(form, other):
+        form = [re.escape(part) for part in re.split(r"(?<==)\?| \?(?= |$)", str(line))]
+        marks = [r"\d+" if mark == "?" else r"(?: -?\d+| N\d+=\d+)+" for mark in re.findall(r"(?<==)\?| \?(?= |$)", str(line))]
+        if not re.fullmatch("".join(part + mark for part, mark in zip(form, [*marks, ""])), other):
             return False
     return True
 
@@ -45,6 +46,8 @@ def compared(top, report, replayed, privilege=kernel.BOTH):
             found.append(Compared(k, SAME, [], own[k], told, one.lines))
         elif fits(one.lines, told) and last:
             found.append(Compared(k, EXPLAINED, one.rows or last, own[k], told, one.lines))
+        elif k in replayed.compacted:
+            found.append(Compared(k, EXPLAINED, ["vmstat-compaction"], own[k], told, one.lines))
         else:
             found.append(Compared(k, OTHER, [], own[k], told, one.lines))
     return found

@@ -224,6 +224,7 @@ class Kernel(model.Machine):
                 stay += 1
             elif not self.free[target] or target not in allowed:
                 self.failed += 1
+                self.fire("vmstat-target-full")
                 stay = -12
                 break
             else:

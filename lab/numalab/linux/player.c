@@ -51,7 +51,6 @@ static size_t told; // how long the answer is so far
 static void *pages[MOST_ENTRIES];
 static int nodes[MOST_ENTRIES], statuses[MOST_ENTRIES];
 static unsigned long own_low = ~0UL; // the lowest address that the player itself has something at
-static long moved_before, failed_before;
 static FILE *report;
 static sigjmp_buf fault;
 
@@ -428,29 +427,50 @@ static void live(int from, int to, unsigned long user, unsigned long privilege, 
 
 // ---- the player
 
-static void read_totals(long *moved, long *failed)
+// Pages moved, pages that failed to, and pages that the kernel took up to make room of its own accord.
+struct totals {
+    long moved, failed, compacted;
+};
+
+static struct totals before_all;
+
+static struct totals read_totals(void)
 {
+    struct totals found = {0};
     char name[64];
     long value;
     FILE *file = fopen("/proc/vmstat", "re");
-    *moved = *failed = 0;
     while (file && fscanf(file, "%63s %ld", name, &value) == 2) {
         if (!strcmp(name, "pgmigrate_success"))
-            *moved = value;
+            found.moved = value;
         if (!strcmp(name, "pgmigrate_fail"))
-            *failed = value;
+            found.failed = value;
+        if (!strcmp(name, "compact_isolated"))
+            found.compacted = value;
     }
     if (file)
         fclose(file);
+    return found;
 }
 
-// What the player itself moves does not count: how many pages there were before and are after it.
-static void leave_out(long moved, long failed)
+// What the player itself moves does not count.
+static void leave_out(struct totals before)
 {
-    long moved_now, failed_now;
-    read_totals(&moved_now, &failed_now);
-    moved_before += moved_now - moved;
-    failed_before += failed_now - failed;
+    struct totals now = read_totals();
+    before_all.moved += now.moved - before.moved;
+    before_all.failed += now.failed - before.failed;
+    before_all.compacted += now.compacted - before.compacted;
+}
+
+// Waits until the kernel moves no pages of its own accord.
+static void wait_for_rest(void)
+{
+    for (int tries = 0, still = 0; tries < 40 && still < 3; tries++) {
+        struct totals before = read_totals();
+        usleep(20000);
+        struct totals now = read_totals();
+        still = now.moved == before.moved && now.compacted == before.compacted ? still + 1 : 0;
+    }
 }
 
 static struct process *process_of(unsigned long asked)
@@ -506,11 +526,10 @@ static void start_process(struct process *process, bool here)
     close(up[1]);
     process->to = down[1];
     process->from = up[0];
-    long moved, failed;
-    read_totals(&moved, &failed);
+    struct totals before = read_totals();
     if (*allowed != '-')
         confine(process->pid, allowed);
-    leave_out(moved, failed);
+    leave_out(before);
     write_all(process->to, "\n");
     if (!read_line(process->from, answer, PATIENCE))
         stop("a process did not start");
@@ -578,7 +597,7 @@ static void ask_to_migrate(struct process *process, struct process *target, cons
     if (!count || own_pages(target->pid, pages, after) != count)
         return;
     for (unsigned long at = 0; at < count; at++)
-        moved_before += before[at] >= 0 && after[at] >= 0 && before[at] != after[at];
+        before_all.moved += before[at] >= 0 && after[at] >= 0 && before[at] != after[at];
 }
 
 // A call of a process goes to it, with the real pids of those that it names.
@@ -604,11 +623,12 @@ static void hand_on(const char *call)
         ask(process, sent);
 }
 
-static void do_vmstat(void)
+static void do_vmstat(const char *step)
 {
-    long moved, failed;
-    read_totals(&moved, &failed);
-    say("pgmigrate_success %ld pgmigrate_fail %ld", moved - moved_before, failed - failed_before);
+    struct totals now = read_totals();
+    if (now.compacted != before_all.compacted)
+        fprintf(report, "# compacted %s\n", step);
+    say("pgmigrate_success %ld pgmigrate_fail %ld", now.moved - before_all.moved, now.failed - before_all.failed);
 }
 
 // ---- full nodes: a process takes what there is, by first touches while there is plenty and by moves up to the watermark
@@ -666,9 +686,8 @@ static void move_to(unsigned long node, unsigned long source)
 static void do_fill(void)
 {
     unsigned long node = number(), source = number();
-    long moved, failed;
+    struct totals before = read_totals();
     int up[2];
-    read_totals(&moved, &failed);
     if (pipe2(up, O_CLOEXEC) < 0)
         stop("pipe");
     fillers[node] = fork();
@@ -688,7 +707,8 @@ static void do_fill(void)
     if (!read_line(up[0], answer, PATIENCE))
         stop("a node was not filled");
     close(up[0]);
-    leave_out(moved, failed);
+    wait_for_rest();
+    leave_out(before);
 }
 
 static void drain(unsigned long node)
@@ -807,7 +827,7 @@ static void play_step(const char *step, const char *call, bool here)
     else if (!strcmp(call, "exit"))
         do_exit();
     else if (!strcmp(call, "vmstat"))
-        do_vmstat();
+        do_vmstat(step);
     else if (!strcmp(call, "offline"))
         do_offline();
     else if (!strcmp(call, "online"))
@@ -822,7 +842,7 @@ static void play_line(bool here)
     char *first = word();
     if (!strcmp(first, "trace")) {
         forget_all();
-        read_totals(&moved_before, &failed_before);
+        before_all = read_totals();
         fprintf(report, "# trace %s\n", word());
     } else if (!strcmp(first, "shared"))
         do_shared();

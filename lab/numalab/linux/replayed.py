@@ -9,8 +9,8 @@ HEAD = re.compile(r"# Linux (\S+)")
 STEP = re.compile(r"(0|[1-9][0-9]*) ([a-z_]+) (.*)")
 ENTRY = re.compile(r"=(\d+)")
 
-# What a kernel told of a trace: its release, and for each step its lines.
-Replayed = namedtuple("Replayed", "release steps")
+# What a kernel told of a trace: its release, for each step its lines, and the steps before which it compacted memory by itself.
+Replayed = namedtuple("Replayed", "release steps compacted")
 
 
 def by_step(lines, name):
@@ -30,6 +30,7 @@ def by_step(lines, name):
 def read_replayed(text, name):
     """What a replay of one trace told."""
     release, lines = None, []
+    compacted = {int(step) for step in re.findall(r"(?m)^# compacted (\d+)$", text)}
     for line in text.split("\n"):
         head = HEAD.match(line)
         if head:
@@ -40,7 +41,7 @@ def read_replayed(text, name):
         raise Bad(f"{name}: the line '# Linux RELEASE' is missing: this is no report of a replay")
     if not text.endswith("# end\n"):
         raise Bad(f"{name}: the line '# end' is missing: the report was cut")
-    return Replayed(release, by_step(lines, name))
+    return Replayed(release, by_step(lines, name), compacted)
 
 
 def parts(text):
