@@ -1,0 +1,184 @@
+"""Runs a command under strace, and looks at its processes by /proc while they stand at a call that is about nodes."""
+import ctypes
+import glob
+import json
+import os
+import re
+import shutil
+import subprocess
+import tempfile
+
+from ..model import PAGE
+from ..traces import Bad
+from .recorded import ABOUT_NODES, MOST_FRAMES, Seen
+from .strace import Reader, begun_call, number
+
+NO_STRACE = "there is no strace: it is in Debian's package strace"
+NODES = "/sys/devices/system/node"
+CALLS = ("mmap,munmap,brk,mremap,madvise,mbind,migrate_pages,move_pages,set_mempolicy,set_mempolicy_home_node,clone,clone3,fork,vfork,execve,"
+         "shmat,mlock,mlockall,setuid,setresuid,capset,exit_group")
+DELAY = 20000  # so many microseconds a process stands before each call that is about nodes
+CAP_SYS_NICE, MOVE_PAGES = 23, 279
+MOST_LOOKED_AT = 1 << 20
+
+
+def text_of(path):
+    with open(path, encoding="utf-8", errors="replace") as file:
+        return file.read()
+
+
+def listed(text):
+    """The numbers of a list as 0-2,5."""
+    return [value for part in text.split(",") if part.strip()
+            for value in range(int(part.split("-")[0]), int(part.split("-")[-1]) + 1)]
+
+
+def machine_here():
+    """The pages and distances of this machine's nodes."""
+    try:
+        nodes = listed(text_of(f"{NODES}/has_memory").strip())
+        distance = [[int(word) for word in text_of(f"{NODES}/node{node}/distance").split()] for node in nodes]
+        sizes = [int(re.search(r"MemTotal:\s+(\d+)", text_of(f"{NODES}/node{node}/meminfo"))[1]) // 4 for node in nodes]
+    except OSError as error:
+        raise Bad(f"this kernel has no NUMA: {error.filename}: {error.strerror}; --machine FILE names a machine") from error
+    if nodes != list(range(len(nodes))) or any(len(row) != len(nodes) for row in distance):
+        raise Bad("the nodes of this machine are not numbered through: --machine FILE names a machine")
+    return sizes, distance
+
+
+def node_of_cpu(cpus):
+    """The node of the first processor of a list."""
+    for cpu in listed(cpus)[:1]:
+        for path in glob.glob(f"/sys/devices/system/cpu/cpu{cpu}/node*"):
+            return int(path.rsplit("node", 1)[1])
+    return 0
+
+
+def nodes_of(pid, found):
+    """The node of each page of a process, or None where the kernel does not say."""
+    libc, count = ctypes.CDLL(None, use_errno=True), len(found)
+    pages, status = (ctypes.c_void_p * count)(*[page * PAGE for page in found]), (ctypes.c_int * count)(*[-1] * count)
+    if not count or libc.syscall(MOVE_PAGES, pid, ctypes.c_ulong(count), pages, None, status, 0) != 0:
+        return [None] * count
+    return [one if one >= 0 else None for one in status]
+
+
+def areas_of(pid):
+    """The anonymous areas of a process, as page numbers and whether they are shared."""
+    found = []
+    for line in text_of(f"/proc/{pid}/maps").splitlines():
+        words = line.split()
+        first, end = (int(part, 16) // PAGE for part in words[0].split("-"))
+        name = words[5] if len(words) > 5 else ""
+        if name in ("", "[heap]") or name.startswith(("[anon", "/dev/zero", "/memfd:", "/SYSV")):
+            found.append((first, end, words[1][3] == "s"))
+    return found
+
+
+def present_of(pid, areas):
+    """The page numbers of some areas at which a process has something."""
+    found = []
+    with open(f"/proc/{pid}/pagemap", "rb") as file:
+        for first, end, _ in areas:
+            if end - first > MOST_LOOKED_AT:
+                continue
+            file.seek(first * 8)
+            data = file.read((end - first) * 8)
+            found += [first + place for place in range(len(data) // 8) if data[place * 8 + 7] & 0x80]
+    return found
+
+
+def look_at(pid, traced):
+    """What /proc tells of a process, or None where it tells nothing."""
+    try:
+        status = dict(line.split(":\t", 1) for line in text_of(f"/proc/{pid}/status").splitlines() if ":\t" in line)
+        areas = areas_of(pid)
+        present = present_of(pid, areas)
+    except (OSError, ValueError):
+        return None
+    nodes = nodes_of(pid, present)
+    known = [node for node in nodes if node is not None]
+    home = max(sorted(set(known)), key=known.count) if known and not traced else node_of_cpu(status["Cpus_allowed_list"])
+    allowed = listed(status.get("Mems_allowed_list", "0"))
+    privileged = bool(int(status["CapEff"], 16) >> CAP_SYS_NICE & 1)
+    return Seen(int(status["Uid"].split()[1]), privileged, home, [node for node in allowed if node < 64], [] if traced else areas,
+                dict(zip(present, nodes)))
+
+
+class Watcher:
+    """Reads the lines of strace as they come, and looks at processes at the beginning of calls."""
+
+    def __init__(self):
+        self.reader, self.events, self.lines, self.traced, self.seen, self.looked = Reader("strace"), [], [], set(), {}, None
+
+    def look(self, text):
+        """Looks at those whom a call that has begun is about, once for each call."""
+        begun = begun_call(text)
+        if not begun or begun[1] not in ABOUT_NODES or self.looked == (len(self.lines), begun[0]):
+            return
+        pid, name, arguments = begun
+        target = number(arguments[0]) if name != "mbind" and arguments else 0
+        found = {who: look_at(who, who in self.traced or who == pid) for who in {pid, target or pid}}
+        self.seen[pid] = {who: seen for who, seen in found.items() if seen}
+        self.looked = (len(self.lines), pid)
+
+    def line(self, text):
+        match = re.match(r"\s*(\d+)", text)
+        self.traced |= {int(match[1])} if match else set()
+        self.look(text)
+        self.looked = None
+        self.lines.append(text)
+        event = self.reader.read(text)
+        if event:
+            self.events.append((event, self.seen.pop(event.pid, {})))
+
+    def follow(self, file):
+        """Reads up to the end. What stands behind the last line feed is a call that has begun."""
+        rest = b""
+        while True:
+            data = os.read(file, 1 << 16)
+            if not data:
+                return
+            *whole, rest = (rest + data).split(b"\n")
+            for text in whole:
+                self.line(text.decode("utf-8", "replace"))
+            if rest:
+                self.look(rest.decode("utf-8", "replace"))
+
+
+def watched(command):
+    """Runs a command; gives what was seen, and the command's status."""
+    if not shutil.which("strace"):
+        raise Bad(NO_STRACE)
+    if not shutil.which(command[0]):
+        raise Bad(f"there is no command {command[0]}")
+    watcher = Watcher()
+    with tempfile.TemporaryDirectory(prefix="numalab-") as folder:
+        path = os.path.join(folder, "calls")
+        os.mkfifo(path)
+        words = ["strace", "-f", "-X", "raw", "-e", "abbrev=none", "-e", f"trace={CALLS}", "-e",
+                 f"inject={','.join(sorted(ABOUT_NODES))}:delay_enter={DELAY}", "-o", path, "--", *command]
+        with subprocess.Popen(words) as process:
+            file = os.open(path, os.O_RDONLY)
+            try:
+                watcher.follow(file)
+            finally:
+                os.close(file)
+    return watcher, process.returncode
+
+
+def kept(events):
+    """Events as lines of JSON, for those who look later."""
+    return "".join(json.dumps([type(event).__name__, *event, {pid: one._asdict() for pid, one in seen.items()}]) + "\n" for event, seen in events)
+
+
+def machine_asked(path, most=MOST_FRAMES):
+    """The pages and distances of a machine that a file tells: a trace, or the object of its machine."""
+    try:
+        top = json.loads(text_of(path))
+        machine = top.get("machine", top)
+        return list(machine["nodes"]), machine["distance"]
+    except OSError as error:
+        raise Bad(f"{path}: {error.strerror}") from error
+    except (ValueError, KeyError, TypeError, AttributeError) as error:
+        raise Bad(f"{path}: wanted is a trace in JSON, or its object with nodes and distance") from error
