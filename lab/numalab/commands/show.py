@@ -2,12 +2,15 @@
 
 The report is the one of the program, which plays the trace, or the one that is named behind the trace. With --why each status, access, refusal
 and new page has its reason. Reasons come from a plain model of the machine, which is not proved; they are printed only where the
-model's whole report is the one that is shown, and else the status is 1."""
+model's whole report is the one that is shown, and else the status is 1. With --kernel as well, each step that a kernel is expected to answer
+otherwise has its answer and the row of docs/LINUX.md that tells why."""
 import json
 import sys
 
 from ..answers import answer_of
 from ..inputs import inputs_of, lines_of, out_for, with_report
+from ..linux.compare import partings
+from ..linux.differences import KERNELS
 from ..progress import Progress
 from ..reasons import explained
 from ..table import Table
@@ -19,6 +22,7 @@ SUMMARY = "show steps and answers side by side, and why"
 def arguments(words):
     words.add_argument("files", metavar="FILE", nargs="+", help="traces, .json or .nt, each with its report behind it or not; - is standard input")
     words.add_argument("--why", action="store_true", help="tell which rule decided, and from what")
+    words.add_argument("--kernel", metavar="VERSION", choices=KERNELS, help=f"with --why: also where Linux {' or '.join(KERNELS)} parts from the model")
     words.add_argument("--all", action="store_true", help="also where a pagemap has more than 64 rows")
     words.add_argument("--jsonl", action="store_true", help="an object of JSON for each step; the ending .jsonl of OUT says so as well")
     words.add_argument("-o", metavar="OUT", dest="out", help="a file, or a folder; standard output if none is named")
@@ -45,7 +49,7 @@ def about_object(about):
     return {} if about is None else {"entry": about} if isinstance(about, int) else {"access": int(about)}
 
 
-def objects(trace, lines, reasons):
+def objects(trace, lines, reasons, parted):
     """Each step as an object of JSON."""
     for k, line in enumerate(lines):
         step = trace.steps[k]
@@ -55,20 +59,25 @@ def objects(trace, lines, reasons):
         told["answer"] = answer_of(line)
         if reasons:
             told["why"] = [{**about_object(about), "reason": text} for about, text in reasons[k]]
+        if k in parted:
+            told["kernel"] = {"lines": parted[k].lines, "rows": parted[k].rows}
         yield json.dumps(told, separators=(",", ":"))
 
 
-def rows(trace, lines, reasons, all_rows):
+def rows(trace, lines, reasons, parted, all_rows):
     table = Table(trace.top, all_rows)
     for k, line in enumerate(lines):
         yield from table.lines(k, line, reasons and reasons[k])
+        if k in parted:
+            yield from parted[k].texts
 
 
 def show(one, asked, file, jsonl):
     """Shows a trace and its report; gives the status."""
     lines = lines_of(one)
     reasons = reasons_of(one) if asked.why else None
-    told = objects(one.trace, lines, reasons) if jsonl else rows(one.trace, lines, reasons, asked.all)
+    parted = partings(one.trace.top, one.data, asked.kernel) if asked.kernel and reasons is not None else {}
+    told = objects(one.trace, lines, reasons, parted) if jsonl else rows(one.trace, lines, reasons, parted, asked.all)
     with Progress("row") as progress:
         for k, row in enumerate(told):
             file.write(row + "\n")
@@ -78,6 +87,8 @@ def show(one, asked, file, jsonl):
 
 
 def run(asked):
+    if asked.kernel and not asked.why:
+        raise Bad("--kernel is for --why")
     found, status = inputs_of(asked.files), 0
     for one in found:
         if one.trace is None:

@@ -90,3 +90,23 @@ def worst(found):
     """How a whole trace compares."""
     kinds = {one.kind for one in found}
     return OTHER if OTHER in kinds else EXPLAINED if EXPLAINED in kinds else SAME
+
+
+# What a kernel is expected to answer otherwise at a step: its lines, the rows, and both in words.
+Parting = namedtuple("Parting", "lines rows texts")
+
+
+def partings(top, report, version):
+    """By step, where a kernel is expected to part from the model. Where a trace has accesses in flight nothing is expected."""
+    if any(step.get("during") for step in top["steps"]):
+        return {}
+    own = [frames_apart(top, lines) for lines in by_step(report.decode().split("\n")[:-1], "the report")]
+    found, last = {}, []
+    for k, one in enumerate(kernel.given(top, version)):
+        last, lines = one.rows or last, [str(line) for line in one.lines]
+        if lines != own[k]:
+            reasons = [f"           {name}: {row_of(name)['reason'] or 'no reason is on record'}" for name in one.rows] or [
+                f"           after {', '.join(last)}"]
+            texts = [f"           on Linux {version}: {lines[0].split(' ', 2)[2]}", *(f"             {line}" for line in lines[1:]), *reasons]
+            found[k] = Parting(lines, one.rows or last, texts)
+    return found
