@@ -2,13 +2,15 @@
 the row; or DIFFERS. A row explains a difference where the plain model with its rule gives the kernel's line.
 
 What the kernel answered is the report of a replay that is named behind the trace, or is asked for now (--here, --qemu). With --all the
-scenarios of the repository are compared; with --qemu on each of the kernels that are there. The status is 1 where a step DIFFERS."""
+scenarios of the repository are compared with what Linux 6.1 and 6.12 answered when they were last played, which is kept beside them, or
+with --qemu with what they answer now. The status is 1 where a step DIFFERS."""
 import os
 
 from ..linux import guest, many
 from ..linux.compare import EXPLAINED, OTHER, SAME, compared, lines_of, tally, worst
 from ..linux.differences import KERNELS
-from ..linux.replayed import read_replayed
+from ..linux.instructions import short_name
+from ..linux.replayed import joined, part_for, read_replayed
 from ..program import found as program_found, played
 from ..progress import Progress
 from ..traces import Bad, load, read_file, write_file
@@ -21,22 +23,16 @@ def arguments(words):
     words.add_argument("trace", metavar="TRACE", nargs="?", help="a trace, .json or .nt")
     words.add_argument("replayed", metavar="REPLAYED", nargs="?", help="what numalab replay printed for it")
     words.add_argument("--all", action="store_true", help="all scenarios of the repository")
-    words.add_argument("-o", metavar="FOLDER", dest="out", help="with --all: keep what the kernels answered, in a folder for each")
+    words.add_argument("-o", metavar="FOLDER", dest="out", help="with --all: keep what each kernel answered, as VERSION.replayed")
     arguments_of_kernel(words)
     words.add_argument("--program", metavar="PATH", help="the program numatrace")
-
-
-def text_of(data, name):
-    try:
-        return data.decode("ascii")
-    except UnicodeDecodeError as error:
-        raise Bad(f"{name}: byte {error.start} is none of a report") from error
 
 
 def compare_one(asked):
     trace = load(asked.trace).check()
     if asked.replayed:
-        text, name = text_of(read_file(asked.replayed), asked.replayed), asked.replayed
+        name = asked.replayed
+        text = part_for(many.text_of(read_file(name), name), short_name(trace.name), name)
     else:
         text, name = replayed_text(trace, asked), "the replay"
     told = read_replayed(text, name)
@@ -48,29 +44,49 @@ def compare_one(asked):
     return 1 if worst(found) == OTHER else 0
 
 
+def compare_scenario(trace, privilege, text, program):
+    """Compares a scenario; prints the steps that differ without a reason."""
+    name = os.path.basename(trace.name)
+    told = read_replayed(text, name)
+    found = compared(trace.top, played(trace, program), told, privilege)
+    if worst(found) == OTHER:
+        print(f"{name} on Linux {told.release}:")
+        print("\n".join(lines_of([one for one in found if one.kind == OTHER], told.release)))
+    return found
+
+
 def compare_all(asked, version, kernel):
-    """Compares all scenarios on one kernel; says whether one differs without a reason."""
+    """Compares all scenarios on one kernel, or with what was kept of it; says whether one differs without a reason."""
     scenarios = many.scenarios()
-    with Progress(f"guest with Linux {version}") as progress:
-        texts = many.replay_in_guest(scenarios, kernel, progress)
-    steps, traces = {SAME: 0, EXPLAINED: 0, OTHER: 0}, {SAME: 0, EXPLAINED: 0, OTHER: 0}
-    for (trace, privilege), text in zip(scenarios, texts):
-        name = os.path.basename(trace.name)[:-3]
-        if asked.out:
-            os.makedirs(os.path.join(asked.out, version), exist_ok=True)
-            write_file(os.path.join(asked.out, version, name + ".replayed"), text)
-        told = read_replayed(text, name)
-        found = compared(trace.top, played(trace, asked.program), told, privilege)
-        traces[worst(found)] += 1
-        for kind, count in tally(found).items():
-            steps[kind] += count
-        if worst(found) == OTHER:
-            print(f"{name} on Linux {told.release}:")
-            print("\n".join(line for line in lines_of([one for one in found if one.kind == OTHER], told.release)))
-    for what, counts in [("scenarios", traces), ("steps", steps)]:
-        total = sum(counts.values())
-        print(f"Linux {version}: {total} {what}: {counts[SAME]} the same, {counts[EXPLAINED]} different as said, {counts[OTHER]} DIFFERENT")
-    return traces[OTHER] > 0
+    if kernel is None:
+        texts = many.kept(scenarios, version)
+    else:
+        with Progress(f"guest with Linux {version}") as progress:
+            texts = many.replay_in_guest(scenarios, kernel, progress)
+    if asked.out:
+        os.makedirs(asked.out, exist_ok=True)
+        write_file(os.path.join(asked.out, version + ".replayed"), joined(texts))
+    found = [compare_scenario(trace, privilege, text, asked.program) for (trace, privilege), text in zip(scenarios, texts)]
+    kinds = [worst(one) for one in found]
+    for what, counts in [("scenarios", [kinds.count(kind) for kind in (SAME, EXPLAINED, OTHER)]),
+                         ("steps", [sum(tally(one)[kind] for one in found) for kind in (SAME, EXPLAINED, OTHER)])]:
+        same, explained, other = counts
+        print(f"Linux {version}: {sum(counts)} {what}: {same} the same, {explained} different as said, {other} DIFFERENT")
+    return OTHER in kinds
+
+
+def kernels_asked(asked):
+    """The versions to compare with, each with its kernel, or with None for what was kept."""
+    if not asked.qemu:
+        return {version: None for version in KERNELS}
+    if asked.kernel:
+        path = guest.kernel_asked(asked.kernel)
+        return {guest.version_of(guest.release_of(path)): path}
+    there = {version: path for version, path in guest.kernels().items() if version in KERNELS}
+    missing = [version for version in KERNELS if version not in there]
+    if missing:
+        raise Bad(f"there is no kernel {missing[0]}: lab/kernels fetches those of Debian's packages linux-image-{missing[0]}.*-cloud-amd64")
+    return {version: there[version] for version in KERNELS}
 
 
 def run(asked):
@@ -81,10 +97,6 @@ def run(asked):
         if asked.replayed and (asked.here or asked.qemu):
             raise Bad("a kernel is asked where no replay is named")
         return compare_one(asked)
-    if not asked.qemu:
-        raise Bad("--all is for --qemu: the scenarios have more nodes than this machine")
-    there = {asked.kernel: guest.kernel_asked(asked.kernel)} if asked.kernel else guest.kernels()
-    wanted = [version for version in there if asked.kernel or version in KERNELS]
-    if not wanted:
-        raise Bad(guest.NO_KERNEL)
-    return int(any([compare_all(asked, version, there[version]) for version in wanted]))
+    if asked.here:
+        raise Bad("--all is for --qemu, or for what was kept: the scenarios have more nodes than this machine")
+    return int(any([compare_all(asked, version, kernel) for version, kernel in kernels_asked(asked).items()]))

@@ -8,6 +8,7 @@ import tempfile
 import time
 
 from ..traces import Bad
+from .player import cache_folder
 
 QEMU = "qemu-system-x86_64"
 NO_QEMU = f"there is no {QEMU}: it is in Debian's package qemu-system-x86"
@@ -25,7 +26,7 @@ RELEASE = re.compile(rb"(\d+\.\d+\.\d+[^\x00\s]*) \(")
 
 
 def kernels_folder():
-    return os.environ.get("NUMALAB_KERNELS") or os.path.join(os.path.expanduser("~"), ".cache", "numalab", "kernels")
+    return os.environ.get("NUMALAB_KERNELS") or os.path.join(cache_folder(), "kernels")
 
 
 def release_of(path):
@@ -47,14 +48,19 @@ def version_of(release):
     return ".".join(release.split(".")[:2])
 
 
+def numbers_of(name):
+    return [int(part) for part in re.findall(r"\d+", name)]
+
+
 def kernels():
     """The kernels that are there, by version, the latest of each."""
     found = {}
     for folder in (kernels_folder(), "/boot"):
-        names = sorted(os.listdir(folder)) if os.path.isdir(folder) else []
-        for path in [os.path.join(folder, name) for name in names if name.startswith("vmlinuz-")]:
+        for name in sorted(os.listdir(folder) if os.path.isdir(folder) else [], key=numbers_of, reverse=True):
+            path = os.path.join(folder, name)
             with contextlib.suppress(Bad):
-                found.setdefault(version_of(release_of(path)), path)
+                if name.startswith("vmlinuz-"):
+                    found.setdefault(version_of(release_of(path)), path)
     return found
 
 
@@ -70,7 +76,7 @@ def kernel_asked(asked):
         return there[asked]
     if not there:
         raise Bad(NO_KERNEL)
-    return there[max(there, key=lambda version: [int(part) for part in version.split(".")])]
+    return there[max(there, key=numbers_of)]
 
 
 def entry_of_archive(name, mode, data=b"", device=(0, 0)):

@@ -2,6 +2,9 @@
 
 Where a call is the model's own (a spawn, a map in the way of another, a pin of what is not there) and the model refuses it, the
 player prints the model's answer. A node that is full in the model is filled by a process of the player before the step."""
+import os
+import re
+
 from ..model import END, MOST_PINS, PAGE, Machine
 from ..traces import Bad
 from ..words import counted
@@ -47,8 +50,7 @@ class Instructions:
         return len(self.top["machine"]["nodes"])
 
     def text(self):
-        name = "".join(letter if letter.isalnum() or letter in "._-/" else "_" for letter in self.name)
-        return "".join(line + "\n" for line in [f"trace {name}", *self.shared, *self.body])
+        return "".join(line + "\n" for line in [f"trace {short_name(self.name)}", *self.shared, *self.body])
 
     def cannot(self, why):
         raise Bad(f"{self.name}: step {self.k}: {why}")
@@ -182,3 +184,8 @@ class Instructions:
 def mask(nodes):
     """A set of nodes as a number with a bit for each."""
     return sum(1 << node for node in set(nodes))
+
+
+def short_name(path):
+    """The name of a trace in a replay."""
+    return re.sub(r"[^A-Za-z0-9._-]", "_", os.path.basename(path)) or "-"

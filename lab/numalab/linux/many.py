@@ -1,12 +1,12 @@
 """Replays of one trace or many: on this machine, or in guests, each of which plays all traces of one shape."""
 import os
 
-from ..traces import Bad, load
+from ..traces import Bad, load, read_file
 from . import guest, player
 from .differences import rows
-from .instructions import Instructions
+from .instructions import Instructions, short_name
 from .kernel import BOTH
-from .replayed import parts
+from .replayed import part_for, parts
 
 SCENARIOS = os.path.join(os.path.dirname(os.path.dirname(os.path.dirname(os.path.abspath(__file__)))), "scenarios")
 
@@ -18,6 +18,20 @@ def scenarios():
     privileges = {row["id"]: row["privilege"] for row in rows() if "privilege" in row}
     names = sorted(name for name in os.listdir(SCENARIOS) if name.endswith(".nt"))
     return [(load(os.path.join(SCENARIOS, name)).check(), privileges.get(name[:-3], BOTH)) for name in names]
+
+
+def kept(scenarios_asked, version):
+    """What a kernel answered of the scenarios when they were last played, as it is kept beside them."""
+    path = os.path.join(SCENARIOS, version + ".replayed")
+    text = text_of(read_file(path), path)
+    return [part_for(text, short_name(trace.name), path) for trace, _ in scenarios_asked]
+
+
+def text_of(data, name):
+    try:
+        return data.decode("ascii")
+    except UnicodeDecodeError as error:
+        raise Bad(f"{name}: byte {error.start} is none of a report") from error
 
 
 def shape_of(trace, instructions):
@@ -42,7 +56,7 @@ def replay_in_guest(traces, kernel, progress=None):
         sizes = [max(frames) for frames in zip(*(trace.top["machine"]["nodes"] for _, trace, _ in group))]
         program = "".join(text for _, _, text in group)
         told = parts(guest.boot(kernel, player.built(), program, (sizes, distance, removable), len(group)))
-        texts.update({place: text for (place, _, _), text in zip(group, told)})
+        texts.update({place: told[short_name(trace.name)] for place, trace, _ in group})
     return [texts[place] for place in range(len(traces))]
 
 

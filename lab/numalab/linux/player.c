@@ -907,6 +907,8 @@ static FILE *serial_line(void)
 static void be_init(void)
 {
     mount_all();
+    if (access("/sys/devices/system/node/has_memory", F_OK) < 0)
+        stop("this kernel has no NUMA");
     FILE *program = fopen("/program", "re");
     report = serial_line();
     if (!program || !report)

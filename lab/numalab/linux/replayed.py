@@ -5,6 +5,7 @@ from collections import namedtuple
 from ..report import node_ranges
 from ..traces import Bad
 
+END = "# end\n"
 HEAD = re.compile(r"# Linux (\S+)")
 STEP = re.compile(r"(0|[1-9][0-9]*) ([a-z_]+) (.*)")
 ENTRY = re.compile(r"=(\d+)")
@@ -39,16 +40,32 @@ def read_replayed(text, name):
             lines.append(line)
     if release is None:
         raise Bad(f"{name}: the line '# Linux RELEASE' is missing: this is no report of a replay")
-    if not text.endswith("# end\n"):
+    if not text.endswith(END):
         raise Bad(f"{name}: the line '# end' is missing: the report was cut")
     return Replayed(release, by_step(lines, name), compacted)
 
 
 def parts(text):
-    """The reports of several traces that one guest played, in their order, each with its head and end."""
-    head, *rest = re.split(r"(?m)^# trace .*\n", text)
-    bodies = [body[: -len("# end\n")] if body.endswith("# end\n") else body for body in rest]
-    return [f"{head}{body}# end\n" for body in bodies]
+    """The reports of several traces in one text, by the names of the traces, each with its head and end."""
+    head, *rest = re.split(r"(?m)^# trace (.*)\n", text)
+    bodies = [body[: -len(END)] if body.endswith(END) else body for body in rest[1::2]]
+    return {name: f"{head}# trace {name}\n{body}{END}" for name, body in zip(rest[::2], bodies)}
+
+
+def joined(texts):
+    """Reports of one kernel as one text, from which parts gives them again."""
+    head = texts[0].split("# trace ", 1)[0]
+    return head + "".join(text[len(head) : -len(END)] for text in texts) + END
+
+
+def part_for(text, name, file):
+    """Of the reports in a text the one for a trace, where there are several."""
+    found = parts(text)
+    if len(found) < 2 or not text.endswith(END):
+        return text
+    if name not in found:
+        raise Bad(f"{file}: it has the replays of {len(found)} traces, and none of {name}")
+    return found[name]
 
 
 def frames_apart(top, lines):
