@@ -50,7 +50,7 @@ class Recorder:
             home = seen.home if seen and seen.home in nodes else 0
             self.step("spawn", pid=pid, uid=seen.uid if seen else 0, home=home, allowed=allowed, privileged=bool(seen and seen.privileged))
             for first, end, shared in seen.areas if seen else []:
-                self.map(self.processes[pid], first, end, shared)
+                self.map(self.processes[pid], first // self.scale, -(-end // self.scale), shared)
         return self.processes[pid]
 
     def look(self, pid, seen, statuses):
