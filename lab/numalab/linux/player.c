@@ -43,7 +43,12 @@ struct process {
 
 static struct process processes[MOST_PROCESSES];
 static int segments[MOST_SEGMENTS];
-static pid_t fillers[MOST_NODES];
+
+// A process that fills a node, and the pipes by which it is told to look for room again.
+static struct {
+    pid_t pid;
+    int to, from;
+} fillers[MOST_NODES];
 static int pins[MOST_PINS][2];
 static bool away[MOST_NODES];
 static char line[BUFFER], answer[BUFFER];
@@ -671,53 +676,81 @@ static bool moved_to(unsigned long node, unsigned long source, unsigned long cou
     return syscall(SYS_move_pages, 0, count, pages, nodes, statuses, 2) == 0;
 }
 
-// Moves pages to the node until there is no room for one more, also after the kernel had time to find some.
-static void move_to(unsigned long node, unsigned long source)
+// Moves pages to the node until there is no room for one more.
+static void top_up(unsigned long node, unsigned long source)
 {
+    while (moved_to(node, source, 1))
+        continue;
+}
+
+// Fills a node, and then again whenever it is told to, for the kernel finds some room from time to time.
+static void fill(unsigned long node, unsigned long source, int from, int to)
+{
+    prctl(PR_SET_PDEATHSIG, SIGKILL);
+    prctl(PR_SET_THP_DISABLE, 1, 0, 0, 0);
+    write_text("/proc/self/oom_score_adj", "-1000");
+    unsigned long there = free_pages_of(node);
+    if (there > 2048)
+        touch_on(node, there - 2048);
     while (moved_to(node, source, 32))
         continue;
-    for (int tries = 0; tries < 4; tries++) {
-        while (moved_to(node, source, 1))
-            tries = 0;
+    for (int tries = 0; tries < 3; tries++) {
+        top_up(node, source);
         usleep(30000);
     }
+    write_all(to, "ok\n");
+    while (read_line(from, line, -1)) {
+        top_up(node, source);
+        write_all(to, "ok\n");
+    }
+    _exit(0);
 }
 
 static void do_fill(void)
 {
-    unsigned long node = number(), source = number();
+    unsigned long node = number() % MOST_NODES, source = number();
     struct totals before = read_totals();
-    int up[2];
-    if (pipe2(up, O_CLOEXEC) < 0)
+    int down[2], up[2];
+    if (pipe2(down, O_CLOEXEC) < 0 || pipe2(up, O_CLOEXEC) < 0)
         stop("pipe");
-    fillers[node] = fork();
-    if (fillers[node] == 0) {
-        prctl(PR_SET_PDEATHSIG, SIGKILL);
-        prctl(PR_SET_THP_DISABLE, 1, 0, 0, 0);
-        write_text("/proc/self/oom_score_adj", "-1000");
-        unsigned long there = free_pages_of(node);
-        if (there > 2048)
-            touch_on(node, there - 2048);
-        move_to(node, source);
-        write_all(up[1], "ok\n");
-        pause();
-        _exit(0);
+    fillers[node].pid = fork();
+    if (fillers[node].pid == 0) {
+        close(down[1]);
+        fill(node, source, down[0], up[1]);
     }
+    close(down[0]);
     close(up[1]);
+    fillers[node].to = down[1];
+    fillers[node].from = up[0];
     if (!read_line(up[0], answer, PATIENCE))
         stop("a node was not filled");
-    close(up[0]);
     wait_for_rest();
     leave_out(before);
 }
 
+// Fills again what is to be full, before a call for which it counts.
+static void keep_full(void)
+{
+    for (unsigned long node = 0; node < MOST_NODES; node++) {
+        if (!fillers[node].pid)
+            continue;
+        struct totals before = read_totals();
+        write_all(fillers[node].to, "again\n");
+        if (!read_line(fillers[node].from, answer, PATIENCE))
+            stop("a node was not filled");
+        leave_out(before);
+    }
+}
+
 static void drain(unsigned long node)
 {
-    if (!fillers[node])
+    if (!fillers[node].pid)
         return;
-    kill(fillers[node], SIGKILL);
-    waitpid(fillers[node], NULL, 0);
-    fillers[node] = 0;
+    kill(fillers[node].pid, SIGKILL);
+    waitpid(fillers[node].pid, NULL, 0);
+    close(fillers[node].to);
+    close(fillers[node].from);
+    fillers[node].pid = 0;
 }
 
 // ---- nodes that go and come
@@ -832,8 +865,12 @@ static void play_step(const char *step, const char *call, bool here)
         do_offline();
     else if (!strcmp(call, "online"))
         do_online();
-    else
+    else {
+        if (strcmp(call, "numa_maps") && strcmp(call, "pagemap"))
+            keep_full();
+        say_nothing();
         hand_on(call);
+    }
     print_step(step, call);
 }
 
