@@ -125,6 +125,8 @@ class Instructions:
         return f"{step['pid']} {step['addr']:#x} {step['segment']} {step['offset']} {step['pages']}"
 
     def unmap(self, step):
+        if step["addr"] + step["pages"] * PAGE > HIGHEST:
+            self.cannot(f"what ends above {HIGHEST:#x} is not unmapped: the player itself is there")
         return f"{step['pid']} {step['addr']:#x} {min(step['pages'], END)}"
 
     def exit(self, step):

@@ -408,16 +408,16 @@ class Kernel(model.Machine):
         process, (first, end) = self.processes[pid], span
         process.areas = [part for area in process.areas for part in area.part(0, first)
                          + [inside._replace(policy=policy) for inside in area.part(first, end)] + area.part(end, END)]
-        merged, same = self.vmas[pid].set_policy(first, end, policy)
+        changed, merged, same = self.vmas[pid].set_policy(first, end, policy)
         if merged:
             self.fire("areas-default-merges" if policy.kind == "default" else "areas-policy-merges")
         if same:
             self.fire("areas-same-policy")
-        for area in process.areas:
-            if self.segments[area.segment].shared:
-                for part in area.part(first, end):
-                    policies = self.shared_policies.setdefault(area.segment, {})
-                    policies.update({part.offset + place: policy for place in range(part.pages)})
+        # The shared object has it only where the area of the process did not have it yet.
+        for part in [part for low, high in changed for area in process.areas for part in area.part(low, high)]:
+            if self.segments[part.segment].shared:
+                policies = self.shared_policies.setdefault(part.segment, {})
+                policies.update({part.offset + place: policy for place in range(part.pages)})
 
     def move_listed(self, process, policy, span, listed):
         """Moves listed pages to where their policy allocates; says whether one stays."""
@@ -509,6 +509,8 @@ class Kernel(model.Machine):
         segment, index = area.page(vma.first)
         shared = self.segments[segment].shared
         policy = self.shared_policies.get(segment, {}).get(index, model.DEFAULT) if shared else vma.policy
+        if policy != vma.policy:
+            self.fire("touch-shared-policy")
         line = f"{vma.first * PAGE:08x} {policy_text(policy)}"
         pages = [page for number, page in process.seen.items() if vma.first <= number < vma.end and page != ZERO]
         if not pages:

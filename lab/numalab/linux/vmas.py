@@ -54,8 +54,10 @@ class Vmas:
         return self.merged(first, end)
 
     def set_policy(self, first, end, policy):
-        """Sets a policy, where an area has another one; says whether areas were merged, and whether one was left whole."""
+        """Sets a policy, where an area has another one; gives the ranges where it is new, whether areas were merged, and whether one was
+        left whole."""
         merged = same = False
+        changed = []
         for vma in list(self.all):
             low, high = max(vma.first, first), min(vma.end, end)
             if low >= high:
@@ -63,9 +65,10 @@ class Vmas:
             if vma.policy == policy:
                 same = same or (low, high) != (vma.first, vma.end)
                 continue
+            changed.append((low, high))
             self.put([part._replace(policy=policy) for part in self.cut(low, high)])
             merged = self.merged(low, high) or merged
-        return merged, same
+        return changed, merged, same
 
     def touched(self, number):
         """The first private page of an area keeps what may be merged with it to neighbours that are alike."""
