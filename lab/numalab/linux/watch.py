@@ -4,9 +4,11 @@ import glob
 import json
 import os
 import re
+import select
 import shutil
 import subprocess
 import tempfile
+import time
 
 from ..model import PAGE
 from ..traces import Bad
@@ -20,6 +22,7 @@ CALLS = ("mmap,munmap,brk,mremap,madvise,mbind,migrate_pages,move_pages,set_memp
 DELAY = 20000  # so many microseconds a process stands before each call that is about nodes
 CAP_SYS_NICE, MOVE_PAGES = 23, 279
 MOST_LOOKED_AT = 1 << 20
+PAUSE = 0.02  # seconds
 
 
 def text_of(path):
@@ -132,18 +135,28 @@ class Watcher:
         if event:
             self.events.append((event, self.seen.pop(event.pid, {})))
 
-    def follow(self, file):
-        """Reads up to the end. What stands behind the last line feed is a call that has begun."""
-        rest = b""
-        while True:
-            data = os.read(file, 1 << 16)
-            if not data:
-                return
-            *whole, rest = (rest + data).split(b"\n")
-            for text in whole:
-                self.line(text.decode("utf-8", "replace"))
-            if rest:
-                self.look(rest.decode("utf-8", "replace"))
+    def follow(self, file, process):
+        """Reads up to the end of strace. What stands behind the last line feed is a call that has begun."""
+        rest, ended = b"", False
+        while not ended:
+            ended = process.poll() is not None  # What it wrote before is read once more.
+            select.select([file], [], [], PAUSE)
+            for data in iter(lambda: read_what_is_there(file), b""):
+                *whole, rest = (rest + data).split(b"\n")
+                for text in whole:
+                    self.line(text.decode("utf-8", "replace"))
+                if rest:
+                    self.look(rest.decode("utf-8", "replace"))
+            if not ended and not rest:
+                time.sleep(PAUSE / 10)
+
+
+def read_what_is_there(file):
+    """Some bytes of a pipe, or none where there are none now."""
+    try:
+        return os.read(file, 1 << 16)
+    except BlockingIOError:
+        return b""
 
 
 def watched(command):
@@ -158,18 +171,15 @@ def watched(command):
         os.mkfifo(path)
         words = ["strace", "-f", "-X", "raw", "-e", "abbrev=none", "-e", f"trace={CALLS}", "-e",
                  f"inject={','.join(sorted(ABOUT_NODES))}:delay_enter={DELAY}", "-o", path, "--", *command]
-        with subprocess.Popen(words) as process:
-            file = os.open(path, os.O_RDONLY)
-            try:
-                watcher.follow(file)
-            finally:
-                os.close(file)
+        file = os.open(path, os.O_RDONLY | os.O_NONBLOCK)
+        try:
+            with subprocess.Popen(words) as process:
+                watcher.follow(file, process)
+        finally:
+            os.close(file)
+    if not watcher.lines:
+        raise Bad(f"strace ended with status {process.returncode} and told nothing: is it allowed to trace here?")
     return watcher, process.returncode
-
-
-def kept(events):
-    """Events as lines of JSON, for those who look later."""
-    return "".join(json.dumps([type(event).__name__, *event, {pid: one._asdict() for pid, one in seen.items()}]) + "\n" for event, seen in events)
 
 
 def machine_asked(path, most=MOST_FRAMES):
