@@ -14,8 +14,8 @@ from numalab.linux import compare, differences, guest, instructions, kernel, man
 from numalab.traces import Bad, Trace, json_text
 
 DATA = os.path.join(ROOT, "lab/tests/data")
-# Rows for which no trace can be played: those of a document, what a kernel does by itself, and a process that may use only a node that goes.
-UNPLAYED = {"vmstat-compaction", "offline-cpuset"}
+# Rows for which no trace can be played, beside those of a document: what a kernel does by itself.
+UNPLAYED = {"vmstat-compaction"}
 HEAD = "nodes 2x8\nspawn p\nmap p A 2\n"
 HERE = """nodes 64
 spawn p
@@ -170,7 +170,7 @@ class Playing(Case):
                 ("nodes 1, 1\nspawn p\nmap p A 2\nwrite p A 61\nvmstat", "step 4: all nodes are full", False),
                 ("nodes 8, 1\nspawn p home 1\nmap p A 1\nwrite p A 61\nvmstat", "step 3: node 1 is full, and --here", True),
                 (HEAD + "map p B 1 at 0x7f0000000000", "step 2: areas are played from", False),
-                ("nodes 8, 8\nspawn p allowed 1 home 1\noffline 1", "step 0: a process that may use no other node", False),
+                ("nodes 8, 8\nspawn p\nunmap p 0x10000 pages 34359738000", "step 1: what ends above", False),
                 (HEAD + "offline 1", "step 2: --here takes no node", True),
                 ("nodes 2x8\nspawn p allowed 1", "step 0: the process may not use all nodes", True)]:
             with self.assertRaisesRegex(Bad, re.escape(told)):

@@ -57,7 +57,7 @@ def words_of_row(name, version):
     """A row in words."""
     row = row_of(name)
     told = row["kernels"].get(version, row["kernels"].get("document"))
-    return f"{name}: {row['situation']}. This model: {row['model']}. Linux {version}: {told}. {row['reason'] or 'No reason is on record.'}"
+    return f"{name}: {row['situation']}. This model: {row['model']}. Linux {version}: {told}. Reason: {row['reason'] or 'none is on record'}."
 
 
 def lines_of(found, release):

@@ -95,8 +95,6 @@ class Instructions:
         if len(self.machine.processes) > MOST_PROCESSES:
             self.cannot(f"at most {MOST_PROCESSES} processes are played at a time")
         allowed = sorted(set(step["allowed"]))
-        if set(allowed) <= self.offlined:
-            self.cannot("a process that may use no other node than those that go is not played: a kernel has no room for its pipes there")
         everywhere = len(allowed) == self.nodes
         if self.here and not everywhere:
             self.cannot("the process may not use all nodes, and --here makes no cpuset")

@@ -296,8 +296,17 @@ class Kernel(model.Machine):
             if answer < 0:
                 self.fire("migrate-target-full")
                 raise Refused("ENOMEM")
-            stay += answer
+            stay += answer + self.listed_again(process, queued, caller.privileged, 0, END)
         return [stay]
+
+    def listed_again(self, process, queued, everyone, first, end):
+        """How often 6.12 meets a page again that it has taken up, which counts as one that stays."""
+        if self.version == "6.1" or not everyone:
+            return 0
+        again = sum(page in queued for number, page in process.seen.items() if first <= number < end and page != ZERO) - len(queued)
+        if again:
+            self.fire("migrate-all-page-at-two-addresses")
+        return again
 
     # ---- policies
 
@@ -354,7 +363,8 @@ class Kernel(model.Machine):
         flags = step["flags"] & (MOVE | MOVE_ALL) if policy.kind == "default" else step["flags"]
         listed = self.walk(process, step, span, policy, flags)
         self.set_policy(step["caller"], span, policy)
-        if flags & (MOVE | MOVE_ALL) and self.move_listed(process, policy, span, listed) and flags & STRICT:
+        again = self.listed_again(process, [page for _, page in listed], flags & MOVE_ALL, *span)
+        if flags & (MOVE | MOVE_ALL) and (self.move_listed(process, policy, listed) or again) and flags & STRICT:
             raise Refused("EIO")
         return ["0"]
 
@@ -419,7 +429,7 @@ class Kernel(model.Machine):
                 policies = self.shared_policies.setdefault(part.segment, {})
                 policies.update({part.offset + place: policy for place in range(part.pages)})
 
-    def move_listed(self, process, policy, span, listed):
+    def move_listed(self, process, policy, listed):
         """Moves listed pages to where their policy allocates; says whether one stays."""
         stays, left = False, []
         if listed and not policy.nodes:
@@ -463,6 +473,8 @@ class Kernel(model.Machine):
             if before == now:
                 continue
             process.allowed = set(now)
+            if not self.configured[pid] & self.online:
+                self.fire("offline-cpuset")
 
             def change(policy, before=before, now=now):
                 if policy.kind not in ("bind", "interleave"):

@@ -1,7 +1,8 @@
 // Makes the calls of a trace for real, and prints what the kernel answers as a report, with nodes in place of frames.
 //
-// Standard input has one instruction a line, as numalab/linux/translate.py writes them. Each process of the trace is a child, which
-// gets the lines of its own calls by a pipe and answers each by a line. As process 1 of a guest the player mounts what it needs,
+// Standard input has one instruction a line, as numalab/linux/instructions.py writes them. Each process of the trace is a child, which
+// gets the lines of its own calls by a pipe and leaves its answer in memory that all share: for a pipe it would need a page of its own,
+// which a process has not where its nodes are for pages that can move. As process 1 of a guest the player mounts what it needs,
 // reads /program, writes the report to the second serial line, and turns the machine off.
 #define _GNU_SOURCE
 #include <ctype.h>
@@ -19,6 +20,7 @@
 #include <stdio.h>
 #include <stdlib.h>
 #include <string.h>
+#include <sys/eventfd.h>
 #include <sys/mman.h>
 #include <sys/mount.h>
 #include <sys/prctl.h>
@@ -38,8 +40,10 @@ enum { BUFFER = 1 << 20, UNWRITTEN = -9999, PATIENCE = 60, NO_PID = 0x3ffffff };
 struct process {
     unsigned number; // as the trace has it; 0 where there is none
     pid_t pid;
-    int to, from;
+    int to, done;
 };
+
+enum outcome { DONE, GONE, LATE };
 
 static struct process processes[MOST_PROCESSES];
 static int segments[MOST_SEGMENTS];
@@ -51,7 +55,7 @@ static struct {
 } fillers[MOST_NODES];
 static int pins[MOST_PINS][2];
 static bool away[MOST_NODES];
-static char line[BUFFER], answer[BUFFER];
+static char line[BUFFER], *answer;
 static size_t told; // how long the answer is so far
 static void *pages[MOST_ENTRIES];
 static int nodes[MOST_ENTRIES], statuses[MOST_ENTRIES];
@@ -88,9 +92,9 @@ static void say(const char *form, ...)
 {
     va_list words;
     va_start(words, form);
-    int length = vsnprintf(answer + told, sizeof answer - 64 - told, form, words);
+    int length = vsnprintf(answer + told, BUFFER - 64 - told, form, words);
     va_end(words);
-    told += (size_t)length < sizeof answer - 64 - told ? (size_t)length : 0;
+    told += (size_t)length < BUFFER - 64 - told ? (size_t)length : 0;
 }
 
 // Puts a count before what was said.
@@ -406,7 +410,21 @@ static void become(unsigned long user, unsigned long privilege)
     prctl(PR_SET_DUMPABLE, 1); // A change of user takes this away, and others of the same user may look no more.
 }
 
-static void live(int from, int to, unsigned long user, unsigned long privilege, unsigned long home, bool here)
+// Takes away the pages that the kernel gives to each process: they cannot move, and migrate_pages would count them.
+static void leave_vdso(void)
+{
+    char text[512];
+    unsigned long first, end;
+    FILE *maps = fopen("/proc/self/maps", "re");
+    while (maps && fgets(text, sizeof text, maps)) {
+        if (strstr(text, "[vdso]") && sscanf(text, "%lx-%lx", &first, &end) == 2)
+            munmap((void *)first, end - first);
+    }
+    if (maps)
+        fclose(maps);
+}
+
+static void live(int from, int done, unsigned long user, unsigned long privilege, unsigned long home, bool here)
 {
     cpu_set_t where;
     CPU_ZERO(&where);
@@ -419,13 +437,13 @@ static void live(int from, int to, unsigned long user, unsigned long privilege, 
     write_text("/proc/self/oom_score_adj", "1000");
     prctl(PR_SET_THP_DISABLE, 1, 0, 0, 0);
     prctl(PR_SET_PDEATHSIG, SIGKILL);
+    leave_vdso();
     become(user, privilege);
-    write_all(to, "ok\n");
+    eventfd_write(done, 1);
     while (read_line(from, line, -1)) {
         words = line;
         perform(word());
-        strcat(answer, "\n");
-        write_all(to, answer);
+        eventfd_write(done, 1);
     }
     _exit(0);
 }
@@ -464,7 +482,6 @@ static void leave_out(struct totals before)
     struct totals now = read_totals();
     before_all.moved += now.moved - before.moved;
     before_all.failed += now.failed - before.failed;
-    before_all.compacted += now.compacted - before.compacted;
 }
 
 // Waits until the kernel moves no pages of its own accord.
@@ -488,11 +505,29 @@ static struct process *process_of(unsigned long asked)
 
 static void bury(struct process *process)
 {
-    kill(process->pid, SIGKILL);
-    waitpid(process->pid, NULL, 0);
+    if (process->pid) {
+        kill(process->pid, SIGKILL);
+        waitpid(process->pid, NULL, 0);
+    }
     close(process->to);
-    close(process->from);
+    close(process->done);
     process->number = 0;
+}
+
+// Waits for the answer of a process, which is in the answer then.
+static enum outcome wait_for(struct process *process)
+{
+    struct pollfd wait = {.fd = process->done, .events = POLLIN};
+    eventfd_t value;
+    for (int tries = 0; tries < PATIENCE * 20; tries++) {
+        if (poll(&wait, 1, 50) > 0)
+            return eventfd_read(process->done, &value) == 0 ? DONE : LATE;
+        if (waitpid(process->pid, NULL, WNOHANG) == process->pid) {
+            process->pid = 0;
+            return GONE;
+        }
+    }
+    return LATE;
 }
 
 // Puts a process that is not yet its user's into a cpuset of these nodes.
@@ -511,33 +546,33 @@ static void confine(pid_t pid, const char *allowed)
 
 static void start_process(struct process *process, bool here)
 {
-    int down[2], up[2];
+    int down[2];
     unsigned long user = number(), privilege = number(), home = number();
     const char *allowed = word();
-    if (pipe2(down, O_CLOEXEC) < 0 || pipe2(up, O_CLOEXEC) < 0)
+    process->done = eventfd(0, EFD_CLOEXEC);
+    if (pipe2(down, O_CLOEXEC) < 0 || process->done < 0)
         stop("pipe");
     process->pid = fork();
     if (process->pid < 0)
         stop("fork");
     if (process->pid == 0) {
         close(down[1]);
-        close(up[0]);
         char go;
         if (read(down[0], &go, 1) != 1)
             _exit(0);
-        live(down[0], up[1], user, privilege, home, here);
+        live(down[0], process->done, user, privilege, home, here);
     }
     close(down[0]);
-    close(up[1]);
     process->to = down[1];
-    process->from = up[0];
     struct totals before = read_totals();
     if (*allowed != '-')
         confine(process->pid, allowed);
     leave_out(before);
     write_all(process->to, "\n");
-    if (!read_line(process->from, answer, PATIENCE))
+    if (wait_for(process) != DONE)
         stop("a process did not start");
+    say_nothing();
+    say("ok");
 }
 
 static void do_spawn(bool here)
@@ -584,13 +619,12 @@ static unsigned long own_pages(pid_t pid, void **found, int *where)
 static void ask(struct process *process, const char *sent)
 {
     write_all(process->to, sent);
-    if (read_line(process->from, answer, PATIENCE))
+    enum outcome outcome = wait_for(process);
+    if (outcome == DONE)
         return;
-    usleep(20000);
-    bool gone = waitpid(process->pid, NULL, WNOHANG) == process->pid;
     bury(process);
     say_nothing();
-    say(gone ? "killed" : "hangs");
+    say(outcome == GONE ? "killed" : "hangs");
 }
 
 // migrate_pages, with the player's own pages left out of the totals. The same page may have had another node before.
@@ -726,6 +760,7 @@ static void do_fill(void)
         stop("a node was not filled");
     wait_for_rest();
     leave_out(before);
+    before_all.compacted += read_totals().compacted - before.compacted;
 }
 
 // Fills again what is to be full, before a call for which it counts.
@@ -895,6 +930,10 @@ static void play_line(bool here)
 
 static void find_own(void)
 {
+    answer = mmap(NULL, BUFFER, PROT_READ | PROT_WRITE, MAP_SHARED | MAP_ANONYMOUS, -1, 0);
+    if (answer == MAP_FAILED)
+        stop("mmap");
+    memset(answer, 0, BUFFER);
     FILE *maps = fopen("/proc/self/maps", "re");
     if (!maps || fscanf(maps, "%lx", &own_low) != 1)
         stop("/proc/self/maps");
