@@ -3,7 +3,6 @@ instructions, guests' words, and what strace told."""
 import json
 import os
 import re
-import subprocess
 import unittest
 from unittest import mock
 
@@ -17,36 +16,6 @@ DATA = os.path.join(ROOT, "lab/tests/data")
 # Rows for which no trace can be played, beside those of a document: what a kernel does by itself.
 UNPLAYED = {"vmstat-compaction"}
 HEAD = "nodes 2x8\nspawn p\nmap p A 2\n"
-HERE = """nodes 64
-spawn p
-spawn q
-map p A 3
-map p S 2 shared
-attach q T of S
-write p A[0] "abc"
-write p S 61
-read p A[0] len 3
-read q T[0]
-query p S[0], 0x90000
-mbind p A[0] MPOL_BIND 0 flags MPOL_MF_STRICT
-mbind p A[1] MPOL_DEFAULT 0
-move_pages p A[0] to 0, S[0] to 0
-move_pages p A[0] to 1
-migrate_pages p from 0 to 0
-pin p A[0]
-unpin p A[0]
-pagemap p
-numa_maps p
-unmap p A[0]
-read p A[0]
-exit q
-vmstat
-"""
-
-
-def needs(program):
-    found = any(os.access(os.path.join(folder, program), os.X_OK) for folder in os.environ["PATH"].split(os.pathsep))
-    return unittest.skipUnless(found, f"there is no {program}")
 
 
 class Rows(Case):
@@ -211,26 +180,6 @@ class Playing(Case):
                 guest.boot("k", wait, "", ([8], ((10,),), frozenset()))
         self.assertEqual(os.listdir(self.there), ["qemu-system-x86_64"])
 
-    @needs("gcc")
-    def test_player_has_no_warning(self):
-        ran = subprocess.run(["gcc", *player.FLAGS, "-Werror", "-o", os.path.join(self.there, "player"), player.SOURCE], capture_output=True, check=False)
-        self.assertEqual((ran.returncode, ran.stderr.decode()), (0, ""))
-
-    @needs("gcc")
-    @unittest.skipUnless(os.path.isdir(player.NODES), "this kernel has no NUMA")
-    def test_here(self):
-        if player.nodes_here() != 1:
-            self.skipTest("this machine has more than the one node that the trace has")
-        path = self.written("t.nt", HERE)
-        status, out, err = run("replay", path, "--here")
-        self.assertEqual((status, err), (0, ""))
-        found = replayed.read_replayed(out, path)
-        from numalab.traces import load
-        trace = load(path)
-        kinds = compare.compared(trace.top, model.report(trace.top).encode(), found)
-        self.assertEqual([(one.step, one.kernel) for one in kinds if one.kind == compare.OTHER], [])
-
-
 class Predicting(Case):
     """The rules as a command."""
 
@@ -320,18 +269,6 @@ class Recording(Case):
             self.assertIn(told, err)
         self.assertEqual(run("record")[0], 2)
         self.assertEqual(run("record", "--from", path, "--machine", self.written("m", "[]"))[0], 2)
-
-    @needs("strace")
-    def test_a_command(self):
-        machine = self.written("m", json.dumps(self.MACHINE))
-        out = os.path.join(self.there, "t.json")
-        status, _, err = run("record", "-o", out, "--machine", machine, "--", "true")
-        if "ptrace" in err or status == 1:
-            self.skipTest("strace may not trace here")
-        self.assertEqual(status, 0, err)
-        with open(out, "rb") as file:
-            self.assertEqual(verdict(file.read()), "good")
-
 
 if __name__ == "__main__":
     unittest.main()
