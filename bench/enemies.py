@@ -6,7 +6,6 @@ how the time grows with the trace, at 1, 2, 4 and 8 times the smallest size. Wor
 `--trace KIND SIZE` writes a trace to standard output. `./build` makes the program."""
 import argparse
 import os
-import subprocess
 import sys
 import tempfile
 
@@ -172,28 +171,8 @@ KINDS = {
 }
 
 
-def play(kind, size, path, runs, program):
-    """The least seconds and the peak memory in MiB of some runs. Another process writes the trace: the peak memory of what this
-    one starts counts from its own size on."""
-    with open(path, "wb") as file:
-        subprocess.run([sys.executable, __file__, "--trace", kind.__name__, str(size)], stdout=file, check=True)
-    used = [run.run_once(path, program, "--workers", "1") for _ in range(runs)]
-    return min(seconds for seconds, _ in used), max(memory for _, memory in used) / 1024
-
-
-def measure(kinds, program):
-    print("| Trace | Size | MiB | Seconds | Peak memory | Growth |")
-    print("|---|---|---|---|---|---|")
-    with tempfile.TemporaryDirectory() as folder:
-        path = os.path.join(folder, "trace.json")
-        for kind in kinds:
-            times = []
-            for factor in (1, 2, 4, 8):
-                seconds, memory = play(kind, KINDS[kind] * factor, path, 3, program)
-                times.append((factor, max(seconds, 0.001)))
-                growth = "%.2f" % run.exponent(times) if factor == 8 else ""
-                print("| `%s` | %d | %.1f | %.2f | %.0f MiB | %s |" % (
-                    kind.__name__, KINDS[kind] * factor, os.path.getsize(path) / 2**20, seconds, memory, growth), flush=True)
+def make_trace(kind, size, path):
+    run.make_trace(kind, size, path, (__file__, "--trace"))
 
 
 def hold_to(limit, kinds, program):
@@ -201,7 +180,9 @@ def hold_to(limit, kinds, program):
     held = True
     with tempfile.TemporaryDirectory() as folder:
         for kind in kinds:
-            seconds, _ = play(kind, KINDS[kind] * 8, os.path.join(folder, "trace.json"), 1, program)
+            path = os.path.join(folder, "trace.json")
+            make_trace(kind.__name__, KINDS[kind] * 8, path)
+            seconds, _ = run.run_once(path, program, "--workers", "1")
             if seconds > limit:
                 print("bench/enemies.py: %s takes %.1f seconds" % (kind.__name__, seconds))
                 held = False
@@ -224,10 +205,10 @@ def main():
         return 0
     if not os.access(given.program, os.X_OK):
         words.error("there is no program %s" % given.program)
-    kinds = [kind for kind in KINDS if not given.kinds or kind.__name__ in given.kinds]
+    kinds = {kind: size for kind, size in KINDS.items() if not given.kinds or kind.__name__ in given.kinds}
     if given.limit is not None:
         return 0 if hold_to(given.limit, kinds, given.program) else 1
-    measure(kinds, given.program)
+    run.measure(kinds, make_trace, lambda path: run.run_once(path, given.program, "--workers", "1"), 3)
     return 0
 
 

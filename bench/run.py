@@ -20,10 +20,10 @@ ROOT = os.path.dirname(os.path.dirname(os.path.abspath(__file__)))
 PROGRAM = os.path.join(ROOT, "crates/numatrace/out/numatrace")
 
 
-def make_trace(kind, size, path):
+def make_trace(kind, size, path, script=(traces.__file__,)):
     """Writes a trace in a process of its own: the peak memory of what this one starts counts from its own size on."""
     with open(path, "wb") as trace:
-        subprocess.run([sys.executable, os.path.join(ROOT, "bench/traces.py"), kind, str(size)], stdout=trace, check=True)
+        subprocess.run([sys.executable, *script, kind, str(size)], stdout=trace, check=True)
 
 
 def run_once(path, program=PROGRAM, *words):
@@ -71,24 +71,25 @@ def compare(other, kinds):
                 kind.__name__, size, seconds[0], seconds[1], seconds[1] / seconds[0], memory[0], memory[1]))
 
 
-def measure(kinds):
-    """Plays each kind at four sizes, and writes the table."""
+def measure(kinds, make, play, runs):
+    """Makes a trace of each kind at four sizes, plays it so many times, and writes the table. The kinds are given with their smallest
+    sizes."""
     print("| Trace | Size | MiB | Seconds | Peak memory | Growth |")
     print("|---|---|---|---|---|---|")
     with tempfile.TemporaryDirectory() as folder:
         path = os.path.join(folder, "trace.json")
-        for kind in kinds:
+        for kind, smallest in kinds.items():
             times = []
             for factor in (1, 2, 4, 8):
-                make_trace(kind.__name__, traces.KINDS[kind] * factor, path)
-                runs = [run_once(path) for _ in range(5)]
-                seconds = min(run[0] for run in runs)
-                times.append((factor, seconds))
+                make(kind.__name__, smallest * factor, path)
+                used = [play(path) for _ in range(runs)]
+                seconds = min(run[0] for run in used)
+                times.append((factor, max(seconds, 0.001)))
                 growth = "%.2f" % exponent(times) if factor == 8 else ""
                 size = os.path.getsize(path) / 2**20
-                memory = max(run[1] for run in runs) / 1024
+                memory = max(run[1] for run in used) / 1024
                 print("| `%s` | %d | %.1f | %.2f | %.0f MiB | %s |" % (
-                    kind.__name__, traces.KINDS[kind] * factor, size, seconds, memory, growth))
+                    kind.__name__, smallest * factor, size, seconds, memory, growth), flush=True)
 
 
 def count(kinds):
@@ -126,7 +127,7 @@ def main():
     elif given.instructions:
         count(kinds)
     else:
-        measure(kinds)
+        measure({kind: traces.KINDS[kind] for kind in kinds}, make_trace, run_once, 5)
 
 
 if __name__ == "__main__":
