@@ -6,33 +6,29 @@ import glob
 import os
 import sys
 
-os.chdir(os.path.join(os.path.dirname(os.path.abspath(__file__)), ".."))
+ROOT = os.path.dirname(os.path.dirname(os.path.abspath(__file__)))
+os.chdir(ROOT)
+sys.dont_write_bytecode = True
+sys.path.insert(0, os.path.join(ROOT, "tools"))
+from open_goals import pairs_of  # noqa: E402
 
 
 def fault(path, crate):
     """Says why an edit cannot be applied to the files of its crate, or gives None."""
-    texts, file, old = {}, None, None
-    with open(path, encoding="utf-8") as edit:
-        lines = edit.read().split("\n")
-    for line in lines:
-        if line.startswith("file: "):
-            file = line[len("file: "):].strip()
-        elif line.startswith("old: "):
-            old = line[len("old: "):]
-        elif line.startswith("new:"):
-            if file is None or old is None:
-                return "a 'new:' line stands before any 'file:' or 'old:' line"
-            if file not in texts:
-                try:
-                    with open(os.path.join("crates", crate, file), encoding="utf-8") as source:
-                        texts[file] = source.read()
-                except OSError:
-                    return f"there is no file {file}"
-            found = texts[file].count(old)
-            if found != 1:
-                return f"an 'old:' text stands in {file} {found} times, and not once"
-            texts[file] = texts[file].replace(old, line[len("new:"):].removeprefix(" "))
-            old = None
+    texts = {}
+    for file, old, new in pairs_of(path):
+        if file is None or old is None:
+            return "a 'new:' line stands before any 'file:' or 'old:' line"
+        if file not in texts:
+            try:
+                with open(os.path.join("crates", crate, file), encoding="utf-8") as source:
+                    texts[file] = source.read()
+            except OSError:
+                return f"there is no file {file}"
+        found = texts[file].count(old)
+        if found != 1:
+            return f"an 'old:' text stands in {file} {found} times, and not once"
+        texts[file] = texts[file].replace(old, new)
     return None if texts else "it changes nothing"
 
 

@@ -19,7 +19,7 @@ WAITS = re.compile(r"fn (\S+): no proof: it calls (.*)")
 
 
 def pairs_of(path):
-    """The changes that an edit makes: a file, a text in it, and what is to stand there."""
+    """The changes that an edit makes: a file, a text in it, and what is to stand there. A file or text that no line names is None."""
     file = old = None
     with open(path, encoding="utf-8") as edit:
         for line in edit.read().split("\n"):
@@ -29,6 +29,7 @@ def pairs_of(path):
                 old = line[len("old: "):]
             elif line.startswith("new:"):
                 yield file, old, line[len("new:"):].removeprefix(" ")
+                old = None
 
 
 def apply(path, folder):
