@@ -2,10 +2,15 @@
 """Lists every public definition of the specifications, each with its file and the comment above it: docs/DEFINITIONS_ALL.md.
 
 Without a word it writes the list. With --check it writes nothing, and ends with status 1 where the list is not that of the
-sources, or where docs/DEFINITIONS.md names a definition that is not in the file that it says, or more than 45."""
+sources, or where docs/DEFINITIONS.md names a definition that is not in the file that it says, or more than 45.
+
+    tools/definitions.py --count run_trace           how many definitions, lines and files the contract of run_trace rests on
+    tools/definitions.py --count run_trace --list    those definitions too, by file"""
 import os
 import re
 import sys
+
+import counting
 
 ROOT = os.path.dirname(os.path.dirname(os.path.abspath(__file__)))
 LIST = os.path.join(ROOT, "docs/DEFINITIONS_ALL.md")
@@ -97,8 +102,10 @@ def faults(text, names):
 
 
 def main():
+    if sys.argv[1:2] == ["--count"]:
+        return counting.count(sys.argv[2:])
     if sys.argv[1:] not in ([], ["--check"]):
-        sys.exit("tools/definitions.py: no word but --check is known")
+        sys.exit("tools/definitions.py: no word but --check and --count is known")
     text, names = listed()
     if sys.argv[1:]:
         said = list(faults(text, names))
