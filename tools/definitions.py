@@ -23,7 +23,7 @@ MUTUAL = re.compile(r"^(?:(?:abbrev|unfoldable|opaque) )?mutual$")
 MEMBER = re.compile(r"^ +pub ([^\s({:]+) :")
 HEAD = """# All definitions
 
-Every public definition of the specifications, by crate and file, with the sentence that stands above it. `tools/definitions.py` writes this list; `docs/DEFINITIONS.md` has the few that one reads first.
+Every public definition of the specifications, by crate and file, with the comment above it. `tools/definitions.py` writes this list; `docs/DEFINITIONS.md` has those to read first.
 """
 
 
