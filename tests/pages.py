@@ -1,5 +1,6 @@
 #!/usr/bin/env python3
-"""Whether tools/pages.py finds what it should: names that are there and names that are not, and headings as a forge makes them.
+"""Whether tools/pages.py finds what it should: names that are there and names that are not, headings as a forge makes them, and
+lines of reports.
 Prints those that it takes for the other, and then ends with status 1."""
 import os
 import sys
@@ -21,6 +22,10 @@ if pages.headings(PAGE) != {"one-two-its", "a_b", "a_b-1"}:
     wrong.append(f"headings {pages.headings(PAGE)}")
 if not pages.bad_link("docs/MODEL.md", "#nothing", {}) or pages.bad_link("docs/MODEL.md", "../README.md", {}):
     wrong.append("links")
+REPORT = "0 spawn ok\n1 map segment=0\n2 numa_maps 1\n00010000 default\n"
+SHOWN = "text\n\n    1 map segment=0\n    2 numa_maps 1\n    00010000 default\n\n    0 spawn ok\n    2 numa_maps 1\n"
+if list(pages.unreported(SHOWN, [REPORT])) != [(7, "no report has the line or lines from '0 spawn ok' on")]:
+    wrong.append("reports")
 for word in wrong:
     print(f"tools/pages.py is wrong about {word}")
 sys.exit(1 if wrong else 0)

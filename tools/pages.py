@@ -1,6 +1,7 @@
 #!/usr/bin/env python3
 """Looks whether what the pages name is there: links and their headings, paths, files of sources, and functions of crates, types and
-modules. `tools/pages.py --check` prints a line `page:line: text` for each that is not, and ends with status 1 if there is one.
+modules; and whether each stretch of a report in the manual is in the report of an example, or in a replay of a kernel's answers.
+`tools/pages.py --check` prints a line `page:line: text` for each that is not, and ends with status 1 if there is one.
 
 It reads README.md, CHANGELOG.md, lab/README.md and docs/*.md: Markdown links, and what is in backticks. A path is looked for if it
 begins with a folder of the repository, a crate or `./`; what has a `*`, a brace, a placeholder in capitals or a folder that a build
@@ -13,6 +14,7 @@ import sys
 
 ROOT = os.path.dirname(os.path.dirname(os.path.abspath(__file__)))
 PAGES = ("README.md", "CHANGELOG.md", "lab/README.md", "docs/*.md")
+REPORTS = ("examples/*.report", "lab/scenarios/*.replayed")
 SOURCES = ("crates", "tests", "tools", "bench", "lab")
 MADE = {"out", "dist", "__pycache__", ".git"}
 # Names of std, of the kit and of libraries that are no part of the repository.
@@ -25,6 +27,7 @@ SPAN = re.compile(r"(`+)(.+?)\1")
 LINK = re.compile(r"\]\(\s*<?([^)\s>]+)>?[^)]*\)|(?:src|href)=\"([^\"]+)\"")
 HEADING = re.compile(r"#{1,6}\s+(.*?)\s*#*$")
 FILE = re.compile(r"[\w./+-]*\w\.(?:antt|rt|py)")
+REPORTED = re.compile(r" {4}(\d+(?:\.\d+)? [a-z_]+ \S.*|[0-9a-f]{8} (?:default|local|prefer|bind|interleave)\b.*)")
 NAMED = re.compile(r"(\w+(?:::\w+)+)(?:\(.*\))?")
 DEFINED = re.compile(r"\b(?:fn|struct|enum|trait|type|const(?! fn\b)|static|mod|macro_rules!)\s+(\w+)|^\s+([A-Z]\w*)\s*[,({=]", re.M)
 OWNERS = re.compile(r"\b(?:struct|enum|trait|type)\s+(\w+)|\bimpl\b(?:<[^{]*?>)?\s+(?:[^{;]*?\bfor\s+)?&?(?:\w+::)*(\w+)", re.M)
@@ -147,14 +150,32 @@ def faults_of(page, sources, anchors):
                 yield number, f"nothing is defined as {span}"
 
 
+def unreported(text, reports):
+    """The stretches of lines of a report in a page that are in none of these reports: the number of the first line, and a text."""
+    stretch = []
+    for number, line in enumerate(text.split("\n") + [""], 1):
+        found = REPORTED.fullmatch(line)
+        if found:
+            stretch.append(found[1])
+        elif stretch:
+            lines = "\n" + "\n".join(stretch) + "\n"
+            if not any(lines in "\n" + report for report in reports):
+                yield number - len(stretch), f"no report has the line or lines from {stretch[0]!r} on"
+            stretch = []
+
+
 def main():
     if sys.argv[1:] != ["--check"]:
         sys.exit("tools/pages.py: the word --check is wanted, and no other is known")
     sources, anchors, status = Sources(), {}, 0
+    reports = [read(path) for pattern in REPORTS for path in glob.glob(os.path.join(ROOT, pattern))]
     for pattern in PAGES:
         for path in sorted(glob.glob(os.path.join(ROOT, pattern))):
             page = os.path.relpath(path, ROOT)
-            for number, text in faults_of(page, sources, anchors):
+            faults = list(faults_of(page, sources, anchors))
+            if page == "docs/MANUAL.md":
+                faults += unreported(read(page), reports)
+            for number, text in faults:
                 print(f"{page}:{number}: {text}")
                 status = 1
     return status
