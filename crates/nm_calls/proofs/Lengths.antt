@@ -32,7 +32,7 @@ decided_layout : (s : State) (target : ℕ) (class : Class) → (decided s targe
 decided_layout s target (Status status) = refl
 decided_layout s target (Move page from) = moved_layout s target page from (free_list s target)
 
-each_layout : (s : State) (target : ℕ) (ws : List Wanted) → (each s target ws).state.layout ≡ s.layout
+pub each_layout : (s : State) (target : ℕ) (ws : List Wanted) → (each s target ws).state.layout ≡ s.layout
 each_layout s target [] = refl
 each_layout s target (w ∷ ws) = each_layout (one s target w).state target ws ∙ decided_layout s target (status_or_move s target w)
 

@@ -20,6 +20,8 @@ pub mod Stretched
 pub mod Tallies
 pub mod Listed
 pub mod Passing
+pub mod Full
+pub mod Standing
 pub mod Staying
 pub mod Straying
 pub mod Nodes

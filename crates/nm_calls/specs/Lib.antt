@@ -19,6 +19,7 @@ pub mod Laws
 pub mod MigrateRows
 pub mod MigrateLaws
 pub mod Passes
+pub mod Full
 pub mod Binding
 pub mod Offlining
 pub mod Making

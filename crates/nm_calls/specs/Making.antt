@@ -1,5 +1,5 @@
 -- The moves of a call that are made ready before its first run, and what comes of them.
-use Rattle.std.specs.Prelude.{◌≡◌, ◌⊎◌, ℕ, ◌+◌, ◌-◌, ◌^◌, ◌<◌, ◌≤◌, Bool, true, false, ◌&&◌, All, List, [], ◌∷◌, length, slice_index_or, Result, Ok, Err}
+use Rattle.std.specs.Prelude.{◌≡◌, ◌⊎◌, ℕ, ◌+◌, ◌-◌, ◌^◌, ◌<◌, ◌≤◌, Bool, true, false, ◌&&◌, All, IfSome, List, [], ◌∷◌, length, slice_index_or, Result, Ok, Err}
 use Rattle.std.specs.List.{AllByRecursion}
 use Rattle.nm_types.specs.declared.area.Policy.{Policy}
 use Rattle.nm_types.specs.declared.area.Policy.TheVariants.{Default, Preferred, Bind, Interleave, Local}
@@ -11,11 +11,13 @@ use Rattle.nm_engine.specs.Run.{Ran, HasOneAll}
 use Rattle.nm_engine.specs.Batch.{runs_from}
 use Rattle.nm_engine.specs.Effect.{set_online}
 use Rattle.nm_calls.specs.declared.binding.Binding.{Binding}
+use Rattle.nm_calls.specs.declared.passes.Left.{Left}
 use Rattle.nm_calls.specs.declared.ways.Way.{Way}
 use Rattle.nm_calls.specs.declared.ways.Way.TheVariants.{Passes, Turns}
 use Rattle.nm_calls.specs.declared.call_error.CallError.{CallError}
 use Rattle.nm_calls.specs.declared.call_error.CallError.TheVariants.{Refused, HostMemory}
 use Rattle.nm_calls.specs.Passes.{passes}
+use Rattle.nm_calls.specs.Full.{HasFailed, StandAmong}
 use Rattle.nm_calls.specs.Binding.{still_strays, tells_late}
 use Rattle.nm_calls.specs.Offlining.{still_on}
 use Rattle.nm_calls.specs.Outcome.{states_of}
@@ -95,3 +97,8 @@ Empties (Ok done) old new node runs =
     let made = runs_from 0 old runs [] in
     (still_on old made.state node ≡ false) × (new ≡ set_online made.state node false)
 Empties (Err e) old new node runs = Keeps e old new node runs
+
+-- what is said of what is left: a pass has found no free frame for it, and it stands on these nodes
+abbrev pub IsLeft : {A : Type 0} → State → Left A → Type 0
+IsLeft s left =
+    (left.tried ≡ true → HasFailed s left.wanted.items) × IfSome left.standing (λ nodes. StandAmong s nodes left.wanted.items)

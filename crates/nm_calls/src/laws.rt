@@ -5,6 +5,7 @@ ghost use Rattle.nm_calls.specs.MigrateLaws.{EachPageIsListedOnce, RunsGoToNodes
 ghost use Rattle.nm_calls.specs.MigrateRows.{EachPageGoesOnce, HalfWay, TwoOfFourGo, SharedPageGoesByPrivilege, MigrationsAreRefused, NothingMigrates, SizesOfWhatIsKept, PageIsListedOnce, RunsHaveALimit};
 ghost use Rattle.nm_calls.specs.Binding.{NoStrayIsListedTwice};
 ghost use Rattle.nm_calls.specs.Offlining.{RunsIgnoreOnline};
+ghost use Rattle.nm_calls.specs.Full.{FullNodeTakesNone, LeftWouldMove, MovesElsewhere, RunsGoByLength, NextPassTakesNone};
 ghost use Rattle.nm_calls.specs.OfflineRows.{PagesLeaveTheNode, NothingIsTakenOffline, PinnedPageKeepsItsNode, PassesGoByDistance, UnseenPageMoves, SharedPageLeavesItsNode, OfflineNodesAreNotKept, NearestNodeFirst, LastNodeStays, PagesGoBySegment};
 ghost use Rattle.nm_calls.specs.DuringRows.{FramesAreReserved, AccessFindsNoFrame, HeldAtEachAddress, RefusedBeforeHeld, RefusedCallsMakeNone, AnsweredInOrder, LimitMakesRuns};
 ghost use Rattle.nm_calls.specs.BindingRows.{PinnedPageIsTold, StrictAloneRefuses, StayingIsNoError, LinesAreSplit, NewPagesTakeTurns, BoundPagesGoNowhereElse, SecondPassTakesTheRest, FollowersStay, StrayPagesTakeTurns, BindingsAreRefused, LastByteCounts, TurnsGoByIndex, StrayIsListedOnce, SharedPagesMoveWithAll, SetsAsText, BothProcessesAreCounted, LastPage};
@@ -80,6 +81,16 @@ pub fn each_page_is_listed_once()
 /// before its pages leave it, or after.
 pub fn runs_ignore_online()
     ensures { RunsIgnoreOnline }
+{}
+
+/// What a pass leaves without a frame is left by a pass over another node too, if that has no free frame and none of it
+/// stands there: the failures grow by its number, and nothing else changes. How many runs that is goes by its number.
+pub fn full_nodes_take_none()
+    ensures full { FullNodeTakesNone }
+    ensures left { LeftWouldMove }
+    ensures elsewhere { MovesElsewhere }
+    ensures runs { RunsGoByLength }
+    ensures next { NextPassTakesNone }
 {}
 
 /// Worked examples of nodes that go offline and come online.

@@ -1,16 +1,18 @@
 //! Batches and passes: all that is wanted goes to one node after another, until it has found a free frame.
 
-ghost use Rattle.std.specs.Prelude.{◌≡◌, ◌^◌, ◌<◌, ◌≤◌, All, [], IfOk, length, vec_capacity};
+ghost use Rattle.std.specs.Prelude.{◌≡◌, ◌^◌, ◌<◌, ◌≤◌, ℕ, All, [], IfOk, IfSome, Some, length, vec_capacity};
 ghost use Rattle.std.specs.List.{AllByRecursion};
 ghost use Rattle.std.specs.Ordering.{int_eq};
 ghost use Rattle.nm_types.specs.declared.errno.Errno.TheVariants.{Enomem};
 ghost use Rattle.nm_types.specs.Layout.{node_count};
+ghost use Rattle.nm_types.specs.State.{free_list};
 ghost use Rattle.nm_runs.specs.Cut.{all_to, wanted_of};
 ghost use Rattle.nm_runs.specs.Limit.{cut_within};
 ghost use Rattle.nm_runs.specs.Status.{code};
 ghost use Rattle.nm_engine.specs.Run.{HasOneAll};
 ghost use Rattle.nm_calls.specs.Passes.{passes, without_frame};
-ghost use Rattle.nm_calls.specs.Making.{Batches, MakesRuns, later, IsCounted};
+ghost use Rattle.nm_calls.specs.Full.{StandsOn, StandAmong, WouldMove};
+ghost use Rattle.nm_calls.specs.Making.{Batches, MakesRuns, later, IsCounted, IsLeft};
 
 use crate::batch::move_runs;
 use crate::call::InFlight;
@@ -18,7 +20,7 @@ use crate::call_error::CallError;
 use nm_crew::Gate;
 use nm_engine::Machine;
 use nm_runs::{Request, Wanted, cut_within};
-use nm_types::{Errno, NodeId};
+use nm_types::{Errno, NodeId, NodeMask};
 use std::alloc::{AllocError, Allocator};
 use std::sync::Wait;
 use std::thread::Threads;
@@ -167,6 +169,133 @@ fn make_pass<R: Threads + Wait + Sync, A: Allocator + Copy + Send + Sync, G: Gat
     })
 }
 
+/// What is wanted still.
+#[derive(Drop)]
+pub(crate) struct Left<A: Allocator + Copy> {
+    /// The pages.
+    pub(crate) wanted: Vec<Wanted, A>,
+    /// Whether a pass has found no free frame for any of them.
+    pub(crate) tried: bool,
+    /// The nodes on which they stand, if that was asked since the last pass.
+    pub(crate) standing: Option<NodeMask>,
+}
+
+/// The node on which what is wanted stands, if it is a page that has a frame.
+fn place_of<A: Allocator + Copy + Send + Sync>(
+    machine: &Machine<A>,
+    wanted: &Wanted,
+) -> Option<NodeId>
+    ensures { (node : ℕ) → StandsOn machine.now node wanted.now → result ≡ Some node }
+{
+    match wanted {
+        Wanted::At { pid, vpn, .. } => {
+            let status = machine.node_status(*pid, *vpn);
+            if status < 0 {
+                return None;
+            }
+            Some(NodeId::new(status.unsigned_abs()))
+        }
+        Wanted::Whole(page) => machine.node_of_page(*page),
+    }
+}
+
+/// The nodes below 64 on which this stands.
+fn standing<A: Allocator + Copy + Send + Sync>(machine: &Machine<A>, wanted: &[Wanted]) -> NodeMask
+    ensures { StandAmong machine.now result wanted.now }
+{
+    let mut nodes = NodeMask::new();
+    for page in wanted {
+        if let Some(node) = place_of(machine, page) {
+            if node.index() < 64 {
+                nodes.insert(node);
+            }
+        }
+    }
+    nodes
+}
+
+/// The nodes on which what is left stands, if a pass over a node finds a free frame for none of it: the node has none, and
+/// is none of these.
+fn lost_on<A: Allocator + Copy + Send + Sync>(
+    machine: &Machine<A>,
+    node: NodeId,
+    left: &Left<A>,
+) -> Option<NodeMask>
+    requires node { node < node_count (machine.now.layout) }
+    requires left { IsLeft machine.now left.now }
+    ensures full { IfSome result (λ nodes. free_list machine.now node ≡ []) }
+    ensures lost { IfSome result (λ nodes. AllByRecursion (WouldMove machine.now node) left.now.wanted.items) }
+    ensures standing { IfSome result (λ nodes. StandAmong machine.now nodes left.now.wanted.items) }
+{
+    if !left.tried || machine.has_free(node) {
+        return None;
+    }
+    prove!(machine.node_count() <= 64);
+    let nodes = match left.standing {
+        Some(nodes) => nodes,
+        None => standing(machine, left.wanted.as_slice()),
+    };
+    if nodes.contains(node) {
+        return None;
+    }
+    Some(nodes)
+}
+
+/// What came of the next pass.
+#[derive(Drop)]
+struct Next<A: Allocator + Copy> {
+    /// How many runs it had.
+    runs: usize,
+    /// What is left.
+    left: Left<A>,
+}
+
+/// Makes the next pass. Where the node has no free frame, nothing is looked at that an earlier pass left: all of it fails.
+fn next_pass<R: Threads + Wait + Sync, A: Allocator + Copy + Send + Sync, G: Gate + Sync>(
+    rt: &R,
+    alloc: A,
+    machine: &mut Machine<A>,
+    node: NodeId,
+    left: Left<A>,
+    limit: usize,
+    workers: usize,
+    gate: &G,
+) -> Result<Next<A>, CallError>
+    requires some { 0 < limit }
+    requires workers { (0 < workers) × (workers ≤ 64) }
+    requires node { node < node_count (machine.old.layout) }
+    requires alike { HasOneAll left.wanted.items }
+    requires pages { 0 < length left.wanted.items }
+    requires left { IsLeft machine.old left }
+    ensures runs { Batches result machine.old machine.new (cut_within limit (all_to node left.wanted.items))
+        (λ next ran. (next.runs ≡ length (cut_within limit (all_to node left.wanted.items)))
+        × (next.left.wanted.items ≡ without_frame left.wanted.items ran.statuses)) }
+    ensures left { IfOk result (λ next. IsLeft machine.new next.left) }
+{
+    if let Some(nodes) = lost_on(machine, node, &left) {
+        let count = left.wanted.len();
+        machine.count_failures(count);
+        return Ok(Next {
+            runs: count.div_ceil(limit),
+            left: Left {
+                wanted: left.wanted,
+                tried: true,
+                standing: Some(nodes),
+            },
+        });
+    }
+    let wanted = left.wanted.as_slice();
+    let pass = make_pass(rt, alloc, machine, node, wanted, limit, workers, gate)?;
+    Ok(Next {
+        runs: pass.runs,
+        left: Left {
+            wanted: pass.left,
+            tried: true,
+            standing: None,
+        },
+    })
+}
+
 /// The same error after `made` more runs, and with the policy set or not. A refusal stays as it is.
 pub(crate) fn later(error: CallError, made: usize, policy_set: bool) -> CallError
     requires { IsCounted error made }
@@ -206,27 +335,22 @@ pub(crate) fn make_passes<
     requires pages { length wanted.items ≤ 2 ^ 52 }
     ensures { MakesRuns policy_set result machine.old machine.new (passes limit machine.old nodes.now wanted.items) }
 {
-    let mut left = wanted;
+    let mut left = Left {
+        wanted,
+        tried: false,
+        standing: None,
+    };
     let mut made = 0;
     for node in nodes {
-        if left.is_empty() {
+        if left.wanted.is_empty() {
             return Ok(());
         }
-        let pass = match make_pass(
-            rt,
-            alloc,
-            machine,
-            *node,
-            left.as_slice(),
-            limit,
-            workers,
-            gate,
-        ) {
-            Ok(pass) => pass,
+        let next = match next_pass(rt, alloc, machine, *node, left, limit, workers, gate) {
+            Ok(next) => next,
             Err(error) => return Err(later(error, made, policy_set)),
         };
-        made += pass.runs;
-        left = pass.left;
+        made += next.runs;
+        left = next.left;
     }
     Ok(())
 }

@@ -124,7 +124,7 @@ impl<A: Allocator + Copy> Frames<A> {
     }
 
     /// Whether a node has a free frame.
-    fn has_free(&self, node: NodeId) -> bool
+    pub(crate) fn has_free(&self, node: NodeId) -> bool
         ensures { result ≡ has_free self.now.free node }
     {
         self.free_count(node) > 0

@@ -9,8 +9,8 @@ ghost use Rattle.nm_types.specs.Layout.{node_count, node_of};
 ghost use Rattle.nm_types.specs.Nodes.{is_in};
 ghost use Rattle.nm_types.specs.State.{free_list};
 ghost use Rattle.nm_engine.specs.Tables.{info_of};
-ghost use Rattle.nm_engine.specs.Touch.{Bytes, Done, read, write, spot_refusal};
-ghost use Rattle.nm_engine.specs.Run.{run, HasOneAll};
+ghost use Rattle.nm_engine.specs.Touch.{Bytes, Done, has_free, read, write, spot_refusal};
+ghost use Rattle.nm_engine.specs.Run.{counted, run, HasOneAll};
 ghost use Rattle.nm_engine.specs.Answering.{access_shown, answer_shown};
 ghost use Rattle.nm_engine.specs.Effect.{new_machine, set_online, spawn, map_new, attach, pin, unpin, unmap, exit};
 ghost use Rattle.nm_engine.specs.Refused.{spawn_refusal, map_refusal, attach_refusal, pin_refusal, unpin_refusal, unmap_refusal, exit_refusal, list_refusal, entries_refusal};
@@ -345,6 +345,20 @@ impl<A: Allocator + Copy + Send + Sync> Machine<A> {
             statuses: plan.into_statuses(),
             answers,
         })
+    }
+
+    /// Counts so many requests as failed, and does nothing else: what a run does whose requests all find no free frame.
+    pub fn count_failures(&mut self, requests: usize)
+        ensures { self.new ≡ counted self.old 0 requests }
+    {
+        self.inner.count(0, requests);
+    }
+
+    /// Whether a node has a free frame: none has where there is no such node. It takes no memory.
+    pub fn has_free(&self, node: NodeId) -> bool
+        ensures { result ≡ has_free self.now.free node }
+    {
+        self.inner.has_free(node)
     }
 
     /// The free frames of a node, the front first. EINVAL if there is no such node.

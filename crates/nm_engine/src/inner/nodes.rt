@@ -2,9 +2,10 @@
 
 ghost use Rattle.std.specs.Prelude.{◌≡◌, []};
 ghost use Rattle.nm_engine.specs.Sound.{IsSound};
+ghost use Rattle.nm_engine.specs.Touch.{has_free};
 
 use crate::inner::Inner;
-use nm_types::{Geometry, NodeMask};
+use nm_types::{Geometry, NodeId, NodeMask};
 use std::alloc::Allocator;
 
 impl<A: Allocator + Copy> Inner<A> {
@@ -21,5 +22,11 @@ impl<A: Allocator + Copy> Inner<A> {
         ensures { result ≡ self.now.state.online }
     {
         self.online
+    }
+    /// Whether a node has a free frame.
+    pub(crate) fn has_free(&self, node: NodeId) -> bool
+        ensures { result ≡ has_free self.now.state.free node }
+    {
+        self.frames.has_free(node)
     }
 }

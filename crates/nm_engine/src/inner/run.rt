@@ -117,6 +117,21 @@ impl<A: Allocator + Copy + Send + Sync> Inner<A> {
             failed: failed_before.saturating_add(failed),
         };
     }
+
+    /// Adds to the totals.
+    pub(crate) fn count(&mut self, moved: usize, failed: usize)
+        ensures state { self.new.state ≡ counted self.old.state moved failed }
+        ensures left { self.new.left ≡ self.old.left }
+    {
+        let Totals {
+            moved: before,
+            failed: failed_before,
+        } = self.totals;
+        self.totals = Totals {
+            moved: before.saturating_add(moved as u64),
+            failed: failed_before.saturating_add(failed as u64),
+        };
+    }
 }
 
 /// What is to be done with each request of a run, in its order, by a look at what it names. With one worker the caller

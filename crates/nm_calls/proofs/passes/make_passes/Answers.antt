@@ -11,55 +11,53 @@ use Rattle.nm_calls.proofs.passes.make_passes.Goals as goal
 pub returns-then-is_empty : goal.returns-then-is_empty
 returns-then-is_empty g c =
     let x = c.args in
-    let left = c.loop-node.left in
+    let left = c.loop-node.left.wanted in
     let ns = drop c.loop-node.node-index x.nodes.now in
-    let empty = nothing_is left.items _ left.ok.0 (sym c.is_empty.ensures ∙ c.if-is_empty.true) in
+    let empty = nothing_is left.items _ c.loop-node.left.wanted.ok.0 (sym c.is_empty.ensures ∙ c.if-is_empty.true) in
     all_passed x.machine.now _ _ c.loop-node.machine c.loop-node.made c.loop-node.invariant.passed
     (ap (passes x.limit c.loop-node.machine ns) empty ∙ passes_none x.limit c.loop-node.machine ns)
 
 pub later-requires : goal.later-requires
 later-requires g c =
     let x = c.args in
-    let ws = c.as_slice.result.now in
+    let ws = c.loop-node.left.wanted.items in
     let es = all_to c.node-item.result ws in
     let runs = few_runs x.limit es c.requires.some in
     let len = to_node_length c.node-item.result ws in
-    let same = ap length c.as_slice.ensures.value in
-    counted_later c.in-Err.error c.loop-node.machine c.make_pass.new.machine (cut_within x.limit es) _ c.loop-node.made c.in-Err.ensures
-    (omega (arith, runs, len, same, c.loop-node.invariant.few, c.loop-node.invariant.counted, c.loop-node-test.true, c.requires.passes))
+    counted_later c.in-Err.error c.loop-node.machine c.next_pass.new.machine (cut_within x.limit es) _ c.loop-node.made c.in-Err.ensures.runs
+    (omega (arith, runs, len, c.loop-node.invariant.few, c.loop-node.invariant.counted, c.loop-node-test.true, c.requires.passes))
 
 pub returns-in-Err : goal.returns-in-Err
 returns-in-Err g c =
     let x = c.args in
     let node = c.node-item.result in
-    let ws = c.as_slice.result.now in
+    let ws = c.loop-node.left.wanted.items in
     let runs = cut_within x.limit (all_to node ws) in
     let s = c.loop-node.machine in
     let k = c.loop-node.node-index in
     let made = runs_from 0 s runs [] in
     let all = passes x.limit x.machine.now x.nodes.now x.wanted.items in
     let rest = passes x.limit made.state (drop (k + 1) x.nodes.now) (without_frame ws made.statuses) in
-    let here = ap (passes x.limit s (drop k x.nodes.now)) (sym c.as_slice.ensures.value) ∙ passes_at x.limit s x.nodes.now k node ws c.loop-node-test.true c.node-item.is in
+    let here = passes_at x.limit s x.nodes.now k node ws c.loop-node-test.true c.node-item.is in
     let passed = subst (λ l. HavePassed x.machine.now all l s c.loop-node.made) here c.loop-node.invariant.passed in
-    let some : 0 < length ws = subst (λ l. 0 < length l) (sym c.as_slice.ensures.value) (something_is _ _ c.loop-node.left.ok.0 (sym c.is_empty.ensures ∙ c.if-is_empty.false)) in
+    let some : 0 < length ws = something_is _ _ c.loop-node.left.wanted.ok.0 (sym c.is_empty.ensures ∙ c.if-is_empty.false) in
     let has = some_run_of x.limit (all_to node ws) c.requires.some (omega (arith, some, to_node_length node ws)) in
-    stopped_later x.policy_set c.in-Err.error c.later.result x.machine.now s c.make_pass.new.machine all runs rest _ c.loop-node.made c.in-Err.ensures passed has c.later.ensures
+    stopped_later x.policy_set c.in-Err.error c.later.result x.machine.now s c.next_pass.new.machine all runs rest _ c.loop-node.made c.in-Err.ensures.runs passed has c.later.ensures
 
 pub overflow_add-made : goal.overflow_add-made
 overflow_add-made g c =
     let x = c.args in
-    let es = all_to c.node-item.result c.as_slice.result.now in
+    let es = all_to c.node-item.result c.loop-node.left.wanted.items in
     let runs = few_runs x.limit es c.requires.some in
-    let len = to_node_length c.node-item.result c.as_slice.result.now in
-    let same = ap length c.as_slice.ensures.value in
-    let count = c.in-Ok.ensures.1.0 in
-    omega (arith, runs, len, same, count, c.loop-node.invariant.few, c.loop-node.invariant.counted, c.loop-node-test.true, c.requires.passes)
+    let len = to_node_length c.node-item.result c.loop-node.left.wanted.items in
+    let count = c.in-Ok.ensures.runs.1.0 in
+    omega (arith, runs, len, count, c.loop-node.invariant.few, c.loop-node.invariant.counted, c.loop-node-test.true, c.requires.passes)
 
 pub loop-node-preserved : goal.loop-node-preserved
 loop-node-preserved g c =
     let x = c.args in
     let node = c.node-item.result in
-    let ws = c.as_slice.result.now in
+    let ws = c.loop-node.left.wanted.items in
     let es = all_to node ws in
     let runs = cut_within x.limit es in
     let s = c.loop-node.machine in
@@ -67,29 +65,29 @@ loop-node-preserved g c =
     let inv = c.loop-node.invariant in
     let made = runs_from 0 s runs [] in
     let all = passes x.limit x.machine.now x.nodes.now x.wanted.items in
-    let new = c.make_pass.new.machine in
-    let state = c.in-Ok.ensures.0 in
-    let count = c.in-Ok.ensures.1.0 in
-    let kept = c.in-Ok.ensures.1.1 in
-    let value = c.as_slice.ensures.value in
-    let here = ap (passes x.limit s (drop k x.nodes.now)) (sym value) ∙ passes_at x.limit s x.nodes.now k node ws c.loop-node-test.true c.node-item.is in
+    let new = c.next_pass.new.machine in
+    let state = c.in-Ok.ensures.runs.0 in
+    let count = c.in-Ok.ensures.runs.1.0 in
+    let kept = c.in-Ok.ensures.runs.1.1 in
+    let here = passes_at x.limit s x.nodes.now k node ws c.loop-node-test.true c.node-item.is in
     let passed = subst (λ l. HavePassed x.machine.now all l s c.loop-node.made) here inv.passed in
     let behind = passes x.limit made.state (drop (k + 1) x.nodes.now) (without_frame ws made.statuses) in
     let more = more_passed x.machine.now all runs behind s new c.loop-node.made passed state in
     let rest = ap (λ t. passes x.limit t (drop (k + 1) x.nodes.now) (without_frame ws made.statuses)) (sym state) ∙ ap (passes x.limit new (drop (k + 1) x.nodes.now)) (sym kept) in
     let few = few_runs x.limit es c.requires.some in
     let len = to_node_length node ws in
-    let same = ap length value in
     let left = fewer_left ws made.statuses in
     let less = ap length kept in
     record {
       nodes = ap (λ t. node_count t.layout) state ∙ ap node_count (runs_layout 0 s runs) ∙ inv.nodes;
-      alike = subst HasOneAll (sym kept) (alike_left ws made.statuses (subst HasOneAll (sym value) inv.alike));
-      few = omega (arith, less, left, same, inv.few);
-      counted = omega (arith, count, few, len, same, inv.few, inv.counted);
-      passed = subst (λ l. HavePassed x.machine.now all l new (c.loop-node.made + c.in-Ok.pass.runs)) rest
+      alike = subst HasOneAll (sym kept) (alike_left ws made.statuses inv.alike);
+      few = omega (arith, less, left, inv.few);
+      counted = omega (arith, count, few, len, inv.few, inv.counted);
+      passed = subst (λ l. HavePassed x.machine.now all l new (c.loop-node.made + c.in-Ok.next.runs)) rest
           (subst (λ n. HavePassed x.machine.now all behind new (c.loop-node.made + n)) (sym count) more);
+      left = c.in-Ok.ensures.left;
     }
 
-pub make_pass-requires-clause-alike : goal.make_pass-requires-clause-alike
-make_pass-requires-clause-alike g c κs within = subst HasOneAll (sym c.as_slice.ensures.value) c.loop-node.invariant.alike
+pub next_pass-requires-clause-pages : goal.next_pass-requires-clause-pages
+next_pass-requires-clause-pages g c κs within =
+    something_is _ _ c.loop-node.left.wanted.ok.0 (sym c.is_empty.ensures ∙ c.if-is_empty.false)

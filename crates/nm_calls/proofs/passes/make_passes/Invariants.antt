@@ -1,6 +1,7 @@
 use Rattle.std.proofs.Common.{◌≡◌, ◌≤◌, ◌*◌, ◌^◌, drop, length}
 use Rattle.nm_types.specs.Layout.{node_count}
 use Rattle.nm_calls.specs.Passes.{passes}
+use Rattle.nm_calls.specs.Making.{IsLeft}
 use Rattle.nm_engine.specs.Run.{HasOneAll}
 use Rattle.nm_calls.proofs.Passing.{HavePassed}
 use Rattle.nm_calls.proofs.passes.make_passes.Given as goal
@@ -8,8 +9,9 @@ use Rattle.nm_calls.proofs.passes.make_passes.Given as goal
 abbrev pub invariant-loop-node : goal.invariant-loop-node
 invariant-loop-node g l = record {
   nodes : node_count l.machine.layout ≡ node_count l.fn.machine.layout;
-  alike : HasOneAll l.left.items;
-  few : length l.left.items ≤ 2 ^ 52;
+  alike : HasOneAll l.left.wanted.items;
+  few : length l.left.wanted.items ≤ 2 ^ 52;
   counted : l.made ≤ l.node-index * 2 ^ 52;
-  passed : HavePassed l.fn.machine (passes l.limit l.fn.machine l.nodes l.fn.wanted.items) (passes l.limit l.machine (drop l.node-index l.nodes) l.left.items) l.machine l.made;
+  passed : HavePassed l.fn.machine (passes l.limit l.fn.machine l.nodes l.fn.wanted.items) (passes l.limit l.machine (drop l.node-index l.nodes) l.left.wanted.items) l.machine l.made;
+  left : IsLeft l.machine l.left;
 }

@@ -1,0 +1,157 @@
+-- On which nodes that stands which is left, and what that says of the next pass.
+use Rattle.std.proofs.Common.{arith, ◌≡◌, ℕ, ◌+◌, ◌<◌, ◌≤◌, Bool, true, false, not, ◌&&◌, ◌||◌, is_none, List, [], ◌∷◌, ◌++◌, length, take, get_or, refl, sym, ap, subst, ◌∙◌, inl, inr}
+use Rattle.std.proofs.lemmas.Bool.{eqb-true, eq-eqb, cases_order}
+use Rattle.std.proofs.lemmas.List.{take_more}
+use Rattle.std.proofs.lemmas.List.Elements.{All-push, recursion_from_All}
+use Rattle.std.specs.Prelude.{Option, Some, None, IfSome, pos, ◌==◌, if◌then◌else◌}
+use Rattle.std.specs.Option.{option_map}
+use Rattle.std.specs.List.{AllByRecursion}
+use Rattle.std.specs.Ordering.{nat_cmp, match_ordering}
+use Rattle.std.specs.Cmp.{nat_cmp_is}
+use Rattle.std.specs.declared.cmp.Ordering.{Ordering}
+use Rattle.std.specs.declared.cmp.Ordering.TheVariants.{Less, Equal, Greater}
+use Rattle.std.specs.BTreeSet.{insert_key}
+use Rattle.nm_types.specs.declared.errno.Errno.TheVariants.{Eacces, Ebusy}
+use Rattle.nm_types.specs.declared.page.Page.{Page}
+use Rattle.nm_types.specs.declared.sight.Sight.{Sight}
+use Rattle.nm_types.specs.declared.sight.Sight.TheVariants.{ZeroPage, Sees}
+use Rattle.nm_types.specs.Map.{get, page_cmp}
+use Rattle.nm_types.specs.Layout.{node_of}
+use Rattle.nm_types.specs.Nodes.{is_in}
+use Rattle.nm_types.specs.State.{State, page_at, free_list}
+use Rattle.nm_types.proofs.Cases.{true_false, some_is}
+use Rattle.nm_runs.specs.declared.Class.TheVariants.{Status, Move}
+use Rattle.nm_runs.specs.declared.Wanted.{Wanted}
+use Rattle.nm_runs.specs.declared.Wanted.TheVariants.{At as Spot, Whole}
+use Rattle.nm_runs.specs.Seen.{sight_at, is_pinned, look_at_place, look_by_sight, look_behind}
+use Rattle.nm_runs.specs.Status.{code, others_see, page_status, sight_status, status_under}
+use Rattle.nm_engine.specs.Asking.{node_of_look, node_status}
+use Rattle.nm_engine.specs.Touch.{has_free}
+use Rattle.nm_engine.specs.Run.{counted}
+use Rattle.nm_calls.specs.Full.{StandsOn, StandAmong, HasFailed, WouldMove}
+use Rattle.nm_calls.proofs.Full.{class_counted, all_elsewhere_move}
+use Rattle.nm_calls.proofs.Passing.{nothing_is}
+
+-- a page has the status of its target where its frame is there
+stands_by_tests : (target : ℕ) (p : Page) (frame node : ℕ) (here kept pinned : Bool) → (node == target) ≡ here
+    → (if here then Status (pos target) else (if kept then Status (code Eacces) else (if pinned then Status (code Ebusy) else Move p frame))) ≡ Status (pos target) → node ≡ target
+stands_by_tests target p frame node true kept pinned b h = eqb-true node target b
+stands_by_tests target p frame node false true pinned b h = cc
+stands_by_tests target p frame node false false true b h = cc
+stands_by_tests target p frame node false false false b h = cc
+
+page_stands : (s : State) (target : ℕ) (kept : Bool) (p : Page) (o : Option ℕ) → page_status s target kept p o ≡ Status (pos target) → option_map (node_of s.layout) o ≡ Some target
+page_stands s target kept p None h = cc
+page_stands s target kept p (Some frame) h =
+    let node = node_of s.layout frame in
+    ap (λ n. Some n) (stands_by_tests target p frame node (node == target) kept (is_pinned s p) refl h)
+
+look_stands : (s : State) (target : ℕ) (kept : Bool) (p : Page) (o : Option ℕ) → page_status s target kept p o ≡ Status (pos target) → node_of_look s.layout (look_at_place s.processes s.pins p o) ≡ pos target
+look_stands s target kept p None h = cc
+look_stands s target kept p (Some frame) h = ap pos (some_is (page_stands s target kept p (Some frame) h))
+
+sight_stands : (s : State) (target pid : ℕ) (all : Bool) (o : Option Sight) → sight_status s target pid all o ≡ Status (pos target) → node_of_look s.layout (look_by_sight s.processes s.place s.pins o) ≡ pos target
+sight_stands s target pid all None h = cc
+sight_stands s target pid all (Some ZeroPage) h = cc
+sight_stands s target pid all (Some (Sees p)) h = look_stands s target (others_see s pid p && not all) p (get page_cmp s.place p) h
+
+under_stands : (s : State) (target pid : ℕ) (all : Bool) (shown : Option Page) (o : Option Sight) → status_under s target pid all shown o ≡ Status (pos target) → node_of_look s.layout (look_behind s.processes s.place s.pins shown o) ≡ pos target
+under_stands s target pid all None o h = cc
+under_stands s target pid all (Some shown) o h = sight_stands s target pid all o h
+
+-- a page that is wanted by address stands where its status says
+pub spot_stands : (s : State) (target pid v : ℕ) (all : Bool) → StandsOn s target (Spot pid v all) → node_status s pid v ≡ pos target
+spot_stands s target pid v all h = under_stands s target pid all (page_at s.areas pid v) (sight_at s pid v) h
+
+-- one that is wanted by itself stands where its frame is
+pub whole_stands : (s : State) (target : ℕ) (p : Page) → StandsOn s target (Whole p) → option_map (node_of s.layout) (get page_cmp s.place p) ≡ Some target
+whole_stands s target p h = page_stands s target false p (get page_cmp s.place p) h
+
+or_again : (a b : Bool) → (a || b) ≡ (a || (a || b))
+or_again true b = refl
+or_again false b = refl
+
+or_swap : (a b c : Bool) → (a || (b || c)) ≡ (b || (a || c))
+or_swap true true c = refl
+or_swap true false c = refl
+or_swap false true c = refl
+or_swap false false c = refl
+
+or_true : (a : Bool) → (a || true) ≡ true
+or_true true = refl
+or_true false = refl
+
+-- a number is in a set with one more where it is that one, or was in it
+is_in_insert : (ns : List ℕ) (j n : ℕ) → is_in (insert_key nat_cmp ns j) n ≡ ((j == n) || is_in ns n)
+is_in_insert [] j n = refl
+is_in_insert (m ∷ ns) j n =
+    let with : Ordering → Bool = λ r. is_in (match_ordering r (j ∷ m ∷ ns) (m ∷ ns) (m ∷ insert_key nat_cmp ns j)) n in
+    elim (cases_order j m) [
+      | inl e ↦ ap with (sym (nat_cmp_is j m Equal e)) ∙ or_again (m == n) (is_in ns n) ∙ ap (λ i. (i == n) || ((m == n) || is_in ns n)) (sym e)
+      | inr o ↦ elim o [
+        | inl lt ↦ ap with (sym (nat_cmp_is j m Less lt))
+        | inr gt ↦ ap with (sym (nat_cmp_is j m Greater gt)) ∙ ap (λ b. (m == n) || b) (is_in_insert ns j n) ∙ or_swap (m == n) (j == n) (is_in ns n)
+      ]
+    ]
+
+-- the nodes of what was asked first
+abbrev OnAmong : State → List ℕ → Wanted → Type 0
+OnAmong s nodes w = (node : ℕ) → node < 64 → StandsOn s node w → is_in nodes node ≡ true
+
+among_push : (s : State) (nodes : List ℕ) (ws : List Wanted) (k : ℕ) (w : Wanted) → k < length ws → w ≡ get_or ws k w → StandAmong s nodes (take k ws) → OnAmong s nodes w → StandAmong s nodes (take (k + 1) ws)
+among_push s nodes ws k w lt is front here =
+    subst (StandAmong s nodes) (sym (take_more ws k w lt ∙ ap (λ x. take k ws ++ x ∷ []) (sym is)))
+    (All-push (OnAmong s nodes) (take k ws) w front here)
+
+-- one that stands on a node, which is added ..
+pub stands_there : (s : State) (nodes : List ℕ) (ws : List Wanted) (k : ℕ) (w : Wanted) (node : ℕ) → k < length ws → w ≡ get_or ws k w → StandAmong s nodes (take k ws) → ((m : ℕ) → StandsOn s m w → Some node ≡ Some m) → StandAmong s (insert_key nat_cmp nodes node) (take (k + 1) ws)
+stands_there s nodes ws k w node lt is front on =
+    among_push s (insert_key nat_cmp nodes node) ws k w lt is
+    (λ j d below m few h. is_in_insert nodes node m ∙ ap (λ b. (node == m) || b) (front j d below m few h) ∙ or_true (node == m))
+    (λ m few h. is_in_insert nodes node m ∙ ap (λ b. b || is_in nodes m) (eq-eqb node m (some_is (on m h))))
+
+-- .. or on none below 64
+pub stands_nowhere : (s : State) (nodes : List ℕ) (ws : List Wanted) (k : ℕ) (w : Wanted) → k < length ws → w ≡ get_or ws k w → StandAmong s nodes (take k ws) → ((m : ℕ) → m < 64 → StandsOn s m w → ⊥) → StandAmong s nodes (take (k + 1) ws)
+stands_nowhere s nodes ws k w lt is front off =
+    among_push s nodes ws k w lt is front (λ m few h. absurd (off m few h))
+
+-- where a node is none of those, nothing stands on it
+pub none_there : (s : State) (nodes : List ℕ) (node : ℕ) (ws : List Wanted) → node < 64 → is_in nodes node ≡ false → StandAmong s nodes ws → AllByRecursion (λ w. StandsOn s node w → ⊥) ws
+none_there s nodes node ws few out among =
+    recursion_from_All (λ w. StandsOn s node w → ⊥) ws (λ k d lt on. true_false (sym (among k d lt node few on) ∙ out))
+
+-- so all that has failed would move there
+pub all_would_move : (s : State) (nodes : List ℕ) (node : ℕ) (ws : List Wanted) → node < 64 → is_in nodes node ≡ false → StandAmong s nodes ws → HasFailed s ws → AllByRecursion (WouldMove s node) ws
+all_would_move s nodes node ws few out among failed =
+    all_elsewhere_move s failed.0 node ws failed.1 (none_there s nodes node ws few out among)
+
+-- a node that has no free frame has an empty list
+pub none_free : (s : State) (node : ℕ) → has_free s.free node ≡ false → free_list s node ≡ []
+none_free s node h = nothing_is (free_list s node) (length (free_list s node)) refl (not_false (length (free_list s node) == 0) h)
+  where
+    not_false : (b : Bool) → not b ≡ false → b ≡ true
+    not_false true e = refl
+    not_false false e = cc
+
+-- failures that are counted change nothing of this
+pub among_counted : (s : State) (m n : ℕ) (nodes : List ℕ) (ws : List Wanted) → StandAmong s nodes ws → StandAmong (counted s m n) nodes ws
+among_counted s m n nodes ws among k d lt node few on =
+    let w = get_or ws k d in
+    among k d lt node few (sym (class_counted s m n node w) ∙ on)
+
+pub move_counted : (s : State) (m n node : ℕ) (ws : List Wanted) → AllByRecursion (WouldMove s node) ws → AllByRecursion (WouldMove (counted s m n) node) ws
+move_counted s m n node [] h = tt
+move_counted s m n node (w ∷ ws) h =
+    ((h.0.0, h.0.1, class_counted s m n node w ∙ h.0.2), move_counted s m n node ws h.1)
+
+-- a node from 64 on is none below
+pub past_all : (number node m : ℕ) → 64 ≤ number → number ≡ node → node ≡ m → m < 64 → ⊥
+past_all number node m past is same few = omega (arith, past, is, same, few)
+
+pub none_is : (m : ℕ) → None ≡ Some m → ⊥
+none_is m e = cc
+
+-- what is said of some nodes, said of others that are the same
+pub among_if : (s : State) (o : Option (List ℕ)) (nodes : List ℕ) (ws : List Wanted) → IfSome o (λ ns. StandAmong s ns ws) → o ≡ Some nodes → StandAmong s nodes ws
+among_if s None nodes ws h e = absurd (true_false (ap (λ (o : Option (List ℕ)). is_none o) e))
+among_if s (Some ns) nodes ws h e = subst (λ ns. StandAmong s ns ws) (some_is e) h
