@@ -143,23 +143,34 @@ def contracts(function):
                     yield Module(file, "\n".join(ghost)), " ".join(clauses)
 
 
-def count(words):
-    """Prints what the contract of a public function rests on."""
-    if not words or words[1:] not in ([], ["--list"]):
-        sys.exit("tools/definitions.py: --count wants the name of a public function, and perhaps --list")
+def rest_of(function):
+    """What the contracts of a public function rest on: the items by file with their lines, and types of the code."""
     follower = Follower(modules())
-    found = list(contracts(words[0]))
+    found = list(contracts(function))
     if not found:
-        sys.exit(f"tools/definitions.py: there is no public function {words[0]}")
+        sys.exit(f"tools/definitions.py: there is no public function {function}")
     for ghost, clauses in found:
         follower.follow(list(follower.cited(ghost, "", clauses)))
     files = collections.defaultdict(list)
     for path, item in sorted(follower.seen):
         files[follower.modules[path].path].append((item, len(follower.modules[path].items[item])))
+    return files, follower.declared
+
+
+def sentence(function):
+    """The sums as a sentence."""
+    files, declared = rest_of(function)
+    sizes = [lines for items in files.values() for _, lines in items]
+    return (f"`{function}` rests on {len(sizes)} definitions, {sum(sizes):,} lines, in {len(files)} files, "
+            f"and on {len(declared)} types of the code.")
+
+
+def count(words):
+    """Prints what the contract of a public function rests on."""
+    if not words or words[1:] not in ([], ["--list"]):
+        sys.exit("tools/definitions.py: --count wants the name of a public function, and perhaps --list")
     if words[1:]:
-        for path, items in sorted(files.items()):
+        for path, items in sorted(rest_of(words[0])[0].items()):
             print(f"{path}: {sum(lines for _, lines in items)} lines: {', '.join(item for item, _ in items)}")
-    lines = sum(lines for items in files.values() for _, lines in items)
-    print(f"{words[0]} rests on {len(follower.seen)} definitions, {lines} lines, in {len(files)} files, "
-          f"and on {len(follower.declared)} types of the code")
+    print(sentence(words[0]))
     return 0

@@ -2,7 +2,8 @@
 """Lists every public definition of the specifications, each with its file and the comment above it: docs/DEFINITIONS_ALL.md.
 
 Without a word it writes the list. With --check it writes nothing, and ends with status 1 where the list is not that of the
-sources, or where docs/DEFINITIONS.md names a definition that is not in the file that it says, or more than 45.
+sources, or where docs/DEFINITIONS.md names a definition that is not in the file that it says, or more than 45, or does not
+say what the contract of run_trace rests on.
 
     tools/definitions.py --count run_trace           how many definitions, lines and files the contract of run_trace rests on
     tools/definitions.py --count run_trace --list    those definitions too, by file"""
@@ -93,7 +94,10 @@ def faults(text, names):
         if file.read() != text:
             yield "docs/DEFINITIONS_ALL.md is not the list of the sources: tools/definitions.py writes it"
     with open(PAGE, encoding="utf-8") as file:
-        rows = re.findall(r"^\| `([^`]+)` \| `([^`]+)` \|", file.read(), re.M)
+        page = file.read()
+    if counting.sentence("run_trace") not in page:
+        yield f"docs/DEFINITIONS.md is to say: {counting.sentence('run_trace')}"
+    rows = re.findall(r"^\| `([^`]+)` \| `([^`]+)` \|", page, re.M)
     if len(rows) > 45:
         yield f"docs/DEFINITIONS.md lists {len(rows)} definitions, and at most 45 are to be read first"
     for name, path in rows:
