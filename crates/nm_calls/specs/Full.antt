@@ -37,7 +37,7 @@ FullNodeTakesNone =
     let made = pass limit s node wanted in
     (made.state ≡ counted s 0 (length wanted)) × (without_frame wanted made.statuses ≡ wanted)
 
--- what a pass leaves without a frame would move still: to the same node, and to each on which it does not stand
+-- what a pass leaves without a frame would move to its node still
 abbrev pub LeftWouldMove : Type 0
 LeftWouldMove =
     (limit : ℕ) (s : State) (node : ℕ) (wanted : List Wanted) → 0 < limit →

@@ -1,8 +1,11 @@
 use Rattle.std.proofs.Common.{sym, subst, ◌∙◌, arith}
 use Rattle.nm_calls.specs.Full.{StandAmong}
-use Rattle.nm_calls.proofs.Standing.{all_would_move, among_if}
+use Rattle.nm_calls.proofs.Standing.{all_would_move, among_if, none_free}
 use Rattle.nm_calls.proofs.passes.lost_on.Goals.{in-Some, in-None}
 use Rattle.nm_calls.proofs.passes.lost_on.Goals as goal
+
+pub returns-clause-full : goal.returns-clause-full
+returns-clause-full g c = none_free c.args.machine.now c.args.node (sym c.has_free.ensures ∙ c.if-has_free.false)
 
 pub returns-clause-lost : goal.returns-clause-lost
 returns-clause-lost g c =
