@@ -3,7 +3,7 @@
 ghost use Rattle.std.specs.Prelude.{◌<◌, ◌≤◌};
 
 use nm_crew::Gate;
-use nm_trace::run_trace;
+use nm_trace::{Watched, run_trace};
 use std::alloc::Global;
 use std::sync::Wait;
 use std::sync::atomic::{AtomicBool, AtomicU64, Ordering};
@@ -135,7 +135,7 @@ fn reports_right<G: Gate + Sync>(
 ) -> bool
     requires { (0 < workers) × (workers ≤ 64) }
 {
-    let mut written = Vec::new(alloc);
+    let mut written = Watched::new(Vec::new(alloc));
     let played = run_trace(
         rt,
         alloc,
@@ -145,7 +145,7 @@ fn reports_right<G: Gate + Sync>(
         workers,
         gate,
     );
-    played.is_ok() && written.as_slice() == REPORT.as_bytes()
+    played.is_ok() && written.get_ref().as_slice() == REPORT.as_bytes()
 }
 
 /// Two workers meet while a trace moves its pages, with accesses in flight: no machine that copies by itself gets both to

@@ -6,7 +6,7 @@ use crate::trails::new_system;
 use nm_calls::{Call, System};
 use nm_crew::OpenGate;
 use nm_refusing::Refusing;
-use nm_trace::{Summary, Trace, TraceError, play, read_trace, run_trace};
+use nm_trace::{Summary, Trace, TraceError, Watched, play, read_trace, run_trace};
 use nm_types::{Geometry, Pid};
 use std::alloc::{AllocError, Global};
 use std::process::Abort;
@@ -66,7 +66,7 @@ fn run_refused(
     global: Global,
     number: u64,
 ) -> (bool, bool) {
-    let mut written = Vec::new(global);
+    let mut written = Watched::new(Vec::new(global));
     heap.refuse(number);
     let played = run_trace(
         rt,
@@ -79,7 +79,7 @@ fn run_refused(
     );
     let met = heap.asked_since(number) >= number;
     heap.refuse(0);
-    (met, is_fine(played, written.as_slice()))
+    (met, is_fine(played, written.get_ref().as_slice()))
 }
 
 /// Each allocation of a run that passes through the lent allocator is refused in turn.
@@ -121,12 +121,12 @@ fn play_refused<'a>(
 ) -> Result<(bool, bool), AllocError>
     requires { system.old.run_limit ≡ trace.now.run_limit }
 {
-    let mut written = Vec::new(global);
+    let mut written = Watched::new(Vec::new(global));
     heap.refuse(number);
     let played = play(rt, heap, system, trace, &mut written, &OpenGate);
     let met = heap.asked_since(number) >= number;
     heap.refuse(0);
-    let fine = is_fine(played, written.as_slice());
+    let fine = is_fine(played, written.get_ref().as_slice());
     let sound = system.audit()?;
     Ok((met, sound && fine))
 }
@@ -165,9 +165,9 @@ fn report_of<'a>(
 ) -> Result<Vec<u8>, AllocError>
     requires { system.old.run_limit ≡ trace.now.run_limit }
 {
-    let mut written = Vec::new(global);
+    let mut written = Watched::new(Vec::new(global));
     match play(rt, heap, system, trace, &mut written, &OpenGate) {
-        Ok(_) => Ok(written),
+        Ok(_) => Ok(written.into_inner()),
         Err(_) => Err(AllocError),
     }
 }

@@ -7,4 +7,5 @@ pub mod FromBytes
 pub mod Headlines
 pub mod Lines
 pub mod Least
+pub mod Told
 pub mod Trees

@@ -8,3 +8,6 @@ pub mod Played
 pub mod Headline
 pub mod Laws
 pub mod Flights
+pub mod Counts
+pub mod Watched
+pub mod Telling

@@ -7,13 +7,17 @@ mod playing;
 mod reading;
 mod running;
 mod step_error;
+mod telling;
 mod text;
 mod trace;
 mod trace_error;
 mod tree;
+mod watched;
 
 pub use playing::{Summary, play};
 pub use reading::read_trace;
 pub use running::{Played, TRACE_LIMIT, run_on, run_trace};
+pub use telling::{TellingReader, TellingWriter};
 pub use trace::Trace;
 pub use trace_error::TraceError;
+pub use watched::Watched;

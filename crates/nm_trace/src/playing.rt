@@ -1,17 +1,18 @@
 //! Plays a trace and writes its report.
 
-ghost use Rattle.std.specs.Prelude.{◌≡◌, OnOk, OnErr, IfErr, map};
+ghost use Rattle.std.specs.Prelude.{◌≡◌, ◌||◌, OnOk, OnErr, IfErr, is_err, map};
 ghost use Rattle.std.specs.Io.KnownBytes.{Appends};
 ghost use Rattle.nm_calls.specs.Views.{call_of};
 ghost use Rattle.nm_trace.specs.Played.{BreaksOff, HandsOn, Plays, Tells};
+ghost use Rattle.nm_trace.specs.Telling.{is_write_fault};
 
+use crate::telling::TellingWriter;
 use crate::text::{push_refusal, push_text};
 use crate::trace::Trace;
 use crate::trace_error::TraceError;
 use nm_calls::{Call, CallError, System};
 use nm_crew::Gate;
 use std::alloc::{AllocError, Allocator};
-use std::io::Write;
 use std::sync::Wait;
 use std::thread::Threads;
 
@@ -27,15 +28,16 @@ pub struct Summary {
 }
 
 /// Writes lines whole, or a prefix of them and a fault: the writer failed, or took no byte.
-fn write_lines<W: Write>(writer: &mut W, lines: &[u8]) -> Result<(), TraceError>
+fn write_lines<W: TellingWriter>(writer: &mut W, lines: &[u8]) -> Result<(), TraceError>
     ensures whole { OnOk result (Appends (W.contents writer.old) (W.contents writer.new) lines.now) }
     ensures broken { OnErr result (BreaksOff (W.contents writer.old) (W.contents writer.new) lines.now) }
     ensures fault { IfErr result (λ e. e ≡ TraceError.WriteFault) }
+    ensures told { W.has_failed writer.new ≡ (is_err result || W.has_failed writer.old) }
 {
     let mut at = 0;
     while at < lines.len() {
         let (_, rest) = lines.split_at(at);
-        match writer.write(rest) {
+        match writer.write_telling(rest) {
             Ok(0) => return Err(TraceError::WriteFault),
             Ok(count) => at += count,
             Err(_) => return Err(TraceError::WriteFault),
@@ -45,13 +47,14 @@ fn write_lines<W: Write>(writer: &mut W, lines: &[u8]) -> Result<(), TraceError>
 }
 
 /// Writes the lines that wait, once they come to `BLOCK_BYTES` bytes, and then empties their list.
-fn write_blocks<W: Write, A: Allocator + Copy>(
+fn write_blocks<W: TellingWriter, A: Allocator + Copy>(
     writer: &mut W,
     waiting: &mut Vec<u8, A>,
 ) -> Result<(), TraceError>
     ensures handed { OnOk result (HandsOn (W.contents writer.old) (W.contents writer.new) waiting.old.items waiting.new.items) }
     ensures broken { OnErr result (BreaksOff (W.contents writer.old) (W.contents writer.new) waiting.old.items) }
     ensures fault { IfErr result (λ e. e ≡ TraceError.WriteFault) }
+    ensures told { W.has_failed writer.new ≡ (is_err result || W.has_failed writer.old) }
 {
     if waiting.len() < BLOCK_BYTES {
         return Ok(());
@@ -89,7 +92,7 @@ fn make_step<R: Threads + Wait + Sync, A: Allocator + Copy + Send + Sync, G: Gat
 pub(crate) fn play_calls<
     R: Threads + Wait + Sync,
     A: Allocator + Copy + Send + Sync,
-    W: Write,
+    W: TellingWriter,
     G: Gate + Sync,
 >(
     rt: &R,
@@ -99,7 +102,8 @@ pub(crate) fn play_calls<
     writer: &mut W,
     gate: &G,
 ) -> Result<Summary, TraceError>
-    ensures { Plays system.old (map call_of calls.now) system.new (W.contents writer.old) (W.contents writer.new) result }
+    ensures plays { Plays system.old (map call_of calls.now) system.new (W.contents writer.old) (W.contents writer.new) result }
+    ensures told { W.has_failed writer.new ≡ (is_write_fault result || W.has_failed writer.old) }
 {
     let mut text = String::new(alloc);
     let mut waiting = Vec::new(alloc);
@@ -126,7 +130,12 @@ pub(crate) fn play_calls<
 /// `WriteFault` where the writer failed or took no byte: some first steps were made, and the report on them breaks off.
 /// `HostMemory(k)` if the host refused memory in step k: the lines of the steps before it were written, and step k was
 /// made as far as its call says, or whole and without its lines. The workers of the system pass the gate.
-pub fn play<R: Threads + Wait + Sync, A: Allocator + Copy + Send + Sync, W: Write, G: Gate + Sync>(
+pub fn play<
+    R: Threads + Wait + Sync,
+    A: Allocator + Copy + Send + Sync,
+    W: TellingWriter,
+    G: Gate + Sync,
+>(
     rt: &R,
     alloc: A,
     system: &mut System<A>,
@@ -135,7 +144,8 @@ pub fn play<R: Threads + Wait + Sync, A: Allocator + Copy + Send + Sync, W: Writ
     gate: &G,
 ) -> Result<Summary, TraceError>
     requires limit { system.old.run_limit ≡ trace.now.run_limit }
-    ensures { Plays system.old (map call_of trace.now.calls.items) system.new (W.contents writer.old) (W.contents writer.new) result }
+    ensures plays { Plays system.old (map call_of trace.now.calls.items) system.new (W.contents writer.old) (W.contents writer.new) result }
+    ensures told { W.has_failed writer.new ≡ (is_write_fault result || W.has_failed writer.old) }
 {
     play_calls(rt, alloc, system, trace.calls.as_slice(), writer, gate)
 }

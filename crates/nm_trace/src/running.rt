@@ -1,18 +1,19 @@
 //! From a reader's bytes to a writer's report.
 
-ghost use Rattle.std.specs.Prelude.{◌≡◌, ◌⊎◌, ◌<◌, ◌≤◌, length, Ok, IfOk, IfErr, IfSome};
+ghost use Rattle.std.specs.Prelude.{◌≡◌, ◌≢◌, ◌⊎◌, ◌||◌, ◌<◌, ◌≤◌, length, Ok, IfOk, IfErr, IfSome};
 ghost use Rattle.nm_trace.specs.Faults.{OfSomeBytes, Plan, trace_of, trace_limit};
 ghost use Rattle.nm_trace.specs.Headline.{IsPlayed, summary_of};
 ghost use Rattle.nm_trace.specs.Played.{Runs, IsSilent, WritesFront};
+ghost use Rattle.nm_trace.specs.Telling.{TellsReads, is_write_fault};
 
 use crate::playing::{Summary, play_calls};
 use crate::reading::read_trace;
+use crate::telling::{TellingReader, TellingWriter};
 use crate::trace::Trace;
 use crate::trace_error::TraceError;
 use nm_calls::System;
 use nm_crew::Gate;
 use std::alloc::{Allocator, Global};
-use std::io::{Read, Write};
 use std::sync::Wait;
 use std::thread::Threads;
 
@@ -20,18 +21,19 @@ use std::thread::Threads;
 pub const TRACE_LIMIT: usize = 16_777_216;
 
 /// All bytes of a reader, where they are no more than a trace may have.
-fn read_all<A: Allocator + Copy, R: Read>(
+fn read_all<A: Allocator + Copy, R: TellingReader>(
     alloc: A,
     reader: &mut R,
 ) -> Result<Vec<u8, A>, TraceError>
     ensures bytes { IfOk result (λ v. IfSome (R.remaining reader.old) (λ xs. v.items ≡ xs)) }
     ensures within { IfOk result (λ v. length v.items ≤ trace_limit) }
     ensures fault { IfErr result (λ e. (e ≡ TraceError.ReadFault) ⊎ (e ≡ TraceError.HostMemory 0)) }
+    ensures told { TellsReads (R.has_failed reader.old) (R.has_failed reader.new) (R.gave reader.old reader.new) result }
 {
     let mut bytes = Vec::new(alloc);
     let mut buffer = [0u8; 16384];
     while bytes.len() <= TRACE_LIMIT {
-        match reader.read(&mut buffer) {
+        match reader.read_telling(&mut buffer) {
             Ok(count) => {
                 if count == 0 {
                     return Ok(bytes);
@@ -56,7 +58,12 @@ pub struct Played<A: Allocator + Copy + Send + Sync> {
 }
 
 /// Checks the bytes of a trace whole, and then plays it on a new system with `workers` workers.
-fn run_bytes<R: Threads + Wait + Sync, A: Allocator + Copy + Send + Sync, W: Write, G: Gate + Sync>(
+fn run_bytes<
+    R: Threads + Wait + Sync,
+    A: Allocator + Copy + Send + Sync,
+    W: TellingWriter,
+    G: Gate + Sync,
+>(
     rt: &R,
     alloc: A,
     heap: Global,
@@ -69,6 +76,8 @@ fn run_bytes<R: Threads + Wait + Sync, A: Allocator + Copy + Send + Sync, W: Wri
     ensures played { IfOk result (λ p. (plan : Plan) × (trace_of bytes.now ≡ Ok plan) × IsPlayed plan p.summary.steps p.system (W.contents writer.old) (W.contents writer.new)) }
     ensures runs { Runs (trace_of bytes.now) (W.contents writer.old) (W.contents writer.new) (summary_of (λ p. p.summary) result) }
     ensures silent { IfErr result (λ e. IsSilent e (W.contents writer.old) (W.contents writer.new)) }
+    ensures unread { IfErr result (λ e. e ≢ TraceError.ReadFault) }
+    ensures writes { W.has_failed writer.new ≡ (is_write_fault result || W.has_failed writer.old) }
 {
     let trace = read_trace(alloc, heap, bytes)?;
     let Trace {
@@ -97,8 +106,8 @@ fn run_bytes<R: Threads + Wait + Sync, A: Allocator + Copy + Send + Sync, W: Wri
 pub fn run_on<
     T: Threads + Wait + Sync,
     A: Allocator + Copy + Send + Sync,
-    R: Read,
-    W: Write,
+    R: TellingReader,
+    W: TellingWriter,
     G: Gate + Sync,
 >(
     rt: &T,
@@ -115,6 +124,8 @@ pub fn run_on<
     ensures runs { OfSomeBytes (R.remaining reader.old) (λ trace. Runs trace (W.contents writer.old) (W.contents writer.new) (summary_of (λ p. p.summary) result)
         × WritesFront trace (W.contents writer.old) (W.contents writer.new)) }
     ensures silent { IfErr result (λ e. IsSilent e (W.contents writer.old) (W.contents writer.new)) }
+    ensures reads { TellsReads (R.has_failed reader.old) (R.has_failed reader.new) (R.gave reader.old reader.new) result }
+    ensures writes { W.has_failed writer.new ≡ (is_write_fault result || W.has_failed writer.old) }
 {
     let bytes = read_all(alloc, reader)?;
     run_bytes(rt, alloc, heap, bytes.as_slice(), writer, workers, gate)
@@ -124,8 +135,8 @@ pub fn run_on<
 pub fn run_trace<
     T: Threads + Wait + Sync,
     A: Allocator + Copy + Send + Sync,
-    R: Read,
-    W: Write,
+    R: TellingReader,
+    W: TellingWriter,
     G: Gate + Sync,
 >(
     rt: &T,
@@ -140,6 +151,8 @@ pub fn run_trace<
     ensures runs { OfSomeBytes (R.remaining reader.old) (λ trace. Runs trace (W.contents writer.old) (W.contents writer.new) result
         × WritesFront trace (W.contents writer.old) (W.contents writer.new)) }
     ensures silent { IfErr result (λ e. IsSilent e (W.contents writer.old) (W.contents writer.new)) }
+    ensures reads { TellsReads (R.has_failed reader.old) (R.has_failed reader.new) (R.gave reader.old reader.new) result }
+    ensures writes { W.has_failed writer.new ≡ (is_write_fault result || W.has_failed writer.old) }
 {
     let played = run_on(rt, alloc, heap, reader, writer, workers, gate)?;
     Ok(played.summary)

@@ -1,5 +1,5 @@
 -- Exit statuses.
-use Rattle.std.specs.Prelude.{◌≡◌, ◌⊎◌, ℕ, List, Option, Result, Ok}
+use Rattle.std.specs.Prelude.{◌≡◌, ◌⊎◌, ℕ, Bool, true, List, Option, Result, Ok}
 use Rattle.std.specs.declared.io.ErrorKind.{ErrorKind}
 use Rattle.std.specs.declared.io.ErrorKind.TheVariants.{OutOfMemory}
 use Rattle.nm_trace.specs.declared.trace_error.TraceError.{TraceError}
@@ -7,6 +7,9 @@ use Rattle.nm_trace.specs.declared.trace_error.TraceError.TheVariants.{NotJson, 
 use Rattle.nm_trace.specs.Faults.{Plan}
 use Rattle.std.specs.Io.KnownBytes.{Appends}
 use Rattle.nm_trace.specs.Played.{report_of, WritesFront}
+use Rattle.nm_trace.specs.Telling.{HasReadCause}
+use Rattle.clap.specs.declared.error.kind.ErrorKind.{ErrorKind as ParseKind}
+use Rattle.clap.specs.declared.error.kind.ErrorKind.TheVariants as parse
 
 -- the exit status of a fault
 abbrev pub status_of : TraceError → ℕ
@@ -22,6 +25,11 @@ abbrev pub words_status : ErrorKind → ℕ
 words_status OutOfMemory = 3
 words_status kind = 2
 
+-- the exit status of words that clap refuses
+abbrev pub refused_status : ParseKind → ℕ
+refused_status parse.OutOfMemory = 3
+refused_status kind = 2
+
 -- 0 after a whole report, 2 for bad input, 3 for a refusal of the host, 4 for a fault of a stream
 abbrev pub IsStatus : ℕ → Type 0
 IsStatus status = (status ≡ 0) ⊎ ((status ≡ 2) ⊎ ((status ≡ 3) ⊎ (status ≡ 4)))
@@ -33,3 +41,7 @@ ReportsWhole trace old new = (plan : Plan) × (trace ≡ Ok plan) × Appends old
 -- what was written is a front of the report, and after status 0 all of it
 abbrev pub Leaves : ℕ → Result Plan TraceError → Option (List ℕ) → Option (List ℕ) → Type 0
 Leaves status trace old new = (status ≡ 0 → ReportsWhole trace old new) × WritesFront trace old new
+
+-- the reader has failed by now or gave more bytes than a trace has, or the writer has failed
+abbrev pub HasStreamCause : Bool → (ℕ → Type 0) → Bool → Type 0
+HasStreamCause reader gave writer = HasReadCause reader gave ⊎ (writer ≡ true)

@@ -5,6 +5,7 @@
 mod tests;
 mod words;
 
+use nm_trace::Watched;
 use std::io::ErrorKind;
 use std::process::ExitCode;
 pub use words::run_words;
@@ -23,8 +24,8 @@ fn main(rt: HostRuntime) -> ExitCode {
             alloc,
             alloc,
             words.as_slice(),
-            &mut rt.stdin(),
-            &mut rt.stdout(),
+            &mut Watched::new(rt.stdin()),
+            &mut Watched::new(rt.stdout()),
             &mut rt.stderr(),
         ),
         Err(kind) => words::unread_words(kind, &mut rt.stderr()),

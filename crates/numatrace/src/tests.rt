@@ -2,6 +2,7 @@
 
 use crate::words::{read_words, run_words, unread_words};
 use nm_refusing::Refusing;
+use nm_trace::Watched;
 use std::alloc::{AllocError, Allocator, Global};
 use std::io;
 use std::io::{ErrorKind, Write};
@@ -89,13 +90,14 @@ fn run<A: Allocator + Copy + Send + Sync>(
     let words = words_of(global, "numatrace")?;
     let mut err = Vec::new(global);
     let mut trace = TRACE.as_bytes();
+    let mut watched = Watched::new(out);
     let status = run_words(
         rt,
         alloc,
         global,
         words.as_slice(),
         &mut trace,
-        out,
+        &mut watched,
         &mut err,
     );
     Ok((status, err))

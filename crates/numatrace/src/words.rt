@@ -1,17 +1,17 @@
 //! The program over any words, reader and writers.
 
-ghost use Rattle.std.specs.Prelude.{◌≡◌, ◌<◌, ◌≤◌, [], IfOk};
+ghost use Rattle.std.specs.Prelude.{◌≡◌, ◌⊎◌, ◌<◌, ◌≤◌, [], IfOk};
 ghost use Rattle.std.specs.Io.KnownBytes.{Appends};
 ghost use Rattle.nm_trace.specs.Faults.{OfSomeBytes};
-ghost use Rattle.numatrace.specs.Status.{status_of, words_status, IsStatus, Leaves};
+ghost use Rattle.numatrace.specs.Status.{status_of, words_status, refused_status, HasStreamCause, IsStatus, Leaves};
 
 use clap::error::ErrorKind;
 use clap::{Arg, ArgAction, Command, Error, value_parser};
 use nm_crew::OpenGate;
-use nm_trace::{TraceError, run_trace};
+use nm_trace::{TellingReader, TellingWriter, TraceError, run_trace};
 use std::alloc::{Allocator, Global};
 use std::io;
-use std::io::{Read, Write};
+use std::io::Write;
 use std::sync::Wait;
 use std::thread::Threads;
 
@@ -75,6 +75,27 @@ fn status_of(fault: TraceError) -> u8
     }
 }
 
+/// The exit status of words that clap refuses: 3 if the host refused memory, and 2 for any other cause, which may be that they
+/// ask for help or the version.
+fn refused_words(kind: ErrorKind) -> u8
+    ensures status { result ≡ refused_status kind }
+    ensures either { (result ≡ 2) ⊎ (result ≡ 3) }
+{
+    match kind {
+        ErrorKind::OutOfMemory => HOST_REFUSAL,
+        _ => BAD_INPUT,
+    }
+}
+
+/// Reports why words were refused, in one line or in clap's own text.
+fn tell_refusal<E: Write>(error: &Error, err: &mut E) {
+    if matches!(error.kind(), ErrorKind::OutOfMemory) {
+        let _ = writeln!(err, "numatrace: host memory refused after 0 steps");
+    } else {
+        let _ = write!(err, "{error}");
+    }
+}
+
 /// Reports why the program's words could not be read, and returns the exit status: 3 if the host refused memory, and 2
 /// for any other cause, such as a word that is not UTF-8.
 pub(crate) fn unread_words<E: Write>(kind: io::ErrorKind, err: &mut E) -> u8
@@ -97,24 +118,21 @@ pub(crate) fn unread_words<E: Write>(kind: io::ErrorKind, err: &mut E) -> u8
 pub fn run_words<
     T: Threads + Wait + Sync,
     A: Allocator + Copy + Send + Sync,
-    R: Read,
-    W: Write,
+    R: TellingReader,
+    W: TellingWriter,
     E: Write,
 >(rt: &T, alloc: A, heap: Global, words: &[String], reader: &mut R, out: &mut W, err: &mut E) -> u8
     ensures status { IsStatus result }
     ensures reports { OfSomeBytes (R.remaining reader.old) (λ trace.
         Leaves result trace (W.contents out.old) (W.contents out.new)) }
+    ensures streams { result ≡ 4 → HasStreamCause (R.has_failed reader.new) (R.gave reader.old reader.new) (W.has_failed out.new) }
     ensures bad { result ≡ 2 → Appends (W.contents out.old) (W.contents out.new) [] }
 {
     let workers = match read_words(heap, words) {
         Ok(workers) => workers,
         Err(error) => {
-            if matches!(error.kind(), ErrorKind::OutOfMemory) {
-                let _ = writeln!(err, "numatrace: host memory refused after 0 steps");
-                return HOST_REFUSAL;
-            }
-            let _ = write!(err, "{error}");
-            return BAD_INPUT;
+            tell_refusal(&error, err);
+            return refused_words(error.kind());
         }
     };
     match run_trace(rt, alloc, heap, reader, out, workers, &OpenGate) {

@@ -6,8 +6,8 @@ use Rattle.nm_trace.specs.Report.{report_from, state_after}
 use Rattle.nm_trace.proofs.InParts.{call_at, broken_off, handed_on, written_whole, state_more, waiting_more}
 use Rattle.nm_trace.proofs.playing.play_calls.Goals as goal
 
-pub returns-in_default-write_lines : goal.returns-in_default-write_lines
-returns-in_default-write_lines g c =
+pub returns-in_default-write_lines-clause-plays : goal.returns-in_default-write_lines-clause-plays
+returns-in_default-write_lines-clause-plays g c =
     let calls = map call_of c.args.calls.now in
     let at = call_at call_of c.args.calls.now c.loop-k.k c.index-calls-k.result c.loop-k-test.true c.index-calls-k.is in
     let written = c.loop-k.invariant.written in
@@ -18,8 +18,8 @@ returns-in_default-write_lines g c =
       broken_off _ _ _ written.0 _ _ (ap (λ (ls : List ℕ). written.0 ++ ls) (c.as_slice.ensures.value ∙ stop.1) ∙ written.1) written.2 c.in_default-write_lines.ensures.broken,
     )
 
-pub returns-in_default : goal.returns-in_default
-returns-in_default g c =
+pub returns-in_default-clause-plays : goal.returns-in_default-clause-plays
+returns-in_default-clause-plays g c =
     let calls = map call_of c.args.calls.now in
     let at = call_at call_of c.args.calls.now c.loop-k.k c.index-calls-k.result c.loop-k-test.true c.index-calls-k.is in
     let written = c.loop-k.invariant.written in
@@ -28,8 +28,8 @@ returns-in_default g c =
       written_whole _ _ _ written.0 _ _ (ap (λ (ls : List ℕ). written.0 ++ ls) (c.as_slice.ensures.value ∙ stop.1) ∙ written.1) written.2 c.in-Ok-write_lines.ensures.whole,
     )
 
-pub returns-in_default-write_blocks : goal.returns-in_default-write_blocks
-returns-in_default-write_blocks g c =
+pub returns-in_default-write_blocks-clause-plays : goal.returns-in_default-write_blocks-clause-plays
+returns-in_default-write_blocks-clause-plays g c =
     let calls = map call_of c.args.calls.now in
     let at = call_at call_of c.args.calls.now c.loop-k.k c.index-calls-k.result c.loop-k-test.true c.index-calls-k.is in
     let written = c.loop-k.invariant.written in
@@ -48,10 +48,11 @@ loop-k-preserved g c =
     let line = rw c.loop-k.invariant.made at c.in-Ok.ensures.told in record {
       made = line.1 ∙ sym (state_more c.args.system.now calls c.loop-k.k _ at.0 at.1);
       written = handed_on _ _ _ written.0 _ _ _ (waiting_more c.args.system.now calls c.loop-k.k _ at.0 at.1 written.0 _ _ written.1 line.0) written.2 c.in-Ok-write_blocks.ensures.handed;
+      failed = c.in-Ok-write_blocks.ensures.told ∙ c.loop-k.invariant.failed;
     }
 
-pub returns-in_default-write_lines-2 : goal.returns-in_default-write_lines-2
-returns-in_default-write_lines-2 g c =
+pub returns-in_default-write_lines-2-clause-plays : goal.returns-in_default-write_lines-2-clause-plays
+returns-in_default-write_lines-2-clause-plays g c =
     let calls = map call_of c.args.calls.now in
     let written = c.loop-k.invariant.written in (
       c.loop-k.k,
@@ -60,8 +61,8 @@ returns-in_default-write_lines-2 g c =
       broken_off _ _ _ written.0 _ _ (ap (λ (ls : List ℕ). written.0 ++ ls) c.as_slice-2.ensures.value ∙ written.1) written.2 c.in_default-write_lines-2.ensures.broken,
     )
 
-pub returns : goal.returns
-returns g c =
+pub returns-clause-plays : goal.returns-clause-plays
+returns-clause-plays g c =
     let calls = map call_of c.args.calls.now in
     let written = c.loop-k.invariant.written in
     let all : take c.loop-k.k calls ≡ calls = take_all c.loop-k.k calls (omega (arith, c.loop-k-test.false, length-map c.args.calls.now call_of)) in (

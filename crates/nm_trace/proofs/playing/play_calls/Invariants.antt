@@ -8,4 +8,5 @@ abbrev pub invariant-loop-k : goal.invariant-loop-k
 invariant-loop-k g l = record {
   made : l.system ≡ state_after l.fn.system (take l.k (map call_of l.calls));
   written : (text : List ℕ) × (text ++ l.waiting.items ≡ report_from 0 l.fn.system (take l.k (map call_of l.calls))) × Appends (g.W.Write.contents l.fn.writer) (g.W.Write.contents l.writer) text;
+  failed : g.W.TellingWriter.has_failed l.writer ≡ g.W.TellingWriter.has_failed l.fn.writer;
 }

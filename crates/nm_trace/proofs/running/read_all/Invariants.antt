@@ -1,9 +1,13 @@
-use Rattle.std.proofs.Common.{vec_len, ◌-◌}
+use Rattle.std.proofs.Common.{◌≡◌, length, vec_len, ◌-◌}
 use Rattle.std.specs.Io.KnownBytes.{Consumes}
 use Rattle.nm_trace.proofs.running.read_all.Given as goal
 
 abbrev pub invariant-loop-buffer : goal.invariant-loop-buffer
-invariant-loop-buffer g l = Consumes (g.R.Read.remaining l.fn.reader) (g.R.Read.remaining l.reader) l.bytes.items
+invariant-loop-buffer g l = record {
+  left : Consumes (g.R.Read.remaining l.fn.reader) (g.R.Read.remaining l.reader) l.bytes.items;
+  given : g.R.TellingReader.gave l.fn.reader l.reader (length l.bytes.items);
+  failed : g.R.TellingReader.has_failed l.reader ≡ g.R.TellingReader.has_failed l.fn.reader;
+}
 
 abbrev pub decreases-loop-buffer : goal.decreases-loop-buffer
 decreases-loop-buffer g l = 16777217 - vec_len l.bytes

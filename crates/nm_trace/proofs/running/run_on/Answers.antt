@@ -6,6 +6,7 @@ use Rattle.nm_trace.specs.Played.{Runs, IsSilent, WritesFront}
 use Rattle.nm_trace.proofs.Known.{appends_none}
 use Rattle.nm_trace.proofs.FromBytes.{front, of_all_read, of_any, not_read}
 use Rattle.nm_trace.proofs.Headlines.{err_of}
+use Rattle.nm_trace.proofs.Told.{reads_kept, reads_of_err, unwritten}
 use Rattle.nm_trace.proofs.running.run_on.Goals as goal
 
 pub returns-in_err-bytes-clause-runs : goal.returns-in_err-bytes-clause-runs
@@ -38,3 +39,16 @@ returns-clause-played g c =
     let new = g.W.Write.contents c.run_bytes.new.writer in
     of_all_read (λ trace. IfOk c.run_bytes.result (λ p. (plan : Plan) × (trace ≡ Ok plan) × IsPlayed plan p.summary.steps p.system old new)) (g.R.Read.remaining c.args.reader.now) c.in_ok-bytes.bytes.items c.as_slice.result.now
     c.in_ok-bytes.ensures.bytes c.in_ok-bytes.ensures.within c.as_slice.ensures.value c.run_bytes.ensures.played
+
+pub returns-in_err-bytes-clause-reads : goal.returns-in_err-bytes-clause-reads
+returns-in_err-bytes-clause-reads g c =
+    let is : c.from_residual.result ≡ Err c.in_err-bytes.field-0.0 = search rules in
+    reads_of_err _ _ _ c.in_err-bytes.field-0.0 c.from_residual.result is c.in_err-bytes.ensures.told
+
+pub returns-clause-reads : goal.returns-clause-reads
+returns-clause-reads g c = reads_kept _ _ _ c.run_bytes.result c.in_ok-bytes.ensures.told c.run_bytes.ensures.unread
+
+pub returns-in_err-bytes-clause-writes : goal.returns-in_err-bytes-clause-writes
+returns-in_err-bytes-clause-writes g c =
+    let is : c.from_residual.result ≡ Err c.in_err-bytes.field-0.0 = search rules in
+    unwritten _ c.in_err-bytes.field-0.0 c.from_residual.result is c.in_err-bytes.ensures.fault

@@ -1,9 +1,17 @@
-use Rattle.std.proofs.Common.{rules}
+use Rattle.std.proofs.Common.{arith}
 use Rattle.numatrace.proofs.Unread.{unread}
+use Rattle.numatrace.proofs.Streams.{neither, stream_cause}
 use Rattle.numatrace.proofs.words.run_words.Goals as goal
 
-pub returns-then-matches-clause-reports : goal.returns-then-matches-clause-reports
-returns-then-matches-clause-reports g c = unread (g.R.Read.remaining c.args.reader.now) (g.W.Write.contents c.args.out.now) 3 (search rules)
-
 pub returns-in-Err-clause-reports : goal.returns-in-Err-clause-reports
-returns-in-Err-clause-reports g c = unread (g.R.Read.remaining c.args.reader.now) (g.W.Write.contents c.args.out.now) 2 (search rules)
+returns-in-Err-clause-reports g c =
+    unread (g.R.Read.remaining c.args.reader.now) (g.W.Write.contents c.args.out.now) c.refused_words.result
+    (λ z. neither c.refused_words.result 0 c.refused_words.ensures.either z (λ e. omega (arith, e)) (λ e. omega (arith, e)))
+
+pub returns-in-Err-clause-streams : goal.returns-in-Err-clause-streams
+returns-in-Err-clause-streams g c = λ four.
+    absurd (neither c.refused_words.result 4 c.refused_words.ensures.either four (λ e. omega (arith, e)) (λ e. omega (arith, e)))
+
+pub returns-in-Err-run_trace-clause-streams : goal.returns-in-Err-run_trace-clause-streams
+returns-in-Err-run_trace-clause-streams g c = λ four.
+    stream_cause _ _ _ _ _ c.in-Err-run_trace.fault c.status_of.result c.in-Err-run_trace.ensures.reads c.in-Err-run_trace.ensures.writes c.status_of.ensures four

@@ -1,0 +1,60 @@
+-- What faults say of the reader and the writer.
+use Rattle.std.proofs.Common.{◌≡◌, ℕ, ◌<◌, ◌==◌, ◌||◌, ◌&&◌, ◌⊎◌, inl, inr, not, List, length, Option, Result, Ok, Err, Bool, true, false, refl, subst, sym, arith}
+use Rattle.std.proofs.lemmas.Bool.{ne_eqb}
+use Rattle.std.specs.Prelude.{IfErr}
+use Rattle.nm_calls.specs.Calls.{Call}
+use Rattle.nm_calls.specs.Systems.{SystemState}
+use Rattle.nm_trace.specs.declared.playing.Summary.{Summary}
+use Rattle.nm_trace.specs.declared.trace_error.TraceError.{TraceError}
+use Rattle.nm_trace.specs.declared.trace_error.TraceError.TheVariants.{NotJson, BadMachine, BadStep, ReadFault, WriteFault, HostMemory}
+use Rattle.nm_trace.specs.Faults.{Fails}
+use Rattle.nm_trace.specs.Played.{Plays}
+use Rattle.nm_trace.specs.Telling.{ReadTold, TellsReads, is_of_writer, is_write_fault}
+
+-- no fault of the bytes is a read fault
+pub fails_unread : {Y : Type 0} (e : TraceError) (found : Result Y TraceError) → Fails e found → e ≡ ReadFault → ⊥
+fails_unread e found h is = subst (λ (d : TraceError). Fails d found) is h
+
+-- nor is one of a play
+pub plays_unread : (s t : SystemState) (calls : List Call) (old new : Option (List ℕ)) (result : Result Summary TraceError) → Plays s calls t old new result → IfErr result (λ e. e ≡ ReadFault → ⊥)
+plays_unread s t calls old new (Ok summary) p = tt
+plays_unread s t calls old new (Err e) p = λ is. subst (λ (d : TraceError). Plays s calls t old new (Err d)) is p
+
+-- where the reader has not failed anew, and there is no read fault
+pub reads_kept : {X : Type 0} (before now : Bool) (gave : ℕ → Type 0) (result : Result X TraceError) → now ≡ before → IfErr result (λ e. e ≡ ReadFault → ⊥) → TellsReads before now gave result
+reads_kept before now gave (Ok x) kept unread = kept
+reads_kept before now gave (Err NotJson) kept unread = kept
+reads_kept before now gave (Err BadMachine) kept unread = kept
+reads_kept before now gave (Err (BadStep k)) kept unread = kept
+reads_kept before now gave (Err ReadFault) kept unread = absurd (unread refl)
+reads_kept before now gave (Err WriteFault) kept unread = kept
+reads_kept before now gave (Err (HostMemory k)) kept unread = kept
+
+-- an error that is handed on tells what it told
+pub reads_of_err : {X : Type 0} (before now : Bool) (gave : ℕ → Type 0) (e : TraceError) (result : Result X TraceError) → result ≡ Err e → ReadTold before now gave e → TellsReads before now gave result
+reads_of_err before now gave e result is h = subst (TellsReads before now gave) (sym is) h
+
+-- ---- a writer
+
+-- no byte of some was taken
+pub nothing_taken : (n : ℕ) (bytes : List ℕ) (before now : Bool) → n ≡ 0 → 0 < length bytes → now ≡ ((n == 0 && not (length bytes == 0)) || before) → now ≡ true
+nothing_taken n bytes before now none some h =
+    let ne : (length bytes == 0) ≡ false = ne_eqb (length bytes) 0 (λ e. omega (arith, some, e)) in
+    rw (none, ne) at h
+
+-- some were
+pub some_taken : (n : ℕ) (bytes : List ℕ) (before now : Bool) → (n ≡ 0 → ⊥) → now ≡ ((n == 0 && not (length bytes == 0)) || before) → now ≡ before
+some_taken n bytes before now some h =
+    let ne : (n == 0) ≡ false = ne_eqb n 0 some in
+    rw ne at h
+
+-- an error that is handed on is a write fault where it was one
+pub writes_of_err : {X Y : Type 0} (before now : Bool) (e : TraceError) (r : Result X TraceError) (s : Result Y TraceError) → r ≡ Err e → s ≡ Err e → now ≡ (is_write_fault r || before) → now ≡ (is_write_fault s || before)
+writes_of_err before now e r s is it h =
+    let told : now ≡ (is_of_writer e || before) = rw is at h in
+    rw it told
+
+-- an error of reading is none
+pub unwritten : {X : Type 0} (before : Bool) (e : TraceError) (r : Result X TraceError) → r ≡ Err e → ((e ≡ ReadFault) ⊎ (e ≡ HostMemory 0)) → before ≡ (is_write_fault r || before)
+unwritten before e r is (inl h) = rw (is, h) refl
+unwritten before e r is (inr h) = rw (is, h) refl

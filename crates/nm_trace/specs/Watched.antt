@@ -1,0 +1,15 @@
+-- What a clause reads of a reader or writer that is watched.
+use Rattle.std.specs.Prelude.{ℕ, Bool}
+use Rattle.nm_trace.specs.declared.watched.Watched.{Watched}
+
+-- `watched.has_failed()`
+abbrev pub watched_failed : {T : Type 0} → Watched T → Bool
+watched_failed w = w.has_failed
+
+-- `watched.given()`
+abbrev pub watched_given : {T : Type 0} → Watched T → ℕ
+watched_given w = w.given
+
+-- `watched.get_ref()`
+abbrev pub watched_inner : {T : Type 0} → Watched T → T
+watched_inner w = w.inner

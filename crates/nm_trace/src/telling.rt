@@ -1,0 +1,118 @@
+//! Readers and writers that tell whether they have failed.
+
+ghost use Rattle.std.specs.Prelude.{◌≡◌, ◌||◌, ◌+◌, ℕ, Bool, false, length, is_err, MatchResult, refl};
+ghost use Rattle.std.specs.Io.{ReadsAtMost, WritesAtMost};
+ghost use Rattle.std.specs.Io.Cursor.{cursor_position};
+ghost use Rattle.std.specs.Io.KnownBytes.{ReadConsumes, WriteAppends};
+ghost use Rattle.nm_trace.specs.Counts.{is_failed_write, none_left, more_left, none_on, more_on, more_of_none};
+
+use std::alloc::Allocator;
+use std::collections::VecDeque;
+use std::io;
+use std::io::{AsBytes, Cursor, Empty, Read, Sink, Write};
+
+/// A reader that tells whether it has failed, and how many bytes it gave.
+pub trait TellingReader: Read {
+    /// A read has failed.
+    ghost has_failed: { Self → Bool };
+
+    /// From one moment to a later one it gave so many bytes.
+    ghost gave: { Self → Self → ℕ → Type 0 };
+
+    /// `read`, which tells.
+    fn read_telling(&mut self, buf: &mut [u8]) -> io::Result<usize>
+        ensures bound { ReadsAtMost result buf.new }
+        ensures bytes { ReadConsumes (Self.remaining self.old) (Self.remaining self.new) result buf.new }
+        ensures failed { has_failed self.new ≡ (is_err result || has_failed self.old) }
+        ensures given { MatchResult result (gave self.old self.new) (λ _. gave self.old self.new 0) };
+
+    /// In no time it gave none.
+    ghost gave_none: { (r : Self) → gave r r 0 };
+
+    /// What it gave adds up.
+    ghost gave_more: { (r s t : Self) (m n : ℕ) → gave r s m → gave s t n → gave r t (m + n) };
+}
+
+/// A writer that tells whether it has failed.
+pub trait TellingWriter: Write {
+    /// A write has failed: with an error, or it took no byte of some.
+    ghost has_failed: { Self → Bool };
+
+    /// `write`, which tells.
+    fn write_telling(&mut self, buf: &[u8]) -> io::Result<usize>
+        ensures bound { WritesAtMost result buf.now }
+        ensures bytes { WriteAppends (Self.contents self.old) (Self.contents self.new) result buf.now }
+        ensures failed { has_failed self.new ≡ (is_failed_write result buf.now || has_failed self.old) };
+}
+
+impl TellingReader for &[u8] {
+    ghost has_failed = { λ _. false };
+
+    ghost gave = { λ r s n. length r.now ≡ n + length s.now };
+
+    fn read_telling(&mut self, buf: &mut [u8]) -> io::Result<usize> {
+        self.read(buf)
+    }
+
+    ghost gave_none = { λ r. none_left (length r.now) };
+
+    ghost gave_more = { λ r s t. more_left (length r.now) (length s.now) (length t.now) };
+}
+
+impl<A: Allocator> TellingReader for VecDeque<u8, A> {
+    ghost has_failed = { λ _. false };
+
+    ghost gave = { λ r s n. length r.items ≡ n + length s.items };
+
+    fn read_telling(&mut self, buf: &mut [u8]) -> io::Result<usize> {
+        self.read(buf)
+    }
+
+    ghost gave_none = { λ r. none_left (length r.items) };
+
+    ghost gave_more = { λ r s t. more_left (length r.items) (length s.items) (length t.items) };
+}
+
+impl<T: AsBytes> TellingReader for Cursor<T> {
+    ghost has_failed = { λ _. false };
+
+    ghost gave = { λ r s n. cursor_position s ≡ cursor_position r + n };
+
+    fn read_telling(&mut self, buf: &mut [u8]) -> io::Result<usize> {
+        self.read(buf)
+    }
+
+    ghost gave_none = { λ r. none_on (cursor_position r) };
+
+    ghost gave_more = { λ r s t. more_on (cursor_position r) (cursor_position s) (cursor_position t) };
+}
+
+impl TellingReader for Empty {
+    ghost has_failed = { λ _. false };
+
+    ghost gave = { λ _ _ n. n ≡ 0 };
+
+    fn read_telling(&mut self, buf: &mut [u8]) -> io::Result<usize> {
+        self.read(buf)
+    }
+
+    ghost gave_none = { λ _. refl };
+
+    ghost gave_more = { λ _ _ _. more_of_none };
+}
+
+impl TellingWriter for Sink {
+    ghost has_failed = { λ _. false };
+
+    fn write_telling(&mut self, buf: &[u8]) -> io::Result<usize> {
+        self.write(buf)
+    }
+}
+
+impl TellingWriter for Empty {
+    ghost has_failed = { λ _. false };
+
+    fn write_telling(&mut self, buf: &[u8]) -> io::Result<usize> {
+        self.write(buf)
+    }
+}

@@ -1,0 +1,139 @@
+//! A flag beside a reader or a writer.
+
+ghost use Rattle.std.specs.Prelude.{◌≡◌, ◌||◌, ◌+◌, ◌∷◌, [], ℕ, false, is_err, IfOk, OnErr};
+ghost use Rattle.std.specs.Io.{ReadsAtMost, WritesAtMost};
+ghost use Rattle.std.specs.Io.Iter.{u64_saturate};
+ghost use Rattle.std.specs.Io.KnownBytes.{Keeps, ReadConsumes, WriteAppends};
+ghost use Rattle.nm_trace.specs.Counts.{is_failed_write, none_counted, more_counted};
+ghost use Rattle.nm_trace.specs.Watched.{watched_failed, watched_given, watched_inner};
+
+use crate::telling::{TellingReader, TellingWriter};
+use std::io;
+use std::io::{Read, Write};
+
+/// A reader or a writer of any kind, with a flag that is set once a read or write has failed, and a count of the bytes
+/// that were read.
+#[derive(Drop)]
+pub struct Watched<T> {
+    inner: T,
+    has_failed: bool,
+    given: u64,
+}
+
+impl<T> Watched<T> {
+    /// Watches a reader or a writer from here on.
+    pub fn new(inner: T) -> Watched<T>
+        ensures inner { watched_inner result ≡ inner }
+        ensures failed { watched_failed result ≡ false }
+        ensures given { watched_given result ≡ 0 }
+    {
+        Watched {
+            inner,
+            has_failed: false,
+            given: 0,
+        }
+    }
+
+    /// Whether a read or a write has failed. A write fails with an error, or where it takes no byte of some.
+    pub fn has_failed(&self) -> bool
+        ensures { result ≡ watched_failed self.now }
+    {
+        self.has_failed
+    }
+
+    /// How many bytes were read. The count stops at `u64::MAX`.
+    pub fn given(&self) -> u64
+        ensures { result ≡ watched_given self.now }
+    {
+        self.given
+    }
+
+    /// What is watched.
+    pub fn get_ref(&self) -> &T
+        ensures { result.now ≡ watched_inner self.now }
+    {
+        &self.inner
+    }
+
+    /// What was watched.
+    pub fn into_inner(self) -> T
+        ensures { result ≡ watched_inner self }
+    {
+        self.inner
+    }
+}
+
+impl<R: Read> Read for Watched<R> {
+    ghost remaining = { λ w. R.remaining (watched_inner w) };
+
+    fn read(&mut self, buf: &mut [u8]) -> io::Result<usize>
+        ensures bound { ReadsAtMost result buf.new }
+        ensures bytes { ReadConsumes (R.remaining (watched_inner self.old)) (R.remaining (watched_inner self.new)) result buf.new }
+        ensures failed { watched_failed self.new ≡ (is_err result || watched_failed self.old) }
+        ensures given { IfOk result (λ n. watched_given self.new ≡ u64_saturate (watched_given self.old + n)) }
+        ensures none { OnErr result (watched_given self.new ≡ watched_given self.old) }
+    {
+        match self.inner.read(buf) {
+            Ok(count) => {
+                self.given = self.given.saturating_add(count as u64);
+                Ok(count)
+            }
+            Err(error) => {
+                self.has_failed = true;
+                Err(error)
+            }
+        }
+    }
+}
+
+impl<R: Read> TellingReader for Watched<R> {
+    ghost has_failed = { λ w. watched_failed w };
+
+    ghost gave = { λ v w n. u64_saturate (watched_given w) ≡ u64_saturate (watched_given v + n) };
+
+    fn read_telling(&mut self, buf: &mut [u8]) -> io::Result<usize> {
+        self.read(buf)
+    }
+
+    ghost gave_none = { λ w. none_counted (watched_given w) };
+
+    ghost gave_more = { λ u v w. more_counted (watched_given u) (watched_given v) (watched_given w) };
+}
+
+impl<W: Write> Write for Watched<W> {
+    ghost contents = { λ w. W.contents (watched_inner w) };
+
+    fn write(&mut self, buf: &[u8]) -> io::Result<usize>
+        ensures bound { WritesAtMost result buf.now }
+        ensures bytes { WriteAppends (W.contents (watched_inner self.old)) (W.contents (watched_inner self.new)) result buf.now }
+        ensures failed { watched_failed self.new ≡ (is_failed_write result buf.now || watched_failed self.old) }
+    {
+        match self.inner.write(buf) {
+            Ok(count) => {
+                if count == 0 && !buf.is_empty() {
+                    self.has_failed = true;
+                }
+                Ok(count)
+            }
+            Err(error) => {
+                self.has_failed = true;
+                Err(error)
+            }
+        }
+    }
+
+    fn flush(&mut self) -> io::Result<()>
+        ensures bytes { Keeps (W.contents (watched_inner self.old)) (W.contents (watched_inner self.new)) }
+        ensures failed { watched_failed self.new ≡ watched_failed self.old }
+    {
+        self.inner.flush()
+    }
+}
+
+impl<W: Write> TellingWriter for Watched<W> {
+    ghost has_failed = { λ w. watched_failed w };
+
+    fn write_telling(&mut self, buf: &[u8]) -> io::Result<usize> {
+        self.write(buf)
+    }
+}

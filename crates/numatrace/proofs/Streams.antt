@@ -1,0 +1,24 @@
+-- Which stream failed.
+use Rattle.std.proofs.Common.{◌≡◌, ℕ, Bool, ◌||◌, ◌⊎◌, inl, inr, sym, ◌∙◌, arith}
+use Rattle.nm_trace.specs.declared.trace_error.TraceError.{TraceError}
+use Rattle.nm_trace.specs.declared.trace_error.TraceError.TheVariants.{NotJson, BadMachine, BadStep, ReadFault, WriteFault, HostMemory}
+use Rattle.nm_trace.specs.Telling.{ReadTold, is_of_writer}
+use Rattle.numatrace.specs.Status.{HasStreamCause, status_of}
+
+-- a status of 2 or 3 is no other one
+pub neither : (status other : ℕ) → ((status ≡ 2) ⊎ (status ≡ 3)) → status ≡ other → (2 ≡ other → ⊥) → (3 ≡ other → ⊥) → ⊥
+neither status other (inl two) is not_two not_three = not_two (sym two ∙ is)
+neither status other (inr three) is not_two not_three = not_three (sym three ∙ is)
+
+no_stream : (k status : ℕ) → (k ≡ 4 → ⊥) → status ≡ k → status ≡ 4 → ⊥
+no_stream k status not_four is four = not_four (sym is ∙ four)
+
+-- status 4 tells that a stream failed
+pub stream_cause : (before now : Bool) (gave : ℕ → Type 0) (wrote writes : Bool) (e : TraceError) (status : ℕ) → ReadTold before now gave e → writes ≡ (is_of_writer e || wrote)
+    → status ≡ status_of e → status ≡ 4 → HasStreamCause now gave writes
+stream_cause before now gave wrote writes NotJson status r w is four = absurd (no_stream 2 status (λ h. omega (arith, h)) is four)
+stream_cause before now gave wrote writes BadMachine status r w is four = absurd (no_stream 2 status (λ h. omega (arith, h)) is four)
+stream_cause before now gave wrote writes (BadStep k) status r w is four = absurd (no_stream 2 status (λ h. omega (arith, h)) is four)
+stream_cause before now gave wrote writes ReadFault status r w is four = inl r
+stream_cause before now gave wrote writes WriteFault status r w is four = inr w
+stream_cause before now gave wrote writes (HostMemory k) status r w is four = absurd (no_stream 3 status (λ h. omega (arith, h)) is four)
