@@ -9,20 +9,20 @@ use Rattle.nm_types.specs.declared.area.Segment.{Segment}
 use Rattle.nm_types.specs.Map.{Map, get, spot_cmp}
 use Rattle.nm_types.specs.State.{Placed, area_over, page_shown, page_at}
 use Rattle.nm_types.proofs.Cases.{true_false, some_is}
-use Rattle.nm_areas.specs.Lines.{is_shared}
-use Rattle.nm_areas.specs.Mapped.{mapped, AreasAreApart, IsMapped, IsSomePages, PrivateIsOnce}
-use Rattle.nm_areas.specs.Parts.{covers_page, is_covered}
-use Rattle.nm_areas.specs.Policy.{split_at}
-use Rattle.nm_areas.specs.Removed.{is_own, others, page_in}
-use Rattle.nm_areas.specs.Table.{Table, with_areas}
-use Rattle.nm_areas.proofs.Apart.{covers_from}
-use Rattle.nm_areas.proofs.Parted.{Among, over_among, any_among}
-use Rattle.nm_areas.proofs.Overs.{get_among}
+use Rattle.nm_model.specs.definitions.Areas.{is_shared}
+use Rattle.nm_model.specs.definitions.Areas.{mapped, AreasAreApart, IsMapped, IsSomePages, PrivateIsOnce}
+use Rattle.nm_model.specs.definitions.Areas.{covers_page, is_covered}
+use Rattle.nm_model.specs.definitions.Areas.{split_at}
+use Rattle.nm_model.specs.definitions.Areas.{is_own, others, page_in}
+use Rattle.nm_model.specs.views.Table.{Table, with_areas}
+use Rattle.nm_model.proofs.areas.Apart.{covers_from}
+use Rattle.nm_model.proofs.areas.Parted.{Among, over_among, any_among}
+use Rattle.nm_model.proofs.areas.Overs.{get_among}
 use Rattle.nm_areas.proofs.Own.{own_from}
-use Rattle.nm_areas.proofs.Policed.{fine_here, fine_split}
+use Rattle.nm_model.proofs.areas.Policed.{fine_here, fine_split}
 use Rattle.nm_areas.proofs.Private.{once_same}
-use Rattle.nm_areas.proofs.Repoliced.{split_some, split_apart}
-use Rattle.nm_areas.proofs.Shown.{left_outside}
+use Rattle.nm_model.proofs.areas.Repoliced.{split_some, split_apart}
+use Rattle.nm_model.proofs.areas.Shown.{left_outside}
 
 -- ---- split areas show the same
 

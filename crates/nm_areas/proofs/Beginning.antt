@@ -8,14 +8,14 @@ use Rattle.nm_types.specs.declared.area.Area.{Area}
 use Rattle.nm_types.specs.Map.{Map, get, set, without, spot_cmp}
 use Rattle.nm_types.specs.State.{Placed, covers, area_over}
 use Rattle.nm_types.proofs.Cases.{true_false, some_is}
-use Rattle.nm_areas.specs.Mapped.{AreasAreApart, IsSomePages}
-use Rattle.nm_areas.specs.Parts.{parts_outside}
-use Rattle.nm_areas.specs.Policy.{split_at}
-use Rattle.nm_areas.specs.Refused.{overlaps}
+use Rattle.nm_model.specs.definitions.Areas.{AreasAreApart, IsSomePages}
+use Rattle.nm_model.specs.definitions.Areas.{parts_outside}
+use Rattle.nm_model.specs.definitions.Areas.{split_at}
+use Rattle.nm_model.specs.definitions.AreaRefusal.{overlaps}
 use Rattle.nm_types.proofs.Maps.{spot_cmp_total, get-set}
-use Rattle.nm_areas.proofs.Apart.{covers_from}
-use Rattle.nm_areas.proofs.Parted.{Among, All-among, over_among, among_over, among_flat, part_of, part_covers, among_any}
-use Rattle.nm_areas.proofs.Overs.{get_among}
+use Rattle.nm_model.proofs.areas.Apart.{covers_from}
+use Rattle.nm_model.proofs.areas.Parted.{Among, All-among, over_among, among_over, among_flat, part_of, part_covers, among_any}
+use Rattle.nm_model.proofs.areas.Overs.{get_among}
 
 among_without : (areas : Map (ℕ × ℕ) Area) (k : ℕ × ℕ) (a : Placed) → Among a (without spot_cmp areas k) → Among a areas
 among_without [] k a m = absurd m

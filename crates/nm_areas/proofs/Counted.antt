@@ -12,16 +12,16 @@ use Rattle.nm_types.specs.Map.{Map, get, set, with_values, same_page, spot_cmp}
 use Rattle.nm_types.specs.State.{Placed, covers, area_over, page_of}
 use Rattle.nm_types.proofs.Cases.{true_false, some_none, none_some, some_is}
 use Rattle.nm_areas.specs.Coverage.{total, end_of, ends_of, covers_of, ends_at, covers_at, IsFlat, split_of, splits_at}
-use Rattle.nm_areas.specs.Mapped.{AreasAreApart, IsSomePages}
-use Rattle.nm_areas.specs.Parts.{parts_outside, shows_page, covers_page, is_covered}
-use Rattle.nm_areas.specs.Policy.{split_at, painted}
-use Rattle.nm_areas.specs.Removed.{page_in, begins_in, is_own}
+use Rattle.nm_model.specs.definitions.Areas.{AreasAreApart, IsSomePages}
+use Rattle.nm_model.specs.definitions.Areas.{parts_outside, shows_page, covers_page, is_covered}
+use Rattle.nm_model.specs.definitions.Areas.{split_at, painted}
+use Rattle.nm_model.specs.definitions.Areas.{page_in, begins_in, is_own}
 use Rattle.nm_areas.specs.Shifted.{is_between}
-use Rattle.nm_areas.proofs.Apart.{behind_last, covers_parts, covers_from}
-use Rattle.nm_areas.proofs.Parted.{Among, All-among}
-use Rattle.nm_areas.proofs.Cut.{shorter, later, cut_not, cut_mid}
+use Rattle.nm_model.proofs.areas.Apart.{behind_last, covers_parts, covers_from}
+use Rattle.nm_model.proofs.areas.Parted.{Among, All-among}
+use Rattle.nm_model.proofs.areas.Cut.{shorter, later, cut_not, cut_mid}
 use Rattle.nm_areas.proofs.Own.{same_test}
-use Rattle.nm_areas.proofs.Repoliced.{split_some}
+use Rattle.nm_model.proofs.areas.Repoliced.{split_some}
 use Rattle.nm_areas.proofs.Steps.{pages_same, page_itself, between_parts, between_from}
 
 -- ---- sums

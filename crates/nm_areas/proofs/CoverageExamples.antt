@@ -5,8 +5,8 @@ use Rattle.nm_types.specs.declared.area.Area.{Area}
 use Rattle.nm_types.specs.Map.{Map, get, page_cmp}
 use Rattle.nm_areas.specs.declared.coverage.Step.{Step}
 use Rattle.nm_areas.specs.Coverage.{step_of, ends_at, covers_at}
-use Rattle.nm_areas.specs.Effect.{new_area}
-use Rattle.nm_areas.specs.Removed.{page_in}
+use Rattle.nm_model.specs.definitions.Areas.{new_area}
+use Rattle.nm_model.specs.definitions.Areas.{page_in}
 
 abbrev two : Map (ℕ × ℕ) Area
 two = ((1, 16), new_area 7 0 3) ∷ ((2, 16), new_area 7 2 2) ∷ []

@@ -9,13 +9,13 @@ use Rattle.nm_types.specs.declared.area.Policy.{Policy}
 use Rattle.nm_types.specs.Map.{Map, get, set, spot_cmp, with_values}
 use Rattle.nm_areas.specs.declared.coverage.Step.{Step}
 use Rattle.nm_areas.specs.Coverage.{IsSteps, IsCoverage, IsWith, of_shared, ends_of, covers_of, ends_at, covers_at, splits_at}
-use Rattle.nm_areas.specs.Lines.{is_shared}
-use Rattle.nm_areas.specs.Mapped.{IsMapped, IsSomePages, mapped, shows_segment}
-use Rattle.nm_areas.specs.Policy.{split_at, painted, repoliced}
-use Rattle.nm_areas.specs.Table.{Table}
+use Rattle.nm_model.specs.definitions.Areas.{is_shared}
+use Rattle.nm_model.specs.definitions.Areas.{IsMapped, IsSomePages, mapped, shows_segment}
+use Rattle.nm_model.specs.definitions.Areas.{split_at, painted, repoliced}
+use Rattle.nm_model.specs.views.Table.{Table}
 use Rattle.nm_areas.proofs.Counted.{both_ends, both_cover, painted_total}
 use Rattle.nm_areas.proofs.Masked.{masked_same, masked_add, more_covered}
-use Rattle.nm_areas.proofs.Repoliced.{all_repoliced}
+use Rattle.nm_model.proofs.areas.Repoliced.{all_repoliced}
 use Rattle.nm_areas.proofs.Steps.{steps_same}
 
 -- the area is there

@@ -8,13 +8,13 @@ use Rattle.nm_types.specs.declared.area.Area.{Area}
 use Rattle.nm_types.specs.Map.{Map, get, spot_cmp}
 use Rattle.nm_types.specs.State.{Placed, covers, area_over}
 use Rattle.nm_types.proofs.Cases.{none_some, some_is}
-use Rattle.nm_areas.specs.Mapped.{AreasAreApart, IsSomePages}
-use Rattle.nm_areas.specs.Policy.{is_mapped}
-use Rattle.nm_areas.proofs.Apart.{covers_parts, covers_from}
-use Rattle.nm_areas.proofs.Parted.{Among, All-among, among_over, over_among}
-use Rattle.nm_areas.proofs.Overs.{get_among, get_not_none}
+use Rattle.nm_model.specs.definitions.Areas.{AreasAreApart, IsSomePages}
+use Rattle.nm_model.specs.definitions.Areas.{is_mapped}
+use Rattle.nm_model.proofs.areas.Apart.{covers_parts, covers_from}
+use Rattle.nm_model.proofs.areas.Parted.{Among, All-among, among_over, over_among}
+use Rattle.nm_model.proofs.areas.Overs.{get_among, get_not_none}
 use Rattle.nm_areas.proofs.Own.{NoneBegins}
-use Rattle.nm_areas.proofs.Cut.{over_facts}
+use Rattle.nm_model.proofs.areas.Cut.{over_facts}
 use Rattle.nm_areas.proofs.Searched.{begun_all, over_all}
 
 -- no area that is over a page number begins in front of it

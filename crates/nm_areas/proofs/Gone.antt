@@ -16,13 +16,13 @@ use Rattle.nm_types.specs.declared.area.Segment.{Segment}
 use Rattle.nm_types.specs.Map.{Map, get, without, spot_cmp}
 use Rattle.nm_types.specs.State.{Placed}
 use Rattle.nm_types.proofs.Cases.{true_false, some_none}
-use Rattle.nm_areas.specs.Mapped.{shows_segment, AllShown}
-use Rattle.nm_areas.specs.Removed.{segments_left, begins_in, is_own, others, without_own}
-use Rattle.nm_areas.specs.Table.{Table, with_areas}
+use Rattle.nm_model.specs.definitions.Areas.{shows_segment, AllShown}
+use Rattle.nm_model.specs.definitions.Areas.{segments_left, begins_in, is_own, others, without_own}
+use Rattle.nm_model.specs.views.Table.{Table, with_areas}
 use Rattle.nm_types.proofs.Maps.{equal}
-use Rattle.nm_areas.proofs.Parted.{Among}
-use Rattle.nm_areas.proofs.Overs.{get_not_none}
-use Rattle.nm_areas.proofs.Painted.{exact_spot}
+use Rattle.nm_model.proofs.areas.Parted.{Among}
+use Rattle.nm_model.proofs.areas.Overs.{get_not_none}
+use Rattle.nm_model.proofs.areas.Painted.{exact_spot}
 use Rattle.nm_areas.proofs.Own.{NoneBegins, own_parts, own_from}
 
 less_equal : {r : Ordering} → r ≡ Less → is_eq r ≡ true → ⊥

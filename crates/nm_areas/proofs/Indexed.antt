@@ -15,10 +15,10 @@ use Rattle.nm_types.specs.declared.area.Policy.{Policy}
 use Rattle.nm_types.specs.Map.{Map, get, replace, with_values, spot_cmp}
 use Rattle.nm_types.proofs.Cases.{true_false, some_is}
 use Rattle.nm_areas.specs.Index.{Key, key_cmp, is_of, is_key, IsIndex}
-use Rattle.nm_areas.specs.Policy.{painted}
-use Rattle.nm_areas.specs.Removed.{begins_in}
+use Rattle.nm_model.specs.definitions.Areas.{painted}
+use Rattle.nm_model.specs.definitions.Areas.{begins_in}
 use Rattle.nm_types.proofs.Maps.{equal, spot_cmp_total, get-values}
-use Rattle.nm_areas.proofs.Painted.{exact_spot, put_nowhere}
+use Rattle.nm_model.proofs.areas.Painted.{exact_spot, put_nowhere}
 
 pub exact_key : CmpEqualImpliesEq key_cmp
 exact_key x y e =

@@ -13,15 +13,15 @@ use Rattle.nm_types.specs.declared.area.Segment.{Segment}
 use Rattle.nm_types.specs.Map.{Map, get, set, spot_cmp}
 use Rattle.nm_types.specs.State.{Placed}
 use Rattle.nm_types.proofs.Cases.{true_false}
-use Rattle.nm_areas.specs.Table.{Table, with_areas}
-use Rattle.nm_areas.specs.Mapped.{mapped, IsSomePages, EndsLow, HasIndices, shows_segment, AllShown, PrivateIsOnce, IsMapped}
-use Rattle.nm_areas.specs.Refused.{overlaps, is_stretch}
-use Rattle.nm_areas.specs.Effect.{new_area}
-use Rattle.nm_areas.specs.Lines.{is_shared}
+use Rattle.nm_model.specs.views.Table.{Table, with_areas}
+use Rattle.nm_model.specs.definitions.Areas.{mapped, IsSomePages, EndsLow, HasIndices, shows_segment, AllShown, PrivateIsOnce, IsMapped}
+use Rattle.nm_model.specs.definitions.AreaRefusal.{overlaps, is_stretch}
+use Rattle.nm_model.specs.definitions.Areas.{new_area}
+use Rattle.nm_model.specs.definitions.Areas.{is_shared}
 use Rattle.nm_types.proofs.Maps.{equal, spot_cmp_total}
 use Rattle.nm_types.proofs.Keys.{All-set, All-get, sorted-set}
-use Rattle.nm_areas.proofs.Apart.{NoneOverlaps, one_more, other_key, apart-set, all_from_none, each_set, same_key, all_then}
-use Rattle.nm_areas.proofs.Policed.{IsFine}
+use Rattle.nm_model.proofs.areas.Apart.{NoneOverlaps, one_more, other_key, apart-set, all_from_none, each_set, same_key, all_then}
+use Rattle.nm_model.proofs.areas.Policed.{IsFine}
 use Rattle.nm_areas.proofs.Private.{shared_before, once_more}
 
 -- no entry has a number that is past all of them

@@ -14,16 +14,16 @@ use Rattle.nm_types.specs.declared.area.Area.{Area}
 use Rattle.nm_types.specs.declared.area.Segment.{Segment}
 use Rattle.nm_types.specs.Map.{Map, with_values, without, page_cmp}
 use Rattle.nm_types.specs.State.{Placed}
-use Rattle.nm_areas.specs.Table.{Table, with_areas}
-use Rattle.nm_areas.specs.Mapped.{Mapped, mapped, IsSomePages, EndsLow, HasIndices, shows_segment, AllShown, IsMapped}
-use Rattle.nm_areas.specs.Parts.{pages_from, pages_between, before, behind, parts_outside, is_covered}
-use Rattle.nm_areas.specs.Policy.{inside, repoliced, split_at, painted}
-use Rattle.nm_areas.specs.Removed.{areas_left, segments_left, pages_gone, place_left, all_lost, removed, frames_lost, begins_in, is_own, others, without_own, pages_of_area, pages_of_own}
+use Rattle.nm_model.specs.views.Table.{Table, with_areas}
+use Rattle.nm_model.specs.definitions.Areas.{Mapped, mapped, IsSomePages, EndsLow, HasIndices, shows_segment, AllShown, IsMapped}
+use Rattle.nm_model.specs.definitions.Areas.{pages_from, pages_between, before, behind, parts_outside, is_covered}
+use Rattle.nm_model.specs.definitions.Areas.{inside, repoliced, split_at, painted}
+use Rattle.nm_model.specs.definitions.Areas.{areas_left, segments_left, pages_gone, place_left, all_lost, removed, frames_lost, begins_in, is_own, others, without_own, pages_of_area, pages_of_own}
 use Rattle.nm_types.proofs.Keys.{sorted-without}
-use Rattle.nm_areas.proofs.Parted.{All-among, all_from_among, among_flat, IsPart, part_of}
-use Rattle.nm_areas.proofs.Halves.{flat_apart, flat_sorted}
-use Rattle.nm_areas.proofs.Repoliced.{split_some, all_repoliced}
-use Rattle.nm_areas.proofs.Policed.{fine_split, fine_here, shown_split, all_shown}
+use Rattle.nm_model.proofs.areas.Parted.{All-among, all_from_among, among_flat, IsPart, part_of}
+use Rattle.nm_model.proofs.areas.Halves.{flat_apart, flat_sorted}
+use Rattle.nm_model.proofs.areas.Repoliced.{split_some, all_repoliced}
+use Rattle.nm_model.proofs.areas.Policed.{fine_split, fine_here, shown_split, all_shown}
 use Rattle.nm_areas.proofs.Private.{once_left}
 
 module _ (pid first end : ℕ) where

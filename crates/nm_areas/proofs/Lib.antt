@@ -1,13 +1,5 @@
-pub mod Apart
-pub mod Parted
-pub mod Halves
-pub mod Overs
-pub mod Painted
 pub mod Indexed
-pub mod Cut
-pub mod Repoliced
 pub mod Inserted
-pub mod Policed
 pub mod Beginning
 pub mod Scanned
 pub mod Searched
@@ -17,7 +9,6 @@ pub mod Lost
 pub mod Gone
 pub mod Letting
 pub mod Roomy
-pub mod Shown
 pub mod Values
 pub mod Steps
 pub mod Counted

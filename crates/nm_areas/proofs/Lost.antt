@@ -10,8 +10,8 @@ use Rattle.nm_types.specs.declared.page.Page.{Page}
 use Rattle.nm_types.specs.declared.area.Area.{Area}
 use Rattle.nm_types.specs.Map.{Map, get, without, page_cmp, spot_cmp}
 use Rattle.nm_types.proofs.Cases.{some_none}
-use Rattle.nm_areas.specs.Parts.{pages_from, is_covered}
-use Rattle.nm_areas.specs.Removed.{place_left, with_its_frame, lost, all_lost, pages_of_area, pages_of_own, page_in}
+use Rattle.nm_model.specs.definitions.Areas.{pages_from, is_covered}
+use Rattle.nm_model.specs.definitions.Areas.{place_left, with_its_frame, lost, all_lost, pages_of_area, pages_of_own, page_in}
 use Rattle.nm_areas.proofs.Own.{NoneBegins, own_next, own_none}
 
 pub without_none : (place : Map Page ℕ) (p : Page) → get page_cmp place p ≡ None → without page_cmp place p ≡ place

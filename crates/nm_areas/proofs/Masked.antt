@@ -16,10 +16,10 @@ use Rattle.nm_types.proofs.Cases.{true_false}
 use Rattle.nm_types.proofs.Maps.{equal, get-set}
 use Rattle.nm_areas.specs.declared.coverage.Step.{Step}
 use Rattle.nm_areas.specs.Coverage.{total, IsSteps, IsFlat, IsCoverage, IsWith, of_shared, ends_at, covers_at, ends_of, covers_of, end_of, split_of}
-use Rattle.nm_areas.specs.Lines.{is_shared}
-use Rattle.nm_areas.specs.Mapped.{IsSomePages, shows_segment}
-use Rattle.nm_areas.specs.Parts.{shows_page}
-use Rattle.nm_areas.specs.Removed.{page_in, segments_left}
+use Rattle.nm_model.specs.definitions.Areas.{is_shared}
+use Rattle.nm_model.specs.definitions.Areas.{IsSomePages, shows_segment}
+use Rattle.nm_model.specs.definitions.Areas.{shows_page}
+use Rattle.nm_model.specs.definitions.Areas.{page_in, segments_left}
 use Rattle.nm_areas.proofs.Counted.{areas_flat, areas_few, total_set}
 use Rattle.nm_areas.proofs.Private.{get_kept}
 use Rattle.nm_areas.proofs.Steps.{pages_same, steps_same, between_parts}

@@ -14,15 +14,15 @@ use Rattle.nm_types.specs.declared.area.Segment.{Segment}
 use Rattle.nm_types.specs.Map.{Map, get, spot_cmp}
 use Rattle.nm_types.specs.State.{Placed}
 use Rattle.nm_types.proofs.Cases.{true_false, some_none}
-use Rattle.nm_areas.specs.Mapped.{IsSomePages, EndsLow}
+use Rattle.nm_model.specs.definitions.Areas.{IsSomePages, EndsLow}
 use Rattle.nm_areas.specs.Lines.{line_of, lines_of}
-use Rattle.nm_areas.specs.Removed.{is_own}
+use Rattle.nm_model.specs.definitions.Areas.{is_own}
 use Rattle.nm_areas.specs.declared.lines.Line.{Line}
 use Rattle.nm_types.proofs.Maps.{equal, spot_cmp_total}
-use Rattle.nm_areas.proofs.Parted.{Among, All-among}
-use Rattle.nm_areas.proofs.Halves.{less_to, among_keys}
-use Rattle.nm_areas.proofs.Overs.{get_among, get_not_none}
-use Rattle.nm_areas.proofs.Painted.{exact_spot}
+use Rattle.nm_model.proofs.areas.Parted.{Among, All-among}
+use Rattle.nm_model.proofs.areas.Halves.{less_to, among_keys}
+use Rattle.nm_model.proofs.areas.Overs.{get_among, get_not_none}
+use Rattle.nm_model.proofs.areas.Painted.{exact_spot}
 
 pub own_parts : (pid at end : ℕ) (a : Placed) → is_own pid at end a ≡ true → (a.0.0 ≡ pid) × (at ≤ a.0.1) × (a.0.1 < end)
 own_parts pid at end a h =

@@ -13,14 +13,14 @@ use Rattle.nm_types.specs.declared.area.Segment.{Segment}
 use Rattle.nm_types.specs.Map.{Map, get, set, spot_cmp}
 use Rattle.nm_types.specs.State.{Placed, covers, area_over, page_of, page_shown, page_at}
 use Rattle.nm_types.proofs.Cases.{true_false, none_some, some_is}
-use Rattle.nm_areas.specs.Lines.{is_shared}
-use Rattle.nm_areas.specs.Mapped.{AreasAreApart, IsSomePages, shows_segment, PrivateIsOnce}
-use Rattle.nm_areas.specs.Refused.{is_stretch}
-use Rattle.nm_areas.specs.Removed.{areas_left, segments_left, begins_in}
+use Rattle.nm_model.specs.definitions.Areas.{is_shared}
+use Rattle.nm_model.specs.definitions.Areas.{AreasAreApart, IsSomePages, shows_segment, PrivateIsOnce}
+use Rattle.nm_model.specs.definitions.AreaRefusal.{is_stretch}
+use Rattle.nm_model.specs.definitions.Areas.{areas_left, segments_left, begins_in}
 use Rattle.nm_types.proofs.Maps.{equal, get-set}
-use Rattle.nm_areas.proofs.Apart.{one_more, NoneOverlaps, area_over-set, covers_parts}
-use Rattle.nm_areas.proofs.Parted.{Among, All-among, among_over, among_any}
-use Rattle.nm_areas.proofs.Shown.{left_shows}
+use Rattle.nm_model.proofs.areas.Apart.{one_more, NoneOverlaps, area_over-set, covers_parts}
+use Rattle.nm_model.proofs.areas.Parted.{Among, All-among, among_over, among_any}
+use Rattle.nm_model.proofs.areas.Shown.{left_shows}
 
 -- ---- the area behind a page that is shown
 

@@ -20,8 +20,8 @@ use Rattle.nm_types.specs.declared.page.Page.{Page}
 use Rattle.nm_types.specs.Map.{Map, get, spot_cmp, page_cmp}
 use Rattle.nm_types.proofs.Maps.{equal, spot_cmp_total, page_cmp_total}
 use Rattle.nm_areas.specs.Rests.{IsRest}
-use Rattle.nm_areas.specs.Removed.{page_in}
-use Rattle.nm_areas.proofs.Overs.{up_to, from_up_to, spot_before, spot_behind, spot_same}
+use Rattle.nm_model.specs.definitions.Areas.{page_in}
+use Rattle.nm_model.proofs.areas.Overs.{up_to, from_up_to, spot_before, spot_behind, spot_same}
 
 -- what is said of a value that is there
 pub given : {X : Type 0} (P : X → Type 0) (o : Option X) (x : X) → o ≡ Some x → IfSome o P → P x

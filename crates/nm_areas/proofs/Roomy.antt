@@ -13,14 +13,14 @@ use Rattle.nm_types.specs.declared.area.Area.{Area}
 use Rattle.nm_types.specs.Map.{Map, get, spot_cmp}
 use Rattle.nm_types.specs.State.{Placed, covers}
 use Rattle.nm_types.proofs.Cases.{true_false}
-use Rattle.nm_areas.specs.Table.{Table, with_areas}
-use Rattle.nm_areas.specs.Mapped.{mapped, AreasAreApart, IsSomePages, IsMapped}
-use Rattle.nm_areas.specs.Parts.{pages_from, pages_between}
-use Rattle.nm_areas.specs.Policy.{split_at}
-use Rattle.nm_areas.specs.Removed.{pages_gone, pages_of_area, pages_of_own}
-use Rattle.nm_areas.proofs.Apart.{behind_last, covers_from}
-use Rattle.nm_areas.proofs.Parted.{All-among, all_from_among}
-use Rattle.nm_areas.proofs.Halves.{less_to, among_keys}
+use Rattle.nm_model.specs.views.Table.{Table, with_areas}
+use Rattle.nm_model.specs.definitions.Areas.{mapped, AreasAreApart, IsSomePages, IsMapped}
+use Rattle.nm_model.specs.definitions.Areas.{pages_from, pages_between}
+use Rattle.nm_model.specs.definitions.Areas.{split_at}
+use Rattle.nm_model.specs.definitions.Areas.{pages_gone, pages_of_area, pages_of_own}
+use Rattle.nm_model.proofs.areas.Apart.{behind_last, covers_from}
+use Rattle.nm_model.proofs.areas.Parted.{All-among, all_from_among}
+use Rattle.nm_model.proofs.areas.Halves.{less_to, among_keys}
 use Rattle.nm_areas.proofs.Own.{NoneBegins}
 use Rattle.nm_areas.proofs.Lost.{own_pages_next}
 use Rattle.nm_areas.proofs.Letting.{cut_own}

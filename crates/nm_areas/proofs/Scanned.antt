@@ -17,11 +17,11 @@ use Rattle.nm_types.specs.Map.{Map, get, spot_cmp}
 use Rattle.nm_types.specs.State.{Placed}
 use Rattle.nm_types.proofs.Cases.{true_false}
 use Rattle.nm_areas.specs.Index.{Key, key_cmp, is_of, IsIndex}
-use Rattle.nm_areas.specs.Mapped.{shows_segment}
+use Rattle.nm_model.specs.definitions.Areas.{shows_segment}
 use Rattle.nm_types.proofs.Maps.{spot_cmp_total, found_first, found_later}
-use Rattle.nm_areas.proofs.Parted.{Among, any_among, among_any}
-use Rattle.nm_areas.proofs.Painted.{exact_spot}
-use Rattle.nm_areas.proofs.Overs.{get_among}
+use Rattle.nm_model.proofs.areas.Parted.{Among, any_among, among_any}
+use Rattle.nm_model.proofs.areas.Painted.{exact_spot}
+use Rattle.nm_model.proofs.areas.Overs.{get_among}
 use Rattle.nm_areas.proofs.Indexed.{has, same_key, key_itself}
 
 -- whether there is an area, and it passes a test at its place

@@ -4,10 +4,10 @@ use Rattle.std.specs.Prelude.{Option, Some, None, IfSome}
 use Rattle.nm_types.specs.declared.area.Area.{Area}
 use Rattle.nm_types.specs.Map.{Map, get, spot_cmp}
 use Rattle.nm_types.specs.State.{Placed, area_over}
-use Rattle.nm_areas.specs.Mapped.{AreasAreApart}
-use Rattle.nm_areas.proofs.Apart.{covers_from}
-use Rattle.nm_areas.proofs.Parted.{Among, among_over, over_among}
-use Rattle.nm_areas.proofs.Overs.{get_among}
+use Rattle.nm_model.specs.definitions.Areas.{AreasAreApart}
+use Rattle.nm_model.proofs.areas.Apart.{covers_from}
+use Rattle.nm_model.proofs.areas.Parted.{Among, among_over, over_among}
+use Rattle.nm_model.proofs.areas.Overs.{get_among}
 
 -- ---- areas that do not overlap
 

@@ -1,5 +1,5 @@
 -- What stands in a range from a key up to another: the steps of a stretch, and the areas of a process.
-use Rattle.std.proofs.Common.{◌≡◌, ℕ, ◌≤◌, ◌<◌, [], ◌∷◌, Bool, true, false, ◌&&◌, cond, refl, sym, ap, ◌∙◌, inl, inr}
+use Rattle.std.proofs.Common.{◌≡◌, ℕ, ◌≤◌, ◌<◌, Bool, true, false, ◌&&◌, cond, refl, sym, ap, ◌∙◌, inl, inr}
 use Rattle.std.specs.Prelude.{not, nat_le, nat_lt, ◌==◌}
 use Rattle.std.specs.Ordering.{nat_cmp, is_le, is_gt}
 use Rattle.std.specs.Cmp.{nat_cmp_is, ranked}
@@ -11,14 +11,12 @@ use Rattle.std.proofs.lemmas.Bool.{and_parts, and_from, eqb-true, eq-eqb, leb-tr
 use Rattle.nm_types.specs.declared.page.Page.{Page}
 use Rattle.nm_types.specs.declared.area.Policy.{Policy}
 use Rattle.nm_types.specs.declared.area.Area.{Area}
-use Rattle.std.specs.Map.{keys_of}
-use Rattle.nm_types.specs.Map.{Map, page_cmp, spot_cmp, with_values}
+use Rattle.nm_types.specs.Map.{page_cmp, spot_cmp}
 use Rattle.nm_types.proofs.Cases.{true_false}
 use Rattle.nm_areas.specs.declared.coverage.Step.{Step}
-use Rattle.nm_areas.specs.Policy.{painted}
-use Rattle.nm_areas.specs.Removed.{page_in}
+use Rattle.nm_model.specs.definitions.Areas.{painted, page_in}
 use Rattle.nm_areas.specs.Shifted.{shifted, is_between, shifted_in}
-use Rattle.nm_areas.proofs.Overs.{up_to, from_up_to, spot_before, spot_same}
+use Rattle.nm_model.proofs.areas.Overs.{up_to, from_up_to, spot_before, spot_same}
 use Rattle.nm_areas.proofs.Own.{same_test}
 use Rattle.nm_areas.proofs.Steps.{between_parts, between_from}
 
@@ -88,7 +86,3 @@ module _ (pid first past : ℕ) (policy : Policy) where
 
   pub painted_outside : (q : ℕ × ℕ) (x : Area) → among_spots pid first past q ≡ false → painted pid first past policy q x ≡ x
   painted_outside q x h = ap (λ b. cond b (record x { policy = policy }) x) (tested_is q ∙ h)
-
-  pub keys_painted : (m : Map (ℕ × ℕ) Area) → keys_of (with_values (painted pid first past policy) m) ≡ keys_of m
-  keys_painted [] = refl
-  keys_painted (e ∷ m) = ap (λ ks. e.0 ∷ ks) (keys_painted m)

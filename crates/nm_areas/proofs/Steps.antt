@@ -16,9 +16,9 @@ use Rattle.nm_types.proofs.Maps.{equal, exact_page, page_cmp_total, get-replace}
 use Rattle.nm_areas.specs.declared.coverage.Step.{Step}
 use Rattle.nm_areas.specs.Coverage.{step_of, IsSteps, IsFlat}
 use Rattle.nm_areas.specs.Shifted.{shifted, shifted_in, is_between}
-use Rattle.nm_areas.specs.Removed.{page_in}
-use Rattle.nm_areas.proofs.Overs.{up_to, from_up_to, spot_same}
-use Rattle.nm_areas.proofs.Halves.{less_from}
+use Rattle.nm_model.specs.definitions.Areas.{page_in}
+use Rattle.nm_model.proofs.areas.Overs.{up_to, from_up_to, spot_same}
+use Rattle.nm_model.proofs.areas.Halves.{less_from}
 
 pub pages_same : (p q : Page) → same_page p q ≡ true → p ≡ q
 pages_same p q h = exact_page p q (equal _ h)

@@ -8,9 +8,9 @@ use Rattle.nm_types.specs.declared.area.Segment.{Segment}
 use Rattle.nm_types.specs.Map.{Map, get, without, page_cmp}
 use Rattle.nm_areas.specs.declared.coverage.Step.{Step}
 use Rattle.nm_areas.specs.Coverage.{step_of, IsCoverage, ends_at, covers_at}
-use Rattle.nm_areas.specs.Lines.{is_shared}
-use Rattle.nm_areas.specs.Parts.{pages_from, is_covered}
-use Rattle.nm_areas.specs.Removed.{place_left, with_its_frame, lost, all_lost, page_in, pages_of_area}
+use Rattle.nm_model.specs.definitions.Areas.{is_shared}
+use Rattle.nm_model.specs.definitions.Areas.{pages_from, is_covered}
+use Rattle.nm_model.specs.definitions.Areas.{place_left, with_its_frame, lost, all_lost, page_in, pages_of_area}
 use Rattle.nm_areas.proofs.Counted.{areas_flat, not_covered, some_cover}
 use Rattle.nm_areas.proofs.Lost.{all_freed_next, all_left_next}
 use Rattle.nm_areas.proofs.Steps.{none_ends, flat_same}

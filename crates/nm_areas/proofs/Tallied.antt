@@ -8,11 +8,11 @@ use Rattle.nm_types.specs.declared.area.Area.{Area}
 use Rattle.nm_types.specs.Map.{Map, get, page_cmp, spot_cmp}
 use Rattle.nm_types.specs.State.{Placed, area_over, page_of, page_shown, page_at}
 use Rattle.nm_types.proofs.Cases.{none_some, some_is}
-use Rattle.nm_areas.specs.Mapped.{AreasAreApart, IsSomePages}
-use Rattle.nm_areas.specs.Removed.{page_in}
-use Rattle.nm_areas.proofs.Apart.{behind_last, covers_parts, covers_from}
-use Rattle.nm_areas.proofs.Parted.{Among, among_over, over_among}
-use Rattle.nm_areas.proofs.Overs.{get_not_none}
+use Rattle.nm_model.specs.definitions.Areas.{AreasAreApart, IsSomePages}
+use Rattle.nm_model.specs.definitions.Areas.{page_in}
+use Rattle.nm_model.proofs.areas.Apart.{behind_last, covers_parts, covers_from}
+use Rattle.nm_model.proofs.areas.Parted.{Among, among_over, over_among}
+use Rattle.nm_model.proofs.areas.Overs.{get_not_none}
 use Rattle.nm_areas.proofs.Own.{NoneBegins}
 use Rattle.nm_areas.proofs.Searched.{begun_all}
 use Rattle.nm_areas.proofs.Filled.{pages_some}

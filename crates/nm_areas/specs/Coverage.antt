@@ -6,9 +6,9 @@ use Rattle.nm_types.specs.declared.area.Segment.{Segment}
 use Rattle.nm_types.specs.Map.{Map, get, page_cmp, same_page}
 use Rattle.nm_types.specs.State.{Placed, covers, page_of}
 use Rattle.nm_areas.specs.declared.coverage.Step.{Step}
-use Rattle.nm_areas.specs.Lines.{is_shared}
-use Rattle.nm_areas.specs.Parts.{shows_page}
-use Rattle.nm_areas.specs.Removed.{page_in}
+use Rattle.nm_model.specs.definitions.Areas.{is_shared}
+use Rattle.nm_model.specs.definitions.Areas.{shows_page}
+use Rattle.nm_model.specs.definitions.Areas.{page_in}
 
 -- a number of each area, added up
 abbrev pub total : (Placed → ℕ) → List Placed → ℕ

@@ -1,12 +1,5 @@
-pub mod Table
 pub mod Index
-pub mod Mapped
-pub mod Parts
-pub mod Policy
-pub mod Refused
-pub mod Effect
 pub mod Lines
-pub mod Removed
 pub mod Shifted
 pub mod Coverage
 pub mod Rests

@@ -1,17 +1,12 @@
 -- The areas of a process, as they are listed.
-use Rattle.std.specs.Prelude.{ℕ, ◌==◌, Bool, false, List, map}
-use Rattle.std.specs.Option.{unwrap_or, option_map}
-use Rattle.std.specs.Ordering.{nat_cmp}
+use Rattle.std.specs.Prelude.{ℕ, ◌==◌, List, map}
 use Rattle.std.specs.List.{filter}
 use Rattle.nm_types.specs.declared.area.Area.{Area}
 use Rattle.nm_types.specs.declared.area.Segment.{Segment}
-use Rattle.nm_types.specs.Map.{Map, get}
+use Rattle.nm_types.specs.Map.{Map}
 use Rattle.nm_types.specs.State.{Placed}
 use Rattle.nm_areas.specs.declared.lines.Line.{Line}
-
--- whether a segment is shared; one that is not there is not
-abbrev pub is_shared : Map ℕ Segment → ℕ → Bool
-is_shared segments number = unwrap_or (option_map (λ segment. segment.shared) (get nat_cmp segments number)) false
+use Rattle.nm_model.specs.definitions.Areas.{is_shared}
 
 -- an area and whether its segment is shared
 abbrev pub line_of : Map ℕ Segment → Placed → Line

@@ -8,11 +8,11 @@ ghost use Rattle.std.specs.Map.{keys_of};
 ghost use Rattle.nm_types.specs.Map.{get, set, replace, without, spot_cmp};
 ghost use Rattle.nm_types.specs.State.{Placed, area_over};
 ghost use Rattle.nm_types.specs.declared.area.Area.{Area};
-ghost use Rattle.nm_areas.specs.Effect.{new_area};
-ghost use Rattle.nm_areas.specs.Lines.{is_shared};
-ghost use Rattle.nm_areas.specs.Mapped.{AreasAreApart, EndsLow, IsSomePages};
-ghost use Rattle.nm_areas.specs.Refused.{overlaps, is_stretch};
-ghost use Rattle.nm_areas.specs.Table.{with_areas};
+ghost use Rattle.nm_model.specs.definitions.Areas.{new_area};
+ghost use Rattle.nm_model.specs.definitions.Areas.{is_shared};
+ghost use Rattle.nm_model.specs.definitions.Areas.{AreasAreApart, EndsLow, IsSomePages};
+ghost use Rattle.nm_model.specs.definitions.AreaRefusal.{overlaps, is_stretch};
+ghost use Rattle.nm_model.specs.views.Table.{with_areas};
 
 use crate::lines::is_shared;
 use crate::scan::put;
@@ -33,7 +33,7 @@ pub(crate) struct AreaTable<A: Allocator + Copy> {
 
 impl<A: Allocator + Copy> Model for AreaTable<A> {
     ghost use Rattle.nm_areas.specs.Index.{IsIndex};
-    ghost use Rattle.nm_areas.specs.Table.{Table};
+    ghost use Rattle.nm_model.specs.views.Table.{Table};
 
     ghost Value = { Table };
 

@@ -3,10 +3,10 @@
 ghost use Rattle.std.specs.Prelude.{ℕ, OnOk, Some, ◌≡◌, ◌≤◌, ◌<◌, ◌+◌, ◌/◌, true, IfOk, IfSome, option_map};
 ghost use Rattle.nm_types.specs.State.{Placed, area_over};
 ghost use Rattle.nm_types.specs.Does.{Makes};
-ghost use Rattle.nm_areas.specs.Effect.{no_areas, new_area, inserted, attached, over_with};
-ghost use Rattle.nm_areas.specs.Lines.{is_shared};
-ghost use Rattle.nm_areas.specs.Mapped.{IsMapped};
-ghost use Rattle.nm_areas.specs.Refused.{insert_refusal, stretch_refusal};
+ghost use Rattle.nm_model.specs.definitions.Areas.{no_areas, new_area, inserted, attached, over_with};
+ghost use Rattle.nm_model.specs.definitions.Areas.{is_shared};
+ghost use Rattle.nm_model.specs.definitions.Areas.{IsMapped};
+ghost use Rattle.nm_model.specs.definitions.AreaRefusal.{insert_refusal, stretch_refusal};
 
 use crate::area_table::{AreaTable, new_area};
 use crate::counting::{count_in, count_out};
@@ -32,7 +32,7 @@ pub struct Areas<A: Allocator + Copy> {
 
 impl<A: Allocator + Copy> Model for Areas<A> {
     ghost use Rattle.nm_areas.specs.Coverage.{IsCoverage};
-    ghost use Rattle.nm_areas.specs.Mapped.{Mapped, IsMapped, mapped};
+    ghost use Rattle.nm_model.specs.definitions.Areas.{Mapped, IsMapped, mapped};
 
     ghost Value = { Mapped };
 

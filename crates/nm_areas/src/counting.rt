@@ -4,8 +4,8 @@
 ghost use Rattle.std.specs.List.{AllByRecursion};
 ghost use Rattle.std.specs.Prelude.{IfNone, IfSome, OnErr, OnOk, ℕ, ◌+◌, ◌<◌, ◌^◌, ◌≡◌, ◌≤◌, if◌then◌else◌};
 ghost use Rattle.nm_areas.specs.Coverage.{IsCoverage, IsFlat, IsSteps, IsWith, covers_at, covers_of, ends_at, ends_of, of_shared, splits_at};
-ghost use Rattle.nm_areas.specs.Mapped.{AreasAreApart, HasIndices, IsSomePages};
-ghost use Rattle.nm_areas.specs.Removed.{others};
+ghost use Rattle.nm_model.specs.definitions.Areas.{AreasAreApart, HasIndices, IsSomePages};
+ghost use Rattle.nm_model.specs.definitions.Areas.{others};
 ghost use Rattle.nm_types.specs.Map.{Map, same_page};
 ghost use Rattle.nm_types.specs.declared.area.Area.{Area};
 ghost use Rattle.nm_types.specs.declared.area.Segment.{Segment};

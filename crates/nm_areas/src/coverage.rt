@@ -8,7 +8,7 @@
 ghost use Rattle.std.specs.Option.{option_map};
 ghost use Rattle.std.specs.Prelude.{false, None, OnErr, OnOk, Some, ℕ, ◌+◌, ◌<◌, ◌^◌, ◌≡◌, ◌≤◌, if◌then◌else◌};
 ghost use Rattle.nm_areas.specs.Coverage.{IsFlat, IsSteps, covers_of, ends_of};
-ghost use Rattle.nm_areas.specs.Removed.{page_in};
+ghost use Rattle.nm_model.specs.definitions.Areas.{page_in};
 ghost use Rattle.nm_areas.specs.Shifted.{shifted, shifted_in};
 ghost use Rattle.nm_areas.specs.Rests.{IsRest};
 ghost use Rattle.nm_areas.specs.declared.coverage.Step.{Step};

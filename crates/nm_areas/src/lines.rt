@@ -2,8 +2,9 @@
 
 ghost use Rattle.std.specs.Prelude.{◌≡◌, IfOk};
 ghost use Rattle.std.specs.List.{AllByRecursion};
-ghost use Rattle.nm_areas.specs.Lines.{is_shared, line_of, lines_of};
-ghost use Rattle.nm_areas.specs.Mapped.{EndsLow, IsSomePages};
+ghost use Rattle.nm_model.specs.definitions.Areas.{is_shared};
+ghost use Rattle.nm_areas.specs.Lines.{line_of, lines_of};
+ghost use Rattle.nm_model.specs.definitions.Areas.{EndsLow, IsSomePages};
 
 use crate::areas::Areas;
 use crate::scan::step_area;

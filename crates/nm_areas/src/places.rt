@@ -6,9 +6,9 @@ ghost use Rattle.std.specs.Map.{keys_of, values_of};
 ghost use Rattle.nm_types.specs.declared.page.Page.{Page};
 ghost use Rattle.nm_types.specs.Map.{get, page_cmp, with_values};
 ghost use Rattle.nm_types.specs.State.{page_of, page_at};
-ghost use Rattle.nm_areas.specs.Effect.{with_frame, moved, without_frame};
-ghost use Rattle.nm_areas.specs.Mapped.{IsMapped, mapped};
-ghost use Rattle.nm_areas.specs.Removed.{page_in};
+ghost use Rattle.nm_model.specs.definitions.Areas.{with_frame, moved, without_frame};
+ghost use Rattle.nm_model.specs.definitions.Areas.{IsMapped, mapped};
+ghost use Rattle.nm_model.specs.definitions.Areas.{page_in};
 
 use crate::area_table::AreaTable;
 use crate::areas::Areas;

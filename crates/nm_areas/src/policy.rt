@@ -5,11 +5,11 @@ ghost use Rattle.std.specs.List.Sorted.{IsStrictlySortedBy};
 ghost use Rattle.std.specs.Map.{keys_of};
 ghost use Rattle.std.specs.Prelude.{None, OnErr, OnOk, Some, false, true, ℕ, ◌*◌, ◌+◌, ◌-◌, ◌<◌, ◌^◌, ◌≡◌, ◌≤◌, IfErr};
 ghost use Rattle.nm_types.specs.Does.{Makes};
-ghost use Rattle.nm_areas.specs.Effect.{with_policy};
-ghost use Rattle.nm_areas.specs.Mapped.{AreasAreApart, EndsLow, HasIndices, IsSomePages};
-ghost use Rattle.nm_areas.specs.Policy.{is_mapped, painted, repoliced};
-ghost use Rattle.nm_areas.specs.Refused.{range_refusal};
-ghost use Rattle.nm_areas.specs.Table.{with_areas};
+ghost use Rattle.nm_model.specs.definitions.Areas.{with_policy};
+ghost use Rattle.nm_model.specs.definitions.Areas.{AreasAreApart, EndsLow, HasIndices, IsSomePages};
+ghost use Rattle.nm_model.specs.definitions.Areas.{is_mapped, painted, repoliced};
+ghost use Rattle.nm_model.specs.definitions.AreaRefusal.{range_refusal};
+ghost use Rattle.nm_model.specs.views.Table.{with_areas};
 ghost use Rattle.nm_types.specs.Map.{spot_cmp, with_values};
 ghost use Rattle.nm_types.specs.State.{area_over, page_at};
 

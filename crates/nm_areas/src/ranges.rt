@@ -1,8 +1,8 @@
 //! Ranges of addresses, as page numbers.
 
 ghost use Rattle.std.specs.Prelude.{IfNone, IfSome, false, true, ◌%◌, ◌*◌, ◌+◌, ◌/◌, ◌<◌, ◌^◌, ◌≡◌, ◌≤◌};
-ghost use Rattle.nm_areas.specs.Policy.{pages_of};
-ghost use Rattle.nm_areas.specs.Refused.{is_range};
+ghost use Rattle.nm_model.specs.definitions.Areas.{pages_of};
+ghost use Rattle.nm_model.specs.definitions.AreaRefusal.{is_range};
 
 use nm_types::Vpn;
 use nm_types::limits::{PAGE_BYTES, PAGE_NUMBERS};

@@ -3,7 +3,7 @@
 ghost use Rattle.std.specs.List.Sorted.{IsStrictlySortedBy};
 ghost use Rattle.std.specs.Map.{keys_of};
 ghost use Rattle.std.specs.Prelude.{IfNone, IfSome, None, Some, length, ℕ, ◌+◌, ◌<◌, ◌≡◌, ◌≤◌};
-ghost use Rattle.nm_areas.specs.Removed.{page_in};
+ghost use Rattle.nm_model.specs.definitions.Areas.{page_in};
 ghost use Rattle.nm_areas.specs.Rests.{IsRest};
 ghost use Rattle.nm_types.specs.Map.{Map, get, page_cmp, replace, spot_cmp};
 ghost use Rattle.nm_types.specs.declared.area.Area.{Area};

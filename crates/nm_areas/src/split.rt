@@ -4,9 +4,9 @@ ghost use Rattle.std.specs.List.{AllByRecursion};
 ghost use Rattle.std.specs.List.Sorted.{IsStrictlySortedBy};
 ghost use Rattle.std.specs.Map.{keys_of};
 ghost use Rattle.std.specs.Prelude.{IfNone, IfOk, IfSome, None, OnErr, OnOk, Some, ◌+◌, ◌<◌, ◌≡◌};
-ghost use Rattle.nm_areas.specs.Mapped.{AreasAreApart, HasIndices, IsSomePages};
-ghost use Rattle.nm_areas.specs.Policy.{split_at};
-ghost use Rattle.nm_areas.specs.Table.{with_areas};
+ghost use Rattle.nm_model.specs.definitions.Areas.{AreasAreApart, HasIndices, IsSomePages};
+ghost use Rattle.nm_model.specs.definitions.Areas.{split_at};
+ghost use Rattle.nm_model.specs.views.Table.{with_areas};
 ghost use Rattle.nm_types.specs.Map.{get, replace, spot_cmp, without};
 ghost use Rattle.nm_types.specs.State.{area_over};
 

@@ -7,13 +7,13 @@ use Rattle.std.proofs.lemmas.List.{get_or-set_other, length-map, length-set}
 use Rattle.nm_types.specs.declared.errno.Errno.{Errno}
 use Rattle.nm_types.specs.declared.page.Page.{Page}
 use Rattle.nm_types.specs.State.{State}
-use Rattle.nm_runs.specs.Cut.{Stretch}
-use Rattle.nm_engine.specs.Touch.{Access, AccessAnswer}
-use Rattle.nm_engine.specs.Flight.{in_flight, all_in_flight}
-use Rattle.nm_engine.specs.Run.{each, run}
-use Rattle.nm_engine.specs.Batch.{accesses_of, runs_from}
+use Rattle.nm_model.specs.definitions.Cut.{Stretch}
+use Rattle.nm_model.specs.definitions.Touch.{Access, AccessAnswer}
+use Rattle.nm_model.specs.definitions.Touch.{in_flight, all_in_flight}
+use Rattle.nm_model.specs.definitions.Run.{each, run}
+use Rattle.nm_model.specs.definitions.Run.{accesses_of, runs_from}
 use Rattle.nm_calls.specs.Calls.{Call, MovePages, Answer, Statuses}
-use Rattle.nm_calls.specs.During.{list_at, runs_named, in_order}
+use Rattle.nm_calls.specs.Batch.{list_at, runs_named, in_order}
 use Rattle.nm_calls.specs.Systems.{SystemState}
 use Rattle.nm_calls.specs.Outcome.{refused, start, runs_asked, runs_unless, accesses_asked, ended, unless}
 use Rattle.nm_calls.specs.Laws.{EachAccessIsAnswered}

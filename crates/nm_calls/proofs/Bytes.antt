@@ -7,19 +7,19 @@ use Rattle.nm_types.specs.declared.sight.Sight.{Sight}
 use Rattle.nm_types.specs.declared.sight.Sight.TheVariants.{ZeroPage, Sees}
 use Rattle.nm_types.specs.Map.{Map}
 use Rattle.nm_types.specs.State.{State}
-use Rattle.nm_runs.specs.Cut.{Stretch}
-use Rattle.nm_runs.specs.Seen.{sight_at}
-use Rattle.nm_engine.specs.Memory.{mem}
-use Rattle.nm_engine.specs.Touch.{Access, AccessAnswer}
-use Rattle.nm_engine.specs.Effect.{with_pins}
-use Rattle.nm_engine.specs.Run.{Ran}
-use Rattle.nm_engine.specs.Batch.{runs_from}
-use Rattle.nm_engine.specs.Sound.{IsSound}
-use Rattle.nm_engine.specs.Laws.{runs_written}
-use Rattle.nm_engine.proofs.OneByOne.Memory.{runs_keep}
-use Rattle.nm_engine.proofs.Seen.Rewritten.{runs_write}
-use Rattle.nm_engine.proofs.Soundness.Policed.{policy_keeps}
-use Rattle.nm_engine.proofs.Soundness.Touched.{reading_keeps}
+use Rattle.nm_model.specs.definitions.Cut.{Stretch}
+use Rattle.nm_model.specs.definitions.Seen.{sight_at}
+use Rattle.nm_model.specs.definitions.Memory.{mem}
+use Rattle.nm_model.specs.definitions.Touch.{Access, AccessAnswer}
+use Rattle.nm_model.specs.definitions.Effect.{with_pins}
+use Rattle.nm_model.specs.definitions.Run.{Ran}
+use Rattle.nm_model.specs.definitions.Run.{runs_from}
+use Rattle.nm_model.specs.definitions.Sound.{IsSound}
+use Rattle.nm_laws.specs.Laws.{runs_written}
+use Rattle.nm_laws.proofs.OneByOne.Memory.{runs_keep}
+use Rattle.nm_laws.proofs.Seen.Rewritten.{runs_write}
+use Rattle.nm_laws.proofs.Soundness.Policed.{policy_keeps}
+use Rattle.nm_laws.proofs.Soundness.Touched.{reading_keeps}
 use Rattle.nm_calls.specs.Calls.{Call, Spawn, MapPages, Attach, Unmap, Exit, Pin, Unpin, ReadBytes, WriteBytes, MovePages, MigratePages, Query, FreeList, Pagemap, Vmstat, NumaMaps, Mbind, Offline, Online}
 use Rattle.nm_calls.specs.Binding.{binding, policed}
 use Rattle.nm_calls.specs.Offlining.{still_on}

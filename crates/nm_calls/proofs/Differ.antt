@@ -12,7 +12,8 @@ use Rattle.nm_types.specs.State.{State}
 use Rattle.nm_types.proofs.Maps.{equal, exact_page}
 use Rattle.nm_policy.specs.declared.pairing.Pair.{Pair}
 use Rattle.nm_policy.proofs.Paired.{each_set_is_paired_in_order}
-use Rattle.nm_calls.specs.Sights.{sights, pages_in}
+use Rattle.nm_model.specs.definitions.Seen.{sights}
+use Rattle.nm_calls.specs.Migrating.{pages_in}
 use Rattle.nm_calls.specs.Migrating.{once, pages_seen, is_on, pages_on}
 use Rattle.nm_calls.specs.MigrateLaws.{EachPageIsListedOnce}
 

@@ -8,14 +8,14 @@ use Rattle.nm_types.specs.declared.page.Page.{Page}
 use Rattle.nm_types.specs.Layout.{Layout, distance}
 use Rattle.nm_types.specs.Nodes.{is_in, without_node}
 use Rattle.nm_types.specs.State.{State}
-use Rattle.nm_policy.specs.Order.{insert_by_distance, zonelist}
-use Rattle.nm_runs.specs.declared.Wanted.{Wanted}
-use Rattle.nm_runs.specs.declared.Wanted.TheVariants.{Whole}
-use Rattle.nm_runs.specs.Cut.{Stretch}
-use Rattle.nm_engine.specs.Batch.{runs_from}
-use Rattle.nm_engine.specs.Effect.{set_online}
-use Rattle.nm_engine.specs.Locating.{placed_on}
-use Rattle.nm_engine.specs.Run.{IsByPage, HasOneAll}
+use Rattle.nm_model.specs.definitions.Order.{insert_by_distance, zonelist}
+use Rattle.nm_types.specs.declared.request.Wanted.{Wanted}
+use Rattle.nm_types.specs.declared.request.Wanted.TheVariants.{Whole}
+use Rattle.nm_model.specs.definitions.Cut.{Stretch}
+use Rattle.nm_model.specs.definitions.Run.{runs_from}
+use Rattle.nm_model.specs.definitions.Effect.{set_online}
+use Rattle.nm_model.specs.definitions.Seen.{placed_on}
+use Rattle.nm_model.specs.definitions.Run.{IsByPage, HasOneAll}
 use Rattle.nm_calls.specs.declared.call_error.CallError.{CallError}
 use Rattle.nm_calls.specs.declared.call_error.CallError.TheVariants.{Refused, HostMemory}
 use Rattle.nm_types.specs.declared.errno.Errno.TheVariants.{Ebusy}

@@ -14,17 +14,17 @@ use Rattle.nm_types.specs.Map.{get, page_cmp}
 use Rattle.nm_types.specs.Layout.{node_of}
 use Rattle.nm_types.specs.State.{State, page_at, free_list}
 use Rattle.nm_types.proofs.Cases.{true_false}
-use Rattle.nm_runs.specs.declared.Class.{Class}
-use Rattle.nm_runs.specs.declared.Class.TheVariants.{Status, Move}
-use Rattle.nm_runs.specs.declared.Wanted.{Wanted}
-use Rattle.nm_runs.specs.declared.Wanted.TheVariants.{At as Spot, Whole}
-use Rattle.nm_runs.specs.Seen.{sight_at, is_pinned}
-use Rattle.nm_runs.specs.Status.{code, others_see, page_status, sight_status, status_under, status_or_move}
-use Rattle.nm_runs.specs.Cut.{Stretch, in_front, cut, all_to}
-use Rattle.nm_runs.specs.Limit.{pieces_in, pieces, within, cut_within}
-use Rattle.nm_engine.specs.Run.{Decision, moved_page, decided, one, Progress, each, with_free, with_all_free, left, failures, added, counted, Ran, run}
-use Rattle.nm_engine.specs.Batch.{runs_from}
-use Rattle.nm_engine.proofs.InFlight.Elsewhere.{IsElsewhere, status_elsewhere}
+use Rattle.nm_types.specs.declared.request.Class.{Class}
+use Rattle.nm_types.specs.declared.request.Class.TheVariants.{Status, Move}
+use Rattle.nm_types.specs.declared.request.Wanted.{Wanted}
+use Rattle.nm_types.specs.declared.request.Wanted.TheVariants.{At as Spot, Whole}
+use Rattle.nm_model.specs.definitions.Seen.{sight_at, is_pinned}
+use Rattle.nm_model.specs.definitions.Status.{code, others_see, page_status, sight_status, status_under, status_or_move}
+use Rattle.nm_model.specs.definitions.Cut.{Stretch, in_front, cut, all_to}
+use Rattle.nm_model.specs.definitions.Cut.{pieces_in, pieces, within, cut_within}
+use Rattle.nm_model.specs.definitions.Run.{Decision, moved_page, decided, one, Progress, each, with_free, with_all_free, left, failures, added, counted, Ran, run}
+use Rattle.nm_model.specs.definitions.Run.{runs_from}
+use Rattle.nm_laws.proofs.InFlight.Elsewhere.{IsElsewhere, status_elsewhere}
 use Rattle.nm_calls.specs.Passes.{without_frame}
 use Rattle.nm_calls.specs.Full.{StandsOn, WouldMove, pass, rounded_up, FullNodeTakesNone, LeftWouldMove, MovesElsewhere, RunsGoByLength, NextPassTakesNone}
 use Rattle.nm_calls.proofs.Lengths.{each_layout, run_length}

@@ -6,15 +6,15 @@ use Rattle.nm_types.specs.declared.sight.Sight.{Sight}
 use Rattle.nm_types.specs.declared.sight.Sight.TheVariants.{ZeroPage, Sees}
 use Rattle.nm_types.specs.declared.page.Page.{Page}
 use Rattle.nm_types.specs.State.{State, free_list}
-use Rattle.nm_runs.specs.declared.Class.{Class}
-use Rattle.nm_runs.specs.declared.Class.TheVariants.{Status, Move}
-use Rattle.nm_runs.specs.declared.Wanted.{Wanted}
-use Rattle.nm_runs.specs.Status.{status_or_move}
-use Rattle.nm_runs.specs.Seen.{sight_at}
-use Rattle.nm_engine.specs.Touch.{Access, Read, Write, Held, Answered, access, touch, read_after, write_after, with_bytes}
-use Rattle.nm_engine.specs.Flight.{is_held, spot_of_access, in_flight, all_in_flight}
-use Rattle.nm_engine.proofs.Early.Seen.{Shows, touch_shows}
-use Rattle.nm_engine.specs.Run.{one, each, run, decided, moved_page, with_free, with_all_free, left}
+use Rattle.nm_types.specs.declared.request.Class.{Class}
+use Rattle.nm_types.specs.declared.request.Class.TheVariants.{Status, Move}
+use Rattle.nm_types.specs.declared.request.Wanted.{Wanted}
+use Rattle.nm_model.specs.definitions.Status.{status_or_move}
+use Rattle.nm_model.specs.definitions.Seen.{sight_at}
+use Rattle.nm_model.specs.definitions.Touch.{Access, Read, Write, Held, Answered, access, touch, read_after, write_after, with_bytes}
+use Rattle.nm_model.specs.definitions.Touch.{is_held, spot_of_access, in_flight, all_in_flight}
+use Rattle.nm_laws.proofs.Early.Seen.{Shows, touch_shows}
+use Rattle.nm_model.specs.definitions.Run.{one, each, run, decided, moved_page, with_free, with_all_free, left}
 
 each_length : (s : State) (target : ℕ) (ws : List Wanted) → length (each s target ws).statuses ≡ length ws
 each_length s target [] = refl

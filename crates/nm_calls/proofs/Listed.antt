@@ -3,9 +3,9 @@ use Rattle.std.proofs.Common.{◌≡◌, Bool, true, false, cond, not, List, [],
 use Rattle.std.specs.List.{AllByRecursion, IsDistinct, filter}
 use Rattle.nm_types.specs.declared.page.Page.{Page}
 use Rattle.nm_types.specs.Map.{same_page}
-use Rattle.nm_policy.specs.Order.{follows}
-use Rattle.nm_engine.specs.declared.located.Located.{Located}
-use Rattle.nm_engine.specs.Locating.{located_between}
+use Rattle.nm_model.specs.definitions.Order.{follows}
+use Rattle.nm_types.specs.declared.located.Located.{Located}
+use Rattle.nm_model.specs.definitions.Seen.{located_between}
 use Rattle.nm_calls.specs.Binding.{once, NoStrayIsListedTwice}
 
 -- a page, and those that are another one

@@ -8,18 +8,18 @@ use Rattle.nm_types.specs.Map.{Map}
 use Rattle.nm_types.specs.Nodes.{is_in}
 use Rattle.nm_types.specs.State.{State}
 use Rattle.nm_policy.specs.declared.pairing.Pair.{Pair}
-use Rattle.nm_runs.specs.declared.Wanted.TheVariants.{At}
-use Rattle.nm_runs.specs.Cut.{Request}
+use Rattle.nm_types.specs.declared.request.Wanted.TheVariants.{At}
+use Rattle.nm_model.specs.definitions.Cut.{Request}
 use Rattle.nm_types.specs.declared.errno.Errno.{Errno}
 use Rattle.nm_types.specs.Nodes.{IsNodeSet}
 use Rattle.nm_policy.specs.Pairs.{pairs}
 use Rattle.nm_policy.proofs.Paired.{each_set_is_paired_in_order}
-use Rattle.nm_runs.specs.Cut.{Stretch}
-use Rattle.nm_runs.specs.Limit.{cut_within}
-use Rattle.nm_engine.specs.declared.process.ProcessInfo.{ProcessInfo}
-use Rattle.nm_engine.specs.Run.{IsByAddress}
+use Rattle.nm_model.specs.definitions.Cut.{Stretch}
+use Rattle.nm_model.specs.definitions.Cut.{cut_within}
+use Rattle.nm_types.specs.declared.process.ProcessInfo.{ProcessInfo}
+use Rattle.nm_model.specs.definitions.Run.{IsByAddress}
 use Rattle.nm_calls.specs.Permission.{owner_of, info_at}
-use Rattle.nm_calls.specs.Sets.{usable}
+use Rattle.nm_calls.specs.Permission.{usable}
 use Rattle.nm_calls.specs.Calls.{MigratePages}
 use Rattle.nm_calls.specs.Outcome.{refused, runs_asked, runs_unless}
 use Rattle.nm_calls.specs.MigrateLaws.{RunsGoToNodesOnline}

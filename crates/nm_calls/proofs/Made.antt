@@ -3,10 +3,10 @@ use Rattle.std.proofs.Common.{◌≡◌, ℕ, Bool, true, false, ◌&&◌, inl, 
 use Rattle.std.specs.Result.{IsErrAnd}
 use Rattle.std.proofs.lemmas.Result.{err_from_is_err_and}
 use Rattle.nm_types.specs.State.{State}
-use Rattle.nm_runs.specs.Cut.{Stretch}
-use Rattle.nm_engine.specs.Run.{Ran}
-use Rattle.nm_engine.specs.Touch.{Access}
-use Rattle.nm_engine.specs.Batch.{runs_from}
+use Rattle.nm_model.specs.definitions.Cut.{Stretch}
+use Rattle.nm_model.specs.definitions.Run.{Ran}
+use Rattle.nm_model.specs.definitions.Touch.{Access}
+use Rattle.nm_model.specs.definitions.Run.{runs_from}
 use Rattle.nm_calls.specs.declared.call_error.CallError.{CallError}
 use Rattle.nm_calls.specs.declared.call_error.CallError.TheVariants.{Refused, HostMemory}
 use Rattle.nm_calls.specs.declared.call.Moved.{Moved}
@@ -15,7 +15,7 @@ use Rattle.nm_calls.specs.Does.{Moves}
 use Rattle.nm_calls.specs.Making.{Batches, Stops, Keeps, Empties}
 use Rattle.std.specs.List.{list_any}
 use Rattle.nm_types.specs.Nodes.{is_in}
-use Rattle.nm_engine.specs.Locating.{placed_on}
+use Rattle.nm_model.specs.definitions.Seen.{placed_on}
 use Rattle.nm_calls.specs.Migrating.{is_on}
 use Rattle.nm_types.specs.declared.page.Page.{Page}
 use Rattle.nm_calls.specs.Offlining.{still_on}

@@ -5,17 +5,17 @@ use Rattle.std.specs.List.{AllByRecursion, filter, zip}
 use Rattle.std.specs.Ordering.{int_eq}
 use Rattle.nm_types.specs.declared.errno.Errno.TheVariants.{Enomem}
 use Rattle.nm_types.specs.State.{State}
-use Rattle.nm_runs.specs.declared.Wanted.{Wanted}
-use Rattle.nm_runs.specs.Status.{code}
-use Rattle.nm_runs.specs.Cut.{Request, Stretch, all_to, joined, size_of, wanted_of}
-use Rattle.nm_runs.specs.Limit.{cut_within}
+use Rattle.nm_types.specs.declared.request.Wanted.{Wanted}
+use Rattle.nm_model.specs.definitions.Status.{code}
+use Rattle.nm_model.specs.definitions.Cut.{Request, Stretch, all_to, joined, size_of, wanted_of}
+use Rattle.nm_model.specs.definitions.Cut.{cut_within}
 use Rattle.nm_runs.proofs.Pieces.{each_limit_cuts}
 use Rattle.std.specs.Prelude.{◌^◌, ◌==◌, drop, Err}
 use Rattle.std.proofs.lemmas.Bool.{eqb-true, eq-eqb, cases_lt}
 use Rattle.nm_types.proofs.Cases.{true_false}
 use Rattle.std.proofs.Math.Seq.{drop-cons}
-use Rattle.nm_engine.specs.Run.{Ran, run, IsByAddress, IsByPage, HasOneAll}
-use Rattle.nm_engine.specs.Batch.{runs_from}
+use Rattle.nm_model.specs.definitions.Run.{Ran, run, IsByAddress, IsByPage, HasOneAll}
+use Rattle.nm_model.specs.definitions.Run.{runs_from}
 use Rattle.nm_calls.specs.Outcome.{states_of}
 use Rattle.nm_calls.specs.Passes.{passes, without_frame}
 use Rattle.nm_calls.specs.declared.call_error.CallError.{CallError}

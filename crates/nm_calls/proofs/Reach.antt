@@ -6,7 +6,7 @@ use Rattle.std.specs.List.{AllByRecursion, filter, list_all}
 use Rattle.nm_types.specs.Layout.{node_count}
 use Rattle.nm_types.specs.Nodes.{is_in}
 use Rattle.nm_types.specs.State.{State}
-use Rattle.nm_calls.specs.Sets.{names_missing_node, goes_beyond, usable, is_none}
+use Rattle.nm_calls.specs.Permission.{names_missing_node, goes_beyond, usable, is_none}
 
 -- a set goes beyond another one where it is not within it
 pub beyond_is : (allowed ns : List ℕ) → goes_beyond allowed ns ≡ not (list_all (is_in allowed) ns)

@@ -5,11 +5,12 @@ use Rattle.std.specs.Prelude.{slice_index}
 use Rattle.std.proofs.lemmas.List.Sums.{sum_by-cons}
 use Rattle.std.specs.List.{AllByRecursion, sum_by}
 use Rattle.nm_runs.specs.declared.Run.{Run}
-use Rattle.nm_runs.specs.declared.Wanted.{Wanted}
-use Rattle.nm_runs.specs.Cut.{Request, Stretch, all_to, joined, size_of, stretches_of, wanted_of}
-use Rattle.nm_runs.specs.Limit.{cut_within}
+use Rattle.nm_types.specs.declared.request.Wanted.{Wanted}
+use Rattle.nm_model.specs.definitions.Cut.{Request, Stretch, all_to, joined, size_of, wanted_of}
+use Rattle.nm_runs.specs.Stretches.{stretches_of}
+use Rattle.nm_model.specs.definitions.Cut.{cut_within}
 use Rattle.nm_runs.proofs.Pieces.{each_limit_cuts}
-use Rattle.nm_engine.specs.Run.{IsByAddress, IsByPage, HasOneAll}
+use Rattle.nm_model.specs.definitions.Run.{IsByAddress, IsByPage, HasOneAll}
 use Rattle.nm_engine.proofs.OneByOne.Alike.{each_has_one_all}
 use Rattle.nm_calls.specs.Batch.{requests_of}
 

@@ -7,15 +7,15 @@ use Rattle.nm_types.specs.declared.area.Policy.{Policy}
 use Rattle.nm_types.specs.declared.area.Policy.TheVariants.{Default, Preferred, Bind, Interleave, Local}
 use Rattle.nm_types.specs.Nodes.{is_in}
 use Rattle.nm_types.specs.State.{State}
-use Rattle.nm_areas.specs.Mapped.{Mapped}
+use Rattle.nm_model.specs.definitions.Areas.{Mapped}
 use Rattle.nm_policy.specs.declared.targets.Sent.{Sent}
 use Rattle.nm_policy.specs.declared.targets.Stray.{Stray}
-use Rattle.nm_policy.specs.Order.{zonelist}
+use Rattle.nm_model.specs.definitions.Order.{zonelist}
 use Rattle.nm_policy.specs.Turns.{sent, sent_to, by_turns}
-use Rattle.nm_runs.specs.Cut.{wanted_of}
-use Rattle.nm_engine.specs.declared.located.Located.{Located}
-use Rattle.nm_engine.specs.Effect.{with_areas_of}
-use Rattle.nm_engine.specs.Run.{IsByAddress, HasOneAll}
+use Rattle.nm_model.specs.definitions.Cut.{wanted_of}
+use Rattle.nm_types.specs.declared.located.Located.{Located}
+use Rattle.nm_model.specs.definitions.Effect.{with_areas_of}
+use Rattle.nm_model.specs.definitions.Run.{IsByAddress, HasOneAll}
 use Rattle.nm_calls.specs.Passes.{passes}
 use Rattle.nm_calls.specs.Binding.{spots, each_to, nodes_tried, runs_by}
 use Rattle.nm_calls.specs.Making.{nodes_named}

@@ -20,14 +20,14 @@ use Rattle.nm_types.specs.Layout.{node_of}
 use Rattle.nm_types.specs.Nodes.{is_in}
 use Rattle.nm_types.specs.State.{State, page_at, free_list}
 use Rattle.nm_types.proofs.Cases.{true_false, some_is}
-use Rattle.nm_runs.specs.declared.Class.TheVariants.{Status, Move}
-use Rattle.nm_runs.specs.declared.Wanted.{Wanted}
-use Rattle.nm_runs.specs.declared.Wanted.TheVariants.{At as Spot, Whole}
-use Rattle.nm_runs.specs.Seen.{sight_at, is_pinned, look_at_place, look_by_sight, look_behind}
-use Rattle.nm_runs.specs.Status.{code, others_see, page_status, sight_status, status_under}
-use Rattle.nm_engine.specs.Asking.{node_of_look, node_status}
-use Rattle.nm_engine.specs.Touch.{has_free}
-use Rattle.nm_engine.specs.Run.{counted}
+use Rattle.nm_types.specs.declared.request.Class.TheVariants.{Status, Move}
+use Rattle.nm_types.specs.declared.request.Wanted.{Wanted}
+use Rattle.nm_types.specs.declared.request.Wanted.TheVariants.{At as Spot, Whole}
+use Rattle.nm_model.specs.definitions.Seen.{sight_at, is_pinned, look_at_place, look_by_sight, look_behind}
+use Rattle.nm_model.specs.definitions.Status.{code, others_see, page_status, sight_status, status_under}
+use Rattle.nm_model.specs.definitions.Status.{node_of_look, node_status}
+use Rattle.nm_model.specs.definitions.Touch.{has_free}
+use Rattle.nm_model.specs.definitions.Run.{counted}
 use Rattle.nm_calls.specs.Full.{StandsOn, StandAmong, HasFailed, WouldMove}
 use Rattle.nm_calls.proofs.Full.{class_counted, all_elsewhere_move}
 use Rattle.nm_calls.proofs.Passing.{nothing_is}

@@ -16,18 +16,18 @@ use Rattle.nm_types.specs.Layout.{node_count}
 use Rattle.nm_types.specs.Nodes.{without_node}
 use Rattle.nm_types.specs.State.{State}
 use Rattle.nm_types.proofs.Cases.{some_none}
-use Rattle.nm_runs.specs.Cut.{Stretch}
-use Rattle.nm_engine.specs.Batch.{accesses_of, runs_from}
-use Rattle.nm_engine.specs.Effect.{set_online}
-use Rattle.nm_engine.specs.Run.{Ran, run}
-use Rattle.nm_engine.specs.Sound.{IsSound}
-use Rattle.nm_engine.specs.Touch.{Access, Read, Write}
-use Rattle.nm_engine.proofs.Soundness.Called.{spawn_sound, map_sound, attach_sound, pin_sound, unpin_sound}
-use Rattle.nm_engine.proofs.Soundness.Dropped.{unmap_sound, exit_sound}
-use Rattle.nm_engine.proofs.Soundness.Online.{online_sound, changed_below}
-use Rattle.nm_engine.proofs.Soundness.Policed.{policy_sound}
-use Rattle.nm_engine.proofs.Soundness.Ran.{run_sound}
-use Rattle.nm_engine.proofs.Soundness.Touched.{access_sound}
+use Rattle.nm_model.specs.definitions.Cut.{Stretch}
+use Rattle.nm_model.specs.definitions.Run.{accesses_of, runs_from}
+use Rattle.nm_model.specs.definitions.Effect.{set_online}
+use Rattle.nm_model.specs.definitions.Run.{Ran, run}
+use Rattle.nm_model.specs.definitions.Sound.{IsSound}
+use Rattle.nm_model.specs.definitions.Touch.{Access, Read, Write}
+use Rattle.nm_laws.proofs.Soundness.Called.{spawn_sound, map_sound, attach_sound, pin_sound, unpin_sound}
+use Rattle.nm_laws.proofs.Soundness.Dropped.{unmap_sound, exit_sound}
+use Rattle.nm_laws.proofs.Soundness.Online.{online_sound, changed_below}
+use Rattle.nm_laws.proofs.Soundness.Policed.{policy_sound}
+use Rattle.nm_laws.proofs.Soundness.Ran.{run_sound}
+use Rattle.nm_laws.proofs.Soundness.Touched.{access_sound}
 use Rattle.nm_calls.specs.Calls.{Call, Spawn, MapPages, Attach, Unmap, Exit, Pin, Unpin, ReadBytes, WriteBytes, MovePages, MigratePages, Query, FreeList, Pagemap, Vmstat, NumaMaps, Mbind, Offline, Online}
 use Rattle.nm_calls.specs.Binding.{binding}
 use Rattle.nm_calls.specs.Offlining.{still_on, online_refusal}

@@ -9,7 +9,7 @@ use Rattle.std.proofs.lemmas.List.Folds.{list_any-append}
 use Rattle.std.proofs.lemmas.List.Elements.{filter-append}
 use Rattle.nm_types.specs.declared.page.Page.{Page}
 use Rattle.nm_types.specs.Map.{page_cmp, same_page}
-use Rattle.nm_engine.specs.declared.located.Located.{Located}
+use Rattle.nm_types.specs.declared.located.Located.{Located}
 use Rattle.nm_calls.specs.Binding.{once}
 
 -- whether a page is among some

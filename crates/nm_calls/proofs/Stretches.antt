@@ -7,10 +7,11 @@ use Rattle.std.specs.List.{sum_by}
 use Rattle.std.specs.Prelude.{◌-◌}
 use Rattle.nm_types.specs.State.{State}
 use Rattle.nm_runs.specs.declared.Run.{Run}
-use Rattle.nm_runs.specs.Cut.{Stretch, stretches_of}
-use Rattle.nm_engine.specs.Touch.{Access, AccessAnswer}
-use Rattle.nm_engine.specs.Run.{run}
-use Rattle.nm_engine.specs.Batch.{accesses_of, runs_from}
+use Rattle.nm_model.specs.definitions.Cut.{Stretch}
+use Rattle.nm_runs.specs.Stretches.{stretches_of}
+use Rattle.nm_model.specs.definitions.Touch.{Access, AccessAnswer}
+use Rattle.nm_model.specs.definitions.Run.{run}
+use Rattle.nm_model.specs.definitions.Run.{accesses_of, runs_from}
 use Rattle.nm_calls.proofs.Meanwhile.{append_none}
 
 -- k runs of a batch are made, each with its accesses, and these are left

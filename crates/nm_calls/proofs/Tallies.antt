@@ -10,7 +10,7 @@ use Rattle.std.specs.Cmp.{nat_cmp_is}
 use Rattle.std.specs.declared.cmp.Ordering.{Ordering}
 use Rattle.std.specs.declared.cmp.Ordering.TheVariants.{Less, Equal, Greater}
 use Rattle.nm_types.proofs.Cases.{true_false}
-use Rattle.nm_runs.specs.Seen.{users}
+use Rattle.nm_model.specs.definitions.Seen.{users}
 use Rattle.std.specs.Prelude.{All, ◌^◌, map}
 use Rattle.std.specs.List.{AllByRecursion, filter}
 use Rattle.std.proofs.Common.{subst}
@@ -20,11 +20,11 @@ use Rattle.nm_types.specs.declared.area.Area.{Area}
 use Rattle.nm_types.specs.declared.area.Segment.{Segment}
 use Rattle.nm_areas.specs.declared.lines.Line.{Line}
 use Rattle.nm_areas.specs.Lines.{line_of, lines_of}
-use Rattle.nm_engine.specs.Sound.{IsSound, IsWhole}
+use Rattle.nm_model.specs.definitions.Sound.{IsSound, IsWhole}
 use Rattle.nm_types.specs.Layout.{node_count}
 use Rattle.nm_types.specs.Nodes.{up_from}
 use Rattle.nm_types.specs.State.{State}
-use Rattle.nm_engine.specs.declared.located.Located.{Located}
+use Rattle.nm_types.specs.declared.located.Located.{Located}
 use Rattle.nm_calls.specs.declared.maps.Tally.{Tally}
 use Rattle.nm_calls.specs.Maps.{told_from, count_on, node_text, most_users, pages_text}
 use Rattle.nm_calls.specs.Tallied.{nodes_text, counts_text, tally_text}

@@ -1,10 +1,10 @@
 -- The trail of a call: its states are those after its first runs.
 use Rattle.std.proofs.Common.{arith, ◌≡◌, ℕ, zero, suc, ◌+◌, ◌≤◌, List, [], ◌∷◌, length, take, refl, slice_index_or}
 use Rattle.nm_types.specs.State.{State}
-use Rattle.nm_runs.specs.Cut.{Stretch}
-use Rattle.nm_engine.specs.Touch.{Access}
-use Rattle.nm_engine.specs.Run.{run}
-use Rattle.nm_engine.specs.Batch.{accesses_of, runs_from}
+use Rattle.nm_model.specs.definitions.Cut.{Stretch}
+use Rattle.nm_model.specs.definitions.Touch.{Access}
+use Rattle.nm_model.specs.definitions.Run.{run}
+use Rattle.nm_model.specs.definitions.Run.{accesses_of, runs_from}
 use Rattle.nm_calls.specs.Outcome.{states_from, runs_of, accesses_asked, refused, start, started}
 use Rattle.nm_calls.specs.Laws.{TrailIsAfterRuns}
 

@@ -2,15 +2,15 @@
 use Rattle.std.proofs.Common.{◌≡◌, ℕ, ◌+◌, List, [], ◌∷◌, ◌++◌, length, refl, ap, ◌∙◌}
 use Rattle.nm_types.specs.State.{State, free_list}
 use Rattle.nm_types.specs.declared.page.Page.{Page}
-use Rattle.nm_runs.specs.declared.Class.{Class}
-use Rattle.nm_runs.specs.declared.Class.TheVariants.{Status, Move}
-use Rattle.nm_runs.specs.declared.Wanted.{Wanted}
-use Rattle.nm_runs.specs.declared.Wanted.TheVariants.{At as Spot, Whole}
-use Rattle.nm_runs.specs.Status.{status_or_move}
-use Rattle.nm_runs.specs.Cut.{Stretch, all_to}
-use Rattle.nm_engine.specs.Run.{Decision, moved_page, decided, one, Progress, each, with_free, with_all_free, left, failures, counted, Ran, run}
-use Rattle.nm_engine.specs.Batch.{runs_from}
-use Rattle.nm_runs.specs.Limit.{cut_within}
+use Rattle.nm_types.specs.declared.request.Class.{Class}
+use Rattle.nm_types.specs.declared.request.Class.TheVariants.{Status, Move}
+use Rattle.nm_types.specs.declared.request.Wanted.{Wanted}
+use Rattle.nm_types.specs.declared.request.Wanted.TheVariants.{At as Spot, Whole}
+use Rattle.nm_model.specs.definitions.Status.{status_or_move}
+use Rattle.nm_model.specs.definitions.Cut.{Stretch, all_to}
+use Rattle.nm_model.specs.definitions.Run.{Decision, moved_page, decided, one, Progress, each, with_free, with_all_free, left, failures, counted, Ran, run}
+use Rattle.nm_model.specs.definitions.Run.{runs_from}
+use Rattle.nm_model.specs.definitions.Cut.{cut_within}
 use Rattle.nm_calls.specs.Passes.{without_frame, passes}
 use Rattle.nm_calls.specs.Offlining.{with_online, RunsIgnoreOnline}
 

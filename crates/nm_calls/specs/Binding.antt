@@ -12,22 +12,22 @@ use Rattle.nm_types.specs.Nodes.{is_in}
 use Rattle.nm_types.specs.State.{State}
 use Rattle.nm_policy.specs.declared.targets.Sent.{Sent}
 use Rattle.nm_policy.specs.declared.targets.Stray.{Stray}
-use Rattle.nm_policy.specs.Order.{zonelist, follows}
+use Rattle.nm_model.specs.definitions.Order.{zonelist, follows}
 use Rattle.nm_policy.specs.Turns.{by_turns}
-use Rattle.nm_runs.specs.declared.Wanted.{Wanted}
-use Rattle.nm_runs.specs.declared.Wanted.TheVariants.{At}
-use Rattle.nm_runs.specs.Cut.{Request, Stretch}
-use Rattle.nm_runs.specs.Limit.{cut_within}
+use Rattle.nm_types.specs.declared.request.Wanted.{Wanted}
+use Rattle.nm_types.specs.declared.request.Wanted.TheVariants.{At}
+use Rattle.nm_model.specs.definitions.Cut.{Request, Stretch}
+use Rattle.nm_model.specs.definitions.Cut.{cut_within}
 use Rattle.nm_runs.specs.Targets.{earlier}
-use Rattle.nm_engine.specs.declared.located.Located.{Located}
-use Rattle.nm_engine.specs.declared.ProcessInfo.{ProcessInfo}
-use Rattle.nm_engine.specs.Locating.{located_between}
-use Rattle.nm_engine.specs.Policing.{pages_of, policy_refusal, set_policy}
-use Rattle.nm_engine.specs.Refused.{first_error}
+use Rattle.nm_types.specs.declared.located.Located.{Located}
+use Rattle.nm_types.specs.declared.process.ProcessInfo.{ProcessInfo}
+use Rattle.nm_model.specs.definitions.Seen.{located_between}
+use Rattle.nm_model.specs.definitions.Effect.{pages_of, policy_refusal, set_policy}
+use Rattle.nm_model.specs.definitions.Effect.{first_error}
 use Rattle.nm_calls.specs.declared.binding.Binding.{Binding}
 use Rattle.nm_calls.specs.Permission.{moves_all, info_at}
 use Rattle.nm_calls.specs.Passes.{passes}
-use Rattle.nm_calls.specs.Sets.{names_missing_node, usable, is_none}
+use Rattle.nm_calls.specs.Permission.{names_missing_node, usable, is_none}
 
 -- the modes by their numbers
 abbrev pub MPOL_DEFAULT : ℕ

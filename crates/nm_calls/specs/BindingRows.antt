@@ -3,11 +3,11 @@ use Rattle.std.specs.Prelude.{◌≡◌, ℕ, ◌+◌, false, true, List, [], �
 use Rattle.nm_types.specs.declared.errno.Errno.TheVariants.{Eperm, Esrch, Eio, Enomem, Efault, Einval}
 use Rattle.nm_types.specs.Layout.{Layout}
 use Rattle.nm_types.specs.State.{State}
-use Rattle.nm_runs.specs.Cut.{Stretch}
-use Rattle.nm_engine.specs.Effect.{new_machine, spawn, map_new, attach, pin}
-use Rattle.nm_engine.specs.Refused.{map_refusal}
-use Rattle.nm_engine.specs.Touch.{read, write, Bytes, Refused}
-use Rattle.nm_engine.specs.Examples.{A, B, C, D, E, three_nodes, one_process, with_second, wrote, three_pages, seen_by_two, frame_at}
+use Rattle.nm_model.specs.definitions.Cut.{Stretch}
+use Rattle.nm_model.specs.definitions.Effect.{new_machine, spawn, map_new, attach, pin}
+use Rattle.nm_model.specs.definitions.Effect.{map_refusal}
+use Rattle.nm_model.specs.definitions.Touch.{read, write, Bytes, Refused}
+use Rattle.nm_model.specs.examples.{A, B, C, D, E, three_nodes, one_process, with_second, wrote, three_pages, seen_by_two, frame_at}
 use Rattle.nm_calls.specs.Calls.{Call, Mbind, Answer, Refusal, Failed}
 use Rattle.nm_calls.specs.Outcome.{Outcome, outcome, runs_of, after_runs}
 use Rattle.nm_calls.specs.Systems.{SystemState, default_limit}

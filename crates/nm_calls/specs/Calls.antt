@@ -1,7 +1,7 @@
 -- What can be asked of the machine, and its answers.
 use Rattle.std.specs.Prelude.{ℕ, ℤ, Bool, List, Option}
 use Rattle.nm_types.specs.declared.errno.Errno.{Errno}
-use Rattle.nm_engine.specs.Touch.{Access, AccessAnswer}
+use Rattle.nm_model.specs.definitions.Touch.{Access, AccessAnswer}
 
 -- a call and its arguments; a set of nodes is the list of its nodes in ascending order
 pub data Call : Type 0 where

@@ -2,15 +2,15 @@
 use Rattle.std.specs.Prelude.{◌≡◌, ◌⊎◌, ℕ, ◌<◌, ◌≤◌, ◌-◌, Bool, false, List, length, map, slice_index_or, None, Result, Ok, Err}
 use Rattle.nm_types.specs.declared.errno.Errno.{Errno}
 use Rattle.nm_types.specs.State.{State}
-use Rattle.nm_runs.specs.Cut.{Stretch}
-use Rattle.nm_engine.specs.Touch.{Access}
-use Rattle.nm_engine.specs.Batch.{runs_from, answer_of}
+use Rattle.nm_model.specs.definitions.Cut.{Stretch}
+use Rattle.nm_model.specs.definitions.Touch.{Access}
+use Rattle.nm_model.specs.definitions.Run.{runs_from, answer_of}
 use Rattle.nm_engine.specs.Answering.{answer_shown}
 use Rattle.nm_calls.specs.declared.call_error.CallError.{CallError}
 use Rattle.nm_calls.specs.declared.call_error.CallError.TheVariants.{Refused, HostMemory}
 use Rattle.nm_calls.specs.declared.call.Moved.{Moved}
 use Rattle.nm_calls.specs.Calls.{Call, Answer, Refusal}
-use Rattle.nm_calls.specs.During.{runs_named, in_order}
+use Rattle.nm_calls.specs.Batch.{runs_named, in_order}
 use Rattle.nm_calls.specs.Systems.{SystemState}
 use Rattle.nm_calls.specs.Outcome.{refused_at_once, outcome, sets_policy, runs_of, after_runs, states_from}
 

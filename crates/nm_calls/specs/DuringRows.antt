@@ -2,10 +2,10 @@
 use Rattle.std.specs.Prelude.{◌≡◌, ℕ, false, pos, List, [], ◌∷◌, Some, None}
 use Rattle.nm_types.specs.declared.errno.Errno.TheVariants.{Esrch, Einval, Enomem, Enodev}
 use Rattle.nm_types.specs.State.{State}
-use Rattle.nm_runs.specs.Status.{code}
-use Rattle.nm_engine.specs.Effect.{map_new, attach}
-use Rattle.nm_engine.specs.Touch.{Access, Read, Write, Bytes, Done, Held, Refused}
-use Rattle.nm_engine.specs.Examples.{A, B, C, D, E, three_pages, four_of_five, six_pages, shared_page, frame_at}
+use Rattle.nm_model.specs.definitions.Status.{code}
+use Rattle.nm_model.specs.definitions.Effect.{map_new, attach}
+use Rattle.nm_model.specs.definitions.Touch.{Access, Read, Write, Bytes, Done, Held, Refused}
+use Rattle.nm_model.specs.examples.{A, B, C, D, E, three_pages, four_of_five, six_pages, shared_page, frame_at}
 use Rattle.nm_calls.specs.Calls.{MovePages, Statuses, Refusal}
 use Rattle.nm_calls.specs.Systems.{SystemState}
 use Rattle.nm_calls.specs.Outcome.{Outcome, outcome}

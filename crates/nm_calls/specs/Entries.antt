@@ -1,7 +1,7 @@
 -- Entries of a process, by page number.
 use Rattle.std.specs.Prelude.{ℕ, List, map, Option, Some, None}
-use Rattle.nm_engine.specs.declared.Entry.{Entry}
-use Rattle.nm_engine.specs.declared.Entry.TheVariants.{Zero, Frame, Held}
+use Rattle.nm_types.specs.declared.entry.Entry.{Entry}
+use Rattle.nm_types.specs.declared.entry.Entry.TheVariants.{Zero, Frame, Held}
 use Rattle.nm_calls.specs.declared.call.PagemapEntry.{PagemapEntry}
 
 -- the frame of an entry, or none for the page of zeros

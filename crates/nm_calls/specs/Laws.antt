@@ -3,14 +3,14 @@ use Rattle.std.specs.Prelude.{◌≡◌, ◌⊎◌, ℕ, ◌<◌, ◌≤◌, ℤ
 use Rattle.std.specs.List.{AllByRecursion}
 use Rattle.nm_types.specs.declared.errno.Errno.{Errno}
 use Rattle.nm_types.specs.State.{State}
-use Rattle.nm_runs.specs.Cut.{Stretch}
-use Rattle.nm_engine.specs.Memory.{mem}
-use Rattle.nm_engine.specs.Touch.{Access, AccessAnswer}
-use Rattle.nm_engine.specs.Batch.{runs_from}
-use Rattle.nm_engine.specs.Sound.{IsSound}
-use Rattle.nm_engine.specs.Laws.{runs_written}
+use Rattle.nm_model.specs.definitions.Cut.{Stretch}
+use Rattle.nm_model.specs.definitions.Memory.{mem}
+use Rattle.nm_model.specs.definitions.Touch.{Access, AccessAnswer}
+use Rattle.nm_model.specs.definitions.Run.{runs_from}
+use Rattle.nm_model.specs.definitions.Sound.{IsSound}
+use Rattle.nm_laws.specs.Laws.{runs_written}
 use Rattle.nm_calls.specs.Calls.{Call, MapPages, Attach, Unmap, Exit, WriteBytes, MovePages, Mbind, Offline, Refusal, Statuses}
-use Rattle.nm_calls.specs.During.{runs_named, in_order, by_place}
+use Rattle.nm_calls.specs.Batch.{runs_named, in_order, by_place}
 use Rattle.nm_calls.specs.Systems.{SystemState}
 use Rattle.nm_calls.specs.Outcome.{refused, start, started, outcome, runs_of, accesses_asked, trail}
 use Rattle.nm_calls.specs.Binding.{tells_late}

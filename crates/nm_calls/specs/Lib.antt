@@ -1,5 +1,4 @@
 pub mod Calls
-pub mod During
 pub mod DuringRows
 pub mod Errors
 pub mod Maps
@@ -7,8 +6,6 @@ pub mod Tallied
 pub mod Entries
 pub mod Permission
 pub mod Batch
-pub mod Sets
-pub mod Sights
 pub mod Migrating
 pub mod Listing
 pub mod Systems

@@ -5,11 +5,11 @@ use Rattle.nm_types.specs.declared.area.Policy.{Policy}
 use Rattle.nm_types.specs.declared.area.Policy.TheVariants.{Default, Preferred, Bind, Interleave, Local}
 use Rattle.nm_types.specs.declared.errno.Errno.TheVariants.{Eio, Ebusy}
 use Rattle.nm_types.specs.State.{State}
-use Rattle.nm_runs.specs.Cut.{Stretch, wanted_of}
-use Rattle.nm_runs.specs.Limit.{cut_within}
-use Rattle.nm_engine.specs.Run.{Ran, HasOneAll}
-use Rattle.nm_engine.specs.Batch.{runs_from}
-use Rattle.nm_engine.specs.Effect.{set_online}
+use Rattle.nm_model.specs.definitions.Cut.{Stretch, wanted_of}
+use Rattle.nm_model.specs.definitions.Cut.{cut_within}
+use Rattle.nm_model.specs.definitions.Run.{Ran, HasOneAll}
+use Rattle.nm_model.specs.definitions.Run.{runs_from}
+use Rattle.nm_model.specs.definitions.Effect.{set_online}
 use Rattle.nm_calls.specs.declared.binding.Binding.{Binding}
 use Rattle.nm_calls.specs.declared.passes.Left.{Left}
 use Rattle.nm_calls.specs.declared.ways.Way.{Way}

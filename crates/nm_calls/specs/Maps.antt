@@ -7,11 +7,11 @@ use Rattle.nm_types.specs.declared.area.Policy.TheVariants.{Default, Preferred, 
 use Rattle.nm_types.specs.Layout.{node_count}
 use Rattle.nm_types.specs.Nodes.{up_from}
 use Rattle.nm_types.specs.State.{State}
-use Rattle.nm_runs.specs.Seen.{users}
+use Rattle.nm_model.specs.definitions.Seen.{users}
 use Rattle.nm_areas.specs.declared.lines.Line.{Line}
 use Rattle.nm_areas.specs.Lines.{lines_of}
-use Rattle.nm_engine.specs.declared.located.Located.{Located}
-use Rattle.nm_engine.specs.Locating.{located_between}
+use Rattle.nm_types.specs.declared.located.Located.{Located}
+use Rattle.nm_model.specs.definitions.Seen.{located_between}
 
 -- a node is the first of the stretch after it, or a stretch of one
 abbrev pub node_in_front : ℕ → List (ℕ × ℕ) → List (ℕ × ℕ)

@@ -3,8 +3,8 @@ use Rattle.std.specs.Prelude.{◌≡◌, ℕ, false, true, List, [], ◌∷◌, 
 use Rattle.nm_types.specs.declared.errno.Errno.TheVariants.{Eperm, Esrch, Einval}
 use Rattle.nm_types.specs.Layout.{Layout}
 use Rattle.nm_types.specs.State.{State}
-use Rattle.nm_engine.specs.Effect.{new_machine, spawn, map_new, pin}
-use Rattle.nm_engine.specs.Examples.{A, B, C, one_process, with_second, wrote, three_pages, two_addresses, six_pages, seen_by_two, on_two_of_three, frame_at}
+use Rattle.nm_model.specs.definitions.Effect.{new_machine, spawn, map_new, pin}
+use Rattle.nm_model.specs.examples.{A, B, C, one_process, with_second, wrote, three_pages, two_addresses, six_pages, seen_by_two, on_two_of_three, frame_at}
 use Rattle.nm_calls.specs.Systems.{SystemState, default_limit}
 use Rattle.nm_calls.specs.Calls.{Call, MigratePages, Answer, Failed}
 use Rattle.nm_calls.specs.Outcome.{refused, outcome, trail}

@@ -6,16 +6,16 @@ use Rattle.nm_types.specs.declared.errno.Errno.TheVariants.{Ebusy, Einval}
 use Rattle.nm_types.specs.Layout.{node_count}
 use Rattle.nm_types.specs.Nodes.{is_in, without_node}
 use Rattle.nm_types.specs.State.{State}
-use Rattle.nm_policy.specs.Order.{zonelist}
-use Rattle.nm_runs.specs.declared.Wanted.{Wanted}
-use Rattle.nm_runs.specs.declared.Wanted.TheVariants.{Whole}
-use Rattle.nm_runs.specs.Cut.{Stretch}
-use Rattle.nm_engine.specs.Batch.{runs_from}
-use Rattle.nm_engine.specs.Locating.{placed_on}
-use Rattle.nm_engine.specs.Refused.{first_error}
+use Rattle.nm_model.specs.definitions.Order.{zonelist}
+use Rattle.nm_types.specs.declared.request.Wanted.{Wanted}
+use Rattle.nm_types.specs.declared.request.Wanted.TheVariants.{Whole}
+use Rattle.nm_model.specs.definitions.Cut.{Stretch}
+use Rattle.nm_model.specs.definitions.Run.{runs_from}
+use Rattle.nm_model.specs.definitions.Seen.{placed_on}
+use Rattle.nm_model.specs.definitions.Effect.{first_error}
 use Rattle.nm_calls.specs.Migrating.{is_on}
 use Rattle.nm_calls.specs.Passes.{passes}
-use Rattle.nm_calls.specs.Sets.{is_none}
+use Rattle.nm_calls.specs.Permission.{is_none}
 
 -- no such node; the only one that is online
 abbrev pub offline_refusal : State → ℕ → Option Errno

@@ -2,23 +2,23 @@
 use Rattle.std.specs.Prelude.{ℕ, ℤ, ◌+◌, ◌/◌, Bool, true, false, ◌&&◌, if◌then◌else◌, List, [], ◌∷◌, length, map, slice_index_or, Option, Some, None}
 use Rattle.nm_types.specs.declared.errno.Errno.{Errno}
 use Rattle.nm_types.specs.State.{State, free_list}
-use Rattle.nm_runs.specs.Cut.{Stretch}
-use Rattle.nm_runs.specs.Limit.{cut_within}
-use Rattle.nm_engine.specs.Touch.{Access, read, write, spot_refusal}
-use Rattle.nm_engine.specs.Touch as engine
-use Rattle.nm_engine.specs.Effect.{set_online, spawn, map_new, attach, unmap, exit, pin, unpin}
-use Rattle.nm_engine.specs.Refused.{spawn_refusal, map_refusal, attach_refusal, unmap_refusal, exit_refusal, pin_refusal, unpin_refusal, list_refusal, entries_refusal}
-use Rattle.nm_engine.specs.Run.{Ran, run}
-use Rattle.nm_engine.specs.Batch.{accesses_of, runs_from, answer_of}
-use Rattle.nm_engine.specs.Entries.{entries_of}
-use Rattle.nm_engine.specs.Asking.{node_status}
+use Rattle.nm_model.specs.definitions.Cut.{Stretch}
+use Rattle.nm_model.specs.definitions.Cut.{cut_within}
+use Rattle.nm_model.specs.definitions.Touch.{Access, read, write, spot_refusal}
+use Rattle.nm_model.specs.definitions.Touch as engine
+use Rattle.nm_model.specs.definitions.Effect.{set_online, spawn, map_new, attach, unmap, exit, pin, unpin}
+use Rattle.nm_model.specs.definitions.Effect.{spawn_refusal, map_refusal, attach_refusal, unmap_refusal, exit_refusal, pin_refusal, unpin_refusal, list_refusal, entries_refusal}
+use Rattle.nm_model.specs.definitions.Run.{Ran, run}
+use Rattle.nm_model.specs.definitions.Run.{accesses_of, runs_from, answer_of}
+use Rattle.nm_model.specs.definitions.PageTables.{entries_of}
+use Rattle.nm_model.specs.definitions.Status.{node_status}
 use Rattle.nm_calls.specs.Calls.{Call, Spawn, MapPages, Attach, Unmap, Exit, Pin, Unpin, ReadBytes, WriteBytes, MovePages, MigratePages, Query, FreeList, Pagemap, Vmstat, NumaMaps, Mbind, Offline, Online, Answer, Refusal, Done, Held, NewSegment, TheBytes, Statuses, Failed, Frames, Entries, TheTotals, Lines}
 use Rattle.nm_calls.specs.Entries.{entries_shown}
 use Rattle.nm_calls.specs.Maps.{numa_maps}
 use Rattle.nm_calls.specs.Permission.{query_refusal, moves_all, owner_of}
 use Rattle.nm_types.specs.declared.errno.Errno.TheVariants.{Eio, Ebusy}
 use Rattle.nm_calls.specs.Batch.{move_refusal, requests_of}
-use Rattle.nm_calls.specs.During.{runs_named, in_order}
+use Rattle.nm_calls.specs.Batch.{runs_named, in_order}
 use Rattle.nm_calls.specs.Migrating.{migrate_refusal, migration}
 use Rattle.nm_calls.specs.Binding.{mbind_refusal, policed, binding, mbind_runs, still_strays, tells_late}
 use Rattle.nm_calls.specs.Offlining.{offline_refusal, offline_runs, still_on, online_refusal}

@@ -4,12 +4,12 @@ use Rattle.std.specs.List.{filter, zip}
 use Rattle.std.specs.Ordering.{int_eq}
 use Rattle.nm_types.specs.declared.errno.Errno.TheVariants.{Enomem}
 use Rattle.nm_types.specs.State.{State}
-use Rattle.nm_runs.specs.declared.Wanted.{Wanted}
-use Rattle.nm_runs.specs.Status.{code}
-use Rattle.nm_runs.specs.Cut.{Stretch, all_to}
-use Rattle.nm_runs.specs.Limit.{cut_within}
-use Rattle.nm_engine.specs.Run.{Ran}
-use Rattle.nm_engine.specs.Batch.{runs_from}
+use Rattle.nm_types.specs.declared.request.Wanted.{Wanted}
+use Rattle.nm_model.specs.definitions.Status.{code}
+use Rattle.nm_model.specs.definitions.Cut.{Stretch, all_to}
+use Rattle.nm_model.specs.definitions.Cut.{cut_within}
+use Rattle.nm_model.specs.definitions.Run.{Ran}
+use Rattle.nm_model.specs.definitions.Run.{runs_from}
 
 -- what was wanted and found no free frame
 abbrev pub without_frame : List Wanted → List ℤ → List Wanted

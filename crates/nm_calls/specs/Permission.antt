@@ -1,4 +1,4 @@
--- Who may act on the pages of a process.
+-- Who may act on the pages of a process, and which nodes may be named.
 use Rattle.std.specs.Prelude.{ℕ, nat_le, ◌/◌, ◌%◌, ◌==◌, Bool, not, ◌&&◌, ◌||◌, [], ◌∷◌, Option, Some, None, if◌then◌else◌}
 use Rattle.std.specs.Option.{option_map}
 use Rattle.std.specs.Ordering.{nat_cmp}
@@ -7,9 +7,12 @@ use Rattle.nm_types.specs.declared.errno.Errno.TheVariants.{Eperm, Esrch, Einval
 use Rattle.nm_types.specs.Map.{get}
 use Rattle.nm_types.specs.State.{State}
 use Rattle.nm_runs.specs.Targets.{earlier}
-use Rattle.nm_engine.specs.declared.ProcessInfo.{ProcessInfo}
-use Rattle.nm_engine.specs.Refused.{first_error}
-use Rattle.nm_engine.specs.Tables.{info_of}
+use Rattle.nm_types.specs.declared.process.ProcessInfo.{ProcessInfo}
+use Rattle.nm_model.specs.definitions.Effect.{first_error, info_of}
+use Rattle.std.specs.Prelude.{List, length}
+use Rattle.std.specs.List.{list_any, filter}
+use Rattle.nm_types.specs.Layout.{node_count}
+use Rattle.nm_types.specs.Nodes.{is_in}
 
 -- whether flags have a bit other than those of MPOL_MF_MOVE and MPOL_MF_MOVE_ALL, which are 2 and 4
 abbrev pub has_other_flags : ℕ → Bool
@@ -45,3 +48,19 @@ info_at s pid = option_map info_of (get nat_cmp s.processes pid)
 -- the refusal of a look at the pages of a process
 abbrev pub query_refusal : State → ℕ → ℕ → ℕ → Option Errno
 query_refusal s caller pid flags = asking_refusal (info_at s caller) (info_at s (owner_of caller pid)) flags
+
+-- whether a set has a node that the machine does not have
+abbrev pub names_missing_node : State → List ℕ → Bool
+names_missing_node s nodes = list_any (nat_le (node_count s.layout)) nodes
+
+-- whether a set has a node outside another one
+abbrev pub goes_beyond : List ℕ → List ℕ → Bool
+goes_beyond allowed nodes = list_any (λ n. not (is_in allowed n)) nodes
+
+-- what is online and allowed of a set
+abbrev pub usable : State → List ℕ → List ℕ → List ℕ
+usable s allowed nodes = filter (λ n. is_in s.online n && is_in allowed n) nodes
+
+-- whether a set has no node
+abbrev pub is_none : List ℕ → Bool
+is_none nodes = length nodes == 0

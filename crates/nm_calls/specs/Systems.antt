@@ -2,7 +2,7 @@
 use Rattle.std.specs.Prelude.{ℕ}
 use Rattle.nm_types.specs.Layout.{Layout}
 use Rattle.nm_types.specs.State.{State}
-use Rattle.nm_engine.specs.Effect.{new_machine}
+use Rattle.nm_model.specs.definitions.Effect.{new_machine}
 
 -- the state of its machine, and how many entries a run has at most
 pub record SystemState : Type 0 where

@@ -6,7 +6,7 @@ use Rattle.nm_calls.specs.declared.call.Answer as values_of_answers
 use Rattle.nm_calls.specs.declared.call.Answer.TheVariants as answer
 use Rattle.nm_calls.specs.Calls.{Call, Spawn, MapPages, Attach, Unmap, Exit, Pin, Unpin, ReadBytes, WriteBytes, MovePages, MigratePages, Mbind, Offline, Online, Query, FreeList, Pagemap, Vmstat, NumaMaps, Answer, Done, NewSegment, TheBytes, Statuses, Failed, Frames, Entries, TheTotals, Lines}
 use Rattle.nm_engine.specs.Answering.{answer_shown}
-use Rattle.nm_calls.specs.During.{shown_during}
+use Rattle.nm_calls.specs.Batch.{shown_during}
 use Rattle.nm_calls.specs.Entries.{entries_mapped}
 use Rattle.nm_calls.specs.Maps.{lines_shown}
 

@@ -4,19 +4,19 @@
 ghost use Rattle.std.specs.Prelude.{◌≡◌, ◌<◌, ◌≤◌, ◌/◌, [], All, EachIndex, IfOk, OnOk, length, slice_index, vec_capacity, map};
 ghost use Rattle.std.specs.List.{sum_by};
 ghost use Rattle.nm_types.specs.Layout.{node_count};
-ghost use Rattle.nm_runs.specs.declared.Wanted.TheVariants.{At};
-ghost use Rattle.nm_runs.specs.Cut.{stretches_of};
-ghost use Rattle.nm_runs.specs.Limit.{cut_within, run_count};
+ghost use Rattle.nm_types.specs.declared.request.Wanted.TheVariants.{At};
+ghost use Rattle.nm_runs.specs.Stretches.{stretches_of};
+ghost use Rattle.nm_model.specs.definitions.Cut.{cut_within, run_count};
 ghost use Rattle.nm_runs.specs.Targets.{first_refusal, Checks};
-ghost use Rattle.nm_engine.specs.Run.{HasOneAll};
+ghost use Rattle.nm_model.specs.definitions.Run.{HasOneAll};
 ghost use Rattle.nm_calls.specs.Batch.{requests_of};
 ghost use Rattle.nm_calls.specs.Does.{Moves};
-ghost use Rattle.nm_calls.specs.During.{shown_during, runs_named, in_order, left_shown, AreByRun};
+ghost use Rattle.nm_calls.specs.Batch.{shown_during, runs_named, in_order, left_shown, AreByRun};
 ghost use Rattle.nm_engine.specs.Answering.{access_shown, answer_shown};
 
 use crate::call::{InFlight, Moved};
 use crate::call_error::CallError;
-use nm_crew::Gate;
+use nm_crew::{Crew, Gate};
 use nm_engine::{AccessAnswer, Machine, failures};
 use nm_runs::{Request, Run, Wanted, check_batch, cut_within};
 use nm_types::{Access, Errno, NodeId, NodeMask, Pid, Vpn};
@@ -74,7 +74,7 @@ pub fn run_count(nodes: &[u32], limit: usize) -> usize
     nm_runs::run_count(nodes, limit)
 }
 
-/// Makes runs one after another, whose pages `workers` workers copy, and puts the statuses into a list that has room
+/// Makes runs one after another, whose pages a crew copies, and puts the statuses into a list that has room
 /// for them. The accesses are made meanwhile, each in the run of its number. All memory is asked for before the first
 /// run starts, but for what a run itself needs. An error means that the host refused memory, and says after how many
 /// runs.
@@ -84,27 +84,24 @@ pub(crate) fn move_runs<
     A: Allocator + Copy + Send + Sync,
     G: Gate + Sync,
 >(
-    rt: &R,
+    crew: &Crew<R, G>,
     alloc: A,
     machine: &mut Machine<A>,
     runs: &[Run<A>],
     during: &[InFlight<A>],
     mut statuses: Vec<i32, A>,
-    workers: usize,
-    gate: &G,
 ) -> Result<Moved<A>, CallError>
     requires targets { All (λ run. run.target < node_count machine.old.layout) runs.now }
     requires alike { All (λ run. HasOneAll run.wanted.items) runs.now }
     requires empty { statuses.items ≡ [] }
     requires room { sum_by (λ run. length run.wanted.items) runs.now ≤ vec_capacity statuses }
-    requires workers { (0 < workers) × (workers ≤ 64) }
     ensures { Moves result machine.old machine.new (stretches_of runs.now) (shown_during during.now) }
 {
     let accesses = by_run(alloc, during, runs.len())?;
     let mut told = Vec::with_capacity(alloc, runs.len())?;
     let answers = Vec::with_capacity(alloc, during.len())?;
     for (k, run) in runs.iter().enumerate() {
-        let Ok(flown) = machine.run_flight(rt, run, accesses[k].as_slice(), workers, gate) else {
+        let Ok(flown) = machine.run_flight(crew, run, accesses[k].as_slice()) else {
             return Err(CallError::HostMemory {
                 runs: k,
                 policy_set: false,
@@ -122,7 +119,7 @@ pub(crate) fn move_runs<
     })
 }
 
-/// Moves the pages of a batch, run after run, with at most `limit` entries in a run and `workers` workers. The runs and
+/// Moves the pages of a batch, run after run, with at most `limit` entries in a run. The runs and
 /// the lists are made before the first run starts, so that memory for them is not refused in the middle. An error means
 /// that the host refused memory, and says after how many runs.
 #[tactic(auto, using(crate::proofs::Trails::first_state))]
@@ -131,7 +128,7 @@ pub(crate) fn move_batch<
     A: Allocator + Copy + Send + Sync,
     G: Gate + Sync,
 >(
-    rt: &R,
+    crew: &Crew<R, G>,
     alloc: A,
     machine: &mut Machine<A>,
     pid: Pid,
@@ -140,20 +137,17 @@ pub(crate) fn move_batch<
     nodes: &[u32],
     during: &[InFlight<A>],
     limit: usize,
-    workers: usize,
-    gate: &G,
 ) -> Result<Moved<A>, CallError>
     requires some { 0 < limit }
     requires nodes { EachIndex nodes.now (λ k. slice_index nodes.now k < node_count machine.old.layout) }
     requires paired { length pages.now ≡ length nodes.now }
-    requires workers { (0 < workers) × (workers ≤ 64) }
     ensures { Moves result machine.old machine.new (cut_within limit (requests_of pid all pages.now nodes.now)) (shown_during during.now) }
 {
     let requests = requests_of(alloc, pid, all, pages, nodes)?;
     let runs = cut_within(alloc, requests.as_slice(), limit)?;
     let statuses = Vec::with_capacity(alloc, pages.len())?;
     let runs = runs.as_slice();
-    move_runs(rt, alloc, machine, runs, during, statuses, workers, gate)
+    move_runs(crew, alloc, machine, runs, during, statuses)
 }
 
 /// The same access, with bytes of its own.

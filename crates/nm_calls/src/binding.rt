@@ -4,9 +4,9 @@ ghost use Rattle.std.specs.Prelude.{◌≡◌, ◌+◌, ◌-◌, ◌^◌, ◌<�
 ghost use Rattle.std.specs.List.{AllByRecursion, list_any};
 ghost use Rattle.nm_types.specs.Layout.{node_count};
 ghost use Rattle.nm_runs.specs.Targets.{Checks};
-ghost use Rattle.nm_engine.specs.Policing.{policy_refusal, set_policy};
+ghost use Rattle.nm_model.specs.definitions.Effect.{policy_refusal, set_policy};
 ghost use Rattle.nm_calls.specs.Permission.{info_at};
-ghost use Rattle.nm_calls.specs.Sets.{usable};
+ghost use Rattle.nm_calls.specs.Permission.{usable};
 ghost use Rattle.nm_calls.specs.Binding.{preferred, policy_of, is_misfit, is_bad_set, moves, astray, strays, mode_refusal, range_of, range_refusal, allowed_to, home_of, is_strict, listed, mbind_runs, mbind_refusal, binding};
 ghost use Rattle.nm_calls.specs.Making.{nodes_named, Binds};
 
@@ -14,7 +14,7 @@ use crate::call_error::CallError;
 use crate::permission::usable;
 use crate::strays::{astray, some_stray, stray_from};
 use crate::ways::{make, way_of};
-use nm_crew::Gate;
+use nm_crew::{Crew, Gate};
 use nm_engine::{Located, Machine, ProcessInfo};
 use nm_types::limits::PAGE_BYTES;
 use nm_types::{Errno, MoveFlags, NodeId, NodeMask, Pid, Policy, Vpn};
@@ -245,7 +245,7 @@ fn is_late<A: Allocator + Copy + Send + Sync>(
 /// after it. EIO (MPOL_MF_STRICT and a flag to move, and a page is not where the policy wants it after the moves, which
 /// stay).
 pub(crate) fn bind<R: Threads + Wait + Sync, A: Allocator + Copy + Send + Sync, G: Gate + Sync>(
-    rt: &R,
+    crew: &Crew<R, G>,
     alloc: A,
     machine: &mut Machine<A>,
     binding: &Binding,
@@ -253,11 +253,8 @@ pub(crate) fn bind<R: Threads + Wait + Sync, A: Allocator + Copy + Send + Sync, 
     addr: u64,
     len: u64,
     limit: usize,
-    workers: usize,
-    gate: &G,
 ) -> Result<(), CallError>
     requires some { 0 < limit }
-    requires workers { (0 < workers) × (workers ≤ 64) }
     requires free { policy_refusal machine.old binding.now.pid addr len ≡ None }
     requires nodes { AllByRecursion (λ n. n < node_count (machine.old.layout)) (nodes_named binding.now.policy) }
     requires home { asked.home ≡ home_of (info_at machine.old binding.now.pid) }
@@ -270,7 +267,7 @@ pub(crate) fn bind<R: Threads + Wait + Sync, A: Allocator + Copy + Send + Sync, 
     let pages = listed(alloc, machine, binding, flags)?;
     let way = way_of(alloc, machine, home, binding, all, pages.as_slice())?;
     machine.set_policy(binding.pid, addr, len, binding.policy)?;
-    if let Err(error) = make(rt, alloc, machine, way, limit, workers, gate) {
+    if let Err(error) = make(crew, alloc, machine, way, limit) {
         return Err(error);
     }
     if is_late(machine, &binding.policy, pages.as_slice(), flags) {

@@ -4,7 +4,7 @@ ghost use Rattle.std.specs.Prelude.{map};
 ghost use Rattle.nm_engine.specs.Answering.{answer_shown};
 ghost use Rattle.nm_calls.specs.Calls as calls;
 ghost use Rattle.nm_calls.specs.Does.{Does};
-ghost use Rattle.nm_calls.specs.During.{shown_during};
+ghost use Rattle.nm_calls.specs.Batch.{shown_during};
 ghost use Rattle.nm_calls.specs.Views.{call_of, answer_of};
 
 use crate::call::{

@@ -4,11 +4,11 @@ ghost use Rattle.std.specs.Prelude.{◌≡◌, ◌<◌, ◌≤◌, [], IfOk, IsS
 ghost use Rattle.std.specs.List.{AllByRecursion};
 ghost use Rattle.nm_types.specs.Layout.{node_count};
 ghost use Rattle.nm_policy.specs.Pairs.{pairs};
-ghost use Rattle.nm_runs.specs.Limit.{cut_within};
+ghost use Rattle.nm_model.specs.definitions.Cut.{cut_within};
 ghost use Rattle.nm_runs.specs.Targets.{Checks};
 ghost use Rattle.nm_calls.specs.Does.{Moves};
 ghost use Rattle.nm_calls.specs.Permission.{info_at};
-ghost use Rattle.nm_calls.specs.Sets.{usable};
+ghost use Rattle.nm_calls.specs.Permission.{usable};
 ghost use Rattle.nm_calls.specs.Migrating.{new_refusal, migrate_refusal, migration, migrate_list};
 
 use crate::batch::move_runs;
@@ -16,7 +16,7 @@ use crate::call::{InFlight, Moved};
 use crate::call_error::CallError;
 use crate::listing::migrate_list;
 use crate::permission::{acted_on, owner_of, usable};
-use nm_crew::Gate;
+use nm_crew::{Crew, Gate};
 use nm_engine::{Machine, ProcessInfo};
 use nm_policy::pairs;
 use nm_runs::cut_within;
@@ -91,24 +91,20 @@ pub(crate) fn migration_of<A: Allocator + Copy + Send + Sync>(
     })
 }
 
-/// Moves the pages of a process from nodes to nodes, run after run, with at most `limit` requests in a run and
-/// `workers` workers. The list of pages and all runs are made before the first run starts. An error means that the host
+/// Moves the pages of a process from nodes to nodes, run after run, with at most `limit` requests in a run. The list of pages and all runs are made before the first run starts. An error means that the host
 /// refused memory, and says after how many runs.
 #[tactic(auto, using(crate::proofs::Trails::first_state))]
 pub(crate) fn migrate<R: Threads + Wait + Sync, A: Allocator + Copy + Send + Sync, G: Gate + Sync>(
-    rt: &R,
+    crew: &Crew<R, G>,
     alloc: A,
     machine: &mut Machine<A>,
     what: Migration,
     old: NodeMask,
     limit: usize,
-    workers: usize,
-    gate: &G,
 ) -> Result<Moved<A>, CallError>
     requires some { 0 < limit }
     requires there { IsSome (info_at machine.old what.pid) }
     requires nodes { AllByRecursion (λ n. n < node_count machine.old.layout) what.targets }
-    requires workers { (0 < workers) × (workers ≤ 64) }
     ensures { Moves result machine.old machine.new (cut_within limit (migrate_list machine.old what.pid what.all (pairs old what.targets))) [] }
 {
     let pairs = pairs(alloc, old, what.targets)?;
@@ -117,13 +113,11 @@ pub(crate) fn migrate<R: Threads + Wait + Sync, A: Allocator + Copy + Send + Syn
     let statuses = Vec::with_capacity(alloc, requests.len())?;
     let none: [InFlight<A>; 0] = [];
     move_runs(
-        rt,
+        crew,
         alloc,
         machine,
         runs.as_slice(),
         none.as_slice(),
         statuses,
-        workers,
-        gate,
     )
 }

@@ -4,7 +4,7 @@ ghost use Rattle.std.specs.Prelude.{◌≡◌, ◌<◌, ◌≤◌, ◌&&◌, All
 ghost use Rattle.std.specs.List.{list_any};
 ghost use Rattle.nm_types.specs.Layout.{node_count};
 ghost use Rattle.nm_types.specs.Nodes.{is_in, without_node};
-ghost use Rattle.nm_runs.specs.declared.Wanted.TheVariants.{Whole};
+ghost use Rattle.nm_types.specs.declared.request.Wanted.TheVariants.{Whole};
 ghost use Rattle.nm_runs.specs.Targets.{Checks};
 ghost use Rattle.nm_calls.specs.Migrating.{is_on};
 ghost use Rattle.nm_calls.specs.Making.{Empties};
@@ -12,7 +12,7 @@ ghost use Rattle.nm_calls.specs.Offlining.{offline_refusal, offline_runs, refuge
 
 use crate::call_error::CallError;
 use crate::passes::make_passes;
-use nm_crew::Gate;
+use nm_crew::{Crew, Gate};
 use nm_engine::Machine;
 use nm_policy::zonelist;
 use nm_runs::Wanted;
@@ -106,16 +106,13 @@ fn some_on<A: Allocator + Copy + Send + Sync>(
 /// All pages are listed before the first moves. EBUSY (a page is on the node still: the node is online, and what moved has
 /// moved). An error of the host leaves the first runs made, and the node online.
 pub(crate) fn empty<R: Threads + Wait + Sync, A: Allocator + Copy + Send + Sync, G: Gate + Sync>(
-    rt: &R,
+    crew: &Crew<R, G>,
     alloc: A,
     machine: &mut Machine<A>,
     node: NodeId,
     limit: usize,
-    workers: usize,
-    gate: &G,
 ) -> Result<(), CallError>
     requires some { 0 < limit }
-    requires workers { (0 < workers) × (workers ≤ 64) }
     requires node { node < node_count (machine.old.layout) }
     requires online { is_in machine.old.online node ≡ true }
     ensures { Empties result machine.old machine.new node (offline_runs limit machine.old node) }
@@ -123,17 +120,7 @@ pub(crate) fn empty<R: Threads + Wait + Sync, A: Allocator + Copy + Send + Sync,
     let pages = machine.pages_on(node)?;
     let nodes = refuges(alloc, machine, node)?;
     let wanted = wholes(alloc, pages.as_slice())?;
-    if let Err(error) = make_passes(
-        rt,
-        alloc,
-        machine,
-        nodes.as_slice(),
-        wanted,
-        false,
-        limit,
-        workers,
-        gate,
-    ) {
+    if let Err(error) = make_passes(crew, alloc, machine, nodes.as_slice(), wanted, false, limit) {
         return Err(error);
     }
     if some_on(machine, &node, pages.as_slice()) {

@@ -6,10 +6,10 @@ ghost use Rattle.std.specs.Ordering.{int_eq};
 ghost use Rattle.nm_types.specs.declared.errno.Errno.TheVariants.{Enomem};
 ghost use Rattle.nm_types.specs.Layout.{node_count};
 ghost use Rattle.nm_types.specs.State.{free_list};
-ghost use Rattle.nm_runs.specs.Cut.{all_to, wanted_of};
-ghost use Rattle.nm_runs.specs.Limit.{cut_within};
-ghost use Rattle.nm_runs.specs.Status.{code};
-ghost use Rattle.nm_engine.specs.Run.{HasOneAll};
+ghost use Rattle.nm_model.specs.definitions.Cut.{all_to, wanted_of};
+ghost use Rattle.nm_model.specs.definitions.Cut.{cut_within};
+ghost use Rattle.nm_model.specs.definitions.Status.{code};
+ghost use Rattle.nm_model.specs.definitions.Run.{HasOneAll};
 ghost use Rattle.nm_calls.specs.Passes.{passes, without_frame};
 ghost use Rattle.nm_calls.specs.Full.{StandsOn, StandAmong, WouldMove};
 ghost use Rattle.nm_calls.specs.Making.{Batches, MakesRuns, later, IsCounted, IsLeft};
@@ -17,7 +17,7 @@ ghost use Rattle.nm_calls.specs.Making.{Batches, MakesRuns, later, IsCounted, Is
 use crate::batch::move_runs;
 use crate::call::InFlight;
 use crate::call_error::CallError;
-use nm_crew::Gate;
+use nm_crew::{Crew, Gate};
 use nm_engine::Machine;
 use nm_runs::{Request, Wanted, cut_within};
 use nm_types::{Errno, NodeId, NodeMask};
@@ -41,16 +41,13 @@ pub(crate) fn make_batch<
     A: Allocator + Copy + Send + Sync,
     G: Gate + Sync,
 >(
-    rt: &R,
+    crew: &Crew<R, G>,
     alloc: A,
     machine: &mut Machine<A>,
     requests: &[Request],
     limit: usize,
-    workers: usize,
-    gate: &G,
 ) -> Result<Made<A>, CallError>
     requires some { 0 < limit }
-    requires workers { (0 < workers) × (workers ≤ 64) }
     requires targets { AllByRecursion (λ e. e.target < node_count (machine.old.layout)) requests.now }
     requires alike { HasOneAll (wanted_of requests.now) }
     ensures { Batches result machine.old machine.new (cut_within limit requests.now)
@@ -60,14 +57,12 @@ pub(crate) fn make_batch<
     let statuses = Vec::with_capacity(alloc, requests.len())?;
     let none: [InFlight<A>; 0] = [];
     let moved = move_runs(
-        rt,
+        crew,
         alloc,
         machine,
         runs.as_slice(),
         none.as_slice(),
         statuses,
-        workers,
-        gate,
     )?;
     Ok(Made {
         runs: runs.len(),
@@ -134,17 +129,14 @@ fn put_without_frame<A: Allocator + Copy>(
 /// a run itself needs.
 #[tactic(auto, using(crate::proofs::Trails::first_state))]
 fn make_pass<R: Threads + Wait + Sync, A: Allocator + Copy + Send + Sync, G: Gate + Sync>(
-    rt: &R,
+    crew: &Crew<R, G>,
     alloc: A,
     machine: &mut Machine<A>,
     node: NodeId,
     wanted: &[Wanted],
     limit: usize,
-    workers: usize,
-    gate: &G,
 ) -> Result<Pass<A>, CallError>
     requires some { 0 < limit }
-    requires workers { (0 < workers) × (workers ≤ 64) }
     requires node { node < node_count (machine.old.layout) }
     requires alike { HasOneAll wanted.now }
     ensures { Batches result machine.old machine.new (cut_within limit (all_to node wanted.now))
@@ -153,15 +145,7 @@ fn make_pass<R: Threads + Wait + Sync, A: Allocator + Copy + Send + Sync, G: Gat
 {
     let requests = all_to(alloc, node, wanted)?;
     let mut left = Vec::with_capacity(alloc, wanted.len())?;
-    let made = make_batch(
-        rt,
-        alloc,
-        machine,
-        requests.as_slice(),
-        limit,
-        workers,
-        gate,
-    )?;
+    let made = make_batch(crew, alloc, machine, requests.as_slice(), limit)?;
     put_without_frame(wanted, made.statuses.as_slice(), &mut left);
     Ok(Pass {
         runs: made.runs,
@@ -252,17 +236,14 @@ struct Next<A: Allocator + Copy> {
 
 /// Makes the next pass. Where the node has no free frame, nothing is looked at that an earlier pass left: all of it fails.
 fn next_pass<R: Threads + Wait + Sync, A: Allocator + Copy + Send + Sync, G: Gate + Sync>(
-    rt: &R,
+    crew: &Crew<R, G>,
     alloc: A,
     machine: &mut Machine<A>,
     node: NodeId,
     left: Left<A>,
     limit: usize,
-    workers: usize,
-    gate: &G,
 ) -> Result<Next<A>, CallError>
     requires some { 0 < limit }
-    requires workers { (0 < workers) × (workers ≤ 64) }
     requires node { node < node_count (machine.old.layout) }
     requires alike { HasOneAll left.wanted.items }
     requires pages { 0 < length left.wanted.items }
@@ -285,7 +266,7 @@ fn next_pass<R: Threads + Wait + Sync, A: Allocator + Copy + Send + Sync, G: Gat
         });
     }
     let wanted = left.wanted.as_slice();
-    let pass = make_pass(rt, alloc, machine, node, wanted, limit, workers, gate)?;
+    let pass = make_pass(crew, alloc, machine, node, wanted, limit)?;
     Ok(Next {
         runs: pass.runs,
         left: Left {
@@ -317,18 +298,15 @@ pub(crate) fn make_passes<
     A: Allocator + Copy + Send + Sync,
     G: Gate + Sync,
 >(
-    rt: &R,
+    crew: &Crew<R, G>,
     alloc: A,
     machine: &mut Machine<A>,
     nodes: &[NodeId],
     wanted: Vec<Wanted, A>,
     policy_set: bool,
     limit: usize,
-    workers: usize,
-    gate: &G,
 ) -> Result<(), CallError>
     requires some { 0 < limit }
-    requires workers { (0 < workers) × (workers ≤ 64) }
     requires nodes { All (λ n. n < node_count (machine.old.layout)) nodes.now }
     requires passes { length nodes.now ≤ 64 }
     requires alike { HasOneAll wanted.items }
@@ -345,7 +323,7 @@ pub(crate) fn make_passes<
         if left.wanted.is_empty() {
             return Ok(());
         }
-        let next = match next_pass(rt, alloc, machine, *node, left, limit, workers, gate) {
+        let next = match next_pass(crew, alloc, machine, *node, left, limit) {
             Ok(next) => next,
             Err(error) => return Err(later(error, made, policy_set)),
         };

@@ -2,7 +2,7 @@
 
 ghost use Rattle.std.specs.Prelude.{◌≡◌, ◌+◌, ◌-◌, ◌<◌, ◌≤◌, not, [], ◌∷◌, IfOk, IfSome, IfNone, None, length};
 ghost use Rattle.std.specs.List.{filter, list_any};
-ghost use Rattle.nm_policy.specs.Order.{follows};
+ghost use Rattle.nm_model.specs.definitions.Order.{follows};
 ghost use Rattle.nm_calls.specs.Binding.{strays_between, once, astray, strays, binding};
 
 use crate::binding::Binding;

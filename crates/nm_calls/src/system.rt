@@ -1,8 +1,8 @@
 //! A system: a machine, its limit on runs and its workers, and the calls that processes make on it.
 
 ghost use Rattle.std.specs.Prelude.{◌≡◌, ◌<◌, ◌≤◌, true, [], IfOk, length, map};
-ghost use Rattle.nm_engine.specs.Audited.{audited};
-ghost use Rattle.nm_engine.specs.Sound.{IsSound};
+ghost use Rattle.nm_model.specs.definitions.Sound.{audited};
+ghost use Rattle.nm_model.specs.definitions.Sound.{IsSound};
 ghost use Rattle.nm_engine.specs.Answering.{answer_shown};
 ghost use Rattle.nm_calls.specs.Calls.{Spawn, MapPages, Attach, Unmap, Exit, Pin, Unpin, ReadBytes, WriteBytes, MovePages, MigratePages, Mbind, Offline, Online, Query, FreeList, Pagemap, Vmstat, NumaMaps, Done, NewSegment, TheBytes, Statuses, Failed, Frames, Entries, TheTotals, Lines};
 ghost use Rattle.nm_calls.specs.Entries.{entries_mapped, entries_shown};
@@ -10,7 +10,7 @@ ghost use Rattle.nm_calls.specs.Maps.{lines_shown};
 ghost use Rattle.nm_calls.specs.Systems.{default_limit, new_system, system_with};
 ghost use Rattle.nm_calls.specs.Outcome.{statuses_of, outcome};
 ghost use Rattle.nm_calls.specs.Does.{Does, DoesOrRefuses};
-ghost use Rattle.nm_calls.specs.During.{shown_during};
+ghost use Rattle.nm_calls.specs.Batch.{shown_during};
 
 use crate::batch::{check_targets, move_batch};
 use crate::binding::{bind, ready};
@@ -20,7 +20,7 @@ use crate::maps::areas_text;
 use crate::migrating::{migrate, migration_of};
 use crate::offlining::{check_offline, empty};
 use crate::permission::{Permit, permit_of};
-use nm_crew::Gate;
+use nm_crew::{Crew, Gate};
 use nm_engine::{Entry, Machine, Totals};
 use nm_types::limits::MAX_BATCH;
 use nm_types::{Errno, FrameId, Geometry, NodeId, NodeMask, Pid, Vpn};
@@ -267,9 +267,9 @@ impl<A: Allocator + Copy + Send + Sync> System<A> {
         } = permit;
         check_targets(&self.machine, allowed, nodes)?;
         let limit = self.run_limit;
-        let workers = self.workers;
+        let crew = Crew::new(rt, self.workers, gate);
         move_batch(
-            rt,
+            &crew,
             self.alloc,
             &mut self.machine,
             owner,
@@ -278,8 +278,6 @@ impl<A: Allocator + Copy + Send + Sync> System<A> {
             nodes,
             during,
             limit,
-            workers,
-            gate,
         )
     }
 
@@ -309,17 +307,8 @@ impl<A: Allocator + Copy + Send + Sync> System<A> {
     {
         let what = migration_of(&self.machine, caller, pid, old, new)?;
         let limit = self.run_limit;
-        let workers = self.workers;
-        let moved = migrate(
-            rt,
-            self.alloc,
-            &mut self.machine,
-            what,
-            old,
-            limit,
-            workers,
-            gate,
-        )?;
+        let crew = Crew::new(rt, self.workers, gate);
+        let moved = migrate(&crew, self.alloc, &mut self.machine, what, old, limit)?;
         Ok(moved.failed)
     }
 
@@ -358,9 +347,9 @@ impl<A: Allocator + Copy + Send + Sync> System<A> {
     {
         let (asked, binding) = ready(&self.machine, caller, addr, len, mode, nodes, flags)?;
         let limit = self.run_limit;
-        let workers = self.workers;
+        let crew = Crew::new(rt, self.workers, gate);
         bind(
-            rt,
+            &crew,
             self.alloc,
             &mut self.machine,
             &binding,
@@ -368,8 +357,6 @@ impl<A: Allocator + Copy + Send + Sync> System<A> {
             addr,
             len,
             limit,
-            workers,
-            gate,
         )
     }
 
@@ -396,16 +383,8 @@ impl<A: Allocator + Copy + Send + Sync> System<A> {
             return Ok(());
         }
         let limit = self.run_limit;
-        let workers = self.workers;
-        empty(
-            rt,
-            self.alloc,
-            &mut self.machine,
-            node,
-            limit,
-            workers,
-            gate,
-        )
+        let crew = Crew::new(rt, self.workers, gate);
+        empty(&crew, self.alloc, &mut self.machine, node, limit)
     }
 
     /// Brings a node online, and takes no memory: its free frames may be taken again, and pages may go there. One that is

@@ -4,11 +4,11 @@ ghost use Rattle.std.specs.Prelude.{◌≡◌, ℕ, ◌+◌, ◌-◌, ◌^◌, �
 ghost use Rattle.std.specs.List.{AllByRecursion, filter};
 ghost use Rattle.nm_types.specs.Layout.{node_count};
 ghost use Rattle.nm_types.specs.Nodes.{is_in};
-ghost use Rattle.nm_policy.specs.Order.{zonelist};
+ghost use Rattle.nm_model.specs.definitions.Order.{zonelist};
 ghost use Rattle.nm_policy.specs.Turns.{by_turns};
-ghost use Rattle.nm_runs.specs.declared.Wanted.TheVariants.{At};
-ghost use Rattle.nm_areas.specs.Mapped.{Mapped};
-ghost use Rattle.nm_engine.specs.Effect.{with_areas_of};
+ghost use Rattle.nm_types.specs.declared.request.Wanted.TheVariants.{At};
+ghost use Rattle.nm_model.specs.definitions.Areas.{Mapped};
+ghost use Rattle.nm_model.specs.definitions.Effect.{with_areas_of};
 ghost use Rattle.nm_calls.specs.Passes.{passes};
 ghost use Rattle.nm_calls.specs.Binding.{spots, strays_of, each_to, runs_by, nodes_tried, strays, binding};
 ghost use Rattle.nm_calls.specs.Making.{runs_in, CanGo, nodes_named, MakesRuns};
@@ -16,7 +16,7 @@ ghost use Rattle.nm_calls.specs.Making.{runs_in, CanGo, nodes_named, MakesRuns};
 use crate::binding::Binding;
 use crate::call_error::CallError;
 use crate::passes::{later, make_batch, make_passes};
-use nm_crew::Gate;
+use nm_crew::{Crew, Gate};
 use nm_engine::{Located, Machine};
 use nm_policy::{Sent, Stray, first_touch_order, mbind_targets};
 use nm_runs::{Request, Wanted};
@@ -186,46 +186,25 @@ pub(crate) fn way_of<A: Allocator + Copy + Send + Sync>(
 /// only error is `HostMemory { runs, policy_set: true }`, since the policy is set before its pages move: the host was
 /// out of memory before the last run was made, and the machine is as the first `runs` runs left it.
 pub(crate) fn make<R: Threads + Wait + Sync, A: Allocator + Copy + Send + Sync, G: Gate + Sync>(
-    rt: &R,
+    crew: &Crew<R, G>,
     alloc: A,
     machine: &mut Machine<A>,
     way: Way<A>,
     limit: usize,
-    workers: usize,
-    gate: &G,
 ) -> Result<(), CallError>
     requires some { 0 < limit }
-    requires workers { (0 < workers) × (workers ≤ 64) }
     requires can_go { CanGo (node_count (machine.old.layout)) way }
     ensures { MakesRuns true result machine.old machine.new (runs_in limit machine.old way) }
 {
     match way {
         Way::Passes { nodes, wanted } => {
-            make_passes(
-                rt,
-                alloc,
-                machine,
-                nodes.as_slice(),
-                wanted,
-                true,
-                limit,
-                workers,
-                gate,
-            )
+            make_passes(crew, alloc, machine, nodes.as_slice(), wanted, true, limit)
         }
         Way::Turns(requests) => {
             if requests.is_empty() {
                 return Ok(());
             }
-            match make_batch(
-                rt,
-                alloc,
-                machine,
-                requests.as_slice(),
-                limit,
-                workers,
-                gate,
-            ) {
+            match make_batch(crew, alloc, machine, requests.as_slice(), limit) {
                 Ok(_) => Ok(()),
                 Err(error) => Err(later(error, 0, true)),
             }

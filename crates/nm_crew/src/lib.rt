@@ -3,6 +3,7 @@
 #![tactic(auto)]
 
 mod crew;
+mod crews;
 mod gate;
 mod room;
 mod starts;
@@ -11,4 +12,5 @@ mod tests;
 mod worker;
 
 pub use crew::copy_while;
+pub use crews::Crew;
 pub use gate::{Gate, OpenGate};

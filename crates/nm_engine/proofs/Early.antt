@@ -1,16 +1,6 @@
-pub mod Beside
-pub mod Kept
-pub mod Seen
-pub mod Later
-pub mod Places
-pub mod Fronts
-pub mod Phases
-pub mod Ready
 pub mod Refilled
 pub mod Finished
 pub mod Carrying
-pub mod Among
-pub mod Flown
 pub mod Noted
 pub mod Returned
 pub mod Taken

@@ -3,5 +3,4 @@ pub mod Soundness
 pub mod Together
 pub mod OneByOne
 pub mod Seen
-pub mod InFlight
 pub mod Early

@@ -1,6 +1,2 @@
 pub mod Alike
 pub mod Carried
-pub mod Looks
-pub mod Memory
-pub mod Placed
-pub mod Planned

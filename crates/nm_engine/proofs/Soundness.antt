@@ -1,16 +1,1 @@
-pub mod Allocated
-pub mod Called
-pub mod Dropped
-pub mod Frames
 pub mod Gone
-pub mod Moved
-pub mod New
-pub mod Once
-pub mod Online
-pub mod Placed
-pub mod Policed
-pub mod Ran
-pub mod Released
-pub mod Sounded
-pub mod Starts
-pub mod Touched

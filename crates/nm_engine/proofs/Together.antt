@@ -1,4 +1,3 @@
-pub mod Audits
 pub mod Busy
 pub mod Found
 pub mod Joint

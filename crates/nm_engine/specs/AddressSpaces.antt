@@ -1,5 +1,5 @@
 -- The address spaces of all processes: what processes see, the areas, and the frames and pins of pages.
-use Rattle.std.specs.Prelude.{ℕ, Bool, ◌==◌, [], if◌then◌else◌}
+use Rattle.std.specs.Prelude.{ℕ, Bool, ◌==◌, [], if◌then◌else◌, length}
 use Rattle.std.specs.Option.{unwrap_or}
 use Rattle.std.specs.Ordering.{nat_cmp}
 use Rattle.std.specs.List.{fold}
@@ -7,18 +7,14 @@ use Rattle.nm_types.specs.declared.page.Page.{Page}
 use Rattle.nm_types.specs.declared.area.Area.{Area}
 use Rattle.nm_types.specs.declared.area.Segment.{Segment}
 use Rattle.nm_types.specs.declared.sight.Sight.{Sight}
-use Rattle.nm_types.specs.declared.sight.Sight.TheVariants.{ZeroPage, Sees}
+use Rattle.nm_types.specs.declared.sight.Sight.TheVariants.{Sees}
 use Rattle.nm_types.specs.Map.{Map, get, set, replace, without, with_values, page_cmp}
-use Rattle.nm_types.specs.State.{Process, page_at}
-use Rattle.nm_tables.specs.declared.entry.Entry.{Entry}
-use Rattle.nm_tables.specs.declared.entry.Entry.TheVariants.{Zero, Frame, Held}
-use Rattle.nm_areas.specs.Table.{Table}
-use Rattle.nm_areas.specs.Mapped.{Mapped}
-use Rattle.nm_areas.specs.Removed.{areas_left, segments_left, pages_gone, place_left}
+use Rattle.nm_types.specs.State.{Process}
+use Rattle.nm_model.specs.views.Table.{Table}
+use Rattle.nm_model.specs.definitions.Areas.{Mapped, areas_left, segments_left, pages_gone, place_left}
 use Rattle.nm_rmap.specs.Mappers.{Mappers, frame_pins}
-use Rattle.nm_engine.specs.ProcessTable.{Task}
-use Rattle.nm_engine.specs.Tables.{seeing, blind_at, seeing_before, blind_between}
-use Rattle.std.specs.Prelude.{length}
+use Rattle.nm_model.specs.definitions.PageTables.{Task, process_of}
+use Rattle.nm_model.specs.definitions.Effect.{seeing, blind_at, seeing_before, blind_between}
 
 pub record SpacesView : Type 0 where
   -- by pid
@@ -41,27 +37,6 @@ table_of y = record { areas = y.areas; segments = y.segments; next = y.next }
 -- the areas, the segments, and the frames of pages
 abbrev pub mapped_of : SpacesView → Mapped
 mapped_of y = record { areas = y.areas; segments = y.segments; next = y.next; place = y.place }
-
--- the page that an area of a process shows at a page number, and some page where no area is
-abbrev pub page_here : Map (ℕ × ℕ) Area → ℕ → ℕ → Page
-page_here areas pid v = unwrap_or (page_at areas pid v) (record { segment = 0; index = 0 })
-
--- what a process sees at a page number by the entry there
-abbrev pub sight_of : Map (ℕ × ℕ) Area → ℕ → ℕ → Entry → Sight
-sight_of areas pid v Zero = ZeroPage
-sight_of areas pid v (Frame f) = Sees (page_here areas pid v)
-sight_of areas pid v (Held f) = Sees (page_here areas pid v)
-
--- a process by its table
-abbrev pub process_of : Map (ℕ × ℕ) Area → ℕ → Task → Process
-process_of areas pid t =
-    record {
-      uid = t.info.uid;
-      privileged = t.info.privileged;
-      home = t.info.home;
-      allowed = t.info.allowed;
-      sees = with_values (sight_of areas pid) t.table;
-    }
 
 -- the pins of each page that has a frame
 abbrev pub pins_in : Mappers → Map Page ℕ → Map Page ℕ

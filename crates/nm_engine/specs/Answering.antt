@@ -6,8 +6,8 @@ use Rattle.nm_engine.specs.declared.answered.AccessAnswer.{AccessAnswer as Given
 use Rattle.nm_engine.specs.declared.answered.AccessAnswer.TheVariants as given
 use Rattle.nm_engine.specs.declared.inner.due.Due.{Due as Left}
 use Rattle.nm_engine.specs.declared.inner.due.Due.TheVariants as left
-use Rattle.nm_engine.specs.Touch.{Access, Read, Write, AccessAnswer, Bytes, Done, Held, Refused}
-use Rattle.nm_engine.specs.Early.{Due, Known, ToRead, ToWrite}
+use Rattle.nm_model.specs.definitions.Touch.{Access, Read, Write, AccessAnswer, Bytes, Done, Held, Refused}
+use Rattle.nm_model.specs.definitions.Early.{Due, Known, ToRead, ToWrite}
 
 module _ {A : Type 0} where
   -- an access

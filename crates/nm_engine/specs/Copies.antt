@@ -2,8 +2,8 @@
 use Rattle.std.specs.Prelude.{◌≢◌, ℕ, ◌+◌, List, [], ◌∷◌, Some, None, slice_set}
 use Rattle.std.specs.List.{fold}
 use Rattle.nm_frames.specs.declared.job.CopyJob.{CopyJob}
-use Rattle.nm_frames.specs.Store.{Store, IsHome, IsOut, bytes_of}
-use Rattle.nm_plan.specs.declared.Taken.{Taken}
+use Rattle.nm_model.specs.definitions.Frames.{Store, IsHome, IsOut, bytes_of}
+use Rattle.nm_types.specs.declared.taken.Taken.{Taken}
 
 -- a page is copied to the frame that it takes
 abbrev pub with_copy : Store → Taken → Store

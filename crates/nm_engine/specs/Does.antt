@@ -5,7 +5,7 @@ use Rattle.nm_types.specs.State.{State}
 use Rattle.nm_types.specs.declared.machine_error.MachineError.{MachineError}
 use Rattle.nm_types.specs.declared.machine_error.MachineError.TheVariants as error
 pub use Rattle.nm_types.specs.Does.{Makes, AsksLast, Alters, Tells}
-use Rattle.nm_engine.specs.Touch.{AccessAnswer, Answered, Refused}
+use Rattle.nm_model.specs.definitions.Touch.{AccessAnswer, Answered, Refused}
 
 -- a read or a write: its answer and the state after it are as defined, or it finds no memory on the host and changes
 -- nothing

@@ -3,10 +3,10 @@ use Rattle.std.specs.Prelude.{◌≡◌, ℕ, ◌+◌, ◌≤◌, List, [], ◌�
 use Rattle.std.specs.Option.{unwrap_or}
 use Rattle.nm_types.specs.declared.page.Page.{Page}
 use Rattle.nm_types.specs.Map.{Map, get, page_cmp}
-use Rattle.nm_frames.specs.Store.{Store, IsHome, bytes_of, overwrite}
-use Rattle.nm_engine.specs.Frames.{stretch_of}
-use Rattle.nm_engine.specs.Touch.{AccessAnswer, Bytes, Done}
-use Rattle.nm_engine.specs.Early.{Due, Known, ToRead, ToWrite}
+use Rattle.nm_model.specs.definitions.Frames.{Store, IsHome, bytes_of, overwrite}
+use Rattle.nm_model.specs.definitions.Memory.{stretch_of}
+use Rattle.nm_model.specs.definitions.Touch.{AccessAnswer, Bytes, Done}
+use Rattle.nm_model.specs.definitions.Early.{Due, Known, ToRead, ToWrite}
 
 -- the frame of a page
 abbrev pub frame_at : Map Page ℕ → Page → ℕ

@@ -1,12 +1,11 @@
 -- The frames of a machine: which pages they hold, which are free, and what bytes are in them.
-use Rattle.std.specs.Prelude.{◌≡◌, ℕ, zero, suc, ◌+◌, ◌<◌, false, sum, List, [], ◌∷◌, ◌++◌, length, slice_index, slice_index_or}
+use Rattle.std.specs.Prelude.{◌≡◌, ℕ, ◌+◌, ◌<◌, false, sum, List, [], ◌∷◌, ◌++◌, length, slice_index_or}
 use Rattle.std.specs.List.{fold}
 use Rattle.nm_types.specs.declared.page.Page.{Page}
 use Rattle.nm_types.specs.Map.{Map}
 use Rattle.nm_types.specs.Layout.{Layout, node_count, frame_count, owner}
 use Rattle.nm_types.specs.Nodes.{is_in}
-use Rattle.nm_frames.specs.Store.{Store, IsHome}
-use Rattle.nm_nodes.specs.Pool.{Pool, list_of, appended}
+use Rattle.nm_model.specs.definitions.Frames.{Store, IsHome, Pool, list_of, appended}
 
 -- frames by themselves
 pub record FramesView : Type 0 where
@@ -66,8 +65,3 @@ CanReturn p node (frame ∷ frames) =
 -- the vacated frames are free
 abbrev pub all_freed : FramesView → FramesView
 all_freed k = record k { free = (with_freed (pool_of k) k.vacated).lists; vacated = [] }
-
--- the `len` of these bytes from `at` on
-abbrev pub stretch_of : List ℕ → ℕ → ℕ → List ℕ
-stretch_of bytes at zero = []
-stretch_of bytes at (suc len) = slice_index bytes at ∷ stretch_of bytes (at + 1) len

@@ -4,9 +4,9 @@ use Rattle.std.specs.Ordering.{nat_cmp}
 use Rattle.nm_types.specs.Map.{get}
 use Rattle.nm_types.specs.State.{Process, State, Placed, area_over, page_of}
 use Rattle.nm_engine.specs.declared.inner.resolved.Resolved.{Resolved}
-use Rattle.nm_engine.specs.Tables.{info_of}
-use Rattle.nm_engine.specs.Touch.{Spot}
-use Rattle.nm_engine.specs.Sound.{IsSoundMidRun}
+use Rattle.nm_model.specs.definitions.Effect.{info_of}
+use Rattle.nm_model.specs.definitions.Touch.{Spot}
+use Rattle.nm_model.specs.definitions.Sound.{IsSoundMidRun}
 use Rattle.nm_types.specs.Layout.{frame_count}
 
 -- a state, the frames that the pages of a run have left, and how many of these there is room for

@@ -4,15 +4,10 @@ use Rattle.std.specs.List.{filter, fold}
 use Rattle.std.specs.Option.{unwrap_or, option_map}
 use Rattle.std.specs.Ordering.{nat_cmp}
 use Rattle.nm_types.specs.Map.{Map, get, set, replace, without, with_values}
-use Rattle.nm_tables.specs.declared.entry.Entry.{Entry}
-use Rattle.nm_tables.specs.declared.entry.Entry.TheVariants.{Zero, Frame, Held}
-use Rattle.nm_engine.specs.declared.process.ProcessInfo.{ProcessInfo}
-
--- a process with its page table
-pub record Task : Type 0 where
-  pub info : ProcessInfo
-  -- by page number
-  pub table : Map ℕ Entry
+use Rattle.nm_types.specs.declared.entry.Entry.{Entry}
+use Rattle.nm_types.specs.declared.entry.Entry.TheVariants.{Zero, Frame, Held}
+use Rattle.nm_types.specs.declared.process.ProcessInfo.{ProcessInfo}
+use Rattle.nm_model.specs.definitions.PageTables.{Task, entry_at}
 
 -- the processes by pid, in whatever order they stand
 abbrev pub by_pid : List (ℕ × Task) → Map ℕ Task
@@ -35,15 +30,6 @@ task_table t = t.table
 abbrev pub entries_in : Map ℕ Task → ℕ → Map ℕ Entry
 entries_in tasks pid = unwrap_or (option_map task_table (get nat_cmp tasks pid)) []
 
--- the entry of a process at a page number, if it is there
-abbrev pub entry_in : Option Task → ℕ → Option Entry
-entry_in None v = None
-entry_in (Some t) v = get nat_cmp t.table v
-
--- what stands in the table of a process at a page number
-abbrev pub entry_at : Map ℕ Task → ℕ → ℕ → Option Entry
-entry_at tasks pid v = entry_in (get nat_cmp tasks pid) v
-
 -- whether an entry names a frame
 abbrev pub names : ℕ → Option Entry → Bool
 names f None = false
@@ -54,10 +40,6 @@ names f (Some (Held g)) = g == f
 -- whether something stands at a page number of a process
 abbrev pub IsThere : Map ℕ Task → ℕ × ℕ → Type 0
 IsThere tasks spot = IsSome (entry_at tasks spot.0 spot.1)
-
--- a table with this entry at a page number
-abbrev pub with_entry : Task → ℕ → Entry → Task
-with_entry t v e = record t { table = set nat_cmp t.table v e }
 
 -- a table with another entry at a page number that has one
 abbrev pub with_other_entry : Task → ℕ → Entry → Task

@@ -3,8 +3,8 @@ use Rattle.std.specs.Prelude.{ℕ, List}
 use Rattle.nm_types.specs.declared.page.Page.{Page}
 use Rattle.nm_types.specs.Map.{Map, with_values}
 use Rattle.nm_types.specs.State.{Process, State}
-use Rattle.nm_areas.specs.Table.{Table}
-use Rattle.nm_frames.specs.Store.{Store, bytes_of}
+use Rattle.nm_model.specs.views.Table.{Table}
+use Rattle.nm_model.specs.definitions.Frames.{Store, bytes_of}
 use Rattle.nm_engine.specs.AddressSpaces.{SpacesView, table_of}
 use Rattle.nm_engine.specs.Frames.{FramesView, PagedFrames}
 

@@ -8,12 +8,13 @@ use Rattle.std.specs.Ordering.{nat_cmp}
 use Rattle.nm_types.specs.declared.page.Page.{Page}
 use Rattle.nm_types.specs.Map.{Map, get, page_cmp, spot_cmp}
 use Rattle.nm_types.specs.State.{page_at}
-use Rattle.nm_tables.specs.declared.entry.Entry.{Entry}
-use Rattle.nm_tables.specs.declared.entry.Entry.TheVariants.{Held}
-use Rattle.nm_areas.specs.Mapped.{Mapped}
+use Rattle.nm_types.specs.declared.entry.Entry.{Entry}
+use Rattle.nm_types.specs.declared.entry.Entry.TheVariants.{Held}
+use Rattle.nm_model.specs.definitions.Areas.{Mapped}
 use Rattle.nm_rmap.specs.Mappers.{Mappers, mappers_of, frame_pins}
-use Rattle.nm_engine.specs.ProcessTable.{Task}
-use Rattle.nm_engine.specs.ProcessTable.{entry_at, names}
+use Rattle.nm_model.specs.definitions.PageTables.{Task}
+use Rattle.nm_model.specs.definitions.PageTables.{entry_at}
+use Rattle.nm_engine.specs.ProcessTable.{names}
 
 -- whether a page number of a process is among these
 abbrev pub has_spot : List (ℕ × ℕ) → ℕ × ℕ → Bool

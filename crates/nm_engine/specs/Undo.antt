@@ -7,11 +7,11 @@ use Rattle.nm_types.specs.declared.sight.Sight.{Sight}
 use Rattle.nm_types.specs.declared.sight.Sight.TheVariants.{ZeroPage, Sees}
 use Rattle.nm_types.specs.Map.{get, replace, without, page_cmp}
 use Rattle.nm_types.specs.State.{Process, State}
-use Rattle.nm_runs.specs.Seen.{sight_at}
-use Rattle.nm_nodes.specs.Pool.{prepended}
+use Rattle.nm_model.specs.definitions.Seen.{sight_at}
+use Rattle.nm_model.specs.definitions.Frames.{prepended}
 use Rattle.nm_engine.specs.declared.inner.undo.Undo.{Undo}
-use Rattle.nm_engine.specs.Tables.{seeing_before}
-use Rattle.nm_engine.specs.Sound.{IsSoundMidRun}
+use Rattle.nm_model.specs.definitions.Effect.{seeing_before}
+use Rattle.nm_model.specs.definitions.Sound.{IsSoundMidRun}
 
 -- a process sees there what it saw before, the page of zeros or nothing
 abbrev pub seen_before : State → Option Process → ℕ → ℕ → Bool → State

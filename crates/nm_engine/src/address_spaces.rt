@@ -10,12 +10,12 @@ ghost use Rattle.nm_types.specs.declared.errno.Errno.TheVariants.{Ebusy, Einval}
 ghost use Rattle.nm_types.specs.declared.sight.Sight.TheVariants.{ZeroPage, Sees};
 ghost use Rattle.nm_types.specs.Map.{get, set, with_values, page_cmp};
 ghost use Rattle.nm_types.specs.State.{Process, Placed, area_over, page_at};
-ghost use Rattle.nm_areas.specs.Lines.{is_shared};
-ghost use Rattle.nm_runs.specs.Seen.{sight_in, look_in, look_at_place};
+ghost use Rattle.nm_model.specs.definitions.Areas.{is_shared};
+ghost use Rattle.nm_model.specs.definitions.Seen.{sight_in, look_in, look_at_place};
 ghost use Rattle.nm_runs.specs.Shown.{HasFrameBelow};
-ghost use Rattle.nm_engine.specs.Tables.{info_of, untouched};
+ghost use Rattle.nm_model.specs.definitions.Effect.{info_of, untouched};
 ghost use Rattle.nm_engine.specs.ProcessTable.{IsThere, remapped};
-ghost use Rattle.nm_engine.specs.Entries.{entry_of};
+ghost use Rattle.nm_model.specs.definitions.PageTables.{entry_of};
 ghost use Rattle.nm_engine.specs.Moves.{CanRemap, all_moved};
 ghost use Rattle.nm_engine.specs.AddressSpaces.{no_spaces, with_seen, with_new_page, with_moved, pins_here, with_pins_of};
 
@@ -23,7 +23,7 @@ mod areas;
 mod back;
 mod walk;
 
-use crate::process::ProcessInfo;
+use crate::ProcessInfo;
 use crate::process_table::ProcessTable;
 use nm_areas::Areas;
 use nm_plan::Taken;
@@ -306,7 +306,7 @@ impl<A: Allocator + Copy> AddressSpaces<A> {
 
 impl<A: Allocator + Copy> PageView for AddressSpaces<A> {
     ghost use Rattle.nm_types.specs.Map.{get, page_cmp};
-    ghost use Rattle.nm_runs.specs.Seen.{look_in, look_at_place};
+    ghost use Rattle.nm_model.specs.definitions.Seen.{look_in, look_at_place};
 
     ghost seen_at = { λ y pid v. look_in y.processes y.areas y.place y.pins pid v };
 

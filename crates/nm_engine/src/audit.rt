@@ -2,9 +2,9 @@
 
 ghost use Rattle.std.specs.Prelude.{◌≡◌, ◌<◌, ◌≤◌, ◌==◌, ℕ, ◌++◌, length, map, nat_lt, IfOk, OnOk, slice_index_or};
 ghost use Rattle.std.specs.List.{list_all};
-ghost use Rattle.nm_nodes.specs.Pool.{list_of};
-ghost use Rattle.nm_engine.specs.Sound.{times};
-ghost use Rattle.nm_engine.specs.Audited.{is_own, is_audited, numbered};
+ghost use Rattle.nm_model.specs.definitions.Frames.{list_of};
+ghost use Rattle.nm_model.specs.definitions.Sound.{times};
+ghost use Rattle.nm_model.specs.definitions.Sound.{is_own, is_audited, numbered};
 
 use nm_nodes::NodePool;
 use nm_types::{FrameId, Geometry, NodeId};

@@ -3,18 +3,19 @@
 ghost use Rattle.std.specs.Prelude.{◌≡◌, ℕ, false, ◌+◌, ◌<◌, ◌≤◌, [], ◌∷◌, ◌++◌, map, length, vec_capacity, vec_len, Some, IfOk, OnOk, replicate, take, drop, slice_get, slice_set};
 ghost use Rattle.nm_types.specs.Layout.{node_count, frame_count, node_of};
 ghost use Rattle.nm_types.specs.Nodes.{is_in};
-ghost use Rattle.nm_engine.specs.Touch.{has_free};
-ghost use Rattle.nm_nodes.specs.Pool.{list_of, with_list, appended, prepended};
+ghost use Rattle.nm_model.specs.definitions.Touch.{has_free};
+ghost use Rattle.nm_model.specs.definitions.Frames.{list_of, with_list, appended, prepended};
 ghost use Rattle.std.specs.List.{AllByRecursion};
 ghost use Rattle.nm_engine.specs.Copies.{CanCopy, with_copies, emptied};
-ghost use Rattle.nm_engine.specs.Early.{tos};
+ghost use Rattle.nm_model.specs.definitions.Early.{tos};
 ghost use Rattle.nm_engine.specs.Finishing.{all_done, CanDo};
 ghost use Rattle.nm_engine.specs.Answering.{answer_shown, due_shown, HasRoom};
-ghost use Rattle.nm_engine.specs.Run.{left};
-ghost use Rattle.nm_frames.specs.Store.{IsHome, bytes_of, overwrite};
-ghost use Rattle.nm_engine.specs.Audited.{is_audited, numbered};
-ghost use Rattle.nm_nodes.specs.Pool.{all_frames};
-ghost use Rattle.nm_engine.specs.Frames.{HasAllFrames, free_on, pool_of, all_freed, CanFree, CanReturn, with_freed, stretch_of};
+ghost use Rattle.nm_model.specs.definitions.Run.{left};
+ghost use Rattle.nm_model.specs.definitions.Frames.{IsHome, bytes_of, overwrite};
+ghost use Rattle.nm_model.specs.definitions.Sound.{is_audited, numbered};
+ghost use Rattle.nm_model.specs.definitions.Frames.{all_frames};
+ghost use Rattle.nm_engine.specs.Frames.{HasAllFrames, free_on, pool_of, all_freed, CanFree, CanReturn, with_freed};
+ghost use Rattle.nm_model.specs.definitions.Memory.{stretch_of};
 
 mod copying;
 
@@ -23,7 +24,7 @@ use crate::answered::AccessAnswer;
 use crate::audit;
 use crate::inner::due::Due;
 use copying::copy_pages;
-use nm_crew::Gate;
+use nm_crew::{Crew, Gate};
 use nm_frames::{CopyJob, FrameStore};
 use nm_nodes::NodePool;
 use nm_plan::Taken;
@@ -299,19 +300,17 @@ impl<A: Allocator + Copy> Frames<A> {
 }
 
 impl<A: Allocator + Copy + Send + Sync> Frames<A> {
-    /// Copies the pages of moves to the frames that they take, with `workers` workers, and does meanwhile what is left
+    /// Copies the pages of moves to the frames that they take, by a crew, and does meanwhile what is left
     /// to do for accesses to other pages. The answers go into a list that has room for them.
     pub(crate) fn copy_pages<R: Threads + Wait + Sync, G: Gate + Sync>(
         &mut self,
-        rt: &R,
+        crew: &Crew<R, G>,
         alloc: A,
         moves: &[Taken],
         spaces: &AddressSpaces<A>,
         accesses: &[Access<A>],
         dues: Vec<Due<A>, A>,
         answers: Vec<AccessAnswer<A>, A>,
-        workers: usize,
-        gate: &G,
     ) -> Vec<AccessAnswer<A>, A>
         requires can { CanCopy self.old.frames moves.now }
         requires few { length moves.now ≤ self.old.room }
@@ -319,13 +318,12 @@ impl<A: Allocator + Copy + Send + Sync> Frames<A> {
         requires room { AllByRecursion HasRoom dues.items }
         requires unanswered { answers.items ≡ [] }
         requires space { vec_len dues ≤ vec_capacity answers }
-        requires workers { (0 < workers) × (workers ≤ 64) }
         ensures frames { self.new ≡ record (self.old) { frames = (all_done spaces.now.place (with_copies self.old.frames moves.now) (map (due_shown accesses.now) dues.items)).store; room = self.new.room } }
         ensures answers { map answer_shown result.items ≡ (all_done spaces.now.place (with_copies self.old.frames moves.now) (map (due_shown accesses.now) dues.items)).answers }
     {
         let jobs = mem::replace(&mut self.jobs, Vec::new(alloc));
         let (jobs, answers) = copy_pages(
-            rt,
+            crew,
             alloc,
             &mut self.frames,
             moves,
@@ -334,8 +332,6 @@ impl<A: Allocator + Copy + Send + Sync> Frames<A> {
             accesses,
             dues,
             answers,
-            workers,
-            gate,
         );
         self.jobs = jobs;
         answers

@@ -2,7 +2,7 @@
 
 ghost use Rattle.std.specs.Prelude.{◌≡◌, ◌≤◌, ◌<◌, [], IfOk};
 ghost use Rattle.nm_types.specs.Nodes.{up_from};
-ghost use Rattle.nm_engine.specs.Effect.{new_machine};
+ghost use Rattle.nm_model.specs.definitions.Effect.{new_machine};
 
 mod areas;
 pub(crate) mod due;

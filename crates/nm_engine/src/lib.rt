@@ -7,16 +7,13 @@ mod audit;
 mod frames;
 mod inner;
 pub mod laws;
-mod located;
 mod machine;
 mod process;
 mod process_table;
 
 pub use answered::{AccessAnswer, Flown};
 pub use inner::failures;
-pub use located::Located;
 pub use machine::{Machine, Totals};
 pub use nm_areas::Line;
 pub use nm_tables::Entry;
-pub use nm_types::{Access, MachineError};
-pub use process::ProcessInfo;
+pub use nm_types::{Access, Located, MachineError, ProcessInfo};

@@ -8,29 +8,28 @@ ghost use Rattle.nm_types.specs.Map.{get, page_cmp};
 ghost use Rattle.nm_types.specs.Layout.{node_count, node_of};
 ghost use Rattle.nm_types.specs.Nodes.{is_in};
 ghost use Rattle.nm_types.specs.State.{free_list};
-ghost use Rattle.nm_engine.specs.Tables.{info_of};
-ghost use Rattle.nm_engine.specs.Touch.{Bytes, Done, has_free, read, write, spot_refusal};
-ghost use Rattle.nm_engine.specs.Run.{counted, run, HasOneAll};
+ghost use Rattle.nm_model.specs.definitions.Effect.{info_of};
+ghost use Rattle.nm_model.specs.definitions.Touch.{Bytes, Done, has_free, read, write, spot_refusal};
+ghost use Rattle.nm_model.specs.definitions.Run.{counted, run, HasOneAll};
 ghost use Rattle.nm_engine.specs.Answering.{access_shown, answer_shown};
-ghost use Rattle.nm_engine.specs.Effect.{new_machine, set_online, spawn, map_new, attach, pin, unpin, unmap, exit};
-ghost use Rattle.nm_engine.specs.Refused.{spawn_refusal, map_refusal, attach_refusal, pin_refusal, unpin_refusal, unmap_refusal, exit_refusal, list_refusal, entries_refusal};
-ghost use Rattle.nm_engine.specs.Policing.{policy_refusal, set_policy};
+ghost use Rattle.nm_model.specs.definitions.Effect.{new_machine, set_online, spawn, map_new, attach, pin, unpin, unmap, exit};
+ghost use Rattle.nm_model.specs.definitions.Effect.{spawn_refusal, map_refusal, attach_refusal, pin_refusal, unpin_refusal, unmap_refusal, exit_refusal, list_refusal, entries_refusal};
+ghost use Rattle.nm_model.specs.definitions.Effect.{policy_refusal, set_policy};
 ghost use Rattle.nm_areas.specs.Lines.{lines_of};
-ghost use Rattle.nm_runs.specs.Seen.{users};
+ghost use Rattle.nm_model.specs.definitions.Seen.{users};
 ghost use Rattle.nm_runs.specs.Targets.{Checks};
-ghost use Rattle.nm_engine.specs.Entries.{entries_of};
-ghost use Rattle.nm_engine.specs.Locating.{located_between, placed_on};
-ghost use Rattle.nm_engine.specs.Audited.{audited};
-ghost use Rattle.nm_engine.specs.Asking.{node_status};
-ghost use Rattle.nm_engine.specs.Sound.{IsSound};
+ghost use Rattle.nm_model.specs.definitions.PageTables.{entries_of};
+ghost use Rattle.nm_model.specs.definitions.Seen.{located_between, placed_on};
+ghost use Rattle.nm_model.specs.definitions.Sound.{audited};
+ghost use Rattle.nm_model.specs.definitions.Status.{node_status};
+ghost use Rattle.nm_model.specs.definitions.Sound.{IsSound};
 ghost use Rattle.nm_engine.specs.Does.{Makes, Alters, Tells, Accesses, AsksLast};
 
 use crate::answered::Flown;
 use crate::inner::Inner;
-use crate::located::Located;
-use crate::process::ProcessInfo;
+use crate::{Located, ProcessInfo};
 use nm_areas::Line;
-use nm_crew::Gate;
+use nm_crew::{Crew, Gate};
 use nm_runs::Run;
 use nm_tables::Entry;
 use nm_types::{
@@ -306,40 +305,29 @@ impl<A: Allocator + Copy + Send + Sync> Machine<A> {
     /// touched the page. ESRCH, EINVAL and EFAULT come before that. To an access, the frames that the run took are no
     /// longer free, and those that its pages left are not free yet.
     ///
-    /// The pages are copied by 1 to 64 workers, of which the caller is the first; each passes the gate before each
-    /// copy. How many they are, and whether the host starts them, makes no difference to any of this. It waits for
-    /// their threads to end.
+    /// The crew copies the pages: each of its workers passes the gate before each copy. How many they are, and whether the
+    /// host starts them, makes no difference to any of this. It waits for their threads to end.
     pub fn run_flight<R: Threads + Wait + Sync, G: Gate + Sync>(
         &mut self,
-        rt: &R,
+        crew: &Crew<R, G>,
         requests: &Run<A>,
         accesses: &[Access<A>],
-        workers: usize,
-        gate: &G,
     ) -> Result<Flown<A>, AllocError>
         requires target { requests.now.target < node_count self.old.layout }
         requires alike { HasOneAll requests.now.wanted.items }
-        requires workers { (0 < workers) × (workers ≤ 64) }
         ensures statuses { IfOk result (λ flown. flown.statuses.items ≡ (run self.old requests.now.target requests.now.wanted.items (map access_shown accesses.now)).statuses) }
         ensures answers { IfOk result (λ flown. map answer_shown flown.answers.items ∷ [] ≡ (run self.old requests.now.target requests.now.wanted.items (map access_shown accesses.now)).answers) }
         ensures state { OnOk result (self.new ≡ (run self.old requests.now.target requests.now.wanted.items (map access_shown accesses.now)).state) }
         ensures err { OnErr result (self.new ≡ self.old) }
     {
-        let plan = self.inner.plan(rt, requests, workers)?;
+        let plan = self.inner.plan(crew, requests)?;
         let moves = plan.moves();
         self.inner.reserve(moves.len())?;
         let answers = Vec::with_capacity(self.alloc, accesses.len())?;
         let dues = self.inner.begin(requests.target, moves, accesses)?;
-        let answers = self.inner.carry_out(
-            rt,
-            requests.target,
-            moves,
-            accesses,
-            dues,
-            answers,
-            workers,
-            gate,
-        );
+        let answers = self
+            .inner
+            .carry_out(crew, requests.target, moves, accesses, dues, answers);
         self.inner.end_run(plan.statuses());
         Ok(Flown {
             statuses: plan.into_statuses(),

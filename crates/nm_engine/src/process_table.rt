@@ -6,14 +6,15 @@ ghost use Rattle.std.specs.List.Sorted.{IsStrictlySortedBy};
 ghost use Rattle.std.specs.Map.{keys_of};
 ghost use Rattle.std.specs.Ordering.{nat_cmp};
 ghost use Rattle.nm_types.specs.Map.{get, set, replace, without};
-ghost use Rattle.nm_engine.specs.ProcessTable.{Task};
-ghost use Rattle.nm_engine.specs.ProcessTable.{new_task, task_info, task_table, entries_in, entry_at, IsThere, with_entry, without_entry, replaced};
-ghost use Rattle.nm_engine.specs.Sights.{between};
+ghost use Rattle.nm_model.specs.definitions.PageTables.{Task};
+ghost use Rattle.nm_engine.specs.ProcessTable.{new_task, task_info, task_table, entries_in, IsThere, without_entry, replaced};
+ghost use Rattle.nm_model.specs.definitions.PageTables.{entry_at, with_entry};
+ghost use Rattle.nm_model.specs.definitions.Seen.{between};
 
-use crate::process::{self, ProcessInfo};
+use crate::process;
 use indexmap::IndexMap;
 use nm_tables::{Entry, PageTable};
-use nm_types::{Pid, Vpn};
+use nm_types::{Pid, ProcessInfo, Vpn};
 use std::alloc::{AllocError, Allocator};
 use std::hash::{BuildHasherDefault, FoldHasher};
 use std::marker::Model;
@@ -28,7 +29,8 @@ pub(crate) struct ProcessTable<A: Allocator + Copy> {
 impl<A: Allocator + Copy> Model for ProcessTable<A> {
     ghost use Rattle.std.specs.Prelude.{ℕ};
     ghost use Rattle.nm_types.specs.Map.{Map};
-    ghost use Rattle.nm_engine.specs.ProcessTable.{Task, by_pid};
+    ghost use Rattle.nm_model.specs.definitions.PageTables.{Task};
+    ghost use Rattle.nm_engine.specs.ProcessTable.{by_pid};
 
     ghost Value = { Map ℕ Task };
 

@@ -3,7 +3,7 @@ use Rattle.std.proofs.Common.{◌≡◌, ℕ, ◌<◌, List, [], Option, Some, N
 use Rattle.std.proofs.Math.ListN.{set, length-set}
 use Rattle.std.proofs.lemmas.Bool.{cases_eq, false≢true}
 use Rattle.std.proofs.lemmas.List.{get_or_default, get_or-replicate, get_or-set_same, get_or-set_other, length-replicate}
-use Rattle.nm_frames.specs.Store.{Store, AllWhole, bytes_of}
+use Rattle.nm_model.specs.definitions.Frames.{Store, AllWhole, bytes_of}
 
 -- each frame of a new store has all its bytes
 pub new_whole : (items : Store) (n : ℕ) → items ≡ replicate n (Some (replicate 4096 0)) → AllWhole items

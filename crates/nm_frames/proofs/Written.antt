@@ -2,7 +2,7 @@
 use Rattle.std.proofs.Common.{◌≡◌, ℕ, ◌≤◌, List, length, take, replicate, arith}
 use Rattle.std.proofs.lemmas.List.{places}
 use Rattle.std.proofs.lemmas.Grind.{same_number_lists}
-use Rattle.nm_frames.specs.Store.{overwrite}
+use Rattle.nm_model.specs.definitions.Frames.{overwrite}
 use Rattle.nm_frames.specs.Written.{IsZeroFrom}
 
 -- zeros are zero from the first on

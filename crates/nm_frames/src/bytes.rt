@@ -1,7 +1,7 @@
 //! The bytes of one frame.
 
 ghost use Rattle.std.specs.Prelude.{◌≡◌, ◌+◌, ◌≤◌, length, replicate, IfOk};
-ghost use Rattle.nm_frames.specs.Store.{overwrite};
+ghost use Rattle.nm_model.specs.definitions.Frames.{overwrite};
 ghost use Rattle.nm_frames.specs.Written.{IsZeroFrom};
 
 use nm_types::limits::PAGE_BYTES;

@@ -1,7 +1,7 @@
 //! The bytes of all frames.
 
 ghost use Rattle.std.specs.Prelude.{◌≡◌, [], ◌+◌, ◌<◌, ◌≤◌, length, slice_index, slice_set, Some, None, IfOk, replicate};
-ghost use Rattle.nm_frames.specs.Store.{IsHome, IsOut, AllWhole, bytes_of, overwrite};
+ghost use Rattle.nm_model.specs.definitions.Frames.{IsHome, IsOut, AllWhole, bytes_of, overwrite};
 
 use crate::buf::FrameBuf;
 use crate::bytes::Bytes;
@@ -17,7 +17,7 @@ pub struct FrameStore<A: Allocator + Copy> {
 }
 
 impl<A: Allocator + Copy> Model for FrameStore<A> {
-    ghost use Rattle.nm_frames.specs.Store.{Store, AllWhole};
+    ghost use Rattle.nm_model.specs.definitions.Frames.{Store, AllWhole};
 
     ghost Value = { Store };
 

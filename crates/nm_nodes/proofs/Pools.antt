@@ -10,7 +10,7 @@ use Rattle.std.proofs.lemmas.Map.Made.{length-le_from_is_member}
 use Rattle.std.proofs.lemmas.Cmp.{nat_eq_equiv}
 use Rattle.nm_types.specs.Layout.{owner}
 use Rattle.nm_types.specs.Nodes.{up_from, is_in}
-use Rattle.nm_nodes.specs.Pool.{Pool, IsPool, all_frames, list_of, with_list, new_pool, appended, prepended, without_front}
+use Rattle.nm_model.specs.definitions.Frames.{Pool, IsPool, all_frames, list_of, with_list, new_pool, appended, prepended, without_front}
 use Rattle.nm_nodes.specs.Lists.{sizes_of, lists_of, pool_of}
 use Rattle.nm_nodes.proofs.Stretches.{sum-cons, owner_first, owner_later, length-all_frames, length_of_stretch, distinct_stretch, owner_is, owner_has, owner-lt, is_in-cons}
 

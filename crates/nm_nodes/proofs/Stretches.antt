@@ -5,7 +5,7 @@ use Rattle.std.proofs.lemmas.Bool.{eqb-true, eq-eqb, ne_eqb, lt-ltb, le-ltb, cas
 use Rattle.std.proofs.lemmas.List.Sums.{sum_by-cons}
 use Rattle.nm_types.specs.Layout.{owner}
 use Rattle.nm_types.specs.Nodes.{up_from, is_in}
-use Rattle.nm_nodes.specs.Pool.{all_frames}
+use Rattle.nm_model.specs.definitions.Frames.{all_frames}
 
 pub sum-cons : (x : ℕ) (xs : List ℕ) → sum (x ∷ xs) ≡ x + sum xs
 sum-cons x xs = sum_by-cons (λ (n : ℕ). n) x xs

@@ -1,6 +1,6 @@
 -- The pool of a row of lists, each with the number of frames that its node owns.
 use Rattle.std.specs.Prelude.{ℕ, List, map}
-use Rattle.nm_nodes.specs.Pool.{Pool}
+use Rattle.nm_model.specs.definitions.Frames.{Pool}
 
 abbrev pub sizes_of : List (ℕ × List ℕ) → List ℕ
 sizes_of rows = map (λ row. row.0) rows

@@ -3,7 +3,7 @@
 ghost use Rattle.std.specs.Prelude.{◌≡◌, ◌<◌, ◌≤◌, ◌+◌, ◌++◌, false, length, sum, take, drop, slice_get, vec_len, vec_capacity, IfOk};
 ghost use Rattle.nm_types.specs.Layout.{owner};
 ghost use Rattle.nm_types.specs.Nodes.{is_in};
-ghost use Rattle.nm_nodes.specs.Pool.{Pool, IsPool, list_of, new_pool, with_list, without_front, appended, prepended};
+ghost use Rattle.nm_model.specs.definitions.Frames.{Pool, IsPool, list_of, new_pool, with_list, without_front, appended, prepended};
 ghost use Rattle.nm_nodes.specs.Lists.{sizes_of};
 
 use crate::list::FreeList;
@@ -18,7 +18,7 @@ pub struct NodePool<A: Allocator + Copy> {
 }
 
 impl<A: Allocator + Copy> Model for NodePool<A> {
-    ghost use Rattle.nm_nodes.specs.Pool.{Pool, IsPool};
+    ghost use Rattle.nm_model.specs.definitions.Frames.{Pool, IsPool};
     ghost use Rattle.nm_nodes.specs.Lists.{pool_of};
 
     ghost Value = { Pool };

@@ -1,5 +1,5 @@
 ghost use Rattle.std.specs.Prelude.{◌≡◌, [], ◌∷◌, IfOk};
-ghost use Rattle.nm_nodes.specs.Pool.{new_pool};
+ghost use Rattle.nm_model.specs.definitions.Frames.{new_pool};
 
 use crate::NodePool;
 use nm_types::{FrameId, Geometry, NodeId};

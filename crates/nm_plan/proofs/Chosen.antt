@@ -9,11 +9,11 @@ use Rattle.std.specs.Prelude.{ℤ, ◌-ℤ◌, if◌then◌else◌, Option, posi
 use Rattle.std.specs.List.{zip}
 use Rattle.nm_types.specs.declared.errno.Errno.TheVariants.{Enomem}
 use Rattle.nm_types.specs.declared.page.Page.{Page}
-use Rattle.nm_runs.specs.declared.Class.{Class}
-use Rattle.nm_runs.specs.declared.Class.TheVariants.{Status, Move}
-use Rattle.nm_runs.specs.Status.{code}
-use Rattle.nm_plan.specs.declared.Taken.{Taken}
-use Rattle.nm_plan.specs.Decide.{Choice, Decisions, Planned, choose, decide, has_moved, is_short, take_front, shortage, planned}
+use Rattle.nm_types.specs.declared.request.Class.{Class}
+use Rattle.nm_types.specs.declared.request.Class.TheVariants.{Status, Move}
+use Rattle.nm_model.specs.definitions.Status.{code}
+use Rattle.nm_types.specs.declared.taken.Taken.{Taken}
+use Rattle.nm_model.specs.definitions.Decide.{Choice, Decisions, Planned, choose, decide, has_moved, is_short, take_front, shortage, planned}
 
 abbrev pub choice : ℤ → List Taken → List ℕ → Choice
 choice status taken front = record { status = status; taken = taken; front = front }

@@ -11,11 +11,11 @@ use Rattle.std.proofs.lemmas.List.Folds.{list_any-append}
 use Rattle.nm_types.specs.declared.errno.Errno.TheVariants.{Enomem}
 use Rattle.nm_types.specs.declared.page.Page.{Page}
 use Rattle.nm_types.specs.Map.{same_page}
-use Rattle.nm_runs.specs.declared.Class.{Class}
-use Rattle.nm_runs.specs.declared.Class.TheVariants.{Status, Move}
-use Rattle.nm_runs.specs.Status.{code}
-use Rattle.nm_plan.specs.declared.Taken.{Taken}
-use Rattle.nm_plan.specs.Decide.{Choice, Decisions, has_moved, take_front, decide}
+use Rattle.nm_types.specs.declared.request.Class.{Class}
+use Rattle.nm_types.specs.declared.request.Class.TheVariants.{Status, Move}
+use Rattle.nm_model.specs.definitions.Status.{code}
+use Rattle.nm_types.specs.declared.taken.Taken.{Taken}
+use Rattle.nm_model.specs.definitions.Decide.{Choice, Decisions, has_moved, take_front, decide}
 use Rattle.nm_plan.specs.Closed.{is_one_of, new_pages, taking, status_by}
 
 abbrev pages_of : List Taken → List Page

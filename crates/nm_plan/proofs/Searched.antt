@@ -15,9 +15,9 @@ use Rattle.std.specs.Prelude.{min}
 use Rattle.nm_types.proofs.Maps.{page_cmp_total}
 use Rattle.nm_types.specs.declared.page.Page.{Page}
 use Rattle.nm_types.specs.Map.{page_cmp, same_page}
-use Rattle.nm_plan.specs.declared.Taken.{Taken}
+use Rattle.nm_types.specs.declared.taken.Taken.{Taken}
 use Rattle.nm_plan.specs.declared.search.Search.{Search}
-use Rattle.nm_plan.specs.Decide.{has_moved}
+use Rattle.nm_model.specs.definitions.Decide.{has_moved}
 use Rattle.nm_plan.specs.Found.{Ascends, IsPast, Finds}
 
 same_back : (p q : Page) → same_page p q ≡ same_page q p

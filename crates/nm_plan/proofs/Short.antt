@@ -9,11 +9,11 @@ use Rattle.nm_types.specs.Map.{same_page}
 use Rattle.nm_types.proofs.Maps.{exact_page, equal}
 use Rattle.nm_types.proofs.Cases.{none_some}
 use Rattle.std.proofs.lemmas.Bool.{false≢true}
-use Rattle.nm_runs.specs.declared.Class.{Class}
-use Rattle.nm_runs.specs.declared.Class.TheVariants.{Status, Move}
-use Rattle.nm_runs.specs.Status.{code}
-use Rattle.nm_plan.specs.declared.Taken.{Taken}
-use Rattle.nm_plan.specs.Decide.{Choice, Decisions, has_moved, take_front, decide}
+use Rattle.nm_types.specs.declared.request.Class.{Class}
+use Rattle.nm_types.specs.declared.request.Class.TheVariants.{Status, Move}
+use Rattle.nm_model.specs.definitions.Status.{code}
+use Rattle.nm_types.specs.declared.taken.Taken.{Taken}
+use Rattle.nm_model.specs.definitions.Decide.{Choice, Decisions, has_moved, take_front, decide}
 use Rattle.nm_plan.specs.Closed.{IsNew}
 
 is_move : Option Class → Bool

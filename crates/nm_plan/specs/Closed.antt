@@ -4,10 +4,10 @@ use Rattle.std.specs.List.{list_any}
 use Rattle.nm_types.specs.declared.errno.Errno.TheVariants.{Enomem}
 use Rattle.nm_types.specs.declared.page.Page.{Page}
 use Rattle.nm_types.specs.Map.{same_page}
-use Rattle.nm_runs.specs.declared.Class.{Class}
-use Rattle.nm_runs.specs.declared.Class.TheVariants.{Status, Move}
-use Rattle.nm_runs.specs.Status.{code}
-use Rattle.nm_plan.specs.declared.Taken.{Taken}
+use Rattle.nm_types.specs.declared.request.Class.{Class}
+use Rattle.nm_types.specs.declared.request.Class.TheVariants.{Status, Move}
+use Rattle.nm_model.specs.definitions.Status.{code}
+use Rattle.nm_types.specs.declared.taken.Taken.{Taken}
 
 -- whether a page is one of these
 abbrev pub is_one_of : List Page → Page → Bool

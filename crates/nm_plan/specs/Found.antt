@@ -6,9 +6,9 @@ use Rattle.std.specs.List.Sorted.{IsNonDecreasingBy}
 use Rattle.std.specs.Ordering.{ordering_index}
 use Rattle.nm_types.specs.declared.page.Page.{Page}
 use Rattle.nm_types.specs.Map.{page_cmp}
-use Rattle.nm_plan.specs.declared.Taken.{Taken}
+use Rattle.nm_types.specs.declared.taken.Taken.{Taken}
 use Rattle.nm_plan.specs.declared.search.Search.{Search}
-use Rattle.nm_plan.specs.Decide.{has_moved}
+use Rattle.nm_model.specs.definitions.Decide.{has_moved}
 
 -- the pages ascend: against any page, none stands higher than those after it
 abbrev pub Ascends : List Taken → Type 0

@@ -4,10 +4,10 @@ ghost use Rattle.std.specs.Prelude.{ℕ, List, [], ◌≡◌, ◌<◌, map, slic
 ghost use Rattle.std.specs.List.{zip};
 ghost use Rattle.nm_types.specs.declared.errno.Errno.TheVariants.{Enomem};
 ghost use Rattle.nm_types.specs.declared.page.Page.{Page};
-ghost use Rattle.nm_runs.specs.declared.Class.{Class};
-ghost use Rattle.nm_runs.specs.declared.Class.TheVariants.{Move};
-ghost use Rattle.nm_runs.specs.Status.{code};
-ghost use Rattle.nm_plan.specs.Decide.{decide};
+ghost use Rattle.nm_types.specs.declared.request.Class.{Class};
+ghost use Rattle.nm_types.specs.declared.request.Class.TheVariants.{Move};
+ghost use Rattle.nm_model.specs.definitions.Status.{code};
+ghost use Rattle.nm_model.specs.definitions.Decide.{decide};
 ghost use Rattle.nm_plan.specs.Closed.{new_pages, taking, lucky, status_by, IsNew};
 
 /// Of the pages that are to move, each counted once, the k-th takes the k-th free frame, as far as there are frames.

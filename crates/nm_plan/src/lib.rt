@@ -8,17 +8,6 @@ mod search;
 #[cfg(test)]
 mod tests;
 
-use nm_types::{FrameId, Page};
+pub use nm_types::Taken;
 pub use outcome::Plan;
 pub use planning::plan;
-
-/// A page that moves.
-#[derive(Clone, Copy, Debug, PartialEq, Eq)]
-pub struct Taken {
-    /// The page.
-    pub page: Page,
-    /// The frame that it leaves.
-    pub from: FrameId,
-    /// The frame that it takes.
-    pub to: FrameId,
-}

@@ -16,7 +16,7 @@ pub struct Plan<A: Allocator + Copy> {
 }
 
 impl<A: Allocator + Copy> Model for Plan<A> {
-    ghost use Rattle.nm_plan.specs.Decide.{Planned};
+    ghost use Rattle.nm_model.specs.definitions.Decide.{Planned};
 
     ghost Value = { Planned };
 

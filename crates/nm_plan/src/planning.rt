@@ -2,7 +2,7 @@
 
 ghost use Rattle.std.specs.Prelude.{◌≡◌, ◌<◌, ◌+◌, ◌^◌, ◌++◌, drop, length, position, vec_len, vec_capacity, IfOk, OnOk};
 ghost use Rattle.std.specs.List.{zip};
-ghost use Rattle.nm_plan.specs.Decide.{choose, is_short, planned};
+ghost use Rattle.nm_model.specs.definitions.Decide.{choose, is_short, planned};
 ghost use Rattle.nm_plan.specs.Found.{Finds};
 
 use crate::Taken;

@@ -2,7 +2,7 @@
 
 ghost use Rattle.std.specs.Prelude.{◌≡◌, ◌∷◌, ◌++◌, [], OnOk};
 ghost use Rattle.std.specs.Bool.{OnTrue};
-ghost use Rattle.nm_plan.specs.Decide.{has_moved};
+ghost use Rattle.nm_model.specs.definitions.Decide.{has_moved};
 ghost use Rattle.nm_plan.specs.Found.{Ascends, IsPast, Finds};
 
 use crate::Taken;

@@ -1,4 +1,3 @@
-pub mod Order
 pub mod Zones
 pub mod Rows
 pub mod Pairs

@@ -5,7 +5,7 @@ use Rattle.std.specs.List.Sorted.{IsStrictlyIncreasing}
 use Rattle.std.specs.Option.{option_or}
 use Rattle.nm_types.specs.Nodes.{is_in, without_node}
 use Rattle.nm_policy.specs.declared.pairing.Pair.{Pair}
-use Rattle.nm_policy.specs.Order.{turn}
+use Rattle.nm_model.specs.definitions.Order.{turn}
 
 -- each node of `old` with the node of `new` whose turn it is, from a turn on
 abbrev pub dealt : ℕ → List ℕ → List ℕ → List Pair

@@ -4,7 +4,7 @@ ghost use Rattle.std.specs.Prelude.{◌≡◌, ℕ, List, ◌&&◌, IfOk, find};
 ghost use Rattle.std.specs.List.{filter};
 ghost use Rattle.nm_types.specs.Layout.{Layout};
 ghost use Rattle.nm_types.specs.Nodes.{is_in};
-ghost use Rattle.nm_policy.specs.Order.{first_touch_order, zonelist, follows, turn, nearer_of};
+ghost use Rattle.nm_model.specs.definitions.Order.{first_touch_order, zonelist, follows, turn, nearer_of};
 
 use crate::zones::{distance, zonelist};
 use nm_types::{Geometry, NodeId, NodeMask, Policy};

@@ -3,8 +3,8 @@ use Rattle.std.proofs.Common.{arith, ◌≡◌, ℕ, ◌<◌, true, false, List,
 use Rattle.std.specs.Prelude.{◌==◌, ◌≢◌, if◌then◌else◌}
 use Rattle.std.specs.List.{AllByRecursion}
 use Rattle.std.proofs.lemmas.Bool.{eqb-true, eqb-false, eq-eqb, ne_eqb}
-use Rattle.nm_runs.specs.declared.Wanted.{Wanted}
-use Rattle.nm_runs.specs.Cut.{Request, Stretch, in_front, cut, all_to, joined, size_of, OfFirst, AllNeighbours, EachBatchHasOneCut}
+use Rattle.nm_types.specs.declared.request.Wanted.{Wanted}
+use Rattle.nm_model.specs.definitions.Cut.{Request, Stretch, in_front, cut, all_to, joined, size_of, OfFirst, AllNeighbours, EachBatchHasOneCut}
 
 -- some requests
 abbrev pub IsSome : Stretch → Type 0

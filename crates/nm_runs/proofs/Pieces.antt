@@ -5,11 +5,12 @@ use Rattle.std.specs.List.{AllByRecursion, flat_map}
 use Rattle.std.proofs.lemmas.Bool.{cases_lt, cases_eq}
 use Rattle.std.proofs.lemmas.List.{take_all, drop_all, length-take, length-append, length-drop, length-map, map-append, take-map, drop-map, take-append-drop, take-append-le, drop-append-le, append-nil, drop-drop}
 use Rattle.std.proofs.lemmas.List.Concat.{flat_map-append}
-use Rattle.nm_runs.specs.declared.Wanted.{Wanted}
-use Rattle.nm_runs.specs.declared.Wanted.TheVariants.{Whole}
+use Rattle.nm_types.specs.declared.request.Wanted.{Wanted}
+use Rattle.nm_types.specs.declared.request.Wanted.TheVariants.{Whole}
 use Rattle.nm_runs.specs.declared.Run.{Run}
-use Rattle.nm_runs.specs.Cut.{Request, Stretch, in_front, cut, all_to, joined, size_of, OfFirst, AllNeighbours, IsFirst, first_target, wanted_of, same_front, stretches_of}
-use Rattle.nm_runs.specs.Limit.{pieces_in, pieces, within, cut_within, CutIsOldCut, IsFullBefore, EachLimitCuts, targets_of, for_nodes, run_count, RunCountCountsRuns}
+use Rattle.nm_model.specs.definitions.Cut.{Request, Stretch, in_front, cut, all_to, joined, size_of, OfFirst, AllNeighbours, IsFirst, first_target, wanted_of, same_front}
+use Rattle.nm_runs.specs.Stretches.{stretches_of}
+use Rattle.nm_model.specs.definitions.Cut.{pieces_in, pieces, within, cut_within, CutIsOldCut, IsFullBefore, EachLimitCuts, targets_of, for_nodes, run_count, RunCountCountsRuns}
 use Rattle.nm_runs.proofs.Stretches.{nodes_first}
 use Rattle.nm_runs.proofs.Cuts.{IsSome, GoesApart, FirstGoes, cut_joined, cut_some, cut_apart, cut_more, cut_other, joined_goes}
 

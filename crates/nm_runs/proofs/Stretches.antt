@@ -6,10 +6,10 @@ use Rattle.std.proofs.lemmas.List.{length-map}
 use Rattle.std.proofs.lemmas.List.Sums.{take_while-cons}
 use Rattle.std.specs.Prelude.{◌==◌, slice_index}
 use Rattle.std.specs.List.{take_while}
-use Rattle.nm_runs.specs.declared.Wanted.{Wanted}
-use Rattle.nm_runs.specs.declared.Wanted.TheVariants.{Whole}
-use Rattle.nm_runs.specs.Cut.{Request, Stretch, in_front, cut, wanted_of, first_target, same_front, IsFirst}
-use Rattle.nm_runs.specs.Limit.{for_nodes}
+use Rattle.nm_types.specs.declared.request.Wanted.{Wanted}
+use Rattle.nm_types.specs.declared.request.Wanted.TheVariants.{Whole}
+use Rattle.nm_model.specs.definitions.Cut.{Request, Stretch, in_front, cut, wanted_of, first_target, same_front, IsFirst}
+use Rattle.nm_model.specs.definitions.Cut.{for_nodes}
 
 -- how many at the front name this node
 abbrev front : ℕ → List Request → ℕ

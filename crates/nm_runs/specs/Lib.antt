@@ -1,11 +1,8 @@
-pub mod Seen
-pub mod Status
 pub mod Shown
 pub mod ShownRows
-pub mod Cut
-pub mod Limit
 pub mod LimitRows
 pub mod Targets
 pub use Rattle.nm_types.specs.Map
 pub use Rattle.nm_types.specs.Layout
 pub use Rattle.nm_types.specs.State
+pub mod Stretches

@@ -1,7 +1,7 @@
 -- Worked cuts of batches.
 use Rattle.std.specs.Prelude.{◌≡◌, ℕ, List, [], ◌∷◌, map}
-use Rattle.nm_runs.specs.Cut.{cut, size_of}
-use Rattle.nm_runs.specs.Limit.{cut_within, for_nodes, run_count}
+use Rattle.nm_model.specs.definitions.Cut.{cut, size_of}
+use Rattle.nm_model.specs.definitions.Cut.{cut_within, for_nodes, run_count}
 
 -- how long the runs of a batch for these nodes are
 abbrev pub run_sizes : ℕ → List ℕ → List ℕ

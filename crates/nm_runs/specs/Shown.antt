@@ -4,10 +4,10 @@ use Rattle.nm_types.specs.declared.page.Page.{Page}
 use Rattle.nm_types.specs.declared.seen.Seen.{Seen}
 use Rattle.nm_types.specs.declared.seen.Seen.TheVariants.{NoArea, Absent, Zero, At}
 use Rattle.nm_types.specs.Layout.{Layout, frame_count}
-use Rattle.nm_runs.specs.declared.Class.{Class}
-use Rattle.nm_runs.specs.declared.Wanted.{Wanted}
-use Rattle.nm_runs.specs.declared.Wanted.TheVariants.{At as Spot, Whole}
-use Rattle.nm_runs.specs.Status.{class_of_look}
+use Rattle.nm_types.specs.declared.request.Class.{Class}
+use Rattle.nm_types.specs.declared.request.Wanted.{Wanted}
+use Rattle.nm_types.specs.declared.request.Wanted.TheVariants.{At as Spot, Whole}
+use Rattle.nm_model.specs.definitions.Status.{class_of_look}
 
 -- where a frame is seen, it is below this number
 abbrev pub HasFrameBelow : ℕ → Seen → Type 0

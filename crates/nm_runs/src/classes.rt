@@ -2,7 +2,7 @@
 
 ghost use Rattle.std.specs.Prelude.{◌≡◌, ◌<◌, ◌^◌, map, IfOk};
 ghost use Rattle.nm_types.specs.Layout.{frame_count};
-ghost use Rattle.nm_runs.specs.Status.{class_of_look};
+ghost use Rattle.nm_model.specs.definitions.Status.{class_of_look};
 ghost use Rattle.nm_runs.specs.Shown.{class_shown, HasFrameBelow, ShowsItsFrames};
 
 use crate::{Class, Run, Wanted};

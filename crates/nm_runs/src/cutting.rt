@@ -2,8 +2,9 @@
 
 ghost use Rattle.std.specs.Prelude.{◌≡◌, ◌<◌, ◌≤◌, ◌==◌, IfOk, length, slice_index};
 ghost use Rattle.std.specs.List.{take_while};
-ghost use Rattle.nm_runs.specs.Cut.{cut, stretches_of, wanted_of, same_front, IsFirst};
-ghost use Rattle.nm_runs.specs.Limit.{cut_within, run_count};
+ghost use Rattle.nm_model.specs.definitions.Cut.{cut, wanted_of, same_front, IsFirst};
+ghost use Rattle.nm_runs.specs.Stretches.{stretches_of};
+ghost use Rattle.nm_model.specs.definitions.Cut.{cut_within, run_count};
 
 use crate::{Request, Run, Wanted};
 use std::alloc::{AllocError, Allocator};

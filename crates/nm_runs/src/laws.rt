@@ -1,7 +1,7 @@
 //! Laws of the runs of a batch. Each function does nothing, and its contract is the law.
 
-ghost use Rattle.nm_runs.specs.Cut.{EachBatchHasOneCut};
-ghost use Rattle.nm_runs.specs.Limit.{CutIsOldCut, EachLimitCuts, RunCountCountsRuns};
+ghost use Rattle.nm_model.specs.definitions.Cut.{EachBatchHasOneCut};
+ghost use Rattle.nm_model.specs.definitions.Cut.{CutIsOldCut, EachLimitCuts, RunCountCountsRuns};
 ghost use Rattle.nm_runs.specs.LimitRows.{CutRows};
 
 /// The stretches that `cut` gives are the batch when they are joined, neighbours go to different nodes, and none is

@@ -12,7 +12,7 @@ use Rattle.nm_types.proofs.Cases.{none_some, some_is}
 use Rattle.nm_types.proofs.Maps.{get-replace}
 use Rattle.nm_tables.specs.Leaves.{leaf_entries}
 use Rattle.nm_tables.specs.Blocks.{entries_there, slot_entries, AreBlocks, EachLeafIsNamed, EachHasEntries}
-use Rattle.nm_tables.specs.declared.entry.Entry.{Entry}
+use Rattle.nm_types.specs.declared.entry.Entry.{Entry}
 use Rattle.nm_tables.specs.declared.places.Places.{Places}
 use Rattle.nm_tables.specs.declared.slot.Slot.{Slot}
 use Rattle.nm_tables.specs.declared.slot.Slot.TheVariants.{Lone, Leaf}

@@ -11,7 +11,7 @@ use Rattle.nm_tables.specs.Tree.{listed, and_then}
 use Rattle.nm_tables.proofs.Joined.{one_or_other, get-here, get-later, get-absent, alike, get-without, at_once, at_other}
 use Rattle.nm_tables.specs.Leaves.{leaf_entries, leaf_ordered, stands_at, keys_from}
 use Rattle.nm_tables.specs.declared.places.Places.{Places}
-use Rattle.nm_tables.specs.declared.entry.Entry.{Entry}
+use Rattle.nm_types.specs.declared.entry.Entry.{Entry}
 use Rattle.nm_tables.proofs.Changed.{get-put_other}
 
 -- what is listed at a number

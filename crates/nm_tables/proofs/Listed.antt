@@ -9,7 +9,7 @@ use Rattle.nm_types.specs.Map.{Map, get}
 use Rattle.nm_tables.specs.Leaves.{leaf_entries, leaf_ordered, stands_at}
 use Rattle.nm_tables.specs.Lists.{Extends}
 use Rattle.nm_tables.specs.Blocks.{slot_entries, IsSlot, IsSlotOf, entries_by, AreBlocks}
-use Rattle.nm_tables.specs.declared.entry.Entry.{Entry}
+use Rattle.nm_types.specs.declared.entry.Entry.{Entry}
 use Rattle.nm_tables.specs.declared.places.Places.{Places}
 use Rattle.nm_tables.specs.declared.slot.Slot.{Slot}
 use Rattle.nm_tables.proofs.Leaves.{leaf-at, leaf-none}

@@ -15,7 +15,7 @@ use Rattle.nm_tables.specs.Tree.{joined, IsPart}
 use Rattle.nm_tables.specs.Nodes.{shown, are_parts, node_ordered}
 use Rattle.nm_tables.specs.Leaves.{leaf_entries, leaf_part, blocks_upwards}
 use Rattle.nm_tables.specs.Blocks.{entries_there, slot_entries, IsLeafOf, IsOf, IsSlotOf, IsSlot, lacks, without_leaf, entries_by, AreBlocks, block_entries, IsBlocks}
-use Rattle.nm_tables.specs.declared.entry.Entry.{Entry}
+use Rattle.nm_types.specs.declared.entry.Entry.{Entry}
 use Rattle.nm_tables.specs.declared.places.Places.{Places}
 use Rattle.nm_tables.specs.declared.slot.Slot.{Slot}
 use Rattle.nm_tables.specs.declared.slot.Slot.TheVariants.{Lone, Leaf}

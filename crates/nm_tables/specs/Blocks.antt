@@ -6,7 +6,7 @@ use Rattle.nm_types.specs.Map.{Map, get}
 use Rattle.nm_tables.specs.Tree.{joined}
 use Rattle.nm_tables.specs.Nodes.{shown, IsNode}
 use Rattle.nm_tables.specs.Leaves.{leaf_entries}
-use Rattle.nm_tables.specs.declared.entry.Entry.{Entry}
+use Rattle.nm_types.specs.declared.entry.Entry.{Entry}
 use Rattle.nm_tables.specs.declared.places.Places.{Places}
 use Rattle.nm_tables.specs.declared.slot.Slot.{Slot}
 use Rattle.nm_tables.specs.declared.slot.Slot.TheVariants.{Lone, Leaf}

@@ -2,8 +2,8 @@
 use Rattle.std.specs.Prelude.{◌≡◌, ℕ, [], ◌∷◌}
 use Rattle.std.specs.Ordering.{nat_cmp}
 use Rattle.nm_types.specs.Map.{Map, set, replace, without}
-use Rattle.nm_tables.specs.declared.entry.Entry.{Entry}
-use Rattle.nm_tables.specs.declared.entry.Entry.TheVariants.{Zero, Frame, Held}
+use Rattle.nm_types.specs.declared.entry.Entry.{Entry}
+use Rattle.nm_types.specs.declared.entry.Entry.TheVariants.{Zero, Frame, Held}
 
 -- page 16 was zero and is on its way to frame 2, and the last page number inside areas is in frame 3
 abbrev pub two_pages : Map ℕ Entry

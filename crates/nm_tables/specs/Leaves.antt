@@ -11,8 +11,8 @@ use Rattle.nm_types.specs.Map.{Map}
 use Rattle.nm_tables.specs.Tree.{and_then, listed, IsPart}
 use Rattle.nm_tables.specs.Marks.{is_marked}
 use Rattle.nm_tables.specs.declared.places.Places.{Places}
-use Rattle.nm_tables.specs.declared.entry.Entry.{Entry}
-use Rattle.nm_tables.specs.declared.entry.Entry.TheVariants.{Zero, Frame, Held}
+use Rattle.nm_types.specs.declared.entry.Entry.{Entry}
+use Rattle.nm_types.specs.declared.entry.Entry.TheVariants.{Zero, Frame, Held}
 
 -- what stands at a place that names a frame or none, with a mark or without
 abbrev pub entry_of : Bool → Bool → ℕ → Option Entry

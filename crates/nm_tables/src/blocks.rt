@@ -11,7 +11,7 @@ ghost use Rattle.nm_tables.specs.Lists.{Extends};
 ghost use Rattle.nm_tables.specs.Blocks.{slot_entries, IsSlotOf, block_entries, IsBlocks};
 ghost use Rattle.nm_tables.specs.declared.slot.Slot.TheVariants.{Lone, Leaf};
 
-use crate::entry::Entry;
+use crate::Entry;
 use crate::index::Index;
 use crate::leaf::{clear_in, entry_in, first_in, has_no_other, list_leaf, set_in};
 use crate::places::Places;

@@ -8,7 +8,7 @@ ghost use Rattle.std.specs.BTreeMap.Range.{entries_between};
 ghost use Rattle.nm_tables.specs.Leaves.{leaf_entries};
 ghost use Rattle.nm_tables.specs.Lists.{Extends};
 
-use crate::entry::Entry;
+use crate::Entry;
 use crate::places::Places;
 use nm_types::Vpn;
 use std::alloc::{AllocError, Allocator};

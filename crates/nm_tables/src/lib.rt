@@ -6,7 +6,6 @@ mod branch;
 mod cell;
 #[cfg(test)]
 mod drawn;
-mod entry;
 mod index;
 pub mod laws;
 mod leaf;
@@ -19,5 +18,5 @@ mod table;
 #[cfg(test)]
 mod tests;
 
-pub use entry::Entry;
+pub use nm_types::Entry;
 pub use table::PageTable;

@@ -3,7 +3,7 @@
 ghost use Rattle.std.specs.Prelude.{◌≡◌, ◌≤◌, ◌<◌, ◌+◌, ℕ, true, false, None, Some, IfSome, IfNone};
 ghost use Rattle.nm_tables.specs.Leaves.{entry_of, stands_at};
 
-use crate::entry::Entry;
+use crate::Entry;
 use crate::marks::Marks;
 use nm_types::FrameId;
 

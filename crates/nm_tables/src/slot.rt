@@ -1,6 +1,6 @@
 //! What a page table keeps of a block of page numbers.
 
-use crate::entry::Entry;
+use crate::Entry;
 use nm_types::Vpn;
 
 /// What an aligned block of 512 page numbers has that has an entry.

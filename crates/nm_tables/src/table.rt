@@ -9,8 +9,8 @@ ghost use Rattle.std.specs.BTreeMap.Range.{entries_between};
 ghost use Rattle.nm_types.specs.Map.{get, set, replace, without};
 ghost use Rattle.nm_tables.specs.Lists.{Extends};
 
+use crate::Entry;
 use crate::blocks::Blocks;
-use crate::entry::Entry;
 use nm_types::Vpn;
 use std::alloc::{AllocError, Allocator};
 use std::marker::Model;
@@ -26,7 +26,7 @@ pub struct PageTable<A: Allocator + Copy> {
 impl<A: Allocator + Copy> Model for PageTable<A> {
     ghost use Rattle.std.specs.Prelude.{ℕ};
     ghost use Rattle.nm_types.specs.Map.{Map};
-    ghost use Rattle.nm_tables.specs.declared.entry.Entry.{Entry};
+    ghost use Rattle.nm_types.specs.declared.entry.Entry.{Entry};
 
     ghost Value = { Map ℕ Entry };
 

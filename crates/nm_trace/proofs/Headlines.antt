@@ -3,9 +3,9 @@ use Rattle.std.proofs.Common.{◌≡◌, ℕ, zero, suc, ◌+◌, List, [], ◌�
 use Rattle.std.specs.Prelude.{Option, Some, slice_get, Result, Ok, Err, IfErr, length}
 use Rattle.std.specs.Io.KnownBytes.{Appends}
 use Rattle.nm_types.proofs.Cases.{some_is, none_some}
-use Rattle.nm_engine.specs.Memory.{mem}
-use Rattle.nm_engine.specs.Sound.{IsSound}
-use Rattle.nm_engine.proofs.Soundness.New.{new_sound}
+use Rattle.nm_model.specs.definitions.Memory.{mem}
+use Rattle.nm_model.specs.definitions.Sound.{IsSound}
+use Rattle.nm_laws.proofs.Soundness.New.{new_sound}
 use Rattle.nm_calls.specs.Calls.{Call}
 use Rattle.nm_calls.specs.Outcome.{outcome}
 use Rattle.nm_calls.specs.Systems.{SystemState, system_with}

@@ -1,11 +1,11 @@
 -- The lines of accesses, one after another.
 use Rattle.std.proofs.Common.{◌≡◌, ℕ, suc, ◌+◌, ◌<◌, ◌≤◌, List, [], ◌∷◌, ◌++◌, length, get_or, drop, map, refl, sym, ap, ◌∙◌, append_assoc, add-one, drop-cons}
 use Rattle.std.proofs.lemmas.List.{append-nil, drop_all}
-use Rattle.nm_engine.specs.Touch.{AccessAnswer}
+use Rattle.nm_model.specs.definitions.Touch.{AccessAnswer}
 use Rattle.nm_engine.specs.Answering.{access_shown, answer_shown}
 use Rattle.nm_engine.specs.declared.answered.AccessAnswer.{AccessAnswer as Given}
 use Rattle.nm_calls.specs.declared.call.InFlight.{InFlight}
-use Rattle.nm_calls.specs.During.{shown_during}
+use Rattle.nm_calls.specs.Batch.{shown_during}
 use Rattle.nm_trace.specs.Report.{access_line, access_lines}
 
 -- no lines, where no access is left

@@ -2,7 +2,7 @@
 use Rattle.std.specs.Prelude.{◌≡◌, ℕ, List, [], ◌∷◌, ◌++◌, Some, None, codes, false}
 use Rattle.serde_json.specs.Data.{unsigned, Data, null, number, string, array, object, no_items, item, Members, no_members, member}
 use Rattle.nm_types.specs.declared.errno.Errno.TheVariants.{Enomem}
-use Rattle.nm_engine.specs.Touch.{Read, Write, Bytes, Done, Held, Refused}
+use Rattle.nm_model.specs.definitions.Touch.{Read, Write, Bytes, Done, Held, Refused}
 use Rattle.nm_calls.specs.Calls.{Spawn, MapPages, WriteBytes, MovePages, FreeList, Pagemap}
 use Rattle.nm_trace.specs.Form.{in_flight, during_at}
 use Rattle.nm_trace.specs.Faults.{Plan}

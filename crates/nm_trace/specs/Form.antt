@@ -10,8 +10,8 @@ use Rattle.serde_json.specs.Find.{get, as_number, as_u64, as_bool, as_str, as_ar
 use Rattle.nm_types.specs.Layout.{Layout}
 use Rattle.nm_types.specs.Refusal.{refusal}
 use Rattle.nm_types.specs.declared.geometry.GeometryError.{GeometryError}
-use Rattle.nm_runs.specs.Limit.{run_count}
-use Rattle.nm_engine.specs.Touch.{Access, Read, Write}
+use Rattle.nm_model.specs.definitions.Cut.{run_count}
+use Rattle.nm_model.specs.definitions.Touch.{Access, Read, Write}
 use Rattle.nm_calls.specs.Systems.{default_limit}
 use Rattle.nm_calls.specs.Calls.{Call, Spawn, MapPages, Attach, Unmap, Exit, Pin, Unpin, ReadBytes, WriteBytes, MovePages, MigratePages, Mbind, Offline, Online, Query, FreeList, Pagemap, Vmstat, NumaMaps}
 

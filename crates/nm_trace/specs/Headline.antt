@@ -1,8 +1,8 @@
 -- The headline: what a trace comes to that is played to its end on a new machine.
 use Rattle.std.specs.Prelude.{◌≡◌, ℕ, ◌+◌, false, List, length, take, slice_get, Option, Some, Result, Ok, Err}
 use Rattle.std.specs.Io.KnownBytes.{Appends}
-use Rattle.nm_engine.specs.Memory.{mem}
-use Rattle.nm_engine.specs.Sound.{IsSound}
+use Rattle.nm_model.specs.definitions.Memory.{mem}
+use Rattle.nm_model.specs.definitions.Sound.{IsSound}
 use Rattle.nm_calls.specs.Calls.{Call}
 use Rattle.nm_calls.specs.Laws.{writes_or_maps, byte_after}
 use Rattle.nm_calls.specs.Outcome.{runs_of}

@@ -6,7 +6,7 @@ ghost use Rattle.nm_engine.specs.Answering.{access_shown};
 ghost use Rattle.nm_trace.specs.Form as form;
 ghost use Rattle.nm_calls.specs.Views.{call_of};
 ghost use Rattle.nm_trace.specs.Gives.{Gives};
-ghost use Rattle.nm_calls.specs.During.{shown_during};
+ghost use Rattle.nm_calls.specs.Batch.{shown_during};
 ghost use Rattle.nm_trace.specs.declared.step_error.StepError.TheVariants.{Memory};
 
 use crate::step_error::StepError;

@@ -8,7 +8,7 @@ ghost use Rattle.nm_calls.specs.Outcome.{accesses_asked, shown};
 ghost use Rattle.nm_calls.specs.Views.{call_of, answer_of};
 ghost use Rattle.nm_trace.specs.Report.{word_of, listed, signed_listed, entry_text, totals_text, lines_behind, answer_text, line_of, text_of, access_lines, answers_in, access_word, access_line};
 ghost use Rattle.nm_engine.specs.Answering.{access_shown, answer_shown};
-ghost use Rattle.nm_calls.specs.During.{shown_during};
+ghost use Rattle.nm_calls.specs.Batch.{shown_during};
 
 use nm_calls::{
     Access, AccessAnswer, Answer, Call, InFlight, PagemapEntry, Totals, push_address, push_number,

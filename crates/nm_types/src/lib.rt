@@ -3,28 +3,38 @@
 
 mod access;
 mod area;
+mod entry;
 mod errno;
 mod flags;
 mod geometry;
 pub mod laws;
 pub mod limits;
+mod located;
 mod machine_error;
 mod mask;
 mod numbers;
 mod page;
+mod process;
+mod request;
 mod seen;
 mod sight;
+mod taken;
 #[cfg(test)]
 mod tests;
 
 pub use access::Access;
 pub use area::{Area, Policy, Segment};
+pub use entry::Entry;
 pub use errno::Errno;
 pub use flags::MoveFlags;
 pub use geometry::{Geometry, GeometryError};
+pub use located::Located;
 pub use machine_error::MachineError;
 pub use mask::NodeMask;
 pub use numbers::{FrameId, NodeId, Pid, Vpn};
 pub use page::Page;
+pub use process::ProcessInfo;
+pub use request::{Class, Request, Wanted};
 pub use seen::{PageView, Seen};
 pub use sight::Sight;
+pub use taken::Taken;

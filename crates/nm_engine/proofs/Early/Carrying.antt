@@ -11,28 +11,29 @@ use Rattle.nm_types.specs.Layout.{frame_count, node_count}
 use Rattle.nm_types.specs.Map.{Map, get, page_cmp, same_page, with_values}
 use Rattle.nm_types.specs.State.{State}
 use Rattle.nm_types.proofs.Maps.{page_cmp_total, keys-values}
-use Rattle.nm_frames.specs.Store.{Store, IsHome, overwrite}
-use Rattle.nm_plan.specs.declared.Taken.{Taken}
+use Rattle.nm_model.specs.definitions.Frames.{Store, IsHome, overwrite}
+use Rattle.nm_types.specs.declared.taken.Taken.{Taken}
 use Rattle.nm_engine.specs.AddressSpaces.{SpacesView, with_moved, table_of}
 use Rattle.nm_engine.specs.Copies.{without_both, emptied, with_copies, CanCopy}
 use Rattle.nm_engine.specs.Frames.{FramesView, HasAllFrames, free_on}
-use Rattle.nm_engine.specs.Flight.{AllAnswered}
-use Rattle.nm_engine.specs.Laws.{with_moves}
+use Rattle.nm_model.specs.definitions.Touch.{AllAnswered}
+use Rattle.nm_laws.specs.Laws.{with_moves}
 use Rattle.nm_engine.specs.MidRun.{MidRun, IsKept}
-use Rattle.nm_engine.specs.Moves.{CanMove, CanRemap, all_moved}
-use Rattle.nm_engine.specs.Run.{left}
+use Rattle.nm_laws.specs.Moves.{CanMove}
+use Rattle.nm_engine.specs.Moves.{CanRemap, all_moved}
+use Rattle.nm_model.specs.definitions.Run.{left}
 use Rattle.nm_engine.specs.Shown.{shown_by, paged_frames}
-use Rattle.nm_engine.specs.Sound.{times, IsSoundMidRun, IsSound}
-use Rattle.nm_engine.specs.Early.{Due, Known, ToRead, ToWrite, at_page, with_written, made, all_made, tos, with_fronts, IsInside, IsDue}
+use Rattle.nm_model.specs.definitions.Sound.{times, IsSoundMidRun, IsSound}
+use Rattle.nm_model.specs.definitions.Early.{Due, Known, ToRead, ToWrite, at_page, with_written, made, all_made, tos, with_fronts, IsInside, IsDue}
 use Rattle.nm_engine.specs.Finishing.{Finished, all_done, IsIn, CanDo}
-use Rattle.nm_engine.proofs.Soundness.Frames.{here, times_cons}
-use Rattle.nm_engine.proofs.Soundness.Once.{counted_place}
+use Rattle.nm_laws.proofs.Soundness.Frames.{here, times_cons}
+use Rattle.nm_laws.proofs.Soundness.Once.{counted_place}
 use Rattle.nm_engine.proofs.Together.Carried.{by_parts, all_carried, IsCarried, is_carried, carried_copy}
 use Rattle.nm_engine.proofs.Together.Copies.{stays_home, copies_home}
-use Rattle.nm_engine.proofs.Together.Touches.{place_in_range}
+use Rattle.nm_laws.proofs.Seen.Frames.{place_in_range}
 use Rattle.nm_engine.proofs.Early.Finished.{all_done_shows, finished_as}
-use Rattle.nm_engine.proofs.Early.Kept.{beside}
-use Rattle.nm_engine.proofs.Early.Phases.{pages_of, again_list}
+use Rattle.nm_laws.proofs.Early.Kept.{beside}
+use Rattle.nm_laws.proofs.Early.Phases.{pages_of, again_list}
 
 -- ---- bytes that are written keep a machine sound
 

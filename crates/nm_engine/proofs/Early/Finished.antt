@@ -13,14 +13,15 @@ use Rattle.nm_types.specs.Map.{Map, get, page_cmp, with_values}
 use Rattle.nm_types.specs.State.{Process, State}
 use Rattle.nm_types.proofs.Cases.{some_is}
 use Rattle.nm_types.proofs.Maps.{page_cmp_total, exact_page, equal, get-values, agree}
-use Rattle.nm_areas.specs.Table.{Table}
-use Rattle.nm_frames.specs.Store.{Store, IsHome, bytes_of, overwrite}
-use Rattle.nm_engine.specs.Frames.{PagedFrames, stretch_of}
-use Rattle.nm_engine.specs.Flight.{AllAnswered}
+use Rattle.nm_model.specs.views.Table.{Table}
+use Rattle.nm_model.specs.definitions.Frames.{Store, IsHome, bytes_of, overwrite}
+use Rattle.nm_engine.specs.Frames.{PagedFrames}
+use Rattle.nm_model.specs.definitions.Memory.{stretch_of}
+use Rattle.nm_model.specs.definitions.Touch.{AllAnswered}
 use Rattle.nm_engine.specs.Shown.{shown, bytes_in}
-use Rattle.nm_engine.specs.Sound.{PlacesAreApart}
-use Rattle.nm_engine.specs.Touch.{AccessAnswer, Bytes}
-use Rattle.nm_engine.specs.Early.{Due, Known, ToRead, ToWrite, at_page, made, told, all_made}
+use Rattle.nm_model.specs.definitions.Sound.{PlacesAreApart}
+use Rattle.nm_model.specs.definitions.Touch.{AccessAnswer, Bytes}
+use Rattle.nm_model.specs.definitions.Early.{Due, Known, ToRead, ToWrite, at_page, made, told, all_made}
 use Rattle.nm_engine.specs.Finishing.{frame_at, done_in, told_in, Finished, all_done, CanDo}
 use Rattle.nm_engine.proofs.Together.Copies.{home_set}
 use Rattle.nm_engine.proofs.Early.Refilled.{all_can_then}

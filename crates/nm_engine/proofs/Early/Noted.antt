@@ -9,16 +9,16 @@ use Rattle.nm_types.specs.declared.sight.Sight.TheVariants.{ZeroPage, Sees}
 use Rattle.nm_types.specs.Map.{get, same_page}
 use Rattle.nm_types.specs.State.{State, page_at}
 use Rattle.nm_types.proofs.Cases.{some_is}
-use Rattle.nm_runs.specs.Seen.{sight_at}
-use Rattle.nm_engine.specs.Touch.{Spot, shown_at, spot, touched, touched_entry, touch, Read, Write, Bytes, Refused}
-use Rattle.nm_engine.specs.Flight.{is_held}
-use Rattle.nm_engine.specs.Seeing.{frame_seen}
-use Rattle.nm_engine.specs.Sound.{IsSoundMidRun}
-use Rattle.nm_engine.specs.Early.{Known, ToRead, ToWrite, Early, held_early, due_read, due_write, read_early, write_early, early}
-use Rattle.nm_engine.proofs.Together.Touches.{page_of_frame}
-use Rattle.nm_engine.proofs.Early.Seen.{touch_areas}
-use Rattle.nm_engine.proofs.Early.Later.{early_ready}
-use Rattle.nm_engine.proofs.Early.Ready.{process_page}
+use Rattle.nm_model.specs.definitions.Seen.{sight_at}
+use Rattle.nm_model.specs.definitions.Touch.{Spot, shown_at, spot, touched, touched_entry, touch, Read, Write, Bytes, Refused}
+use Rattle.nm_model.specs.definitions.Touch.{is_held}
+use Rattle.nm_model.specs.definitions.Seen.{frame_seen}
+use Rattle.nm_model.specs.definitions.Sound.{IsSoundMidRun}
+use Rattle.nm_model.specs.definitions.Early.{Known, ToRead, ToWrite, Early, held_early, due_read, due_write, read_early, write_early, early}
+use Rattle.nm_laws.proofs.Seen.Frames.{page_of_frame}
+use Rattle.nm_laws.proofs.Early.Seen.{touch_areas}
+use Rattle.nm_laws.proofs.Early.Later.{early_ready}
+use Rattle.nm_laws.proofs.Early.Ready.{process_page}
 
 module _ (s : State) (moved : List Page) where
   -- a read, by where it comes to

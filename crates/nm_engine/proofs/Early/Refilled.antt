@@ -9,12 +9,12 @@ use Rattle.nm_types.specs.Map.{Map}
 use Rattle.nm_types.proofs.Cases.{none_some}
 use Rattle.nm_frames.specs.declared.job.CopyJob.{CopyJob}
 use Rattle.nm_frames.specs.Job.{copied}
-use Rattle.nm_frames.specs.Store.{Store, IsHome, IsOut, bytes_of, overwrite}
-use Rattle.nm_plan.specs.declared.Taken.{Taken}
+use Rattle.nm_model.specs.definitions.Frames.{Store, IsHome, IsOut, bytes_of, overwrite}
+use Rattle.nm_types.specs.declared.taken.Taken.{Taken}
 use Rattle.nm_engine.specs.Copies.{with_buf, with_copies, with_job, emptied, jobs_of, refilled, CanCopy, CanRefill}
-use Rattle.nm_engine.specs.Frames.{stretch_of}
-use Rattle.nm_engine.specs.Touch.{AccessAnswer, Bytes}
-use Rattle.nm_engine.specs.Early.{Due, Known, ToRead, ToWrite}
+use Rattle.nm_model.specs.definitions.Memory.{stretch_of}
+use Rattle.nm_model.specs.definitions.Touch.{AccessAnswer, Bytes}
+use Rattle.nm_model.specs.definitions.Early.{Due, Known, ToRead, ToWrite}
 use Rattle.nm_engine.specs.Finishing.{frame_at, done_in, told_in, Finished, all_done, CanDo}
 use Rattle.nm_engine.proofs.Together.Free.{home_bytes}
 use Rattle.nm_engine.proofs.Together.Copies.{can_refill, home_set, refilled_is}

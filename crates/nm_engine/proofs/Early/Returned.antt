@@ -8,12 +8,12 @@ use Rattle.std.proofs.lemmas.List.Sums.{sum_by_more_le}
 use Rattle.nm_types.specs.Layout.{Layout, owner, node_of, frame_count}
 use Rattle.nm_types.specs.Nodes.{is_in}
 use Rattle.nm_types.specs.State.{State, free_list}
-use Rattle.nm_nodes.specs.Pool.{Pool, list_of, with_list, prepended}
-use Rattle.nm_plan.specs.declared.Taken.{Taken}
-use Rattle.nm_engine.specs.Early.{tos, with_fronts}
-use Rattle.nm_engine.specs.Sound.{times, IsSound}
-use Rattle.nm_engine.proofs.Soundness.Frames.{here, times_cons}
-use Rattle.nm_engine.proofs.Together.Free.{not_in, counted_below}
+use Rattle.nm_model.specs.definitions.Frames.{Pool, list_of, with_list, prepended}
+use Rattle.nm_types.specs.declared.taken.Taken.{Taken}
+use Rattle.nm_model.specs.definitions.Early.{tos, with_fronts}
+use Rattle.nm_model.specs.definitions.Sound.{times, IsSound}
+use Rattle.nm_laws.proofs.Soundness.Frames.{here, times_cons}
+use Rattle.nm_laws.proofs.Soundness.Counted.{not_in, counted_below}
 use Rattle.nm_engine.specs.Frames.{CanReturn}
 
 one_here : (f : ℕ) → here f f ≡ 1

@@ -3,16 +3,16 @@ use Rattle.std.proofs.Common.{◌≡◌, ℕ, ◌<◌, List, [], ◌++◌, lengt
 use Rattle.std.specs.Prelude.{slice_set, slice_index_or}
 use Rattle.std.proofs.lemmas.List.{get_or-set_same, set-set, set-get_or, take-append-drop}
 use Rattle.nm_types.specs.State.{State, free_list}
-use Rattle.nm_plan.specs.declared.Taken.{Taken}
+use Rattle.nm_types.specs.declared.taken.Taken.{Taken}
 use Rattle.nm_engine.specs.AddressSpaces.{SpacesView}
-use Rattle.nm_engine.specs.Early.{without_fronts, with_fronts, tos}
+use Rattle.nm_model.specs.definitions.Early.{without_fronts, with_fronts, tos}
 use Rattle.nm_engine.specs.Frames.{FramesView, free_on}
 use Rattle.nm_engine.specs.MidRun.{IsKept}
-use Rattle.nm_engine.specs.Moves.{CanMove}
+use Rattle.nm_laws.specs.Moves.{CanMove}
 use Rattle.nm_engine.specs.Shown.{shown_by}
-use Rattle.nm_engine.specs.Sound.{IsSoundMidRun}
-use Rattle.nm_engine.proofs.Early.Fronts.{fronts_sound}
-use Rattle.nm_engine.proofs.Early.Phases.{tos_are}
+use Rattle.nm_model.specs.definitions.Sound.{IsSoundMidRun}
+use Rattle.nm_laws.proofs.Early.Fronts.{fronts_sound}
+use Rattle.nm_laws.proofs.Early.Phases.{tos_are}
 
 -- the machine is sound with the frames taken
 pub taken_kept : (y : SpacesView) (k w : FramesView) (online : List ℕ) (moved failed target : ℕ) (moves : List Taken) → IsKept (shown_by y k online moved failed) k.vacated y.frames

@@ -3,9 +3,10 @@ use Rattle.std.proofs.Common.{ℕ, zero, suc, ◌<◌, Bool, true, false, cond, 
 use Rattle.std.specs.Prelude.{◌==◌}
 use Rattle.std.specs.List.{AllByRecursion}
 use Rattle.nm_runs.specs.declared.Run.{Run}
-use Rattle.nm_runs.specs.declared.Wanted.{Wanted}
-use Rattle.nm_runs.specs.Cut.{Request, Stretch, in_front, cut, stretches_of}
-use Rattle.nm_engine.specs.Run.{IsByAddress, IsByPage, HasOneAll}
+use Rattle.nm_types.specs.declared.request.Wanted.{Wanted}
+use Rattle.nm_model.specs.definitions.Cut.{Request, Stretch, in_front, cut}
+use Rattle.nm_runs.specs.Stretches.{stretches_of}
+use Rattle.nm_model.specs.definitions.Run.{IsByAddress, IsByPage, HasOneAll}
 
 -- what holds of all that the requests of a batch want holds of all that each of its runs wants
 module _ (P : Wanted → Type 0) where

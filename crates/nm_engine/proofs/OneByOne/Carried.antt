@@ -11,25 +11,25 @@ use Rattle.nm_types.specs.declared.sight.Sight.TheVariants.{ZeroPage, Sees}
 use Rattle.nm_types.specs.Layout.{frame_count, node_of}
 use Rattle.nm_types.specs.Map.{get, page_cmp}
 use Rattle.nm_types.specs.State.{State, free_list, page_at}
-use Rattle.nm_runs.specs.declared.Class.{Class}
-use Rattle.nm_runs.specs.declared.Class.TheVariants.{Status, Move}
-use Rattle.nm_runs.specs.declared.Wanted.{Wanted}
-use Rattle.nm_runs.specs.declared.Wanted.TheVariants.{At as Spot, Whole}
-use Rattle.nm_runs.specs.Seen.{sight_in, look_in, look_at_place, look_behind}
+use Rattle.nm_types.specs.declared.request.Class.{Class}
+use Rattle.nm_types.specs.declared.request.Class.TheVariants.{Status, Move}
+use Rattle.nm_types.specs.declared.request.Wanted.{Wanted}
+use Rattle.nm_types.specs.declared.request.Wanted.TheVariants.{At as Spot, Whole}
+use Rattle.nm_model.specs.definitions.Seen.{sight_in, look_in, look_at_place, look_behind}
 use Rattle.nm_runs.specs.Shown.{class_shown, HasFrameBelow, ShowsItsFrames}
-use Rattle.nm_runs.specs.Status.{status_or_move}
-use Rattle.nm_plan.specs.declared.Taken.{Taken}
-use Rattle.nm_plan.specs.Decide.{Choice, Decisions, has_moved, take_front, decide, shortage, Planned, planned}
-use Rattle.nm_engine.specs.Run.{moved_page, decided, each, left, counted, with_all_free, failures, run, IsByAddress, IsByPage, HasOneAll}
+use Rattle.nm_model.specs.definitions.Status.{status_or_move}
+use Rattle.nm_types.specs.declared.taken.Taken.{Taken}
+use Rattle.nm_model.specs.definitions.Decide.{Choice, Decisions, has_moved, take_front, decide, shortage, Planned, planned}
+use Rattle.nm_model.specs.definitions.Run.{moved_page, decided, each, left, counted, with_all_free, failures, run, IsByAddress, IsByPage, HasOneAll}
 use Rattle.std.proofs.lemmas.List.{length-map}
-use Rattle.nm_engine.specs.Sound.{times, FramesAreOnce, OwnsItsFree}
-use Rattle.nm_engine.specs.Laws.{Agrees, moves_all, with_move, with_moves}
-use Rattle.nm_engine.specs.Moves.{CanMove, IsPlanOf}
-use Rattle.nm_engine.proofs.Soundness.Once.{counted_place}
-use Rattle.nm_engine.proofs.Together.Free.{counted_below}
-use Rattle.nm_engine.proofs.OneByOne.Looks.{looks_suffice}
-use Rattle.nm_engine.proofs.OneByOne.Planned.{plan_agrees}
-use Rattle.nm_engine.proofs.OneByOne.Placed.{ClassIsPlaced, status_placed, ClassIsAway, status_away}
+use Rattle.nm_model.specs.definitions.Sound.{times, FramesAreOnce, OwnsItsFree}
+use Rattle.nm_laws.specs.Laws.{Agrees, moves_all, with_move, with_moves}
+use Rattle.nm_laws.specs.Moves.{CanMove, IsPlanOf}
+use Rattle.nm_laws.proofs.Soundness.Once.{counted_place}
+use Rattle.nm_laws.proofs.Soundness.Counted.{counted_below}
+use Rattle.nm_laws.proofs.OneByOne.Looks.{looks_suffice}
+use Rattle.nm_laws.proofs.OneByOne.Planned.{plan_agrees}
+use Rattle.nm_laws.proofs.OneByOne.Placed.{ClassIsPlaced, status_placed, ClassIsAway, status_away}
 
 -- what can be done after a request
 abbrev Later : List Wanted → ℕ → Type 0

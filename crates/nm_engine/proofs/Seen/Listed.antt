@@ -16,14 +16,16 @@ use Rattle.nm_types.specs.Layout.{Layout}
 use Rattle.nm_types.specs.Map.{Map, get, page_cmp, with_values}
 use Rattle.nm_types.specs.State.{page_at}
 use Rattle.nm_types.proofs.Maps.{all_from_get}
-use Rattle.nm_tables.specs.declared.entry.Entry.{Entry}
-use Rattle.nm_areas.specs.Mapped.{Mapped}
+use Rattle.nm_types.specs.declared.entry.Entry.{Entry}
+use Rattle.nm_model.specs.definitions.Areas.{Mapped}
 use Rattle.nm_rmap.specs.Mappers.{Mappers}
-use Rattle.nm_engine.specs.declared.located.Located.{Located}
-use Rattle.nm_engine.specs.AddressSpaces.{SpacesView, spaces_view, sight_of, page_here}
-use Rattle.nm_engine.specs.Locating.{located, located_in, in_frame}
-use Rattle.nm_engine.specs.ProcessTable.{Task, entries_in, entry_at, names}
-use Rattle.nm_engine.specs.Sights.{between, sights_in}
+use Rattle.nm_types.specs.declared.located.Located.{Located}
+use Rattle.nm_engine.specs.AddressSpaces.{SpacesView, spaces_view}
+use Rattle.nm_model.specs.definitions.PageTables.{sight_of, page_here}
+use Rattle.nm_model.specs.definitions.Seen.{located, located_in, in_frame}
+use Rattle.nm_model.specs.definitions.PageTables.{Task, entry_at}
+use Rattle.nm_engine.specs.ProcessTable.{entries_in, names}
+use Rattle.nm_model.specs.definitions.Seen.{between, sights_in}
 use Rattle.nm_engine.specs.Tied.{IsTied}
 use Rattle.nm_engine.proofs.Seen.Walked.{found_in, sorted_of, range_shown, few_between}
 

@@ -25,18 +25,20 @@ use Rattle.nm_types.specs.declared.sight.Sight.{Sight}
 use Rattle.nm_types.specs.declared.sight.Sight.TheVariants.{ZeroPage, Sees}
 use Rattle.nm_types.specs.State.{Process, State, page_at}
 use Rattle.nm_types.proofs.Keys.{All-get}
-use Rattle.nm_tables.specs.declared.entry.Entry.{Entry}
-use Rattle.nm_areas.specs.Mapped.{Mapped}
+use Rattle.nm_types.specs.declared.entry.Entry.{Entry}
+use Rattle.nm_model.specs.definitions.Areas.{Mapped}
 use Rattle.nm_rmap.specs.Mappers.{Mappers}
-use Rattle.nm_engine.specs.ProcessTable.{Task, task_table, entries_in, entry_in, entry_at}
+use Rattle.nm_model.specs.definitions.PageTables.{Task, entry_in, entry_at}
+use Rattle.nm_engine.specs.ProcessTable.{task_table, entries_in}
 use Rattle.nm_engine.specs.MidRun.{MidRun}
-use Rattle.nm_engine.specs.AddressSpaces.{SpacesView, spaces_view, sight_of, process_of, page_here}
-use Rattle.nm_runs.specs.Seen.{sight_in, sight_at, is_sight_of, sees_page, users, look_at_place}
+use Rattle.nm_engine.specs.AddressSpaces.{SpacesView, spaces_view}
+use Rattle.nm_model.specs.definitions.PageTables.{sight_of, process_of, page_here}
+use Rattle.nm_model.specs.definitions.Seen.{sight_in, sight_at, is_sight_of, sees_page, users, look_at_place}
 use Rattle.nm_types.specs.declared.seen.Seen.{Seen}
 use Rattle.nm_types.specs.declared.seen.Seen.TheVariants.{NoArea, Absent, Zero, At}
-use Rattle.nm_engine.specs.Sound.{IsSoundMidRun}
+use Rattle.nm_model.specs.definitions.Sound.{IsSoundMidRun}
 use Rattle.nm_engine.specs.Tied.{IsTied}
-use Rattle.nm_engine.specs.Sights.{between, sights_in}
+use Rattle.nm_model.specs.definitions.Seen.{between, sights_in}
 
 is_low : (first k : ℕ) → first ≤ k → nat_le first k ≡ true
 is_low first k h = grind (arith, h)

@@ -13,23 +13,23 @@ use Rattle.nm_types.specs.Map.{Map, get, without, page_cmp}
 use Rattle.nm_types.specs.Layout.{Layout, frame_count}
 use Rattle.nm_types.specs.declared.sight.Sight.{Sight}
 use Rattle.nm_types.specs.State.{Process, State}
-use Rattle.nm_frames.specs.Store.{bytes_of}
-use Rattle.nm_nodes.specs.Pool.{Pool, appended}
-use Rattle.nm_areas.specs.Table.{Table}
-use Rattle.nm_areas.specs.Removed.{areas_left, pages_gone, place_left, lost, with_its_frame, all_lost, frames_lost}
-use Rattle.nm_engine.specs.Effect.{is_covered, released_from, released, dropped}
-use Rattle.nm_engine.specs.Sound.{times, FramesAreOnce, IsSoundMidRun}
+use Rattle.nm_model.specs.definitions.Frames.{bytes_of}
+use Rattle.nm_model.specs.definitions.Frames.{Pool, appended}
+use Rattle.nm_model.specs.views.Table.{Table}
+use Rattle.nm_model.specs.definitions.Areas.{areas_left, pages_gone, place_left, lost, with_its_frame, all_lost, frames_lost}
+use Rattle.nm_model.specs.definitions.Effect.{is_covered, released_from, released, dropped}
+use Rattle.nm_model.specs.definitions.Sound.{times, FramesAreOnce, IsSoundMidRun}
 use Rattle.nm_engine.specs.AddressSpaces.{SpacesView, mapped_of, table_of, without_range}
 use Rattle.nm_engine.specs.Frames.{FramesView, PagedFrames, with_freed, pool_of, CanFree}
 use Rattle.nm_engine.specs.Shown.{bytes_in, shown, paged_frames, shown_by}
 use Rattle.nm_engine.specs.MidRun.{IsKept}
 use Rattle.std.proofs.lemmas.Map.Entries.{sum_by-remove_entry}
 use Rattle.nm_types.proofs.Cases.{some_none, none_is_not}
-use Rattle.nm_engine.proofs.Soundness.Frames.{here, times_push}
+use Rattle.nm_laws.proofs.Soundness.Frames.{here, times_push}
 use Rattle.nm_types.proofs.Keys.{some_from_keys, keys_same-without}
 use Rattle.nm_types.proofs.Maps.{with_values-without}
 use Rattle.nm_engine.proofs.Together.Free.{sizes_stay, all_freed}
-use Rattle.nm_engine.proofs.Soundness.Dropped.{dropped_sound}
+use Rattle.nm_laws.proofs.Soundness.Dropped.{dropped_sound}
 
 -- the frames beside pages
 abbrev pub frames_of : List (Page × ℕ) → List ℕ

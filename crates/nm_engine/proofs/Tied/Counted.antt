@@ -18,13 +18,14 @@ use Rattle.std.proofs.lemmas.Map.Made.{IsDistinct-keys_filter, length-from_keys}
 use Rattle.nm_types.specs.declared.page.Page.{Page}
 use Rattle.nm_types.specs.Map.{Map, get, with_values, page_cmp, same_page, spot_cmp}
 use Rattle.nm_types.proofs.Cases.{none_some, some_is}
-use Rattle.nm_runs.specs.Seen.{is_sight_of, sees_page}
-use Rattle.nm_tables.specs.declared.entry.Entry.{Entry}
-use Rattle.nm_tables.specs.declared.entry.Entry.TheVariants.{Zero, Frame, Held}
-use Rattle.nm_areas.specs.Mapped.{Mapped}
+use Rattle.nm_model.specs.definitions.Seen.{is_sight_of, sees_page}
+use Rattle.nm_types.specs.declared.entry.Entry.{Entry}
+use Rattle.nm_types.specs.declared.entry.Entry.TheVariants.{Zero, Frame, Held}
+use Rattle.nm_model.specs.definitions.Areas.{Mapped}
 use Rattle.nm_rmap.specs.Mappers.{Mappers, mappers_of, pids, process_count}
-use Rattle.nm_engine.specs.ProcessTable.{Task, entry_at, entry_in, names}
-use Rattle.nm_engine.specs.AddressSpaces.{process_of, sight_of, page_here}
+use Rattle.nm_model.specs.definitions.PageTables.{Task, entry_at, entry_in}
+use Rattle.nm_engine.specs.ProcessTable.{names}
+use Rattle.nm_model.specs.definitions.PageTables.{process_of, sight_of, page_here}
 use Rattle.nm_engine.specs.Tied.{IsTied, has_spot}
 use Rattle.nm_types.proofs.Maps.{keys-values, equal, get-values, page_cmp_total, exact_page, spot_cmp_total}
 use Rattle.nm_types.proofs.Keys.{All-get}

@@ -8,12 +8,14 @@ use Rattle.nm_types.specs.declared.sight.Sight.TheVariants.{Sees}
 use Rattle.nm_types.specs.Map.{Map, get, page_cmp}
 use Rattle.nm_types.specs.State.{page_at}
 use Rattle.nm_types.proofs.Cases.{some_is}
-use Rattle.nm_runs.specs.Seen.{sight_in, look_at_place, look_by_sight, look_behind, look_in}
-use Rattle.nm_tables.specs.declared.entry.Entry.{Entry}
-use Rattle.nm_areas.specs.Mapped.{Mapped}
+use Rattle.nm_model.specs.definitions.Seen.{sight_in, look_at_place, look_by_sight, look_behind, look_in}
+use Rattle.nm_types.specs.declared.entry.Entry.{Entry}
+use Rattle.nm_model.specs.definitions.Areas.{Mapped}
 use Rattle.nm_rmap.specs.Mappers.{Mappers}
-use Rattle.nm_engine.specs.AddressSpaces.{SpacesView, spaces_view, sight_of, page_here}
-use Rattle.nm_engine.specs.ProcessTable.{Task, entry_at, names}
+use Rattle.nm_engine.specs.AddressSpaces.{SpacesView, spaces_view}
+use Rattle.nm_model.specs.definitions.PageTables.{sight_of, page_here}
+use Rattle.nm_model.specs.definitions.PageTables.{Task, entry_at}
+use Rattle.nm_engine.specs.ProcessTable.{names}
 use Rattle.nm_engine.specs.Tied.{IsTied}
 use Rattle.nm_engine.proofs.Tied.New.{seen_here, seen_page}
 

@@ -18,23 +18,25 @@ use Rattle.nm_types.specs.declared.errno.Errno.TheVariants.{Einval, Enomem}
 use Rattle.nm_types.specs.Map.{Map, get, page_cmp}
 use Rattle.nm_types.specs.State.{covers, area_over, page_shown, page_at}
 use Rattle.nm_types.proofs.Cases.{true_false, none_some, some_none}
-use Rattle.nm_tables.specs.declared.entry.Entry.{Entry}
-use Rattle.nm_tables.specs.declared.entry.Entry.TheVariants.{Zero, Frame, Held}
+use Rattle.nm_types.specs.declared.entry.Entry.{Entry}
+use Rattle.nm_types.specs.declared.entry.Entry.TheVariants.{Zero, Frame, Held}
 use Rattle.nm_types.specs.declared.machine_error.MachineError.{MachineError}
 use Rattle.nm_types.specs.declared.machine_error.MachineError.TheVariants as error
 use Rattle.nm_types.specs.Does.{Makes}
-use Rattle.nm_areas.specs.Effect.{over_with, with_policy}
-use Rattle.nm_areas.specs.Policy.{pages_of, repoliced}
-use Rattle.nm_areas.specs.Mapped.{Mapped}
-use Rattle.nm_areas.specs.Refused.{first_error, is_range, is_room, is_stretch, insert_refusal, stretch_refusal, range_refusal, overlaps}
+use Rattle.nm_model.specs.definitions.Areas.{over_with, with_policy}
+use Rattle.nm_model.specs.definitions.Areas.{pages_of, repoliced}
+use Rattle.nm_model.specs.definitions.Areas.{Mapped}
+use Rattle.nm_model.specs.definitions.AreaRefusal.{first_error, is_range, is_room, is_stretch, insert_refusal, stretch_refusal, range_refusal, overlaps}
 use Rattle.nm_rmap.specs.Mappers.{Mappers}
-use Rattle.nm_engine.specs.ProcessTable.{Task, entry_at, entry_in, names}
-use Rattle.nm_engine.specs.AddressSpaces.{SpacesView, spaces_view, process_of, sight_of, page_here, pins_in, mapped_of, with_mapped}
+use Rattle.nm_model.specs.definitions.PageTables.{Task, entry_at, entry_in}
+use Rattle.nm_engine.specs.ProcessTable.{names}
+use Rattle.nm_engine.specs.AddressSpaces.{SpacesView, spaces_view, pins_in, mapped_of, with_mapped}
+use Rattle.nm_model.specs.definitions.PageTables.{process_of, sight_of, page_here}
 use Rattle.nm_engine.specs.Tied.{IsTied}
 use Rattle.nm_types.proofs.Maps.{agree}
 use Rattle.nm_types.proofs.Keys.{All-get}
 use Rattle.nm_engine.proofs.Tied.Remapped.{TableInOrder}
-use Rattle.nm_areas.proofs.Apart.{NoneOverlaps, apart_from_new, all_from_none, one_more}
+use Rattle.nm_model.proofs.areas.Apart.{NoneOverlaps, apart_from_new, all_from_none, one_more}
 
 -- every page that was shown is shown there still, and frames stay
 pub record IsShownStill (m n : Mapped) : Type 0 where

@@ -10,12 +10,13 @@ use Rattle.nm_types.specs.declared.page.Page.{Page}
 use Rattle.nm_types.specs.Map.{Map, get, set, page_cmp}
 use Rattle.nm_types.specs.State.{page_at}
 use Rattle.nm_types.proofs.Cases.{some_is}
-use Rattle.nm_tables.specs.declared.entry.Entry.{Entry}
-use Rattle.nm_tables.specs.declared.entry.Entry.TheVariants.{Zero, Frame, Held}
-use Rattle.nm_areas.specs.Mapped.{Mapped}
-use Rattle.nm_areas.specs.Effect.{with_frame}
+use Rattle.nm_types.specs.declared.entry.Entry.{Entry}
+use Rattle.nm_types.specs.declared.entry.Entry.TheVariants.{Zero, Frame, Held}
+use Rattle.nm_model.specs.definitions.Areas.{Mapped}
+use Rattle.nm_model.specs.definitions.Areas.{with_frame}
 use Rattle.nm_rmap.specs.Mappers.{Mappers, mappers_of, frame_pins, carried}
-use Rattle.nm_engine.specs.ProcessTable.{Task, entry_at, names, remapped}
+use Rattle.nm_model.specs.definitions.PageTables.{Task, entry_at}
+use Rattle.nm_engine.specs.ProcessTable.{names, remapped}
 use Rattle.nm_engine.specs.AddressSpaces.{SpacesView, spaces_view, pins_in, with_moved}
 use Rattle.nm_engine.specs.Tied.{IsTied, has_spot}
 use Rattle.nm_types.proofs.Maps.{equal, get-set, page_cmp_total, exact_page, spot_cmp_total, with_values-moved, keys-set}

@@ -14,22 +14,24 @@ use Rattle.nm_types.specs.declared.sight.Sight.TheVariants.{Sees}
 use Rattle.nm_types.specs.Map.{Map, get, set, with_values, page_cmp}
 use Rattle.nm_types.specs.State.{Process, page_at}
 use Rattle.nm_types.proofs.Cases.{none_some}
-use Rattle.nm_runs.specs.Seen.{sight_in}
-use Rattle.nm_tables.specs.declared.entry.Entry.{Entry}
-use Rattle.nm_tables.specs.declared.entry.Entry.TheVariants.{Zero, Frame, Held}
-use Rattle.nm_areas.specs.Effect.{no_areas}
-use Rattle.nm_areas.specs.Mapped.{Mapped}
+use Rattle.nm_model.specs.definitions.Seen.{sight_in}
+use Rattle.nm_types.specs.declared.entry.Entry.{Entry}
+use Rattle.nm_types.specs.declared.entry.Entry.TheVariants.{Zero, Frame, Held}
+use Rattle.nm_model.specs.definitions.Areas.{no_areas}
+use Rattle.nm_model.specs.definitions.Areas.{Mapped}
 use Rattle.nm_rmap.specs.Mappers.{Mappers, new_map}
-use Rattle.nm_engine.specs.declared.process.ProcessInfo.{ProcessInfo}
-use Rattle.nm_engine.specs.Entries.{entry_of}
-use Rattle.nm_engine.specs.Tables.{info_of, untouched}
-use Rattle.nm_engine.specs.ProcessTable.{Task, new_task, task_info, task_table, entry_at, entry_in, names}
-use Rattle.nm_engine.specs.AddressSpaces.{SpacesView, spaces_view, process_of, sight_of, page_here}
+use Rattle.nm_types.specs.declared.process.ProcessInfo.{ProcessInfo}
+use Rattle.nm_model.specs.definitions.PageTables.{entry_of}
+use Rattle.nm_model.specs.definitions.Effect.{info_of, untouched}
+use Rattle.nm_model.specs.definitions.PageTables.{Task, entry_at, entry_in}
+use Rattle.nm_engine.specs.ProcessTable.{new_task, task_info, task_table, names}
+use Rattle.nm_engine.specs.AddressSpaces.{SpacesView, spaces_view}
+use Rattle.nm_model.specs.definitions.PageTables.{process_of, sight_of, page_here}
 use Rattle.nm_engine.specs.Tied.{IsTied, has_spot}
 use Rattle.nm_types.proofs.Maps.{equal, get-set, get-values, all_from_get, with_values-set}
 use Rattle.nm_types.proofs.Keys.{All-set, All-get, sorted-set}
 use Rattle.nm_engine.proofs.Tied.Remapped.{TableInOrder}
-use Rattle.nm_engine.proofs.Tied.Touched.{sight_shown}
+use Rattle.nm_laws.proofs.Seen.Shown.{sight_shown}
 
 none_of_all : {A : Type 0} (n i : ℕ) (d : A) → slice_index_or (replicate n d) i d ≡ d
 none_of_all zero i d = refl

@@ -9,9 +9,9 @@ use Rattle.std.proofs.lemmas.Bool.{both_ways}
 use Rattle.std.proofs.lemmas.List.{get_or-set_same, get_or-set_other}
 use Rattle.nm_types.specs.declared.page.Page.{Page}
 use Rattle.nm_types.specs.Map.{Map, get, set, replace, with_values, page_cmp}
-use Rattle.nm_areas.specs.Mapped.{Mapped}
+use Rattle.nm_model.specs.definitions.Areas.{Mapped}
 use Rattle.nm_rmap.specs.Mappers.{Mappers, frame_pins, with_pins}
-use Rattle.nm_engine.specs.ProcessTable.{Task}
+use Rattle.nm_model.specs.definitions.PageTables.{Task}
 use Rattle.nm_engine.specs.AddressSpaces.{SpacesView, spaces_view, pins_in, pins_here, with_pins_of}
 use Rattle.nm_engine.specs.Tied.{IsTied}
 use Rattle.nm_types.proofs.Maps.{keys-values, get-values, page_cmp_total, exact_page, with_values-set, set_agree, set_same, replace_is_set}

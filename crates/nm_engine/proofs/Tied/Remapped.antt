@@ -11,10 +11,11 @@ use Rattle.std.proofs.lemmas.Bool.{or_left, or_right}
 use Rattle.std.proofs.lemmas.Map.Lookups.{exact_unsigned, exact_pairs}
 use Rattle.nm_types.specs.declared.area.Area.{Area}
 use Rattle.nm_types.specs.Map.{Map, get, replace, with_values, spot_cmp}
-use Rattle.nm_tables.specs.declared.entry.Entry.{Entry}
-use Rattle.nm_tables.specs.declared.entry.Entry.TheVariants.{Zero, Frame, Held}
-use Rattle.nm_engine.specs.ProcessTable.{Task, entry_at, entry_in, names, IsThere, with_other_entry, replaced, replaced_in, remapped}
-use Rattle.nm_engine.specs.AddressSpaces.{process_of, sight_of}
+use Rattle.nm_types.specs.declared.entry.Entry.{Entry}
+use Rattle.nm_types.specs.declared.entry.Entry.TheVariants.{Zero, Frame, Held}
+use Rattle.nm_model.specs.definitions.PageTables.{Task, entry_at, entry_in}
+use Rattle.nm_engine.specs.ProcessTable.{names, IsThere, with_other_entry, replaced, replaced_in, remapped}
+use Rattle.nm_model.specs.definitions.PageTables.{process_of, sight_of}
 use Rattle.nm_engine.specs.Tied.{has_spot}
 use Rattle.nm_types.proofs.Maps.{equal, spot_cmp_total, with_values-replace_alike, get-replace}
 use Rattle.nm_types.proofs.Keys.{keys-replace, All-replace, All-get}

@@ -19,21 +19,23 @@ use Rattle.nm_types.specs.declared.sight.Sight.TheVariants.{Sees}
 use Rattle.nm_types.specs.Map.{Map, get, without, with_values, page_cmp}
 use Rattle.nm_types.specs.State.{Process, Placed, area_over, page_shown, page_at}
 use Rattle.nm_types.proofs.Cases.{true_false, none_some, some_is}
-use Rattle.nm_tables.specs.declared.entry.Entry.{Entry}
-use Rattle.nm_tables.specs.declared.entry.Entry.TheVariants.{Zero, Frame, Held}
-use Rattle.nm_areas.specs.Mapped.{Mapped}
-use Rattle.nm_areas.specs.Parts.{pages_between, is_covered}
-use Rattle.nm_areas.specs.Removed.{areas_left, segments_left, pages_gone, place_left, removed, page_outside}
+use Rattle.nm_types.specs.declared.entry.Entry.{Entry}
+use Rattle.nm_types.specs.declared.entry.Entry.TheVariants.{Zero, Frame, Held}
+use Rattle.nm_model.specs.definitions.Areas.{Mapped}
+use Rattle.nm_model.specs.definitions.Areas.{pages_between, is_covered}
+use Rattle.nm_model.specs.definitions.Areas.{areas_left, segments_left, pages_gone, place_left, removed, page_outside}
 use Rattle.nm_rmap.specs.Mappers.{Mappers, mappers_of, frame_pins}
-use Rattle.nm_engine.specs.Refused.{shows_pinned}
-use Rattle.nm_engine.specs.Tables.{blind_between}
-use Rattle.nm_engine.specs.ProcessTable.{Task, entry_at, names, cleared_between, cleared}
-use Rattle.nm_engine.specs.AddressSpaces.{SpacesView, spaces_view, process_of, sight_of, pins_in, without_range}
+use Rattle.nm_model.specs.definitions.Effect.{shows_pinned}
+use Rattle.nm_model.specs.definitions.Effect.{blind_between}
+use Rattle.nm_model.specs.definitions.PageTables.{Task, entry_at}
+use Rattle.nm_engine.specs.ProcessTable.{names, cleared_between, cleared}
+use Rattle.nm_engine.specs.AddressSpaces.{SpacesView, spaces_view, pins_in, without_range}
+use Rattle.nm_model.specs.definitions.PageTables.{process_of, sight_of}
 use Rattle.nm_engine.specs.Tied.{IsTied, IsCleared, has_spot, is_between}
 use Rattle.nm_types.proofs.Maps.{equal, agree, get-values, exact_page, page_cmp_total, with_values-without}
 use Rattle.nm_types.proofs.Keys.{sorted-without, All-get}
-use Rattle.nm_engine.proofs.Soundness.Allocated.{area_covers}
-use Rattle.nm_engine.proofs.Soundness.Released.{Listed}
+use Rattle.nm_laws.proofs.Soundness.Allocated.{area_covers}
+use Rattle.nm_laws.proofs.Soundness.Released.{Listed}
 use Rattle.nm_engine.proofs.Tied.Remapped.{TableInOrder}
 use Rattle.nm_engine.proofs.Tied.Cleared.{out, out_not, between_parts, sorted_kept, get_kept, one_cleared, and_true, keys-cleared, tables-cleared, entry_cleared}
 

@@ -21,7 +21,8 @@ use Rattle.nm_types.specs.Map.{Map, get, set, replace, without}
 use Rattle.nm_types.proofs.Cases.{some_is}
 use Rattle.nm_types.proofs.Maps.{equal, get-set, get-replace}
 use Rattle.nm_types.proofs.Keys.{sorted-set, sorted-without, keys-replace}
-use Rattle.nm_engine.specs.ProcessTable.{Task, by_pid}
+use Rattle.nm_model.specs.definitions.PageTables.{Task}
+use Rattle.nm_engine.specs.ProcessTable.{by_pid}
 
 both : (a b : Bool) → T a → T b → T (a && b)
 both true true g h = tt

@@ -19,34 +19,27 @@ use Rattle.nm_types.specs.declared.sight.Sight.TheVariants.{ZeroPage, Sees}
 use Rattle.nm_types.specs.Map.{Map, get, set, replace, with_values, page_cmp, spot_cmp}
 use Rattle.nm_types.specs.State.{Process, page_at}
 use Rattle.nm_types.proofs.Cases.{some_none, some_is}
-use Rattle.nm_runs.specs.Seen.{sight_in}
-use Rattle.nm_tables.specs.declared.entry.Entry.{Entry}
-use Rattle.nm_tables.specs.declared.entry.Entry.TheVariants.{Zero, Frame, Held}
-use Rattle.nm_areas.specs.Mapped.{Mapped}
-use Rattle.nm_areas.specs.Effect.{with_frame, without_frame}
+use Rattle.nm_model.specs.definitions.Seen.{sight_in}
+use Rattle.nm_types.specs.declared.entry.Entry.{Entry}
+use Rattle.nm_types.specs.declared.entry.Entry.TheVariants.{Zero, Frame, Held}
+use Rattle.nm_model.specs.definitions.Areas.{Mapped, with_frame, without_frame}
 use Rattle.nm_rmap.specs.Mappers.{Mappers, mappers_of, frame_pins, with_mapper, without_mapper, with_spot, without_spot}
-use Rattle.nm_engine.specs.Tables.{seeing}
-use Rattle.nm_engine.specs.ProcessTable.{Task, entry_at, entry_in, names, with_entry}
-use Rattle.nm_engine.specs.AddressSpaces.{SpacesView, spaces_view, process_of, sight_of, page_here, pins_in, with_seen}
+use Rattle.nm_model.specs.definitions.Effect.{seeing}
+use Rattle.nm_model.specs.definitions.PageTables.{Task, entry_at, entry_in, with_entry, process_of, sight_of, page_here}
+use Rattle.nm_engine.specs.ProcessTable.{names}
+use Rattle.nm_engine.specs.AddressSpaces.{SpacesView, spaces_view, pins_in, with_seen}
 use Rattle.nm_engine.specs.Tied.{IsTied, has_spot}
 use Rattle.nm_types.proofs.Maps.{equal, get-set, get-replace, get-values, page_cmp_total, exact_page, spot_cmp_total, with_values-set, with_values-replace, without-set}
 use Rattle.nm_types.proofs.Keys.{keys-replace, All-replace, All-get, sorted-set}
 use Rattle.nm_engine.proofs.Tied.Remapped.{is_mapped, same_spot, exact_spot, TableInOrder}
 use Rattle.nm_engine.proofs.Tied.Moved.{IsSpare, get_or-set, place_after, place_other}
+use Rattle.nm_laws.proofs.Seen.Shown.{sight_shown}
 
 frame_held : {f g : ℕ} → Some (Frame f) ≡ Some (Held g) → ⊥
 frame_held e = cc
 
 zero_held : {g : ℕ} → Some Zero ≡ Some (Held g) → ⊥
 zero_held e = cc
-
--- what a process sees is what its entry shows
-sight_in_task : (areas : Map (ℕ × ℕ) Area) (pid v : ℕ) (o : Option Task) → sight_in (option_map (process_of areas pid) o) v ≡ option_map (sight_of areas pid v) (entry_in o v)
-sight_in_task areas pid v None = refl
-sight_in_task areas pid v (Some t) = get-values exact_unsigned (sight_of areas pid) t.table v
-
-pub sight_shown : (areas : Map (ℕ × ℕ) Area) (tasks : Map ℕ Task) (pid v : ℕ) → sight_in (get nat_cmp (with_values (process_of areas) tasks) pid) v ≡ option_map (sight_of areas pid v) (entry_at tasks pid v)
-sight_shown areas tasks pid v = ap (λ o. sight_in o v) (get-values exact_unsigned (process_of areas) tasks pid) ∙ sight_in_task areas pid v (get nat_cmp tasks pid)
 
 unmap_some : {A B : Type 0} (f : A → B) (o : Option A) → IsSome (option_map f o) → (a : A) × (o ≡ Some a)
 unmap_some f None h = cc

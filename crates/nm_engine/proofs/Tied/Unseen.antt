@@ -16,19 +16,22 @@ use Rattle.nm_types.specs.Map.{Map, get, replace, without, with_values, page_cmp
 use Rattle.nm_types.proofs.Cases.{true_false, none_some, some_is}
 use Rattle.nm_types.proofs.Maps.{equal, get-replace, replace_is_set, with_values-replace, with_values-without}
 use Rattle.nm_types.proofs.Keys.{keys-replace, All-replace, All-get, sorted-set, sorted-without}
-use Rattle.nm_runs.specs.Seen.{sight_in}
-use Rattle.nm_tables.specs.declared.entry.Entry.{Entry}
-use Rattle.nm_tables.specs.declared.entry.Entry.TheVariants.{Zero, Frame, Held}
-use Rattle.nm_areas.specs.Mapped.{Mapped}
-use Rattle.nm_areas.specs.Effect.{without_frame}
+use Rattle.nm_model.specs.definitions.Seen.{sight_in}
+use Rattle.nm_types.specs.declared.entry.Entry.{Entry}
+use Rattle.nm_types.specs.declared.entry.Entry.TheVariants.{Zero, Frame, Held}
+use Rattle.nm_model.specs.definitions.Areas.{Mapped}
+use Rattle.nm_model.specs.definitions.Areas.{without_frame}
 use Rattle.nm_rmap.specs.Mappers.{Mappers, mappers_of, frame_pins}
-use Rattle.nm_engine.specs.ProcessTable.{Task, entry_at, entry_in, names, with_entry, without_entry, replaced, replaced_in}
-use Rattle.nm_engine.specs.AddressSpaces.{SpacesView, spaces_view, process_of, sight_of, page_here, pins_in, with_seen, without_seen, without_page}
+use Rattle.nm_model.specs.definitions.PageTables.{Task, entry_at, entry_in, with_entry}
+use Rattle.nm_engine.specs.ProcessTable.{names, without_entry, replaced, replaced_in}
+use Rattle.nm_engine.specs.AddressSpaces.{SpacesView, spaces_view, pins_in, with_seen, without_seen, without_page}
+use Rattle.nm_model.specs.definitions.PageTables.{process_of, sight_of, page_here}
 use Rattle.nm_engine.specs.Tied.{IsTied, IsWithout, has_spot}
-use Rattle.nm_engine.proofs.Soundness.Released.{get-without, other_placed}
+use Rattle.nm_laws.proofs.Soundness.Released.{get-without, other_placed}
 use Rattle.nm_engine.proofs.Tied.Cleared.{get_left, and_true}
 use Rattle.nm_engine.proofs.Tied.Remapped.{same_spot, exact_spot, TableInOrder}
-use Rattle.nm_engine.proofs.Tied.Touched.{sight_shown, entry_at-set, set_entry_shows}
+use Rattle.nm_laws.proofs.Seen.Shown.{sight_shown}
+use Rattle.nm_engine.proofs.Tied.Touched.{entry_at-set, set_entry_shows}
 
 zero_held : {g : ℕ} → Some Zero ≡ Some (Held g) → ⊥
 zero_held e = cc

@@ -7,20 +7,20 @@ use Rattle.std.proofs.lemmas.Bool.{or_left, or_right, eqb-true, eq-eqb, lt-ltb}
 use Rattle.nm_types.specs.declared.page.Page.{Page}
 use Rattle.nm_types.specs.declared.area.Area.{Area}
 use Rattle.nm_types.specs.Map.{Map, get, page_cmp}
-use Rattle.nm_areas.specs.Mapped.{Mapped}
+use Rattle.nm_model.specs.definitions.Areas.{Mapped}
 use Rattle.nm_rmap.specs.Mappers.{Mappers}
 use Rattle.nm_rmap.specs.Mappers.{frame_pins as pins_of_frame}
-use Rattle.nm_engine.specs.ProcessTable.{Task}
+use Rattle.nm_model.specs.definitions.PageTables.{Task}
 use Rattle.nm_engine.specs.AddressSpaces.{SpacesView, spaces_view, pins_here}
 use Rattle.nm_types.specs.State.{Placed, area_over, page_of, page_shown, page_at}
 use Rattle.nm_types.proofs.Cases.{none_some, some_is, true_false}
-use Rattle.nm_engine.specs.Effect.{pages_from, pages_between}
-use Rattle.nm_engine.specs.Refused.{shows_pinned}
-use Rattle.nm_engine.specs.Sound.{AreasAreApart}
-use Rattle.nm_areas.proofs.Apart.{covers_parts, covers_from}
-use Rattle.nm_areas.proofs.Parted.{Among, among_over, over_among, among_any}
-use Rattle.nm_engine.proofs.Soundness.Released.{Listed}
-use Rattle.nm_engine.proofs.Soundness.Dropped.{listed_from}
+use Rattle.nm_model.specs.definitions.Effect.{pages_from, pages_between}
+use Rattle.nm_model.specs.definitions.Effect.{shows_pinned}
+use Rattle.nm_model.specs.definitions.Sound.{AreasAreApart}
+use Rattle.nm_model.proofs.areas.Apart.{covers_parts, covers_from}
+use Rattle.nm_model.proofs.areas.Parted.{Among, among_over, over_among, among_any}
+use Rattle.nm_laws.proofs.Soundness.Released.{Listed}
+use Rattle.nm_laws.proofs.Soundness.Dropped.{listed_from}
 use Rattle.nm_types.proofs.Maps.{exact_page, get-values}
 use Rattle.nm_engine.proofs.Tied.Pinned.{pins_shown}
 

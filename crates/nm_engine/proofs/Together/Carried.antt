@@ -8,22 +8,23 @@ use Rattle.std.proofs.lemmas.List.{get_or-set_same, set-set, set-get_or, append-
 use Rattle.std.proofs.lemmas.List.Sums.{sum_by_more_le, sum_by-append}
 use Rattle.nm_types.specs.Layout.{Layout, frame_count, node_of}
 use Rattle.nm_types.specs.State.{State, free_list}
-use Rattle.nm_nodes.specs.Pool.{Pool, list_of, with_list, without_front}
-use Rattle.nm_frames.specs.Store.{Store, IsHome, bytes_of}
-use Rattle.nm_plan.specs.declared.Taken.{Taken}
+use Rattle.nm_model.specs.definitions.Frames.{Pool, list_of, with_list, without_front}
+use Rattle.nm_model.specs.definitions.Frames.{Store, IsHome, bytes_of}
+use Rattle.nm_types.specs.declared.taken.Taken.{Taken}
 use Rattle.nm_engine.specs.AddressSpaces.{SpacesView, with_moved, table_of}
 use Rattle.nm_engine.specs.Copies.{with_copy, with_copies, without_both, CanCopy}
 use Rattle.nm_engine.specs.Frames.{FramesView, HasAllFrames, free_on}
-use Rattle.nm_engine.specs.Laws.{with_move, with_moves}
+use Rattle.nm_laws.specs.Laws.{with_move, with_moves}
 use Rattle.nm_engine.specs.MidRun.{IsKept}
-use Rattle.nm_engine.specs.Moves.{CanMove, CanRemap, all_moved}
-use Rattle.nm_engine.specs.Run.{moved_page, left}
+use Rattle.nm_laws.specs.Moves.{CanMove}
+use Rattle.nm_engine.specs.Moves.{CanRemap, all_moved}
+use Rattle.nm_model.specs.definitions.Run.{moved_page, left}
 use Rattle.nm_engine.specs.Shown.{shown_by, paged_frames}
-use Rattle.nm_engine.specs.Sound.{times, FramesAreOnce}
-use Rattle.nm_engine.proofs.OneByOne.Planned.{list_now}
-use Rattle.nm_engine.proofs.Soundness.Frames.{here, times_cons}
+use Rattle.nm_model.specs.definitions.Sound.{times, FramesAreOnce}
+use Rattle.nm_laws.proofs.OneByOne.Planned.{list_now}
+use Rattle.nm_laws.proofs.Soundness.Frames.{here, times_cons}
 use Rattle.nm_engine.proofs.Together.Copies.{home_set, stays_home}
-use Rattle.nm_engine.proofs.Together.Free.{front_is, counted_below}
+use Rattle.nm_laws.proofs.Soundness.Counted.{front_is, counted_below}
 use Rattle.nm_engine.proofs.Together.Joint.{kept_stocked, front_spare, restocked_both}
 use Rattle.nm_engine.proofs.Together.Paged.{restock_page}
 use Rattle.nm_engine.proofs.Together.Paces.{move_shows, move_kept, some_front}

@@ -6,8 +6,8 @@ use Rattle.std.proofs.lemmas.Bool.{cases_eq}
 use Rattle.std.specs.Option.{unwrap_or}
 use Rattle.nm_frames.specs.declared.job.CopyJob.{CopyJob}
 use Rattle.nm_frames.specs.Job.{copied}
-use Rattle.nm_frames.specs.Store.{Store, IsHome, IsOut, bytes_of}
-use Rattle.nm_plan.specs.declared.Taken.{Taken}
+use Rattle.nm_model.specs.definitions.Frames.{Store, IsHome, IsOut, bytes_of}
+use Rattle.nm_types.specs.declared.taken.Taken.{Taken}
 use Rattle.nm_engine.specs.Copies.{with_copy, with_copies, without_both, CanCopy, emptied, with_buf, jobs_of, with_job, refilled, CanRefill}
 use Rattle.nm_engine.proofs.Together.Free.{copied_frame, home_bytes}
 

@@ -7,8 +7,8 @@ use Rattle.std.proofs.lemmas.Bool.{and_parts, leb-true, ltb-true}
 use Rattle.nm_types.specs.declared.area.Area.{Area}
 use Rattle.nm_types.specs.Map.{Map}
 use Rattle.nm_types.specs.State.{Placed, covers, area_over}
-use Rattle.nm_areas.specs.Mapped.{HasIndices}
-use Rattle.nm_engine.specs.Locating.{IsOver}
+use Rattle.nm_model.specs.definitions.Areas.{HasIndices}
+use Rattle.nm_model.specs.definitions.Seen.{IsOver}
 
 -- what holds of all areas holds of the one over a page number, which begins at it or before and ends after it
 over_among : (areas : Map (ℕ × ℕ) Area) (pid v : ℕ) (a : Placed) → AllByRecursion HasIndices areas → area_over areas pid v ≡ Some a → HasIndices a × (a.0.1 ≤ v) × (v < a.0.1 + a.1.pages)

@@ -1,61 +1,25 @@
 -- What holds of a machine's frames, and what stays so.
-use Rattle.std.proofs.Common.{◌≡◌, ℕ, suc, zero, ◌+◌, ◌<◌, ◌≤◌, ◌≢◌, Bool, true, false, cond, List, [], ◌∷◌, ◌++◌, length, refl, sym, ap, subst, ◌∙◌, arith, length-set, eq-eqb, IsSome, ◌||◌}
-use Rattle.std.specs.Prelude.{Option, Some, None, nat_lt, ◌==◌, sum, drop, replicate, slice_get, slice_index, slice_index_or, slice_set}
+use Rattle.std.proofs.Common.{◌≡◌, ℕ, ◌+◌, ◌<◌, ◌≢◌, true, false, cond, List, [], ◌∷◌, ◌++◌, length, refl, sym, ap, subst, ◌∙◌, arith, length-set, eq-eqb, IsSome}
+use Rattle.std.specs.Prelude.{Option, Some, None, sum, replicate, slice_get, slice_index_or, slice_set}
 use Rattle.std.specs.Option.{unwrap_or}
 use Rattle.std.specs.List.{sum_by}
 use Rattle.std.specs.Map.{values_of}
-use Rattle.std.proofs.lemmas.Bool.{ltb-true}
 use Rattle.std.proofs.lemmas.List.{get_or-replicate, length-replicate, set_comm, set-set, set-get_or}
-use Rattle.std.proofs.lemmas.List.Sums.{sum_by-cons}
 use Rattle.nm_types.specs.declared.page.Page.{Page}
 use Rattle.nm_types.specs.Map.{Map, get, page_cmp}
 use Rattle.nm_types.specs.Layout.{Layout, frame_count, owner}
 use Rattle.nm_types.specs.Nodes.{is_in}
-use Rattle.nm_frames.specs.Store.{Store, IsHome, bytes_of}
-use Rattle.nm_nodes.specs.Pool as pool
-use Rattle.nm_engine.specs.Sound.{times, FramesAreOnce, IsSoundMidRun}
+use Rattle.nm_model.specs.definitions.Frames.{Store, IsHome, bytes_of, all_frames}
+use Rattle.nm_model.specs.definitions.Frames as pool
+use Rattle.nm_model.specs.definitions.Sound.{times, FramesAreOnce, IsSoundMidRun}
 use Rattle.nm_engine.specs.AddressSpaces.{SpacesView}
 use Rattle.nm_engine.specs.Shown.{paged_frames, shown_by}
 use Rattle.nm_engine.specs.Frames.{FramesView, HasAllFrames, PagedFrames, with_freed, CanFree, pool_of}
 use Rattle.nm_engine.proofs.Together.Paged.{IsStocked, free_of}
-use Rattle.nm_engine.proofs.Soundness.Frames.{here, times_cons, frame_freed, left_below}
-use Rattle.nm_engine.proofs.Soundness.Once.{counted_place}
-use Rattle.nm_engine.proofs.Soundness.New.{new_frames}
-use Rattle.nm_nodes.specs.Pool.{all_frames}
-
--- the front of a list
-pub front_is : (xs : List ℕ) (f : ℕ) → slice_get xs 0 ≡ Some f → xs ≡ f ∷ drop 1 xs
-front_is [] f e = cc
-front_is (x ∷ xs) f e = let same : x ≡ f = cc in ap (λ y. y ∷ xs) same
-
-pub index_front : (xs : List ℕ) (f : ℕ) → slice_get xs 0 ≡ Some f → slice_index xs 0 ≡ f
-index_front [] f e = cc
-index_front (x ∷ xs) f e = cc
-
--- a frame that stands somewhere is one of the machine's
-pub counted_below : (a b c f n : ℕ) → a + b + c ≡ cond (nat_lt f n) 1 0 → 1 ≤ a + b + c → f < n
-counted_below a b c f n e some =
-    elim (nat_lt f n) as (λ t. nat_lt f n ≡ t → a + b + c ≡ cond t 1 0 → f < n) [
-      | true ↦ λ t k. ltb-true f n t
-      | false ↦ λ t k. absurd (omega (arith, k, some))
-    ] refl e
-
-pub counted_once : (a b c : ℕ) (t : Bool) → a + b + c ≡ cond t 1 0 → a + b + c ≤ 1
-counted_once a b c true e = omega (arith, e)
-counted_once a b c false e = omega (arith, e)
-
--- a list's front is counted among the free frames
-counted_front : (free : List (List ℕ)) (node f : ℕ) → slice_get (slice_index_or free node []) 0 ≡ Some f → 1 ≤ sum_by (times f) free
-counted_front [] node f e = cc
-counted_front (xs ∷ free) zero f e =
-    let whole : sum_by (times f) (xs ∷ free) ≡ times f xs + sum_by (times f) free = sum_by-cons (times f) xs free in
-    let here_it : times f xs ≡ here f f + times f (drop 1 xs) = ap (times f) (front_is xs f e) ∙ times_cons f f (drop 1 xs) in
-    let one : here f f ≡ 1 = ap (λ b. cond b 1 0) (eq-eqb f f refl) in
-    omega (arith, whole, here_it, one)
-counted_front (xs ∷ free) (suc node) f e =
-    let whole : sum_by (times f) (xs ∷ free) ≡ times f xs + sum_by (times f) free = sum_by-cons (times f) xs free in
-    let rest = counted_front free node f e in
-    omega (arith, whole, rest)
+use Rattle.nm_laws.proofs.Soundness.Frames.{here, times_cons, frame_freed, left_below}
+use Rattle.nm_laws.proofs.Soundness.Once.{counted_place}
+use Rattle.nm_laws.proofs.Soundness.New.{new_frames}
+use Rattle.nm_laws.proofs.Soundness.Counted.{counted_below, counted_front, counted_once, not_in, part_of}
 
 pub place_below : (x : PagedFrames) (page : Page) (f : ℕ) → IsStocked x → get page_cmp x.place page ≡ Some f → f < frame_count x.layout
 place_below x page f h e =
@@ -115,22 +79,6 @@ pub record IsFreeing (g : Layout) (place : Map Page ℕ) (free : List (List ℕ)
   pub in_machine : frame < sum g.sizes
   pub taken : is_in (slice_index_or free (owner g.sizes frame) []) frame ≡ false
   pub next : FramesAreOnce g place (slice_set free (owner g.sizes frame) (slice_index_or free (owner g.sizes frame) [] ++ frame ∷ [])) left
-
-pub not_in : (xs : List ℕ) (f : ℕ) → times f xs ≡ 0 → is_in xs f ≡ false
-not_in [] f e = refl
-not_in (x ∷ xs) f e =
-    elim (x == f) as (λ b. (x == f) ≡ b → (b || is_in xs f) ≡ false) [
-      | true ↦ λ h. let one : here f x ≡ 1 = ap (λ b. cond b 1 0) h in absurd (omega (arith, e, times_cons f x xs, one))
-      | false ↦ λ h. not_in xs f (omega (arith, e, times_cons f x xs))
-    ] refl
-
-pub part_of : (free : List (List ℕ)) (node f : ℕ) → times f (slice_index_or free node []) ≤ sum_by (times f) free
-part_of [] node f = omega arith
-part_of (xs ∷ free) zero f = let whole : sum_by (times f) (xs ∷ free) ≡ times f xs + sum_by (times f) free = sum_by-cons (times f) xs free in omega (arith, whole)
-part_of (xs ∷ free) (suc node) f =
-    let whole : sum_by (times f) (xs ∷ free) ≡ times f xs + sum_by (times f) free = sum_by-cons (times f) xs free in
-    let rest = part_of free node f in
-    omega (arith, whole, rest)
 
 pub freeing : (g : Layout) (place : Map Page ℕ) (free : List (List ℕ)) (left : List ℕ) (frame : ℕ) → FramesAreOnce g place free (frame ∷ left) → IsFreeing g place free left frame
 freeing g place free left frame h =

@@ -14,19 +14,19 @@ use Rattle.nm_types.specs.Layout.{Layout, node_count, frame_count}
 use Rattle.nm_types.specs.Nodes.{up_from}
 use Rattle.nm_types.specs.State.{Process, State}
 use Rattle.nm_types.proofs.Cases.{true_false, none_some, some_none}
-use Rattle.nm_nodes.specs.Pool.{all_frames}
-use Rattle.nm_engine.specs.Effect.{spawn, new_machine}
-use Rattle.nm_engine.specs.Refused.{first_error, is_unknown, spawn_refusal, list_refusal}
-use Rattle.nm_engine.specs.declared.process.ProcessInfo.{ProcessInfo}
-use Rattle.nm_engine.specs.Sound.{IsSoundMidRun, IsSound}
-use Rattle.nm_areas.specs.Table.{Table}
+use Rattle.nm_model.specs.definitions.Frames.{all_frames}
+use Rattle.nm_model.specs.definitions.Effect.{spawn, new_machine}
+use Rattle.nm_model.specs.definitions.Effect.{first_error, is_unknown, spawn_refusal, list_refusal}
+use Rattle.nm_types.specs.declared.process.ProcessInfo.{ProcessInfo}
+use Rattle.nm_model.specs.definitions.Sound.{IsSoundMidRun, IsSound}
+use Rattle.nm_model.specs.views.Table.{Table}
 use Rattle.nm_engine.specs.Frames.{FramesView, PagedFrames}
 use Rattle.nm_engine.specs.AddressSpaces.{SpacesView, no_spaces}
 use Rattle.nm_engine.specs.Shown.{shown, shown_by}
 use Rattle.nm_engine.specs.MidRun.{IsKept}
-use Rattle.nm_engine.specs.Tables.{info_of}
-use Rattle.nm_engine.proofs.Soundness.Called.{spawn_sound}
-use Rattle.nm_engine.proofs.Soundness.New.{new_sound}
+use Rattle.nm_model.specs.definitions.Effect.{info_of}
+use Rattle.nm_laws.proofs.Soundness.Called.{spawn_sound}
+use Rattle.nm_laws.proofs.Soundness.New.{new_sound}
 
 -- the next number goes to the end
 pub insert_next : (k n m : ℕ) → m ≡ n + k → insert_key nat_cmp (up_from n k) m ≡ up_from n (suc k)

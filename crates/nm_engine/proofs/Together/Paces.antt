@@ -6,19 +6,20 @@ use Rattle.nm_types.specs.declared.page.Page.{Page}
 use Rattle.nm_types.specs.Map.{Map, get, page_cmp}
 use Rattle.nm_types.specs.Layout.{frame_count}
 use Rattle.nm_types.specs.State.{Process, State, free_list}
-use Rattle.nm_runs.specs.declared.Class.{Class}
-use Rattle.nm_runs.specs.declared.Class.TheVariants.{Status, Move}
-use Rattle.nm_runs.specs.declared.Wanted.{Wanted}
-use Rattle.nm_runs.specs.Status.{status_or_move}
-use Rattle.nm_engine.specs.Run.{moved_page, decided, one, each, left, failures, with_all_free, added, counted}
-use Rattle.nm_engine.specs.Frames.{PagedFrames, stretch_of}
+use Rattle.nm_types.specs.declared.request.Class.{Class}
+use Rattle.nm_types.specs.declared.request.Class.TheVariants.{Status, Move}
+use Rattle.nm_types.specs.declared.request.Wanted.{Wanted}
+use Rattle.nm_model.specs.definitions.Status.{status_or_move}
+use Rattle.nm_model.specs.definitions.Run.{moved_page, decided, one, each, left, failures, with_all_free, added, counted}
+use Rattle.nm_engine.specs.Frames.{PagedFrames}
+use Rattle.nm_model.specs.definitions.Memory.{stretch_of}
 use Rattle.nm_engine.proofs.Together.Paged.{IsStocked, free_of, restock_page, free_all}
-use Rattle.nm_areas.specs.Table.{Table}
+use Rattle.nm_model.specs.views.Table.{Table}
 use Rattle.nm_engine.specs.Shown.{shown}
-use Rattle.nm_engine.specs.Sound.{IsSoundMidRun}
+use Rattle.nm_model.specs.definitions.Sound.{IsSoundMidRun}
 use Rattle.nm_engine.specs.MidRun.{IsKept}
-use Rattle.nm_engine.proofs.Soundness.Frames.{left-append}
-use Rattle.nm_engine.proofs.Soundness.Moved.{decided_sound, freed_sound, counted_sound}
+use Rattle.nm_laws.proofs.Soundness.Frames.{left-append}
+use Rattle.nm_laws.proofs.Soundness.Moved.{decided_sound, freed_sound, counted_sound}
 use Rattle.nm_engine.proofs.Together.Shows.{restocked_shows, freed_shows}
 
 -- the bytes from one place up to another

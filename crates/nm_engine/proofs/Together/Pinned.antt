@@ -8,16 +8,16 @@ use Rattle.nm_types.specs.declared.errno.Errno.TheVariants.{Esrch, Ebusy, Einval
 use Rattle.nm_types.specs.declared.sight.Sight.TheVariants.{Sees}
 use Rattle.nm_types.specs.Map.{get, replace, page_cmp}
 use Rattle.nm_types.specs.State.{State}
-use Rattle.nm_runs.specs.Seen.{sight_at, pins_of, look}
-use Rattle.nm_engine.specs.Effect.{with_pins, pin, unpin}
-use Rattle.nm_engine.specs.Refused.{is_unknown, pins_refusal, pin_refusal, unpin_refusal}
+use Rattle.nm_model.specs.definitions.Seen.{sight_at, pins_of, look}
+use Rattle.nm_model.specs.definitions.Effect.{with_pins, pin, unpin}
+use Rattle.nm_model.specs.definitions.Effect.{is_unknown, pins_refusal, pin_refusal, unpin_refusal}
 use Rattle.nm_engine.specs.Does.{Alters}
 use Rattle.nm_engine.specs.AddressSpaces.{SpacesView, with_pins_of}
 use Rattle.nm_engine.specs.Frames.{FramesView}
 use Rattle.nm_engine.specs.Shown.{shown_by}
-use Rattle.nm_engine.specs.Sound.{IsSoundMidRun}
+use Rattle.nm_model.specs.definitions.Sound.{IsSoundMidRun}
 use Rattle.nm_engine.specs.MidRun.{MidRun, IsKept}
-use Rattle.nm_engine.proofs.Soundness.Called.{repinned_sound, few_pins, look_there}
+use Rattle.nm_laws.proofs.Soundness.Called.{repinned_sound, few_pins, look_there}
 use Rattle.nm_engine.proofs.Together.Touches.{inside, outside}
 
 module _ (y z : SpacesView) (k : FramesView) (online : List ℕ) (moved failed : ℕ) (page : Page) (n : ℕ) (kept : IsKept (shown_by y k online moved failed) k.vacated y.frames) where

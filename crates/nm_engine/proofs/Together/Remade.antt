@@ -6,17 +6,17 @@ use Rattle.nm_types.specs.declared.area.Policy.{Policy}
 use Rattle.nm_types.specs.declared.machine_error.MachineError.{MachineError}
 use Rattle.nm_types.specs.declared.machine_error.MachineError.TheVariants.{Refused, HostMemory}
 use Rattle.nm_types.specs.Does.{Makes}
-use Rattle.nm_areas.specs.Effect.{inserted, attached, with_policy}
-use Rattle.nm_areas.specs.Mapped.{Mapped}
+use Rattle.nm_model.specs.definitions.Areas.{inserted, attached, with_policy}
+use Rattle.nm_model.specs.definitions.Areas.{Mapped}
 use Rattle.nm_engine.specs.AddressSpaces.{SpacesView, mapped_of, table_of, with_mapped}
 use Rattle.nm_engine.specs.Frames.{FramesView}
 use Rattle.nm_engine.specs.Shown.{shown_by, paged_frames}
-use Rattle.nm_engine.specs.Refused.{map_refusal, attach_refusal}
-use Rattle.nm_engine.specs.Sound.{IsSound}
+use Rattle.nm_model.specs.definitions.Effect.{map_refusal, attach_refusal}
+use Rattle.nm_model.specs.definitions.Sound.{IsSound}
 use Rattle.nm_engine.specs.MidRun.{IsKept}
 use Rattle.nm_engine.proofs.Together.Kept.{kept_mapped}
-use Rattle.nm_engine.proofs.Soundness.Called.{map_sound, attach_sound}
-use Rattle.nm_engine.proofs.Soundness.Policed.{policy_sound}
+use Rattle.nm_laws.proofs.Soundness.Called.{map_sound, attach_sound}
+use Rattle.nm_laws.proofs.Soundness.Policed.{policy_sound}
 
 -- a call that did nothing changed no area
 pub nothing_made : (T : Type 0) (e : MachineError) (old new : Mapped) (refusal : Option Errno) (after : Mapped) → Makes {T = T} (Err e) old new refusal after → new ≡ old

@@ -2,8 +2,8 @@
 use Rattle.std.proofs.Common.{◌≡◌, ℕ, ◌<◌, List, length, sym, ap, subst, ◌∙◌, arith, length-set}
 use Rattle.std.specs.Prelude.{Some, slice_set}
 use Rattle.nm_types.specs.Layout.{node_count, frame_count}
-use Rattle.nm_frames.specs.Store.{Store, IsHome}
-use Rattle.nm_nodes.specs.Pool.{Pool}
+use Rattle.nm_model.specs.definitions.Frames.{Store, IsHome}
+use Rattle.nm_model.specs.definitions.Frames.{Pool}
 use Rattle.nm_engine.specs.Frames.{FramesView, HasAllFrames, CanFree, pool_of}
 use Rattle.nm_engine.proofs.Together.Copies.{home_set}
 

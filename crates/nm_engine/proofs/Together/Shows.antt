@@ -12,16 +12,16 @@ use Rattle.nm_types.specs.declared.page.Page.{Page}
 use Rattle.nm_types.specs.Map.{Map, get, set, replace, with_values, page_cmp}
 use Rattle.nm_types.specs.Layout.{frame_count}
 use Rattle.nm_types.specs.State.{Process, State}
-use Rattle.nm_frames.specs.Store.{Store, bytes_of, overwrite}
-use Rattle.nm_engine.specs.Touch.{with_page, without_front}
-use Rattle.nm_engine.specs.Run.{with_free, with_all_free}
-use Rattle.nm_engine.specs.Sound.{PlacesAreApart}
+use Rattle.nm_model.specs.definitions.Frames.{Store, bytes_of, overwrite}
+use Rattle.nm_model.specs.definitions.Touch.{with_page, without_front}
+use Rattle.nm_model.specs.definitions.Run.{with_free, with_all_free}
+use Rattle.nm_model.specs.definitions.Sound.{PlacesAreApart}
 use Rattle.nm_engine.specs.Frames.{PagedFrames, with_freed}
 use Rattle.nm_engine.proofs.Together.Paged.{IsStocked, free_of, stock_page, restock_page, free_all}
-use Rattle.nm_areas.specs.Table.{Table}
+use Rattle.nm_model.specs.views.Table.{Table}
 use Rattle.nm_engine.specs.Shown.{bytes_in, shown}
 use Rattle.nm_types.proofs.Maps.{page_cmp_total, exact_page, get-values, with_values-set, with_values-moved, set_agree, set_same, replace_is_set}
-use Rattle.nm_engine.proofs.Soundness.Once.{places_are_apart}
+use Rattle.nm_laws.proofs.Soundness.Once.{places_are_apart}
 use Rattle.nm_engine.proofs.Together.Free.{place_below, front_below, apart_from_front}
 
 pub front_got : (xs : List ℕ) → 0 < length xs → slice_get xs 0 ≡ Some (slice_index xs 0)

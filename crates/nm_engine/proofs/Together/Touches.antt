@@ -3,41 +3,35 @@ use Rattle.std.proofs.Common.{◌≡◌, ℕ, zero, suc, ◌<◌, ◌≤◌, ◌
 use Rattle.std.specs.Prelude.{Option, Some, None, IsSome, IfNone, Ok, Err, ◌==◌, nat_lt, if◌then◌else◌, slice_get, slice_index_or, slice_set}
 use Rattle.std.specs.Option.{option_map}
 use Rattle.std.specs.Ordering.{nat_cmp, is_eq}
-use Rattle.std.specs.List.{sum_by}
-use Rattle.std.specs.Map.{values_of}
 use Rattle.std.proofs.lemmas.Bool.{ne_eqb, le-ltb}
 use Rattle.nm_types.specs.declared.page.Page.{Page}
 use Rattle.nm_types.specs.declared.area.Area.{Area}
 use Rattle.nm_types.specs.declared.sight.Sight.{Sight}
 use Rattle.nm_types.specs.declared.sight.Sight.TheVariants.{ZeroPage, Sees}
 use Rattle.nm_types.specs.declared.errno.Errno.TheVariants.{Einval}
-use Rattle.nm_types.specs.Layout.{frame_count}
 use Rattle.nm_types.specs.Map.{Map, get, set, replace, page_cmp}
 use Rattle.nm_types.specs.State.{Process, State, Placed, covers, area_over, page_of}
-use Rattle.nm_runs.specs.Seen.{sight_in, sight_at}
-use Rattle.nm_policy.specs.Order.{first_touch_order}
+use Rattle.nm_model.specs.definitions.Seen.{sight_in, sight_at, frame_seen}
+use Rattle.nm_model.specs.definitions.Order.{first_touch_order}
 use Rattle.nm_engine.specs.declared.inner.resolved.Resolved.{Resolved}
-use Rattle.nm_engine.specs.declared.process.ProcessInfo.{ProcessInfo}
-use Rattle.nm_engine.specs.Tables.{info_of, seeing}
-use Rattle.nm_areas.specs.Lines.{is_shared}
-use Rattle.nm_engine.specs.Touch.{Spot, spot, spot_of, spot_over, shown_at, first_free, allocated, filled, with_sight, with_bytes, touched_entry, touched, touch}
+use Rattle.nm_types.specs.declared.process.ProcessInfo.{ProcessInfo}
+use Rattle.nm_model.specs.definitions.Effect.{info_of, seeing}
+use Rattle.nm_model.specs.definitions.Areas.{is_shared}
+use Rattle.nm_model.specs.definitions.Touch.{Spot, spot, spot_of, spot_over, shown_at, first_free, allocated, filled, with_sight, with_bytes, touched_entry, touched, touch}
 use Rattle.nm_engine.specs.Frames.{PagedFrames}
 use Rattle.nm_engine.proofs.Together.Paged.{IsStocked, free_of, stock_page}
-use Rattle.nm_areas.specs.Table.{Table}
+use Rattle.nm_model.specs.views.Table.{Table}
 use Rattle.nm_engine.specs.Shown.{shown}
 use Rattle.nm_engine.specs.MidRun.{MidRun, IsKept, spot_at, IsResolved}
-use Rattle.nm_engine.specs.Seeing.{frame_of, frame_seen}
-use Rattle.nm_engine.specs.Sound.{times, IsSoundMidRun}
-use Rattle.nm_frames.specs.Store.{bytes_of, overwrite}
-use Rattle.nm_engine.proofs.Together.Free.{counted_below}
-use Rattle.nm_engine.proofs.Soundness.Once.{counted_place}
+use Rattle.nm_model.specs.definitions.Frames.{bytes_of, overwrite}
 use Rattle.nm_types.proofs.Maps.{page_cmp_total, get-set}
 use Rattle.std.specs.Cmp.{tied_itself}
 use Rattle.nm_types.proofs.Cases.{some_is}
-use Rattle.nm_engine.proofs.Seen.Sights.{IsSpot, page_at_spot, Fits, with_sight_sound, sight_here}
-use Rattle.nm_engine.proofs.Soundness.Allocated.{placed_sound, placed_front}
-use Rattle.nm_engine.proofs.Soundness.Touched.{has_front, private_unplaced, bytes_sound}
+use Rattle.nm_laws.proofs.Seen.Sights.{IsSpot, page_at_spot, Fits, with_sight_sound, sight_here}
+use Rattle.nm_laws.proofs.Soundness.Allocated.{placed_sound, placed_front}
+use Rattle.nm_laws.proofs.Soundness.Touched.{has_front, private_unplaced, bytes_sound}
 use Rattle.nm_engine.proofs.Together.Shows.{page_stocked_shows, written_shows}
+use Rattle.nm_laws.proofs.Seen.Frames.{page_of_frame, zero_sees}
 
 -- what holds of the state that the parts show holds of the parts
 pub inside : (s : State) (left : List ℕ) (room : ℕ) (y : MidRun) → record { state = s; left = left; room = room } ≡ y → (P : State → Type 0) → P y.state → P s
@@ -52,12 +46,6 @@ spot_there s t p a h = record { process = h.known; area = h.over }
 pub not_none : {V : Type 0} (P : Type 0) (o : Option V) → IsSome o → IfNone o P
 not_none P None h = cc
 not_none P (Some v) h = tt
-
-pub none_sees : {o : Option Sight} → o ≡ None → (q : Page) → o ≡ Some (Sees q) → ⊥
-none_sees e q k = cc
-
-pub zero_sees : {o : Option Sight} → o ≡ Some ZeroPage → (q : Page) → o ≡ Some (Sees q) → ⊥
-zero_sees e q k = cc
 
 -- a node that has a free frame is one of the machine's
 pub short_list : (free : List (List ℕ)) (node : ℕ) → 0 < length (slice_index_or free node []) → node < length free
@@ -183,16 +171,6 @@ touched_there s pid address len v first index info area known some within at ove
       spot_found s pid address len p.0 a p.1 (ne_eqb len 0 some) fits there ∙ ap (λ w. Ok (record { pid = pid; process = p.0; area = a; vpn = w })) (sym at),
       record { known = p.1; info = p.2; over = sym over; policy = refl; page = ap (λ i. record { segment = area.page.segment; index = i }) (sym is) },
     )
-
--- a page that is seen has its frame
-pub page_of_frame : (place : Map Page ℕ) (o : Option Sight) (f : ℕ) → frame_of place o ≡ Some f → (q : Page) × (o ≡ Some (Sees q)) × (get page_cmp place q ≡ Some f)
-page_of_frame place None f h = cc
-page_of_frame place (Some ZeroPage) f h = cc
-page_of_frame place (Some (Sees q)) f h = (q, refl, h)
-
-pub place_in_range : (s : State) (l : List ℕ) (q : Page) (f : ℕ) → IsSoundMidRun s l → get page_cmp s.place q ≡ Some f → f < frame_count s.layout
-place_in_range s l q f h e =
-    counted_below (times f (values_of s.place)) (sum_by (times f) s.free) (times f l) f (frame_count s.layout) (h.frames.once f) (let some = counted_place s.place q f e in omega (arith, some))
 
 pub touch_is : (s t : State) (pid address len : ℕ) (writes : Bool) (at : Spot) → spot s pid address len ≡ Ok at → touched_entry s at writes (get nat_cmp at.process.sees at.vpn) ≡ Ok t → touch s pid address len writes ≡ Ok t
 touch_is s t pid address len writes at e h = ap (touched s writes) e ∙ h

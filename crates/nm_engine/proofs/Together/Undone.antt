@@ -22,33 +22,34 @@ use Rattle.nm_types.specs.State.{Process, State, Placed, free_list, page_of}
 use Rattle.nm_types.proofs.Cases.{none_is_not, some_is}
 use Rattle.nm_types.proofs.Maps.{page_cmp_total, exact_page, equal, get-set, get-replace, without-set, with_values-without}
 use Rattle.nm_types.proofs.Keys.{All-get, sorted-set, some_from_keys}
-use Rattle.nm_runs.specs.Seen.{sight_in, sight_at}
-use Rattle.nm_areas.specs.Lines.{is_shared}
-use Rattle.nm_nodes.specs.Pool.{prepended}
-use Rattle.nm_policy.specs.Order.{first_touch_order}
+use Rattle.nm_model.specs.definitions.Seen.{sight_in, sight_at}
+use Rattle.nm_model.specs.definitions.Areas.{is_shared}
+use Rattle.nm_model.specs.definitions.Frames.{prepended}
+use Rattle.nm_model.specs.definitions.Order.{first_touch_order}
 use Rattle.nm_engine.specs.declared.inner.resolved.Resolved.{Resolved}
 use Rattle.nm_engine.specs.declared.inner.undo.Undo.{Undo}
-use Rattle.nm_frames.specs.Store.{bytes_of}
+use Rattle.nm_model.specs.definitions.Frames.{bytes_of}
 use Rattle.nm_engine.specs.AddressSpaces.{SpacesView, with_before, without_page}
 use Rattle.nm_engine.specs.Frames.{FramesView, CanFree, pool_of}
 use Rattle.nm_engine.specs.MidRun.{IsKept, IsResolved, spot_at}
 use Rattle.nm_engine.specs.Shown.{shown_by}
-use Rattle.nm_engine.specs.Seeing.{frame_of, frame_seen}
-use Rattle.nm_engine.specs.Sound.{holders, IsSoundMidRun}
-use Rattle.nm_engine.specs.Tables.{seeing_before}
+use Rattle.nm_model.specs.definitions.Seen.{frame_of, frame_seen}
+use Rattle.nm_model.specs.definitions.Sound.{holders, IsSoundMidRun}
+use Rattle.nm_model.specs.definitions.Effect.{seeing_before}
 use Rattle.nm_types.specs.declared.machine_error.MachineError.{MachineError}
 use Rattle.nm_types.specs.declared.machine_error.MachineError.TheVariants as error
 use Rattle.nm_engine.specs.Does.{Touches}
-use Rattle.nm_engine.specs.Touch.{Spot, shown_at, with_sight, first_free, allocated, filled, joined, touched_entry}
+use Rattle.nm_model.specs.definitions.Touch.{Spot, shown_at, with_sight, first_free, allocated, filled, joined, touched_entry}
 use Rattle.nm_engine.specs.Undo.{seen_before, given_back, undone, all_undone, IsGiven, IsUndoable, CanUndo, IsStillUndone, given_now, noted, with_undo}
-use Rattle.nm_engine.proofs.Seen.Sights.{IsSpot, page_at_spot, sight_here}
-use Rattle.nm_engine.proofs.Soundness.Allocated.{placed_front}
-use Rattle.nm_engine.proofs.Soundness.Once.{counted_place}
-use Rattle.nm_engine.proofs.Soundness.Touched.{private_unplaced}
+use Rattle.nm_laws.proofs.Seen.Sights.{IsSpot, page_at_spot, sight_here}
+use Rattle.nm_laws.proofs.Soundness.Allocated.{placed_front}
+use Rattle.nm_laws.proofs.Soundness.Once.{counted_place}
+use Rattle.nm_laws.proofs.Soundness.Touched.{private_unplaced}
 use Rattle.nm_engine.proofs.Tied.Tabled.{same_tables, replace_twice}
-use Rattle.nm_engine.proofs.Together.Free.{front_is, part_of, not_in}
+use Rattle.nm_laws.proofs.Soundness.Counted.{front_is, part_of, not_in}
 use Rattle.nm_engine.proofs.Together.Shows.{front_got}
-use Rattle.nm_engine.proofs.Together.Touches.{found_free, short_list, get_set_same, none_sees, zero_sees, place_in_range, spot_there}
+use Rattle.nm_engine.proofs.Together.Touches.{found_free, short_list, get_set_same, spot_there}
+use Rattle.nm_laws.proofs.Seen.Frames.{none_sees, zero_sees, place_in_range}
 
 -- ---- one touch more
 

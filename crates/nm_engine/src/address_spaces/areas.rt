@@ -8,11 +8,12 @@ ghost use Rattle.std.specs.List.Sorted.{IsStrictlySortedBy};
 ghost use Rattle.nm_types.specs.Map.{get, without};
 ghost use Rattle.nm_types.specs.State.{Process};
 ghost use Rattle.nm_types.specs.Does.{Makes};
-ghost use Rattle.nm_areas.specs.Effect.{inserted, attached, with_policy};
-ghost use Rattle.nm_areas.specs.Refused.{insert_refusal, stretch_refusal, range_refusal, remove_refusal};
-ghost use Rattle.nm_areas.specs.Removed.{removed, frames_lost};
-ghost use Rattle.nm_engine.specs.Refused.{shows_pinned};
-ghost use Rattle.nm_engine.specs.ProcessTable.{entry_at, names, cleared};
+ghost use Rattle.nm_model.specs.definitions.Areas.{inserted, attached, with_policy};
+ghost use Rattle.nm_model.specs.definitions.AreaRefusal.{insert_refusal, stretch_refusal, range_refusal, remove_refusal};
+ghost use Rattle.nm_model.specs.definitions.Areas.{removed, frames_lost};
+ghost use Rattle.nm_model.specs.definitions.Effect.{shows_pinned};
+ghost use Rattle.nm_model.specs.definitions.PageTables.{entry_at};
+ghost use Rattle.nm_engine.specs.ProcessTable.{names, cleared};
 ghost use Rattle.nm_engine.specs.Tied.{IsCleared};
 ghost use Rattle.nm_engine.specs.AddressSpaces.{mapped_of, with_mapped, without_range};
 

@@ -5,8 +5,9 @@ ghost use Rattle.std.specs.Ordering.{nat_cmp};
 ghost use Rattle.nm_types.specs.declared.sight.Sight.TheVariants.{ZeroPage, Sees};
 ghost use Rattle.nm_types.specs.Map.{get, page_cmp};
 ghost use Rattle.nm_types.specs.State.{Process};
-ghost use Rattle.nm_runs.specs.Seen.{sight_in};
-ghost use Rattle.nm_engine.specs.ProcessTable.{entry_at, names};
+ghost use Rattle.nm_model.specs.definitions.Seen.{sight_in};
+ghost use Rattle.nm_model.specs.definitions.PageTables.{entry_at};
+ghost use Rattle.nm_engine.specs.ProcessTable.{names};
 ghost use Rattle.nm_engine.specs.Tied.{IsWithout};
 ghost use Rattle.nm_engine.specs.AddressSpaces.{pins_here, with_before, with_seen, without_seen, without_page};
 

@@ -3,17 +3,17 @@
 ghost use Rattle.std.specs.Ordering.{nat_cmp};
 ghost use Rattle.std.specs.Prelude.{All, IfNone, IfOk, IfSome, Some, true, [], length, option_map, ◌+◌, ◌-◌, ◌<◌, ◌^◌, ◌∷◌, ◌≡◌, ◌≤◌};
 ghost use Rattle.nm_areas.specs.Lines.{lines_of};
-ghost use Rattle.nm_engine.specs.AddressSpaces.{page_here};
-ghost use Rattle.nm_engine.specs.Locating.{located_in, in_frame, IsOver};
-ghost use Rattle.nm_engine.specs.Sights.{between, sights_in};
-ghost use Rattle.nm_runs.specs.Seen.{users_in};
+ghost use Rattle.nm_model.specs.definitions.PageTables.{page_here};
+ghost use Rattle.nm_model.specs.definitions.Seen.{located_in, in_frame, IsOver};
+ghost use Rattle.nm_model.specs.definitions.Seen.{between, sights_in};
+ghost use Rattle.nm_model.specs.definitions.Seen.{users_in};
 ghost use Rattle.nm_types.specs.Layout.{frame_count, node_count};
 ghost use Rattle.nm_types.specs.Map.{get, page_cmp};
 ghost use Rattle.nm_types.specs.State.{Placed, area_over, page_at, page_of};
 ghost use Rattle.nm_types.specs.declared.page.Page.{Page};
 
+use crate::Located;
 use crate::address_spaces::AddressSpaces;
-use crate::located::Located;
 use nm_areas::Line;
 use nm_tables::Entry;
 use nm_types::{Area, FrameId, Geometry, Page, Pid, Sight, Vpn};

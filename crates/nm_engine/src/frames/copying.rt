@@ -11,7 +11,7 @@ use crate::address_spaces::AddressSpaces;
 use crate::answered::AccessAnswer;
 use crate::frames::copy_bytes;
 use crate::inner::due::Due;
-use nm_crew::{Gate, copy_while};
+use nm_crew::{Crew, Gate};
 use nm_frames::{CopyJob, FrameStore};
 use nm_plan::Taken;
 use nm_types::{Access, FrameId, Page};
@@ -20,7 +20,7 @@ use std::mem;
 use std::sync::Wait;
 use std::thread::Threads;
 
-/// Copies the page of each move to the frame that it takes, with `workers` workers, and does meanwhile what is left to
+/// Copies the page of each move to the frame that it takes, by a crew, and does meanwhile what is left to
 /// do for accesses to other pages. All pages that move go into a list of jobs, which has room for them and comes back
 /// empty. The answers go into a list that has room for them.
 pub(super) fn copy_pages<
@@ -28,7 +28,7 @@ pub(super) fn copy_pages<
     A: Allocator + Copy + Send + Sync,
     G: Gate + Sync,
 >(
-    rt: &R,
+    crew: &Crew<R, G>,
     alloc: A,
     frames: &mut FrameStore<A>,
     moves: &[Taken],
@@ -37,8 +37,6 @@ pub(super) fn copy_pages<
     accesses: &[Access<A>],
     dues: Vec<Due<A>, A>,
     answers: Vec<AccessAnswer<A>, A>,
-    workers: usize,
-    gate: &G,
 ) -> (Vec<CopyJob<A>, A>, Vec<AccessAnswer<A>, A>)
     requires can { CanCopy frames.old moves.now }
     requires empty { jobs.items ≡ [] }
@@ -47,19 +45,16 @@ pub(super) fn copy_pages<
     requires room { AllByRecursion HasRoom dues.items }
     requires unanswered { answers.items ≡ [] }
     requires space { vec_len dues ≤ vec_capacity answers }
-    requires workers { (0 < workers) × (workers ≤ 64) }
     ensures frames { frames.new ≡ (all_done spaces.now.place (with_copies frames.old moves.now) (map (due_shown accesses.now) dues.items)).store }
     ensures answers { map answer_shown result.1.items ≡ (all_done spaces.now.place (with_copies frames.old moves.now) (map (due_shown accesses.now) dues.items)).answers }
     ensures empty { result.0.items ≡ [] }
 {
     take_out_each(frames, moves, &mut jobs);
+    let gate = crew.gate();
     let store = mem::replace(frames, FrameStore::none(alloc));
-    let (mut copied, (store, answers)) = copy_while(
-        rt,
+    let (mut copied, (store, answers)) = crew.copy_while(
         alloc,
         jobs,
-        workers,
-        gate,
         move || -> (FrameStore<A>, Vec<AccessAnswer<A>, A>)
             requires due { AllByRecursion (CanDo spaces.now.place store) (map (due_shown accesses.now) dues.items) }
             requires room { AllByRecursion HasRoom dues.items }

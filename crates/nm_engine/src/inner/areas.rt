@@ -1,12 +1,12 @@
 //! Areas that come, split and go.
 
 ghost use Rattle.nm_engine.specs.Does.{AsksLast, Makes};
-ghost use Rattle.nm_engine.specs.Effect.{attach, dropped, map_new, unmap};
+ghost use Rattle.nm_model.specs.definitions.Effect.{attach, dropped, map_new, unmap};
 ghost use Rattle.nm_engine.specs.Frames.{CanFree, pool_of, with_freed};
 ghost use Rattle.nm_runs.specs.Targets.{Checks};
 ghost use Rattle.nm_engine.specs.MidRun.{with_state};
-ghost use Rattle.nm_engine.specs.Policing.{policy_refusal, set_policy};
-ghost use Rattle.nm_engine.specs.Refused.{attach_refusal, is_range, is_unknown, map_refusal, shows_pinned, unmap_refusal};
+ghost use Rattle.nm_model.specs.definitions.Effect.{policy_refusal, set_policy};
+ghost use Rattle.nm_model.specs.definitions.Effect.{attach_refusal, is_range, is_unknown, map_refusal, shows_pinned, unmap_refusal};
 ghost use Rattle.nm_types.specs.declared.errno.Errno.{Errno};
 ghost use Rattle.nm_types.specs.declared.errno.Errno.TheVariants.{Esrch};
 ghost use Rattle.std.specs.Prelude.{IfOk, Some, [], false, map, true, ◌+◌, ◌/◌, ◌<◌, ◌≡◌};

@@ -6,11 +6,11 @@ ghost use Rattle.nm_types.specs.declared.page.Page.{Page};
 ghost use Rattle.nm_types.specs.declared.access.Access.{Access as Asked};
 ghost use Rattle.nm_types.specs.Layout.{node_count};
 ghost use Rattle.nm_types.specs.Map.{same_page};
-ghost use Rattle.nm_engine.specs.Moves.{CanMove};
-ghost use Rattle.nm_engine.specs.Sound.{IsSound};
-ghost use Rattle.nm_engine.specs.Touch.{Read, Write};
+ghost use Rattle.nm_laws.specs.Moves.{CanMove};
+ghost use Rattle.nm_model.specs.definitions.Sound.{IsSound};
+ghost use Rattle.nm_model.specs.definitions.Touch.{Read, Write};
 ghost use Rattle.nm_engine.specs.MidRun.{with_state};
-ghost use Rattle.nm_engine.specs.Early.{early, all_early, without_fronts, with_fronts, tos};
+ghost use Rattle.nm_model.specs.definitions.Early.{early, all_early, without_fronts, with_fronts, tos};
 ghost use Rattle.nm_engine.specs.Undo.{IsStillUndone};
 ghost use Rattle.nm_engine.specs.Answering.{access_shown, due_shown, written_by, HasRoom};
 

@@ -3,15 +3,15 @@
 ghost use Rattle.std.specs.Prelude.{All, IfNone, IfOk, IfSome, Some, [], length, option_map, ◌+◌, ◌-◌, ◌<◌, ◌∷◌, ◌≡◌, ◌≤◌};
 ghost use Rattle.nm_areas.specs.Lines.{lines_of};
 ghost use Rattle.nm_engine.specs.Does.{AsksLast, Tells};
-ghost use Rattle.nm_engine.specs.Locating.{located, located_between};
-ghost use Rattle.nm_engine.specs.Refused.{entries_refusal};
-ghost use Rattle.nm_runs.specs.Seen.{users};
+ghost use Rattle.nm_model.specs.definitions.Seen.{located, located_between};
+ghost use Rattle.nm_model.specs.definitions.Effect.{entries_refusal};
+ghost use Rattle.nm_model.specs.definitions.Seen.{users};
 ghost use Rattle.nm_types.specs.Layout.{node_count, node_of};
 ghost use Rattle.nm_types.specs.Map.{get, page_cmp};
 ghost use Rattle.nm_types.specs.declared.page.Page.{Page};
 
+use crate::Located;
 use crate::inner::Inner;
-use crate::located::Located;
 use nm_areas::Line;
 use nm_types::{Errno, FrameId, MachineError, NodeId, Page, Pid, Sight, Vpn};
 use std::alloc::{AllocError, Allocator};

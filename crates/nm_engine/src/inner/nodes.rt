@@ -1,8 +1,8 @@
 //! The nodes of a machine.
 
 ghost use Rattle.std.specs.Prelude.{◌≡◌, []};
-ghost use Rattle.nm_engine.specs.Sound.{IsSound};
-ghost use Rattle.nm_engine.specs.Touch.{has_free};
+ghost use Rattle.nm_model.specs.definitions.Sound.{IsSound};
+ghost use Rattle.nm_model.specs.definitions.Touch.{has_free};
 
 use crate::inner::Inner;
 use nm_types::{Geometry, NodeId, NodeMask};

@@ -1,10 +1,10 @@
 //! Pins.
 
 ghost use Rattle.nm_engine.specs.Does.{Alters};
-ghost use Rattle.nm_engine.specs.Effect.{pin, unpin};
+ghost use Rattle.nm_model.specs.definitions.Effect.{pin, unpin};
 ghost use Rattle.nm_engine.specs.MidRun.{with_state};
-ghost use Rattle.nm_engine.specs.Refused.{is_unknown, pin_refusal, pins_refusal, unpin_refusal};
-ghost use Rattle.nm_runs.specs.Seen.{look, sight_at};
+ghost use Rattle.nm_model.specs.definitions.Effect.{is_unknown, pin_refusal, pins_refusal, unpin_refusal};
+ghost use Rattle.nm_model.specs.definitions.Seen.{look, sight_at};
 ghost use Rattle.nm_types.specs.Map.{get, page_cmp};
 ghost use Rattle.nm_types.specs.declared.errno.Errno.{Errno};
 ghost use Rattle.nm_types.specs.declared.errno.Errno.TheVariants.{Esrch};

@@ -1,17 +1,17 @@
 //! Processes that come and go.
 
 ghost use Rattle.nm_engine.specs.Does.{AsksLast, Makes};
-ghost use Rattle.nm_engine.specs.Effect.{exit, spawn};
+ghost use Rattle.nm_model.specs.definitions.Effect.{exit, spawn};
 ghost use Rattle.nm_engine.specs.MidRun.{with_state};
-ghost use Rattle.nm_engine.specs.Refused.{exit_refusal, spawn_refusal};
+ghost use Rattle.nm_model.specs.definitions.Effect.{exit_refusal, spawn_refusal};
 ghost use Rattle.nm_types.specs.Layout.{node_count};
 ghost use Rattle.nm_types.specs.declared.errno.Errno.{Errno};
 ghost use Rattle.nm_types.specs.declared.errno.Errno.TheVariants.{Esrch};
 ghost use Rattle.std.specs.List.{list_any};
 ghost use Rattle.std.specs.Prelude.{Some, [], false, nat_le, true, ◌+◌, ◌<◌, ◌≡◌, ◌≤◌};
 
+use crate::ProcessInfo;
 use crate::inner::Inner;
-use crate::process::ProcessInfo;
 use nm_types::limits::{MAX_PROCESSES, PAGE_NUMBERS};
 use nm_types::{Errno, MachineError, NodeMask, Pid, Vpn};
 use std::alloc::Allocator;

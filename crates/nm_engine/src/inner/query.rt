@@ -1,12 +1,12 @@
 //! What there is, and where the page is that a process sees.
 
-ghost use Rattle.nm_engine.specs.Asking.{node_status};
-ghost use Rattle.nm_engine.specs.Audited.{audited};
+ghost use Rattle.nm_model.specs.definitions.Status.{node_status};
+ghost use Rattle.nm_model.specs.definitions.Sound.{audited};
 ghost use Rattle.nm_engine.specs.Does.{AsksLast, Tells};
-ghost use Rattle.nm_engine.specs.Entries.{entries_of};
-ghost use Rattle.nm_engine.specs.Refused.{entries_refusal, list_refusal};
-ghost use Rattle.nm_engine.specs.Sound.{IsSound};
-ghost use Rattle.nm_engine.specs.Tables.{info_of};
+ghost use Rattle.nm_model.specs.definitions.PageTables.{entries_of};
+ghost use Rattle.nm_model.specs.definitions.Effect.{entries_refusal, list_refusal};
+ghost use Rattle.nm_model.specs.definitions.Sound.{IsSound};
+ghost use Rattle.nm_model.specs.definitions.Effect.{info_of};
 ghost use Rattle.nm_types.specs.Layout.{node_count};
 ghost use Rattle.nm_types.specs.Map.{get};
 ghost use Rattle.nm_types.specs.Nodes.{is_in};
@@ -16,9 +16,9 @@ ghost use Rattle.nm_types.specs.declared.errno.Errno.TheVariants.{Esrch};
 ghost use Rattle.std.specs.Ordering.{nat_cmp};
 ghost use Rattle.std.specs.Prelude.{IfOk, Some, [], option_map, true, ◌+◌, ◌<◌, ◌≡◌, ◌≤◌};
 
+use crate::ProcessInfo;
 use crate::inner::Inner;
 use crate::machine::Totals;
-use crate::process::ProcessInfo;
 use nm_tables::Entry;
 use nm_types::{Errno, FrameId, MachineError, NodeId, Pid, Seen, Vpn};
 use std::alloc::{AllocError, Allocator};

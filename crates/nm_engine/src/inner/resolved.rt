@@ -1,6 +1,6 @@
 //! Where bytes of a process stand.
 
-use crate::process::ProcessInfo;
+use crate::ProcessInfo;
 use nm_types::{Page, Pid, Policy, Vpn};
 
 /// Where bytes of a process stand: a process, one of its page numbers, and the page that the area over it shows there,

@@ -4,18 +4,18 @@ ghost use Rattle.std.specs.Prelude.{◌≡◌, ◌+◌, ◌<◌, ◌≤◌, ◌^
 ghost use Rattle.std.specs.List.{AllByRecursion};
 ghost use Rattle.nm_types.specs.Layout.{node_count};
 ghost use Rattle.nm_runs.specs.Shown.{class_shown, ShowsItsFrames};
-ghost use Rattle.nm_engine.specs.Laws.{with_moves};
-ghost use Rattle.nm_engine.specs.Moves.{CanMove, IsPlanOf};
-ghost use Rattle.nm_engine.specs.Run.{left, HasOneAll, with_all_free, failures, counted};
-ghost use Rattle.nm_engine.specs.Sound.{IsSound};
-ghost use Rattle.nm_engine.specs.Early.{with_fronts, tos, all_made, IsDue};
+ghost use Rattle.nm_laws.specs.Laws.{with_moves};
+ghost use Rattle.nm_laws.specs.Moves.{CanMove, IsPlanOf};
+ghost use Rattle.nm_model.specs.definitions.Run.{left, HasOneAll, with_all_free, failures, counted};
+ghost use Rattle.nm_model.specs.definitions.Sound.{IsSound};
+ghost use Rattle.nm_model.specs.definitions.Early.{with_fronts, tos, all_made, IsDue};
 ghost use Rattle.nm_engine.specs.Answering.{answer_shown, due_shown, HasRoom};
 
 use crate::answered::AccessAnswer;
 use crate::inner::Inner;
 use crate::inner::due::Due;
 use crate::machine::Totals;
-use nm_crew::Gate;
+use nm_crew::{Crew, Gate};
 use nm_plan::{Plan, Taken, plan};
 use nm_runs::{Class, Run, classify, classify_here};
 use nm_types::{Access, Errno, FrameId, Geometry, NodeId, Page, PageView};
@@ -33,11 +33,10 @@ impl<A: Allocator + Copy + Send + Sync> Inner<A> {
     }
 
     /// The plan of a run, by the classes that its requests have now.
-    pub(crate) fn plan<R: Threads + Wait + Sync>(
+    pub(crate) fn plan<R: Threads + Wait + Sync, G: Gate + Sync>(
         &self,
-        rt: &R,
+        crew: &Crew<R, G>,
         requests: &Run<A>,
-        workers: usize,
     ) -> Result<Plan<A>, AllocError>
         requires target { requests.now.target < node_count self.now.state.layout }
         requires alike { HasOneAll requests.now.wanted.items }
@@ -46,30 +45,27 @@ impl<A: Allocator + Copy + Send + Sync> Inner<A> {
         prove!(self.frames.node_count() <= 64);
         let target = requests.target;
         let classes = classes(
-            rt,
+            crew,
             self.alloc,
             self.frames.geometry(),
             &self.spaces,
             requests,
-            workers,
         )?;
         let front = self.frames.free_front(self.alloc, target, classes.len())?;
         plan(self.alloc, classes.as_slice(), front.as_slice(), target)
     }
 
     /// Makes moves to a node, whose frames are taken: every entry that named a frame that a page leaves names the
-    /// other, and all pages are copied by `workers` workers. What is left to do for accesses to other pages is done
+    /// other, and all pages are copied by the crew. What is left to do for accesses to other pages is done
     /// meanwhile; the answers go into a list that has room for them.
     pub(crate) fn carry_out<R: Threads + Wait + Sync, G: Gate + Sync>(
         &mut self,
-        rt: &R,
+        crew: &Crew<R, G>,
         target: NodeId,
         moves: &[Taken],
         accesses: &[Access<A>],
         dues: Vec<Due<A>, A>,
         answers: Vec<AccessAnswer<A>, A>,
-        workers: usize,
-        gate: &G,
     ) -> Vec<AccessAnswer<A>, A>
         requires target { target < node_count self.old.state.layout }
         requires few { length moves.now ≤ self.old.room }
@@ -80,7 +76,6 @@ impl<A: Allocator + Copy + Send + Sync> Inner<A> {
         requires room { AllByRecursion HasRoom dues.items }
         requires unanswered { answers.items ≡ [] }
         requires space { vec_len dues ≤ vec_capacity answers }
-        requires workers { (0 < workers) × (workers ≤ 64) }
         ensures state { self.new.state ≡ (all_made (with_moves (with_fronts (self.old.state) target (tos moves.now)) target moves.now) (map (due_shown accesses.now) dues.items)).state }
         ensures answers { map answer_shown result.items ≡ (all_made (with_moves (with_fronts (self.old.state) target (tos moves.now)) target moves.now) (map (due_shown accesses.now) dues.items)).answers }
         ensures left { self.new.left ≡ left moves.now }
@@ -88,15 +83,13 @@ impl<A: Allocator + Copy + Send + Sync> Inner<A> {
         self.frames.vacate_each(moves);
         self.spaces.move_pages(moves);
         self.frames.copy_pages(
-            rt,
+            crew,
             self.alloc,
             moves,
             &self.spaces,
             accesses,
             dues,
             answers,
-            workers,
-            gate,
         )
     }
 
@@ -136,22 +129,25 @@ impl<A: Allocator + Copy + Send + Sync> Inner<A> {
 
 /// What is to be done with each request of a run, in its order, by a look at what it names. With one worker the caller
 /// looks alone; otherwise several threads look if the run is long.
-fn classes<R: Threads + Sync, A: Allocator + Copy + Send + Sync, V: PageView + Sync>(
-    rt: &R,
+fn classes<
+    R: Threads + Wait + Sync,
+    A: Allocator + Copy + Send + Sync,
+    G: Gate + Sync,
+    V: PageView + Sync,
+>(
+    crew: &Crew<R, G>,
     alloc: A,
     geometry: &Geometry<A>,
     view: &V,
     run: &Run<A>,
-    workers: usize,
 ) -> Result<Vec<Class, A>, AllocError>
     requires target { run.now.target < 2 ^ 31 }
     requires frames { ShowsItsFrames geometry.now (V.seen_at view.now) (V.placed_at view.now) }
     ensures { IfOk result (λ classes. classes.items ≡ map (class_shown geometry.now (V.seen_at view.now) (V.placed_at view.now) run.now.target) run.now.wanted.items) }
 {
-    if workers > 1 {
-        classify(rt, alloc, geometry, view, run)
-    } else {
-        classify_here(alloc, geometry, view, run)
+    match crew.runtime() {
+        Some(rt) => classify(rt, alloc, geometry, view, run),
+        None => classify_here(alloc, geometry, view, run),
     }
 }
 

@@ -5,12 +5,12 @@ ghost use Rattle.std.specs.Ordering.{nat_cmp};
 ghost use Rattle.nm_types.specs.declared.sight.Sight.TheVariants.{ZeroPage};
 ghost use Rattle.nm_types.specs.Map.{get, page_cmp};
 ghost use Rattle.nm_types.specs.State.{Process, Placed, page_at};
-ghost use Rattle.nm_runs.specs.Seen.{sight_at};
-ghost use Rattle.nm_engine.specs.Touch.{touched_entry};
+ghost use Rattle.nm_model.specs.definitions.Seen.{sight_at};
+ghost use Rattle.nm_model.specs.definitions.Touch.{touched_entry};
 ghost use Rattle.nm_engine.specs.MidRun.{spot_at, IsResolved, with_state};
 ghost use Rattle.nm_engine.specs.Does.{Touches};
-ghost use Rattle.nm_engine.specs.Seeing.{frame_seen};
-ghost use Rattle.nm_engine.specs.Sound.{IsSoundMidRun};
+ghost use Rattle.nm_model.specs.definitions.Seen.{frame_seen};
+ghost use Rattle.nm_model.specs.definitions.Sound.{IsSoundMidRun};
 ghost use Rattle.nm_engine.specs.Undo.{CanUndo, IsUndoable, IsStillUndone, undone, all_undone, noted, with_undo};
 
 use crate::inner::Inner;

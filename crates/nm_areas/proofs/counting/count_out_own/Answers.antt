@@ -2,11 +2,11 @@ use Rattle.std.proofs.Common.{ℕ, ◌+◌, ap, sym, arith, ◌∙◌}
 use Rattle.std.specs.List.{filter}
 use Rattle.nm_types.specs.State.{Placed}
 use Rattle.nm_areas.specs.Coverage.{total, ends_at, covers_at}
-use Rattle.nm_areas.specs.Mapped.{HasIndices}
-use Rattle.nm_areas.specs.Removed.{others, is_own}
-use Rattle.nm_areas.proofs.Overs.{get_among}
+use Rattle.nm_model.specs.definitions.Areas.{HasIndices}
+use Rattle.nm_model.specs.definitions.Areas.{others, is_own}
+use Rattle.nm_model.proofs.areas.Overs.{get_among}
 use Rattle.nm_areas.proofs.Own.{own_next, own_none}
-use Rattle.nm_areas.proofs.Parted.{All-among}
+use Rattle.nm_model.proofs.areas.Parted.{All-among}
 use Rattle.nm_areas.proofs.Counted.{total_parts, own_sum}
 use Rattle.nm_areas.proofs.Masked.{masked_parts, masked_next, masked_end}
 use Rattle.nm_areas.proofs.counting.count_out_own.Goals as goal

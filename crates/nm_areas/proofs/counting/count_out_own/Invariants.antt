@@ -1,7 +1,7 @@
 use Rattle.std.proofs.Common.{◌≤◌, ◌+◌, ◌-◌}
 use Rattle.std.specs.List.{filter}
 use Rattle.nm_areas.specs.Coverage.{IsSteps, of_shared, ends_at, covers_at}
-use Rattle.nm_areas.specs.Removed.{others, is_own}
+use Rattle.nm_model.specs.definitions.Areas.{others, is_own}
 use Rattle.nm_areas.proofs.counting.count_out_own.Given as goal
 
 abbrev pub invariant-loop-start : goal.invariant-loop-start

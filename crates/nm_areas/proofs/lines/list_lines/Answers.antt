@@ -2,7 +2,7 @@ use Rattle.std.proofs.Common.{ℕ, ◌++◌, ◌∷◌, [], ap, subst, ◌∙◌
 use Rattle.nm_types.specs.Map.{spot_cmp}
 use Rattle.nm_types.proofs.Maps.{spot_cmp_total}
 use Rattle.nm_areas.specs.Rests.{IsRest}
-use Rattle.nm_areas.proofs.Painted.{exact_spot}
+use Rattle.nm_model.proofs.areas.Painted.{exact_spot}
 use Rattle.nm_areas.proofs.Rests.{rest_begins}
 use Rattle.nm_areas.proofs.Own.{lines_from, lines_begin, lines_next, lines_end}
 use Rattle.nm_areas.proofs.lines.list_lines.Goals as goal

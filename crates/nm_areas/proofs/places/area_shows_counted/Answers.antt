@@ -1,6 +1,6 @@
 use Rattle.std.proofs.Common.{ℕ, ◌+◌, ◌-◌, ◌≡◌, ap, ◌∙◌, arith}
 use Rattle.nm_types.specs.Map.{get, page_cmp}
-use Rattle.nm_areas.specs.Removed.{page_in}
+use Rattle.nm_model.specs.definitions.Areas.{page_in}
 use Rattle.nm_areas.proofs.places.area_shows_counted.Goals as goal
 
 pub returns-clause-shown : goal.returns-clause-shown

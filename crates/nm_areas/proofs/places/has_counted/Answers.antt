@@ -1,6 +1,6 @@
 use Rattle.std.proofs.Common.{arith}
 use Rattle.nm_types.proofs.Maps.{page_cmp_total, exact_page}
-use Rattle.nm_areas.specs.Removed.{page_in}
+use Rattle.nm_model.specs.definitions.Areas.{page_in}
 use Rattle.nm_areas.proofs.Rests.{rest_begins}
 use Rattle.nm_areas.proofs.Tallied.{tallied_gap, tallied_one, tallied_there, count_zero}
 use Rattle.nm_areas.proofs.places.has_counted.Goals as goal

@@ -1,6 +1,6 @@
 use Rattle.std.proofs.Common.{ℕ, ◌≤◌, length}
 use Rattle.nm_types.specs.Map.{page_cmp}
-use Rattle.nm_areas.specs.Removed.{page_in}
+use Rattle.nm_model.specs.definitions.Areas.{page_in}
 use Rattle.nm_areas.specs.Rests.{IsRest}
 use Rattle.nm_areas.proofs.Tallied.{NoneTallied}
 use Rattle.nm_areas.proofs.places.has_counted.Given as goal

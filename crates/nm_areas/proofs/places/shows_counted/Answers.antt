@@ -1,12 +1,12 @@
 use Rattle.std.proofs.Common.{refl, subst}
 use Rattle.nm_types.specs.Map.{spot_cmp}
 use Rattle.nm_types.proofs.Maps.{spot_cmp_total}
-use Rattle.nm_areas.specs.Mapped.{HasIndices}
+use Rattle.nm_model.specs.definitions.Areas.{HasIndices}
 use Rattle.nm_areas.specs.Rests.{IsRest}
-use Rattle.nm_areas.specs.Table.{Table}
-use Rattle.nm_areas.proofs.Parted.{All-among}
-use Rattle.nm_areas.proofs.Overs.{get_among}
-use Rattle.nm_areas.proofs.Painted.{exact_spot}
+use Rattle.nm_model.specs.views.Table.{Table}
+use Rattle.nm_model.proofs.areas.Parted.{All-among}
+use Rattle.nm_model.proofs.areas.Overs.{get_among}
+use Rattle.nm_model.proofs.areas.Painted.{exact_spot}
 use Rattle.nm_areas.proofs.Rests.{rest_begins}
 use Rattle.nm_areas.proofs.Tallied.{shown_begin, shown_next, shown_end, shown_there}
 use Rattle.nm_areas.proofs.places.shows_counted.Goals as goal

@@ -1,11 +1,11 @@
 use Rattle.std.proofs.Common.{ℕ, ◌+◌, ◌-◌, ap, sym, ◌∙◌, arith}
 use Rattle.nm_types.proofs.Maps.{spot_cmp_total}
-use Rattle.nm_areas.specs.Mapped.{EndsLow}
-use Rattle.nm_areas.specs.Policy.{is_mapped}
-use Rattle.nm_areas.proofs.Parted.{All-among}
-use Rattle.nm_areas.proofs.Overs.{get_among}
-use Rattle.nm_areas.proofs.Painted.{exact_spot}
-use Rattle.nm_areas.proofs.Repoliced.{mapped_next}
+use Rattle.nm_model.specs.definitions.Areas.{EndsLow}
+use Rattle.nm_model.specs.definitions.Areas.{is_mapped}
+use Rattle.nm_model.proofs.areas.Parted.{All-among}
+use Rattle.nm_model.proofs.areas.Overs.{get_among}
+use Rattle.nm_model.proofs.areas.Painted.{exact_spot}
+use Rattle.nm_model.proofs.areas.Repoliced.{mapped_next}
 use Rattle.nm_areas.proofs.Searched.{begun_all, over_it}
 use Rattle.nm_areas.proofs.Rests.{rest_begins}
 use Rattle.nm_areas.proofs.Filled.{none_reaches, none_within, none_there, hole_first, begins_from, pages_some}

@@ -1,6 +1,6 @@
 use Rattle.std.proofs.Common.{◌-◌, ℕ, ◌+◌, ◌≡◌, ◌≤◌}
 use Rattle.nm_types.specs.Map.{spot_cmp}
-use Rattle.nm_areas.specs.Policy.{is_mapped}
+use Rattle.nm_model.specs.definitions.Areas.{is_mapped}
 use Rattle.nm_areas.specs.Rests.{IsRest}
 use Rattle.nm_areas.proofs.Own.{NoneBegins}
 use Rattle.nm_areas.proofs.Filled.{NoneReaches}

@@ -5,7 +5,7 @@ use Rattle.std.specs.declared.ops.Range.{Range}
 use Rattle.std.specs.declared.ops.Bound.TheVariants.{Excluded}
 use Rattle.nm_types.specs.declared.area.Area.{Area}
 use Rattle.nm_types.specs.Map.{spot_cmp, with_values}
-use Rattle.nm_areas.specs.Policy.{painted}
+use Rattle.nm_model.specs.definitions.Areas.{painted}
 use Rattle.nm_areas.proofs.Swept.{sweeps}
 use Rattle.nm_areas.proofs.Shifts.{among_spots, painted_inside, painted_outside}
 use Rattle.nm_areas.proofs.policy.paint.Goals as goal

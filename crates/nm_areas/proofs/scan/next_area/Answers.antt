@@ -1,5 +1,5 @@
 use Rattle.nm_types.proofs.Maps.{spot_cmp_total}
-use Rattle.nm_areas.proofs.Painted.{exact_spot}
+use Rattle.nm_model.proofs.areas.Painted.{exact_spot}
 use Rattle.nm_areas.proofs.Rests.{rest_begins}
 use Rattle.nm_areas.proofs.scan.next_area.Goals as goal
 

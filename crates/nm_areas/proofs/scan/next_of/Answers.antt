@@ -1,5 +1,5 @@
 use Rattle.nm_types.proofs.Maps.{page_cmp_total, exact_page}
-use Rattle.nm_areas.specs.Removed.{page_in}
+use Rattle.nm_model.specs.definitions.Areas.{page_in}
 use Rattle.nm_areas.proofs.Rests.{rest_begins}
 use Rattle.nm_areas.proofs.scan.next_of.Goals as goal
 

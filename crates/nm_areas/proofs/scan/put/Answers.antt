@@ -1,7 +1,7 @@
 use Rattle.std.proofs.Common.{ℕ, ap, sym, ◌∙◌}
 use Rattle.std.specs.BTreeMap.{BTreeMap}
 use Rattle.nm_types.specs.declared.area.Area.{Area}
-use Rattle.nm_areas.proofs.Painted.{put_nowhere}
+use Rattle.nm_model.proofs.areas.Painted.{put_nowhere}
 use Rattle.nm_areas.proofs.scan.put.Goals as goal
 
 pub returns-in_default-clause-entries : goal.returns-in_default-clause-entries

@@ -1,6 +1,6 @@
 use Rattle.std.proofs.Common.{arith, inr}
 use Rattle.nm_types.specs.State.{Placed}
-use Rattle.nm_areas.proofs.Painted.{past_first, past_not}
+use Rattle.nm_model.proofs.areas.Painted.{past_first, past_not}
 use Rattle.nm_areas.proofs.Rests.{spot_before_first, spot_other, spot_next}
 use Rattle.nm_areas.proofs.scan.step_area.Goals as goal
 use Rattle.nm_areas.proofs.scan.step_area.Goals.{else-eq-via-then-eq+else-number, else-eq-via-else-eq}

@@ -1,8 +1,8 @@
 use Rattle.std.proofs.Common.{◌≡◌, ℕ, ◌+◌, ◌-◌, ◌<◌, ◌++◌, arith, refl, ap, sym, subst, append-nil, ◌∙◌}
 use Rattle.std.specs.List.{fold}
 use Rattle.nm_areas.specs.Coverage.{of_shared, ends_at, covers_at}
-use Rattle.nm_areas.specs.Removed.{all_lost, page_in, place_left}
-use Rattle.nm_areas.specs.Parts.{pages_from}
+use Rattle.nm_model.specs.definitions.Areas.{all_lost, page_in, place_left}
+use Rattle.nm_model.specs.definitions.Areas.{pages_from}
 use Rattle.std.specs.Prelude.{None}
 use Rattle.nm_types.specs.Map.{get, page_cmp}
 use Rattle.nm_types.proofs.Maps.{page_cmp_total, exact_page}

@@ -7,9 +7,9 @@ use Rattle.nm_types.specs.Map.{Map, page_cmp}
 use Rattle.nm_types.specs.declared.page.Page.{Page}
 use Rattle.nm_areas.specs.Coverage.{IsCoverage, IsSteps, IsFlat}
 use Rattle.nm_areas.specs.Rests.{IsRest}
-use Rattle.nm_areas.specs.Lines.{is_shared}
-use Rattle.nm_areas.specs.Parts.{pages_from}
-use Rattle.nm_areas.specs.Removed.{place_left, all_lost, pages_of_area, page_in}
+use Rattle.nm_model.specs.definitions.Areas.{is_shared}
+use Rattle.nm_model.specs.definitions.Areas.{pages_from}
+use Rattle.nm_model.specs.definitions.Areas.{place_left, all_lost, pages_of_area, page_in}
 use Rattle.nm_areas.proofs.unmap.lose.Given as goal
 
 abbrev pub invariant-loop-at : goal.invariant-loop-at

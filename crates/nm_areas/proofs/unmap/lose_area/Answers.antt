@@ -1,7 +1,7 @@
 use Rattle.std.proofs.Common.{◌≡◌, ◌+◌, ◌-◌, ◌∙◌, ◌++◌, [], ap, sym, arith}
 use Rattle.std.specs.List.{fold}
-use Rattle.nm_areas.specs.Parts.{pages_from}
-use Rattle.nm_areas.specs.Removed.{place_left, all_lost}
+use Rattle.nm_model.specs.definitions.Areas.{pages_from}
+use Rattle.nm_model.specs.definitions.Areas.{place_left, all_lost}
 use Rattle.nm_areas.proofs.Stretches.{alone_left, alone_lost}
 use Rattle.nm_areas.proofs.unmap.lose_area.Goals as goal
 

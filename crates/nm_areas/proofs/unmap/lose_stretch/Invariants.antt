@@ -1,8 +1,8 @@
 use Rattle.std.proofs.Common.{◌-◌, ◌+◌, ◌≡◌, ◌≤◌, ◌++◌, [], length, vec_len, vec_capacity}
 use Rattle.std.specs.Prelude.{min}
 use Rattle.std.specs.List.{fold}
-use Rattle.nm_areas.specs.Parts.{pages_from}
-use Rattle.nm_areas.specs.Removed.{place_left, all_lost}
+use Rattle.nm_model.specs.definitions.Areas.{pages_from}
+use Rattle.nm_model.specs.definitions.Areas.{place_left, all_lost}
 use Rattle.nm_areas.proofs.unmap.lose_stretch.Given as goal
 
 abbrev pub invariant-loop-index : goal.invariant-loop-index

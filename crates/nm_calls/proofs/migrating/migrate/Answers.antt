@@ -2,10 +2,10 @@ use Rattle.std.proofs.Common.{◌≡◌, arith, ◌<◌, ap, subst, ◌∙◌}
 use Rattle.std.specs.Result.{IsErrAnd}
 use Rattle.nm_types.specs.Layout.{node_count}
 use Rattle.nm_policy.specs.Pairs.{pairs}
-use Rattle.nm_runs.specs.Cut.{stretches_of}
-use Rattle.nm_runs.specs.Limit.{cut_within}
+use Rattle.nm_runs.specs.Stretches.{stretches_of}
+use Rattle.nm_model.specs.definitions.Cut.{cut_within}
 use Rattle.nm_calls.specs.Migrating.{migrate_list}
-use Rattle.nm_calls.specs.During.{shown_during}
+use Rattle.nm_calls.specs.Batch.{shown_during}
 use Rattle.nm_calls.proofs.Made.{none_moved, moved_same}
 use Rattle.nm_calls.proofs.Requests.{run_targets, run_entries, run_kinds}
 use Rattle.nm_calls.proofs.Lists.{asked_targets, asked_alike}

@@ -1,15 +1,15 @@
 use Rattle.std.proofs.Common.{◌≡◌, ◌<◌, ℕ, true, false, cond, List, [], map, refl, sym, ap, subst, ◌∙◌}
 use Rattle.nm_types.specs.Layout.{node_count}
-use Rattle.nm_engine.specs.Run.{HasOneAll}
+use Rattle.nm_model.specs.definitions.Run.{HasOneAll}
 use Rattle.nm_calls.specs.Passes.{passes}
 use Rattle.nm_types.specs.Nodes.{is_in}
-use Rattle.nm_engine.specs.Locating.{placed_on}
+use Rattle.nm_model.specs.definitions.Seen.{placed_on}
 use Rattle.nm_types.specs.State.{State}
 use Rattle.nm_types.specs.declared.page.Page.{Page}
-use Rattle.nm_runs.specs.declared.Wanted.{Wanted}
-use Rattle.nm_runs.specs.declared.Wanted.TheVariants.{Whole}
-use Rattle.nm_engine.specs.Effect.{set_online}
-use Rattle.nm_engine.specs.Batch.{runs_from}
+use Rattle.nm_types.specs.declared.request.Wanted.{Wanted}
+use Rattle.nm_types.specs.declared.request.Wanted.TheVariants.{Whole}
+use Rattle.nm_model.specs.definitions.Effect.{set_online}
+use Rattle.nm_model.specs.definitions.Run.{runs_from}
 use Rattle.nm_calls.specs.Offlining.{refuges, offline_runs}
 use Rattle.nm_calls.proofs.Emptied.{wholes_alike}
 use Rattle.nm_calls.proofs.Made.{none_emptied, keeps_stopped, still_found}

@@ -3,8 +3,8 @@ use Rattle.std.specs.Prelude.{All, not, ◌==◌}
 use Rattle.std.proofs.lemmas.List.Elements.{All-from_recursion, recursion_from_All, All-filter}
 use Rattle.nm_types.specs.Layout.{Layout, node_count}
 use Rattle.nm_types.specs.Nodes.{without_node}
-use Rattle.nm_policy.specs.Order.{zonelist}
-use Rattle.nm_engine.proofs.Soundness.Online.{set_is_few}
+use Rattle.nm_model.specs.definitions.Order.{zonelist}
+use Rattle.nm_laws.proofs.Soundness.Online.{set_is_few}
 use Rattle.nm_calls.specs.Offlining.{refuges}
 use Rattle.nm_calls.proofs.Nodes.{zonelist_length}
 use Rattle.nm_calls.proofs.Emptied.{by_distance_all}

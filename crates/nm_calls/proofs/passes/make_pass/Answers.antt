@@ -1,10 +1,10 @@
 use Rattle.std.proofs.Common.{◌<◌, ap, sym, subst, ◌∙◌, length, []}
 use Rattle.std.specs.List.{AllByRecursion}
 use Rattle.nm_types.specs.Layout.{node_count}
-use Rattle.nm_runs.specs.Cut.{wanted_of}
-use Rattle.nm_runs.specs.Limit.{cut_within}
-use Rattle.nm_engine.specs.Run.{HasOneAll, Ran}
-use Rattle.nm_engine.specs.Batch.{runs_from}
+use Rattle.nm_model.specs.definitions.Cut.{wanted_of}
+use Rattle.nm_model.specs.definitions.Cut.{cut_within}
+use Rattle.nm_model.specs.definitions.Run.{HasOneAll, Ran}
+use Rattle.nm_model.specs.definitions.Run.{runs_from}
 use Rattle.nm_calls.specs.Passes.{without_frame}
 use Rattle.nm_calls.proofs.Made.{none_batched, batch_told}
 use Rattle.nm_calls.proofs.Passing.{to_node_below, to_node_wanted, to_node_length, batch_statuses}

@@ -1,10 +1,10 @@
 use Rattle.std.proofs.Common.{◌<◌, ◌+◌, [], drop, length, ap, sym, subst, ◌∙◌, arith}
 use Rattle.nm_types.specs.Layout.{node_count}
-use Rattle.nm_runs.specs.Cut.{all_to}
-use Rattle.nm_runs.specs.Limit.{cut_within}
-use Rattle.nm_engine.specs.Batch.{runs_from}
+use Rattle.nm_model.specs.definitions.Cut.{all_to}
+use Rattle.nm_model.specs.definitions.Cut.{cut_within}
+use Rattle.nm_model.specs.definitions.Run.{runs_from}
 use Rattle.nm_calls.specs.Passes.{passes, without_frame}
-use Rattle.nm_engine.specs.Run.{HasOneAll}
+use Rattle.nm_model.specs.definitions.Run.{HasOneAll}
 use Rattle.nm_calls.proofs.Passing.{HavePassed, more_passed, all_passed, passes_none, passes_at, few_runs, some_run_of, to_node_length, counted_later, stopped_later, alike_left, fewer_left, runs_layout, nothing_is, something_is}
 use Rattle.nm_calls.proofs.passes.make_passes.Goals as goal
 

@@ -1,6 +1,6 @@
 use Rattle.std.proofs.Common.{sym, subst, ap, ◌∙◌}
 use Rattle.std.specs.List.{AllByRecursion}
-use Rattle.nm_engine.specs.Run.{counted}
+use Rattle.nm_model.specs.definitions.Run.{counted}
 use Rattle.nm_calls.specs.Passes.{without_frame}
 use Rattle.nm_calls.specs.Full.{StandAmong, WouldMove, pass, rounded_up}
 use Rattle.nm_calls.proofs.Full.{full_node_takes_none, left_would_move, runs_go_by_length}

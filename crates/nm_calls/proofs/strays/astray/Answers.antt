@@ -1,8 +1,8 @@
 use Rattle.std.proofs.Common.{length, ap, ◌∙◌, arith}
 use Rattle.std.specs.Prelude.{not}
 use Rattle.std.specs.List.{filter}
-use Rattle.nm_policy.specs.Order.{follows}
-use Rattle.nm_engine.specs.declared.located.Located.{Located}
+use Rattle.nm_model.specs.definitions.Order.{follows}
+use Rattle.nm_types.specs.declared.located.Located.{Located}
 use Rattle.nm_calls.specs.Binding.{once}
 use Rattle.nm_calls.proofs.Straying.{if_listed, few_pass}
 use Rattle.nm_calls.proofs.strays.astray.Goals as goal

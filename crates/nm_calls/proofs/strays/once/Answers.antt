@@ -1,5 +1,5 @@
 use Rattle.std.proofs.Common.{◌≡◌, suc, ◌+◌, List, [], ◌∷◌, length, drop, drop-cons, ap, sym, subst, ◌∙◌, arith, length-append}
-use Rattle.nm_engine.specs.declared.located.Located.{Located}
+use Rattle.nm_types.specs.declared.located.Located.{Located}
 use Rattle.nm_calls.proofs.Straying.{HaveListed, one_listed, one_again, not_true, not_false}
 use Rattle.nm_calls.proofs.strays.once.Goals as goal
 use Rattle.nm_calls.proofs.strays.once.Goals.{then-branch+in_ok-push, else-branch}

@@ -2,7 +2,7 @@ use Rattle.std.proofs.Common.{arith, ◌≡◌, w32, to_z, of_z, ℕ, ℤ, ◌++
 use Rattle.std.proofs.lemmas.Int.{to_z-of_z}
 use Rattle.std.specs.Prelude.{◌/◌}
 use Rattle.std.proofs.lemmas.List.{map_more}
-use Rattle.nm_engine.specs.Asking.{node_status}
+use Rattle.nm_model.specs.definitions.Status.{node_status}
 use Rattle.nm_calls.proofs.system.statuses_of.Goals as goal
 
 pub loop-address-preserved : goal.loop-address-preserved

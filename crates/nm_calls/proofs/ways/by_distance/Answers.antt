@@ -1,5 +1,5 @@
 use Rattle.std.proofs.Common.{◌≤◌, length, sym, subst, arith}
-use Rattle.nm_engine.proofs.Soundness.Online.{set_is_few}
+use Rattle.nm_laws.proofs.Soundness.Online.{set_is_few}
 use Rattle.nm_calls.proofs.Nodes.{tried_few}
 use Rattle.nm_calls.proofs.ways.by_distance.Goals as goal
 

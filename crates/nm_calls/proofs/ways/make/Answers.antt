@@ -1,5 +1,5 @@
 use Rattle.std.proofs.Common.{◌<◌, true, [], length, ap, sym, subst, ◌∙◌}
-use Rattle.nm_runs.specs.Limit.{cut_within}
+use Rattle.nm_model.specs.definitions.Cut.{cut_within}
 use Rattle.std.proofs.lemmas.List.{append-nil}
 use Rattle.nm_calls.specs.Making.{Stops, runs_in}
 use Rattle.nm_calls.proofs.Passing.{HavePassed, none_passed, some_run_of, stopped_later, something_is}

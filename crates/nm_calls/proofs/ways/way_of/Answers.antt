@@ -2,10 +2,10 @@ use Rattle.std.proofs.Common.{◌<◌, ap, sym, subst, ◌∙◌, arith, length}
 use Rattle.std.specs.List.{AllByRecursion}
 use Rattle.std.proofs.lemmas.List.Elements.{All-from_recursion}
 use Rattle.nm_types.specs.Layout.{node_count}
-use Rattle.nm_runs.specs.Cut.{wanted_of}
+use Rattle.nm_model.specs.definitions.Cut.{wanted_of}
 use Rattle.nm_policy.specs.Turns.{by_turns}
-use Rattle.nm_engine.specs.Effect.{with_areas_of}
-use Rattle.nm_engine.specs.Run.{HasOneAll}
+use Rattle.nm_model.specs.definitions.Effect.{with_areas_of}
+use Rattle.nm_model.specs.definitions.Run.{HasOneAll}
 use Rattle.nm_calls.specs.Passes.{passes}
 use Rattle.nm_calls.specs.Binding.{nodes_tried, strays_of}
 use Rattle.nm_calls.specs.Making.{nodes_named}

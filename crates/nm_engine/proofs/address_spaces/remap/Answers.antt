@@ -1,6 +1,6 @@
 use Rattle.std.proofs.Common.{ap, subst, sym, ◌∙◌}
 use Rattle.std.specs.List.{AllByRecursion}
-use Rattle.nm_tables.specs.declared.entry.Entry.TheVariants.{Frame}
+use Rattle.nm_types.specs.declared.entry.Entry.TheVariants.{Frame}
 use Rattle.nm_engine.specs.ProcessTable.{IsThere, remapped}
 use Rattle.nm_engine.proofs.Tied.Remapped.{all_there_stay}
 use Rattle.nm_engine.proofs.address_spaces.remap.Goals as goal

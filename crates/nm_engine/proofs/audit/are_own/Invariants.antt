@@ -1,6 +1,6 @@
 use Rattle.std.proofs.Common.{◌≡◌, drop}
 use Rattle.std.specs.List.{list_all}
-use Rattle.nm_engine.specs.Audited.{is_own}
+use Rattle.nm_model.specs.definitions.Sound.{is_own}
 use Rattle.nm_engine.proofs.audit.are_own.Given as goal
 
 abbrev pub invariant-loop-node : goal.invariant-loop-node

@@ -1,7 +1,7 @@
 use Rattle.std.proofs.Common.{[], ◌++◌, ap, ◌∙◌, arith, get_or}
 use Rattle.std.specs.Prelude.{map}
-use Rattle.nm_engine.specs.Audited.{numbered}
-use Rattle.nm_engine.proofs.Together.Audits.{beside, listed_more}
+use Rattle.nm_model.specs.definitions.Sound.{numbered}
+use Rattle.nm_laws.proofs.Soundness.Audits.{beside, listed_more}
 use Rattle.nm_engine.proofs.audit.free_frames.Goals as goal
 
 pub loop-node-preserved : goal.loop-node-preserved

@@ -1,5 +1,5 @@
 use Rattle.std.proofs.Common.{◌≡◌, ◌++◌, drop}
-use Rattle.nm_engine.specs.Audited.{numbered}
+use Rattle.nm_model.specs.definitions.Sound.{numbered}
 use Rattle.nm_engine.proofs.audit.free_frames.Given as goal
 
 abbrev pub invariant-loop-node : goal.invariant-loop-node

@@ -1,8 +1,8 @@
 use Rattle.std.proofs.Common.{◌≡◌, ℕ, true, sym, ap, ◌∙◌, arith}
 use Rattle.std.specs.Prelude.{◌==◌, nat_lt}
 use Rattle.std.specs.List.{list_all}
-use Rattle.nm_engine.specs.Audited.{is_frame}
-use Rattle.nm_engine.proofs.Together.Audits.{audit_ones}
+use Rattle.nm_model.specs.definitions.Sound.{is_frame}
+use Rattle.nm_laws.proofs.Soundness.Audits.{audit_ones}
 use Rattle.nm_engine.proofs.audit.is_each_once.Goals as goal
 
 pub returns : goal.returns

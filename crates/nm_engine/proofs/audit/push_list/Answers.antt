@@ -1,6 +1,6 @@
 use Rattle.std.proofs.Common.{sym}
-use Rattle.nm_nodes.specs.Pool.{list_of}
-use Rattle.nm_engine.proofs.Together.Audits.{pushed_more}
+use Rattle.nm_model.specs.definitions.Frames.{list_of}
+use Rattle.nm_laws.proofs.Soundness.Audits.{pushed_more}
 use Rattle.nm_engine.proofs.audit.push_list.Goals as goal
 
 pub loop-k-preserved : goal.loop-k-preserved

@@ -1,6 +1,6 @@
 use Rattle.std.proofs.Common.{◌≡◌, ◌++◌, take}
 use Rattle.std.specs.Prelude.{map, ℕ}
-use Rattle.nm_nodes.specs.Pool.{list_of}
+use Rattle.nm_model.specs.definitions.Frames.{list_of}
 use Rattle.nm_engine.proofs.audit.push_list.Given as goal
 
 abbrev pub invariant-loop-k : goal.invariant-loop-k

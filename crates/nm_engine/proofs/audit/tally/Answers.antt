@@ -1,6 +1,6 @@
 use Rattle.std.proofs.Common.{◌≡◌, ◌<◌, ◌≤◌, ◌+◌, ap, sym, subst, ◌∙◌, arith, get_or, set, take, length, length-set}
 use Rattle.std.proofs.lemmas.Grind.{get_or_default_zero}
-use Rattle.nm_engine.proofs.Together.Audits.{Tallies, few_times, tallied, passed_over}
+use Rattle.nm_laws.proofs.Soundness.Audits.{Tallies, few_times, tallied, passed_over}
 use Rattle.nm_engine.proofs.audit.tally.Goals as goal
 use Rattle.nm_engine.proofs.audit.tally.Goals.{then-index-count, else-index-count}
 

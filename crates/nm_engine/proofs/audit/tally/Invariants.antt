@@ -1,6 +1,6 @@
 use Rattle.std.proofs.Common.{◌≡◌, ◌<◌, length, take}
 use Rattle.std.specs.Prelude.{ℕ, slice_index_or}
-use Rattle.nm_engine.specs.Sound.{times}
+use Rattle.nm_model.specs.definitions.Sound.{times}
 use Rattle.nm_engine.proofs.audit.tally.Given as goal
 
 abbrev pub invariant-loop-frame : goal.invariant-loop-frame

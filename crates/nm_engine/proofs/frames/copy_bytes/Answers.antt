@@ -1,7 +1,7 @@
 use Rattle.std.proofs.Common.{◌≡◌, ◌+◌, ◌-◌, ◌∷◌, ◌++◌, [], refl, ap, sym, ◌∙◌, arith, append_assoc}
 use Rattle.std.proofs.lemmas.List.{append-nil}
-use Rattle.nm_frames.specs.Store.{bytes_of}
-use Rattle.nm_engine.specs.Frames.{stretch_of}
+use Rattle.nm_model.specs.definitions.Frames.{bytes_of}
+use Rattle.nm_model.specs.definitions.Memory.{stretch_of}
 use Rattle.nm_engine.proofs.Together.Paces.{stretch_step}
 use Rattle.nm_engine.proofs.frames.copy_bytes.Goals as goal
 

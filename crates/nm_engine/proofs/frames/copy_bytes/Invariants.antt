@@ -1,6 +1,6 @@
 use Rattle.std.proofs.Common.{◌≡◌, ◌+◌, ◌-◌, ◌≤◌, ◌++◌, vec_len, vec_capacity}
-use Rattle.nm_frames.specs.Store.{bytes_of}
-use Rattle.nm_engine.specs.Frames.{stretch_of}
+use Rattle.nm_model.specs.definitions.Frames.{bytes_of}
+use Rattle.nm_model.specs.definitions.Memory.{stretch_of}
 use Rattle.nm_engine.proofs.frames.copy_bytes.Given as goal
 
 abbrev pub invariant-loop-k : goal.invariant-loop-k

@@ -1,7 +1,7 @@
 use Rattle.std.proofs.Common.{◌≡◌, ◌∷◌, ◌++◌, [], take, ap, sym, ◌∙◌, arith}
 use Rattle.std.proofs.lemmas.Option.{slice_get-get_or}
 use Rattle.nm_types.proofs.Cases.{none_some}
-use Rattle.nm_nodes.specs.Pool.{list_of}
+use Rattle.nm_model.specs.definitions.Frames.{list_of}
 use Rattle.nm_engine.proofs.Together.Paces.{got_take}
 use Rattle.nm_engine.proofs.frames.front_of.Goals as goal
 

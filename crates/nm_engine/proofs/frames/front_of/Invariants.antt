@@ -1,5 +1,5 @@
 use Rattle.std.proofs.Common.{◌≡◌, ◌≤◌, length, take, vec_len, vec_capacity}
-use Rattle.nm_nodes.specs.Pool.{list_of}
+use Rattle.nm_model.specs.definitions.Frames.{list_of}
 use Rattle.nm_engine.proofs.frames.front_of.Given as goal
 
 abbrev pub invariant-loop-k : goal.invariant-loop-k

@@ -1,6 +1,6 @@
 use Rattle.std.proofs.Common.{◌≡◌, ◌≤◌, ◌+◌, ◌++◌, length, drop}
 use Rattle.std.specs.Prelude.{vec_len, vec_capacity}
-use Rattle.nm_engine.specs.Run.{left}
+use Rattle.nm_model.specs.definitions.Run.{left}
 use Rattle.nm_engine.proofs.frames.push_left.Given as goal
 
 abbrev pub invariant-loop-taken : goal.invariant-loop-taken

@@ -1,6 +1,6 @@
 use Rattle.std.proofs.Common.{◌≡◌, ◌≤◌, ◌+◌, ◌++◌, length, drop}
 use Rattle.std.specs.Prelude.{vec_len, vec_capacity}
-use Rattle.nm_engine.specs.Early.{tos}
+use Rattle.nm_model.specs.definitions.Early.{tos}
 use Rattle.nm_engine.proofs.frames.push_tos.Given as goal
 
 abbrev pub invariant-loop-t : goal.invariant-loop-t

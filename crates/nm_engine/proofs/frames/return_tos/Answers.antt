@@ -2,8 +2,8 @@ use Rattle.std.proofs.Common.{◌≡◌, ◌<◌, ◌-◌, ◌++◌, ℕ, List, 
 use Rattle.std.specs.Prelude.{slice_index_or, sum}
 use Rattle.nm_types.specs.Layout.{owner}
 use Rattle.nm_types.specs.Nodes.{is_in}
-use Rattle.nm_nodes.specs.Pool.{Pool, list_of, with_list, prepended}
-use Rattle.nm_engine.specs.Early.{tos}
+use Rattle.nm_model.specs.definitions.Frames.{Pool, list_of, with_list, prepended}
+use Rattle.nm_model.specs.definitions.Early.{tos}
 use Rattle.nm_engine.proofs.Early.Returned.{left_from, can_left, one_back, there_now}
 use Rattle.nm_engine.proofs.frames.return_tos.Goals as goal
 

@@ -1,6 +1,6 @@
 use Rattle.std.proofs.Common.{◌≡◌, ◌≤◌, ◌++◌, length, drop}
-use Rattle.nm_nodes.specs.Pool.{list_of, with_list}
-use Rattle.nm_engine.specs.Early.{tos}
+use Rattle.nm_model.specs.definitions.Frames.{list_of, with_list}
+use Rattle.nm_model.specs.definitions.Early.{tos}
 use Rattle.nm_engine.proofs.frames.return_tos.Given as goal
 
 abbrev pub invariant-loop-left : goal.invariant-loop-left

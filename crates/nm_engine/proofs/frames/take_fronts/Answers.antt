@@ -1,6 +1,6 @@
 use Rattle.std.proofs.Common.{◌≡◌, ◌-◌, ◌+◌, length, ap, suc, arith, ◌∙◌, drop}
 use Rattle.std.proofs.lemmas.List.{length-set}
-use Rattle.nm_nodes.specs.Pool.{Pool, list_of}
+use Rattle.nm_model.specs.definitions.Frames.{Pool, list_of}
 use Rattle.nm_engine.proofs.Together.Carried.{fronts_step}
 use Rattle.nm_engine.proofs.frames.take_fronts.Goals as goal
 

@@ -1,5 +1,5 @@
 use Rattle.std.proofs.Common.{◌≡◌, ◌-◌, ◌<◌, length, drop}
-use Rattle.nm_nodes.specs.Pool.{list_of, with_list}
+use Rattle.nm_model.specs.definitions.Frames.{list_of, with_list}
 use Rattle.nm_engine.proofs.frames.take_fronts.Given as goal
 
 abbrev pub invariant-loop : goal.invariant-loop

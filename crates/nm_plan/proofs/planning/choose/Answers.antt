@@ -1,7 +1,7 @@
 use Rattle.std.proofs.Common.{◌≡◌, List, [], ◌∷◌, ◌++◌, true, false, refl, sym, ap, subst, ◌∙◌, length, rules, w32}
 use mir.Val.{to_z, of_z}
-use Rattle.nm_plan.specs.declared.Taken.{Taken}
-use Rattle.nm_plan.specs.Decide.{Choice}
+use Rattle.nm_types.specs.declared.taken.Taken.{Taken}
+use Rattle.nm_model.specs.definitions.Decide.{Choice}
 use Rattle.nm_plan.specs.Found.{Finds}
 use Rattle.nm_plan.proofs.Chosen.{known_moved, of_status, of_moved, of_short, of_new, none_taken, one_taken, none_left, front_after, node_fits, node_status, no_frame_fits, no_frame_status}
 use Rattle.nm_plan.proofs.planning.choose.Goals as goal

@@ -1,6 +1,6 @@
 use Rattle.std.proofs.Common.{◌≡◌, ℕ, ◌+◌, ◌-◌, ◌<◌, ◌≤◌, List, [], length, sym, ap, subst, arith, rules, w32}
 use mir.Val.{to_z, of_z}
-use Rattle.nm_plan.specs.declared.Taken.{Taken}
+use Rattle.nm_types.specs.declared.taken.Taken.{Taken}
 use Rattle.nm_plan.specs.Found.{Finds}
 use Rattle.nm_plan.proofs.Chosen.{start_statuses, start_moves, next_statuses, next_moves, next_status_room, next_move_room, has_room, end_planned}
 use Rattle.nm_plan.proofs.planning.plan.Goals as goal

@@ -1,5 +1,5 @@
 use Rattle.std.proofs.Common.{◌≡◌, ◌++◌, ◌≤◌, ◌+◌, [], length, drop}
-use Rattle.nm_plan.specs.Decide.{decide}
+use Rattle.nm_model.specs.definitions.Decide.{decide}
 use Rattle.nm_plan.specs.Found.{Finds}
 use Rattle.nm_plan.proofs.planning.plan.Given as goal
 

@@ -1,7 +1,7 @@
 use Rattle.std.proofs.Common.{sym, ◌∙◌}
 use Rattle.std.specs.Prelude.{◌&&◌}
 use Rattle.nm_types.specs.Nodes.{is_in}
-use Rattle.nm_policy.specs.Order.{zonelist}
+use Rattle.nm_model.specs.definitions.Order.{zonelist}
 use Rattle.nm_policy.proofs.Nearest.{all_steps, find_filtered}
 use Rattle.nm_policy.proofs.first_touch.nearest.Goals as goal
 

@@ -2,7 +2,7 @@ use Rattle.std.proofs.Common.{◌≡◌, length}
 use Rattle.std.specs.Prelude.{◌&&◌, find}
 use Rattle.std.specs.List.{filter, fold}
 use Rattle.nm_types.specs.Nodes.{is_in}
-use Rattle.nm_policy.specs.Order.{zonelist, nearer_of}
+use Rattle.nm_model.specs.definitions.Order.{zonelist, nearer_of}
 use Rattle.nm_policy.proofs.first_touch.nearest.Given as goal
 
 abbrev pub invariant-loop-node : goal.invariant-loop-node

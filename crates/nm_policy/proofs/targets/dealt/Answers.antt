@@ -3,7 +3,7 @@ use Rattle.std.proofs.lemmas.List.{take_all, map_more, get_or_read}
 use Rattle.std.proofs.lemmas.Result.{IfOk-from_err}
 use Rattle.nm_policy.specs.declared.targets.Sent.{Sent}
 use Rattle.nm_policy.specs.declared.targets.Stray.{Stray}
-use Rattle.nm_policy.specs.Order.{turn}
+use Rattle.nm_model.specs.definitions.Order.{turn}
 use Rattle.nm_policy.specs.Turns.{sent}
 use Rattle.nm_policy.proofs.targets.dealt.Goals as goal
 

@@ -1,5 +1,5 @@
 use Rattle.std.proofs.Common.{true, ap, ◌∙◌}
-use Rattle.nm_runs.specs.Status.{class_of_look}
+use Rattle.nm_model.specs.definitions.Status.{class_of_look}
 use Rattle.nm_runs.proofs.classes.class_of.Goals as goal
 
 pub returns-in-Whole : goal.returns-in-Whole

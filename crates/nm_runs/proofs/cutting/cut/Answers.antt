@@ -1,5 +1,6 @@
 use Rattle.std.proofs.Common.{List, IfOk, ◌≡◌, subst, arith}
-use Rattle.nm_runs.specs.Cut.{Stretch, stretches_of}
+use Rattle.nm_model.specs.definitions.Cut.{Stretch}
+use Rattle.nm_runs.specs.Stretches.{stretches_of}
 use Rattle.nm_runs.proofs.Pieces.{cut_in_limit}
 use Rattle.nm_runs.proofs.cutting.cut.Goals as goal
 

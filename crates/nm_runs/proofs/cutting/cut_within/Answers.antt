@@ -1,7 +1,7 @@
 use Rattle.std.proofs.Common.{◌++◌, ◌∷◌, [], length, ◌∙◌, sym, ap, append-nil, arith, drop, ◌+◌}
 use Rattle.std.proofs.lemmas.List.{length-take, length-drop, at_drop_all}
-use Rattle.nm_runs.specs.Cut.{stretches_of}
-use Rattle.nm_runs.specs.Limit.{cut_within}
+use Rattle.nm_runs.specs.Stretches.{stretches_of}
+use Rattle.nm_model.specs.definitions.Cut.{cut_within}
 use Rattle.nm_runs.proofs.Pieces.{one_more}
 use Rattle.nm_runs.proofs.cutting.cut_within.Goals as goal
 

@@ -1,6 +1,6 @@
 use Rattle.std.proofs.Common.{length, drop, ◌-◌, ◌≡◌, ◌≤◌, ◌++◌}
-use Rattle.nm_runs.specs.Cut.{stretches_of}
-use Rattle.nm_runs.specs.Limit.{cut_within}
+use Rattle.nm_runs.specs.Stretches.{stretches_of}
+use Rattle.nm_model.specs.definitions.Cut.{cut_within}
 use Rattle.nm_runs.proofs.cutting.cut_within.Given as goal
 
 abbrev pub invariant-loop-at : goal.invariant-loop-at

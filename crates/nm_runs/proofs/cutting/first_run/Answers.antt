@@ -1,6 +1,6 @@
 use Rattle.std.proofs.Common.{◌∙◌, sym, ap, length, take, arith}
 use Rattle.std.proofs.lemmas.List.{length-map, length-take-le}
-use Rattle.nm_runs.specs.Cut.{wanted_of}
+use Rattle.nm_model.specs.definitions.Cut.{wanted_of}
 use Rattle.nm_runs.proofs.Stretches.{first_is, first_stretch}
 use Rattle.nm_runs.proofs.cutting.first_run.Goals as goal
 

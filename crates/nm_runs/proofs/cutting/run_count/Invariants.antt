@@ -1,5 +1,5 @@
 use Rattle.std.proofs.Common.{length, drop, ◌-◌, ◌+◌, ◌≡◌, ◌≤◌}
-use Rattle.nm_runs.specs.Limit.{run_count}
+use Rattle.nm_model.specs.definitions.Cut.{run_count}
 use Rattle.nm_runs.proofs.cutting.run_count.Given as goal
 
 abbrev pub invariant-loop-at : goal.invariant-loop-at

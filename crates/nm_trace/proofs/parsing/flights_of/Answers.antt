@@ -1,6 +1,6 @@
 use Rattle.std.proofs.lemmas.List.{map-append}
 use Rattle.nm_engine.specs.Answering.{access_shown}
-use Rattle.nm_calls.specs.During.{shown_during}
+use Rattle.nm_calls.specs.Batch.{shown_during}
 use Rattle.nm_trace.specs.Form.{in_flight}
 use Rattle.nm_trace.proofs.Each.{goes_on}
 use Rattle.nm_trace.proofs.parsing.flights_of.Goals as goal

@@ -1,6 +1,6 @@
 use Rattle.std.proofs.Common.{◌≡◌, drop}
 use Rattle.nm_trace.specs.Tree.{items_view}
-use Rattle.nm_calls.specs.During.{shown_during}
+use Rattle.nm_calls.specs.Batch.{shown_during}
 use Rattle.nm_trace.specs.Form.{each, in_flight}
 use Rattle.nm_trace.proofs.Each.{with_front}
 use Rattle.nm_trace.proofs.parsing.flights_of.Given as goal

@@ -1,6 +1,6 @@
 use Rattle.std.proofs.Common.{ap, sym, subst, ◌∙◌}
 use Rattle.nm_types.specs.Map.{get, spot_cmp}
-use Rattle.nm_areas.specs.Table.{Table}
+use Rattle.nm_model.specs.views.Table.{Table}
 use Rattle.nm_areas.specs.Index.{IsIndex}
 use Rattle.nm_areas.proofs.Indexed.{one_more, key_undone}
 use Rattle.nm_areas.proofs.area_table.AreaTable.add.Goals as goal

@@ -1,4 +1,4 @@
-use Rattle.nm_areas.proofs.Cut.{over_facts}
+use Rattle.nm_model.proofs.areas.Cut.{over_facts}
 use Rattle.nm_areas.proofs.Filled.{begin_some, begin_none}
 use Rattle.nm_areas.proofs.area_table.AreaTable.begin.Goals as goal
 

@@ -3,15 +3,15 @@ use Rattle.std.specs.Prelude.{Option, Some, IfSome}
 use Rattle.std.specs.List.{AllByRecursion}
 use Rattle.nm_types.specs.declared.area.Area.{Area}
 use Rattle.nm_types.specs.State.{area_over}
-use Rattle.nm_areas.specs.Mapped.{AreasAreApart}
-use Rattle.nm_areas.specs.Mapped.{IsSomePages}
-use Rattle.nm_areas.specs.Mapped.{HasIndices}
-use Rattle.nm_areas.specs.Table.{Table}
-use Rattle.nm_areas.specs.Policy.{split_at}
-use Rattle.nm_areas.specs.Table.{with_areas}
+use Rattle.nm_model.specs.definitions.Areas.{AreasAreApart}
+use Rattle.nm_model.specs.definitions.Areas.{IsSomePages}
+use Rattle.nm_model.specs.definitions.Areas.{HasIndices}
+use Rattle.nm_model.specs.views.Table.{Table}
+use Rattle.nm_model.specs.definitions.Areas.{split_at}
+use Rattle.nm_model.specs.views.Table.{with_areas}
 use Rattle.nm_areas.proofs.Beginning.{same_back}
-use Rattle.nm_areas.proofs.Cut.{undone}
-use Rattle.nm_areas.proofs.Repoliced.{split_some, split_indices, split_apart}
+use Rattle.nm_model.proofs.areas.Cut.{undone}
+use Rattle.nm_model.proofs.areas.Repoliced.{split_some, split_indices, split_apart}
 use Rattle.nm_areas.proofs.area_table.AreaTable.cut.Goals as goal
 
 pub split-requires-2-clause-apart : goal.split-requires-2-clause-apart

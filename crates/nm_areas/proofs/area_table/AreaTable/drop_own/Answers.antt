@@ -1,6 +1,6 @@
 use Rattle.std.proofs.Common.{ap, sym, subst, ◌∙◌, ◌<◌, length, refl}
-use Rattle.nm_areas.specs.Removed.{segments_left, others}
-use Rattle.nm_areas.specs.Table.{Table}
+use Rattle.nm_model.specs.definitions.Areas.{segments_left, others}
+use Rattle.nm_model.specs.views.Table.{Table}
 use Rattle.nm_areas.proofs.Gone.{others_all, all_left, step_others, step_shown, step_gone, fewer, both_left, dropped_from}
 use Rattle.nm_areas.proofs.area_table.AreaTable.drop_own.Goals as goal
 

@@ -1,5 +1,5 @@
 use Rattle.std.proofs.Common.{◌≡◌, length}
-use Rattle.nm_areas.specs.Removed.{segments_left, others}
+use Rattle.nm_model.specs.definitions.Areas.{segments_left, others}
 use Rattle.nm_areas.proofs.area_table.AreaTable.drop_own.Given as goal
 
 abbrev pub invariant-loop-start : goal.invariant-loop-start

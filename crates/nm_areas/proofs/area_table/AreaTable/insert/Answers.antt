@@ -6,7 +6,7 @@ use Rattle.std.specs.List.Sorted.{IsStrictlySortedBy}
 use Rattle.std.proofs.lemmas.Map.Lookups.{exact_unsigned}
 use Rattle.nm_types.specs.declared.area.Segment.{Segment}
 use Rattle.nm_types.specs.Map.{Map, get, set, without, spot_cmp}
-use Rattle.nm_areas.specs.Table.{Table}
+use Rattle.nm_model.specs.views.Table.{Table}
 use Rattle.nm_types.proofs.Maps.{without-set}
 use Rattle.nm_areas.proofs.area_table.AreaTable.insert.Goals as goal
 

@@ -2,9 +2,9 @@ use Rattle.std.proofs.Common.{◌≡◌, ◌≤◌, ◌+◌, ◌^◌, not, Bool,
 use Rattle.std.specs.Prelude.{nat_le}
 use Rattle.nm_types.specs.State.{Placed}
 use Rattle.nm_types.proofs.Cases.{true_false}
-use Rattle.nm_areas.specs.Table.{Table}
-use Rattle.nm_areas.specs.Mapped.{EndsLow}
-use Rattle.nm_areas.proofs.Overs.{free_other, free_own, free_none, last_has}
+use Rattle.nm_model.specs.views.Table.{Table}
+use Rattle.nm_model.specs.definitions.Areas.{EndsLow}
+use Rattle.nm_model.proofs.areas.Overs.{free_other, free_own, free_none, last_has}
 use Rattle.nm_areas.proofs.area_table.AreaTable.is_free.Goals as goal
 
 false_from_not : (r b : Bool) → r ≡ not b → r ≡ true → b ≡ false

@@ -1,11 +1,11 @@
 use Rattle.std.proofs.Common.{◌+◌, ◌-◌, ◌≡◌, refl, ap, sym, ◌∙◌, arith}
 use Rattle.std.proofs.lemmas.Bool.{le-leb}
-use Rattle.nm_areas.specs.Mapped.{EndsLow, IsSomePages}
-use Rattle.nm_areas.specs.Policy.{is_mapped}
-use Rattle.nm_areas.specs.Table.{Table}
-use Rattle.nm_areas.proofs.Parted.{All-among}
-use Rattle.nm_areas.proofs.Cut.{over_facts}
-use Rattle.nm_areas.proofs.Repoliced.{mapped_next, mapped_whole}
+use Rattle.nm_model.specs.definitions.Areas.{EndsLow, IsSomePages}
+use Rattle.nm_model.specs.definitions.Areas.{is_mapped}
+use Rattle.nm_model.specs.views.Table.{Table}
+use Rattle.nm_model.proofs.areas.Parted.{All-among}
+use Rattle.nm_model.proofs.areas.Cut.{over_facts}
+use Rattle.nm_model.proofs.areas.Repoliced.{mapped_next, mapped_whole}
 use Rattle.nm_areas.proofs.Searched.{over_all}
 use Rattle.nm_areas.proofs.Filled.{over_inside, mapped_inside}
 use Rattle.nm_areas.proofs.area_table.AreaTable.is_mapped.Goals as goal

@@ -6,8 +6,8 @@ use Rattle.std.specs.List.Sorted.{IsStrictlySortedBy}
 use Rattle.std.specs.Map.{keys_of}
 use Rattle.nm_types.specs.Map.{spot_cmp}
 use Rattle.nm_areas.specs.Index.{Key, key_cmp}
-use Rattle.nm_areas.specs.Mapped.{shows_segment}
-use Rattle.nm_areas.specs.Table.{Table}
+use Rattle.nm_model.specs.definitions.Areas.{shows_segment}
+use Rattle.nm_model.specs.views.Table.{Table}
 use Rattle.nm_areas.proofs.Scanned.{shown_first, shown_none}
 use Rattle.nm_areas.proofs.area_table.AreaTable.is_shown.Goals as goal
 

@@ -1,10 +1,10 @@
 use Rattle.std.proofs.Common.{arith, ap, sym, ◌∙◌, ◌++◌, ◌+◌, ℕ, length, append-nil}
 use Rattle.std.specs.List.{fold}
-use Rattle.nm_areas.specs.Mapped.{HasIndices}
-use Rattle.nm_areas.specs.Removed.{others, place_left, all_lost, pages_of_own}
+use Rattle.nm_model.specs.definitions.Areas.{HasIndices}
+use Rattle.nm_model.specs.definitions.Areas.{others, place_left, all_lost, pages_of_own}
 use Rattle.nm_areas.proofs.Alone.{none_beside}
-use Rattle.nm_areas.proofs.Overs.{get_among}
-use Rattle.nm_areas.proofs.Parted.{All-among}
+use Rattle.nm_model.proofs.areas.Overs.{get_among}
+use Rattle.nm_model.proofs.areas.Parted.{All-among}
 use Rattle.nm_areas.proofs.Roomy.{own_count_next}
 use Rattle.nm_areas.proofs.Lost.{own_freed_next, own_left_next, own_pages_end}
 use Rattle.nm_areas.proofs.area_table.AreaTable.lose_all.Goals as goal

@@ -1,7 +1,7 @@
 use Rattle.std.proofs.Common.{◌-◌, ◌+◌, ◌≡◌, ◌≤◌, ◌++◌, length, vec_len, vec_capacity}
 use Rattle.std.specs.Prelude.{min}
 use Rattle.std.specs.List.{fold}
-use Rattle.nm_areas.specs.Removed.{place_left, all_lost, others, pages_of_own}
+use Rattle.nm_model.specs.definitions.Areas.{place_left, all_lost, others, pages_of_own}
 use Rattle.nm_areas.proofs.area_table.AreaTable.lose_all.Given as goal
 
 abbrev pub invariant-loop-start : goal.invariant-loop-start

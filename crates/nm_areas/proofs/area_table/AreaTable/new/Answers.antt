@@ -2,7 +2,7 @@ use Rattle.std.proofs.Common.{ℕ, [], ap, ◌∙◌}
 use Rattle.nm_types.specs.declared.area.Area.{Area}
 use Rattle.nm_types.specs.declared.area.Segment.{Segment}
 use Rattle.nm_types.specs.Map.{Map}
-use Rattle.nm_areas.specs.Table.{Table}
+use Rattle.nm_model.specs.views.Table.{Table}
 use Rattle.nm_areas.proofs.area_table.AreaTable.new.Goals as goal
 
 abbrev first_table : Map (ℕ × ℕ) Area → Map ℕ Segment → Table

@@ -1,9 +1,9 @@
 use Rattle.std.proofs.Common.{◌≡◌, option_map, true, nat_eq, ap, sym, ◌∙◌, arith, eq-eqb}
 use Rattle.nm_types.specs.State.{Placed}
 use Rattle.nm_types.proofs.Cases.{true_false}
-use Rattle.nm_areas.specs.Table.{Table}
-use Rattle.nm_areas.proofs.Apart.{covers_parts}
-use Rattle.nm_areas.proofs.Overs.{over_it, over_not, over_none}
+use Rattle.nm_model.specs.views.Table.{Table}
+use Rattle.nm_model.proofs.areas.Apart.{covers_parts}
+use Rattle.nm_model.proofs.areas.Overs.{over_it, over_not, over_none}
 use Rattle.nm_areas.proofs.area_table.AreaTable.over.Goals as goal
 use Rattle.nm_areas.proofs.area_table.AreaTable.over.Goals.{else-eq-via-then-eq+else-within-area, else-eq-via-else-eq}
 

@@ -1,7 +1,7 @@
 use Rattle.std.proofs.Common.{◌≡◌, sym, subst}
 use Rattle.std.specs.Prelude.{IfSome}
 use Rattle.nm_types.specs.Map.{get, spot_cmp}
-use Rattle.nm_areas.specs.Table.{Table}
+use Rattle.nm_model.specs.views.Table.{Table}
 use Rattle.nm_areas.proofs.Indexed.{put_index}
 use Rattle.nm_areas.proofs.area_table.AreaTable.put.Goals as goal
 

@@ -1,12 +1,12 @@
 use Rattle.std.proofs.Common.{◌≡◌, ◌+◌, ◌∙◌, ap, arith, ℕ}
 use Rattle.std.specs.List.{flat_map}
 use Rattle.nm_types.specs.Map.{with_values}
-use Rattle.nm_areas.specs.Table.{Table}
-use Rattle.nm_areas.specs.Policy.{repoliced, painted}
-use Rattle.nm_areas.specs.Table.{with_areas}
-use Rattle.nm_areas.proofs.Cut.{areas_alone}
+use Rattle.nm_model.specs.views.Table.{Table}
+use Rattle.nm_model.specs.definitions.Areas.{repoliced, painted}
+use Rattle.nm_model.specs.views.Table.{with_areas}
+use Rattle.nm_model.proofs.areas.Cut.{areas_alone}
 use Rattle.nm_areas.proofs.Indexed.{paint_index}
-use Rattle.nm_areas.proofs.Repoliced.{all_repoliced}
+use Rattle.nm_model.proofs.areas.Repoliced.{all_repoliced}
 use Rattle.nm_areas.proofs.area_table.AreaTable.set_policy.Goals as goal
 
 pub invariant_of-self : goal.invariant_of-self

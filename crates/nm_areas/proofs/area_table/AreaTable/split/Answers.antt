@@ -1,10 +1,10 @@
 use Rattle.std.proofs.Common.{refl, ap, sym, arith, ◌-◌}
-use Rattle.nm_areas.specs.Mapped.{HasIndices}
-use Rattle.nm_areas.specs.Table.{Table}
-use Rattle.nm_areas.specs.Table.{with_areas}
-use Rattle.nm_areas.proofs.Parted.{All-among}
+use Rattle.nm_model.specs.definitions.Areas.{HasIndices}
+use Rattle.nm_model.specs.views.Table.{Table}
+use Rattle.nm_model.specs.views.Table.{with_areas}
+use Rattle.nm_model.proofs.areas.Parted.{All-among}
 use Rattle.nm_areas.proofs.Beginning.{none_inside, same_front}
-use Rattle.nm_areas.proofs.Cut.{split_nothing, over_facts, split_made}
+use Rattle.nm_model.proofs.areas.Cut.{split_nothing, over_facts, split_made}
 use Rattle.nm_areas.proofs.area_table.AreaTable.split.Goals as goal
 
 pub returns-in_default-clause-ok : goal.returns-in_default-clause-ok

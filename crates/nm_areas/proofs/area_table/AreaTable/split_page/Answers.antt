@@ -4,12 +4,12 @@ use Rattle.nm_types.specs.Map.{same_page}
 use Rattle.nm_types.specs.State.{Placed}
 use Rattle.nm_types.proofs.Cases.{none_always}
 use Rattle.nm_areas.specs.Coverage.{split_of, splits_at}
-use Rattle.nm_areas.specs.Lines.{is_shared}
-use Rattle.nm_areas.specs.Mapped.{HasIndices}
-use Rattle.nm_areas.specs.Removed.{page_in}
-use Rattle.nm_areas.proofs.Parted.{All-among}
+use Rattle.nm_model.specs.definitions.Areas.{is_shared}
+use Rattle.nm_model.specs.definitions.Areas.{HasIndices}
+use Rattle.nm_model.specs.definitions.Areas.{page_in}
+use Rattle.nm_model.proofs.areas.Parted.{All-among}
 use Rattle.nm_areas.proofs.Counted.{total_over, total_over_none, not_over, begins_there, split_there}
-use Rattle.nm_areas.proofs.Cut.{over_facts}
+use Rattle.nm_model.proofs.areas.Cut.{over_facts}
 use Rattle.nm_areas.proofs.Masked.{masked_kept, masked_gone, split_away, zero_if}
 use Rattle.nm_areas.proofs.area_table.AreaTable.split_page.Goals as goal
 

@@ -6,13 +6,13 @@ use Rattle.nm_types.specs.declared.errno.Errno.TheVariants.{Einval}
 use Rattle.nm_types.specs.declared.page.Page.{Page}
 use Rattle.nm_types.specs.Map.{Map, get, set, spot_cmp}
 use Rattle.nm_types.specs.declared.area.Area.{Area}
-use Rattle.nm_areas.specs.Lines.{is_shared}
-use Rattle.nm_areas.specs.Table.{Table, with_areas}
-use Rattle.nm_areas.specs.Mapped.{Mapped, mapped}
-use Rattle.nm_areas.specs.Refused.{stretch_refusal, is_range, is_room, is_stretch, overlaps}
+use Rattle.nm_model.specs.definitions.Areas.{is_shared}
+use Rattle.nm_model.specs.views.Table.{Table, with_areas}
+use Rattle.nm_model.specs.definitions.Areas.{Mapped, mapped}
+use Rattle.nm_model.specs.definitions.AreaRefusal.{stretch_refusal, is_range, is_room, is_stretch, overlaps}
 use Rattle.nm_areas.proofs.Beginning.{none_begins}
-use Rattle.nm_areas.proofs.Shown.{over_more}
-use Rattle.nm_areas.specs.Effect.{new_area, over_with, attached}
+use Rattle.nm_model.proofs.areas.Shown.{over_more}
+use Rattle.nm_model.specs.definitions.Areas.{new_area, over_with, attached}
 use Rattle.nm_areas.proofs.Inserted.{attached_mapped, stretch_ends}
 use Rattle.nm_areas.proofs.Private.{stretch_shared}
 use Rattle.nm_areas.proofs.Covered.{came, stayed}

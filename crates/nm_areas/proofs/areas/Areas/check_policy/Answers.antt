@@ -2,9 +2,9 @@ use Rattle.std.proofs.Common.{◌≡◌, ℕ, ◌+◌, ◌*◌, ◌/◌, ◌%◌
 use Rattle.std.specs.Prelude.{nat_le, ◌||◌, Some, None, if◌then◌else◌}
 use Rattle.std.proofs.lemmas.Bool.{eq-eqb, lt-leb}
 use Rattle.nm_types.specs.declared.errno.Errno.TheVariants.{Efault, Einval}
-use Rattle.nm_areas.specs.Mapped.{Mapped, mapped}
-use Rattle.nm_areas.specs.Policy.{pages_of, is_mapped}
-use Rattle.nm_areas.specs.Refused.{range_refusal}
+use Rattle.nm_model.specs.definitions.Areas.{Mapped, mapped}
+use Rattle.nm_model.specs.definitions.Areas.{pages_of, is_mapped}
+use Rattle.nm_model.specs.definitions.AreaRefusal.{range_refusal}
 use Rattle.nm_areas.proofs.areas.Areas.check_policy.Goals as goal
 
 -- what is refused in a range of whole pages

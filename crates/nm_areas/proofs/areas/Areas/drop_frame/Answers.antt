@@ -1,8 +1,8 @@
 use Rattle.std.proofs.Common.{ℕ, ap, ◌∙◌}
 use Rattle.nm_types.specs.declared.page.Page.{Page}
 use Rattle.nm_types.specs.Map.{Map}
-use Rattle.nm_areas.specs.Effect.{without_frame}
-use Rattle.nm_areas.specs.Mapped.{Mapped, mapped}
+use Rattle.nm_model.specs.definitions.Areas.{without_frame}
+use Rattle.nm_model.specs.definitions.Areas.{Mapped, mapped}
 use Rattle.nm_areas.proofs.areas.Areas.drop_frame.Goals as goal
 
 pub returns : goal.returns

@@ -1,7 +1,7 @@
 use Rattle.std.proofs.Common.{◌≡◌, ℕ, ◌+◌, ◌≤◌, ◌<◌, subst}
 use Rattle.std.specs.Prelude.{Some, IfSome}
 use Rattle.nm_types.specs.State.{area_over}
-use Rattle.nm_areas.specs.Mapped.{Mapped}
+use Rattle.nm_model.specs.definitions.Areas.{Mapped}
 use Rattle.nm_areas.proofs.Searched.{found_over}
 use Rattle.nm_areas.proofs.areas.Areas.find.Goals as goal
 

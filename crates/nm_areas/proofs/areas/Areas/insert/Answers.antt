@@ -11,15 +11,15 @@ use Rattle.nm_types.specs.declared.machine_error.MachineError.TheVariants as err
 use Rattle.nm_types.specs.declared.page.Page.{Page}
 use Rattle.nm_types.specs.Map.{Map, set, spot_cmp}
 use Rattle.nm_types.specs.declared.area.Segment.{Segment}
-use Rattle.nm_areas.specs.Lines.{is_shared}
-use Rattle.nm_areas.specs.Table.{Table}
-use Rattle.nm_areas.specs.Mapped.{Mapped, mapped}
-use Rattle.nm_areas.specs.Refused.{insert_refusal, is_range, is_room, overlaps}
-use Rattle.nm_areas.specs.Effect.{new_area, over_with, inserted}
+use Rattle.nm_model.specs.definitions.Areas.{is_shared}
+use Rattle.nm_model.specs.views.Table.{Table}
+use Rattle.nm_model.specs.definitions.Areas.{Mapped, mapped}
+use Rattle.nm_model.specs.definitions.AreaRefusal.{insert_refusal, is_range, is_room, overlaps}
+use Rattle.nm_model.specs.definitions.Areas.{new_area, over_with, inserted}
 use Rattle.nm_areas.proofs.Beginning.{none_begins}
 use Rattle.nm_areas.proofs.Covered.{came, stayed}
 use Rattle.nm_areas.proofs.Masked.{new_shared, old_shared}
-use Rattle.nm_areas.proofs.Shown.{over_more}
+use Rattle.nm_model.proofs.areas.Shown.{over_more}
 use Rattle.nm_areas.proofs.Inserted.{none_next, inserted_mapped}
 use Rattle.nm_areas.proofs.areas.Areas.insert.Goals as goal
 

@@ -5,8 +5,8 @@ use Rattle.std.specs.Prelude.{Option, IsSome}
 use Rattle.nm_types.specs.declared.page.Page.{Page}
 use Rattle.nm_types.specs.Map.{Map, get, page_cmp}
 use Rattle.nm_types.proofs.Cases.{none_is_not}
-use Rattle.nm_areas.specs.Effect.{moved}
-use Rattle.nm_areas.specs.Mapped.{Mapped, mapped, IsMapped}
+use Rattle.nm_model.specs.definitions.Areas.{moved}
+use Rattle.nm_model.specs.definitions.Areas.{Mapped, mapped, IsMapped}
 use Rattle.nm_areas.proofs.areas.Areas.move_page.Goals.{in-Some, in_default}
 use Rattle.nm_areas.proofs.areas.Areas.move_page.Goals as goal
 

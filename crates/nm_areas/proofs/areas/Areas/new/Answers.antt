@@ -5,8 +5,8 @@ use Rattle.nm_types.specs.declared.page.Page.{Page}
 use Rattle.nm_types.specs.Map.{Map}
 use Rattle.nm_areas.specs.declared.coverage.Step.{Step}
 use Rattle.nm_areas.specs.Coverage.{IsCoverage}
-use Rattle.nm_areas.specs.Mapped.{IsMapped, mapped}
-use Rattle.nm_areas.specs.Table.{Table}
+use Rattle.nm_model.specs.definitions.Areas.{IsMapped, mapped}
+use Rattle.nm_model.specs.views.Table.{Table}
 use Rattle.nm_areas.proofs.areas.Areas.new.Goals as goal
 
 -- no areas

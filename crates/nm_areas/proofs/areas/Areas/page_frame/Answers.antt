@@ -1,6 +1,6 @@
 use Rattle.std.proofs.Common.{ap, ◌∙◌}
 use Rattle.nm_types.specs.Map.{get, page_cmp}
-use Rattle.nm_areas.specs.Mapped.{Mapped}
+use Rattle.nm_model.specs.definitions.Areas.{Mapped}
 use Rattle.nm_areas.proofs.areas.Areas.page_frame.Goals as goal
 
 pub returns : goal.returns

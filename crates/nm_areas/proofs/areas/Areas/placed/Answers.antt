@@ -2,7 +2,7 @@ use Rattle.std.proofs.Common.{◌≡◌, ℕ, subst}
 use Rattle.std.specs.Prelude.{IfOk}
 use Rattle.nm_types.specs.declared.page.Page.{Page}
 use Rattle.nm_types.specs.Map.{Map}
-use Rattle.nm_areas.specs.Mapped.{Mapped}
+use Rattle.nm_model.specs.definitions.Areas.{Mapped}
 use Rattle.nm_areas.proofs.Values.{same_values}
 use Rattle.nm_areas.proofs.areas.Areas.placed.Goals as goal
 

@@ -5,17 +5,17 @@ use Rattle.std.specs.List.Sorted.{IsStrictlySortedBy}
 use Rattle.std.specs.Map.{keys_of}
 use Rattle.std.specs.Ordering.{nat_cmp}
 use Rattle.nm_types.specs.declared.errno.Errno.TheVariants.{Einval}
-use Rattle.nm_areas.specs.Mapped.{Mapped, mapped, IsMapped, IsSomePages, HasIndices, AreasAreApart}
+use Rattle.nm_model.specs.definitions.Areas.{Mapped, mapped, IsMapped, IsSomePages, HasIndices, AreasAreApart}
 use Rattle.nm_types.specs.State.{page_at}
-use Rattle.nm_areas.specs.Table.{Table}
+use Rattle.nm_model.specs.views.Table.{Table}
 use Rattle.nm_areas.specs.Coverage.{IsCoverage, IsSteps, of_shared, ends_at, covers_at, splits_at}
 use Rattle.nm_types.specs.declared.area.Segment.{Segment}
 use Rattle.nm_types.specs.Map.{Map}
 use Rattle.nm_areas.proofs.Alone.{cut_apart, cut_once}
 use Rattle.nm_areas.proofs.Covered.{was_cut}
 use Rattle.nm_areas.proofs.Masked.{left_covered}
-use Rattle.nm_areas.specs.Removed.{removed, frames_lost, others, page_outside}
-use Rattle.nm_areas.proofs.Shown.{left_shows}
+use Rattle.nm_model.specs.definitions.Areas.{removed, frames_lost, others, page_outside}
+use Rattle.nm_model.proofs.areas.Shown.{left_shows}
 use Rattle.nm_areas.proofs.Roomy.{few_own}
 use Rattle.nm_areas.proofs.Letting.{cut_indices, cut_shown, now_left, after_is, after_mapped, lost_is}
 use Rattle.nm_areas.proofs.areas.Areas.remove.Goals as goal

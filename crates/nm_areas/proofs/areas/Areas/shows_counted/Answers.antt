@@ -3,7 +3,7 @@ use Rattle.std.specs.Prelude.{Some, slice_index_or}
 use Rattle.nm_types.specs.declared.page.Page.{Page}
 use Rattle.nm_types.specs.Map.{get, page_cmp}
 use Rattle.nm_types.specs.State.{page_at}
-use Rattle.nm_areas.specs.Mapped.{Mapped}
+use Rattle.nm_model.specs.definitions.Areas.{Mapped}
 use Rattle.nm_areas.proofs.areas.Areas.shows_counted.Goals as goal
 
 pub returns-clause-none : goal.returns-clause-none

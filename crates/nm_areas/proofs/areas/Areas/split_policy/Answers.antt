@@ -3,10 +3,10 @@ use Rattle.nm_types.specs.declared.area.Segment.{Segment}
 use Rattle.nm_types.specs.Map.{Map}
 use Rattle.nm_areas.specs.Coverage.{IsCoverage}
 use Rattle.nm_types.specs.State.{page_at}
-use Rattle.nm_areas.specs.Table.{Table}
-use Rattle.nm_areas.specs.Mapped.{Mapped}
-use Rattle.nm_areas.proofs.Shown.{repoliced_shows}
-use Rattle.nm_areas.proofs.Policed.{policed_mapped}
+use Rattle.nm_model.specs.views.Table.{Table}
+use Rattle.nm_model.specs.definitions.Areas.{Mapped}
+use Rattle.nm_model.proofs.areas.Shown.{repoliced_shows}
+use Rattle.nm_model.proofs.areas.Policed.{policed_mapped}
 use Rattle.nm_areas.proofs.Covered.{was_policed}
 use Rattle.nm_areas.proofs.areas.Areas.split_policy.Goals as goal
 

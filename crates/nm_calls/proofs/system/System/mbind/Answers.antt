@@ -1,5 +1,5 @@
 use Rattle.std.proofs.Common.{◌≡◌, ℕ, Some, subst}
-use Rattle.nm_engine.specs.Policing.{set_policy}
+use Rattle.nm_model.specs.definitions.Effect.{set_policy}
 use Rattle.nm_calls.specs.declared.binding.Binding.{Binding}
 use Rattle.nm_calls.specs.Calls.{Mbind, Failed}
 use Rattle.nm_calls.specs.Systems.{SystemState, in_state}

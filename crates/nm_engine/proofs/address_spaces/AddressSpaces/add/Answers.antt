@@ -1,8 +1,8 @@
 use Rattle.std.proofs.Common.{ℕ, ap, sym, subst, ◌∙◌}
 use Rattle.std.specs.Ordering.{nat_cmp}
 use Rattle.nm_types.specs.Map.{Map, set}
-use Rattle.nm_engine.specs.Tables.{untouched}
-use Rattle.nm_engine.specs.ProcessTable.{Task}
+use Rattle.nm_model.specs.definitions.Effect.{untouched}
+use Rattle.nm_model.specs.definitions.PageTables.{Task}
 use Rattle.nm_engine.specs.AddressSpaces.{SpacesView, spaces_view}
 use Rattle.nm_engine.specs.Tied.{IsTied}
 use Rattle.nm_engine.proofs.Tied.Tabled.{on_ok, on_both}

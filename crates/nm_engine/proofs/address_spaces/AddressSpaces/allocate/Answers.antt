@@ -4,11 +4,12 @@ use Rattle.nm_types.specs.declared.page.Page.{Page}
 use Rattle.nm_types.specs.declared.sight.Sight.TheVariants.{Sees}
 use Rattle.nm_types.specs.Map.{Map, get, page_cmp}
 use Rattle.nm_types.specs.State.{page_at}
-use Rattle.nm_areas.specs.Mapped.{Mapped}
-use Rattle.nm_areas.specs.Effect.{with_frame, without_frame}
+use Rattle.nm_model.specs.definitions.Areas.{Mapped}
+use Rattle.nm_model.specs.definitions.Areas.{with_frame, without_frame}
 use Rattle.nm_rmap.specs.Mappers.{Mappers, with_mapper, without_mapper}
-use Rattle.nm_engine.specs.ProcessTable.{Task}
-use Rattle.nm_engine.specs.AddressSpaces.{SpacesView, spaces_view, process_of, with_seen, with_new_page}
+use Rattle.nm_model.specs.definitions.PageTables.{Task}
+use Rattle.nm_engine.specs.AddressSpaces.{SpacesView, spaces_view, with_seen, with_new_page}
+use Rattle.nm_model.specs.definitions.PageTables.{process_of}
 use Rattle.nm_engine.specs.Tied.{IsTied}
 use Rattle.nm_engine.proofs.Tied.Moved.{spare_in, place_new}
 use Rattle.nm_engine.proofs.Tied.Touched.{task_at, process_at, unmapped_at, page_tied, page_shows, place_tied, place_shows, mapper_undone, place_undone}

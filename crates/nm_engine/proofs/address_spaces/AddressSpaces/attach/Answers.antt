@@ -1,7 +1,7 @@
 use Rattle.std.proofs.Common.{ap}
-use Rattle.nm_areas.specs.Effect.{attached, new_area}
-use Rattle.nm_areas.specs.Mapped.{Mapped}
-use Rattle.nm_areas.specs.Refused.{stretch_refusal}
+use Rattle.nm_model.specs.definitions.Areas.{attached, new_area}
+use Rattle.nm_model.specs.definitions.Areas.{Mapped}
+use Rattle.nm_model.specs.definitions.AreaRefusal.{stretch_refusal}
 use Rattle.nm_engine.proofs.Tied.Mapped.{IsShownStill, still_same, still_tied, still_shows_at, still_with_new, attach_room, from_makes}
 use Rattle.nm_engine.proofs.address_spaces.AddressSpaces.attach.Given.{Over}
 use Rattle.nm_engine.proofs.address_spaces.AddressSpaces.attach.Goals as goal

@@ -1,6 +1,6 @@
 use Rattle.std.proofs.Common.{◌≡◌, ℕ, ◌<◌, List, true, false, refl, sym, ap, subst, ◌∙◌}
 use Rattle.std.specs.Prelude.{slice_index_or}
-use Rattle.nm_engine.specs.Refused.{shows_pinned}
+use Rattle.nm_model.specs.definitions.Effect.{shows_pinned}
 use Rattle.nm_engine.proofs.Together.Busy.{none_pinned, none_at_all, one_there}
 use Rattle.nm_engine.proofs.address_spaces.AddressSpaces.has_pinned.Goals as goal
 

@@ -1,7 +1,7 @@
 use Rattle.std.proofs.Common.{ap, sym, ◌∙◌, length}
 use Rattle.std.specs.Prelude.{nat_lt}
 use Rattle.nm_types.specs.declared.seen.Seen.TheVariants.{At}
-use Rattle.nm_runs.specs.Seen.{users_in}
+use Rattle.nm_model.specs.definitions.Seen.{users_in}
 use Rattle.nm_engine.specs.AddressSpaces.{SpacesView}
 use Rattle.nm_engine.proofs.Tied.Counted.{users_counted}
 use Rattle.nm_engine.proofs.Tied.Moved.{placed_in}

@@ -1,7 +1,7 @@
 use Rattle.std.proofs.Common.{ap}
-use Rattle.nm_areas.specs.Effect.{inserted, new_area}
-use Rattle.nm_areas.specs.Mapped.{Mapped}
-use Rattle.nm_areas.specs.Refused.{insert_refusal}
+use Rattle.nm_model.specs.definitions.Areas.{inserted, new_area}
+use Rattle.nm_model.specs.definitions.Areas.{Mapped}
+use Rattle.nm_model.specs.definitions.AreaRefusal.{insert_refusal}
 use Rattle.nm_engine.proofs.Tied.Mapped.{IsShownStill, still_same, still_tied, still_shows_at, still_with_new, insert_room, from_makes}
 use Rattle.nm_engine.proofs.address_spaces.AddressSpaces.map.Given.{Over}
 use Rattle.nm_engine.proofs.address_spaces.AddressSpaces.map.Goals as goal

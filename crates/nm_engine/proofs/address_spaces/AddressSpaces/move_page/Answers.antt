@@ -2,10 +2,11 @@ use Rattle.std.proofs.Common.{ℕ, ◌≡◌, sym, subst, ap, ◌∙◌, refl}
 use Rattle.std.specs.Prelude.{IsSome}
 use Rattle.std.specs.List.{AllByRecursion}
 use Rattle.nm_types.specs.Map.{Map}
-use Rattle.nm_areas.specs.Mapped.{Mapped}
-use Rattle.nm_areas.specs.Effect.{with_frame}
+use Rattle.nm_model.specs.definitions.Areas.{Mapped}
+use Rattle.nm_model.specs.definitions.Areas.{with_frame}
 use Rattle.nm_rmap.specs.Mappers.{Mappers, mappers_of, carried}
-use Rattle.nm_engine.specs.ProcessTable.{Task, IsThere, remapped}
+use Rattle.nm_model.specs.definitions.PageTables.{Task}
+use Rattle.nm_engine.specs.ProcessTable.{IsThere, remapped}
 use Rattle.nm_engine.specs.AddressSpaces.{spaces_view, with_moved}
 use Rattle.nm_engine.specs.Tied.{IsTied}
 use Rattle.nm_types.proofs.Maps.{page_cmp_total, exact_page, replace_is_set}

@@ -3,12 +3,12 @@ use Rattle.std.proofs.lemmas.List.Elements.{All-push}
 use Rattle.std.specs.Ordering.{nat_cmp}
 use Rattle.nm_types.specs.Layout.{node_count}
 use Rattle.nm_types.specs.Map.{get, page_cmp}
-use Rattle.nm_engine.specs.Sights.{between, sights_in}
+use Rattle.nm_model.specs.definitions.Seen.{between, sights_in}
 use Rattle.std.specs.Prelude.{All, Some, IfSome}
-use Rattle.nm_engine.specs.AddressSpaces.{sight_of}
-use Rattle.nm_engine.specs.Locating.{IsOver, located}
+use Rattle.nm_model.specs.definitions.PageTables.{sight_of}
+use Rattle.nm_model.specs.definitions.Seen.{IsOver, located}
 use Rattle.nm_engine.specs.ProcessTable.{names}
-use Rattle.nm_engine.specs.declared.located.Located.{Located}
+use Rattle.nm_types.specs.declared.located.Located.{Located}
 use Rattle.nm_engine.proofs.Seen.Listed.{pages_in, found_between, page_behind, frame_behind, located_behind, all_listed, few_listed, all_in_place, all_at, step, step_over, ended}
 use Rattle.nm_engine.proofs.address_spaces.AddressSpaces.pages_between.Goals as goal
 use Rattle.nm_engine.proofs.address_spaces.AddressSpaces.pages_between.Goals.{in-Zero, in-Frame+in_ok-push-in-Frame, in-Held+in_ok-push-in-Held}

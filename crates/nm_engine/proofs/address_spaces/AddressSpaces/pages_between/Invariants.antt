@@ -1,7 +1,7 @@
 use Rattle.std.proofs.Common.{◌≡◌, ◌<◌, ◌++◌, drop}
 use Rattle.std.specs.Prelude.{All, IfSome}
 use Rattle.nm_types.specs.Layout.{node_count}
-use Rattle.nm_engine.specs.Locating.{IsOver}
+use Rattle.nm_model.specs.definitions.Seen.{IsOver}
 use Rattle.nm_engine.proofs.Seen.Listed.{pages_in}
 use Rattle.nm_engine.proofs.address_spaces.AddressSpaces.pages_between.Given as goal
 

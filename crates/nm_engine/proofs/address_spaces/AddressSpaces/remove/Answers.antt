@@ -1,9 +1,10 @@
 use Rattle.std.proofs.Common.{ℕ, ◌≡◌, ◌+◌, ◌/◌, ap, sym, subst, ◌∙◌}
 use Rattle.nm_types.specs.State.{page_at}
 use Rattle.nm_types.specs.Map.{Map}
-use Rattle.nm_areas.specs.Mapped.{Mapped}
-use Rattle.nm_areas.specs.Removed.{areas_left, page_outside}
-use Rattle.nm_engine.specs.ProcessTable.{Task, cleared}
+use Rattle.nm_model.specs.definitions.Areas.{Mapped}
+use Rattle.nm_model.specs.definitions.Areas.{areas_left, page_outside}
+use Rattle.nm_model.specs.definitions.PageTables.{Task}
+use Rattle.nm_engine.specs.ProcessTable.{cleared}
 use Rattle.nm_engine.specs.AddressSpaces.{SpacesView, spaces_view, without_range}
 use Rattle.nm_engine.specs.Tied.{IsTied, IsCleared}
 use Rattle.nm_engine.proofs.Tied.Removed.{unpinned_pages, removed_tied, removed_shows}

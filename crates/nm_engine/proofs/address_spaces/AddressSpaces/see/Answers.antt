@@ -4,7 +4,7 @@ use Rattle.nm_types.specs.declared.sight.Sight.TheVariants.{Sees}
 use Rattle.nm_types.specs.Map.{Map}
 use Rattle.nm_types.specs.State.{page_at}
 use Rattle.nm_rmap.specs.Mappers.{Mappers, with_mapper, without_mapper}
-use Rattle.nm_engine.specs.ProcessTable.{Task}
+use Rattle.nm_model.specs.definitions.PageTables.{Task}
 use Rattle.nm_engine.specs.AddressSpaces.{SpacesView, spaces_view, with_seen}
 use Rattle.nm_engine.specs.Tied.{IsTied}
 use Rattle.nm_engine.proofs.Tied.Moved.{placed_in}

@@ -1,6 +1,6 @@
 use Rattle.std.proofs.Common.{subst, arith, ◌+◌, ◌≤◌, ◌<◌}
 use Rattle.std.specs.Prelude.{IfSome}
-use Rattle.nm_engine.specs.Locating.{IsOver}
+use Rattle.nm_model.specs.definitions.Seen.{IsOver}
 use Rattle.nm_engine.proofs.address_spaces.AddressSpaces.seen_in.Goals as goal
 
 pub page_in-page-requires-clause-over : goal.page_in-page-requires-clause-over

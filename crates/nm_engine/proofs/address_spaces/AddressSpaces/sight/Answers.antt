@@ -1,6 +1,6 @@
 use Rattle.std.proofs.Common.{ap, sym, ◌∙◌}
 use Rattle.std.specs.Prelude.{Some, None}
-use Rattle.nm_engine.specs.AddressSpaces.{sight_of}
+use Rattle.nm_model.specs.definitions.PageTables.{sight_of}
 use Rattle.nm_engine.proofs.Tied.New.{seen_here, seen_page}
 use Rattle.nm_engine.proofs.address_spaces.AddressSpaces.sight.Goals as goal
 

@@ -1,5 +1,5 @@
 use Rattle.std.proofs.Common.{ap, ◌∙◌, length}
-use Rattle.nm_runs.specs.Seen.{users_in}
+use Rattle.nm_model.specs.definitions.Seen.{users_in}
 use Rattle.nm_engine.specs.AddressSpaces.{SpacesView}
 use Rattle.nm_engine.proofs.Tied.Counted.{users_counted}
 use Rattle.nm_engine.proofs.Tied.Moved.{placed_in}

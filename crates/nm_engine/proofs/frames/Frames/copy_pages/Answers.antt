@@ -1,7 +1,7 @@
 use Rattle.std.proofs.Common.{◌≤◌, arith, length, map, ap, sym, subst, ◌∙◌}
 use Rattle.std.specs.Prelude.{min, vec_capacity}
 use Rattle.std.specs.List.{AllByRecursion}
-use Rattle.nm_frames.specs.Store.{Store, IsHome}
+use Rattle.nm_model.specs.definitions.Frames.{Store, IsHome}
 use Rattle.nm_engine.specs.Answering.{due_shown}
 use Rattle.nm_engine.specs.Copies.{CanCopy, with_copies, emptied}
 use Rattle.nm_engine.specs.Finishing.{all_done, CanDo}

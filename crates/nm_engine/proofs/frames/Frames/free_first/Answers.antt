@@ -1,6 +1,6 @@
 use Rattle.std.proofs.Common.{ap, [], ◌∷◌, ◌∙◌}
 use Rattle.nm_types.specs.Layout.{owner}
-use Rattle.nm_nodes.specs.Pool.{Pool, prepended}
+use Rattle.nm_model.specs.definitions.Frames.{Pool, prepended}
 use Rattle.nm_engine.proofs.Together.Shelves.{list_set, free_changed, can_free}
 use Rattle.nm_engine.proofs.frames.Frames.free_first.Goals as goal
 

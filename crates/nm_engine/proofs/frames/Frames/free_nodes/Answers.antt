@@ -1,5 +1,5 @@
 use Rattle.std.proofs.Common.{ap, sym, ◌∙◌}
-use Rattle.nm_engine.specs.Touch.{has_free}
+use Rattle.nm_model.specs.definitions.Touch.{has_free}
 use Rattle.nm_policy.proofs.Collected.{one_in, one_out}
 use Rattle.nm_engine.proofs.frames.Frames.free_nodes.Goals.{then-has_free, else-has_free}
 use Rattle.nm_engine.proofs.frames.Frames.free_nodes.Goals as goal

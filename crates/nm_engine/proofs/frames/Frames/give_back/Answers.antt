@@ -1,6 +1,6 @@
 use Rattle.std.proofs.Common.{ℕ, List, ap, sym, subst, ◌∙◌}
-use Rattle.nm_nodes.specs.Pool.{Pool}
-use Rattle.nm_engine.specs.Early.{tos}
+use Rattle.nm_model.specs.definitions.Frames.{Pool}
+use Rattle.nm_model.specs.definitions.Early.{tos}
 use Rattle.nm_engine.specs.Frames.{FramesView, HasAllFrames, CanReturn, pool_of}
 use Rattle.nm_engine.proofs.Together.Shelves.{seen_node, list_set}
 use Rattle.nm_engine.proofs.frames.Frames.give_back.Goals as goal

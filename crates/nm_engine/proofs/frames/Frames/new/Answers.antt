@@ -1,5 +1,5 @@
 use Rattle.std.proofs.Common.{ap}
-use Rattle.nm_nodes.specs.Pool.{Pool}
+use Rattle.nm_model.specs.definitions.Frames.{Pool}
 use Rattle.nm_engine.proofs.Together.Free.{new_shelf}
 use Rattle.nm_engine.proofs.frames.Frames.new.Goals as goal
 

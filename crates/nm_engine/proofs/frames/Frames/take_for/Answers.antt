@@ -1,8 +1,8 @@
 use Rattle.std.proofs.Common.{ℕ, List, ◌+◌, ◌≤◌, ◌++◌, min, length, drop, vec_capacity, ap, sym, subst, ◌∙◌, arith}
 use Rattle.std.specs.Prelude.{slice_set}
-use Rattle.nm_nodes.specs.Pool.{Pool, list_of}
+use Rattle.nm_model.specs.definitions.Frames.{Pool, list_of}
 use Rattle.nm_engine.specs.Frames.{FramesView, HasAllFrames, free_on}
-use Rattle.nm_engine.specs.Early.{tos}
+use Rattle.nm_model.specs.definitions.Early.{tos}
 use Rattle.nm_engine.proofs.Together.Shelves.{seen_node, list_set}
 use Rattle.nm_engine.proofs.frames.Frames.take_for.Goals as goal
 

@@ -1,6 +1,6 @@
 use Rattle.std.proofs.Common.{ℕ, List, ◌≤◌, ◌++◌, min, length, vec_capacity, ap, sym, subst, ◌∙◌, arith}
 use Rattle.nm_engine.specs.Frames.{FramesView, HasAllFrames}
-use Rattle.nm_engine.specs.Run.{left}
+use Rattle.nm_model.specs.definitions.Run.{left}
 use Rattle.nm_engine.proofs.frames.Frames.vacate_each.Goals as goal
 
 pub invariant_of-self : goal.invariant_of-self

@@ -1,6 +1,6 @@
 use Rattle.std.proofs.Common.{subst}
 use Rattle.std.specs.Prelude.{Some, slice_set}
-use Rattle.nm_frames.specs.Store.{Store, bytes_of, overwrite}
+use Rattle.nm_model.specs.definitions.Frames.{Store, bytes_of, overwrite}
 use Rattle.nm_engine.specs.Frames.{HasAllFrames}
 use Rattle.nm_engine.proofs.Together.Shelves.{seen_home, bytes_set, frames_changed}
 use Rattle.nm_engine.proofs.frames.Frames.write.Goals as goal

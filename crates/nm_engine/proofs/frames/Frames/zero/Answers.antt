@@ -1,5 +1,5 @@
 use Rattle.std.specs.Prelude.{Some, replicate, slice_set}
-use Rattle.nm_frames.specs.Store.{Store}
+use Rattle.nm_model.specs.definitions.Frames.{Store}
 use Rattle.nm_engine.proofs.Together.Shelves.{seen_home, bytes_set, frames_changed}
 use Rattle.nm_engine.proofs.frames.Frames.zero.Goals as goal
 

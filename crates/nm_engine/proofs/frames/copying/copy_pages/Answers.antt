@@ -2,7 +2,7 @@ use Rattle.std.proofs.Common.{◌≡◌, ◌++◌, ap, refl, sym, subst, ◌∙�
 use Rattle.std.specs.Prelude.{vec_len, slice_get}
 use Rattle.std.specs.List.{AllByRecursion}
 use Rattle.nm_frames.specs.Job.{copied}
-use Rattle.nm_frames.specs.Store.{Store}
+use Rattle.nm_model.specs.definitions.Frames.{Store}
 use Rattle.nm_engine.specs.Answering.{due_shown}
 use Rattle.nm_engine.specs.Copies.{jobs_of, emptied}
 use Rattle.nm_engine.specs.Finishing.{all_done, CanDo}

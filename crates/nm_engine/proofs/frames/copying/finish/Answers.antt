@@ -1,8 +1,8 @@
 use Rattle.std.proofs.Common.{◌≡◌, ◌++◌, List, [], ◌∷◌, map, length, refl, sym, ap, subst, ◌∙◌, arith, length-append, append_assoc}
 use Rattle.std.specs.List.{AllByRecursion}
 use Rattle.std.proofs.lemmas.List.{map-append, append-nil}
-use Rattle.nm_frames.specs.Store.{Store}
-use Rattle.nm_engine.specs.Touch.{AccessAnswer}
+use Rattle.nm_model.specs.definitions.Frames.{Store}
+use Rattle.nm_model.specs.definitions.Touch.{AccessAnswer}
 use Rattle.nm_engine.specs.Finishing.{all_done, told_in, CanDo}
 use Rattle.nm_engine.specs.Answering.{answer_shown, due_shown, HasRoom}
 use Rattle.nm_engine.proofs.Early.Refilled.{all_can_then}

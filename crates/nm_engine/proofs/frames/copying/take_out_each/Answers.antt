@@ -4,8 +4,8 @@ use Rattle.std.specs.Option.{unwrap_or}
 use Rattle.std.proofs.Math.ListN.{drop_of_length-le}
 use Rattle.std.proofs.lemmas.List.{append-nil, get_or-set_other}
 use Rattle.nm_frames.specs.declared.job.CopyJob.{CopyJob}
-use Rattle.nm_frames.specs.Store.{Store, IsHome, bytes_of}
-use Rattle.nm_plan.specs.declared.Taken.{Taken}
+use Rattle.nm_model.specs.definitions.Frames.{Store, IsHome, bytes_of}
+use Rattle.nm_types.specs.declared.taken.Taken.{Taken}
 use Rattle.nm_engine.specs.Copies.{without_both, CanCopy, emptied, jobs_of}
 use Rattle.nm_engine.proofs.Together.Paces.{drop_item}
 use Rattle.nm_engine.proofs.frames.copying.take_out_each.Goals as goal

@@ -1,11 +1,11 @@
 use Rattle.std.proofs.Common.{◌≡◌, ◌<◌, map, ap, sym, subst, ◌∙◌, arith}
 use Rattle.nm_types.specs.Layout.{node_count}
 use Rattle.nm_types.specs.State.{State}
-use Rattle.nm_plan.specs.declared.Taken.{Taken}
+use Rattle.nm_types.specs.declared.taken.Taken.{Taken}
 use Rattle.nm_engine.specs.Answering.{access_shown}
-use Rattle.nm_engine.specs.Early.{all_early, with_fronts, tos}
+use Rattle.nm_model.specs.definitions.Early.{all_early, with_fronts, tos}
 use Rattle.nm_engine.specs.MidRun.{MidRun}
-use Rattle.nm_engine.specs.Sound.{IsSound}
+use Rattle.nm_model.specs.definitions.Sound.{IsSound}
 use Rattle.nm_engine.proofs.Early.Taken.{back_again}
 use Rattle.nm_engine.proofs.inner.Inner.begin.Goals as goal
 

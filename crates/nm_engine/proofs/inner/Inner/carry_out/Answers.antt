@@ -3,10 +3,10 @@ use Rattle.std.specs.List.{AllByRecursion}
 use Rattle.nm_engine.specs.AddressSpaces.{SpacesView}
 use Rattle.nm_engine.specs.Answering.{due_shown}
 use Rattle.nm_engine.specs.Copies.{CanCopy, emptied, with_copies}
-use Rattle.nm_engine.specs.Early.{all_made, with_fronts, tos}
+use Rattle.nm_model.specs.definitions.Early.{all_made, with_fronts, tos}
 use Rattle.nm_engine.specs.Finishing.{all_done, CanDo}
 use Rattle.nm_engine.specs.Frames.{FramesView}
-use Rattle.nm_engine.specs.Laws.{with_moves}
+use Rattle.nm_laws.specs.Laws.{with_moves}
 use Rattle.nm_engine.specs.MidRun.{MidRun, IsKept}
 use Rattle.nm_engine.specs.Shown.{shown_by}
 use Rattle.nm_engine.proofs.Early.Carrying.{spaces_then, copied_frames, prepared, remap, can_copy, can_meanwhile, finished_shows, finished_told, finished_kept}

@@ -1,10 +1,10 @@
 use Rattle.std.proofs.Common.{ap, sym, subst, ◌∙◌}
 use Rattle.nm_types.specs.State.{State}
-use Rattle.nm_engine.specs.Run.{counted, added}
+use Rattle.nm_model.specs.definitions.Run.{counted, added}
 use Rattle.nm_engine.specs.MidRun.{MidRun}
 use Rattle.nm_engine.specs.Shown.{shown_by}
-use Rattle.nm_engine.specs.Sound.{IsSoundMidRun}
-use Rattle.nm_engine.proofs.Soundness.Moved.{counted_sound}
+use Rattle.nm_model.specs.definitions.Sound.{IsSoundMidRun}
+use Rattle.nm_laws.proofs.Soundness.Moved.{counted_sound}
 use Rattle.nm_engine.proofs.inner.Inner.count.Goals as goal
 
 pub invariant_of-self : goal.invariant_of-self

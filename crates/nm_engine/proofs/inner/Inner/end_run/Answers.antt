@@ -1,5 +1,5 @@
 use Rattle.std.proofs.Common.{length, ap, ◌∙◌, rules}
-use Rattle.nm_engine.specs.Run.{with_all_free, counted, failures, added}
+use Rattle.nm_model.specs.definitions.Run.{with_all_free, counted, failures, added}
 use Rattle.nm_engine.specs.MidRun.{MidRun}
 use Rattle.nm_engine.specs.AddressSpaces.{table_of}
 use Rattle.nm_engine.specs.Frames.{FramesView}

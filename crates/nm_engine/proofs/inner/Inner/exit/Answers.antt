@@ -2,13 +2,13 @@ use Rattle.std.proofs.Common.{◌≡◌, ◌^◌, [], ap, sym, subst, ◌∙◌}
 use Rattle.std.specs.Ordering.{nat_cmp}
 use Rattle.nm_types.specs.Map.{without}
 use Rattle.nm_types.specs.State.{State}
-use Rattle.nm_runs.specs.Seen.{sight_in, sight_at}
-use Rattle.nm_engine.specs.Effect.{dropped}
-use Rattle.nm_engine.specs.Sound.{IsSoundMidRun, IsSound}
+use Rattle.nm_model.specs.definitions.Seen.{sight_in, sight_at}
+use Rattle.nm_model.specs.definitions.Effect.{dropped}
+use Rattle.nm_model.specs.definitions.Sound.{IsSoundMidRun, IsSound}
 use Rattle.nm_engine.specs.AddressSpaces.{SpacesView}
 use Rattle.nm_engine.specs.Shown.{shown_by}
 use Rattle.nm_engine.specs.MidRun.{MidRun, IsKept}
-use Rattle.nm_engine.proofs.Soundness.Dropped.{sees_none, exit_sound}
+use Rattle.nm_laws.proofs.Soundness.Dropped.{sees_none, exit_sound}
 use Rattle.nm_engine.proofs.Soundness.Gone.{sees_nothing}
 use Rattle.nm_engine.proofs.inner.Inner.exit.Goals as goal
 

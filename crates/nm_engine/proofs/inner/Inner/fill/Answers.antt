@@ -4,15 +4,15 @@ use Rattle.std.specs.Ordering.{nat_cmp}
 use Rattle.nm_types.specs.declared.page.Page.{Page}
 use Rattle.nm_types.specs.declared.sight.Sight.TheVariants.{Sees}
 use Rattle.nm_types.specs.Map.{get, page_cmp}
-use Rattle.nm_runs.specs.Seen.{sight_in, sight_at}
-use Rattle.nm_policy.specs.Order.{first_touch_order}
-use Rattle.nm_engine.specs.Touch.{filled, first_free}
+use Rattle.nm_model.specs.definitions.Seen.{sight_in, sight_at}
+use Rattle.nm_model.specs.definitions.Order.{first_touch_order}
+use Rattle.nm_model.specs.definitions.Touch.{filled, first_free}
 use Rattle.nm_types.specs.Layout.{frame_count}
 use Rattle.nm_engine.specs.AddressSpaces.{SpacesView, table_of, with_new_page}
 use Rattle.nm_engine.specs.Frames.{FramesView, free_on}
 use Rattle.nm_engine.specs.Shown.{shown, shown_by, paged_frames}
 use Rattle.nm_engine.specs.MidRun.{MidRun, IsKept, IsResolved, spot_at}
-use Rattle.nm_engine.specs.Seeing.{frame_of}
+use Rattle.nm_model.specs.definitions.Seen.{frame_of}
 use Rattle.nm_engine.proofs.Together.Joint.{kept_stocked, front_spare, stocked_both}
 use Rattle.nm_engine.proofs.Together.Touches.{inside, found_free, no_front, short_list, sees_now, filled_shows, filled_kept, filled_is, get_set_same}
 use Rattle.nm_engine.proofs.inner.Inner.fill.Goals as goal

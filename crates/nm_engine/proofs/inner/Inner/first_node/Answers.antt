@@ -2,8 +2,8 @@ use Rattle.std.proofs.Common.{◌≡◌, ℕ, true, false, cond, List, [], ◌�
 use Rattle.std.specs.Prelude.{◌==◌, find, not, slice_index_or}
 use Rattle.nm_types.specs.Layout.{Layout}
 use Rattle.nm_types.specs.Nodes.{is_in}
-use Rattle.nm_policy.specs.Order.{first_touch_order}
-use Rattle.nm_engine.specs.Touch.{first_free, has_free}
+use Rattle.nm_model.specs.definitions.Order.{first_touch_order}
+use Rattle.nm_model.specs.definitions.Touch.{first_free, has_free}
 use Rattle.nm_engine.specs.MidRun.{MidRun}
 use Rattle.nm_engine.proofs.inner.Inner.first_node.Goals as goal
 

@@ -1,7 +1,7 @@
 use Rattle.std.proofs.Common.{◌≡◌, arith, ℕ, List, ap, subst, ◌∙◌}
 use Rattle.std.specs.Prelude.{None}
 use Rattle.nm_types.specs.State.{free_list}
-use Rattle.nm_engine.specs.Refused.{list_refusal}
+use Rattle.nm_model.specs.definitions.Effect.{list_refusal}
 use Rattle.nm_engine.specs.MidRun.{MidRun}
 use Rattle.nm_engine.proofs.Together.Kept.{seen, list_fine}
 use Rattle.nm_engine.specs.AddressSpaces.{table_of}

@@ -1,10 +1,10 @@
 use Rattle.std.proofs.Common.{ap, sym, subst, arith}
 use Rattle.nm_types.specs.Layout.{node_count}
 use Rattle.nm_engine.specs.Frames.{FramesView}
-use Rattle.nm_engine.specs.Early.{with_fronts, tos}
+use Rattle.nm_model.specs.definitions.Early.{with_fronts, tos}
 use Rattle.nm_engine.specs.MidRun.{MidRun, IsKept}
 use Rattle.nm_engine.specs.Shown.{shown_by}
-use Rattle.nm_engine.specs.Sound.{IsSound}
+use Rattle.nm_model.specs.definitions.Sound.{IsSound}
 use Rattle.nm_engine.proofs.Early.Returned.{sound_returns}
 use Rattle.nm_engine.proofs.inner.Inner.give_back.Goals as goal
 

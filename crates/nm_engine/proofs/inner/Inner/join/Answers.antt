@@ -4,14 +4,15 @@ use Rattle.std.specs.Ordering.{nat_cmp}
 use Rattle.nm_types.specs.declared.page.Page.{Page}
 use Rattle.nm_types.specs.declared.sight.Sight.TheVariants.{Sees}
 use Rattle.nm_types.specs.Map.{get, page_cmp}
-use Rattle.nm_runs.specs.Seen.{sight_in, sight_at}
+use Rattle.nm_model.specs.definitions.Seen.{sight_in, sight_at}
 use Rattle.nm_engine.specs.Does.{Touches}
-use Rattle.nm_engine.specs.Touch.{joined, with_sight}
+use Rattle.nm_model.specs.definitions.Touch.{joined, with_sight}
 use Rattle.nm_engine.specs.AddressSpaces.{SpacesView, table_of, with_seen}
 use Rattle.nm_engine.specs.Shown.{shown_by, paged_frames}
 use Rattle.nm_engine.specs.MidRun.{MidRun, IsKept, IsResolved, spot_at, with_state}
-use Rattle.nm_engine.specs.Seeing.{frame_of}
-use Rattle.nm_engine.proofs.Together.Touches.{inside, outside, none_sees, seen_kept, sees_now}
+use Rattle.nm_model.specs.definitions.Seen.{frame_of}
+use Rattle.nm_engine.proofs.Together.Touches.{inside, outside, seen_kept, sees_now}
+use Rattle.nm_laws.proofs.Seen.Frames.{none_sees}
 use Rattle.nm_engine.proofs.inner.HandedOn.{nothing_touched}
 use Rattle.nm_engine.proofs.inner.Inner.join.Goals as goal
 

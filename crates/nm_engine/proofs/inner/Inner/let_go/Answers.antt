@@ -1,6 +1,6 @@
 use Rattle.std.proofs.Common.{◌≡◌, ◌+◌, ◌/◌, List, ℕ, [], refl, ap, sym, subst, ◌∙◌, arith}
 use Rattle.nm_types.specs.declared.page.Page.{Page}
-use Rattle.nm_engine.specs.Effect.{dropped}
+use Rattle.nm_model.specs.definitions.Effect.{dropped}
 use Rattle.nm_engine.specs.Frames.{pool_of, CanFree}
 use Rattle.nm_engine.specs.MidRun.{MidRun}
 use Rattle.nm_engine.proofs.Soundness.Gone.{frames_of, can_go, gone_shows, gone_kept}

@@ -1,5 +1,5 @@
 use Rattle.std.proofs.Common.{◌≡◌, ◌≤◌, ◌-◌}
-use Rattle.nm_engine.specs.Locating.{located_between}
+use Rattle.nm_model.specs.definitions.Seen.{located_between}
 use Rattle.nm_engine.proofs.inner.Inner.page_from.Given as goal
 
 abbrev pub invariant-loop-vpn : goal.invariant-loop-vpn

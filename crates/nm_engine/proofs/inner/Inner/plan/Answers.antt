@@ -2,11 +2,11 @@ use Rattle.std.proofs.Common.{◌≡◌, ◌≤◌, ap, sym, subst, ◌∙◌, l
 use Rattle.std.proofs.lemmas.Result.{IfOk-weaker}
 use Rattle.nm_types.specs.Layout.{Layout, node_count}
 use Rattle.nm_types.specs.State.{State, free_list}
-use Rattle.nm_runs.specs.Seen.{look_in, look_at_place}
+use Rattle.nm_model.specs.definitions.Seen.{look_in, look_at_place}
 use Rattle.nm_runs.specs.Shown.{class_shown, ShowsItsFrames}
-use Rattle.nm_runs.specs.Status.{status_or_move}
+use Rattle.nm_model.specs.definitions.Status.{status_or_move}
 use Rattle.nm_types.specs.Map.{get, page_cmp}
-use Rattle.nm_engine.specs.Moves.{IsPlanOf}
+use Rattle.nm_laws.specs.Moves.{IsPlanOf}
 use Rattle.nm_engine.specs.MidRun.{MidRun}
 use Rattle.nm_engine.specs.Shown.{shown_by}
 use Rattle.nm_engine.proofs.OneByOne.Carried.{shows_its_frames, classes_by_view, planned_is, is_plan_of}

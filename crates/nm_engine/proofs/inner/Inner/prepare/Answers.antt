@@ -6,11 +6,11 @@ use Rattle.std.proofs.lemmas.Option.{slice_get-get_or}
 use Rattle.std.specs.List.{AllByRecursion, slice_get}
 use Rattle.nm_types.specs.State.{State}
 use Rattle.nm_engine.specs.Answering.{access_shown, due_shown, HasRoom}
-use Rattle.nm_engine.specs.Early.{Due, AllEarly, early, all_early}
+use Rattle.nm_model.specs.definitions.Early.{Due, AllEarly, early, all_early}
 use Rattle.nm_engine.specs.MidRun.{MidRun, with_state}
 use Rattle.nm_engine.specs.Undo.{CanUndo, all_undone}
-use Rattle.nm_engine.proofs.Early.Among.{all_early_alike}
-use Rattle.nm_engine.proofs.Early.Phases.{pages_of}
+use Rattle.nm_laws.proofs.Early.Among.{all_early_alike}
+use Rattle.nm_laws.proofs.Early.Phases.{pages_of}
 use Rattle.nm_engine.proofs.Together.Paces.{drop_item}
 use Rattle.nm_engine.proofs.inner.Inner.prepare.Goals as goal
 

@@ -1,16 +1,17 @@
 use Rattle.std.proofs.Common.{◌≡◌, ℕ, ◌/◌, ◌%◌, ◌++◌, ◌∙◌, false, sym, ap, subst, Some, Ok}
 use Rattle.std.specs.Prelude.{Option, IfNone, List, replicate}
 use Rattle.nm_types.specs.declared.sight.Sight.TheVariants.{ZeroPage}
-use Rattle.nm_frames.specs.Store.{bytes_of}
-use Rattle.nm_runs.specs.Seen.{sight_at}
-use Rattle.nm_engine.specs.Memory.{mem_range}
-use Rattle.nm_engine.specs.Frames.{stretch_of}
-use Rattle.nm_engine.specs.Touch.{Answered, Bytes, read, read_after}
+use Rattle.nm_model.specs.definitions.Frames.{bytes_of}
+use Rattle.nm_model.specs.definitions.Seen.{sight_at}
+use Rattle.nm_model.specs.definitions.Memory.{mem_range}
+use Rattle.nm_model.specs.definitions.Memory.{stretch_of}
+use Rattle.nm_model.specs.definitions.Touch.{Answered, Bytes, read, read_after}
 use Rattle.nm_engine.specs.MidRun.{MidRun}
 use Rattle.nm_engine.specs.Shown.{shown}
-use Rattle.nm_engine.specs.Seeing.{frame_seen}
-use Rattle.nm_engine.proofs.Together.Touches.{inside, page_of_frame, place_in_range, touch_is}
-use Rattle.nm_engine.proofs.Seen.Ranges.{reads_frame, reads_zeros}
+use Rattle.nm_model.specs.definitions.Seen.{frame_seen}
+use Rattle.nm_engine.proofs.Together.Touches.{inside, touch_is}
+use Rattle.nm_laws.proofs.Seen.Frames.{page_of_frame, place_in_range}
+use Rattle.nm_engine.proofs.Seen.Read.{reads_frame, reads_zeros}
 use Rattle.nm_engine.proofs.inner.Inner.read.Goals.{in-Some, in-None}
 use Rattle.nm_engine.specs.AddressSpaces.{table_of}
 use Rattle.nm_engine.specs.Shown.{paged_frames}

@@ -4,11 +4,11 @@ use Rattle.std.specs.List.{list_any}
 use Rattle.nm_types.specs.declared.sight.Sight.TheVariants.{ZeroPage}
 use Rattle.nm_types.specs.Map.{same_page}
 use Rattle.nm_types.specs.State.{State}
-use Rattle.nm_runs.specs.Seen.{sight_at}
-use Rattle.nm_engine.specs.Early.{Early, Known, ToRead, due_read}
-use Rattle.nm_engine.specs.Touch.{Bytes}
+use Rattle.nm_model.specs.definitions.Seen.{sight_at}
+use Rattle.nm_model.specs.definitions.Early.{Early, Known, ToRead, due_read}
+use Rattle.nm_model.specs.definitions.Touch.{Bytes}
 use Rattle.nm_engine.specs.MidRun.{with_state}
-use Rattle.nm_engine.specs.Seeing.{frame_seen}
+use Rattle.nm_model.specs.definitions.Seen.{frame_seen}
 use Rattle.nm_engine.proofs.Early.Noted.{read_due, read_refused, read_held, read_goes}
 use Rattle.nm_engine.proofs.Together.Undone.{touches_err}
 use Rattle.nm_engine.proofs.inner.Inner.read_early.Goals as goal

@@ -4,7 +4,7 @@ use Rattle.nm_types.proofs.Cases.{some_is}
 use Rattle.nm_engine.specs.MidRun.{IsResolved, spot_at}
 use Rattle.nm_engine.specs.Shown.{shown}
 use Rattle.nm_engine.specs.declared.inner.resolved.Resolved.{Resolved}
-use Rattle.nm_engine.specs.Touch.{spot}
+use Rattle.nm_model.specs.definitions.Touch.{spot}
 use Rattle.nm_engine.proofs.Together.Touches.{outside, touched_there}
 use Rattle.nm_engine.specs.AddressSpaces.{table_of}
 use Rattle.nm_engine.specs.Shown.{paged_frames}

@@ -4,7 +4,7 @@ use Rattle.std.proofs.lemmas.Map.Keys.{sorted_from_strictly_increasing}
 use Rattle.nm_types.specs.Layout.{node_count}
 use Rattle.nm_engine.specs.MidRun.{MidRun}
 use Rattle.nm_engine.specs.Shown.{shown_by}
-use Rattle.nm_engine.proofs.Soundness.Online.{online_sound, changed_below}
+use Rattle.nm_laws.proofs.Soundness.Online.{online_sound, changed_below}
 use Rattle.nm_engine.proofs.inner.Inner.set_online.Goals as goal
 
 pub invariant_of-self : goal.invariant_of-self

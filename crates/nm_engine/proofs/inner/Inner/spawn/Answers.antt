@@ -3,9 +3,9 @@ use Rattle.std.specs.Prelude.{None, nat_le}
 use Rattle.std.specs.List.{list_any}
 use Rattle.std.specs.Ordering.{nat_cmp}
 use Rattle.nm_types.specs.Map.{set}
-use Rattle.nm_engine.specs.Effect.{spawn}
-use Rattle.nm_engine.specs.Refused.{spawn_refusal}
-use Rattle.nm_engine.specs.Tables.{untouched}
+use Rattle.nm_model.specs.definitions.Effect.{spawn}
+use Rattle.nm_model.specs.definitions.Effect.{spawn_refusal}
+use Rattle.nm_model.specs.definitions.Effect.{untouched}
 use Rattle.nm_engine.specs.MidRun.{MidRun, IsKept, with_state}
 use Rattle.nm_engine.proofs.Together.Kept.{seen, kept_spawned, spawn_fine}
 use Rattle.nm_engine.specs.AddressSpaces.{SpacesView, table_of}

@@ -1,8 +1,8 @@
 use Rattle.std.proofs.Common.{ap, sym, subst, ◌∙◌, arith, ℕ, List}
 use Rattle.nm_types.specs.Layout.{node_count}
 use Rattle.nm_engine.specs.MidRun.{MidRun}
-use Rattle.nm_engine.specs.Moves.{CanMove}
-use Rattle.nm_engine.specs.Sound.{IsSoundMidRun}
+use Rattle.nm_laws.specs.Moves.{CanMove}
+use Rattle.nm_model.specs.definitions.Sound.{IsSoundMidRun}
 use Rattle.nm_engine.proofs.Early.Taken.{taken_kept}
 use Rattle.nm_engine.proofs.inner.Inner.take_frames.Goals as goal
 

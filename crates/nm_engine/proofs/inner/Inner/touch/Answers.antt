@@ -3,17 +3,18 @@ use Rattle.std.specs.Prelude.{Option, Ok, if◌then◌else◌}
 use Rattle.nm_types.specs.declared.page.Page.{Page}
 use Rattle.nm_types.specs.declared.sight.Sight.{Sight}
 use Rattle.nm_types.specs.State.{State, Process, Placed}
-use Rattle.nm_areas.specs.Lines.{is_shared}
+use Rattle.nm_model.specs.definitions.Areas.{is_shared}
 use Rattle.nm_engine.specs.declared.inner.resolved.Resolved.{Resolved}
-use Rattle.nm_engine.specs.Touch.{shown_at, filled, joined, with_sight, touched_entry}
+use Rattle.nm_model.specs.definitions.Touch.{shown_at, filled, joined, with_sight, touched_entry}
 use Rattle.nm_types.specs.declared.sight.Sight.TheVariants.{Sees, ZeroPage}
 use Rattle.nm_types.specs.Map.{get, page_cmp}
 use Rattle.std.specs.Ordering.{nat_cmp}
-use Rattle.nm_runs.specs.Seen.{sight_in, sight_at}
+use Rattle.nm_model.specs.definitions.Seen.{sight_in, sight_at}
 use Rattle.nm_engine.specs.Shown.{shown, shown_by}
 use Rattle.nm_engine.specs.MidRun.{MidRun, IsKept, IsResolved, spot_at, with_state}
-use Rattle.nm_engine.specs.Seeing.{frame_of, frame_seen}
-use Rattle.nm_engine.proofs.Together.Touches.{inside, outside, not_none, none_sees, zero_sees, seen_kept, sees_now, private_here, private_unplaced_here, zero_unplaced}
+use Rattle.nm_model.specs.definitions.Seen.{frame_of, frame_seen}
+use Rattle.nm_engine.proofs.Together.Touches.{inside, outside, not_none, seen_kept, sees_now, private_here, private_unplaced_here, zero_unplaced}
+use Rattle.nm_laws.proofs.Seen.Frames.{none_sees, zero_sees}
 use Rattle.nm_engine.specs.AddressSpaces.{SpacesView, table_of, with_seen}
 use Rattle.nm_engine.specs.Shown.{paged_frames}
 use Rattle.nm_engine.proofs.inner.HandedOn.{touch_handed_on, nothing_touched}

@@ -1,7 +1,7 @@
 use Rattle.std.proofs.Common.{◌≡◌, List, ap, sym, subst, ◌∙◌}
 use Rattle.std.specs.Prelude.{Option}
 use Rattle.nm_types.specs.Map.{get, page_cmp}
-use Rattle.nm_runs.specs.Seen.{sight_at}
+use Rattle.nm_model.specs.definitions.Seen.{sight_at}
 use Rattle.nm_engine.specs.declared.inner.undo.Before.{Before}
 use Rattle.nm_engine.specs.declared.inner.undo.Undo.{Undo}
 use Rattle.nm_engine.specs.Undo.{IsStillUndone, noted, with_undo}

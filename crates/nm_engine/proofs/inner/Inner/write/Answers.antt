@@ -1,13 +1,14 @@
 use Rattle.std.proofs.Common.{◌≡◌, ℕ, List, ◌/◌, ◌%◌, ◌∙◌, true, sym, ap, subst, length, Some, Ok}
 use Rattle.std.specs.Prelude.{slice_set}
-use Rattle.nm_frames.specs.Store.{bytes_of, overwrite}
+use Rattle.nm_model.specs.definitions.Frames.{bytes_of, overwrite}
 use Rattle.nm_engine.specs.Frames.{FramesView}
-use Rattle.nm_engine.specs.Touch.{Answered, write, write_after, with_bytes}
+use Rattle.nm_model.specs.definitions.Touch.{Answered, write, write_after, with_bytes}
 use Rattle.nm_engine.specs.MidRun.{MidRun, IsKept}
 use Rattle.nm_engine.specs.Shown.{shown}
-use Rattle.nm_engine.specs.Seeing.{frame_seen}
-use Rattle.nm_runs.specs.Seen.{sight_at}
-use Rattle.nm_engine.proofs.Together.Touches.{inside, page_of_frame, place_in_range, touch_is, written_is, written_kept}
+use Rattle.nm_model.specs.definitions.Seen.{frame_seen}
+use Rattle.nm_model.specs.definitions.Seen.{sight_at}
+use Rattle.nm_engine.proofs.Together.Touches.{inside, touch_is, written_is, written_kept}
+use Rattle.nm_laws.proofs.Seen.Frames.{page_of_frame, place_in_range}
 use Rattle.nm_engine.specs.AddressSpaces.{table_of}
 use Rattle.nm_engine.specs.Shown.{paged_frames, shown_by}
 use Rattle.nm_engine.proofs.Together.Joint.{kept_stocked}

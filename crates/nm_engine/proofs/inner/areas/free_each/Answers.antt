@@ -1,5 +1,5 @@
 use Rattle.std.proofs.Common.{◌≡◌, ◌+◌, drop, ap, sym, subst, ◌∙◌}
-use Rattle.nm_nodes.specs.Pool.{appended}
+use Rattle.nm_model.specs.definitions.Frames.{appended}
 use Rattle.nm_engine.specs.Frames.{FramesView, pool_of, CanFree, with_freed}
 use Rattle.nm_engine.proofs.Soundness.Gone.{frames_of}
 use Rattle.nm_engine.proofs.Together.Paces.{drop_item}

@@ -1,5 +1,5 @@
 use Rattle.std.proofs.Common.{arith}
-use Rattle.nm_engine.proofs.Soundness.Online.{set_is_few}
+use Rattle.nm_laws.proofs.Soundness.Online.{set_is_few}
 use Rattle.nm_engine.proofs.inner.online.changed.Goals as goal
 
 pub prove-unreachable-requires : goal.prove-unreachable-requires

@@ -2,19 +2,19 @@ use Rattle.std.proofs.Common.{List, map, length, ap, sym, subst, ◌∙◌, arit
 use Rattle.std.specs.List.{AllByRecursion}
 use Rattle.nm_types.specs.Layout.{node_count}
 use Rattle.nm_types.specs.State.{State}
-use Rattle.nm_plan.specs.declared.Taken.{Taken}
+use Rattle.nm_types.specs.declared.taken.Taken.{Taken}
 use Rattle.nm_engine.specs.Answering.{access_shown, answer_shown, due_shown}
-use Rattle.nm_engine.specs.Early.{Due, all_made, without_fronts, with_fronts, tos, IsDue}
-use Rattle.nm_engine.specs.Flight.{AllAnswered}
-use Rattle.nm_engine.specs.Laws.{with_moves}
+use Rattle.nm_model.specs.definitions.Early.{Due, all_made, without_fronts, with_fronts, tos, IsDue}
+use Rattle.nm_model.specs.definitions.Touch.{AllAnswered}
+use Rattle.nm_laws.specs.Laws.{with_moves}
 use Rattle.nm_engine.specs.MidRun.{MidRun}
-use Rattle.nm_engine.specs.Moves.{CanMove, IsPlanOf}
-use Rattle.nm_engine.specs.Run.{run}
-use Rattle.nm_engine.specs.Sound.{IsSound}
-use Rattle.nm_engine.specs.Touch.{Access}
-use Rattle.nm_engine.proofs.Early.Flown.{run_state, run_answers}
-use Rattle.nm_engine.proofs.Early.Phases.{pages_of, touched_all, given_back, planned_phases}
-use Rattle.nm_engine.proofs.Early.Ready.{all_layout}
+use Rattle.nm_laws.specs.Moves.{CanMove, IsPlanOf}
+use Rattle.nm_model.specs.definitions.Run.{run}
+use Rattle.nm_model.specs.definitions.Sound.{IsSound}
+use Rattle.nm_model.specs.definitions.Touch.{Access}
+use Rattle.nm_laws.proofs.Early.Flown.{run_state, run_answers}
+use Rattle.nm_laws.proofs.Early.Phases.{pages_of, touched_all, given_back, planned_phases}
+use Rattle.nm_laws.proofs.Early.Ready.{all_layout}
 use Rattle.nm_engine.proofs.machine.Machine.run_flight.Goals as goal
 
 pub carry_out-answers-requires-clause-target : goal.carry_out-answers-requires-clause-target

@@ -1,7 +1,7 @@
 use Rattle.std.proofs.Common.{ap, ◌∙◌}
 use Rattle.std.specs.Ordering.{nat_cmp}
 use Rattle.nm_types.specs.Map.{set}
-use Rattle.nm_engine.specs.ProcessTable.{Task}
+use Rattle.nm_model.specs.definitions.PageTables.{Task}
 use Rattle.nm_engine.proofs.Tied.Tabled.{by_pid_sorted, added}
 use Rattle.nm_engine.proofs.process_table.ProcessTable.add.Goals as goal
 

@@ -3,8 +3,9 @@ use Rattle.std.specs.Prelude.{Option, IsSome}
 use Rattle.std.specs.Option.{option_copied_mut}
 use Rattle.nm_types.specs.Map.{Map}
 use Rattle.nm_types.proofs.Cases.{none_is_not}
-use Rattle.nm_tables.specs.declared.entry.Entry.{Entry}
-use Rattle.nm_engine.specs.ProcessTable.{Task, without_entry}
+use Rattle.nm_types.specs.declared.entry.Entry.{Entry}
+use Rattle.nm_model.specs.definitions.PageTables.{Task}
+use Rattle.nm_engine.specs.ProcessTable.{without_entry}
 use Rattle.nm_engine.proofs.Tied.Tabled.{none_found, becomes}
 use Rattle.nm_engine.proofs.process_table.ProcessTable.clear.Goals as goal
 

@@ -4,8 +4,9 @@ use Rattle.std.specs.Option.{unwrap_or, option_map}
 use Rattle.std.specs.Ordering.{nat_cmp}
 use Rattle.std.specs.BTreeMap.Range.{entries_between}
 use Rattle.std.specs.declared.ops.Bound.TheVariants.{Included, Excluded}
-use Rattle.nm_engine.specs.ProcessTable.{Task, task_table}
-use Rattle.nm_engine.specs.Sights.{between}
+use Rattle.nm_model.specs.definitions.PageTables.{Task}
+use Rattle.nm_engine.specs.ProcessTable.{task_table}
+use Rattle.nm_model.specs.definitions.Seen.{between}
 use Rattle.nm_engine.proofs.Seen.Walked.{ranged}
 use Rattle.nm_engine.proofs.Tied.Tabled.{found_value, none_found}
 use Rattle.nm_engine.proofs.process_table.ProcessTable.entries_between.Goals as goal

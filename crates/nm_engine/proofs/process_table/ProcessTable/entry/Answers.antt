@@ -1,6 +1,6 @@
 use Rattle.std.proofs.Common.{ap, sym, ◌∙◌}
 use Rattle.std.specs.Prelude.{Option, Some}
-use Rattle.nm_engine.specs.ProcessTable.{Task, entry_in}
+use Rattle.nm_model.specs.definitions.PageTables.{Task, entry_in}
 use Rattle.nm_engine.proofs.Tied.Tabled.{found_value, none_found}
 use Rattle.nm_engine.proofs.process_table.ProcessTable.entry.Goals as goal
 

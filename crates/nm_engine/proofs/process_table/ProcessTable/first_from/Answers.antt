@@ -2,7 +2,7 @@ use Rattle.std.proofs.Common.{ℕ, ◌≡◌, ◌≤◌, ◌<◌, ap, subst, sym
 use Rattle.std.specs.Prelude.{Option, Some, None, IfSome, IfNone}
 use Rattle.std.specs.Ordering.{nat_cmp}
 use Rattle.nm_types.specs.Map.{get}
-use Rattle.nm_engine.specs.ProcessTable.{Task, entry_in}
+use Rattle.nm_model.specs.definitions.PageTables.{Task, entry_in}
 use Rattle.nm_engine.proofs.Tied.Tabled.{found_value, none_found}
 use Rattle.nm_engine.proofs.process_table.ProcessTable.first_from.Given.{Over}
 use Rattle.nm_engine.proofs.process_table.ProcessTable.first_from.Goals as goal

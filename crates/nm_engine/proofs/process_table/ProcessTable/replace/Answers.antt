@@ -3,8 +3,9 @@ use Rattle.std.specs.Prelude.{Option, Some, IsSome}
 use Rattle.std.specs.Option.{option_copied_mut}
 use Rattle.nm_types.specs.Map.{Map}
 use Rattle.nm_types.proofs.Cases.{none_is_not}
-use Rattle.nm_tables.specs.declared.entry.Entry.{Entry}
-use Rattle.nm_engine.specs.ProcessTable.{Task, entry_in, with_other_entry, replaced_in}
+use Rattle.nm_types.specs.declared.entry.Entry.{Entry}
+use Rattle.nm_model.specs.definitions.PageTables.{Task, entry_in}
+use Rattle.nm_engine.specs.ProcessTable.{with_other_entry, replaced_in}
 use Rattle.nm_engine.proofs.Tied.Tabled.{found_value, none_found, written}
 use Rattle.nm_engine.proofs.process_table.ProcessTable.replace.Goals as goal
 

@@ -1,5 +1,5 @@
 use Rattle.std.proofs.Common.{length, ap, ◌∙◌}
-use Rattle.nm_frames.specs.Store.{Store}
+use Rattle.nm_model.specs.definitions.Frames.{Store}
 use Rattle.nm_frames.proofs.store.FrameStore.frame_count.Goals as goal
 
 pub returns-clause-count : goal.returns-clause-count

@@ -1,6 +1,6 @@
 use Rattle.std.proofs.Common.{ℕ, ◌<◌, List, Option, None, sym, subst, ap, ◌∙◌}
 use Rattle.std.proofs.Math.ListN.{set}
-use Rattle.nm_frames.specs.Store.{AllWhole}
+use Rattle.nm_model.specs.definitions.Frames.{AllWhole}
 use Rattle.nm_frames.proofs.Homes.{place_in, writes, reads_bytes, whole_there, whole_without}
 use Rattle.nm_frames.proofs.store.FrameStore.take_out.Goals as goal
 

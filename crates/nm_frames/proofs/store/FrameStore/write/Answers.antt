@@ -1,6 +1,6 @@
 use Rattle.std.proofs.Common.{ap, ◌∙◌, ℕ, List, Some, None}
 use Rattle.std.proofs.lemmas.List.{set-set}
-use Rattle.nm_frames.specs.Store.{bytes_of, overwrite}
+use Rattle.nm_model.specs.definitions.Frames.{bytes_of, overwrite}
 use Rattle.nm_frames.proofs.store.FrameStore.write.Goals as goal
 
 pub returns : goal.returns

@@ -2,7 +2,7 @@ use Rattle.std.proofs.Common.{◌≡◌, ◌+◌, ◌<◌, ap, sym, zero-add, �
 use Rattle.std.proofs.lemmas.List.{take_all, take_more}
 use Rattle.std.proofs.lemmas.List.Sums.{sum_by_more_le}
 use Rattle.nm_types.specs.Nodes.{up_from}
-use Rattle.nm_nodes.specs.Pool.{IsPool}
+use Rattle.nm_model.specs.definitions.Frames.{IsPool}
 use Rattle.nm_nodes.specs.Lists.{pool_of}
 use Rattle.nm_nodes.proofs.Pools.{rows, rows_none, rows_more, sum-push, pool_of-rows, IsPool-new_pool}
 use Rattle.nm_nodes.proofs.pool.NodePool.new.Goals as goal

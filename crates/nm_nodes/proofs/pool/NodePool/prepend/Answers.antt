@@ -1,6 +1,6 @@
 use Rattle.std.proofs.Common.{ap, sym, ◌∙◌, subst, ℕ, List, ◌∷◌}
 use Rattle.nm_types.specs.Layout.{owner}
-use Rattle.nm_nodes.specs.Pool.{IsPool, list_of}
+use Rattle.nm_model.specs.definitions.Frames.{IsPool, list_of}
 use Rattle.nm_nodes.specs.Lists.{sizes_of}
 use Rattle.nm_nodes.proofs.Pools.{own_row, written, IsPool-prepended}
 use Rattle.nm_nodes.proofs.pool.NodePool.prepend.Goals as goal

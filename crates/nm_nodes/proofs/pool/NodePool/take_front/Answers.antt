@@ -1,6 +1,6 @@
 use Rattle.std.proofs.Common.{ap, sym, ◌∙◌, subst, ℕ, ◌<◌, List, drop}
 use Rattle.std.specs.Prelude.{slice_get}
-use Rattle.nm_nodes.specs.Pool.{IsPool, list_of}
+use Rattle.nm_model.specs.definitions.Frames.{IsPool, list_of}
 use Rattle.nm_nodes.proofs.Pools.{place_in, row_list, written, IsPool-without_front}
 use Rattle.nm_nodes.proofs.pool.NodePool.take_front.Goals as goal
 

@@ -1,5 +1,5 @@
 use Rattle.std.proofs.Common.{ap, sym, ◌∙◌, subst, ℕ, ◌<◌, List, ◌++◌, take, drop}
-use Rattle.nm_nodes.specs.Pool.{IsPool, list_of}
+use Rattle.nm_model.specs.definitions.Frames.{IsPool, list_of}
 use Rattle.nm_nodes.proofs.Pools.{place_in, row_list, written, IsPool-without_fronts}
 use Rattle.nm_nodes.proofs.pool.NodePool.take_many.Goals as goal
 

@@ -1,5 +1,5 @@
 use Rattle.std.proofs.Common.{ap, ◌∙◌}
-use Rattle.nm_plan.specs.Decide.{Planned}
+use Rattle.nm_model.specs.definitions.Decide.{Planned}
 use Rattle.nm_plan.proofs.outcome.Plan.moves.Goals as goal
 
 pub returns : goal.returns

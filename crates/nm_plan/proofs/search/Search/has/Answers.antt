@@ -1,8 +1,8 @@
 use Rattle.std.proofs.Common.{◌≡◌, ℕ, Bool, ap, sym, subst, ◌∙◌, refl, ◌||◌, length, take, drop, true, false, true≢false, List}
 use Rattle.std.specs.Prelude.{min}
 use Rattle.nm_types.specs.declared.page.Page.{Page}
-use Rattle.nm_plan.specs.declared.Taken.{Taken}
-use Rattle.nm_plan.specs.Decide.{has_moved}
+use Rattle.nm_types.specs.declared.taken.Taken.{Taken}
+use Rattle.nm_model.specs.definitions.Decide.{has_moved}
 use Rattle.nm_plan.specs.Found.{Ascends}
 use Rattle.nm_plan.proofs.Searched.{moved_in_parts, first_few}
 use Rattle.nm_plan.proofs.search.Search.has.Goals.{then-is_among_ascending, else-is_among_ascending}

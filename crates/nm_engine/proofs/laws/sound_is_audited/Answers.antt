@@ -1,5 +1,0 @@
-use Rattle.nm_engine.proofs.Soundness.Sounded.{sound_is_audited}
-use Rattle.nm_engine.proofs.laws.sound_is_audited.Goals as goal
-
-pub returns : goal.returns
-returns c = sound_is_audited

@@ -1,0 +1,10 @@
+pub mod Among
+pub mod Beside
+pub mod Flown
+pub mod Fronts
+pub mod Kept
+pub mod Later
+pub mod Phases
+pub mod Places
+pub mod Ready
+pub mod Seen

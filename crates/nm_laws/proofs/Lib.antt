@@ -1,0 +1,5 @@
+pub mod Early
+pub mod InFlight
+pub mod OneByOne
+pub mod Seen
+pub mod Soundness

@@ -1,0 +1,4 @@
+pub mod Looks
+pub mod Memory
+pub mod Placed
+pub mod Planned

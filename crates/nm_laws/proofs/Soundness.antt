@@ -1,0 +1,17 @@
+pub mod Allocated
+pub mod Audits
+pub mod Called
+pub mod Counted
+pub mod Dropped
+pub mod Frames
+pub mod Moved
+pub mod New
+pub mod Once
+pub mod Online
+pub mod Placed
+pub mod Policed
+pub mod Ran
+pub mod Released
+pub mod Sounded
+pub mod Starts
+pub mod Touched

@@ -1,0 +1,99 @@
+-- Moving and freeing keep a machine sound.
+use Rattle.std.proofs.Common.{◌≡◌, ℕ, List, [], ◌∷◌, ◌++◌, refl, sym, ap, subst, ◌∙◌, append_assoc}
+use Rattle.std.specs.Prelude.{Some, IsSome}
+use Rattle.std.specs.List.Sorted.{IsStrictlySortedBy}
+use Rattle.std.specs.Map.{keys_of}
+use Rattle.nm_types.specs.declared.page.Page.{Page}
+use Rattle.nm_types.specs.Map.{Map, page_cmp, get, set}
+use Rattle.nm_types.specs.State.{State, free_list}
+use Rattle.nm_types.specs.declared.request.Class.{Class}
+use Rattle.nm_types.specs.declared.request.Class.TheVariants.{Status, Move}
+use Rattle.nm_types.specs.declared.request.Wanted.{Wanted}
+use Rattle.nm_model.specs.definitions.Status.{status_or_move}
+use Rattle.nm_model.specs.definitions.Run.{moved_page, decided, one, each, with_free, with_all_free, left, counted}
+use Rattle.nm_model.specs.definitions.Sound.{AreNodes, FramesAreOnce, IsSoundMidRun}
+use Rattle.nm_types.proofs.Maps.{page_cmp_total, exact_page, keys-set}
+use Rattle.nm_types.proofs.Keys.{some_from_keys}
+use Rattle.nm_laws.proofs.Soundness.Frames.{moved_frames, frame_freed, left-append, append-nil}
+use Rattle.nm_laws.proofs.Soundness.Once.{places_are_apart}
+use Rattle.nm_laws.proofs.OneByOne.Placed.{ClassIsPlaced, status_placed}
+
+-- the same pages have a place, and the frames are once
+pub other_places : (s : State) (l k : List ℕ) (m : Map Page ℕ) (free : List (List ℕ)) → IsSoundMidRun s l → keys_of m ≡ keys_of s.place
+    → FramesAreOnce s.layout m free k → IsSoundMidRun (record s { place = m; free = free }) k
+other_places s l k m free h same frames =
+    let was : (p : Page) → IsSome (get page_cmp m p) → IsSome (get page_cmp s.place p) = λ p. some_from_keys page_cmp m s.place p same in
+    record {
+      order = record {
+        processes = h.order.processes;
+        sees = h.order.sees;
+        areas = h.order.areas;
+        segments = h.order.segments;
+        place = subst (IsStrictlySortedBy page_cmp) (sym same) h.order.place;
+      };
+      apart = places_are_apart frames;
+      frames = frames;
+      shown = λ pid v p e. let was = h.shown pid v p e in (was.0, some_from_keys page_cmp s.place m p (sym same) was.1);
+      zeros = h.zeros;
+      covered = λ p e. h.covered p (was p e);
+      bytes = record { same_pages = h.bytes.same_pages ∙ sym same; whole = h.bytes.whole };
+      pins = record { same_pages = h.pins.same_pages ∙ sym same; few = h.pins.few };
+      seen = λ p e. h.seen p (was p e);
+      once = h.once;
+      areas = h.areas;
+      numbers = h.numbers;
+      disjoint = h.disjoint;
+      online = h.online;
+      few = h.few;
+    }
+
+page_moved : (s : State) (l : List ℕ) (target : ℕ) (p : Page) (from : ℕ) (front : List ℕ) → IsSoundMidRun s l → get page_cmp s.place p ≡ Some from → free_list s target ≡ front
+    → IsSoundMidRun (moved_page s target p from front).state (l ++ left (moved_page s target p from front).taken)
+page_moved s l target p from [] h placed e = subst (IsSoundMidRun s) (sym (append-nil l)) h
+page_moved s l target p from (frame ∷ rest) h placed e =
+    other_places s l (l ++ from ∷ []) (set page_cmp s.place p frame) _ h
+    (keys-set page_cmp_total exact_page p s.place frame from h.order.place placed)
+    (moved_frames s l target p from (frame ∷ rest) h.frames h.order.place placed e)
+
+pub decided_sound : (s : State) (l : List ℕ) (target : ℕ) (c : Class) → IsSoundMidRun s l → ClassIsPlaced s c → IsSoundMidRun (decided s target c).state (l ++ left (decided s target c).taken)
+decided_sound s l target (Status status) h placed = subst (IsSoundMidRun s) (sym (append-nil l)) h
+decided_sound s l target (Move p from) h placed = page_moved s l target p from (free_list s target) h placed refl
+
+pub each_sound : (s : State) (l : List ℕ) (target : ℕ) (ws : List Wanted) → IsSoundMidRun s l → IsSoundMidRun (each s target ws).state (l ++ left (each s target ws).taken)
+each_sound s l target [] h = subst (IsSoundMidRun s) (sym (append-nil l)) h
+each_sound s l target (w ∷ ws) h =
+    let now = one s target w in
+    let rest = each now.state target ws in
+    subst (IsSoundMidRun rest.state) (append_assoc l (left now.taken) (left rest.taken) ∙ ap (λ xs. l ++ xs) (sym (left-append now.taken rest.taken)))
+    (each_sound now.state (l ++ left now.taken) target ws (decided_sound s l target (status_or_move s target w) h (status_placed s target w)))
+
+pub frame_freed_sound : (s : State) (frame : ℕ) (l : List ℕ) → IsSoundMidRun s (frame ∷ l) → IsSoundMidRun (with_free s frame) l
+frame_freed_sound s frame l h = other_places s (frame ∷ l) l s.place (with_free s frame).free h refl (frame_freed s.layout s.place s.free frame l h.frames)
+
+pub freed_sound : (frames : List ℕ) (s : State) → IsSoundMidRun s frames → IsSoundMidRun (with_all_free s frames) []
+freed_sound [] s h = h
+freed_sound (frame ∷ frames) s h = freed_sound frames (with_free s frame) (frame_freed_sound s frame frames h)
+
+-- the totals and the set of nodes that are online are free
+pub freely_sound : (s : State) (l nodes : List ℕ) (moved failed : ℕ) → AreNodes s.layout nodes → IsSoundMidRun s l → IsSoundMidRun (record s { online = nodes; moved = moved; failed = failed }) l
+freely_sound s l nodes moved failed are h =
+    record {
+      order = record { processes = h.order.processes; sees = h.order.sees; areas = h.order.areas; segments = h.order.segments; place = h.order.place };
+      apart = h.apart;
+      frames = h.frames;
+      shown = h.shown;
+      zeros = h.zeros;
+      covered = h.covered;
+      bytes = h.bytes;
+      pins = h.pins;
+      seen = h.seen;
+      once = h.once;
+      areas = h.areas;
+      numbers = h.numbers;
+      disjoint = h.disjoint;
+      online = are;
+      few = h.few;
+    }
+
+pub counted_sound : (s : State) (l : List ℕ) (moved failed : ℕ) → IsSoundMidRun s l → IsSoundMidRun (counted s moved failed) l
+counted_sound s l moved failed h = freely_sound s l s.online (counted s moved failed).moved (counted s moved failed).failed h.online h

@@ -1,0 +1,38 @@
+-- Runs and batches keep a machine sound, accesses in flight included.
+use Rattle.std.proofs.Common.{ℕ, ◌+◌, List, [], ◌∷◌, true, false, map, length}
+use Rattle.std.specs.Prelude.{if◌then◌else◌}
+use Rattle.nm_types.specs.declared.page.Page.{Page}
+use Rattle.nm_types.specs.State.{State}
+use Rattle.nm_types.specs.declared.request.Wanted.{Wanted}
+use Rattle.nm_model.specs.definitions.Cut.{Request, Stretch, cut}
+use Rattle.nm_model.specs.definitions.Touch.{Access, Held, access, spot_of_access, is_held, in_flight, all_in_flight}
+use Rattle.nm_model.specs.definitions.Run.{each, with_all_free, left, failures, run, accesses_of, runs_from, batch}
+use Rattle.nm_model.specs.definitions.Sound.{IsSoundMidRun, IsSound}
+use Rattle.nm_laws.proofs.Soundness.Moved.{each_sound, freed_sound, counted_sound}
+use Rattle.nm_laws.proofs.Soundness.Touched.{access_sound}
+
+pub in_flight_sound : (s : State) (l : List ℕ) (moved : List Page) (a : Access) → IsSoundMidRun s l → IsSoundMidRun (in_flight s moved a).state l
+in_flight_sound s l moved a h =
+    elim (is_held moved (spot_of_access s a)) as (λ b. IsSoundMidRun (if b then record { state = s; answer = Held } else access s a).state l) [
+      | true ↦ h
+      | false ↦ access_sound s l a h
+    ]
+
+all_in_flight_sound : (s : State) (l : List ℕ) (moved : List Page) (accesses : List Access) → IsSoundMidRun s l → IsSoundMidRun (all_in_flight s moved accesses).state l
+all_in_flight_sound s l moved [] h = h
+all_in_flight_sound s l moved (a ∷ accesses) h = all_in_flight_sound (in_flight s moved a).state l moved accesses (in_flight_sound s l moved a h)
+
+pub run_sound : (s : State) (target : ℕ) (ws : List Wanted) (accesses : List Access) → IsSound s → IsSound (run s target ws accesses).state
+run_sound s target ws accesses h =
+    let moves = each s target ws in
+    let pages = map (λ t. t.page) moves.taken in
+    let during = all_in_flight moves.state pages accesses in
+    counted_sound (with_all_free during.state (left moves.taken)) [] (length moves.taken) (failures moves.statuses)
+    (freed_sound (left moves.taken) during.state (all_in_flight_sound moves.state (left moves.taken) pages accesses (each_sound s [] target ws h)))
+
+runs_sound : (k : ℕ) (s : State) (rs : List Stretch) (accesses : List (ℕ × Access)) → IsSound s → IsSound (runs_from k s rs accesses).state
+runs_sound k s [] accesses h = h
+runs_sound k s (r ∷ rs) accesses h = runs_sound (k + 1) (run s r.target r.wanted (accesses_of k accesses)).state rs accesses (run_sound s r.target r.wanted (accesses_of k accesses) h)
+
+pub batch_sound : (s : State) (requests : List Request) (accesses : List (ℕ × Access)) → IsSound s → IsSound (batch s requests accesses).state
+batch_sound s requests accesses h = runs_sound 0 s (cut requests) accesses h

@@ -1,0 +1,28 @@
+use Rattle.std.proofs.Common.{[]}
+use Rattle.nm_laws.proofs.OneByOne.Memory.{each_keeps, frees_keep, batch_keeps}
+use Rattle.nm_laws.proofs.Seen.Rewritten.{run_writes, runs_write}
+use Rattle.nm_laws.proofs.Soundness.Touched.{reading_keeps}
+use Rattle.nm_laws.proofs.Soundness.Policed.{policy_shows, policy_keeps}
+use Rattle.nm_laws.proofs.laws.mem_stays.Goals as goal
+
+pub returns-clause-decided : goal.returns-clause-decided
+returns-clause-decided c = each_keeps
+
+pub returns-clause-freed : goal.returns-clause-freed
+returns-clause-freed c = λ s frames. frees_keep frames s
+
+pub returns-clause-batches : goal.returns-clause-batches
+returns-clause-batches c = batch_keeps
+
+pub returns-clause-runs : goal.returns-clause-runs
+returns-clause-runs c = run_writes
+
+pub returns-clause-together : goal.returns-clause-together
+returns-clause-together c = runs_write
+
+pub returns-clause-read : goal.returns-clause-read
+returns-clause-read c = λ s left pid address len q at h. reading_keeps s left pid address len h q at
+
+pub returns-clause-policies : goal.returns-clause-policies
+returns-clause-policies c = λ s pid address len policy q v at h.
+    (policy_shows s [] pid address len policy q v h, policy_keeps s [] pid address len policy q at h)

@@ -1,0 +1,4 @@
+pub mod Interleavings
+pub mod Laws
+pub mod Moves
+pub mod Phases

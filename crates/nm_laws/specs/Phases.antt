@@ -1,0 +1,30 @@
+-- What holds of accesses in flight whose touches are all made before a page moves.
+use Rattle.std.specs.Prelude.{◌≡◌, ℕ, ◌<◌, List, map, length}
+use Rattle.std.specs.List.{AllByRecursion}
+use Rattle.nm_types.specs.declared.page.Page.{Page}
+use Rattle.nm_types.specs.State.{State}
+use Rattle.nm_types.specs.declared.taken.Taken.{Taken}
+use Rattle.nm_model.specs.definitions.Touch.{Access, all_in_flight}
+use Rattle.nm_laws.specs.Laws.{with_moves}
+use Rattle.nm_laws.specs.Moves.{CanMove}
+use Rattle.nm_model.specs.definitions.Sound.{IsSound, IsSoundMidRun}
+use Rattle.nm_model.specs.definitions.Early.{all_early, all_made, without_fronts, with_fronts, tos, IsDue}
+
+-- to touch all pages and then come to the bytes is to make one access after another
+abbrev pub TouchesComeFirst : Type 0
+TouchesComeFirst =
+    (s : State) (left : List ℕ) (moved : List Page) (accesses : List Access) →
+    IsSoundMidRun s left →
+    let early = all_early s moved accesses in all_in_flight s moved accesses ≡ all_made early.state early.dues
+
+-- and the touches may come before the moves, once the frames of the run are taken: what is left to do is done inside pages
+-- that have a frame and do not move
+abbrev pub MovesComeLater : Type 0
+MovesComeLater =
+    (s : State) (target : ℕ) (taken : List Taken) (accesses : List Access) →
+    IsSound s → target < length s.free → CanMove s target taken →
+    let pages = map (λ t. t.page) taken in
+    let early = all_early (without_fronts s target (length taken)) pages accesses in
+    let back = with_fronts (early.state) target (tos taken) in
+    (all_in_flight (with_moves s target taken) pages accesses ≡ all_made (with_moves back target taken) early.dues)
+    × AllByRecursion (IsDue pages (early.state)) early.dues

@@ -1,0 +1,79 @@
+//! Laws over the definitions alone.
+
+ghost use Rattle.nm_laws.specs.Laws.{DecidingKeepsMemory, FreeingKeepsMemory, BatchKeepsMemory, RunKeepsMemory, RunsKeepMemory, ReadingKeepsMemory, WritingIsExact, PolicyKeepsMemory, LooksSuffice, LooksAreBounded, SoundIsAudited, PlanIsOneByOne, AccessIsSound, RunIsSound, BatchIsSound, NewIsSound, SpawnIsSound, MapIsSound, AttachIsSound, PinIsSound, UnpinIsSound, PolicyIsSound, UnmapIsSound, ExitIsSound};
+ghost use Rattle.nm_laws.specs.Interleavings.{EverySoundStateIsRead, EveryRunCanEnd, EveryOrderIsTheRun, EveryBufferIsInOneHand, HeldIsExact};
+ghost use Rattle.nm_laws.specs.Phases.{TouchesComeFirst, MovesComeLater};
+ghost use Rattle.nm_model.specs.examples.Early.{PagesAreReadyFirst};
+
+/// No move changes a byte that a process reads: not one, and not a batch; and no read and no policy does. Where accesses are
+/// made while pages move, each byte is that of the last write which was done there, or else what it was before.
+pub fn mem_stays()
+    ensures decided { DecidingKeepsMemory }
+    ensures freed { FreeingKeepsMemory }
+    ensures batches { BatchKeepsMemory }
+    ensures runs { RunKeepsMemory }
+    ensures together { RunsKeepMemory }
+    ensures read { ReadingKeepsMemory }
+    ensures policies { PolicyKeepsMemory }
+{}
+
+/// A write gives its own bytes to everyone who has the page, and changes no other byte that any process has.
+pub fn writes_are_exact()
+    ensures { WritingIsExact }
+{}
+
+/// A look at a page number of a process, which counts the processes that see the page, is enough to decide what is to
+/// be done with a request, and the count is at most the number of processes that may be alive.
+pub fn looks_suffice()
+    ensures told { LooksSuffice }
+    ensures bounded { LooksAreBounded }
+{}
+
+/// To class the requests of a run at its start and then decide them gives the same as to decide one after another.
+pub fn plan_is_one_by_one()
+    ensures { PlanIsOneByOne }
+{}
+
+/// An audit of a sound machine finds each frame in one place.
+pub fn sound_is_audited()
+    ensures { SoundIsAudited }
+{}
+
+/// Reads and writes, runs with their accesses in flight, and batches keep a machine sound.
+pub fn soundness_stays()
+    ensures accesses { AccessIsSound }
+    ensures runs { RunIsSound }
+    ensures batches { BatchIsSound }
+{}
+
+/// The new machine is sound, and calls that are not refused keep a machine sound.
+pub fn calls_keep_soundness()
+    ensures new { NewIsSound }
+    ensures spawn { SpawnIsSound }
+    ensures map { MapIsSound }
+    ensures attach { AttachIsSound }
+    ensures pin { PinIsSound }
+    ensures unpin { UnpinIsSound }
+    ensures policies { PolicyIsSound }
+    ensures unmap { UnmapIsSound }
+    ensures exit { ExitIsSound }
+{}
+
+/// Whatever order the events of a run take, between its beginning and its end, the run is one request after another, the
+/// accesses one after another, and then the frames that were left become free; and each buffer is in one place all along.
+pub fn interleavings()
+    ensures states { EverySoundStateIsRead }
+    ensures ends { EveryRunCanEnd }
+    ensures orders { EveryOrderIsTheRun }
+    ensures hands { EveryBufferIsInOneHand }
+    ensures held { HeldIsExact }
+{}
+
+/// Accesses in flight may be made in two steps: all that they come to is touched before a page moves, in their order, and
+/// then the bytes of pages that do not move are read and written. It is as if they were made one after another while the
+/// pages of the run move.
+pub fn touches_come_first()
+    ensures first { TouchesComeFirst }
+    ensures later { MovesComeLater }
+    ensures ready { PagesAreReadyFirst }
+{}

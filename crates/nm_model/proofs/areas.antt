@@ -1,0 +1,9 @@
+pub mod Apart
+pub mod Cut
+pub mod Halves
+pub mod Overs
+pub mod Painted
+pub mod Parted
+pub mod Policed
+pub mod Repoliced
+pub mod Shown

@@ -1,0 +1,77 @@
+-- What becomes of a request, and of a look at a page.
+use Rattle.std.specs.Prelude.{ℕ, ◌-◌, ℤ, pos, negsuc, Bool, true, false, not, ◌&&◌, nat_lt, ◌==◌, Option, Some, None, if◌then◌else◌}
+use Rattle.std.specs.List.{list_any}
+use Rattle.nm_types.specs.declared.page.Page.{Page}
+use Rattle.nm_types.specs.declared.seen.Seen.{Seen}
+use Rattle.nm_types.specs.declared.seen.Seen.TheVariants.{NoArea, Absent, Zero, At}
+use Rattle.nm_types.specs.declared.errno.Errno.{Errno}
+use Rattle.nm_types.specs.declared.errno.Errno.TheVariants.{Enoent, Eacces, Efault, Ebusy}
+use Rattle.nm_types.specs.Names.{number_of}
+use Rattle.nm_types.specs.Map.{page_cmp, get}
+use Rattle.nm_types.specs.Layout.{Layout, node_of}
+use Rattle.nm_types.specs.declared.sight.Sight.{Sight}
+use Rattle.nm_types.specs.declared.sight.Sight.TheVariants.{ZeroPage, Sees}
+use Rattle.nm_types.specs.State.{State, page_at}
+use Rattle.nm_types.specs.declared.request.Class.{Class}
+use Rattle.nm_types.specs.declared.request.Class.TheVariants.{Status, Move}
+use Rattle.nm_types.specs.declared.request.Wanted.{Wanted}
+use Rattle.nm_types.specs.declared.request.Wanted.TheVariants.{At as Spot, Whole}
+use Rattle.nm_model.specs.definitions.Seen.{sight_at, users, is_pinned, look_at_page, look}
+
+-- a status that says why nothing moves: the error's number with a minus sign
+abbrev pub code : Errno → ℤ
+code e = negsuc (number_of e - 1)
+
+-- whether a process other than this one sees the page
+abbrev pub others_see : State → ℕ → Page → Bool
+others_see s pid p = list_any (λ user. not (user == pid)) (users s p)
+
+-- a page with this place: it is on the target, or may not move for others or for a pin, or is to move
+abbrev pub page_status : State → ℕ → Bool → Page → Option ℕ → Class
+page_status s target kept p None = Status (code Enoent)
+page_status s target kept p (Some frame) =
+    if node_of s.layout frame == target then Status (pos target)
+    else (if kept then Status (code Eacces) else (if is_pinned s p then Status (code Ebusy) else Move p frame))
+
+-- what is seen: nothing yet, the page of zeros, or a page, which is kept for others unless all are to move
+abbrev pub sight_status : State → ℕ → ℕ → Bool → Option Sight → Class
+sight_status s target pid all None = Status (code Enoent)
+sight_status s target pid all (Some ZeroPage) = Status (code Efault)
+sight_status s target pid all (Some (Sees p)) =
+    page_status s target (others_see s pid p && not all) p (get page_cmp s.place p)
+
+-- where no area is, there is nothing to move
+abbrev pub status_under : State → ℕ → ℕ → Bool → Option Page → Option Sight → Class
+status_under s target pid all None sight = Status (code Efault)
+status_under s target pid all (Some shown) sight = sight_status s target pid all sight
+
+-- the first case that holds of a request: its status, or the page that is to move
+abbrev pub status_or_move : State → ℕ → Wanted → Class
+status_or_move s target (Spot pid v all) = status_under s target pid all (page_at s.areas pid v) (sight_at s pid v)
+status_or_move s target (Whole p) = page_status s target false p (get page_cmp s.place p)
+
+-- the same, from a look that counts the processes that see the page
+abbrev pub class_of_look : Layout → ℕ → Bool → Seen → Class
+class_of_look g target all NoArea = Status (code Efault)
+class_of_look g target all Absent = Status (code Enoent)
+class_of_look g target all Zero = Status (code Efault)
+class_of_look g target all (At p frame processes pinned) =
+    if node_of g frame == target then Status (pos target)
+    else (if nat_lt 1 processes && not all then Status (code Eacces)
+    else (if pinned then Status (code Ebusy) else Move p frame))
+
+-- the class of a request by a look at what it names
+abbrev pub class_of : State → ℕ → Wanted → Class
+class_of s target (Spot pid v all) = class_of_look s.layout target all (look s pid v)
+class_of s target (Whole p) = class_of_look s.layout target true (look_at_page s p (get page_cmp s.place p))
+
+-- the node of the page that a look shows, or why it shows none
+abbrev pub node_of_look : Layout → Seen → ℤ
+node_of_look g NoArea = code Efault
+node_of_look g Absent = code Enoent
+node_of_look g Zero = code Efault
+node_of_look g (At p frame processes pinned) = pos (node_of g frame)
+
+-- the status of a page number of a process, where no target is named
+abbrev pub node_status : State → ℕ → ℕ → ℤ
+node_status s pid v = node_of_look s.layout (look s pid v)

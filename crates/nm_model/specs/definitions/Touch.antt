@@ -1,0 +1,195 @@
+-- Reads and writes, also while pages move.
+use Rattle.std.specs.Prelude.{ℕ, ◌+◌, ◌/◌, ◌%◌, ◌==◌, nat_lt, ◌||◌, Bool, true, false, List, [], ◌∷◌, length, drop}
+use Rattle.std.specs.Prelude.{replicate, slice_index, slice_index_or, slice_set, Option, Some, None, Result, Ok, Err}
+use Rattle.std.specs.Prelude.{if◌then◌else◌, not}
+use Rattle.std.specs.Option.{unwrap_or}
+use Rattle.std.specs.Ordering.{nat_cmp}
+use Rattle.nm_types.specs.declared.page.Page.{Page}
+use Rattle.nm_types.specs.declared.errno.Errno.{Errno}
+use Rattle.nm_types.specs.declared.errno.Errno.TheVariants.{Esrch, Einval, Efault, Enomem}
+use Rattle.nm_types.specs.Map.{page_cmp, get, set, replace, same_page}
+use Rattle.nm_types.specs.declared.sight.Sight.{Sight}
+use Rattle.nm_types.specs.declared.sight.Sight.TheVariants.{ZeroPage, Sees}
+use Rattle.nm_types.specs.State.{Process, State, Placed, area_over, page_of, free_list}
+use Rattle.nm_model.specs.definitions.Order.{first_touch_order}
+use Rattle.nm_model.specs.definitions.Seen.{sight_at}
+use Rattle.nm_model.specs.definitions.Areas.{is_shared}
+use Rattle.nm_model.specs.definitions.Frames.{overwrite}
+use Rattle.nm_model.specs.definitions.Memory.{mem_range}
+use Rattle.std.specs.List.{list_any}
+
+-- a process, and its area over a page number
+pub record Spot : Type 0 where
+  pub pid : ℕ
+  pub process : Process
+  pub area : Placed
+  pub vpn : ℕ
+
+-- the page that the area shows there
+abbrev pub shown_at : Spot → Page
+shown_at at = page_of at.area at.vpn
+
+-- there, if an area is over the page number
+abbrev pub spot_over : ℕ → Process → ℕ → Option Placed → Result Spot Errno
+spot_over pid process v None = Err Efault
+spot_over pid process v (Some area) = Ok (record { pid = pid; process = process; area = area; vpn = v })
+
+-- there, if the process is and the bytes are one or more and inside one page
+abbrev pub spot_of : State → Option Process → ℕ → ℕ → ℕ → Result Spot Errno
+spot_of s None pid address len = Err Esrch
+spot_of s (Some process) pid address len =
+    if (len == 0) || nat_lt 4096 (address % 4096 + len) then Err Einval
+    else spot_over pid process (address / 4096) (area_over s.areas pid (address / 4096))
+
+-- where one or more bytes inside one page of a process stand, or the first refusal
+abbrev pub spot : State → ℕ → ℕ → ℕ → Result Spot Errno
+spot s pid address len = spot_of s (get nat_cmp s.processes pid) pid address len
+
+-- the error, if there is one
+abbrev pub error_in : {X : Type 0} → Result X Errno → Option Errno
+error_in (Ok x) = None
+error_in (Err e) = Some e
+
+-- the refusals that a read or a write of `len` bytes comes to before it looks for a frame: all but the lack of one
+abbrev pub spot_refusal : State → ℕ → ℕ → ℕ → Option Errno
+spot_refusal s pid address len = error_in (spot s pid address len)
+
+-- the process sees this there from now on
+abbrev pub with_sight : State → Spot → Sight → State
+with_sight s at sight =
+    let process : Process = record (at.process) { sees = set nat_cmp at.process.sees at.vpn sight } in
+    record s { processes = replace nat_cmp s.processes at.pid process }
+
+-- a page of zeros takes this frame
+abbrev pub with_page : State → Page → ℕ → State
+with_page s page frame =
+    record s {
+      place = set page_cmp s.place page frame;
+      bytes = set page_cmp s.bytes page (replicate 4096 0);
+      pins = set page_cmp s.pins page 0;
+    }
+
+-- a node's front frame is no longer free
+abbrev pub without_front : State → ℕ → State
+without_front s node = record s { free = slice_set s.free node (drop 1 (free_list s node)) }
+
+-- whether a node has a frame in its list of free ones
+abbrev pub has_free : List (List ℕ) → ℕ → Bool
+has_free free node = not (length (slice_index_or free node []) == 0)
+
+-- the first of these nodes that has one
+abbrev pub first_free : List (List ℕ) → List ℕ → Option ℕ
+first_free free [] = None
+first_free free (node ∷ nodes) = if length (slice_index_or free node []) == 0 then first_free free nodes else Some node
+
+-- the page takes the front frame of the node, and the process sees it
+abbrev pub allocated : State → Spot → Option ℕ → Result State Errno
+allocated s at None = Err Enomem
+allocated s at (Some node) =
+    let placed = with_page (without_front s node) (shown_at at) (slice_index (free_list s node) 0) in
+    Ok (with_sight placed at (Sees (shown_at at)))
+
+-- the page gets the front frame of the first node in order that has one
+abbrev pub filled : State → Spot → Result State Errno
+filled s at =
+    let process = at.process in
+    let order = first_touch_order s.layout s.online process.home process.allowed at.area.1.policy (shown_at at).index in
+    allocated s at (first_free s.free order)
+
+-- a page that others may show has a frame already, or gets one
+abbrev pub joined : State → Spot → Option ℕ → Result State Errno
+joined s at (Some frame) = Ok (with_sight s at (Sees (shown_at at)))
+joined s at None = filled s at
+
+-- an entry that shows a page is used; the page of zeros serves reads of private pages
+abbrev pub touched_entry : State → Spot → Bool → Option Sight → Result State Errno
+touched_entry s at writes (Some (Sees page)) = Ok s
+touched_entry s at writes (Some ZeroPage) = if writes then filled s at else Ok s
+touched_entry s at writes None =
+    if is_shared s.segments (shown_at at).segment then joined s at (get page_cmp s.place (shown_at at))
+    else (if writes then filled s at else Ok (with_sight s at ZeroPage))
+
+-- the entry there is touched, if nothing is refused
+abbrev pub touched : State → Bool → Result Spot Errno → Result State Errno
+touched s writes (Err e) = Err e
+touched s writes (Ok at) = touched_entry s at writes (get nat_cmp at.process.sees at.vpn)
+
+-- what a read or a write of `len` bytes does before it comes to the bytes, or the first refusal
+abbrev pub touch : State → ℕ → ℕ → ℕ → Bool → Result State Errno
+touch s pid address len writes = touched s writes (spot s pid address len)
+
+-- a read or a write
+pub data Access : Type 0 where
+  Read : (pid address len : ℕ) → Access
+  Write : (pid address : ℕ) (bytes : List ℕ) → Access
+
+-- the answer to an access
+pub data AccessAnswer : Type 0 where
+  Bytes : (bytes : List ℕ) → AccessAnswer
+  Done : AccessAnswer
+  Held : AccessAnswer
+  Refused : (errno : Errno) → AccessAnswer
+
+-- what an access makes of a state, and its answer
+pub record Answered : Type 0 where
+  pub state : State
+  pub answer : AccessAnswer
+
+-- the bytes after the touch, or its refusal
+abbrev pub read_after : State → ℕ → ℕ → ℕ → Result State Errno → Answered
+read_after s pid address len (Err e) = record { state = s; answer = Refused e }
+read_after s pid address len (Ok t) = record { state = t; answer = Bytes (mem_range t pid address len) }
+
+-- the bytes there
+abbrev pub read : State → ℕ → ℕ → ℕ → Answered
+read s pid address len = read_after s pid address len (touch s pid address len false)
+
+-- the page that is seen has these bytes from a place in it on
+abbrev pub with_bytes : State → Option Sight → ℕ → List ℕ → State
+with_bytes s (Some (Sees page)) i new =
+    let old = unwrap_or (get page_cmp s.bytes page) [] in
+    record s { bytes = replace page_cmp s.bytes page (overwrite old i new) }
+with_bytes s (Some ZeroPage) i new = s
+with_bytes s None i new = s
+
+-- the new bytes after the touch, or its refusal
+abbrev pub write_after : State → ℕ → ℕ → List ℕ → Result State Errno → Answered
+write_after s pid address new (Err e) = record { state = s; answer = Refused e }
+write_after s pid address new (Ok t) =
+    record { state = with_bytes t (sight_at t pid (address / 4096)) (address % 4096) new; answer = Done }
+
+-- these bytes are there from now on
+abbrev pub write : State → ℕ → ℕ → List ℕ → Answered
+write s pid address new = write_after s pid address new (touch s pid address (length new) true)
+
+-- either of them
+abbrev pub access : State → Access → Answered
+access s (Read pid address len) = read s pid address len
+access s (Write pid address new) = write s pid address new
+
+-- where an access comes to its page, or its first refusal
+abbrev pub spot_of_access : State → Access → Result Spot Errno
+spot_of_access s (Read pid address len) = spot s pid address len
+spot_of_access s (Write pid address new) = spot s pid address (length new)
+
+-- whether the page there is one of these
+abbrev pub is_held : List Page → Result Spot Errno → Bool
+is_held moved (Err e) = false
+is_held moved (Ok at) = list_any (same_page (shown_at at)) moved
+
+-- an access that comes to a page which moves is held and does nothing
+abbrev pub in_flight : State → List Page → Access → Answered
+in_flight s moved a = if is_held moved (spot_of_access s a) then record { state = s; answer = Held } else access s a
+
+-- what accesses make of a state, and their answers
+pub record AllAnswered : Type 0 where
+  pub state : State
+  pub answers : List AccessAnswer
+
+-- one access after another
+abbrev pub all_in_flight : State → List Page → List Access → AllAnswered
+all_in_flight s moved [] = record { state = s; answers = [] }
+all_in_flight s moved (a ∷ accesses) =
+    let now = in_flight s moved a in
+    let rest = all_in_flight now.state moved accesses in
+    record { state = rest.state; answers = now.answer ∷ rest.answers }

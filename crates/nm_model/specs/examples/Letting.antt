@@ -1,0 +1,74 @@
+-- Worked examples of accesses in flight, of pins, and of areas and processes that go.
+use Rattle.nm_model.specs.definitions.Status.{code}
+use Rattle.std.specs.Prelude.{◌≡◌, pos, [], ◌∷◌, map, Some, None, negsuc, false}
+use Rattle.nm_types.specs.declared.errno.Errno.TheVariants.{Esrch, Efault, Ebusy, Einval, Enoent}
+use Rattle.nm_types.specs.State.{State}
+use Rattle.nm_model.specs.definitions.Touch.{read, Read, Write, Bytes, Done, Held, Refused}
+use Rattle.nm_model.specs.definitions.Run.{Ran, batch}
+use Rattle.nm_model.specs.definitions.Effect.{pin, unpin, unmap, exit, map_new}
+use Rattle.nm_model.specs.definitions.Effect.{pin_refusal, unpin_refusal, unmap_refusal, exit_refusal}
+use Rattle.nm_model.specs.examples.{A, B, C, D, E, three_pages, attached_by_two, four_of_five, to, frame_at, told, one_process, wrote}
+
+-- while a page moves, a read of it is held, and others read and write; the frame that it leaves is not free yet
+abbrev pub while_one_moves : Ran
+while_one_moves =
+    batch four_of_five (to (A ∷ []) 1) ((0, Read 1 A 1) ∷ (0, Read 1 B 1) ∷ (0, Write 1 E (0x65 ∷ [])) ∷ [])
+
+-- the new page takes the frame after the one that was reserved
+abbrev pub OnlyTheMovingPageIsHeld : Type 0
+OnlyTheMovingPageIsHeld =
+    (told while_one_moves
+    ≡ record { answer = 0; statuses = pos 1 ∷ []; free = (0 ∷ []) ∷ (6 ∷ 7 ∷ []) ∷ []; moved = 1; failed = 0 })
+    × (while_one_moves.answers ≡ (Held ∷ Bytes (0x62 ∷ []) ∷ Done ∷ []) ∷ [])
+    × (map (frame_at while_one_moves.state 1) (A ∷ B ∷ C ∷ D ∷ E ∷ [])
+    ≡ Some 4 ∷ Some 1 ∷ Some 2 ∷ Some 3 ∷ Some 5 ∷ [])
+
+-- of three private pages the first was read, the second not touched, and the third written and pinned
+abbrev pub one_of_each : State
+one_of_each = pin (wrote (read (map_new one_process 1 A 3 false) 1 A 1).state 1 C 0x61) 1 C
+
+-- no area, the page of zeros, nothing yet, and a pin; but a pinned page may be on the target already
+abbrev pub EachHasItsStatus : Type 0
+EachHasItsStatus =
+    (told (batch one_of_each (to (0x50000 ∷ A ∷ B ∷ C ∷ []) 1) [])
+    ≡ record {
+      answer = 1;
+      statuses = code Efault ∷ code Efault ∷ code Enoent ∷ code Ebusy ∷ [];
+      free = (1 ∷ 2 ∷ 3 ∷ []) ∷ (4 ∷ 5 ∷ 6 ∷ 7 ∷ []) ∷ [];
+      moved = 0;
+      failed = 1;
+    })
+    × ((batch one_of_each (to (C ∷ []) 0) []).statuses ≡ pos 0 ∷ [])
+    × (map code (Efault ∷ Enoent ∷ Ebusy ∷ []) ≡ negsuc 13 ∷ negsuc 1 ∷ negsuc 15 ∷ [])
+
+-- a pinned page keeps its area
+abbrev pub pinned : State
+pinned = pin three_pages 1 B
+
+-- as long as it is pinned; a page without pins cannot be unpinned
+abbrev pub PinnedPageKeepsItsArea : Type 0
+PinnedPageKeepsItsArea =
+    (pin_refusal three_pages 1 B ≡ None) × (unmap_refusal pinned 1 A 3 ≡ Some Ebusy) × (unpin_refusal pinned 1 B ≡ None)
+    × (unpin pinned 1 B ≡ three_pages) × (unpin_refusal three_pages 1 B ≡ Some Einval)
+
+-- without its areas a process has no bytes, and no frames
+abbrev pub unmapped : State
+unmapped = unmap three_pages 1 A 3
+
+-- their frames are free in the order of their addresses
+abbrev pub UnmappedPagesAreFree : Type 0
+UnmappedPagesAreFree =
+    (unmap_refusal three_pages 1 A 3 ≡ None) × (unmapped.free ≡ (3 ∷ 0 ∷ 1 ∷ 2 ∷ []) ∷ (4 ∷ 5 ∷ 6 ∷ 7 ∷ []) ∷ [])
+    × ((read unmapped 1 A 1).answer ≡ Refused Efault) × (exit_refusal unmapped 1 ≡ None)
+    × ((read (exit unmapped 1) 1 A 1).answer ≡ Refused Esrch)
+
+-- a page lives as long as an area covers it, touched or not
+abbrev pub first_gone : State
+first_gone = exit attached_by_two 1
+
+-- the second process has not touched the page when the first is gone
+abbrev pub LastAreaFreesThePage : Type 0
+LastAreaFreesThePage =
+    (first_gone.free ≡ (1 ∷ 2 ∷ 3 ∷ []) ∷ (4 ∷ 5 ∷ 6 ∷ 7 ∷ []) ∷ [])
+    × ((read first_gone 2 0x20000 1).answer ≡ Bytes (0x61 ∷ []))
+    × ((exit (read first_gone 2 0x20000 1).state 2).free ≡ (1 ∷ 2 ∷ 3 ∷ 0 ∷ []) ∷ (4 ∷ 5 ∷ 6 ∷ 7 ∷ []) ∷ [])

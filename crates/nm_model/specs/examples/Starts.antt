@@ -1,0 +1,10 @@
+-- The starts of the worked examples.
+use Rattle.nm_model.specs.definitions.Sound.{IsSound}
+use Rattle.nm_model.specs.examples.{three_pages, two_addresses, six_pages, seven_pages, seen_by_two, attached_by_two, four_of_five, on_two_of_three}
+use Rattle.nm_model.specs.examples.Letting.{one_of_each}
+
+-- each is sound, so that no law is empty there
+abbrev pub StartsAreSound : Type 0
+StartsAreSound =
+    IsSound three_pages × IsSound two_addresses × IsSound six_pages × IsSound seven_pages × IsSound attached_by_two
+    × IsSound seen_by_two × IsSound four_of_five × IsSound on_two_of_three × IsSound one_of_each
