@@ -164,7 +164,7 @@ build_all nm_crew '' || status=$?
 grep -q 'nm_crew was not proved: crates/nm_crew/out/build.log says why' "$there/err" || fail "a build that fails says: $(cat "$there/err")"
 grep -q 'a goal is open' "$all/crates/nm_crew/out/build.log" || fail "the log of a crate does not say why"
 expect_kept "a build that fails loses what was kept"
-[ "$(count stamp)" = 15 ] || fail "a build that fails loses what was proved"
+[ "$(count stamp)" = 17 ] || fail "a build that fails loses what was proved"
 
 # One that is told to end ends soon, with what it had; and two do not work at a time.
 : > "$there/notes"

@@ -33,7 +33,8 @@ rounded_up n limit = n / limit + min 1 (n % limit)
 -- which grows by their number, and all of them are left
 abbrev pub FullNodeTakesNone : Type 0
 FullNodeTakesNone =
-    (limit : ℕ) (s : State) (node : ℕ) (wanted : List Wanted) → 0 < limit → 0 < length wanted → free_list s node ≡ [] → AllByRecursion (WouldMove s node) wanted →
+    (limit : ℕ) (s : State) (node : ℕ) (wanted : List Wanted) → 0 < limit → 0 < length wanted → free_list s node ≡ []
+    → AllByRecursion (WouldMove s node) wanted →
     let made = pass limit s node wanted in
     (made.state ≡ counted s 0 (length wanted)) × (without_frame wanted made.statuses ≡ wanted)
 

@@ -34,5 +34,6 @@ more_of_none m n p q = omega (arith, p, q)
 pub none_counted : (a : ℕ) → u64_saturate a ≡ u64_saturate (a + 0)
 none_counted a = omega arith
 
-pub more_counted : (a b c m n : ℕ) → u64_saturate b ≡ u64_saturate (a + m) → u64_saturate c ≡ u64_saturate (b + n) → u64_saturate c ≡ u64_saturate (a + (m + n))
+pub more_counted : (a b c m n : ℕ) → u64_saturate b ≡ u64_saturate (a + m) → u64_saturate c ≡ u64_saturate (b + n)
+    → u64_saturate c ≡ u64_saturate (a + (m + n))
 more_counted a b c m n p q = omega (arith, p, q)
