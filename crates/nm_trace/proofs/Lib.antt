@@ -1,4 +1,5 @@
 pub mod Each
+pub mod Sessions
 pub mod Utf8
 pub mod Texts
 pub mod Known

@@ -11,3 +11,4 @@ pub mod Flights
 pub mod Counts
 pub mod Watched
 pub mod Telling
+pub mod Session

@@ -1,6 +1,7 @@
 //! Laws of faults and reports. Each function does nothing, and its contract is the law.
 
 ghost use Rattle.nm_trace.specs.Laws.{FirstBadIsLeast, ThreePagesReport};
+ghost use Rattle.nm_trace.specs.Session.{SessionsReport, SessionsAreTraces};
 ghost use Rattle.nm_trace.specs.Flights.{AccessLineRows, FlightRows, ReadWhileItMoves};
 
 /// The fault that is reported for a list of steps is that of the first faulty one.
@@ -26,4 +27,11 @@ pub fn access_line_rows()
 /// The report on a page that is read while it moves.
 pub fn read_while_it_moves()
     ensures { ReadWhileItMoves }
+{}
+
+/// A session that is fed the steps of a trace one by one gives the trace's report, and its system is in the state of the
+/// trace's calls.
+pub fn sessions_report()
+    ensures fed { SessionsReport }
+    ensures traces { SessionsAreTraces }
 {}

@@ -67,7 +67,11 @@ fn write_blocks<W: TellingWriter, A: Allocator + Copy>(
 /// Makes the call of step k, and appends its lines to those that wait, even if it is refused. An error means that the
 /// host was out of memory for the call or for its lines: then none of its lines is there. What `text` holds before does
 /// not matter: the lines are put together there, so that each step uses the memory of the one before.
-fn make_step<R: Threads + Wait + Sync, A: Allocator + Copy + Send + Sync, G: Gate + Sync>(
+pub(crate) fn make_step<
+    R: Threads + Wait + Sync,
+    A: Allocator + Copy + Send + Sync,
+    G: Gate + Sync,
+>(
     rt: &R,
     alloc: A,
     system: &mut System<A>,

@@ -155,14 +155,17 @@ fn bad_machine(error: StepError) -> TraceError
 }
 
 /// The machine of a trace, or its fault.
-fn geometry_of<A: Allocator + Copy>(alloc: A, value: &Value<'_>) -> Result<Geometry<A>, TraceError>
+pub(crate) fn geometry_of<A: Allocator + Copy>(
+    alloc: A,
+    value: &Value<'_>,
+) -> Result<Geometry<A>, TraceError>
     ensures { Gives (λ g. g) result (ok_or (form.machine_of (view value.now)) BadMachine) }
 {
     machine_of(alloc, value).map_err(bad_machine)
 }
 
 /// The limit on runs of a trace, or its fault.
-fn run_limit_of(value: &Value<'_>) -> Result<usize, TraceError>
+pub(crate) fn run_limit_of(value: &Value<'_>) -> Result<usize, TraceError>
     ensures limit { Gives (λ n. n) result (ok_or (form.limit_of (view value.now)) BadMachine) }
     ensures bad { IfErr result (λ e. e ≡ BadMachine) }
     ensures some { IfOk result (λ n. 0 < n) }
@@ -202,7 +205,7 @@ fn trace_of<A: Allocator + Copy + Send + Sync>(
 }
 
 /// The tree that bytes are as JSON. Strings with escapes are written to `scratch`.
-fn value_of<'a>(
+pub(crate) fn value_of<'a>(
     heap: Global,
     bytes: &'a [u8],
     scratch: &'a mut Scratch,

@@ -1,0 +1,126 @@
+//! Traces that are played as their steps come.
+
+ghost use Rattle.std.specs.Prelude.{◌≡◌, ◌<◌, ◌≤◌};
+ghost use Rattle.nm_trace.specs.Session.{opened, IsCall, Steps};
+ghost use Rattle.nm_trace.specs.Tree.{view};
+ghost use Rattle.nm_trace.specs.Form as form;
+ghost use Rattle.nm_trace.specs.Faults.{Gives};
+
+use crate::parsing::step_of;
+use crate::playing::make_step;
+use crate::reading::{geometry_of, run_limit_of, value_of};
+use crate::step_error::StepError;
+use crate::trace_error::TraceError;
+use json::{Scratch, Value};
+use nm_calls::{Call, System};
+use nm_crew::Gate;
+use std::alloc::{Allocator, Global};
+use std::marker::Model;
+use std::sync::Wait;
+use std::thread::Threads;
+
+/// A system that plays a trace step by step, each as its bytes come. Contracts see the system, and how many steps were
+/// made.
+#[derive(Drop)]
+pub struct Session<A: Allocator + Copy + Send + Sync> {
+    system: System<A>,
+    run_limit: usize,
+    steps: usize,
+    alloc: A,
+}
+
+impl<A: Allocator + Copy + Send + Sync> Model for Session<A> {
+    ghost use Rattle.std.specs.Prelude.{◌≡◌, ◌<◌};
+    ghost use Rattle.nm_trace.specs.Session.{SessionState};
+
+    ghost Value = { SessionState };
+
+    ghost view = { λ s. record { system = s.system; steps = s.steps } };
+
+    ghost invariant = { λ s. (0 < s.run_limit) × (s.system.run_limit ≡ s.run_limit) };
+}
+
+/// The call that a value is as a step of this number, or its fault.
+fn call_of<A: Allocator + Copy + Send + Sync>(
+    alloc: A,
+    value: &Value<'_>,
+    limit: usize,
+    step: usize,
+) -> Result<Call<A>, TraceError>
+    requires { 0 < limit }
+    ensures { IsCall step result (form.step_of limit (view value.now)) }
+{
+    match step_of(alloc, value, limit) {
+        Ok(call) => Ok(call),
+        Err(StepError::Bad) => Err(TraceError::BadStep(step)),
+        Err(StepError::Memory) => Err(TraceError::HostMemory(step)),
+    }
+}
+
+impl<A: Allocator + Copy + Send + Sync> Session<A> {
+    /// Begins a session with the machine and the limit on runs that a trace's top names, with 1 to 64 workers: as
+    /// `read_trace` reads it, but `steps` is not looked at, and may be missing. `NotJson`, then `BadMachine`;
+    /// `HostMemory(0)` where the host refused memory.
+    #[tactic(auto, unfolding(crate::specs::Session::opened, crate::specs::Session::begun))]
+    pub fn open(alloc: A, heap: Global, bytes: &[u8], workers: usize) -> Result<Self, TraceError>
+        requires { (0 < workers) × (workers ≤ 64) }
+        ensures { Gives (λ s. s) result (opened bytes.now) }
+    {
+        let mut scratch = Scratch::new(heap);
+        let value = value_of(heap, bytes, &mut scratch)?;
+        let geometry = geometry_of(alloc, &value)?;
+        let run_limit = run_limit_of(&value)?;
+        let Ok(system) = System::with_run_limit(alloc, geometry, workers, run_limit) else {
+            return Err(TraceError::HostMemory(0));
+        };
+        Ok(Session {
+            system,
+            run_limit,
+            steps: 0,
+            alloc,
+        })
+    }
+
+    /// Makes the next step, which the bytes are as JSON, and returns its lines, numbered by the steps before it. A refused
+    /// call is a step with its line. `NotJson`, or `BadStep` with the step's number, where the bytes are no step: the session
+    /// is as it was. `HostMemory` with the step's number where the host refused memory: the step is not counted, but its call
+    /// may have been made in part, as the call says, or whole and without its lines. The workers pass the gate.
+    #[tactic(auto, unfolding(crate::specs::Session::asked))]
+    pub fn step<R: Threads + Wait + Sync, G: Gate + Sync>(
+        &mut self,
+        rt: &R,
+        heap: Global,
+        bytes: &[u8],
+        gate: &G,
+    ) -> Result<Vec<u8, A>, TraceError>
+        ensures { Steps (λ lines. lines.items) self.old self.new bytes.now result }
+    {
+        let step = self.steps;
+        if step == usize::MAX {
+            return Err(TraceError::HostMemory(step));
+        }
+        let mut scratch = Scratch::new(heap);
+        let value = match value_of(heap, bytes, &mut scratch) {
+            Ok(value) => value,
+            Err(TraceError::NotJson) => return Err(TraceError::NotJson),
+            Err(_) => return Err(TraceError::HostMemory(step)),
+        };
+        let call = call_of(self.alloc, &value, self.run_limit, step)?;
+        let mut text = String::new(self.alloc);
+        let mut lines = Vec::new(self.alloc);
+        let Ok(()) = make_step(
+            rt,
+            self.alloc,
+            &mut self.system,
+            step,
+            &call,
+            gate,
+            &mut text,
+            &mut lines,
+        ) else {
+            return Err(TraceError::HostMemory(step));
+        };
+        self.steps = step + 1;
+        Ok(lines)
+    }
+}
