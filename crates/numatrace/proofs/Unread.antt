@@ -1,5 +1,6 @@
 -- Where nothing was read and nothing written.
-use Rattle.std.proofs.Common.{◌≡◌, ℕ, List, [], ◌++◌, Option, Some, None, Result, Ok, Err, refl, sym}
+use Rattle.std.proofs.Common.{◌≡◌, ℕ, List, [], Option, Some, None, Result, Ok, Err, refl, sym, inl}
+use Rattle.clap.specs.Words.{Kinds}
 use Rattle.std.proofs.lemmas.List.{append-nil}
 use Rattle.std.specs.Io.KnownBytes.{Appends}
 use Rattle.nm_trace.specs.declared.trace_error.TraceError.{TraceError}
@@ -15,9 +16,9 @@ nothing : (trace : Result Plan TraceError) (old : Option (List ℕ)) → WritesF
 nothing (Ok plan) old = ([], report_of plan, refl, appends_none old)
 nothing (Err e) old = appends_none old
 
-leaves : (status : ℕ) (trace : Result Plan TraceError) (old : Option (List ℕ)) → (status ≡ 0 → ⊥) → Leaves status trace old old
-leaves status trace old h = (λ z. absurd (h z), nothing trace old)
+leaves : (status : ℕ) (refusals : Kinds) (trace : Result Plan TraceError) (old : Option (List ℕ)) → (status ≡ 0 → ⊥) → (status ≡ 2 → refusals ≡ [] → ⊥) → Leaves status refusals trace old old
+leaves status refusals trace old h two = (λ z. absurd (h z), λ z. inl (two z), nothing trace old)
 
-pub unread : (remaining old : Option (List ℕ)) (status : ℕ) → (status ≡ 0 → ⊥) → OfSomeBytes remaining (λ trace. Leaves status trace old old)
-unread None old status h = ([], tt, leaves status (trace_within []) old h)
-unread (Some xs) old status h = (xs, refl, leaves status (trace_within xs) old h)
+pub unread : (remaining old : Option (List ℕ)) (status : ℕ) (refusals : Kinds) → (status ≡ 0 → ⊥) → (status ≡ 2 → refusals ≡ [] → ⊥) → OfSomeBytes remaining (λ trace. Leaves status refusals trace old old)
+unread None old status refusals h two = ([], tt, leaves status refusals (trace_within []) old h two)
+unread (Some xs) old status refusals h two = (xs, refl, leaves status refusals (trace_within xs) old h two)

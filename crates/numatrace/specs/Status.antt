@@ -1,5 +1,5 @@
 -- Exit statuses.
-use Rattle.std.specs.Prelude.{◌≡◌, ◌⊎◌, ℕ, Bool, true, List, Option, Result, Ok}
+use Rattle.std.specs.Prelude.{◌≡◌, ◌≢◌, ◌⊎◌, ℕ, Bool, true, List, [], Option, Result, Ok, Err}
 use Rattle.std.specs.declared.io.ErrorKind.{ErrorKind}
 use Rattle.std.specs.declared.io.ErrorKind.TheVariants.{OutOfMemory}
 use Rattle.nm_trace.specs.declared.trace_error.TraceError.{TraceError}
@@ -8,6 +8,7 @@ use Rattle.nm_trace.specs.Faults.{Plan}
 use Rattle.std.specs.Io.KnownBytes.{Appends}
 use Rattle.nm_trace.specs.Played.{report_of, WritesFront}
 use Rattle.nm_trace.specs.Telling.{HasReadCause}
+use Rattle.clap.specs.Words.{Kinds}
 use Rattle.clap.specs.declared.error.kind.ErrorKind.{ErrorKind as ParseKind}
 use Rattle.clap.specs.declared.error.kind.ErrorKind.TheVariants as parse
 
@@ -38,9 +39,19 @@ IsStatus status = (status ≡ 0) ⊎ ((status ≡ 2) ⊎ ((status ≡ 3) ⊎ (st
 abbrev pub ReportsWhole : Result Plan TraceError → Option (List ℕ) → Option (List ℕ) → Type 0
 ReportsWhole trace old new = (plan : Plan) × (trace ≡ Ok plan) × Appends old new (report_of plan)
 
--- what was written is a front of the report, and after status 0 all of it
-abbrev pub Leaves : ℕ → Result Plan TraceError → Option (List ℕ) → Option (List ℕ) → Type 0
-Leaves status trace old new = (status ≡ 0 → ReportsWhole trace old new) × WritesFront trace old new
+-- the bytes are no trace
+abbrev pub IsBad : Result Plan TraceError → Type 0
+IsBad trace = (trace ≡ Err NotJson) ⊎ ((trace ≡ Err BadMachine) ⊎ ((k : ℕ) × (trace ≡ Err (BadStep k))))
+
+-- What was written is a front of the report, and after status 0 all of it; status 2 comes of words that are refused, or of bytes
+-- that are no trace.
+abbrev pub Leaves : ℕ → Kinds → Result Plan TraceError → Option (List ℕ) → Option (List ℕ) → Type 0
+Leaves status refusals trace old new =
+    (status ≡ 0 → ReportsWhole trace old new) × (status ≡ 2 → (refusals ≢ []) ⊎ IsBad trace) × WritesFront trace old new
+
+-- words that are refused end in status 2, or in 3 for want of memory
+abbrev pub Refuses : Kinds → ℕ → Type 0
+Refuses refusals status = (refusals ≡ []) ⊎ ((status ≡ 2) ⊎ (status ≡ 3))
 
 -- the reader has failed by now or gave more bytes than a trace has, or the writer has failed
 abbrev pub HasStreamCause : Bool → (ℕ → Type 0) → Bool → Type 0

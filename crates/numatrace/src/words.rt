@@ -1,12 +1,15 @@
 //! The program over any words, reader and writers.
 
-ghost use Rattle.std.specs.Prelude.{◌≡◌, ◌⊎◌, ◌<◌, ◌≤◌, [], IfOk};
+ghost use Rattle.std.specs.Prelude.{◌≡◌, ◌⊎◌, ◌<◌, ◌≤◌, [], IfOk, map, string_bytes};
 ghost use Rattle.std.specs.Io.KnownBytes.{Appends};
+ghost use Rattle.clap.specs.Words.{FailsBy};
 ghost use Rattle.nm_trace.specs.Faults.{OfSomeBytes};
-ghost use Rattle.numatrace.specs.Status.{status_of, words_status, refused_status, HasStreamCause, IsStatus, Leaves};
+ghost use Rattle.numatrace.specs.Status.{status_of, words_status, refused_status, HasStreamCause, IsStatus, Leaves, Refuses};
+ghost use Rattle.numatrace.specs.Words.{refusals_of, workers_asked, workers_of};
 
+use clap::builder::ValueParser;
 use clap::error::ErrorKind;
-use clap::{Arg, ArgAction, Command, Error, value_parser};
+use clap::{Arg, ArgAction, Command, Error};
 use nm_crew::OpenGate;
 use nm_trace::{TellingReader, TellingWriter, TraceError, run_trace};
 use std::alloc::{Allocator, Global};
@@ -43,7 +46,9 @@ const STATUSES: &str =
 
 /// How many workers the words ask for: 1 to 64 by `--workers`, and 4 if it is not given. Any other word is refused.
 pub(crate) fn read_words(heap: Global, words: &[String]) -> Result<usize, Error>
-    ensures { IfOk result (λ workers. (0 < workers) × (workers ≤ 64)) }
+    ensures within { IfOk result (λ workers. (0 < workers) × (workers ≤ 64)) }
+    ensures asked { IfOk result (λ workers. workers ≡ workers_asked (map string_bytes words.now)) }
+    ensures refused { FailsBy (refusals_of (map string_bytes words.now)) result }
 {
     let workers = Arg::new(heap, "workers")
         .long("workers")
@@ -51,16 +56,24 @@ pub(crate) fn read_words(heap: Global, words: &[String]) -> Result<usize, Error>
         .help("How many workers copy pages, 1 to 64: the report is the same")
         .default_value("4")
         .action(ArgAction::Set)
-        .value_parser(value_parser!(usize).range(1..=64));
+        .value_parser(ValueParser::unsigned(1, 64));
     let command = Command::new(heap, "numatrace")
         .version(VERSION)
         .about(ABOUT)
         .after_help(STATUSES)
         .arg(workers)?;
     let matches = command.try_get_matches_from(words)?;
-    match matches.get_one::<usize>("workers") {
-        Some(count) if count > 0 && count <= 64 => Ok(count),
-        _ => Ok(WORKERS),
+    Ok(workers_of(matches.get_one::<usize>("workers")))
+}
+
+/// How many workers copy where this number was read of the words: 4 where it is not from 1 to 64, or none was read.
+fn workers_of(count: Option<usize>) -> usize
+    ensures within { (0 < result) × (result ≤ 64) }
+    ensures number { result ≡ workers_of count }
+{
+    match count {
+        Some(count) if count > 0 && count <= 64 => count,
+        _ => WORKERS,
     }
 }
 
@@ -124,7 +137,8 @@ pub fn run_words<
 >(rt: &T, alloc: A, heap: Global, words: &[String], reader: &mut R, out: &mut W, err: &mut E) -> u8
     ensures status { IsStatus result }
     ensures reports { OfSomeBytes (R.remaining reader.old) (λ trace.
-        Leaves result trace (W.contents out.old) (W.contents out.new)) }
+        Leaves result (refusals_of (map string_bytes words.now)) trace (W.contents out.old) (W.contents out.new)) }
+    ensures refused { Refuses (refusals_of (map string_bytes words.now)) result }
     ensures streams { result ≡ 4 → HasStreamCause (R.has_failed reader.new) (R.gave reader.old reader.new) (W.has_failed out.new) }
     ensures bad { result ≡ 2 → Appends (W.contents out.old) (W.contents out.new) [] }
 {

@@ -1,12 +1,22 @@
-use Rattle.std.proofs.Common.{arith}
+use Rattle.std.proofs.Common.{◌∙◌, ap, map, arith}
+use Rattle.std.specs.Prelude.{string_bytes}
+use Rattle.numatrace.specs.Status.{refused_status}
+use Rattle.numatrace.specs.Words.{refusals_of}
+use Rattle.numatrace.proofs.Refused.{refused_two, reported}
 use Rattle.numatrace.proofs.Unread.{unread}
 use Rattle.numatrace.proofs.Streams.{neither, stream_cause}
 use Rattle.numatrace.proofs.words.run_words.Goals as goal
 
 pub returns-in-Err-clause-reports : goal.returns-in-Err-clause-reports
 returns-in-Err-clause-reports g c =
-    unread (g.R.Read.remaining c.args.reader.now) (g.W.Write.contents c.args.out.now) c.refused_words.result
+    unread (g.R.Read.remaining c.args.reader.now) (g.W.Write.contents c.args.out.now) c.refused_words.result (refusals_of (map string_bytes c.args.words.now))
     (λ z. neither c.refused_words.result 0 c.refused_words.ensures.either z (λ e. omega (arith, e)) (λ e. omega (arith, e)))
+    (refused_two c.in-Err.error _ c.refused_words.result (c.refused_words.ensures.status ∙ ap refused_status c.kind.ensures) c.in-Err.ensures.refused)
+
+pub returns-in-Err-run_trace-clause-reports : goal.returns-in-Err-run_trace-clause-reports
+returns-in-Err-run_trace-clause-reports g c =
+    reported (g.R.Read.remaining c.args.reader.now) (g.W.Write.contents c.args.out.now) (g.W.Write.contents c.run_trace.new.writer) (refusals_of (map string_bytes c.args.words.now)) c.in-Err-run_trace.fault c.status_of.result c.status_of.ensures
+    c.in-Err-run_trace.ensures.runs
 
 pub returns-in-Err-clause-streams : goal.returns-in-Err-clause-streams
 returns-in-Err-clause-streams g c = λ four.
