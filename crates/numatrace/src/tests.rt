@@ -1,14 +1,16 @@
 //! What no script can ask of the built program. `tests/hostile.py` asks the rest.
 
-use crate::words::{read_words, run_words, unread_words};
+use crate::words::{run_words, run_words_through, unread_words};
+use nm_crew::Gate;
 use nm_refusing::Refusing;
 use nm_trace::Watched;
 use std::alloc::{AllocError, Allocator, Global};
 use std::io;
 use std::io::{ErrorKind, Write};
 use std::sync::Wait;
+use std::sync::atomic::{AtomicU64, Ordering};
 use std::test::Fail;
-use std::thread::Threads;
+use std::thread::{Threads, yield_now};
 
 /// Three pages of one process, written on node 0, moved to node 1 and read there.
 const TRACE: &str =
@@ -144,27 +146,64 @@ fn fails_with_its_writer(rt: HostRuntime) -> Result<(), Fail> {
     Ok(())
 }
 
-/// Words that are taken, and how many workers they ask for. The report is the same.
-const ASKED: [(&str, usize); 7] = [
-    ("numatrace", 4),
+/// Holds each worker until all that are expected have come, for at most 2^24 turns.
+#[derive(Drop)]
+struct Comers {
+    /// Who came, and who is expected: a bit for each worker.
+    came: AtomicU64,
+    all: u64,
+}
+
+impl Gate for Comers {
+    fn pass(&self, worker: usize, _ticket: u64) {
+        if worker < 64 {
+            self.came.fetch_or(1 << worker, Ordering::SeqCst);
+        }
+        for _ in 0..1u64 << 24 {
+            if self.came.load(Ordering::SeqCst) & self.all == self.all {
+                return;
+            }
+            yield_now();
+        }
+    }
+}
+
+/// Words, and the workers that are to come, a bit for each: as many as the words ask for. There are three pages to copy.
+const ASKED: [(&str, u64); 3] = [
     ("numatrace --workers 1", 1),
-    ("numatrace --workers=2", 2),
-    ("numatrace --workers +4", 4),
-    ("numatrace --workers 04", 4),
-    ("numatrace --workers 64", 64),
-    ("numatrace --workers=064", 64),
+    ("numatrace --workers=2", 3),
+    ("numatrace --workers 3", 7),
 ];
 
-/// How many workers the words ask for.
-fn asked_by(global: Global, text: &str) -> Result<Option<usize>, AllocError> {
+/// Whether these workers came by the words, and no other.
+fn come(
+    rt: &(impl Threads + Wait + Sync),
+    global: Global,
+    text: &str,
+    all: u64,
+) -> Result<bool, AllocError> {
     let words = words_of(global, text)?;
-    Ok(read_words(global, words.as_slice()).ok())
+    let gate = Comers {
+        came: AtomicU64::new(0),
+        all,
+    };
+    let status = run_words_through(
+        rt,
+        global,
+        global,
+        words.as_slice(),
+        &mut TRACE.as_bytes(),
+        &mut Watched::new(Vec::new(global)),
+        &mut Vec::new(global),
+        &gate,
+    );
+    Ok(status == 0 && gate.came.load(Ordering::SeqCst) == all)
 }
 
 #[test]
-fn reads_how_many_workers(rt: HostRuntime) -> Result<(), Fail> {
-    for (text, asked) in ASKED {
-        assert!(rt; asked_by(rt.alloc(), text)? == Some(asked), "at {text}");
+fn as_many_workers_as_asked(rt: HostRuntime) -> Result<(), Fail> {
+    for (text, all) in ASKED {
+        assert!(rt; come(&rt, rt.alloc(), text, all)?, "at {text}");
     }
     Ok(())
 }

@@ -10,7 +10,7 @@ ghost use Rattle.numatrace.specs.Words.{refusals_of, workers_asked, workers_of};
 use clap::builder::ValueParser;
 use clap::error::ErrorKind;
 use clap::{Arg, ArgAction, Command, Error};
-use nm_crew::OpenGate;
+use nm_crew::{Gate, OpenGate};
 use nm_trace::{TellingReader, TellingWriter, TraceError, run_trace};
 use std::alloc::{Allocator, Global};
 use std::io;
@@ -142,6 +142,34 @@ pub fn run_words<
     ensures streams { result ≡ 4 → HasStreamCause (R.has_failed reader.new) (R.gave reader.old reader.new) (W.has_failed out.new) }
     ensures bad { result ≡ 2 → Appends (W.contents out.old) (W.contents out.new) [] }
 {
+    run_words_through(rt, alloc, heap, words, reader, out, err, &OpenGate)
+}
+
+/// The same, with workers that pass a gate.
+pub(crate) fn run_words_through<
+    T: Threads + Wait + Sync,
+    A: Allocator + Copy + Send + Sync,
+    R: TellingReader,
+    W: TellingWriter,
+    E: Write,
+    G: Gate + Sync,
+>(
+    rt: &T,
+    alloc: A,
+    heap: Global,
+    words: &[String],
+    reader: &mut R,
+    out: &mut W,
+    err: &mut E,
+    gate: &G,
+) -> u8
+    ensures status { IsStatus result }
+    ensures reports { OfSomeBytes (R.remaining reader.old) (λ trace.
+        Leaves result (refusals_of (map string_bytes words.now)) trace (W.contents out.old) (W.contents out.new)) }
+    ensures refused { Refuses (refusals_of (map string_bytes words.now)) result }
+    ensures streams { result ≡ 4 → HasStreamCause (R.has_failed reader.new) (R.gave reader.old reader.new) (W.has_failed out.new) }
+    ensures bad { result ≡ 2 → Appends (W.contents out.old) (W.contents out.new) [] }
+{
     let workers = match read_words(heap, words) {
         Ok(workers) => workers,
         Err(error) => {
@@ -149,7 +177,7 @@ pub fn run_words<
             return refused_words(error.kind());
         }
     };
-    match run_trace(rt, alloc, heap, reader, out, workers, &OpenGate) {
+    match run_trace(rt, alloc, heap, reader, out, workers, gate) {
         Ok(_) => DONE,
         Err(fault) => {
             let _ = writeln!(err, "numatrace: {fault}");

@@ -5,7 +5,7 @@ use Rattle.numatrace.specs.Words.{refusals_of}
 use Rattle.numatrace.proofs.Refused.{refused_two, reported}
 use Rattle.numatrace.proofs.Unread.{unread}
 use Rattle.numatrace.proofs.Streams.{neither, stream_cause}
-use Rattle.numatrace.proofs.words.run_words.Goals as goal
+use Rattle.numatrace.proofs.words.run_words_through.Goals as goal
 
 pub returns-in-Err-clause-reports : goal.returns-in-Err-clause-reports
 returns-in-Err-clause-reports g c =
