@@ -1,4 +1,4 @@
-"""What in a trace breaks the form that numatrace asks of it: every fault, with its place.
+"""What in a trace breaks the form that numatrace expects: every fault, with its place.
 
 The words of a fault begin as the program's own text does: `not JSON`, `bad machine` or `bad step k`. The keys of steps and
 their ranges are those of trace.schema.json. Nothing here is proved."""
@@ -10,10 +10,10 @@ from difflib import get_close_matches
 from itertools import groupby
 
 from .jsontext import Other, first_fault, line_and_column
-from .words import FLAGS, MODES, elements
+from .words import FLAGS, MODES, counted, elements
 
 HERE = os.path.dirname(os.path.abspath(__file__))
-# The schema stands in docs/ of the repository; a package that is installed holds a copy.
+# The schema is in docs/ of the repository; an installed package holds a copy.
 SCHEMAS = [os.path.join(HERE, "trace.schema.json"), os.path.join(HERE, "../../docs/trace.schema.json")]
 MOST_BYTES = 16777216
 MOST_FRAMES = 16384
@@ -22,8 +22,8 @@ TYPES = {"object": dict, "array": list, "string": str, "boolean": bool, "integer
 # Keys that a step, an access or the top may have for people and editors. The program ignores them as it does all others.
 FOR_PEOPLE = ("at", "note")
 
-# Where a fault is, as keys and numbers of elements from the top (or from its step) down; what is wrong there; and what may
-# have been meant, or None.
+# Where a fault is, as keys and indices from the top (or from its step) down; what is wrong there; and what may have been
+# meant, or None.
 Fault = namedtuple("Fault", "path text guess", defaults=(None,))
 
 
@@ -33,7 +33,7 @@ def under(front, faults, head=""):
 
 
 def name_of(path):
-    """A path as people write it: machine.nodes[1]."""
+    """A path as people write it, such as machine.nodes[1]."""
     return "".join(f"[{part}]" if isinstance(part, int) else f".{part}" for part in path).lstrip(".")
 
 
@@ -49,9 +49,9 @@ def shown(value):
 
 
 def wanted(schema):
-    """What a schema wants of a value itself."""
+    """What a schema expects of a value itself."""
     if schema["type"] == "integer":
-        return f"a whole number from {schema['minimum']:,} to {schema['maximum']:,}, in digits alone"
+        return f"a whole number from {schema['minimum']:,} to {schema['maximum']:,}, in digits only"
     if schema["type"] == "array":
         bounds = f" of at most {schema['maxItems']:,} elements" if "maxItems" in schema else ""
         return "a list" + bounds
@@ -61,7 +61,7 @@ def wanted(schema):
 
 
 def is_wanted(schema, value):
-    """Whether a value itself is what a schema wants; its parts are not looked at."""
+    """Whether a value itself is what a schema expects; its parts are not checked."""
     if type(value) is not TYPES[schema["type"]]:
         return False
     if schema["type"] == "integer":
@@ -120,9 +120,9 @@ class Form:
             name = name_of(path)
             if isinstance(value, list) and schema["type"] == "array":
                 most = "at least one" if not value else wanted(schema)
-                return [Fault(path, f"{name} has {elements(value)}: wanted is {most}")]
+                return [Fault(path, f"{name} has {elements(value)}: expected {most}")]
             guess = number_meant(path, value) if schema["type"] == "integer" else None
-            return [Fault(path, f"{name} is {shown(value)}: wanted is {wanted(schema)}", guess)]
+            return [Fault(path, f"{name} is {shown(value)}: expected {wanted(schema)}", guess)]
         if "items" in schema:
             item = self.resolved(schema["items"])
             if item.get("type") == "integer" and all(is_wanted(item, part) for part in value):
@@ -138,18 +138,18 @@ class Form:
                 found += self.faults(path + (key,), part, value[key])
             elif key in schema["required"]:
                 guess = close(key, [other for other in value if other not in schema["properties"]])
-                text = f"{name_of(path + (key,))} is missing: wanted is {wanted(self.resolved(part))}"
-                found.append(Fault(path, text, guess and f"{key}, and not {guess}"))
+                text = f"{name_of(path + (key,))} is missing: expected {wanted(self.resolved(part))}"
+                found.append(Fault(path, text, guess and f"{key} instead of {guess}"))
         return found
 
 
 def op_faults(path, ops, value):
-    """The fault of a value that is to be an object with one of these ops."""
+    """The fault of a value that must be an object with one of these ops."""
     if not isinstance(value, dict):
-        return [Fault(path, f"{name_of(path) or 'the step'} is {shown(value)}: wanted is an object")]
+        return [Fault(path, f"{name_of(path) or 'the step'} is {shown(value)}: expected an object")]
     if isinstance(value.get("op"), str) and value["op"] in ops:
         return []
-    name, one_of = name_of(path + ("op",)), f"wanted is one of {', '.join(ops)}"
+    name, one_of = name_of(path + ("op",)), f"expected one of {', '.join(ops)}"
     if "op" not in value:
         return [Fault(path, f"{name} is missing: {one_of}")]
     return [Fault(path + ("op",), f"{name} is {shown(value['op'])}: {one_of}", close(value["op"], ops))]
@@ -162,10 +162,10 @@ def row_faults(own, row, count):
     """The faults of a row of distances that are numbers."""
     path = ("machine", "distance", own)
     if len(row) != count:
-        return [Fault(path, f"{name_of(path)} has {elements(row)}: wanted is one for each of {count} nodes")]
+        return [Fault(path, f"{name_of(path)} has {elements(row)}: expected one for each of {count} nodes")]
     found = []
     for to, distance in enumerate(row):
-        told = f"{name_of(path)}[{to}] is {distance}: wanted is "
+        told = f"{name_of(path)}[{to}] is {distance}: expected "
         if own == to and distance != 10:
             found.append(Fault(path + (to,), told + "10, the distance of a node to itself"))
         if own != to and distance < 11:
@@ -177,10 +177,10 @@ def layout_faults(machine):
     """The faults of a machine that fits the schema."""
     nodes, rows, found = machine["nodes"], machine["distance"], []
     if sum(nodes) > MOST_FRAMES:
-        text = f"machine.nodes has {sum(nodes):,} frames together: wanted are at most {MOST_FRAMES:,}"
+        text = f"machine.nodes has {sum(nodes):,} frames in total: expected at most {MOST_FRAMES:,}"
         found.append(Fault(("machine", "nodes"), text))
     if len(rows) != len(nodes):
-        text = f"machine.distance has {len(rows)} rows: wanted is one for each of {len(nodes)} nodes"
+        text = f"machine.distance has {counted(len(rows), 'row')}: expected one for each of {len(nodes)} nodes"
         return [*found, Fault(("machine", "distance"), text)]
     return found + [fault for own, row in enumerate(rows) for fault in row_faults(own, row, len(rows))]
 
@@ -190,48 +190,48 @@ def version_faults(form, top):
     version, limit = (part["properties"] for part in form.top["oneOf"])
     schema = form.top["properties"]["version"]
     if "version" not in top:
-        return [Fault((), f"version is missing: wanted is {wanted(schema)}")]
+        return [Fault((), f"version is missing: expected {wanted(schema)}")]
     found = form.faults(("version",), schema, top["version"])
     if found or top["version"] == version["version"]["const"]:
         return found
     if "run_limit" not in top:
-        return [Fault((), f"run_limit is missing: wanted is {wanted(limit['run_limit'])}")]
+        return [Fault((), f"run_limit is missing: expected {wanted(limit['run_limit'])}")]
     return form.faults(("run_limit",), limit["run_limit"], top["run_limit"])
 
 
 def machine_faults(form, top):
-    """The faults of a top but for its steps."""
+    """The faults of the top level, except for its steps."""
     if not isinstance(top, dict):
-        return [Fault((), f"the top is {shown(top)}: wanted is an object")]
+        return [Fault((), f"the top level is {shown(top)}: expected an object")]
     found = version_faults(form, top)
     if "machine" not in top:
-        found.append(Fault((), "machine is missing: wanted is an object"))
+        found.append(Fault((), "machine is missing: expected an object"))
     else:
         found += form.faults(("machine",), form.top["properties"]["machine"], top["machine"]) or layout_faults(top["machine"])
     if not isinstance(top.get("steps"), list):
-        text = f"steps is {shown(top['steps']) if 'steps' in top else 'missing'}: wanted is a list"
+        text = f"steps is {shown(top['steps']) if 'steps' in top else 'missing'}: expected a list"
         found.append(Fault(("steps",) if "steps" in top else (), text))
     return found
 
 
 def run_count(nodes, limit):
-    """How many runs a batch has whose entries go to these nodes: each stretch of one node, cut where it is too long."""
+    """How many runs a batch has whose entries go to these nodes: one for each stretch of one node, which is cut where it is too long."""
     return sum(-(-sum(1 for _ in stretch) // limit) for _, stretch in groupby(nodes))
 
 
 def batch_faults(step, limit):
-    """The faults of a move_pages step that fits the schema, where a run has at most so many entries."""
+    """The faults of a move_pages step that fits the schema, where a run has at most `limit` entries."""
     if len(step["pages"]) != len(step["nodes"]):
-        text = f"nodes has {elements(step['nodes'])}: wanted are {len(step['pages']):,}, as many as pages has"
+        text = f"nodes has {elements(step['nodes'])}: expected {len(step['pages']):,}, as many as pages has"
         return [Fault(("nodes",), text)]
     runs = run_count(step["nodes"], limit)
     most = f"a number below {runs:,}, the number of runs" if runs else "no access, as the step has no run"
-    return [Fault(("during", j, "run"), f"during[{j}].run is {access['run']}: wanted is {most}")
+    return [Fault(("during", j, "run"), f"during[{j}].run is {access['run']}: expected {most}")
             for j, access in enumerate(step.get("during", [])) if access["run"] >= runs]
 
 
 def step_faults(form, step, limit):
-    """The faults of a step of a trace in which a run has at most so many entries."""
+    """The faults of a step of a trace in which a run has at most `limit` entries."""
     found = op_faults((), form.steps, step)
     if found:
         return found
@@ -281,7 +281,7 @@ def ignored_in_step(form, step):
 
 
 def ignored_keys(form, top):
-    """All keys of a trace that the program ignores, but for those that are meant for people."""
+    """All keys of a trace that the program ignores, except for those that are meant for people."""
     if not isinstance(top, dict):
         return []
     limit = ("run_limit",) if top.get("version") == 2 else ()
@@ -316,11 +316,11 @@ def strict_schema(schema):
     return made
 
 
-# ---- one line on a trace
+# ---- one line for a trace
 
 
 def verdict(data):
-    """The line on a trace of these bytes: its first fault, as the program looks for them, or `good`."""
+    """The line for a trace of these bytes: its first fault, in the order in which the program looks for them, or `good`."""
     if len(data) > MOST_BYTES:
         return f"read fault: the trace has more than {MOST_BYTES:,} bytes"
     top, text, fault = first_fault(data)

@@ -4,46 +4,46 @@ import re
 
 MOST_LEVELS = 127
 TOKENS = re.compile(r'"[^"\\]*(?:\\.[^"\\]*)*"|-?[0-9][0-9.eE+-]*|[\[\]{}]|-?Infinity|NaN', re.S)
-# The same with all that parts values, to find where each of them begins.
+# The same with everything that separates values, to find where each of them begins.
 PIECES = re.compile(r'"[^"\\]*(?:\\.[^"\\]*)*"|[\[\]{}:,]|[^\s\[\]{}:,"]+', re.S)
 SURROGATE = re.compile("[\ud800-\udfff]")
 
 
 class Other:
-    """A number of JSON that is not written in at most 20 digits alone, which no key takes, with its text."""
+    """A JSON number that is not written as at most 20 digits, which no key takes, with its text."""
 
     def __init__(self, text):
         self.text = text
 
 
 def integer(text):
-    """An integer of JSON. One of many digits is not turned into a number: Python takes long for it, or refuses."""
+    """A JSON integer. One with many digits is not converted: Python takes long for that, or refuses it."""
     return int(text) if text.isascii() and text.isdigit() and len(text) <= 20 else Other(text)
 
 
 def token_fault(token):
-    """What is no JSON in a token, where Python's reader would take it."""
+    """What is not JSON in a token that Python's reader would accept."""
     if token in ("NaN", "Infinity", "-Infinity"):
-        return token + " is no JSON"
+        return token + " is not JSON"
     try:
         if token[0] == '"' and "\\u" in token and SURROGATE.search(json.loads(token)):
             return "half of a surrogate pair"
         if token[0] in "-0123456789" and abs(float(token)) == float("inf"):
-            return "a number beyond those of 64-bit floating point"
+            return "a number outside the range of 64-bit floating point"
     except ValueError:
-        pass  # Python's reader tells of it.
+        pass  # Python's reader reports it.
     return None
 
 
 def strict_fault(text):
-    """The place of the first thing that Python's reader would take and that is no JSON here, and what it is."""
+    """The place of the first thing that Python's reader would accept although it is not JSON here, and what it is."""
     level = 0
     for match in TOKENS.finditer(text):
         token = match[0]
         level += (token in "[{") - (token in "]}")
         fault = token_fault(token)
         if level > MOST_LEVELS:
-            fault = "more than 127 levels"
+            fault = "more than 127 levels of nesting"
         if fault:
             return match.start(), fault
     return None
@@ -61,7 +61,7 @@ def first_fault(data):
         text = data.decode("utf-8")
     except UnicodeDecodeError as error:
         text = data[: error.start].decode("utf-8")
-        return None, text, (len(text), "no UTF-8")
+        return None, text, (len(text), "not UTF-8")
     faults = [found for found in [strict_fault(text)] if found]
     value = None
     try:
@@ -69,12 +69,12 @@ def first_fault(data):
     except json.JSONDecodeError as error:
         faults.append((error.pos, error.msg[0].lower() + error.msg[1:]))
     except RecursionError:
-        pass  # There are more than 127 levels, which strict_fault has told.
+        pass  # There are more than 127 levels, which strict_fault has reported.
     return value, text, min(faults, key=lambda found: found[0]) if faults else None
 
 
 def has_doubles(text):
-    """Whether a key stands twice in an object of a JSON text."""
+    """Whether a key occurs twice in an object of a JSON text."""
     found = []
 
     def pairs(items):
@@ -88,7 +88,7 @@ def has_doubles(text):
 
 
 def doubles(text):
-    """The keys that stand in an object before: each with its place."""
+    """The keys that have occurred before in their object, each with its place."""
     found, keys, wants_key = [], [], False
     for match in PIECES.finditer(text):
         token = match[0]
@@ -107,12 +107,12 @@ def doubles(text):
     return found
 
 
-# ---- where values stand
+# ---- where values are
 
 
 def places(text, wanted):
-    """Where values of a JSON text begin, and their keys where they have one, by their paths: keys and numbers of elements
-    from the top down. Of a key that stands twice the last one counts."""
+    """Where values of a JSON text begin, and their keys where they have one, by their paths: keys and indices from the
+    top down. Of a key that occurs twice the last one counts."""
     found, most, path, in_object, key = {}, max(map(len, wanted), default=0), [], [], None
     for match in PIECES.finditer(text):
         token = match[0]

@@ -77,11 +77,11 @@ class Calls(Case):
 
     def test_no_calls(self):
         m, p, a = self.three_pages()
-        for call, words in [(lambda: p.map(pages=-1), "map: pages is -1: wanted is"), (lambda: m.free("0"), 'free: node is "0": wanted is'),
-                            (lambda: m.move_pages(p, a, nodes=[1]), "move_pages: nodes has 1 element: wanted are 3"),
-                            (lambda: m.move_pages(p, a), "move_pages: nodes[0] is null: wanted is"),
-                            (lambda: Machine([4, 0]), "machine.nodes[1] is 0: wanted is"),
-                            (lambda: Machine([4, 4], distance=[[10]]), "machine.distance has 1 rows: wanted is")]:
+        for call, words in [(lambda: p.map(pages=-1), "map: pages is -1: expected"), (lambda: m.free("0"), 'free: node is "0": expected'),
+                            (lambda: m.move_pages(p, a, nodes=[1]), "move_pages: nodes has 1 element: expected 3"),
+                            (lambda: m.move_pages(p, a), "move_pages: nodes[0] is null: expected"),
+                            (lambda: Machine([4, 0]), "machine.nodes[1] is 0: expected"),
+                            (lambda: Machine([4, 4], distance=[[10]]), "machine.distance has 1 row: expected")]:
             with self.assertRaises(ValueError) as caught:
                 call()
             self.assertTrue(str(caught.exception).startswith(words), caught.exception)

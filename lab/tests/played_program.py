@@ -95,7 +95,7 @@ class Played(Case):
         for command in ("show", "picture"):
             status, out, err = run(command, bad)
             self.assertEqual((status, out), (2, ""))
-            self.assertTrue(err.startswith(f'numalab: {bad}: bad step 3: write: data is "6": wanted is'), err)
+            self.assertTrue(err.startswith(f'numalab: {bad}: bad step 3: write: data is "6": expected'), err)
 
     def test_long_trace(self):
         trace = self.written("long.json", long_trace())

@@ -19,7 +19,7 @@ from numalab.traces import Bad  # noqa: E402
 COMMAND = os.path.join(ROOT, "numalab")
 EXAMPLES = sorted(glob.glob(os.path.join(ROOT, "examples/*.json")))
 TRACES = EXAMPLES + sorted(glob.glob(os.path.join(ROOT, "tests/traces/*.json")))
-U32 = "wanted is a whole number from 0 to 4,294,967,295, in digits alone"
+U32 = "expected a whole number from 0 to 4,294,967,295, in digits only"
 
 
 def fail(words):

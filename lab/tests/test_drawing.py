@@ -76,11 +76,11 @@ BAD = [
     ("{\"version\":1}\n", "line 1: wanted is the line of step 0"),
     ("0 numa_maps 2\n00010000 default\n", "1 line of numa_maps is missing: the report was cut"),
     ("0 numa_maps 9\n00010000 default\n", "8 lines of numa_maps are missing: the report was cut"),
-    ("0 numa_maps x\n", "line 1: wanted is a number of areas"),
-    ("0 free 2: 1\n", "line 1: wanted is a list behind the count of its items"),
-    ("0 free 1:1\n", "line 1: wanted is a list behind the count of its items"),
-    ("0 free 1: 1 \n", "line 1: wanted is a list behind the count of its items"),
-    ("0 free ok\n", "line 1: wanted is a list behind the count of its items"),
+    ("0 numa_maps x\n", "line 1: expected a number of areas"),
+    ("0 free 2: 1\n", "line 1: expected a list behind the count of its items"),
+    ("0 free 1:1\n", "line 1: expected a list behind the count of its items"),
+    ("0 free 1: 1 \n", "line 1: expected a list behind the count of its items"),
+    ("0 free ok\n", "line 1: expected a list behind the count of its items"),
     ("0 free 1: 01\n", "line 1: 01 is no item of this list"),
     ("0 free 1: 16384\n", "line 1: 16384 is no item of this list"),
     ("0 free 1: zero\n", "line 1: zero is no item of this list"),
@@ -131,8 +131,8 @@ OTHER = [
     ("0 move_pages 0: 1\n0.0 read held\n1 vmstat x\n", FLIGHT + ',{"op":"vmstat"}', OTHERS),
     ("0 move_pages 0: 1\n1 vmstat x\n", FLIGHT + ',{"op":"vmstat"}', OTHERS),
     ("0 move_pages 0: 1\n0.0 read held\n", FLIGHT.replace("during", "later"), OTHERS),
-    ("0 free 0:\n", '{"op":"free"}', "TRACE: bad step 0: free: node is missing: wanted is a whole number from 0 to 4,294,967,295, "
-     "in digits alone"),
+    ("0 free 0:\n", '{"op":"free"}', "TRACE: bad step 0: free: node is missing: expected a whole number from 0 to 4,294,967,295, "
+     "in digits only"),
 ]
 
 
@@ -442,7 +442,7 @@ def check_command(there):
         file.write(b"0 spawn ok\n1 \xff\n")
     for words, line in [([bad, bad], "what comes of several files goes to a folder: -o FOLDER/"), (["-", "-"], "standard input can be named once"),
                         ([report, "--html"], f"{report}: a page with a slider wants the trace".replace("\n", "?")),
-                        ([bad], "line 1: wanted is a list behind the count of its items"),
+                        ([bad], "line 1: expected a list behind the count of its items"),
                         ([bytes_in_it], f"{bytes_in_it}: byte 13 is none of a report"),
                         ([other], f"{other}: No such file or directory".replace("\n", "?")),
                         ([report, trace], f"{trace}: not JSON: line 1, column 2: expecting property name enclosed in double quotes")]:

@@ -73,8 +73,8 @@ WRONG = [
     ("move_pages p 0[0:16385] to 1", [(4, 14, "0[0:16385] are 16,385 pages, and a batch has at most 16,384")]),
     ("mbind p A MPOL_BID 1", [(4, 11, "MPOL_BID is no mode: did you mean MPOL_BIND?")]),
     ("mbind p A[::2] MPOL_BIND 1", [(4, 9, "A[::2] has gaps, where pages side by side are wanted")]),
-    ("spawn q allowed 64", [(4, 1, "spawn: allowed[0] is 64: wanted is a whole number from 0 to 63, in digits alone")]),
-    ("move_pages p A[0] to 1 during\nrun 1 read p A\nend", [(4, 1, "move_pages: during[0].run is 1: wanted is a number below 1, the number of runs")]),
+    ("spawn q allowed 64", [(4, 1, "spawn: allowed[0] is 64: expected a whole number from 0 to 63, in digits only")]),
+    ("move_pages p A[0] to 1 during\nrun 1 read p A\nend", [(4, 1, "move_pages: during[0].run is 1: expected a number below 1, the number of runs")]),
     ("spawn p hom 1", [(4, 9, "hom is not wanted here: did you mean home?")]),
     ("spawn p home 0-1", [(4, 14, "0-1 are 2 nodes, where one is wanted")]),
     ("map p B 5K", [(4, 9, "5K is not whole pages of 4K")]),
@@ -126,11 +126,11 @@ class Notation(Case):
         self.assertEqual(top["steps"][2]["during"][0]["at"], "dir/x.nt:5")
 
     def test_other_files(self):
-        for data, fault in [(b"", (1, 1, "nodes is missing: wanted is a line as `nodes 2x4`")), (b"nodes 1\n\xff", (2, 1, "no UTF-8")),
+        for data, fault in [(b"", (1, 1, "nodes is missing: expected a line as `nodes 2x4`")), (b"nodes 1\n\xff", (2, 1, "no UTF-8")),
                             (b"look", (1, 1, "the nodes come first, as `nodes 2x4`")),
-                            (b"nodes 2x1\nvmstat\n\n", None), (b"run_limit 0\nnodes 1", (1, 1, "run_limit is 0: wanted is a whole number from 1 to 16,384, in digits alone")),
-                            (b"nodes 4, 0", (1, 1, "machine.nodes[1] is 0: wanted is a whole number from 1 to 16,384, in digits alone")),
-                            (b"nodes 2x4\n\ndistance 10 20 / 20 10 / 10", (3, 1, "machine.distance has 3 rows: wanted is one for each of 2 nodes")),
+                            (b"nodes 2x1\nvmstat\n\n", None), (b"run_limit 0\nnodes 1", (1, 1, "run_limit is 0: expected a whole number from 1 to 16,384, in digits only")),
+                            (b"nodes 4, 0", (1, 1, "machine.nodes[1] is 0: expected a whole number from 1 to 16,384, in digits only")),
+                            (b"nodes 2x4\n\ndistance 10 20 / 20 10 / 10", (3, 1, "machine.distance has 3 rows: expected one for each of 2 nodes")),
                             (b"nodes 65x1", (1, 7, "65x1 makes 65 nodes, where 1 to 64 are wanted"))]:
             self.assertEqual((translated(data, "x.nt")[1] or [None])[0], fault, data)
 

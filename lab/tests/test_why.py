@@ -15,18 +15,18 @@ BAD = """{"version":1,"machine":{"nodes":[4,0],"distance":[[10,20],[20,10]],"nod
 {"op":"mbind","caller":1,"addr":0,"len":0,"mode":"MPOL_BIN","nodes":[64],"flags":"MPOL_MF_MOVE|MPOL_MF_STRCT","at":"a.nt:7"},
 {"op":"move_pages","caller":1,"pid":0,"page":[0],"nodes":[0],"flags":2,"during":[{"op":"raed"}]}],"run_limit":1}
 """
-U32 = "wanted is a whole number from 0 to 4,294,967,295, in digits alone"
-U64 = "wanted is a whole number from 0 to 18,446,744,073,709,551,615, in digits alone"
+U32 = "expected a whole number from 0 to 4,294,967,295, in digits only"
+U64 = "expected a whole number from 0 to 18,446,744,073,709,551,615, in digits only"
 TOLD = [
-    "x.json:1:36: bad machine: machine.nodes[1] is 0: wanted is a whole number from 1 to 16,384, in digits alone",
-    "x.json:4:9: bad step 1: op is \"wirte\": wanted is one of " + ", ".join(Form().steps) + ": did you mean write?",
+    "x.json:1:36: bad machine: machine.nodes[1] is 0: expected a whole number from 1 to 16,384, in digits only",
+    "x.json:4:9: bad step 1: op is \"wirte\": expected one of " + ", ".join(Form().steps) + ": did you mean write?",
     f"x.json:5:28: bad step 2: map: addr is \"0x10000\": {U64}: did you mean 65536?",
     f"x.json:5:46: bad step 2: map: pages is -1: {U64}",
     f"a.nt:7: bad step 3: mbind: mode is \"MPOL_BIN\": {U32}: did you mean 2 (MPOL_BIND)?",
-    "a.nt:7: bad step 3: mbind: nodes[0] is 64: wanted is a whole number from 0 to 63, in digits alone",
+    "a.nt:7: bad step 3: mbind: nodes[0] is 64: expected a whole number from 0 to 63, in digits only",
     f"a.nt:7: bad step 3: mbind: flags is \"MPOL_MF_MOVE|MPOL_MF_STRCT\": {U32}: did you mean 3 (MPOL_MF_MOVE|MPOL_MF_STRICT)?",
-    "x.json:7:1: bad step 4: move_pages: pages is missing: wanted is a list of at most 16,384 elements: did you mean pages, and not page?",
-    "x.json:7:88: bad step 4: move_pages: during[0].op is \"raed\": wanted is one of read, write: did you mean read?",
+    "x.json:7:1: bad step 4: move_pages: pages is missing: expected a list of at most 16,384 elements: did you mean pages instead of page?",
+    "x.json:7:88: bad step 4: move_pages: during[0].op is \"raed\": expected one of read, write: did you mean read?",
     'x.json:7:99: warning: "run_limit" is an unknown key',
     'x.json:1:68: warning: "node" is an unknown key: did you mean nodes?',
     'x.json:3:58: warning: step 0: "priviledged" is an unknown key: did you mean privileged?',
@@ -99,10 +99,10 @@ class Why(Case):
 
     def test_streams(self):
         self.assertEqual(run("why", given="["), (2, "-:1:2: not JSON: expecting value\n", ""))
-        self.assertEqual(run("why", "-", given="[]"), (2, "-:1:1: bad machine: the top is a list: wanted is an object\n", ""))
+        self.assertEqual(run("why", "-", given="[]"), (2, "-:1:1: bad machine: the top level is a list: expected an object\n", ""))
         good, bad = EXAMPLES[0], self.written("bad.json", "7")
         self.assertEqual(run("why", "--no-hints", good, bad), (
-            2, f"{good}: good\n{bad}:1:1: bad machine: the top is 7: wanted is an object\n", ""))
+            2, f"{good}: good\n{bad}:1:1: bad machine: the top level is 7: expected an object\n", ""))
         self.assertEqual(run("why", "none", folder=self.there), (2, "", "numalab: none: No such file or directory\n"))
         self.assertEqual(run("why", "--sevre")[0], 2)
 
