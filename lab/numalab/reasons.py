@@ -1,4 +1,4 @@
-"""Why each answer is what it is: the plain model, which tells at each step which rule decided, and from what.
+"""Why each answer is what it is: the plain model, which says at each step which rule decided, and from what.
 
 The model is not the program, and nothing of it is proved: its reasons count only where its whole report is the program's."""
 from collections import namedtuple
@@ -11,7 +11,7 @@ ZERO = model.ZERO
 ORDINALS = ["first", "second", "third", "fourth", "fifth", "sixth", "seventh", "eighth"]
 MOST_NAMED = 4
 
-# What a reason is about: the step (None), an entry of its batch (its number), or an access in flight (its number, as text).
+# What a reason is about: the step (None), an entry of its batch (its index), or an access in flight (its index, as text).
 Reason = namedtuple("Reason", "about text")
 
 
@@ -30,7 +30,7 @@ class Explained(model.Machine):
 
     def __init__(self, trace, wordy=True):
         super().__init__(trace)
-        self.wordy = wordy  # whether statuses and accesses have words as well, and not refusals alone
+        self.wordy = wordy  # whether statuses and accesses have reasons as well, and not only refusals
         self.ended, self.seers, self.reasons, self.step = set(), None, [], None
         self.entry = self.flight = None
 
@@ -53,7 +53,7 @@ class Explained(model.Machine):
 
     def refused(self, about, step, error):
         found, text = refusal(self, step)
-        self.reasons.append(Reason(about, text if found == error else f"(by the words known here {found}: {text})"))
+        self.reasons.append(Reason(about, text if found == error else f"(the rules known here say {found}: {text})"))
 
     # ---- texts
 
@@ -66,7 +66,7 @@ class Explained(model.Machine):
     def order_text(self, process, policy, order):
         """The order in which nodes are asked for a frame."""
         why = {"default": f"home {process.home}", "local": f"home {process.home}"}.get(policy.kind, model.policy_text(policy))
-        return f"the order {' '.join(map(str, order))} ({why})" if order else f"no order of nodes ({why})"
+        return f"the order {' '.join(map(str, order))} ({why})" if order else f"no nodes to take from ({why})"
 
     def page_text(self, page):
         """A page by where it is seen first, and why it may stay."""
@@ -102,7 +102,7 @@ class Explained(model.Machine):
     # ---- memory
 
     def touch(self, process, area, number, write):
-        """Besides, tells what the touch meets."""
+        """Also says what the touch finds."""
         before = process.seen.get(number)
         if before not in (None, ZERO):
             page = super().touch(process, area, number, write)
@@ -114,7 +114,7 @@ class Explained(model.Machine):
         if page == ZERO:
             self.tell_access("the page of zeros: private memory that was never written")
         elif had and self.segments[area.segment].shared:
-            self.tell_access(f"page {page[1]} of segment {page[0]} was touched before: frame {self.place[page]}, on node {self.node(page)}")
+            self.tell_access(f"page {page[1]} of segment {page[0]} was touched before: it is in frame {self.place[page]}, on node {self.node(page)}")
         return page
 
     def take_frame(self, process, policy, page):
@@ -160,13 +160,13 @@ class Explained(model.Machine):
 
     def why_status(self, pid, number, target, status, frame, taken=0):
         """Why an entry that names a page number of a process has its status; the page was in that frame, if it had one, and its
-        run has taken so many frames."""
+        run has taken that many frames."""
         if status == -14 and self.processes[pid].area(number) is None:
-            return "no area is there"
+            return "no area covers this address"
         if status == -14:
-            return "the page of zeros: it was read, and never written"
+            return "the page of zeros: it was read but never written"
         if status == -2:
-            return "nothing was touched there"
+            return "nothing has been touched there"
         page = self.processes[pid].seen[number]
         if status == -13:
             others = sorted(self.sharers(page) - {pid})
@@ -176,7 +176,7 @@ class Explained(model.Machine):
         if status == -12:
             return f"node {target} has no free frame" + (f" left: its run took {counted(taken, 'frame')}" if taken else "")
         if self.place[page] == frame:
-            return f"it is there already, in frame {frame}"
+            return f"it is already there, in frame {frame}"
         return f"it moved from frame {frame} on node {self.owner[frame]} to frame {self.place[page]}, the front of node {target}'s list"
 
     def query(self, step):
@@ -204,7 +204,7 @@ class Explained(model.Machine):
         try:
             return super().offline(step)
         finally:
-            # Also where a page stays, and the call is refused, what has moved has moved.
+            # Even where a page stays and the call is refused, what has moved stays moved.
             for page in listed:
                 if self.place[page] != before[page]:
                     self.tell(None, f"page {page[1]} of segment {page[0]}: frame {before[page]} to frame {self.place[page]}, "
@@ -221,7 +221,7 @@ def explained(top, progress=None, wordy=True):
 
 
 def hints(top, progress=None):
-    """For each step that the model refuses, and each access in flight, its number, what it is and why."""
+    """For each step that the model refuses, and each such access in flight: the number, what it is about, and why."""
     for k, (lines, reasons) in enumerate(explained(top, progress, False)):
         if reasons:
             errors = {None: lines[0], **{line.split(" ")[0].split(".")[1]: line for line in lines[1:] if "." in line.split(" ")[0]}}

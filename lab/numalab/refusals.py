@@ -1,8 +1,8 @@
-"""Why a call is refused: the conditions of each call in the order in which they count, with words.
+"""Why a call is refused: the conditions of each call in the order in which they count, in words.
 
-Each function takes a machine of the plain model, in which a refused call has changed nothing, and the step. It gives the errors
-that the call may have, each with whether it is so and what there is to say; the first that is so decides. It may rely on those
-before it not being so. Nothing here is proved."""
+Each function takes a machine of the plain model, in which a refused call has changed nothing, and the step. It yields the errors
+that the call may have, each with whether its condition holds and what there is to say; the first that holds decides. Each may
+rely on those before it not holding. Nothing here is proved."""
 from .model import END, MODES as KINDS, MOST_ADDRESS, MOST_PINS, MOST_PROCESSES, MOST_SEGMENTS, MOVE, MOVE_ALL, STRICT, ZERO
 from .words import FLAGS, MODES, PAGE, counted, nodes_text
 
@@ -11,34 +11,34 @@ LAST = END * PAGE - 1
 
 def no_process(machine, pid, who="pid"):
     """That there is no such process."""
-    told = f"{who} 0 is no process" if pid == 0 else f"process {pid} has ended" if pid in machine.ended else f"{who} {pid} was never spawned"
+    told = f"{who} 0 is not a process" if pid == 0 else f"process {pid} has ended" if pid in machine.ended else f"{who} {pid} was never spawned"
     return "ESRCH", pid not in machine.processes, told
 
 
 def no_node(machine, node):
     most = len(machine.nodes) - 1
-    return "EINVAL", node not in machine.nodes, f"there is no node {node}: the machine has {'node 0 alone' if most == 0 else f'nodes 0 to {most}'}"
+    return "EINVAL", node not in machine.nodes, f"there is no node {node}: the machine has {'only node 0' if most == 0 else f'nodes 0 to {most}'}"
 
 
 def no_area(process, number):
-    return "EFAULT", process.area(number) is None, f"no area is over {number * PAGE:#x}"
+    return "EFAULT", process.area(number) is None, f"no area covers {number * PAGE:#x}"
 
 
 def whole_pages(step):
     address, pages = step["addr"], step["pages"]
     yield "EINVAL", address % PAGE != 0, f"{address:#x} is inside a page, which begins at {address // PAGE * PAGE:#x}"
-    yield "EINVAL", pages == 0, "no page is asked for"
-    yield "EINVAL", address // PAGE + pages > END, f"{counted(pages, 'page')} from {address:#x} on end past the last address, {LAST:#x}"
+    yield "EINVAL", pages == 0, "no pages are asked for"
+    yield "EINVAL", address // PAGE + pages > END, f"{counted(pages, 'page')} from {address:#x} end past the last address, {LAST:#x}"
 
 
 def spawn(machine, step):
     pid = step["pid"]
-    yield "EINVAL", pid == 0, "pid 0 stands for a caller, and is no process's"
-    yield "EINVAL", pid in machine.processes, f"process {pid} is alive"
+    yield "EINVAL", pid == 0, "pid 0 stands for the caller, and no process has it"
+    yield "EINVAL", pid in machine.processes, f"process {pid} is already alive"
     yield "EINVAL", not step["allowed"], "no node is allowed"
     for node in [step["home"], *step["allowed"]]:
         yield no_node(machine, node)
-    yield "ENOMEM", len(machine.processes) >= MOST_PROCESSES, f"{MOST_PROCESSES:,} processes are alive, and no more can be"
+    yield "ENOMEM", len(machine.processes) >= MOST_PROCESSES, f"{MOST_PROCESSES:,} processes are alive, which is the limit"
 
 
 def new_area(machine, step):
@@ -46,12 +46,12 @@ def new_area(machine, step):
     yield from whole_pages(step)
     first, end = step["addr"] // PAGE, step["addr"] // PAGE + step["pages"]
     for area in machine.processes[step["pid"]].areas:
-        yield "EINVAL", bool(area.part(first, end)), f"an area is there already, from {area.first * PAGE:#x} to {area.end * PAGE - 1:#x}"
+        yield "EINVAL", bool(area.part(first, end)), f"there is already an area, from {area.first * PAGE:#x} to {area.end * PAGE - 1:#x}"
 
 
 def map_(machine, step):
     yield from new_area(machine, step)
-    yield "ENOMEM", machine.segments_made >= MOST_SEGMENTS, f"{MOST_SEGMENTS:,} segments were made, and no more can be"
+    yield "ENOMEM", machine.segments_made >= MOST_SEGMENTS, f"{MOST_SEGMENTS:,} segments have been made, which is the limit"
 
 
 def attach(machine, step):
@@ -61,7 +61,7 @@ def attach(machine, step):
     yield "EINVAL", segment is None, f"segment {number} {'is gone: ' if number < machine.segments_made else ''}{gone}"
     yield "EINVAL", not segment.shared, f"segment {number} is private"
     end = step["offset"] + step["pages"]
-    yield "EINVAL", end > segment.pages, f"segment {number} has {counted(segment.pages, 'page')}, and the area would end behind page {end:,}"
+    yield "EINVAL", end > segment.pages, f"segment {number} has {counted(segment.pages, 'page')}, and the area would need {end:,}"
 
 
 def pinned(machine, process, first, end):
@@ -88,13 +88,13 @@ def page_to_pin(machine, step):
     process, number = machine.processes[step["pid"]], step["addr"] // PAGE
     yield no_area(process, number)
     page = process.seen.get(number)
-    yield "EFAULT", page == ZERO, f"{number * PAGE:#x} is the page of zeros: it was read, and never written"
-    yield "ENOENT", page is None, f"nothing was touched at {number * PAGE:#x}"
+    yield "EFAULT", page == ZERO, f"{number * PAGE:#x} is the page of zeros: it was read but never written"
+    yield "ENOENT", page is None, f"nothing has been touched at {number * PAGE:#x}"
 
 
 def pin(machine, step):
     yield from page_to_pin(machine, step)
-    yield "EBUSY", True, f"the page has {MOST_PINS:,} pins, and no more can be"
+    yield "EBUSY", True, f"the page has {MOST_PINS:,} pins, which is the limit"
 
 
 def unpin(machine, step):
@@ -106,14 +106,14 @@ def access(machine, step):
     yield no_process(machine, step["pid"])
     process, (number, offset) = machine.processes[step["pid"]], divmod(step["addr"], PAGE)
     length = step["len"] if step["op"] == "read" else len(step["data"]) // 2
-    yield "EINVAL", length == 0, "no byte is asked for"
-    crosses = f"the {step['op']} crosses a page: {counted(length, 'byte')} from {step['addr']:#x} on, and the page ends at {number * PAGE + PAGE - 1:#x}"
+    yield "EINVAL", length == 0, "no bytes are asked for"
+    crosses = f"the {step['op']} crosses a page: {counted(length, 'byte')} from {step['addr']:#x}, and the page ends at {number * PAGE + PAGE - 1:#x}"
     yield "EINVAL", offset + length > PAGE, crosses
     yield no_area(process, number)
     area = process.area(number)
     order = machine.order(process, area.policy, area.page(number)[1])
     asked = machine.order_text(process, area.policy, order)
-    yield "ENOMEM", True, f"no node in {asked} has a free frame" if order else f"{asked}: none that may be taken from is online"
+    yield "ENOMEM", True, f"no node in {asked} has a free frame" if order else f"{asked}: none that may be used is online"
 
 
 def rights(machine, step):
@@ -122,20 +122,20 @@ def rights(machine, step):
     yield no_process(machine, pid)
     owner = machine.processes[pid]
     yield ("EPERM", owner.user != caller.user and not caller.privileged,
-           f"process {pid} is user {owner.user}'s, and the caller is user {caller.user}'s and not privileged")
+           f"process {pid} belongs to user {owner.user}, and the caller belongs to user {caller.user} and is not privileged")
 
 
 def unprivileged(machine, step):
     not_allowed = step["flags"] & MOVE_ALL and not machine.processes[step["caller"]].privileged
-    return "EPERM", bool(not_allowed), f"{FLAGS[MOVE_ALL]} is for privileged callers, which process {step['caller']} is not"
+    return "EPERM", bool(not_allowed), f"{FLAGS[MOVE_ALL]} is only for privileged callers, and process {step['caller']} is not one"
 
 
 def query(machine, step):
     yield no_process(machine, step["caller"], "caller")
     flags = step["flags"]
-    known = f"{MOVE} ({FLAGS[MOVE]}) and {MOVE_ALL} ({FLAGS[MOVE_ALL]}) are known here"
-    yield "EINVAL", bool(flags & ~(MOVE | MOVE_ALL | STRICT)), f"flags {flags}: {known}"
-    yield "EINVAL", bool(flags & STRICT), f"flag {STRICT} ({FLAGS[STRICT]}) is for mbind"
+    known = f"{MOVE} ({FLAGS[MOVE]}) and {MOVE_ALL} ({FLAGS[MOVE_ALL]}) are known"
+    yield "EINVAL", bool(flags & ~(MOVE | MOVE_ALL | STRICT)), f"flags {flags}: only {known}"
+    yield "EINVAL", bool(flags & STRICT), f"flag {STRICT} ({FLAGS[STRICT]}) is only for mbind"
     yield unprivileged(machine, step)
     yield from rights(machine, step)
 
@@ -145,8 +145,8 @@ def move_pages(machine, step):
     pid = step["pid"] or step["caller"]
     allowed = machine.processes[pid].allowed
     for place, node in enumerate(step["nodes"]):
-        absent = "offline" if node in machine.nodes else f"none of the {counted(len(machine.nodes), 'node')}"
-        yield "ENODEV", node not in machine.online, f"entry {place}: node {node} is {absent}"
+        absent = f"node {node} is offline" if node in machine.nodes else no_node(machine, node)[2]
+        yield "ENODEV", node not in machine.online, f"entry {place}: {absent}"
         yield "EACCES", node not in allowed, f"entry {place}: process {pid} may not use node {node} (it may use {nodes_text(sorted(allowed))})"
 
 
@@ -158,24 +158,25 @@ def migrate_pages(machine, step):
     caller, pid = machine.processes[step["caller"]], step["pid"] or step["caller"]
     allowed = machine.processes[pid].allowed
     others = sorted(set(step["new"]) - allowed)
+    which = f"node{'s' if len(others) > 1 else ''} {nodes_text(others)}"
     yield ("EPERM", bool(others) and not caller.privileged,
-           f"process {pid} may not use {nodes_text(others)} (it may use {nodes_text(sorted(allowed))}), and the caller is not privileged")
-    yield "EINVAL", True, f"of the new nodes {nodes_text(sorted(set(step['new'])))} none is online and allowed to process {pid}"
+           f"process {pid} may not use {which} (it may use {nodes_text(sorted(allowed))}), and the caller is not privileged")
+    yield "EINVAL", True, f"none of the new nodes ({nodes_text(sorted(set(step['new'])))}) is online and allowed for process {pid}"
 
 
 def policy(machine, step):
     """The refusals of the policy that mbind asks for."""
     flags, mode, nodes = step["flags"], step["mode"], step["nodes"]
     process = machine.processes[step["caller"]]
-    yield "EINVAL", flags > STRICT | MOVE | MOVE_ALL, f"flags {flags}: 1, 2 and 4 are known"
-    yield "EINVAL", mode >= len(MODES), f"mode {mode}: 0 to {len(MODES) - 1} are known"
+    yield "EINVAL", flags > STRICT | MOVE | MOVE_ALL, f"flags {flags}: only 1, 2 and 4 are known"
+    yield "EINVAL", mode >= len(MODES), f"mode {mode}: only 0 to {len(MODES) - 1} are known"
     kind = KINDS[mode]
     yield "EINVAL", bool(nodes) and kind in ("default", "local"), f"{MODES[mode]} takes no nodes"
-    yield "EINVAL", not nodes and kind in ("bind", "interleave"), f"{MODES[mode]} wants nodes"
+    yield "EINVAL", not nodes and kind in ("bind", "interleave"), f"{MODES[mode]} needs nodes"
     for node in nodes:
         yield no_node(machine, node)
     kept = machine.usable(nodes, process)
-    yield "EINVAL", bool(nodes) and not kept, f"of the nodes {nodes_text(sorted(set(nodes)))} none is online and allowed to process {step['caller']}"
+    yield "EINVAL", bool(nodes) and not kept, f"none of the nodes ({nodes_text(sorted(set(nodes)))}) is online and allowed for process {step['caller']}"
     yield unprivileged(machine, step)
 
 
@@ -185,12 +186,12 @@ def mbind(machine, step):
     process, address = machine.processes[step["caller"]], step["addr"]
     first, end = address // PAGE, (address + step["len"] + PAGE - 1) // PAGE
     yield "EINVAL", address % PAGE != 0, f"{address:#x} is inside a page, which begins at {address // PAGE * PAGE:#x}"
-    yield "EINVAL", end * PAGE > MOST_ADDRESS, f"{step['len']:,} bytes from {address:#x} on end past 2^64 - 1"
+    yield "EINVAL", end * PAGE > MOST_ADDRESS, f"{step['len']:,} bytes from {address:#x} end past 2^64 - 1"
     hole = first_hole(process, first, end)
-    yield "EFAULT", hole is not None, f"no area is over {(hole or 0) * PAGE:#x}"
+    yield "EFAULT", hole is not None, f"no area covers {(hole or 0) * PAGE:#x}"
     strays = machine.strays(step, first, end)
     late = " after the moves" if step["flags"] & (MOVE | MOVE_ALL) else ""
-    yield "EIO", bool(strays), f"{FLAGS[STRICT]}: {machine.asked_text(step)} wants other nodes{late}; " + machine.some(
+    yield "EIO", bool(strays), f"{FLAGS[STRICT]}: not all pages follow {machine.asked_text(step)}{late}: " + machine.some(
         strays, lambda stray: f"{stray[0] * PAGE:#x} is on node {machine.node(stray[1])}")
 
 
@@ -226,8 +227,8 @@ REFUSALS = {
 
 
 def refusal(machine, step):
-    """The error of a refused call and why it is so; or None and that nobody knows."""
+    """The error of a refused call, and why; or None, and that the reason is not known."""
     for error, is_so, text in REFUSALS[step["op"]](machine, step):
         if is_so:
             return error, text
-    return None, "no rule that is known here refuses this"
+    return None, "no rule known here refuses this"

@@ -18,11 +18,11 @@ ROWS = """     0  spawn 1 uid 100 home 0 allowed all                    ok
            because: the page of zeros: private memory that was never written
      6  move_pages 1 7 entries flags MPOL_MF_MOVE             1 failed
           0x50000 to node 1                                   -14 EFAULT
-           because: no area is there
+           because: no area covers this address
           0x14000 to node 1                                   -2 ENOENT
-           because: nothing was touched there
+           because: nothing has been touched there
           0x13000 to node 1                                   -14 EFAULT
-           because: the page of zeros: it was read, and never written
+           because: the page of zeros: it was read but never written
           0x10000 to node 1                                   1
            because: it moved from frame 0 on node 0 to frame 4, the front of node 1's list
           0x11000 to node 1                                   1
@@ -30,7 +30,7 @@ ROWS = """     0  spawn 1 uid 100 home 0 allowed all                    ok
           0x12000 to node 1                                   -12 ENOMEM
            because: node 1 has no free frame left: its run took 2 frames
           0x10000 to node 1                                   1
-           because: it is there already, in frame 4
+           because: it is already there, in frame 4
      7  pagemap 1                                             4 entries
           0x10000..0x11000 (2 pages)                          frames 4..5 on node 1
           0x12000                                             frame 2 on node 0
@@ -39,15 +39,15 @@ ROWS = """     0  spawn 1 uid 100 home 0 allowed all                    ok
      9  free 1                                                0 free frames
 """
 
-# Statements behind a machine of [2, 2, 2], the step that is asked about, and its reasons with what they are about.
+# Statements after a machine of [2, 2, 2], the step that is asked about, and its reasons with what they are about.
 HEAD = "nodes 3x2\ndistance 10 20 30\ndistance 20 10 20\ndistance 30 20 10\nspawn p\nspawn q home 2 privileged\nmap p A 6\nmap p S 2 shared\nattach q T of S\n"
 REASONS = [
     ("write p A 61", 9, [(None, "a new page, frame 4: node 2, third in the order 0 1 2 (home 0); 0 and 1 are full")]),
     ("mbind p A MPOL_INTERLEAVE 0,2\nwrite p A[1] 61", 6, [(None, "a new page, frame 4: node 2, first in the order 2 1 0 (interleave:0,2)")]),
-    ("read p S[1]\nread q T[1]", 6, [(None, "page 1 of segment 1 was touched before: frame 0, on node 0")]),
+    ("read p S[1]\nread q T[1]", 6, [(None, "page 1 of segment 1 was touched before: it is in frame 0, on node 0")]),
     ("read p S[0]\nread q T[0]\nmove_pages p S[0] to 1", 7, [(0, "process 2 sees it too")]),
     ("write p A[0] 61\npin p A[0]\npin p A[0]\nmove_pages p A[0] to 1", 8, [(0, "it has 2 pins")]),
-    ("write p A[0] 61\nquery p A[0:2]", 6, [(0, "it is in frame 0"), (1, "nothing was touched there")]),
+    ("write p A[0] 61\nquery p A[0:2]", 6, [(0, "it is in frame 0"), (1, "nothing has been touched there")]),
     ("write p A[0] 61\nmove_pages p A[0] to 2 during\nread p A[0]\nread p A[1]\nwrite p A[2] 61\nend", 6, [
         (0, "it moved from frame 0 on node 0 to frame 4, the front of node 2's list"), ("0", "its run moves the page from frame 0 to 4"),
         ("1", "the page of zeros: private memory that was never written"),
@@ -57,7 +57,7 @@ REASONS = [
     ("write p A[0:2] 61\npin p A[0]\nmbind p A MPOL_BIND 2 flags MPOL_MF_MOVE|MPOL_MF_STRICT", 8, [
         (None, "0x10000 to 2: -16 EBUSY: it has 1 pin"),
         (None, "0x11000 to 2: 2: it moved from frame 1 on node 0 to frame 4, the front of node 2's list"),
-        (None, "MPOL_MF_STRICT: bind:2 wants other nodes after the moves; 0x10000 is on node 0")]),
+        (None, "MPOL_MF_STRICT: not all pages follow bind:2 after the moves: 0x10000 is on node 0")]),
     ("write p A[0:2] 61\npin p A[1]\noffline 0", 8, [
         (None, "page 0 of segment 0: frame 0 to frame 2, on node 1"), (None, "1 page of node 0 stays: 0x11000 of process 1 is pinned")]),
 ]
@@ -73,7 +73,7 @@ OBJECTS = [
 
 
 class Show(Case):
-    """With the report beside the trace, so that no program is wanted."""
+    """With the report beside the trace, so that no program is needed."""
 
     def test_rows(self):
         name = f"{ROOT}/examples/why_not_moved"
@@ -136,7 +136,7 @@ class Show(Case):
 
 
 class Reasons(unittest.TestCase):
-    """Which rule decided, by hand, and for each answer of drawn traces."""
+    """Which rule decided: some by hand, and one for each answer of drawn traces."""
 
     def test_by_hand(self):
         from numalab.translate import translated
@@ -156,23 +156,23 @@ class Reasons(unittest.TestCase):
                 check_told(self, step, lines, reasons)
 
 
-# How the reason of each status begins or ends.
-WORDS = {-14: ("no area is there", "the page of zeros"), -2: ("nothing was touched there",), -13: ("process",), -16: ("it has",),
-         -12: ("node",), None: ("it moved from frame", "it is there already", "it is in frame")}
+# How the reason for each status begins or ends.
+WORDS = {-14: ("no area covers this address", "the page of zeros"), -2: ("nothing has been touched there",), -13: ("process",), -16: ("it has",),
+         -12: ("node",), None: ("it moved from frame", "it is already there", "it is in frame")}
 ENDS = {-13: ("it too",), -16: ("pin", "pins"), -12: ("no free frame", "frame", "frames")}
 
 
 def check_status(case, status, text):
-    """The reason of a status speaks of it, and of no other."""
+    """The reason for a status is about it, and about no other."""
     case.assertTrue(text.startswith(WORDS[status if status < 0 else None]), (status, text))
     case.assertTrue(text.endswith(ENDS.get(status, "")), (status, text))
 
 
 def check_told(case, step, lines, reasons):
-    """Each status, access and refusal has its reason, which does not speak of another error."""
+    """Each status, access and refusal has its reason, which is not about another error."""
     answer = lines[0].split(" ", 2)[2]
     about = [reason.about for reason in reasons]
-    case.assertFalse([reason for reason in reasons if "known here " in reason.text and reason.text.startswith("(by")], (step, lines))
+    case.assertFalse([reason for reason in reasons if reason.text.startswith("(the rules known here")], (step, lines))
     if answer.startswith("error "):
         case.assertEqual(about.count(None) > 0, True, (step, lines))
     elif step["op"] in ("move_pages", "query"):

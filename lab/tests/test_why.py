@@ -36,26 +36,26 @@ HEAD = "nodes 2x4\nspawn p uid 100 allowed 0\nspawn q uid 200\nmap p A 4\nmap p 
 HINTS = [
     ("read 3 A", "read is refused, ESRCH: pid 3 was never spawned"),
     ("exit q\npagemap q", "pagemap is refused, ESRCH: process 2 has ended"),
-    ('write p A[0]+4095 "ab"', "write is refused, EINVAL: the write crosses a page: 2 bytes from 0x10fff on, and the page ends at 0x10fff"),
-    ("read q A[0]", "read is refused, EFAULT: no area is over 0x10000"),
-    ("move_pages p A[0] to 0 flags MPOL_MF_STRICT", "move_pages is refused, EINVAL: flag 1 (MPOL_MF_STRICT) is for mbind"),
+    ('write p A[0]+4095 "ab"', "write is refused, EINVAL: the write crosses a page: 2 bytes from 0x10fff, and the page ends at 0x10fff"),
+    ("read q A[0]", "read is refused, EFAULT: no area covers 0x10000"),
+    ("move_pages p A[0] to 0 flags MPOL_MF_STRICT", "move_pages is refused, EINVAL: flag 1 (MPOL_MF_STRICT) is only for mbind"),
     ("move_pages p A[0] to 1", "move_pages is refused, EACCES: entry 0: process 1 may not use node 1 (it may use 0)"),
     ("offline 1\nmove_pages q S[0] to 1", "move_pages is refused, ENODEV: entry 0: node 1 is offline"),
-    ("move_pages q of p A[0] to 0", "move_pages is refused, EPERM: process 1 is user 100's, and the caller is user 200's and not privileged"),
-    ("migrate_pages p from 0 to 1", "migrate_pages is refused, EPERM: process 1 may not use 1 (it may use 0), and the caller is not privileged"),
-    ("mbind p A MPOL_BIND", "mbind is refused, EINVAL: MPOL_BIND wants nodes"),
-    ("mbind p A MPOL_BIND 1", "mbind is refused, EINVAL: of the nodes 1 none is online and allowed to process 1"),
-    ("mbind p 0x10000[0:5] MPOL_LOCAL", "mbind is refused, EFAULT: no area is over 0x14000"),
+    ("move_pages q of p A[0] to 0", "move_pages is refused, EPERM: process 1 belongs to user 100, and the caller belongs to user 200 and is not privileged"),
+    ("migrate_pages p from 0 to 1", "migrate_pages is refused, EPERM: process 1 may not use node 1 (it may use 0), and the caller is not privileged"),
+    ("mbind p A MPOL_BIND", "mbind is refused, EINVAL: MPOL_BIND needs nodes"),
+    ("mbind p A MPOL_BIND 1", "mbind is refused, EINVAL: none of the nodes (1) is online and allowed for process 1"),
+    ("mbind p 0x10000[0:5] MPOL_LOCAL", "mbind is refused, EFAULT: no area covers 0x14000"),
     ("attach q B segment 0", "attach is refused, EINVAL: segment 0 is private"),
-    ("attach q B segment 1 offset 1 pages 2", "attach is refused, EINVAL: segment 1 has 2 pages, and the area would end behind page 3"),
+    ("attach q B segment 1 offset 1 pages 2", "attach is refused, EINVAL: segment 1 has 2 pages, and the area would need 3"),
     ("attach q B segment 7", "attach is refused, EINVAL: segment 7 was never made"),
     ("unmap p S\nattach q B segment 1", "attach is refused, EINVAL: segment 1 is gone: no area shows it any more"),
-    ("map p B 1 at 0x11000", "map is refused, EINVAL: an area is there already, from 0x10000 to 0x13fff"),
+    ("map p B 1 at 0x11000", "map is refused, EINVAL: there is already an area, from 0x10000 to 0x13fff"),
     ("write p A[1] 61\npin p A[1]\nunmap p A", "unmap is refused, EBUSY: the page at 0x11000 is pinned"),
-    ("pin p A[0]", "pin is refused, ENOENT: nothing was touched at 0x10000"),
+    ("pin p A[0]", "pin is refused, ENOENT: nothing has been touched at 0x10000"),
     ("offline 0\noffline 1", "offline is refused, EBUSY: node 1 is the only one online"),
     ("mbind p A MPOL_BIND 0\noffline 0\nwrite p A[0] 61",
-     "write is refused, ENOMEM: no order of nodes (bind:0): none that may be taken from is online"),
+     "write is refused, ENOMEM: no nodes to take from (bind:0): none that may be used is online"),
     ("write p A[0] 61\nmove_pages p A[0] to 0 during\nread 9 A[0]\nend", "access 0 in flight is refused, ESRCH: pid 9 was never spawned"),
 ]
 
@@ -125,7 +125,7 @@ class Why(Case):
 
 
 class Schema(unittest.TestCase):
-    """The strict schema: the traces of the repository fit it, but for those that have unknown keys."""
+    """The strict schema: the traces of the repository fit it, except for those that have unknown keys."""
 
     def test_strict_schema(self):
         checker, strict = loaded("tests/schema.py"), strict_schema(Form().top)
