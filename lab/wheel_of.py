@@ -1,6 +1,6 @@
 """Makes the wheel that `pip install ./lab` asks for, with the standard library alone, so that it needs no network.
 
-What stands in pyproject.toml stands here as well, since Python has no reader of that form before 3.11; the tests compare both."""
+What is in pyproject.toml is here as well, since Python has no TOML reader before 3.11; the tests compare both."""
 import base64
 import hashlib
 import os
@@ -16,7 +16,7 @@ COMMANDS = "[console_scripts]\nnumalab = numalab.cli:main\n"
 
 
 def files_of_package():
-    """Each file of the package by its name in the wheel, and the schema of traces, which stands in docs/."""
+    """Each file of the package by its name in the wheel, and the schema of traces, which is in docs/."""
     with open(os.path.join(HERE, "../docs/trace.schema.json"), "rb") as file:
         yield f"{NAME}/trace.schema.json", file.read()
     for folder, _, names in sorted(os.walk(os.path.join(HERE, NAME))):
@@ -28,7 +28,7 @@ def files_of_package():
 
 
 def written(folder, files):
-    """Writes a wheel of these files, and gives its name."""
+    """Writes a wheel of these files, and returns its name."""
     name = f"{NAME}-{VERSION}-py3-none-any.whl"
     files = [*files, (f"{INFO}/METADATA", METADATA.encode()), (f"{INFO}/WHEEL", WHEEL.encode()), (f"{INFO}/entry_points.txt", COMMANDS.encode())]
     record = ""

@@ -16,7 +16,7 @@ def error_of(name):
 
 
 def access_answer(op, answer):
-    """What an access answers: its data, that it is done, that it was held, or its error."""
+    """What an access answers: its data, ok, held, or its error."""
     if answer.startswith("error "):
         return error_of(answer[6:])
     if answer == "held":
@@ -28,7 +28,7 @@ def area_answer(number, text):
     """A line of numa_maps."""
     match = AREA.fullmatch(text)
     if not match:
-        raise Bad(f"line {number}: {text[:40]} is no area")
+        raise Bad(f"line {number}: {text[:40]} is not an area")
     found = {"address": int(match[1], 16), "policy": match[2]}
     if match[3]:
         nodes = {int(node): int(count) for node, count in re.findall(r"N(\d+)=(\d+)", match[5])}
@@ -42,7 +42,7 @@ def statuses_of(line):
     try:
         return int(head), [int(status) for status in rest.split()]
     except ValueError:
-        raise Bad(f"line {line.number}: wanted are an answer and statuses") from None
+        raise Bad(f"line {line.number}: expected an answer and statuses") from None
 
 
 def answer_of(line):
@@ -65,7 +65,7 @@ def answer_of(line):
 
 
 def simple_answer(line):
-    """The same of steps that answer in a word or two."""
+    """The same for steps that answer in a word or two."""
     op, answer = line.op, line.answer
     if op == "vmstat":
         match = VMSTAT.fullmatch(answer)
@@ -79,4 +79,4 @@ def simple_answer(line):
         return {"answer": int(answer)}
     elif answer == "ok" and op != "read":
         return {"ok": True}
-    raise Bad(f"line {line.number}: {answer[:40]} is no answer of {op}")
+    raise Bad(f"line {line.number}: {answer[:40]} is not an answer of {op}")

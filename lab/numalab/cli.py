@@ -1,7 +1,7 @@
-"""The command numalab: finds the command that is asked for, and ends with its status.
+"""The command numalab: runs the command that is asked for, and ends with its status.
 
-A command is a module of numalab.commands with a SUMMARY, arguments(parser), which says what words it takes, and run(asked),
-which gives the status: 0, 1 where something differs or was refused, 2 for wrong words and bad traces."""
+A command is a module of numalab.commands with a SUMMARY, arguments(words), which declares its arguments, and run(asked),
+which returns the status: 0; 1 where something differs or was refused; 2 for wrong arguments and bad traces."""
 import argparse
 import gc
 import os
@@ -20,7 +20,7 @@ PROMISE = ("Every report but those of replay and predict comes from the program 
 
 
 def parser():
-    """What words there are."""
+    """The parser of all arguments."""
     top = argparse.ArgumentParser(prog="numalab", description=ABOUT, epilog=PROMISE)
     top.add_argument("--version", action="version", version=f"numalab {__version__}")
     commands = top.add_subparsers(dest="command", metavar="COMMAND", required=True)
@@ -32,11 +32,11 @@ def parser():
 
 
 def main(words=None):
-    """Runs a command; gives the status."""
+    """Runs a command; returns the status."""
     for stream in (sys.stdout, sys.stderr):
         stream.reconfigure(encoding="utf-8", errors="backslashreplace")
     asked = parser().parse_args(words)
-    gc.disable()  # Traces and reports have a million small parts and no cycles, and to look for cycles takes half of the time.
+    gc.disable()  # Traces and reports have a million small parts and no cycles, and looking for cycles takes half of the time.
     try:
         status = COMMANDS[asked.command].run(asked)
         sys.stdout.flush()
@@ -46,7 +46,7 @@ def main(words=None):
         print(f"numalab: {printable(str(fault))}", file=sys.stderr)
         return 2 if isinstance(fault, Bad) else 1
     except BrokenPipeError:
-        # Nobody reads any more: what Python would write when it ends goes nowhere.
+        # Nobody is reading any more: discard what Python would write when it ends.
         os.dup2(os.open(os.devnull, os.O_WRONLY), sys.stdout.fileno())
         return 1
     except KeyboardInterrupt:

@@ -1,4 +1,4 @@
-"""All that is wrong of a trace, as lines for people."""
+"""All that is wrong with a trace, as lines for people."""
 import json
 import re
 from itertools import islice
@@ -15,7 +15,7 @@ AT = re.compile(r"[^\n]*:[0-9]+")
 
 
 class Diagnosis:
-    """What there is to say of the bytes of a trace."""
+    """What there is to say about the bytes of a trace."""
 
     def __init__(self, name, data, strict=False, hints=True):
         self.name, self.strict, self.wants_hints = name, strict, hints
@@ -28,7 +28,7 @@ class Diagnosis:
             self.look(data)
 
     def look_at_notation(self, data):
-        """Looks at a file in the notation, and where that has no fault at its trace."""
+        """Looks at a file in the notation and, where it has no fault, at its trace."""
         top, faults = translated(data, self.name)
         self.faults = [f"{self.name}:{line}:{column}: {text}" for line, column, text in faults]
         if not faults:
@@ -51,12 +51,12 @@ class Diagnosis:
         self.warnings = [self.told(fault, kind, 0) for fault in ignored]
         for key, at in doubles(self.text)[:MOST_TOLD] if has_doubles(self.text) else []:
             line, column = line_and_column(self.text, at)
-            self.warnings.append(f"{self.name}:{line}:{column}: {kind}{json.dumps(key)} stands here again: the last one counts")
+            self.warnings.append(f"{self.name}:{line}:{column}: {kind}{json.dumps(key)} occurs again here: the last one counts")
         if self.wants_hints and not self.bad:
             self.hint()
 
     def hint(self):
-        """Tells of a good trace which steps the plain model refuses, and why."""
+        """For a good trace, which steps the plain model refuses, and why."""
         with Progress(f"{self.name}: the model plays step") as progress:
             found = list(islice(hints(self.top, progress), MOST_TOLD + 1))
         paths = [("steps", k) + (("during", int(about)) if about is not None else ()) for k, about, _ in found[:MOST_TOLD]]
@@ -71,7 +71,7 @@ class Diagnosis:
         return bool(self.faults or self.strict and self.warnings)
 
     def told(self, fault, kind, part):
-        """The line on a fault. The place is that of the value, or that of its key (0)."""
+        """The line for a fault. The place is that of the value (part 1), or that of its key (part 0)."""
         step = self.step_of(fault.path)
         if step is not None:
             where = step
@@ -82,7 +82,7 @@ class Diagnosis:
         return f"{where}: {kind}{fault.text}{guess}"
 
     def step_of(self, path):
-        """Where the step of a path, or the access in flight, says that it was written, if it does."""
+        """Where a step or an access in flight says that it was written, if it does."""
         if len(path) < 2 or path[0] != "steps":
             return None
         part, at = self.top, None
@@ -93,6 +93,6 @@ class Diagnosis:
         return at if isinstance(at, str) and AT.fullmatch(at) else None
 
     def lines(self):
-        """All lines, the faults first, as far as anyone would read them."""
+        """All lines, the faults first, up to as many as anyone would read."""
         more = [f"{self.name}: and {self.more:,} more"] if self.more else []
         return self.faults + self.warnings + more + self.hints

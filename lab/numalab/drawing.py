@@ -1,8 +1,8 @@
-"""Draws where pages are, as a report tells it, as an SVG.
+"""Draws where pages are, as a report says, as an SVG.
 
 A column is a moment at which the report shows `free` or `pagemap` lines with nothing between them that moves a page or takes
-or frees a frame; over it stands how many accesses in flight the batch before it had, and how many were held. A band is a node,
-and a square in it a frame: free, held by a page, or not known. A report alone tells neither the node of a `free` line nor the
+or frees a frame; above it is how many accesses in flight the batch before it had, and how many were held. A band is a node,
+and a square in it a frame: free, held by a page, or not known. A report alone gives neither the node of a `free` line nor the
 process of a `pagemap` line; with its trace the picture has both, and all frames of the machine. What is not known is drawn as
 not known."""
 import html
@@ -16,24 +16,24 @@ from .traces import Bad
 from .words import printable
 
 MOST_SQUARES = 200000
-MOST_TOLD, MOST_LETTERS = 20, 60  # of the accesses in flight in a tooltip, and of one of them
+MOST_TOLD, MOST_LETTERS = 20, 60  # how many accesses in flight a tooltip lists, and how much of each
 LEFT, GAP, EDGE = 150, 24, 12
 FONT = "DejaVu Sans, Verdana, sans-serif"
 COLOURS = ["#7fb3e6", "#f2b35e", "#7fcf9f", "#e39ac4", "#cdb94f", "#a79be8", "#6fd0d6", "#e58f7b"]
 UNTOLD, TAKEN, FREE, INK, PALE = "#9db8d2", "#c6c6c6", "#eef5e6", "#222222", "#6b6b6b"
 
-Band = namedtuple("Band", "name frames node")  # its frames upwards; the node is None where it is not known
+Band = namedtuple("Band", "name frames node")  # its frames in ascending order; the node is None where it is not known
 Grid = namedtuple("Grid", "across width height")  # how many squares a row has, and how wide and high one is
 DARK, DASHED = ' stroke="#444444"', ' stroke="#9a9a9a" stroke-dasharray="2 2"'
 BORDERS = {"free": ' stroke="#7d8a70"', "held": DARK, "taken": DARK, "unknown": DASHED, "counted": DASHED}
 ABOUT = (
     "A column is a moment at which the report looks, a square a frame. The number in a square is its page's: the address in "
-    "hexadecimal without the last three digits; a plus tells of further addresses. Point at a square for all that is known of it."
+    "hexadecimal without the last three digits; a plus marks further addresses. Point at a square for all that is known of it."
 )
 NO_TRACE = (
     "Only frames that the report names are shown. Without the trace neither nodes nor processes are known: a band \"one node\" "
-    "has frames that lists of free frames show to be together, and two such bands may be on one node; of the others the node is "
-    "not told."
+    "has frames that lists of free frames show to be on one node, and two such bands may be the same node; the node of the "
+    "others is not known."
 )
 
 
@@ -58,11 +58,11 @@ def bands_of(moments, machine):
     spans = spans_of(moments)
     named = sorted({frame for moment in moments for frame in [*moment.free, *moment.held]})
     groups = groupby(named, lambda frame: next((span for span in spans if span[0] <= frame <= span[1]), None))
-    return [Band("one node" if span else "not told", list(frames), None) for span, frames in groups]
+    return [Band("one node" if span else "not known", list(frames), None) for span, frames in groups]
 
 
 def grid_of(bands):
-    """Squares are the larger the fewer there are."""
+    """Squares are larger where there are fewer."""
     most = max((len(band.frames) for band in bands), default=1)
     if most <= 16 and len(bands) <= 16:
         return Grid(min(most, 8), 40, 28)
@@ -79,7 +79,7 @@ def page_text(pages):
 
 
 def seen_texts(pages):
-    """Where pages are seen, each once. A process that the report looks at twice is one where the trace tells its number."""
+    """Where pages are seen, each once. With the trace, a process that the report looks at twice counts as one."""
     pages = sorted(set(pages), key=lambda page: (page[0] or 0, page[1], page[2] or 0))
     seen = [(number, f"the process of step {step}" if process is None else f"process {process}") for process, number, step in pages]
     return ", ".join(f"page {number:x} of {process}" for number, process in seen)
@@ -124,7 +124,7 @@ class Picture:
         self.rect(x, y, width, height, "none" if stripes else fill, BORDERS[kind])
 
     def frame(self, x, y, grid, frame, square, processes):
-        """A frame with its tooltip, its number and its text as far as there is room."""
+        """A frame with its tooltip, and its number and text where there is room."""
         kind, words, tip = square
         width, height, ink = grid.width - 2, grid.height - 2, INK if kind == "held" else PALE
         self.parts.append(f'<g class="{kind}"><title>{html.escape(tip)}</title>')
@@ -150,7 +150,7 @@ def rows_in(band, grid):
 
 
 def draw_counts(picture, x, y, width, height, band, counts):
-    """How many pages of each process numa_maps tells on a node, whose frames nothing tells."""
+    """How many pages of each process numa_maps shows on a node whose frames are not known."""
     most = max(counts.values(), default=0)
     words = ", ".join(f"process {process}: {count:,}" for process, count in sorted(counts.items())) or "no page"
     picture.parts.append(f'<g class="counted"><title>{html.escape("pages by numa_maps: " + words)}</title>')
@@ -162,7 +162,7 @@ def draw_counts(picture, x, y, width, height, band, counts):
 
 
 def draw_cell(picture, x, y, grid, band, moment):
-    """The squares of a band at a moment, or the words that nothing is known."""
+    """The squares of a band at a moment, or a note that nothing is known."""
     squares = [square_of(moment, frame, band.node) for frame in band.frames]
     if all(kind == "unknown" for kind, _, _ in squares):
         width, height = min(len(squares), grid.across) * grid.width, rows_in(band, grid) * grid.height
@@ -207,7 +207,7 @@ def draw_flight(picture, x, y, moment):
 
 
 def draw_zeros(picture, x, y, moment):
-    """How many entries are the page of zeros, which no square is."""
+    """How many entries are the page of zeros, which has no square."""
     count = len(set(moment.zeros))
     if count:
         picture.parts.append(f'<g class="zeros"><title>{html.escape(seen_texts(moment.zeros))}</title>')
@@ -216,7 +216,7 @@ def draw_zeros(picture, x, y, moment):
 
 
 def legend_of(moments, machine):
-    """The kinds of squares, each with the processes of its stripes and its words."""
+    """The kinds of squares, each with the processes of its stripes and its text."""
     items = [("free", (), "free; #1 is taken next")]
     if machine:
         items += [("held", (process,), f"process {process}") for process in processes_of(moments)]
@@ -228,7 +228,7 @@ def legend_of(moments, machine):
 
 
 def draw_legend(picture, y, width, items):
-    """The legend in as many rows as it takes; gives where it ends."""
+    """The legend in as many rows as it needs; returns where it ends."""
     x = EDGE
     for kind, processes, words in items:
         room = 20 + len(words) * 6.4 + 16
@@ -241,19 +241,19 @@ def draw_legend(picture, y, width, items):
 
 
 def notes_of(moments, machine, processes, count):
-    """What the picture's reader should know, by sentences, of a report on so many steps."""
-    notes = [ABOUT] if moments else ["There is no line of free or pagemap with a list: where pages are is not known."]
+    """What the reader of a picture should know, as sentences, for a report on `count` steps."""
+    notes = [ABOUT] if moments else ["No line of free or pagemap has a list: where pages are is not known."]
     if moments and not machine:
         notes += [NO_TRACE]
     if moments and len(processes) > len(COLOURS):
         notes += ["There are more processes than colours: a square's tooltip names its processes."]
     if machine and count < len(machine.steps):
-        notes += [f"The report tells of {count:,} of the {len(machine.steps):,} steps of its trace."]
+        notes += [f"The report covers {count:,} of the {len(machine.steps):,} steps of its trace."]
     return notes
 
 
 def processes_of(moments):
-    """The processes of which pages are drawn, where they are known."""
+    """The processes whose pages are drawn, where they are known."""
     pages = [page for moment in moments for held in moment.held.values() for page in held]
     return sorted({process for process, _, _ in pages if process is not None})
 
@@ -262,11 +262,11 @@ def check_size(moments, bands):
     """Refuses a picture that no program could show."""
     count = len(moments) * sum(len(band.frames) for band in bands)
     if count > MOST_SQUARES:
-        raise Bad(f"the picture would have {count:,} squares, and at most {MOST_SQUARES:,} are drawn: --steps picks moments")
+        raise Bad(f"the picture would have {count:,} squares, and at most {MOST_SQUARES:,} are drawn: pick moments with --steps")
 
 
 def drawing(name, moments, machine, processes, count):
-    """The SVG of some moments of a report on so many steps."""
+    """The SVG of some moments of a report on `count` steps."""
     picture, bands = Picture(processes), bands_of(moments, machine) if moments else []
     check_size(moments, bands)
     grid = grid_of(bands)
@@ -300,8 +300,7 @@ def picked(moments, steps):
 
 
 def picture_of(data, path, top=None, steps=None):
-    """The SVG of the report of some bytes, which is called as its path is, with its trace and a range of steps where they are
-    given."""
+    """The SVG of a report, named after its path, with its trace and a range of steps where they are given."""
     layout, lines = top and Layout(top), read_report(data, path)
     if layout:
         layout.check(lines)

@@ -1,7 +1,7 @@
 """What a trace does to frames, step by step: the data of a picture that moves.
 
-The states between two looks come from the plain model, which is not proved; whether its whole report is the program's is for the
-caller to see to."""
+The states between two looks come from the plain model, which is not proved; the caller
+has to check that its whole report is the program's."""
 from bisect import bisect_right
 
 from .model import ZERO
@@ -15,7 +15,7 @@ MOST_STEPS, MOST_CHANGES, MOST_ROWS = 20000, 2000000, 200
 
 
 class Queue(list):
-    """A list of free frames that keeps count of what is taken from its front and put to its end."""
+    """A list of free frames that counts what is taken from its front and added to its end."""
 
     def __init__(self, frames):
         super().__init__(frames)
@@ -30,14 +30,14 @@ class Queue(list):
         super().append(frame)
 
     def told(self):
-        """How many frames were taken since the last time, and those that came to the end; or None."""
+        """How many frames were taken since the last call, and those that were added; or None."""
         found = [self.taken, *self.added] if self.taken or self.added else None
         self.taken, self.added = 0, []
         return found
 
 
 class Watched(Explained):
-    """The plain model, which tells which pages each step has changed."""
+    """The plain model, which notes which pages each step has changed."""
 
     def __init__(self, trace):
         super().__init__(trace, wordy=False)
@@ -82,7 +82,7 @@ class Watched(Explained):
         super().give_back(page)
 
     def changes(self):
-        """The frames that have changed since the last time, each with its page, or with none; and the lists of free frames."""
+        """The frames that have changed since the last call, each with its page or none; and the lists of free frames."""
         frames = {}
         for page in self.changed:
             if page in self.shown:
@@ -111,12 +111,12 @@ class Film:
         first, last = steps or (0, len(lines) - 1)
         self.first, self.last = first, min(last, len(lines) - 1)
         if self.last - self.first >= MOST_STEPS:
-            raise Bad(f"the picture would have {self.last - self.first + 1:,} steps, and at most {MOST_STEPS:,} are drawn: --steps A-B picks some")
+            raise Bad(f"the picture would have {self.last - self.first + 1:,} steps, and at most {MOST_STEPS:,} are drawn: pick some with --steps A-B")
         self.machine, self.count = Watched(top), 0
         self.alive = []  # the processes that are alive after each step
 
     def frames(self, progress=None):
-        """For each step of the range what it changes; before it, all that the steps before it have changed together. Compares
+        """For each step of the range what it changes; first, all that the steps before the range have changed together. Compares
         the lines with the report."""
         found = []
         for k, step in enumerate(self.top["steps"][: self.last + 1]):
@@ -135,7 +135,7 @@ class Film:
         frames, queues = self.machine.changes()
         self.count += len(frames)
         if self.count > MOST_CHANGES:
-            raise Bad(f"the picture would have over {MOST_CHANGES:,} changes of frames: --steps A-B picks some steps")
+            raise Bad(f"the picture would have more than {MOST_CHANGES:,} changes of frames: pick some steps with --steps A-B")
         told = {"f": frames, "q": queues, "z": self.machine.zeros}
         if line.op == "move_pages" and not line.answer.startswith("error "):
             told["e"] = entry_marks(self.machine, step, line)
@@ -144,12 +144,12 @@ class Film:
 
 
 class Differs(Exception):
-    """The model has another answer to a step than the report."""
+    """The model's answer to a step differs from the report's."""
 
 
 def looks_of(top, lines):
-    """For each step what the report tells of the state after it: the nodes whose lists it tells, the processes whose pages it
-    tells, and the number of the moment."""
+    """For each step what the report shows of the state after it: the nodes whose lists it shows, the processes whose pages it
+    shows, and the number of the moment."""
     found = [[[], [], -1] for _ in lines]
     bounds = moments_of(lines, Layout(top))
     starts = [moment.after[0] if moment.after else -1 for moment in bounds]
@@ -169,8 +169,8 @@ def change_steps(lines):
 
 
 def step_text(table, k, line, looks, alive):
-    """A step and its answer as words, and what the report tells of the state after it: of which nodes and processes, in which
-    moment, and whether that is all."""
+    """A step and its answer as text, and what the report shows of the state after it: which nodes and processes, in which
+    moment, and whether that is everything."""
     full = len(looks[0]) == table.plain.count and alive <= set(looks[1])
     rows = table.lines(k, line)
     cut = [f"and {len(rows) - MOST_ROWS - 1:,} more lines"] if len(rows) > MOST_ROWS + 1 else []

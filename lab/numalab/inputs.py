@@ -1,4 +1,4 @@
-"""Traces and their reports as a command's words name them."""
+"""Traces and their reports as a command's arguments name them."""
 import os
 from collections import namedtuple
 
@@ -6,14 +6,14 @@ from .program import played
 from .report import Layout, read_report
 from .traces import Bad, looks_like_trace, name_without_ending, read_file, trace_of
 
-# A trace, or None; the name of its report, and its bytes, or None where the program is to give them.
+# A trace, or None; the name of its report; and the report's bytes, or None where the program has to be asked for it.
 Input = namedtuple("Input", "trace name data")
 
 
 def inputs_of(files):
-    """What some files are: traces, each with the report before or behind it where that is named, and reports alone."""
+    """What some files are: traces, each with the report named before or after it if there is one, and reports alone."""
     if files.count("-") > 1:
-        raise Bad("standard input can be named once")
+        raise Bad("standard input can be named only once")
     read = [(path, read_file(path)) for path in files]
     kinds = [looks_like_trace(*one) for one in read]
     found, k = [], 0
@@ -44,11 +44,11 @@ def lines_of(one):
 
 
 def out_for(out, name, ending, several):
-    """Where to write what comes of a file: OUT, or a file of that ending in the folder OUT."""
+    """Where the output for a file goes: to OUT, or to a file with that ending in the folder OUT."""
     folder = out is not None and (os.path.isdir(out) or out.endswith(os.sep))
     if several and not folder:
-        raise Bad("what comes of several files goes to a folder: -o FOLDER/")
+        raise Bad("the output for several files goes to a folder: -o FOLDER/")
     path = os.path.join(out, os.path.basename(name_without_ending(name)) + ending) if folder else out
     if path and os.path.exists(path) and os.path.exists(name) and os.path.samefile(path, name):
-        raise Bad(f"{name} would be written over itself")
+        raise Bad(f"the output would overwrite {name}")
     return path

@@ -8,11 +8,11 @@
     moved = m.move_pages(p, a[:], node=1)
     print(moved.statuses)
 
-A call is made a step of a trace, and gives its answer at once; what is in the answer is known once it is asked for. Then the
-program plays all steps so far in one go, and each call that it refused raises an OSError with its errno: the one that is asked,
-or the first before it that nobody has asked. So a list of calls costs one play, and no refusal is lost. What has not the form of
-a step, as a negative number, is a ValueError at once. The calls of this module are not proved; the report that the program gives
-is."""
+A call becomes a step of a trace, and returns an answer object at once; what is in it is known once it is asked for. Then the
+program plays all steps so far in one go, and a call that it refused raises an OSError with its errno: the call that is asked, or
+the first before it whose answer nobody has asked for. So a list of calls costs one play, and no refusal is lost. What does not
+have the form of a step, such as a negative number, is a ValueError at once. The calls of this module are not proved; the
+program's report is."""
 import errno
 import os
 import sys
@@ -37,12 +37,12 @@ def flags_of(flags):
 
 
 def pages_of(pages):
-    """Addresses from an area, an address or any number of them."""
+    """Addresses from an area, one address, or several."""
     return [pages] if isinstance(pages, int) else list(pages)
 
 
 class Answer:
-    """The answer to a call. To ask for any part of it plays the calls so far."""
+    """The answer to a call. Asking for any part of it plays the calls so far."""
 
     def __init__(self, machine, number):
         self._machine, self._number = machine, number
@@ -52,12 +52,12 @@ class Answer:
 
     @property
     def error(self):
-        """The name of the error of a refused call, as "ENODEV", or None. It raises nothing for this call."""
+        """The name of the error of a refused call, such as "ENODEV", or None. It raises nothing for this call."""
         self._machine._told.add(self._number)
         return self._machine._answers(self._number)[self._number].get("error")
 
     def check(self):
-        """Raises the OSError of a refused call, and else gives the answer itself."""
+        """Raises the OSError of a refused call, and otherwise returns the answer itself."""
         self._value()
         return self
 
@@ -80,7 +80,7 @@ class Answer:
 
 
 class Area(Answer):
-    """Pages of a process side by side: a[0] is the address of the first, a[:] are those of all."""
+    """Adjacent pages of a process: a[0] is the address of the first, a[:] is the list of all addresses."""
 
     def __init__(self, machine, number, process, address, pages):
         super().__init__(machine, number)
@@ -98,23 +98,23 @@ class Area(Answer):
 
 
 class Process:
-    """A process, and the calls that are about it."""
+    """A process, and the calls about it."""
 
     def __init__(self, machine, pid):
         self.machine, self.pid = machine, pid
 
     def map(self, pages, addr=None, shared=False):
-        """An area over a new segment, somewhere of its own if no address is told."""
+        """An area over a new segment, at a free place if no address is given."""
         return self.machine._area(self, "map", addr, pages, **({"shared": True} if shared else {}))
 
     def attach(self, segment, pages=None, offset=0, addr=None):
-        """An area over a shared segment, which is a number, or the area that mapped it."""
+        """An area over a shared segment, given by its number or by the area that mapped it."""
         if isinstance(segment, Area):
             pages, segment = segment.pages - offset if pages is None else pages, segment.segment
         return self.machine._area(self, "attach", addr, pages, segment=segment, offset=offset)
 
     def unmap(self, pages, count=None):
-        """Lets an area go, or so many pages from an address on."""
+        """Unmaps an area, or `count` pages from an address on."""
         address, count = (pages.address, pages.pages) if isinstance(pages, Area) else (pages, count)
         return self.machine._step("unmap", pid=self.pid, addr=address, pages=count)
 
@@ -122,7 +122,7 @@ class Process:
         return self.machine._step("exit", pid=self.pid)
 
     def read(self, addr, length=1):
-        """bytes() of the answer are what was read."""
+        """bytes() of the answer is what was read."""
         return self.machine._step("read", pid=self.pid, addr=addr, len=length)
 
     def write(self, addr, data):
@@ -135,7 +135,7 @@ class Process:
         return self.machine._step("unpin", pid=self.pid, addr=addr)
 
     def mbind(self, area, mode, nodes=(), flags=0, length=None):
-        """The policy of an area, or of so many bytes from an address on. The mode is a number or a name as "MPOL_BIND"."""
+        """Sets the policy of an area, or of `length` bytes from an address on. The mode is a number or a name such as "MPOL_BIND"."""
         address, length = (area.address, area.pages * PAGE) if isinstance(area, Area) else (area, length)
         mode = MODES.index(mode) if isinstance(mode, str) else mode
         return self.machine._step("mbind", caller=self.pid, addr=address, len=length, mode=mode, nodes=list(nodes), flags=flags_of(flags))
@@ -148,7 +148,7 @@ class Process:
 
 
 class Machine:
-    """A machine of nodes with so many frames each, and the calls that were made on it so far."""
+    """A machine of nodes with these numbers of frames, and the calls made on it so far."""
 
     def __init__(self, nodes, distance=None, run_limit=None, program=None):
         nodes = list(nodes)
@@ -163,12 +163,12 @@ class Machine:
 
     @staticmethod
     def _refuse(faults):
-        """What breaks the form of a trace is no call: a ValueError, at once."""
+        """What breaks the form of a trace is not made a call: a ValueError, at once."""
         if faults:
             raise Bad(faults[0].text)
 
     def _step(self, op, **keys):
-        """One more step. Where it was asked for is kept for faults."""
+        """Adds a step, with the line that made the call, for faults."""
         frame = sys._getframe(1)
         while frame.f_back and frame.f_code.co_filename == __file__:
             frame = frame.f_back
@@ -184,7 +184,7 @@ class Machine:
         return Area(self, answer._number, process, address, pages)
 
     def spawn(self, home=0, uid=1000, allowed=None, privileged=False, pid=None):
-        """A process that may use these nodes, or all."""
+        """A process that may use the nodes `allowed`, by default all."""
         self._pid = self._pid + 1 if pid is None else max(self._pid, pid)
         process = Process(self, self._pid if pid is None else pid)
         nodes = range(len(self._top["machine"]["nodes"])) if allowed is None else allowed
@@ -194,7 +194,7 @@ class Machine:
 
     def move_pages(self, process, pages, node=None, nodes=None, caller=None, flags=MOVE, during=None):
         """A batch: pages of a process to one node, or each to its own. An element of during is (run, process, address, what),
-        where what are bytes that are written or the length of a read."""
+        where what is the bytes to write or the length of a read."""
         pages = pages_of(pages)
         nodes = [node] * len(pages) if nodes is None else list(nodes)
         more = {} if during is None else {"during": [self._flight(*access) for access in during]}
@@ -232,7 +232,7 @@ class Machine:
     # ---- answers
 
     def _play(self):
-        """Lets the program play all steps, if some are new."""
+        """Has the program play all steps, if some are new."""
         if len(self._played) < len(self._top["steps"]):
             trace = Trace("the machine's trace", json_text(self._top).encode(), self._top)
             data = played(trace, self._program)
@@ -241,7 +241,7 @@ class Machine:
             self._played, self._report = [answer_of(line) for line in lines], data.decode("ascii")
 
     def _answers(self, number):
-        """The answers as far as that of a step; raises the first refusal before it that nobody has asked for."""
+        """The answers up to that of a step; raises the first refusal before it that nobody has asked for."""
         self._play()
         for k in range(number):
             self._raise(k)
@@ -270,7 +270,7 @@ class Machine:
         return self
 
     def report(self):
-        """The program's report on all calls so far. It raises nothing for refused calls: their lines tell."""
+        """The program's report on all calls so far. It raises nothing for refused calls: their lines say so."""
         self._play()
         return self._report
 
@@ -279,7 +279,7 @@ class Machine:
         return self._top
 
     def save(self, path):
-        """Writes the calls so far as a trace, and where the path ends in .nt as notation."""
+        """Writes the calls so far as a trace, or as notation where the path ends in .nt."""
         if str(path).endswith(".nt"):
             write_file(str(path), notation_of(self._form, self._top))
         else:

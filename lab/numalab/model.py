@@ -1,14 +1,14 @@
-"""A plain machine that plays a good trace by the rules and gives its report.
+"""A plain machine that plays a good trace by the rules and returns its report.
 
 Its rules were written by someone who had not read the program's code, so that one can be tested against the other, which
 tests/drawn.py does. It is slow and simple on purpose. It reads no JSON and checks no form: it takes the object that json.loads
-gives, and faults.py says which traces are good. Nothing of it is proved."""
+returns, and faults.py says which traces are good. Nothing of it is proved."""
 import collections
 
 from .words import nodes_text
 
 PAGE = 4096
-# Areas lie below this page number, and so does all that a process has.
+# Areas are below this page number, and so is everything that a process has.
 END = (1 << 47) // PAGE
 MOST_ADDRESS = (1 << 64) - 1
 MOST_PROCESSES = 1024
@@ -17,13 +17,13 @@ MOST_PINS = 65535
 MOST_ENTRIES = 16384
 ZERO = "zero"
 OK = ["ok"]
-# What a mode of mbind is called. Flags of mbind: 1 is strict, 2 moves, 4 moves what others see as well.
+# The names of the modes of mbind. Flags of mbind: 1 is strict, 2 moves, 4 also moves what others see.
 MODES = ["default", "prefer", "bind", "interleave", "local"]
 STRICT, MOVE, MOVE_ALL = 1, 2, 4
 
 # How long a segment is, and whether it is shared.
 Segment = collections.namedtuple("Segment", "pages shared")
-# What a policy is called, and its nodes upwards.
+# The name of a policy, and its nodes in ascending order.
 Policy = collections.namedtuple("Policy", "kind nodes")
 DEFAULT = Policy("default", ())
 
@@ -40,7 +40,7 @@ class Area(collections.namedtuple("Area", "first pages policy segment offset")):
         return self.first + self.pages
 
     def page(self, number):
-        """The page that stands at a page number: its segment, and its index there."""
+        """The page at a page number: its segment, and its index there."""
         return (self.segment, self.offset + number - self.first)
 
     def number_of(self, page):
@@ -49,7 +49,7 @@ class Area(collections.namedtuple("Area", "first pages policy segment offset")):
         return self.first + page[1] - self.offset if shown else None
 
     def part(self, first, end):
-        """What of the area lies in a range: one area, or none."""
+        """The part of the area inside a range: one area, or none."""
         first, end = max(first, self.first), min(end, self.end)
         if first >= end:
             return []
@@ -57,7 +57,7 @@ class Area(collections.namedtuple("Area", "first pages policy segment offset")):
 
 
 class Process:
-    """A process: who it is, its areas by address, and what it has at each page number that it touched: a page, or ZERO."""
+    """A process: who it is, its areas by address, and what it has at each page number that it has touched: a page, or ZERO."""
 
     def __init__(self, user, privileged, home, allowed):
         self.user, self.privileged, self.home, self.allowed = user, privileged, home, allowed
@@ -65,7 +65,7 @@ class Process:
         self.seen = {}
 
     def area(self, number):
-        """The area over a page number, or None."""
+        """The area that covers a page number, or None."""
         return next((area for area in self.areas if area.first <= number < area.end), None)
 
     def pages_seen(self, first, end):
@@ -78,7 +78,7 @@ class Process:
 
 
 def runs(targets, limit):
-    """How long each run is: the longest stretches of equal targets, cut from their front where they pass the limit."""
+    """How long each run is: the longest stretches of equal targets, cut from the front where they exceed the limit."""
     lengths = []
     for at, target in enumerate(targets):
         if at and targets[at - 1] == target and lengths[-1] < limit:
@@ -94,12 +94,12 @@ def failures(statuses):
 
 
 def follows(policy, node):
-    """Whether a page on a node follows a policy. Those without nodes are always followed."""
+    """Whether a page on a node follows a policy. Policies without nodes are always followed."""
     return not policy.nodes or node in policy.nodes
 
 
 def pairs(old, new):
-    """From which node pages go to which, in that order."""
+    """Which node's pages go to which node, in order."""
     sources, targets = sorted(old), sorted(new)
     target = {source: targets[k % len(targets)] for k, source in enumerate(sources)}
     # A pair is dropped where both are the same, or where the sets differ in size and the source is a new node as well.
@@ -117,19 +117,19 @@ def pairs(old, new):
 
 
 def policy_text(policy):
-    """A policy as numa_maps tells it, with consecutive nodes as a range."""
+    """A policy as numa_maps shows it, with consecutive nodes as a range."""
     return f"{policy.kind}:{nodes_text(policy.nodes)}" if policy.nodes else policy.kind
 
 
 class Machine:
-    """A machine, and the steps of a trace as its methods, which give the answer to a step and the lines behind it."""
+    """A machine, and the steps of a trace as its methods, which return the answer to a step and the lines after it."""
 
     def __init__(self, trace):
         sizes = trace["machine"]["nodes"]
         self.distance = trace["machine"]["distance"]
         self.limit = trace["run_limit"] if trace["version"] == 2 else MOST_ENTRIES
         self.nodes = range(len(sizes))
-        # Frames are numbered through. A free list begins in ascending order, and every node is online.
+        # Frames are numbered consecutively. A free list begins in ascending order, and every node is online.
         self.owner = [node for node in self.nodes for _ in range(sizes[node])]
         self.free = [[frame for frame, owner in enumerate(self.owner) if owner == node] for node in self.nodes]
         self.online = set(self.nodes)
@@ -171,11 +171,11 @@ class Machine:
         return [area for process in self.processes.values() for area in process.areas]
 
     def usable(self, nodes, process):
-        """What is online and allowed of some nodes, upwards."""
+        """The nodes among these that are online and allowed, in ascending order."""
         return tuple(sorted(node for node in set(nodes) if node in self.online and node in process.allowed))
 
     def exists(self, node):
-        """There has to be such a node."""
+        """Refuses a node that does not exist."""
         if node not in self.nodes:
             raise Refused("EINVAL")
 
@@ -198,14 +198,14 @@ class Machine:
 
     @staticmethod
     def whole_pages(step):
-        """The range of page numbers that a step names, which is of whole pages, has some, and ends in time."""
+        """The range of page numbers that a step names: whole pages, at least one, and none past the end."""
         first, end = step["addr"] // PAGE, step["addr"] // PAGE + step["pages"]
         if step["addr"] % PAGE or first == end or end > END:
             raise Refused("EINVAL")
         return first, end
 
     def place_for(self, process, step):
-        """The first page number of a new area, which lies over no other."""
+        """The first page number of a new area, which must not overlap another."""
         first, end = self.whole_pages(step)
         if any(area.part(first, end) for area in process.areas):
             raise Refused("EINVAL")
@@ -216,7 +216,7 @@ class Machine:
         first = self.place_for(process, step)
         if self.segments_made >= MOST_SEGMENTS:
             raise Refused("ENOMEM")
-        # Segments are numbered from 0, and no number is given twice.
+        # Segments are numbered from 0, and no number is used twice.
         segment = self.segments_made
         self.segments_made += 1
         self.segments[segment] = Segment(step["pages"], step.get("shared", False))
@@ -226,7 +226,7 @@ class Machine:
     def attach(self, step):
         process = self.process(step["pid"])
         first = self.place_for(process, step)
-        # The segment is there, is shared, and is long enough.
+        # The segment exists, is shared, and is long enough.
         segment = self.segments.get(step["segment"])
         if segment is None or not segment.shared or step["offset"] + step["pages"] > segment.pages:
             raise Refused("EINVAL")
@@ -241,7 +241,7 @@ class Machine:
                 raise Refused("EBUSY")
 
     def remove(self, process, first, end):
-        """Takes away the areas in a range and what the process sees there."""
+        """Removes the areas in a range and what the process sees there."""
         removed = [part for area in process.areas for part in area.part(first, end)]
         process.areas = [part for area in process.areas for part in area.part(0, first) + area.part(end, END)]
         process.seen = {number: page for number, page in process.seen.items() if not first <= number < end}
@@ -279,7 +279,7 @@ class Machine:
     # ---- touching memory
 
     def order(self, process, policy, index):
-        """The nodes on which a page may find a frame, the first first. Bound pages go to the set alone."""
+        """The nodes on which a page may find a frame, in order. Bound pages go only to the set."""
         if policy.kind == "bind":
             return [node for node in self.zonelist(process.home) if node in policy.nodes]
         first = process.home
@@ -298,7 +298,7 @@ class Machine:
         self.bytes[page] = bytearray(PAGE)
 
     def touch(self, process, area, number, write):
-        """What the process has at a page number once it has touched it."""
+        """What the process has at a page number after touching it."""
         if process.seen.get(number, ZERO) == ZERO:
             page, shared = area.page(number), self.segments[area.segment].shared
             # A read of private memory takes no frame. Any touch of shared memory shows the page, or takes a frame for it.
@@ -315,7 +315,7 @@ class Machine:
         data = bytes.fromhex(step["data"]) if step["op"] == "write" else None
         length = step["len"] if data is None else len(data)
         number, offset = divmod(step["addr"], PAGE)
-        # It is of at least one byte and inside one page.
+        # It has at least one byte and is inside one page.
         if length == 0 or offset + length > PAGE:
             raise Refused("EINVAL")
         area = process.area(number)
@@ -355,7 +355,7 @@ class Machine:
 
     def unpin(self, step):
         page = self.page_to_pin(step)
-        # It is all one who pinned the page.
+        # It does not matter who pinned the page.
         if self.pins.get(page, 0) == 0:
             raise Refused("EINVAL")
         self.pins[page] -= 1
@@ -364,7 +364,7 @@ class Machine:
     # ---- moving pages
 
     def status_of_page(self, run, page, target):
-        """Moves a page unless something keeps it, and gives the status. A run has the frames that its pages left, by page."""
+        """Moves a page unless something keeps it, and returns the status. A run has the frames that its pages left, by page."""
         if self.node(page) == target:
             return target
         if self.pins.get(page, 0):
@@ -393,17 +393,17 @@ class Machine:
         return self.status_of_page(run, page, target)
 
     def batch_of_numbers(self, pid, entries, everyone, during=()):
-        """Moves pages of a process, by page number and target."""
+        """Moves pages of a process, given by page number and target."""
         return self.batch(entries, lambda run, number, target: self.status_of_number(run, pid, number, target, everyone), during)
 
     def batch(self, entries, status_of, during=()):
-        """Moves entries to their targets run by run. Gives the statuses and the answers to the accesses in flight."""
+        """Moves entries to their targets run by run. Returns the statuses and the answers to the accesses in flight."""
         statuses, answers = [], {}
         for number, length in enumerate(runs([target for _, target in entries], self.limit)):
             run = {}
             for what, target in entries[len(statuses) : len(statuses) + length]:
                 statuses.append(status_of(run, what, target))
-            # Accesses come when the run has taken its frames and before those that its pages left are free.
+            # Accesses come after the run has taken its frames and before those that its pages left are free.
             for place, access in enumerate(during):
                 if access["run"] == number:
                     answers[place] = self.in_flight(access, run)
@@ -421,7 +421,7 @@ class Machine:
             return f"error {refusal}"
 
     def target_process(self, step):
-        """The pid whose pages are asked for: 0 is the caller. Another user's pages are for the privileged."""
+        """The pid whose pages are meant: 0 is the caller. Another user's pages are only for the privileged."""
         pid = step["pid"] or step["caller"]
         process, caller = self.process(pid), self.processes[step["caller"]]
         if process.user != caller.user and not caller.privileged:
@@ -439,7 +439,7 @@ class Machine:
 
     def move_pages(self, step):
         pid = self.may_ask(step)
-        # Entry by entry, a target is online before it is allowed, to the process whose pages they are.
+        # Entry by entry, a target must be online, and then allowed to the process whose pages they are.
         for node in step["nodes"]:
             if node not in self.online:
                 raise Refused("ENODEV")
@@ -473,7 +473,7 @@ class Machine:
         new = self.usable(step["new"], process)
         if not new:
             raise Refused("EINVAL")
-        # The list is made at the start: by pair the pages on its source, by address. With privilege all of them move.
+        # The list is made at the start: for each pair the pages on its source, by address. With privilege all of them move.
         seen = process.pages_seen(0, END)
         entries = [(number, target) for source, target in pairs(set(step["old"]), new)
                    for number, page in seen if self.node(page) == source]
@@ -498,7 +498,7 @@ class Machine:
             raise Refused("EINVAL")
         if flags & MOVE_ALL and not process.privileged:
             raise Refused("EPERM")
-        # The preferred node is the lowest, and without nodes it is the local one.
+        # The preferred node is the lowest, or without nodes the local one.
         if kind == "prefer":
             return Policy(kind, kept[:1]) if kept else Policy("local", ())
         return Policy(kind, kept)
@@ -533,11 +533,11 @@ class Machine:
         if policy.kind == "prefer":
             self.batch_of_numbers(pid, [(number, policy.nodes[0]) for number, _ in strays], everyone)
         if policy.kind == "interleave":
-            # Each goes to the node whose turn it is, by node and then by address.
+            # Each goes to the node whose turn it is, ordered by node and then by address.
             turns = sorted((policy.nodes[page[1] % len(policy.nodes)], number) for number, page in strays)
             self.batch_of_numbers(pid, [(number, node) for node, number in turns], everyone)
         if policy.kind == "bind":
-            # Passes over the set's online nodes by distance from home. What found no frame goes on to the next.
+            # Passes over the set's online nodes by distance from home. Pages that found no frame go on to the next.
             numbers = [number for number, _ in strays]
             for node in self.order(self.processes[pid], policy, 0):
                 statuses, _ = self.batch_of_numbers(pid, [(number, node) for number in numbers], everyone)
@@ -548,13 +548,13 @@ class Machine:
     def offline(self, step):
         node = step["node"]
         self.exists(node)
-        # A node that is away already is left as it is, before the last one is refused.
+        # A node that is already offline is left as it is, before the last one is refused.
         if node not in self.online:
             return OK
         if len(self.online) == 1:
             raise Refused("EBUSY")
         self.online.remove(node)
-        # All of its pages, by segment and index, go to the others by distance. What found no frame goes on to the next.
+        # All of its pages, by segment and index, go to the others by distance. Those that found no frame go on to the next.
         listed = sorted(page for page in self.place if self.node(page) == node)
         left = listed
         for target in self.zonelist(node):
@@ -601,7 +601,7 @@ class Machine:
         return [f"pgmigrate_success {self.moved} pgmigrate_fail {self.failed}"]
 
 
-# The method that makes each step, where it is not called as the step is.
+# The methods whose names differ from those of their steps.
 METHODS = {"read": "read_or_write", "write": "read_or_write", "online": "bring_online", "free": "free_list"}
 CALLS = {
     op: METHODS.get(op, op)

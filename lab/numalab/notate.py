@@ -6,7 +6,7 @@ from .statements import tier_distances
 from .words import flags_text, mode_text, nodes_text
 
 MOST_NAMED = 1 << 35
-# Pages farther apart than this are not told as one stretch.
+# Pages farther apart than this are not written as one stretch.
 MOST_APART = 16 * PAGE
 LETTERS = "ABCDEFGHIJKLMNOPQRSTUVWXYZ"
 # Steps that differ in their address alone are one statement over several pages.
@@ -27,7 +27,7 @@ def data_text(data):
 
 
 def stretches(values, may_join):
-    """Splits a list into its longest stretches: a value joins those before it where that may be."""
+    """Splits a list into its longest stretches: a value joins those before it where it may."""
     found = []
     for value in values:
         if found and may_join(found[-1], value):
@@ -39,20 +39,20 @@ def stretches(values, may_join):
 
 class Notator:
     """Writes steps in the notation, one after another, with names for the processes and areas that it has met. Where it is
-    brief, it leaves out what would be so anyway."""
+    brief, it leaves out defaults."""
 
     def __init__(self, top, brief=True):
         self.top, self.count, self.brief = top, len(top["machine"]["nodes"]), brief
         self.pids, self.areas, self.named, self.next_address = set(), {}, 0, FIRST_ADDRESS
 
     def unless(self, usual, text):
-        """A text with a space before it, but for what is usual."""
+        """A text with a space before it, or nothing for what is usual."""
         return "" if self.brief and usual else " " + text
 
     # ---- the machine
 
     def machine(self):
-        """The lines that tell the machine."""
+        """The lines that describe the machine."""
         sizes, rows = self.top["machine"]["nodes"], self.top["machine"]["distance"]
         tiers = [(min(row[to] for to in range(len(row)) if to != own) - 20) // 10 if len(row) > 1 else 0 for own, row in enumerate(rows)]
         short = tiers == sorted(tiers) and tier_distances(tiers) == rows and sorted(set(tiers)) == list(range(tiers[-1] + 1))
@@ -74,7 +74,7 @@ class Notator:
         return "all" if nodes == list(range(self.count)) else nodes_text(nodes)
 
     def area_at(self, pid, address):
-        """The name, address and pages of the area of a process that was told last over an address, or None."""
+        """The name, address and pages of the latest area of a process that covers an address, or None."""
         return next((area for area in self.areas.get(pid, []) if area[1] <= address < area[1] + area[2] * PAGE), None)
 
     def address(self, pid, address):
@@ -86,7 +86,7 @@ class Notator:
         return f"{area[0]}[{page}]" + (f"+{offset}" if offset else "")
 
     def pages(self, pid, addresses):
-        """Addresses with one distance between each and the next, at least two of them whole pages apart."""
+        """Addresses with one distance, in whole pages, between each and the next."""
         if len(addresses) == 1:
             return self.address(pid, addresses[0])
         step, area = (addresses[1] - addresses[0]) // PAGE, self.area_at(pid, addresses[0])
@@ -97,7 +97,7 @@ class Notator:
         return f"{area[0] if area else hex(base)}[{first}:{end}" + (f":{step}]" if step > 1 else "]")
 
     def joins(self, pid, before, address):
-        """Whether an address goes on as those before it do: whole pages, one distance, one area."""
+        """Whether an address continues those before it: whole pages, one distance, one area."""
         step = address - before[-1]
         if not 0 < step <= MOST_APART or step % PAGE or address % PAGE or len(before) > 1 and step != before[-1] - before[-2]:
             return False
@@ -161,7 +161,7 @@ class Notator:
         return f"{self.process(step['pid'])} {step['addr']:#x} pages {step['pages']}"
 
     def stretch(self, pid, address, pages):
-        """So many pages side by side, inside an area."""
+        """Adjacent pages inside an area."""
         name, base, most = self.area_at(pid, address)
         first = (address - base) // PAGE
         if (first, pages) == (0, most):
@@ -213,7 +213,7 @@ class Notator:
     # ---- whole traces
 
     def may_merge(self, group, step):
-        """Whether a step can be told with those before it."""
+        """Whether a step can be written together with those before it."""
         first = group[0]
         if first["op"] == step["op"] == "free":
             return True
@@ -222,7 +222,7 @@ class Notator:
         return self.joins(step["pid"], [before["addr"] for before in group[-2:]], step["addr"]) and first["addr"] % PAGE == 0
 
     def merged(self, group):
-        """The statement of steps that are told together."""
+        """The statement of steps that are written together."""
         if len(group) == 1:
             return self.text(group[0])
         if group[0]["op"] == "free":
@@ -259,5 +259,5 @@ def known_keys(form, top):
 
 
 def notation_of(form, top):
-    """The notation of a good trace, which says the same trace again but for keys that the program ignores."""
+    """The notation of a good trace, which gives the same trace again, except for keys that the program ignores."""
     return Notator(known_keys(form, top)).whole()

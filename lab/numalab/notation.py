@@ -14,19 +14,19 @@ PLACE = re.compile(r"([^\[\]+]+)(?:\[([^\[\]]*)\])?(?:\+(.+))?")
 SIZES = {"K": 1 << 10, "M": 1 << 20, "G": 1 << 30}
 MOST = (1 << 64) - 1
 FIRST_ADDRESS, APART = 0x10000, 0x10000
-# As many steps have room in a trace, at least this many bytes each.
+# A step takes at least this many bytes of a trace, which bounds how many there can be.
 LEAST_STEP = 14
 # Distances of the short form: between two nodes of the first tier, and how much farther each tier is.
 NEAR, FARTHER = 20, 10
 
 Word = namedtuple("Word", "text column")
 Area = namedtuple("Area", "address pages segment offset")
-# Pages from an address on: the first address, the numbers of the pages from there, and whether one page alone was named.
+# Pages from an address on: the first address, the numbers of the pages from there, and whether a single page was named.
 Pages = namedtuple("Pages", "address numbers single")
 
 
 class Wrong(Exception):
-    """A fault of a line: its words and its column."""
+    """A fault of a line: its text and its column."""
 
     def __init__(self, text, column):
         super().__init__(text)
@@ -34,7 +34,7 @@ class Wrong(Exception):
 
 
 def next_free(address, pages, before):
-    """Where the next area goes that is told no address: behind all others, with a gap."""
+    """Where the next area without an address goes: after all others, with a gap."""
     end = address + pages * PAGE
     return max(before, (end // APART + 1) * APART) if end < 1 << 46 else before
 
@@ -53,7 +53,7 @@ class Words:
             if match[0] == "#":
                 break
             if match[0] == '"':
-                raise Wrong("a text has no end", match.start() + 1)
+                raise Wrong("a text has no closing quote", match.start() + 1)
             self.words.append(Word(match[0], match.start() + 1))
         self.end = self.words[-1].column + len(self.words[-1].text) if self.words else 1
 
@@ -61,14 +61,14 @@ class Words:
         return self.words[self.taken].text if self.taken < len(self.words) else None
 
     def next(self, what):
-        """The next word; what is wanted is told where there is none."""
+        """The next word; where there is none, the fault says what is missing."""
         if self.taken == len(self.words):
             raise Wrong(f"{what} is missing", self.end)
         self.taken += 1
         return self.words[self.taken - 1]
 
     def has(self, *words):
-        """Takes the next word if it is one of these, and gives it."""
+        """Takes the next word if it is one of these, and returns it."""
         if self.peek() in words:
             self.taken += 1
             return self.words[self.taken - 1].text
@@ -77,13 +77,13 @@ class Words:
     def need(self, word):
         found = self.next(word)
         if found.text != word:
-            raise Wrong(f"{found.text} is not {word}, which is wanted here", found.column)
+            raise Wrong(f"expected {word} here, not {found.text}", found.column)
 
     def done(self, *could):
-        """Refuses further words; some would have been known here."""
+        """Refuses further words; `could` are those that would have been known here."""
         if self.peek() is not None:
             word = self.words[self.taken]
-            raise Wrong(f"{word.text} is not wanted here{guessed(word.text, could)}", word.column)
+            raise Wrong(f"{word.text} is not expected here{guessed(word.text, could)}", word.column)
 
 
 class Numbers:
@@ -97,12 +97,12 @@ class Numbers:
         """A number: sums and products of numbers, sizes and what `repeat` counts."""
         pieces = PIECE.findall(word.text)
         if "".join(pieces) != word.text:
-            raise Wrong(f"{word.text} is no number", word.column)
+            raise Wrong(f"{word.text} is not a number", word.column)
         total, sign, product, after = 0, 1, None, "+"
         for piece in pieces:
             if piece in "+-*%":
                 if product is None or after:
-                    raise Wrong(f"{word.text} is no number", word.column)
+                    raise Wrong(f"{word.text} is not a number", word.column)
                 after = piece
                 continue
             value = self.atom(piece, word)
@@ -113,7 +113,7 @@ class Numbers:
             after = ""
         total += sign * (product or 0)
         if after or not 0 <= total <= most:
-            raise Wrong(f"{word.text} is no number from 0 to {most:,}", word.column)
+            raise Wrong(f"{word.text} is not a number from 0 to {most:,}", word.column)
         return total
 
     def atom(self, piece, word):
@@ -124,11 +124,11 @@ class Numbers:
         return int(piece[:-1]) * SIZES[piece[-1]] if piece[-1] in SIZES else int(piece, 0) if piece[:2] == "0x" else int(piece)
 
     def page_count(self, word):
-        """How many pages a number, or a size in whole pages, stands for."""
+        """How many pages a number, or a size in whole pages, means."""
         count = self.number(word)
         if word.text[-1:] in SIZES:
             if count % PAGE:
-                raise Wrong(f"{word.text} is not whole pages of 4K", word.column)
+                raise Wrong(f"{word.text} is not a whole number of 4K pages", word.column)
             count //= PAGE
         return count
 
@@ -147,14 +147,14 @@ class Numbers:
             elif re.fullmatch(r"[0-9]{1,10}-[0-9]{1,10}", part):
                 first, last = map(int, part.split("-"))
                 if first > last or last - first >= 64:
-                    raise Wrong(f"{part} is no range of nodes", word.column)
+                    raise Wrong(f"{part} is not a range of nodes", word.column)
                 found += range(first, last + 1)
             elif NUMBER.fullmatch(part) or part in self.variables:
                 found.append(self.number(Word(part, word.column), (1 << 32) - 1))
             else:
-                raise Wrong(f"{part} is no node{guessed(part, [*self.node_names, 'all', 'none'])}", word.column)
+                raise Wrong(f"{part} is not a node{guessed(part, [*self.node_names, 'all', 'none'])}", word.column)
         if single and len(found) != 1:
-            raise Wrong(f"{text} are {len(found)} nodes, where one is wanted", word.column)
+            raise Wrong(f"{text} is {len(found)} nodes, where one is expected", word.column)
         return found
 
     def pid(self, word):
@@ -172,7 +172,7 @@ class Numbers:
         numbers, total = {name: flag for flag, name in FLAGS.items()}, 0
         for name in word.text.split("|"):
             if name not in numbers:
-                raise Wrong(f"{name} is no flag{guessed(name, numbers)}", word.column)
+                raise Wrong(f"{name} is not a flag{guessed(name, numbers)}", word.column)
             total |= numbers[name]
         return total
 
@@ -180,16 +180,16 @@ class Numbers:
         if NUMBER.fullmatch(word.text):
             return self.number(word, (1 << 32) - 1)
         if word.text not in MODES:
-            raise Wrong(f"{word.text} is no mode{guessed(word.text, MODES)}", word.column)
+            raise Wrong(f"{word.text} is not a mode{guessed(word.text, MODES)}", word.column)
         return MODES.index(word.text)
 
     # ---- places
 
     def place(self, word):
-        """Pages, or one address: A, A[*], A[3], A[0:10:2], 0x10000, 0x10000[0:5]; behind a page, +N is a byte of it."""
+        """Pages, or one address: A, A[*], A[3], A[0:10:2], 0x10000, 0x10000[0:5]; after a page, +N is a byte of it."""
         match = PLACE.fullmatch(word.text)
         if not match:
-            raise Wrong(f"{word.text} is no place of a page", word.column)
+            raise Wrong(f"{word.text} does not name pages", word.column)
         base, inside, offset = match.groups()
         area = self.areas.get(base)
         if area is None and not NUMBER.fullmatch(base):
@@ -201,46 +201,46 @@ class Numbers:
             numbers, single = self.numbers(inside, area, word)
         if offset is not None:
             if not single:
-                raise Wrong(f"{word.text} has a byte behind more than one page", word.column)
+                raise Wrong(f"{word.text} has a byte offset for more than one page", word.column)
             address += self.number(Word(offset, word.column))
         if numbers and address + max(numbers[0], numbers[-1]) * PAGE > MOST:
             raise Wrong(f"{word.text} is past the last address", word.column)
         return Pages(address, numbers, single)
 
     def numbers(self, inside, area, word):
-        """The numbers of pages in brackets, and whether it is one page that is named."""
+        """The numbers of pages in brackets, and whether they name a single page."""
         if inside == "*":
             if not area:
-                raise Wrong("[*] is for an area that has a name", word.column)
+                raise Wrong("[*] is only for an area with a name", word.column)
             return range(area.pages), False
         ends = [self.number(Word(part, word.column)) if part else None for part in inside.split(":")]
         if len(ends) == 1 and ends[0] is not None:
             if area and ends[0] >= area.pages:
-                raise Wrong(f"{word.text} is behind the last of {counted(area.pages, 'page')}", word.column)
+                raise Wrong(f"{word.text} is past the last of {counted(area.pages, 'page')}", word.column)
             return range(ends[0], ends[0] + 1), True
         first, end, step = (ends + [None, None])[:3]
         end = (area.pages if area else None) if end is None else end
         if not 2 <= len(ends) <= 3 or end is None or step == 0 or (area and end > area.pages):
-            raise Wrong(f"{word.text} are no pages of {'the area' if area else 'an address'}", word.column)
+            raise Wrong(f"{word.text} is not a range of pages {'of the area' if area else 'from an address'}", word.column)
         return range(first or 0, max(end, first or 0), step or 1), False
 
     def addresses(self, word):
         """The addresses of a place, as far as a batch may have them."""
         pages = self.place(word)
         if count(pages) > MOST_ENTRIES:
-            raise Wrong(f"{word.text} are {counted(count(pages), 'page')}, and a batch has at most {MOST_ENTRIES:,}", word.column)
+            raise Wrong(f"{word.text} is {counted(count(pages), 'page')}, and a batch has at most {MOST_ENTRIES:,}", word.column)
         return [pages.address + number * PAGE for number in pages.numbers]
 
     def stretch(self, word):
         """The first address and the number of pages of a place without gaps."""
         pages = self.place(word)
         if pages.numbers.step != 1:
-            raise Wrong(f"{word.text} has gaps, where pages side by side are wanted", word.column)
+            raise Wrong(f"{word.text} has gaps, where adjacent pages are expected", word.column)
         return pages.address + pages.numbers.start * PAGE, count(pages)
 
 
 def count(pages):
-    """How many pages there are, also where they are more than len can say."""
+    """How many pages there are, even where they are more than len can say."""
     numbers = pages.numbers
     return max(0, -(-(numbers.stop - numbers.start) // numbers.step))
 
@@ -251,7 +251,7 @@ def data_of(word):
         try:
             return json.loads(word.text).encode().hex()
         except ValueError:
-            raise Wrong(f"{word.text} is no text", word.column) from None
+            raise Wrong(f"{word.text} is not a valid text", word.column) from None
     if not re.fullmatch("(?:[0-9A-Fa-f]{2})+", word.text):
         raise Wrong(f"{word.text} is neither a text in quotes nor an even number of hexadecimal digits", word.column)
     return word.text

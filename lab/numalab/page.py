@@ -8,7 +8,7 @@ TEMPLATE = os.path.join(os.path.dirname(os.path.abspath(__file__)), "picture.htm
 
 
 def page_of(name, top, lines, steps=None, progress=None):
-    """The page on a trace and the lines of its report."""
+    """The page for a trace and the lines of its report."""
     data = json.dumps(film_of(name, top, lines, steps, progress), separators=(",", ":"))
     with open(TEMPLATE, encoding="utf-8") as file:
         return file.read().replace("{{DATA}}", data.replace("<", "\\u003c").replace("\u2028", "\\u2028"))

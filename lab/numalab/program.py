@@ -1,4 +1,4 @@
-"""Finding the proved program, and letting it play a trace. Every report comes from it."""
+"""Finding the proved program, and having it play a trace. Every report comes from it."""
 import os
 import shutil
 import subprocess
@@ -14,7 +14,7 @@ NONE = "there is no program numatrace: ./build makes it, and --program PATH or t
 
 
 class Failed(RuntimeError):
-    """The program did not give a report. The command ends with status 1."""
+    """The program wrote no report. The command ends with status 1."""
 
 
 def usable(path):
@@ -52,14 +52,14 @@ def played(trace, asked=None):
 
 
 def run(words, data):
-    """Runs a command on some bytes: its status, standard output and standard error."""
+    """Runs a command with some bytes as its input: its status, standard output and standard error."""
     begun = time.monotonic()
-    with Progress("seconds that the program plays") as progress, subprocess.Popen(
+    with Progress("seconds that the program has played") as progress, subprocess.Popen(
             words, stdin=subprocess.PIPE, stdout=subprocess.PIPE, stderr=subprocess.PIPE) as process:
         while True:
             try:
                 out, err = process.communicate(data, timeout=0.5)
                 return process.returncode, out, err
             except subprocess.TimeoutExpired:
-                data = None  # What was given is not given again.
+                data = None  # What was sent is not sent again.
                 progress.at(int(time.monotonic() - begun))

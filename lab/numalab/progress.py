@@ -1,4 +1,4 @@
-"""A line on standard error for what takes over two seconds, at a terminal alone."""
+"""A line on standard error for what takes more than two seconds, only at a terminal."""
 import sys
 import time
 
@@ -6,7 +6,7 @@ PATIENCE, PAUSE = 2.0, 0.2
 
 
 class Progress:
-    """Tells how far something has come; used in a `with`, which takes the line away in the end."""
+    """Shows how far something has come; used in a `with`, which removes the line at the end."""
 
     def __init__(self, what):
         self.what, self.next = what, time.monotonic() + PATIENCE
@@ -20,7 +20,7 @@ class Progress:
             print("\r\033[K", end="", file=sys.stderr, flush=True)
 
     def at(self, done, total=None):
-        """Tells how many are done, and of how many where that is known."""
+        """Shows how many are done, and of how many where that is known."""
         if self.terminal and time.monotonic() >= self.next:
             of = "" if total is None else f" of {total:,}"
             print(f"\r\033[K{self.what}: {done:,}{of}", end="", file=sys.stderr, flush=True)

@@ -1,4 +1,4 @@
-"""What a report tells: its lines by steps, and of frames what stands between two changes."""
+"""What a report says: its lines by steps, and what it shows of frames between two changes."""
 import re
 from collections import namedtuple
 
@@ -14,11 +14,11 @@ FRAME = re.compile(r"(?P<frame>0|[1-9][0-9]{0,4})")
 ENTRY = re.compile(r"(?P<page>[0-9a-f]{5,9})000=(?:zero|(?P<frame>0|[1-9][0-9]{0,4}))")
 # The refusals that may come after moves.
 LATE = {("mbind", "error EIO"), ("offline", "error EBUSY")}
-# The steps that move no page, and neither take nor free a frame. Any other may.
+# The steps that move no page and neither take nor free a frame. All others may.
 KEEPS = {"spawn", "map", "attach", "pin", "unpin", "online", "query", "free", "pagemap", "numa_maps", "vmstat"}
 MOST_FRAMES = 16384
 
-# Its number in the file, its op and answer, the lines of accesses in flight behind it, and those of areas.
+# Its number in the file, its op and answer, the lines of accesses in flight after it, and those of areas.
 Line = namedtuple("Line", "number op answer flight areas")
 
 
@@ -27,7 +27,7 @@ def is_refused(line):
 
 
 def is_access(text, lines):
-    """Whether a line is that of the next access in flight behind the lines before it, the last of which is a batch's."""
+    """Whether a line is that of the next access in flight after the lines before it, the last of which is a batch's."""
     match = FLIGHT.fullmatch(text)
     if not match or is_refused(lines[-1]):
         return False
@@ -37,7 +37,7 @@ def is_access(text, lines):
 def report_lines(text):
     """The lines of the steps of a report."""
     if text and not text.endswith("\n"):
-        raise Bad("the last line has no line feed: the report was cut")
+        raise Bad("the last line has no line feed: the report was cut off")
     lines, skipped, ops = [], 0, Form().steps
     for number, line in enumerate(text.split("\n")[:-1], 1):
         if skipped:
@@ -49,32 +49,32 @@ def report_lines(text):
             continue
         match = LINE.fullmatch(line)
         if not match or match[2] not in ops or match[1] != str(len(lines)):
-            raise Bad(f"line {number}: wanted is the line of step {len(lines)}")
+            raise Bad(f"line {number}: expected the line of step {len(lines)}")
         if match[2] == "numa_maps" and not match[3].startswith("error "):
             if not NUMBER.fullmatch(match[3]):
-                raise Bad(f"line {number}: wanted is a number of areas")
+                raise Bad(f"line {number}: expected a number of areas")
             skipped = int(match[3])
         lines.append(Line(number, match[2], match[3], [] if match[2] == "move_pages" else (), [] if match[2] == "numa_maps" else ()))
     if skipped:
-        raise Bad(f"{skipped} line{' of numa_maps is' if skipped == 1 else 's of numa_maps are'} missing: the report was cut")
+        raise Bad(f"{skipped} line{' of numa_maps is' if skipped == 1 else 's of numa_maps are'} missing: the report was cut off")
     return lines
 
 
 def items_of(number, answer, form):
-    """The items of a list behind its count, each as the match of its form."""
+    """The items of a list after its count, each as the match of its form."""
     match = LIST.fullmatch(answer)
     items = match[2].split() if match else []
     if not match or match[1] != str(len(items)):
-        raise Bad(f"line {number}: wanted is a list behind the count of its items")
+        raise Bad(f"line {number}: expected a list after the count of its items")
     found = [form.fullmatch(item) for item in items]
     for item, one in zip(items, found):
         if not one or int(one["frame"] or 0) >= MOST_FRAMES:
-            raise Bad(f"line {number}: {item[:40]} is no item of this list")
+            raise Bad(f"line {number}: {item[:40]} is not an item of this list")
     return found
 
 
 def node_ranges(top):
-    """The frames of each node of a trace, which are numbered through."""
+    """The frames of each node of a trace, which are numbered consecutively."""
     found, end = [], 0
     for size in top["machine"]["nodes"]:
         found.append(range(end, end + size))
@@ -83,25 +83,25 @@ def node_ranges(top):
 
 
 class Layout:
-    """What a trace tells beyond its report."""
+    """What a trace says beyond its report."""
 
     def __init__(self, top):
         self.steps, self.ranges = top["steps"], node_ranges(top)
 
     def check(self, lines):
-        """Refuses the report of another trace, as far as the names of steps tell."""
+        """Refuses the report of another trace, as far as the names of steps show it."""
         for k, line in enumerate(lines):
             if k >= len(self.steps) or self.steps[k]["op"] != line.op:
-                raise Bad(f"line {line.number}: the trace has another step {k}")
+                raise Bad(f"line {line.number}: the trace has a different step {k}")
             if line.op == "move_pages" and not is_refused(line):
                 told = [access.split(" ")[1] for access in line.flight]
                 wanted = [access["op"] for access in self.steps[k].get("during", [])]
                 if told != (wanted[: len(told)] if k + 1 == len(lines) else wanted):
-                    raise Bad(f"line {line.number}: the trace has other accesses in flight in step {k}")
+                    raise Bad(f"line {line.number}: the trace has different accesses in flight in step {k}")
 
 
 class Moment:
-    """What the report tells of frames between two changes."""
+    """What the report says of frames between two changes."""
 
     def __init__(self, after, flight=()):
         self.after = after  # the step that may have changed something last, and its op
@@ -110,18 +110,18 @@ class Moment:
         self.free = {}  # by frame: its place in its node's list, from 1
         self.held = {}  # by frame: the pages that it holds, as (process, page number, None), or (None, page number, step)
         self.zeros = []  # where the page of zeros is seen, likewise
-        self.lists = []  # for each list of free frames its lowest and its highest, where it has one
-        self.nodes = set()  # the nodes whose list is told, where they are known
-        self.counts = {}  # by node, where nodes are known: by process, how many pages numa_maps tells
+        self.lists = []  # for each list of free frames that is not empty, its lowest and its highest frame
+        self.nodes = set()  # the nodes whose list is shown, where they are known
+        self.counts = {}  # by node, where nodes are known: how many pages of each process numa_maps shows
 
     def add_free(self, k, number, answer, machine):
         node = machine and machine.steps[k]["node"]
         if machine and node >= len(machine.ranges):
-            raise Bad(f"line {number}: node {node} is none of the trace")
+            raise Bad(f"line {number}: node {node} is not in the trace")
         frames = [int(match["frame"]) for match in items_of(number, answer, FRAME)]
         for place, frame in enumerate(frames, 1):
             if self.free.setdefault(frame, place) != place:
-                raise Bad(f"line {number}: frame {frame} stands twice")
+                raise Bad(f"line {number}: frame {frame} occurs twice")
             if machine and frame not in machine.ranges[node]:
                 raise Bad(f"line {number}: frame {frame} is not on node {node} of the trace")
         if machine:
@@ -135,18 +135,18 @@ class Moment:
         for match in items_of(number, answer, ENTRY):
             page = (machine.steps[k]["pid"], int(match["page"], 16), None) if machine else (None, int(match["page"], 16), k)
             if page[1] <= below:
-                raise Bad(f"line {number}: the entries do not go up")
+                raise Bad(f"line {number}: the entries are not in ascending order")
             below = page[1]
             if not match["frame"]:
                 self.zeros.append(page)
                 continue
             if machine and int(match["frame"]) >= machine.ranges[-1].stop:
-                raise Bad(f"line {number}: frame {match['frame']} is none of the trace")
+                raise Bad(f"line {number}: frame {match['frame']} is not in the trace")
             self.held.setdefault(int(match["frame"]), []).append(page)
         self.steps.append(k)
 
     def add_numa_maps(self, k, line, machine):
-        """Counts the pages of a process on each node. It tells no frame."""
+        """Counts the pages of a process on each node. It shows no frames."""
         self.steps.append(k)
         for area in line.areas:
             for node, count in re.findall(r" N([0-9]+)=([0-9]+)", area):
@@ -183,4 +183,4 @@ def read_report(data, name):
     try:
         return report_lines(data.decode("ascii"))
     except UnicodeDecodeError as error:
-        raise Bad(f"{name}: byte {error.start} is none of a report") from error
+        raise Bad(f"{name}: byte {error.start} does not belong in a report") from error

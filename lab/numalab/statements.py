@@ -7,18 +7,18 @@ from .notation import (FARTHER, FIRST_ADDRESS, LEAST_STEP, MOST, NAME, NEAR, NUM
 
 U32 = (1 << 32) - 1
 MOST_STEPS = MOST_BYTES // LEAST_STEP
-# Steps with sets, nodes or runs that may be out of range; of all others each number is in range as it is read.
+# Steps with sets, nodes or runs that may be out of range; the numbers of all other steps are checked as they are read.
 WITH_LISTS = ("spawn", "move_pages", "migrate_pages", "mbind")
 
 
 def tier_distances(tiers):
     """The rows of the short form: 10 from a node to itself, 20 between two nodes of the first tier, and 10 more for each tier
-    that the farther one of two nodes is behind it."""
+    that the farther of the two nodes is behind the first."""
     return [[10 if own == to else NEAR + FARTHER * max(tiers[own], tiers[to]) for to in range(len(tiers))] for own in range(len(tiers))]
 
 
 class Translation(Numbers):
-    """A file in the notation, statement by statement, and the trace that comes of it."""
+    """A file in the notation, statement by statement, and the trace that it makes."""
 
     def __init__(self, name):
         super().__init__()
@@ -46,10 +46,10 @@ class Translation(Numbers):
         self.steps.append(step)
 
     def new_name(self, words, what):
-        """A name that may be given, with its place."""
+        """A name for something new."""
         word = words.next(what)
         if not NAME.fullmatch(word.text) or word.text in ("all", "none"):
-            raise Wrong(f"{word.text} is no name", word.column)
+            raise Wrong(f"{word.text} is not a name", word.column)
         return word.text
 
     # ---- the machine
@@ -57,17 +57,17 @@ class Translation(Numbers):
     def say_nodes(self, words):
         self.before_steps(words)
         if self.nodes:
-            raise Wrong("nodes were told before", 1)
+            raise Wrong("nodes are already given", 1)
         tier = 0
         while True:
             name = words.next("a number of frames").text if words.peek() and NAME.fullmatch(words.peek()) else None
-            word = words.next("a number of frames, as 1200 or 2x1200")
+            word = words.next("a number of frames, such as 1200 or 2x1200")
             match = re.fullmatch(r"(?:([0-9]{1,5})x)?([0-9]{1,10}[KMG]?)", word.text)
             if not match:
-                raise Wrong(f"{word.text} is no number of frames, as 1200 or 2x1200", word.column)
+                raise Wrong(f"{word.text} is not a number of frames, such as 1200 or 2x1200", word.column)
             first, many = len(self.nodes), int(match[1] or 1)
             if not 1 <= many or first + many > 64:
-                raise Wrong(f"{word.text} makes {first + many} nodes, where 1 to 64 are wanted", word.column)
+                raise Wrong(f"{word.text} makes {first + many} nodes, where 1 to 64 are allowed", word.column)
             self.nodes += [self.page_count(Word(match[2], word.column))] * many
             self.tiers += [tier] * many
             if name:
@@ -80,7 +80,7 @@ class Translation(Numbers):
 
     def before_steps(self, words):
         if self.steps:
-            raise Wrong(f"{words.words[0].text} stands before all steps", words.words[0].column)
+            raise Wrong(f"{words.words[0].text} must come before all steps", words.words[0].column)
 
     def say_distance(self, words):
         self.before_steps(words)
@@ -129,7 +129,7 @@ class Translation(Numbers):
         return min(max([0, *self.processes.values()]) + 1, U32)
 
     def area_options(self, words, more):
-        """What may stand behind a new area."""
+        """What may follow a new area."""
         keys, known = {}, ("at", *more)
         while words.peek() is not None:
             option = words.has(*known)
@@ -144,7 +144,7 @@ class Translation(Numbers):
         return keys
 
     def new_area(self, name, keys, pages, segment, offset):
-        """Gives an area its name and its address, which is one of its own where none is told."""
+        """Gives an area its name and its address, which is a new one where none is given."""
         address = keys.get("at", self.next_address)
         self.areas[name] = Area(address, pages, segment, offset)
         self.next_address = next_free(address, pages, self.next_address)
@@ -165,7 +165,7 @@ class Translation(Numbers):
             word = words.next("an area, or pages of one")
             area, (address, pages) = self.areas.get(word.text.split("[")[0]), self.stretch(word)
             if area is None:
-                raise Wrong(f"{word.text} is no area with a name", word.column)
+                raise Wrong(f"{word.text} is not an area with a name", word.column)
             segment, offset = area.segment, area.offset + (address - area.address) // PAGE
             keys = self.area_options(words, ())
         else:
@@ -209,13 +209,13 @@ class Translation(Numbers):
         self.each(self.place(word), word.column, op=op, pid=pid, addr=0)
 
     def access(self, op, words):
-        """The keys of a read or a write but for its address, and its pages."""
+        """The keys of a read or a write without its address, and its pages."""
         pid, word = self.pid(words.next("a process")), words.next("a page")
         pages = self.place(word)
         if op == "read":
             more = {"len": self.number(words.next("a number of bytes")) if words.has("len") else 1}
         else:
-            more = {"data": data_of(words.next('bytes, as 61 or "a"'))}
+            more = {"data": data_of(words.next('bytes, such as 61 or "a"'))}
         words.done("len")
         return {"op": op, "pid": pid, "addr": 0, **more}, pages, word
 
@@ -241,14 +241,14 @@ class Translation(Numbers):
             if targets and words.has("to"):
                 found = self.node_list(words.next("a node"))
                 if not found:
-                    raise Wrong("no node is no target", words.words[words.taken - 1].column)
+                    raise Wrong("an empty set of nodes cannot be a target", words.words[words.taken - 1].column)
                 nodes += [found[k % len(found)] for k in range(len(addresses) - len(nodes))]
             if not words.has(","):
                 break
         if targets and len(nodes) < len(addresses):
             words.need("to")
         if len(addresses) > MOST_ENTRIES:
-            raise Wrong(f"the batch has {len(addresses):,} entries, and at most {MOST_ENTRIES:,} are wanted", word.column)
+            raise Wrong(f"the batch has {len(addresses):,} entries, and at most {MOST_ENTRIES:,} are allowed", word.column)
         return addresses, nodes
 
     def say_move_pages(self, words, during=None):
@@ -291,14 +291,14 @@ class Translation(Numbers):
         if words.has("len"):
             pages = self.place(word)
             if not pages.single:
-                raise Wrong(f"{word.text} are pages: len is for one address", word.column)
+                raise Wrong(f"{word.text} is more than one page: len takes a single address", word.column)
             address, length = pages.address + pages.numbers[0] * PAGE, self.number(words.next("a number of bytes"))
         else:
             address, length = self.stretch(word)
             length *= PAGE
             if length > MOST:
                 raise Wrong(f"{word.text} has more than 2^64 bytes", word.column)
-        mode = self.mode(words.next("a mode, as MPOL_BIND"))
+        mode = self.mode(words.next("a mode, such as MPOL_BIND"))
         nodes = self.node_list(words.next("a set of nodes")) if words.peek() not in (None, "flags") else []
         flags = self.flags(words.next("flags")) if words.has("flags") else 0
         words.done("flags")

@@ -9,7 +9,7 @@ WIDTH, MOST_BYTES, MOST_RANGES, MOST_ROWS = 58, 24, 12, 64
 
 
 class Plain(Notator):
-    """Steps in the notation, by pids and addresses alone."""
+    """Steps in the notation, with pids and addresses in place of names."""
 
     def __init__(self, top):
         super().__init__(top, brief=False)
@@ -48,7 +48,7 @@ def ranges_text(numbers):
 
 
 def pages_text(first, last, step, times):
-    """Pages at one distance, by address; or one page, which is named so many times."""
+    """Pages at one distance, by address; or one page, with the number of times that it is named."""
     if first == last:
         return f"{first:#x}" + (f", {times:,} times" if times > 1 else "")
     apart = f", {step // PAGE} pages apart" if step > PAGE else ""
@@ -66,7 +66,7 @@ def data_shown(data):
 
 
 class Table:
-    """The lines on each step."""
+    """The lines for each step."""
 
     def __init__(self, top, all_rows=True):
         self.plain, self.steps, self.all_rows = Plain(top), top["steps"], all_rows
@@ -79,13 +79,13 @@ class Table:
         return f"{head:>6}  {left:<{WIDTH - 6}}  {right}".rstrip()
 
     def head(self, k, line, value=None):
-        """A step, and its answer as far as it stands on its own line."""
+        """A step, and as much of its answer as fits on its line."""
         step = self.steps[k]
         text = self.plain.text(step if step["op"] != "move_pages" else {key: step[key] for key in step if key != "during"})
         return text, self.answer(line, value or answer_of(line))
 
     def lines(self, k, line, reasons=None):
-        """The lines on step k, with reasons by what they are about where these are told."""
+        """The lines for step k, each with its reasons where these are given."""
         told, value = {}, answer_of(line)
         for about, text in reasons or ():
             told.setdefault(about, []).append(text)
@@ -119,16 +119,16 @@ class Table:
         """The lines under a step: its entries, its accesses in flight, its pages or its areas."""
         if line.op in ("move_pages", "query"):
             if len(value["statuses"]) != len(step["pages"]):
-                raise Bad(f"line {line.number}: wanted are {counted(len(step['pages']), 'status', 'statuses')}")
+                raise Bad(f"line {line.number}: expected {counted(len(step['pages']), 'status', 'statuses')}")
             return self.entries(step, value["statuses"], told) + self.flights(step, line, told)
         if line.op == "pagemap":
             if any((entry["frame"] or 0) >= len(self.owner) for entry in value["entries"]):
-                raise Bad(f"line {line.number}: a frame is none of the trace")
+                raise Bad(f"line {line.number}: a frame is not in the trace")
             return self.pagemap(value["entries"])
         return [self.row("  " + area, "") for area in line.areas]
 
     def entries(self, step, statuses, told):
-        """Entries of one target and status at one distance are one line; with reasons each is one."""
+        """Entries with one target and one status at one distance share a line; with reasons each has its own."""
         targets = step.get("nodes") or [None] * len(statuses)
         rows = zip(step["pages"], targets, statuses, range(len(statuses)))
 
@@ -158,7 +158,7 @@ class Table:
         return found
 
     def pagemap(self, entries):
-        """Pages and frames side by side that go up together are one line."""
+        """Adjacent pages in adjacent frames share a line."""
         def joins(group, entry):
             last = group[-1]
             if entry["address"] != last["address"] + PAGE or (entry["frame"] is None) != (last["frame"] is None):

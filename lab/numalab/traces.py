@@ -8,7 +8,7 @@ from .faults import MOST_BYTES, verdict
 
 
 class Bad(ValueError):
-    """What is wrong of a trace, a report or a word. Its command ends with status 2."""
+    """What is wrong with a trace, a report or an argument. The command ends with status 2."""
 
 
 def read_file(path, most=-1):
@@ -50,7 +50,7 @@ def json_text(top):
 
 
 class Trace:
-    """A trace: its name, its bytes as JSON, and the value of these once it is asked for."""
+    """A trace: its name, its bytes as JSON, and their value once it is needed."""
 
     def __init__(self, name, data, top=None):
         self.name, self.data, self._top = name, data, top
@@ -83,10 +83,10 @@ def looks_like_trace(path, data):
 
 
 def trace_of(path, data):
-    """The trace of the bytes of a file. JSON is not looked at yet."""
+    """The trace of the bytes of a file. JSON is not parsed yet."""
     if not is_notation(path):
         return Trace(path, data)
-    from .translate import trace_from  # It stands on this module.
+    from .translate import trace_from  # It imports this module.
     top = trace_from(data, path)
     text = json_text(top).encode()
     if len(text) > MOST_BYTES:

@@ -16,25 +16,25 @@ class File:
         try:
             text = data.decode("utf-8")
         except UnicodeDecodeError as error:
-            self.faults.append((data.count(b"\n", 0, error.start) + 1, 1, "no UTF-8"))
+            self.faults.append((data.count(b"\n", 0, error.start) + 1, 1, "not UTF-8"))
             return
         with Progress(f"{name}: steps") as self.progress:
             self.look(text)
 
     def look(self, text):
-        """Plays all lines, or tells what is wrong with their form."""
+        """Plays all lines, or notes what is wrong with their form."""
         self.lines = [self.words(number, line) for number, line in enumerate(text.split("\n"), 1)]
         self.ends = self.block_ends()
         if not self.faults:
             self.play(0, len(self.lines))
         if not self.faults and not self.made.nodes:
-            self.faults.append((1, 1, "nodes is missing: wanted is a line as `nodes 2x4`"))
+            self.faults.append((1, 1, "nodes is missing: expected a line such as `nodes 2x4`"))
         elif not self.faults:
             top = {**self.made.top, "steps": []}
             self.faults = [(self.line_of(fault.path), 1, fault.text) for fault in machine_faults(self.made.form, top)]
 
     def line_of(self, path):
-        """The first line that tells a part of the machine."""
+        """The first line that describes a part of the machine."""
         word = "run_limit" if path[0] == "run_limit" else path[1]
         lines = [k + 1 for k, words in enumerate(self.lines) if words.words and words.words[0].text == word]
         return lines[0] if lines else 1
@@ -61,7 +61,7 @@ class File:
                 if open_blocks:
                     ends[open_blocks.pop()] = k
                 else:
-                    self.faults.append((k + 1, 1, "end ends no block"))
+                    self.faults.append((k + 1, 1, "end without a block"))
         self.faults += [(k + 1, 1, "the block has no end") for k in open_blocks]
         return ends
 
@@ -91,12 +91,12 @@ class File:
             self.made.say_move_pages(words, self.flights(at))
         elif word.text in STEPS:
             if not self.made.nodes:
-                raise Wrong("the nodes come first, as `nodes 2x4`", word.column)
+                raise Wrong("nodes must come first, with a line such as `nodes 2x4`", word.column)
             STEPS[word.text](self.made, words)
         elif word.text in MACHINE:
             MACHINE[word.text](self.made, words)
         else:
-            raise Wrong(f"{word.text} is no statement{guessed(word.text, [*STEPS, *MACHINE, *BLOCKS])}", word.column)
+            raise Wrong(f"{word.text} is not a statement{guessed(word.text, [*STEPS, *MACHINE, *BLOCKS])}", word.column)
 
     def flights(self, at):
         """The accesses in flight of a block."""
@@ -109,18 +109,18 @@ class File:
         return found
 
     def repeat(self, words, at):
-        """Plays a block as often as is said."""
+        """Plays a block as many times as it says."""
         word = words.next("how often")
         times, name = self.made.number(word), None
         if words.has("as"):
             named = words.next("a name")
             if not NAME.fullmatch(named.text) or not named.text.isidentifier():
-                raise Wrong(f"{named.text} is no name for a number", named.column)
+                raise Wrong(f"{named.text} is not a name for a number", named.column)
             name = named.text
         words.done("as")
         self.times += times
         if self.times > MOST_TIMES:
-            raise Wrong(f"blocks would be played over {MOST_TIMES:,} times", word.column)
+            raise Wrong(f"blocks would be played more than {MOST_TIMES:,} times", word.column)
         before = dict(self.made.variables)
         for number in range(times):
             if name:
@@ -132,7 +132,7 @@ class File:
 
 
 def translated(data, name):
-    """The trace that a file says, and its faults as (line, column, text)."""
+    """The trace that a file describes, and its faults as (line, column, text)."""
     if len(data) > MOST_BYTES:
         return None, [(1, 1, f"the file has more than {MOST_BYTES:,} bytes")]
     file = File(data, name)
@@ -140,10 +140,10 @@ def translated(data, name):
 
 
 def trace_from(data, name):
-    """The trace that a file says. Its first fault is told."""
+    """The trace that a file describes. Raises its first fault."""
     top, faults = translated(data, name)
     if faults:
         line, column, text = faults[0]
-        more = f" (numalab why {name} tells {len(faults) - 1:,} more)" if len(faults) > 1 else ""
+        more = f" (numalab why {name} shows {len(faults) - 1:,} more)" if len(faults) > 1 else ""
         raise Bad(f"{name}:{line}:{column}: {text}{more}")
     return top

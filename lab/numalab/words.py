@@ -3,7 +3,7 @@
 # Flags of move_pages, query and mbind, and the modes of mbind by their numbers.
 FLAGS = {1: "MPOL_MF_STRICT", 2: "MPOL_MF_MOVE", 4: "MPOL_MF_MOVE_ALL"}
 MODES = ["MPOL_DEFAULT", "MPOL_PREFERRED", "MPOL_BIND", "MPOL_INTERLEAVE", "MPOL_LOCAL"]
-# Errors that calls and statuses tell, by their numbers.
+# Errors of calls and statuses, by their numbers.
 ERRORS = {1: "EPERM", 2: "ENOENT", 3: "ESRCH", 5: "EIO", 12: "ENOMEM", 13: "EACCES", 14: "EFAULT", 16: "EBUSY", 19: "ENODEV",
           22: "EINVAL"}
 PAGE = 4096
@@ -34,7 +34,7 @@ def status_text(status):
 
 
 def nodes_text(nodes):
-    """A list of nodes, consecutive ones as a range; read as a list, the text gives the same list again."""
+    """A list of nodes, consecutive ones as a range; read back, the text is the same list."""
     stretches = []
     for node in nodes:
         if stretches and stretches[-1][1] == node - 1:

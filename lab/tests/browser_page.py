@@ -1,6 +1,6 @@
-"""The page of numalab picture --html in headless Chromium: keys and clicks move the slider, and the page tells each state.
+"""The page of numalab picture --html in headless Chromium: keys and clicks move the slider, and the page describes each state.
 
-These tests want Chromium (Debian's package `chromium`), and are skipped where there is none."""
+These tests need Chromium (Debian's package `chromium`), and are skipped where there is none."""
 import json
 import os
 import select
@@ -33,7 +33,7 @@ STATE = """JSON.stringify({told: document.getElementById("told").textContent, so
 
 
 class Browser:
-    """A headless browser that is driven through its pipe for developers: messages of JSON that end with a zero byte."""
+    """A headless browser that is driven through its debugging pipe: JSON messages that end with a zero byte."""
 
     def __init__(self, folder):
         here, theirs = os.pipe(), os.pipe()
@@ -107,7 +107,7 @@ class Browser:
         self.input.close()
 
 
-@unittest.skipUnless(CHROMIUM, "the page is not tried in a browser, as there is no Chromium: apt-get install chromium")
+@unittest.skipUnless(CHROMIUM, "the page is not tested in a browser, as there is no Chromium: apt-get install chromium")
 class Page(Case):
     """One browser for all tests, which each open a page."""
 
@@ -122,7 +122,7 @@ class Page(Case):
         shutil.rmtree(cls.folder, ignore_errors=True)
 
     def page(self, name, *words):
-        # Another name each time: to the same one with another step behind it a browser only scrolls.
+        # A different name each time: a browser only scrolls to another step of the same one.
         out = os.path.join(self.there, f"page{len(os.listdir(self.there))}.html")
         status, _, err = run("picture", *words, "-o", out)
         self.assertEqual((status, err), (0, ""))

@@ -1,5 +1,5 @@
-"""Beside this machine's kernel: the player is built and makes a trace's calls, and strace follows a command. What these tests want
-and do not find, they name and skip."""
+"""With this machine's kernel: the player is built and makes a trace's calls, and strace follows a command. Tests that lack what they
+need say so and are skipped."""
 import ctypes
 import errno
 import json
@@ -67,7 +67,7 @@ class Here(Case):
     @unittest.skipIf(errno.EPERM in asked_of_kernel(), "calls about nodes are forbidden here, as a container's filter may do")
     def test_here(self):
         if player.nodes_here() != 1:
-            self.skipTest("this machine has more than the one node that the trace has")
+            self.skipTest("this machine has more nodes than the one of the trace")
         path = self.written("t.nt", HERE)
         status, out, err = run("replay", path, "--here")
         self.assertEqual((status, err), (0, ""))

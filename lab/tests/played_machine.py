@@ -18,7 +18,7 @@ from numalab.traces import load
 
 @needs_program
 class Calls(Case):
-    """Machines that are played."""
+    """Machines, with the program."""
 
     def three_pages(self):
         m = Machine(nodes=[4, 4])
@@ -114,7 +114,7 @@ class Calls(Case):
 
 
 def blocks(words):
-    """The blocks of code in the manual that begin with a line."""
+    """The blocks of code in the manual that begin with the given line."""
     return [textwrap.dedent(block) for block in re.findall(r"(?m)^((?:    .*\n|\n(?=    ))+)", read("docs/MANUAL.md"))
             if textwrap.dedent(block).lstrip("\n").startswith(words)]
 

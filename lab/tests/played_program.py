@@ -1,5 +1,5 @@
-"""numalab beside the program: both forms of the examples, mutated and drawn traces, a trace of the greatest length, and how the
-program is found. These tests want the program, and are skipped where there is none."""
+"""numalab with the program: both forms of the examples, mutated and drawn traces, a trace of the greatest length, and how the
+program is found. These tests need the program, and are skipped where there is none."""
 import json
 import multiprocessing
 import os
@@ -64,7 +64,7 @@ def long_trace():
 
 @needs_program
 class Played(Case):
-    """What the program is asked for."""
+    """What the program is asked to play."""
 
     def test_both_forms(self):
         for path in EXAMPLES:
@@ -127,7 +127,7 @@ class Finding(Case):
         self.assertEqual(started("show", trace, environment=env), (2, "", f"numalab: there is no program {env['NUMATRACE']}\n"))
 
     def test_none(self):
-        # A copy of the package, from which no repository is seen.
+        # A copy of the package outside the repository.
         shutil.copytree(f"{ROOT}/lab/numalab", os.path.join(self.there, "x/y/numalab"))
         env = {key: value for key, value in os.environ.items() if key != "NUMATRACE"}
         ran = subprocess.run([sys.executable, "-m", "numalab", "show", f"{ROOT}/examples/three_pages.json"], capture_output=True,

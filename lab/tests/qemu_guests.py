@@ -1,4 +1,4 @@
-"""Guests: all scenarios on both kernels, beside the program; and a guest that ends early. lab/kernels fetches what they want."""
+"""Guests: all scenarios on both kernels, compared with the program; and a guest that ends early. lab/kernels fetches what they need."""
 import os
 import unittest
 
@@ -24,7 +24,7 @@ class Guests(Case):
             self.assertEqual(out.count(" same\n"), 7, out)
 
     def test_a_guest_that_ends_early(self):
-        # What is no instruction of a step is one of a process that is not there; an instruction that the player cannot follow stops it.
+        # An unknown instruction counts as a call of a process that is not there; one that the player cannot follow stops it.
         with self.assertRaisesRegex(Bad, "without a whole report; its console shows\\n(.*\\n)*.*memfd_create"):
             guest.boot(guest.kernel_asked("6.1"), player.built(), "shared 5000 1\n", ([8], ((10,),), frozenset()))
 

@@ -1,6 +1,6 @@
 #!/usr/bin/env python3
-"""Runs the tests of numalab whose files match a pattern, `test_*.py` if none is named. Silent where all is well; what was skipped is
-told, with the reason."""
+"""Runs the tests of numalab whose files match a pattern, `test_*.py` by default. Silent where all is well; skipped tests are
+named, with the reason."""
 import io
 import os
 import sys

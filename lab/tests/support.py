@@ -51,13 +51,13 @@ def read(name):
 
 
 def started(*words, command=COMMAND, given=None, folder=None, environment=None):
-    """Status, standard output and standard error of the command, in a process of its own, which is given some text."""
+    """Status, standard output and standard error of the command, in a process of its own, with some text as its input."""
     ran = subprocess.run([command, *words], input=(given or "").encode(), capture_output=True, check=False, cwd=folder, env=environment)
     return ran.returncode, ran.stdout.decode(), ran.stderr.decode()
 
 
 def run(*words, given="", folder=None):
-    """The same within this process, which takes less time."""
+    """The same within this process, which is faster."""
     streams = [io.TextIOWrapper(io.BytesIO(given.encode() if part == 0 else b""), encoding="utf-8") for part in range(3)]
     before, here = (sys.stdin, sys.stdout, sys.stderr), os.getcwd()
     sys.stdin, sys.stdout, sys.stderr = streams

@@ -1,5 +1,5 @@
-"""What is drawn of reports, with and without their traces, that nothing overlaps or leaves the picture, that docs/ has the
-picture that is drawn now, and what is said of bad input."""
+"""What is drawn of reports, with and without their traces; that nothing overlaps or leaves the picture; that docs/ has the
+picture that is drawn now; and what is said of bad input."""
 import glob
 import json
 import os
@@ -19,7 +19,7 @@ SHOWN = "docs/chain_of_nodes.svg", "examples/chain_of_nodes"
 Box = namedtuple("Box", "left top right bottom")
 Square = namedtuple("Square", "box kind tip")
 
-# Reports by hand, each with whether its trace is given, and the squares of its picture: column by column, by frame.
+# Reports written by hand, each with whether its trace is given, and the squares of its picture: column by column, by frame.
 TWO_NODES = '{"version":1,"machine":{"nodes":[2,3],"distance":[[10,20],[20,10]]},"steps":[%s]}'
 SPAWN = '{"op":"spawn","pid":%d,"uid":1,"home":0,"allowed":[0]}'
 LOOKS = '{"op":"free","node":0},{"op":"free","node":1},{"op":"pagemap","pid":7},{"op":"pagemap","pid":8}'
@@ -37,94 +37,94 @@ DRAWN = [
         "free frame 2: free, number 2 of its node's list",
         "held frame 3: page 10 of the process of step 2, page 7fffffffe of the process of step 3",
         "free frame 4: free, number 1 of its node's list"]),
-    # A pagemap line alone tells of its frames; what is between two columns is not carried over.
+    # A pagemap line alone shows its frames; nothing is carried from one column to the next.
     ("0 pagemap 1: 00010000=0\n1 write ok\n2 free 0:\n",
      '{"op":"pagemap","pid":7},{"op":"write","pid":7,"addr":0,"data":"61"},{"op":"free","node":0}', [
          "held frame 0: page 10 of process 7", "unknown frame 1: not known", "nothing",
          "taken frame 0: not free; no pagemap line here shows its page",
          "taken frame 1: not free; no pagemap line here shows its page", "nothing"]),
-    # Looks, refusals and new areas part no moment; mbind's EIO does.
+    # Looks, refusals and new areas do not end a moment; mbind's EIO does.
     ("0 free 2: 0 1\n1 map segment=0\n2 write error EFAULT\n3 vmstat pgmigrate_success 0 pgmigrate_fail 0\n4 free 3: 2 3 4\n"
      "5 mbind error EINVAL\n6 numa_maps 1\n00010000 default\n7 query 0: -2\n8 free 2: 0 1\n9 mbind error EIO\n10 free 2: 1 0\n", None, [
          "free frame 0: free, number 1 of its node's list", "free frame 1: free, number 2 of its node's list",
          "free frame 2: free, number 1 of its node's list", "free frame 3: free, number 2 of its node's list",
          "free frame 4: free, number 3 of its node's list",
          "free frame 0: free, number 2 of its node's list", "free frame 1: free, number 1 of its node's list", "nothing"]),
-    # Lines of accesses in flight belong to their batch, and part no moment more than it does.
+    # Lines of accesses in flight belong to their batch, and do not end a moment by themselves.
     ("0 free 2: 0 1\n1 move_pages 0: 1\n1.0 read held\n1.1 write ok\n1.2 read 0aff\n1.3 write error ENOMEM\n2 free 2: 1 0\n",
      '{"op":"free","node":0},{"op":"move_pages","caller":1,"pid":0,"pages":[0],"nodes":[1],"flags":2,"during":['
      '{"run":0,"op":"read","pid":1,"addr":0,"len":1},{"run":0,"op":"write","pid":1,"addr":0,"data":"61"},'
      '{"run":0,"op":"read","pid":1,"addr":0,"len":2},{"run":0,"op":"write","pid":1,"addr":0,"data":"61"}]},{"op":"free","node":0}', [
          "free frame 0: free, number 1 of its node's list", "free frame 1: free, number 2 of its node's list", "nothing",
          "free frame 0: free, number 2 of its node's list", "free frame 1: free, number 1 of its node's list", "nothing"]),
-    # A page's number stands in its square where there is room for it.
+    # A page's number is in its square where there is room for it.
     ("0 pagemap 1: 7fffffffe000=16383\n", None, ["held frame 16383: page 7fffffffe of the process of step 0"]),
-    # A refused look tells nothing.
+    # A refused look shows nothing.
     ("0 free error EINVAL\n1 pagemap error ESRCH\n", None, []),
     ("", None, []),
 ]
 
-# Reports that are none, and what is said of them.
+# What is not a report, and what is said of it.
 BAD = [
-    ("0 free 1: 1", "the last line has no line feed: the report was cut"),
-    ("1 free 1: 1\n", "line 1: wanted is the line of step 0"),
-    ("00 free 1: 1\n", "line 1: wanted is the line of step 0"),
-    ("0 free 1: 1\n0 free 1: 1\n", "line 2: wanted is the line of step 1"),
-    ("0 fork ok\n", "line 1: wanted is the line of step 0"),
-    ("0 spawn ok\r\n1 fork\r\n", "line 2: wanted is the line of step 1"),
-    ("\n", "line 1: wanted is the line of step 0"),
-    ("{\"version\":1}\n", "line 1: wanted is the line of step 0"),
-    ("0 numa_maps 2\n00010000 default\n", "1 line of numa_maps is missing: the report was cut"),
-    ("0 numa_maps 9\n00010000 default\n", "8 lines of numa_maps are missing: the report was cut"),
+    ("0 free 1: 1", "the last line has no line feed: the report was cut off"),
+    ("1 free 1: 1\n", "line 1: expected the line of step 0"),
+    ("00 free 1: 1\n", "line 1: expected the line of step 0"),
+    ("0 free 1: 1\n0 free 1: 1\n", "line 2: expected the line of step 1"),
+    ("0 fork ok\n", "line 1: expected the line of step 0"),
+    ("0 spawn ok\r\n1 fork\r\n", "line 2: expected the line of step 1"),
+    ("\n", "line 1: expected the line of step 0"),
+    ("{\"version\":1}\n", "line 1: expected the line of step 0"),
+    ("0 numa_maps 2\n00010000 default\n", "1 line of numa_maps is missing: the report was cut off"),
+    ("0 numa_maps 9\n00010000 default\n", "8 lines of numa_maps are missing: the report was cut off"),
     ("0 numa_maps x\n", "line 1: expected a number of areas"),
-    ("0 free 2: 1\n", "line 1: expected a list behind the count of its items"),
-    ("0 free 1:1\n", "line 1: expected a list behind the count of its items"),
-    ("0 free 1: 1 \n", "line 1: expected a list behind the count of its items"),
-    ("0 free ok\n", "line 1: expected a list behind the count of its items"),
-    ("0 free 1: 01\n", "line 1: 01 is no item of this list"),
-    ("0 free 1: 16384\n", "line 1: 16384 is no item of this list"),
-    ("0 free 1: zero\n", "line 1: zero is no item of this list"),
-    ("0 free 2: 3 3\n", "line 1: frame 3 stands twice"),
-    ("0 free 1: 3\n1 free 2: 4 3\n", "line 2: frame 3 stands twice"),
-    ("0 pagemap 1: 10000=1\n", "line 1: 10000=1 is no item of this list"),
-    ("0 pagemap 1: 00010000=99999\n", "line 1: 00010000=99999 is no item of this list"),
-    ("0 pagemap 1: 00010001=1\n", "line 1: 00010001=1 is no item of this list"),
-    ("0 pagemap 1: 0001000A=1\n", "line 1: 0001000A=1 is no item of this list"),
-    ("0 pagemap 2: 00011000=1 00010000=2\n", "line 1: the entries do not go up"),
-    ("0 pagemap 2: 00010000=1 00010000=2\n", "line 1: the entries do not go up"),
+    ("0 free 2: 1\n", "line 1: expected a list after the count of its items"),
+    ("0 free 1:1\n", "line 1: expected a list after the count of its items"),
+    ("0 free 1: 1 \n", "line 1: expected a list after the count of its items"),
+    ("0 free ok\n", "line 1: expected a list after the count of its items"),
+    ("0 free 1: 01\n", "line 1: 01 is not an item of this list"),
+    ("0 free 1: 16384\n", "line 1: 16384 is not an item of this list"),
+    ("0 free 1: zero\n", "line 1: zero is not an item of this list"),
+    ("0 free 2: 3 3\n", "line 1: frame 3 occurs twice"),
+    ("0 free 1: 3\n1 free 2: 4 3\n", "line 2: frame 3 occurs twice"),
+    ("0 pagemap 1: 10000=1\n", "line 1: 10000=1 is not an item of this list"),
+    ("0 pagemap 1: 00010000=99999\n", "line 1: 00010000=99999 is not an item of this list"),
+    ("0 pagemap 1: 00010001=1\n", "line 1: 00010001=1 is not an item of this list"),
+    ("0 pagemap 1: 0001000A=1\n", "line 1: 0001000A=1 is not an item of this list"),
+    ("0 pagemap 2: 00011000=1 00010000=2\n", "line 1: the entries are not in ascending order"),
+    ("0 pagemap 2: 00010000=1 00010000=2\n", "line 1: the entries are not in ascending order"),
     ("0 free 1: 3\n1 pagemap 1: 00010000=3\n", "steps 0 to 1: frame 3 is both free and held"),
-    ("0.0 read held\n", "line 1: wanted is the line of step 0"),
-    ("0 read 61\n0.0 read held\n", "line 2: wanted is the line of step 1"),
-    ("0 migrate_pages 0\n0.0 read held\n", "line 2: wanted is the line of step 1"),
-    ("0 move_pages error ENODEV\n0.0 read held\n", "line 2: wanted is the line of step 1"),
-    ("0 move_pages 0: 1\n1.0 read held\n", "line 2: wanted is the line of step 1"),
-    ("0 move_pages 0: 1\n0.1 read held\n", "line 2: wanted is the line of step 1"),
-    ("0 move_pages 0: 1\n0.00 read held\n", "line 2: wanted is the line of step 1"),
-    ("0 move_pages 0: 1\n0.0 read held\n0.0 read held\n", "line 3: wanted is the line of step 1"),
-    ("0 move_pages 0: 1\n0.0 read held\n0.2 read held\n", "line 3: wanted is the line of step 1"),
-    ("0 move_pages 0: 1\n0.0 read held\n1 vmstat x\n0.1 read held\n", "line 4: wanted is the line of step 2"),
-    ("0 move_pages 0: 1\n0.0 read ok\n", "line 2: wanted is the line of step 1"),
-    ("0 move_pages 0: 1\n0.0 read 6\n", "line 2: wanted is the line of step 1"),
-    ("0 move_pages 0: 1\n0.0 read 6A\n", "line 2: wanted is the line of step 1"),
-    ("0 move_pages 0: 1\n0.0 read \n", "line 2: wanted is the line of step 1"),
-    ("0 move_pages 0: 1\n0.0 write 61\n", "line 2: wanted is the line of step 1"),
-    ("0 move_pages 0: 1\n0.0 write held \n", "line 2: wanted is the line of step 1"),
-    ("0 move_pages 0: 1\n0.0 pin ok\n", "line 2: wanted is the line of step 1"),
-    ("0 move_pages 0: 1\n0.0 write error\n", "line 2: wanted is the line of step 1"),
+    ("0.0 read held\n", "line 1: expected the line of step 0"),
+    ("0 read 61\n0.0 read held\n", "line 2: expected the line of step 1"),
+    ("0 migrate_pages 0\n0.0 read held\n", "line 2: expected the line of step 1"),
+    ("0 move_pages error ENODEV\n0.0 read held\n", "line 2: expected the line of step 1"),
+    ("0 move_pages 0: 1\n1.0 read held\n", "line 2: expected the line of step 1"),
+    ("0 move_pages 0: 1\n0.1 read held\n", "line 2: expected the line of step 1"),
+    ("0 move_pages 0: 1\n0.00 read held\n", "line 2: expected the line of step 1"),
+    ("0 move_pages 0: 1\n0.0 read held\n0.0 read held\n", "line 3: expected the line of step 1"),
+    ("0 move_pages 0: 1\n0.0 read held\n0.2 read held\n", "line 3: expected the line of step 1"),
+    ("0 move_pages 0: 1\n0.0 read held\n1 vmstat x\n0.1 read held\n", "line 4: expected the line of step 2"),
+    ("0 move_pages 0: 1\n0.0 read ok\n", "line 2: expected the line of step 1"),
+    ("0 move_pages 0: 1\n0.0 read 6\n", "line 2: expected the line of step 1"),
+    ("0 move_pages 0: 1\n0.0 read 6A\n", "line 2: expected the line of step 1"),
+    ("0 move_pages 0: 1\n0.0 read \n", "line 2: expected the line of step 1"),
+    ("0 move_pages 0: 1\n0.0 write 61\n", "line 2: expected the line of step 1"),
+    ("0 move_pages 0: 1\n0.0 write held \n", "line 2: expected the line of step 1"),
+    ("0 move_pages 0: 1\n0.0 pin ok\n", "line 2: expected the line of step 1"),
+    ("0 move_pages 0: 1\n0.0 write error\n", "line 2: expected the line of step 1"),
 ]
 
 FLIGHT = ('{"op":"move_pages","caller":1,"pid":0,"pages":[0],"nodes":[1],"flags":2,"during":[{"run":0,"op":"read","pid":1,"addr":0,"len":1},'
           '{"run":0,"op":"write","pid":1,"addr":0,"data":"61"}]}')
-OTHERS = "line 1: the trace has other accesses in flight in step 0"
+OTHERS = "line 1: the trace has different accesses in flight in step 0"
 
 # Reports that are not of the trace beside them.
 OTHER = [
-    ("0 free 1: 1\n", '{"op":"pagemap","pid":1}', "line 1: the trace has another step 0"),
-    ("0 free 1: 1\n1 free 0:\n", '{"op":"free","node":0}', "line 2: the trace has another step 1"),
+    ("0 free 1: 1\n", '{"op":"pagemap","pid":1}', "line 1: the trace has a different step 0"),
+    ("0 free 1: 1\n1 free 0:\n", '{"op":"free","node":0}', "line 2: the trace has a different step 1"),
     ("0 free 1: 1\n", '{"op":"free","node":1}', "line 1: frame 1 is not on node 1 of the trace"),
-    ("0 free 1: 1\n", '{"op":"free","node":64}', "line 1: node 64 is none of the trace"),
-    ("0 free 0:\n", '{"op":"free","node":2}', "line 1: node 2 is none of the trace"),
-    ("0 pagemap 1: 00010000=5\n", '{"op":"pagemap","pid":1}', "line 1: frame 5 is none of the trace"),
+    ("0 free 1: 1\n", '{"op":"free","node":64}', "line 1: node 64 is not in the trace"),
+    ("0 free 0:\n", '{"op":"free","node":2}', "line 1: node 2 is not in the trace"),
+    ("0 pagemap 1: 00010000=5\n", '{"op":"pagemap","pid":1}', "line 1: frame 5 is not in the trace"),
     ("0 move_pages 0: 1\n0.0 write held\n", FLIGHT, OTHERS),
     ("0 move_pages 0: 1\n0.0 read held\n0.1 read held\n", FLIGHT, OTHERS),
     ("0 move_pages 0: 1\n0.0 read held\n0.1 write held\n0.2 write held\n", FLIGHT, OTHERS),
@@ -174,7 +174,7 @@ def squares_of(svg):
 
 
 def in_columns(squares):
-    """The squares column by column, and in each by frame: a column's squares stand apart from those of others by the gap."""
+    """The squares column by column, and in each by frame: a gap separates the squares of a column from those of others."""
     columns = []
     for square in sorted(squares, key=lambda square: square.box.left):
         if not columns or square.box.left > max(other.box.right for other in columns[-1]) + drawing.GAP / 2:
@@ -184,7 +184,7 @@ def in_columns(squares):
 
 
 def check_apart(what, boxes):
-    """No two boxes overlap. Each is laid into the fields of a grid that it meets, and compared with those that lie there."""
+    """No two boxes overlap. Each is put into the fields of a grid that it touches, and compared with those that are there."""
     fields = {}
     for box in boxes:
         across, down = range(int(box.left) // 40, int(box.right) // 40 + 1), range(int(box.top) // 40, int(box.bottom) // 40 + 1)
@@ -198,7 +198,7 @@ def check_apart(what, boxes):
 
 
 def check_geometry(what, svg):
-    """All lies inside the view box; texts lie apart, squares lie apart, and no other text lies on a square."""
+    """Everything is inside the view box; no texts overlap, no squares overlap, and no other text is on a square."""
     width, height = (float(number) for number in svg.get("viewBox").split()[2:])
     texts = [box_of_text(element) for element in svg.iter() if named(element, "text")]
     free_texts = [box_of_text(element) for element in svg if named(element, "text")]
@@ -234,14 +234,14 @@ def check_drawn(there):
         check_geometry(text, svg)
         told = [f"{square.kind} {square.tip}".strip() for square in in_columns(squares_of(svg))]
         if told != wanted:
-            fail(f"of {text!r} is drawn\n  {told}\nand not\n  {wanted}")
+            fail(f"the picture of {text!r} is\n  {told}\nand not\n  {wanted}")
         words = " ".join(element.text for element in svg if named(element, "text"))
         if ("where pages are is not known" in words) != (not wanted):
             fail(f"of {text!r} is written {words}")
 
 
 def told_by(path):
-    """How often a report tells of a frame what a square says of it, counted from its lines alone: each moment counts a free
+    """How often a report says of a frame what a square says of it, counted only from its lines: each moment counts a free
     frame, or a page of a frame, once."""
     found, moment = Counter(), set()
     with open(path, encoding="utf-8") as file:
@@ -276,17 +276,17 @@ def shown_by(svg):
 
 
 def check_reports():
-    """Each report of the repository is drawn as it tells, with and without its trace."""
+    """Each report of the repository is drawn as it says, with and without its trace."""
     for path in sorted(glob.glob(os.path.join(ROOT, "examples/*.report")) + glob.glob(os.path.join(ROOT, "tests/traces/*.report"))):
         trace = path.removesuffix(".report") + ".json"
         plain, full = (ElementTree.fromstring(picture_of(path, given)) for given in (None, trace))
         check_geometry(path, plain)
         check_geometry(path + " with its trace", full)
         if shown_by(plain) != told_by(path):
-            fail(f"{path} is not drawn as it tells")
+            fail(f"{path} is not drawn as it says")
         kinds = [Counter(square.kind for square in squares_of(svg)) for svg in (plain, full)]
         if any(kinds[0][kind] != kinds[1][kind] for kind in ("free", "held")) or kinds[0]["taken"]:
-            fail(f"{path} tells other frames with its trace: {kinds}")
+            fail(f"{path} shows different frames with its trace: {kinds}")
 
 
 def large(nodes, frames, processes):
@@ -306,7 +306,7 @@ def large(nodes, frames, processes):
 
 
 def check_large(there):
-    """Machines of many nodes and frames, with more processes than colours. Of the last node's free frames nothing is told."""
+    """Machines of many nodes and frames, with more processes than colours. The report does not show the last node's free frames."""
     for nodes, frames, processes in [(1, 1, 1), (4, 64, 3), (17, 9, 2), (64, 1, 3), (64, 16, 12), (64, 256, 3), (2, 8192, 1)]:
         report, trace = large(nodes, frames, processes)
         paths = written(there, "large.report", report), written(there, "large.json", trace)
@@ -331,15 +331,15 @@ def said_of(report, trace):
 
 
 def check_bad(there):
-    """Each bad report and trace is told of."""
+    """Each bad report and trace is reported."""
     for text, line in BAD:
         report = written(there, "bad.report", text)
         if said_of(report, None) != line:
-            fail(f"of {text!r} is said {said_of(report, None)}, and not {line}")
+            fail(f"{text!r} is called {said_of(report, None)}, and not {line}")
     for text, steps, line in OTHER:
         report, trace = written(there, "bad.report", text), written(there, "bad.json", TWO_NODES % steps)
         if said_of(report, trace) != line.replace("TRACE", trace):
-            fail(f"of {text!r} and {steps} is said {said_of(report, trace)}, and not {line}")
+            fail(f"{text!r} with {steps} is called {said_of(report, trace)}, and not {line}")
 
 
 def check_steps(there):
@@ -355,9 +355,9 @@ def check_steps(there):
         check_geometry(f"steps {steps}", svg)
         words = [element.text for element in svg if named(element, "text")]
         if [word for word in words if re.fullmatch("step.* [0-9]+", word)] != heads:
-            fail(f"of the steps {steps} is written {words}")
-        if not any(word.startswith("The report tells of 6 of the 7 steps of its trace.") for word in words):
-            fail(f"that the report ends before its trace is not written: {words}")
+            fail(f"for the steps {steps} the picture says {words}")
+        if not any(word.startswith("The report covers 6 of the 7 steps of its trace.") for word in words):
+            fail(f"the picture does not say that the report ends before its trace: {words}")
         fills = {part.get("fill") for group in svg if group.get("class") == "held" for part in group if named(part, "rect")}
         if steps == "1-2" and ("process 7" in words or "process 8" not in words):
             fail(f"the legend has other processes than the picture: {words}")
@@ -378,11 +378,11 @@ def check_shared(there):
         fail(f"a page of two processes has the colours {fills}")
     told = [groups["held"][0].text] + [part.text for part in groups["zeros"]]
     if told != ["frame 0: page 10 of process 7, page 10 of process 8", "page 11 of process 8", "page of zeros: 1 entry"]:
-        fail(f"of a page of two processes and the page of zeros is told {told}")
+        fail(f"a page of two processes and the page of zeros are described as {told}")
 
 
 def check_flight(there):
-    """A column tells of the accesses in flight of the batch before it, and a tooltip of 20 of them."""
+    """A column counts the accesses in flight of the batch before it, and a tooltip lists 20 of them."""
     access = '{"run":0,"op":"read","pid":1,"addr":0,"len":40}'
     batch = '{"op":"move_pages","caller":1,"pid":0,"pages":[0],"nodes":[1],"flags":2,"during":[%s]}'
     looks = "".join(f"{k} free 2: 0 1\n{k + 1} move_pages 0: 1\n{lines}" for k, lines in [
@@ -398,14 +398,14 @@ def check_flight(there):
         check_geometry("accesses in flight", svg)
         told = [(group[1].text, group[0].text) for group in svg if named(group, "g") and group.get("class") == "flight"]
         if told != wanted:
-            fail(f"of accesses in flight is told {told}")
+            fail(f"accesses in flight are described as {told}")
     front = written(there, "front.report", looks[: looks.index("1.1 ")])
     if len(squares_of(ElementTree.fromstring(picture_of(front, trace)))) == 0:
         fail("a report that ends among accesses in flight is not drawn")
 
 
 def check_numa_maps(there):
-    """A trace that looks by numa_maps alone is drawn as far as that tells: how many pages of each process are on each node."""
+    """A trace that looks only with numa_maps is drawn as far as that shows: how many pages of each process are on each node."""
     report = written(there, "maps.report", "0 numa_maps 2\n00010000 default anon=2 N0=1 N1=1 kernelpagesize_kB=4\n00020000 default anon=1 N1=1 "
                      "kernelpagesize_kB=4\n1 numa_maps 1\n00010000 local\n2 read 00\n3 numa_maps error ESRCH\n")
     looks = '{"op":"numa_maps","pid":7},{"op":"numa_maps","pid":8},{"op":"read","pid":7,"addr":0,"len":1},{"op":"numa_maps","pid":9}'
@@ -413,14 +413,14 @@ def check_numa_maps(there):
     check_geometry("numa_maps alone", svg)
     told = [group[0].text for group in svg if named(group, "g") and group.get("class") == "counted"]
     if told != ["pages by numa_maps: process 7: 1", "pages by numa_maps: process 7: 2"]:
-        fail(f"of numa_maps is told {told}")
+        fail(f"numa_maps is drawn as {told}")
 
 
 def check_most(there):
     """A picture has at most 200,000 squares."""
     text = "".join(f"{2 * k} free 1: {k}\n{2 * k + 1} write ok\n" for k in range(448))
     if said_of(written(there, "most.report", text), None) != (
-            "the picture would have 200,704 squares, and at most 200,000 are drawn: --steps picks moments"):
+            "the picture would have 200,704 squares, and at most 200,000 are drawn: pick moments with --steps"):
         fail("a picture of too many squares is drawn")
 
 
@@ -440,10 +440,10 @@ def check_command(there):
     bytes_in_it, trace = os.path.join(there, "bytes.report"), written(there, "bad.json", "{")
     with open(bytes_in_it, "wb") as file:
         file.write(b"0 spawn ok\n1 \xff\n")
-    for words, line in [([bad, bad], "what comes of several files goes to a folder: -o FOLDER/"), (["-", "-"], "standard input can be named once"),
-                        ([report, "--html"], f"{report}: a page with a slider wants the trace".replace("\n", "?")),
-                        ([bad], "line 1: expected a list behind the count of its items"),
-                        ([bytes_in_it], f"{bytes_in_it}: byte 13 is none of a report"),
+    for words, line in [([bad, bad], "the output for several files goes to a folder: -o FOLDER/"), (["-", "-"], "standard input can be named only once"),
+                        ([report, "--html"], f"{report}: a page with a slider needs the trace".replace("\n", "?")),
+                        ([bad], "line 1: expected a list after the count of its items"),
+                        ([bytes_in_it], f"{bytes_in_it}: byte 13 does not belong in a report"),
                         ([other], f"{other}: No such file or directory".replace("\n", "?")),
                         ([report, trace], f"{trace}: not JSON: line 1, column 2: expecting property name enclosed in double quotes")]:
         if run("picture", *words) != (2, "", f"numalab: {line}\n"):

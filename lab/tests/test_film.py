@@ -1,5 +1,5 @@
 """The data of the page: its changes, taken one after another as the page takes them, give the states of the plain model; what it
-says of looks; its limits."""
+says about looks; its limits."""
 import json
 import os
 import unittest
@@ -91,7 +91,7 @@ class Changes(Case):
         report = self.written("other.report", read("examples/three_pages.report").replace("read 6200", "read 6201"))
         status, out, err = run("picture", "--html", f"{ROOT}/examples/three_pages.json", report)
         self.assertEqual((status, out), (1, ""))
-        self.assertEqual(err, f"numalab: {report}: the plain model has another answer to step 9 than the report: there is no page\n")
+        self.assertEqual(err, f"numalab: {report}: the plain model's answer to step 9 differs from the report's, so there is no page\n")
 
     def test_limits(self):
         top = trace_from(b"nodes 4\nrepeat 20001\nvmstat\nend\n", "x.nt")
@@ -129,8 +129,8 @@ class Files(Case):
             self.assertEqual(run(command, *words, "-o", name, folder=self.there), (0, "", ""))
             self.assertTrue(read(os.path.join(self.there, name)).startswith(begins), name)
         trace = self.written("own.json", read(words[0]))
-        self.assertEqual(run("show", trace, words[1], "-o", trace), (2, "", f"numalab: {trace} would be written over itself\n"))
-        self.assertEqual(run("show", words[1])[::2], (2, f"numalab: {words[1]}: a report is shown beside its trace\n"))
+        self.assertEqual(run("show", trace, words[1], "-o", trace), (2, "", f"numalab: the output would overwrite {trace}\n"))
+        self.assertEqual(run("show", words[1])[::2], (2, f"numalab: {words[1]}: a report can only be shown with its trace\n"))
 
 
 if __name__ == "__main__":

@@ -1,5 +1,5 @@
-"""Beside real kernels, as far as that can be seen without one: the rows and the page, the scenarios and what kernels answered, rules,
-instructions, guests' words, and what strace told."""
+"""The comparison with real kernels, as far as it can be tested without one: the rows and the page, the scenarios and what kernels
+answered, rules, instructions, the command lines of guests, and what strace wrote."""
 import json
 import os
 import re
@@ -13,7 +13,7 @@ from numalab.linux import compare, differences, guest, instructions, kernel, man
 from numalab.traces import Bad, Trace, json_text
 
 DATA = os.path.join(ROOT, "lab/tests/data")
-# Rows for which no trace can be played, beside those of a document: what a kernel does by itself.
+# Rows for which no trace can be played, apart from those of a document: what a kernel does by itself.
 UNPLAYED = {"vmstat-compaction"}
 HEAD = "nodes 2x8\nspawn p\nmap p A 2\n"
 
@@ -52,7 +52,7 @@ class Rows(Case):
 
 
 class Kept(Case):
-    """What kernels answered, against the model and the rules."""
+    """What kernels answered, compared with the model and the rules."""
 
     def compared(self, version):
         scenarios = many.scenarios()
@@ -75,7 +75,7 @@ class Kept(Case):
         for version in differences.KERNELS:
             kinds = [compare.worst(found) for _, found in self.compared(version)]
             same, told = kinds.count(compare.SAME), kinds.count(compare.EXPLAINED)
-            self.assertTrue(f"| {version} | {len(kinds)} | {same} | {told} | 0 |" in page, f"{version}: {same} the same, {told} as said")
+            self.assertTrue(f"| {version} | {len(kinds)} | {same} | {told} | 0 |" in page, f"{version}: {same} the same, {told} as documented")
 
     def test_a_wrong_answer_is_none_of_the_rows(self):
         scenarios = many.scenarios()
@@ -100,9 +100,9 @@ class Replays(Case):
 
     def test_cut(self):
         trace = self.written("t.nt", HEAD)
-        for text, told in [("0 spawn ok\n1 map segment=0\n# end\n", "# Linux RELEASE"), ("# Linux 6.1.0\n0 spawn ok\n", "the report was cut"),
-                           ("# Linux 6.1.0\n1 map segment=0\n# end\n", "line 1: wanted is the line of step 0"),
-                           ("# Linux 6.1.0\n\x80\n# end\n", "is none of a report")]:
+        for text, told in [("0 spawn ok\n1 map segment=0\n# end\n", "# Linux RELEASE"), ("# Linux 6.1.0\n0 spawn ok\n", "the report was cut off"),
+                           ("# Linux 6.1.0\n1 map segment=0\n# end\n", "line 1: expected the line of step 0"),
+                           ("# Linux 6.1.0\n\x80\n# end\n", "does not belong in a report")]:
             path = self.written("r", text.encode("latin-1"))
             with mock.patch("numalab.commands.compare.program_found"), mock.patch("numalab.commands.compare.played", return_value=b"0 spawn ok\n1 map segment=0\n"):
                 status, out, err = run("compare", trace, path)
@@ -120,7 +120,7 @@ class Replays(Case):
 
 
 class Playing(Case):
-    """What the player is told, and what it cannot play."""
+    """The player's instructions, and what it cannot play."""
 
     def instructions(self, text, **words):
         from numalab.translate import trace_from
@@ -135,12 +135,12 @@ class Playing(Case):
     def test_what_cannot_be_played(self):
         for text, told, here in [
                 (HEAD + "write p A[0] 61\nmove_pages p A[0] to 1 during\nread p A[0]\nend", "step 3: accesses in flight", False),
-                ("nodes 8, 1\nspawn p\nmap p A 2\nwrite p A 61\nmove_pages p A to 1", "step 4: node 1 runs full within the step", False),
+                ("nodes 8, 1\nspawn p\nmap p A 2\nwrite p A 61\nmove_pages p A to 1", "step 4: node 1 fills up within the step", False),
                 ("nodes 1, 1\nspawn p\nmap p A 2\nwrite p A 61\nvmstat", "step 4: all nodes are full", False),
                 ("nodes 8, 1\nspawn p home 1\nmap p A 1\nwrite p A 61\nvmstat", "step 3: node 1 is full, and --here", True),
-                (HEAD + "map p B 1 at 0x7f0000000000", "step 2: areas are played from", False),
-                ("nodes 8, 8\nspawn p\nunmap p 0x10000 pages 34359738000", "step 1: what ends above", False),
-                (HEAD + "offline 1", "step 2: --here takes no node", True),
+                (HEAD + "map p B 1 at 0x7f0000000000", "step 2: only areas from", False),
+                ("nodes 8, 8\nspawn p\nunmap p 0x10000 pages 34359738000", "step 1: a range that ends above", False),
+                (HEAD + "offline 1", "step 2: --here does not take nodes", True),
                 ("nodes 2x8\nspawn p allowed 1", "step 0: the process may not use all nodes", True)]:
             with self.assertRaisesRegex(Bad, re.escape(told)):
                 self.instructions(text, here=here)
@@ -163,7 +163,7 @@ class Playing(Case):
             self.assertEqual(run("replay", trace, "--qemu"), (2, "", f"numalab: {guest.NO_KERNEL}\n"))
             status, _, err = run("replay", trace, "--qemu", "--kernel", "6.1")
             self.assertEqual((status, err[:29]), (2, "numalab: there is no kernel 6"))
-        self.assertEqual(run("replay", trace, "--qemu", "--kernel", trace), (2, "", f"numalab: {trace} is no kernel's image\n"))
+        self.assertEqual(run("replay", trace, "--qemu", "--kernel", trace), (2, "", f"numalab: {trace} is not a kernel image\n"))
 
     def test_nodes_that_are_not_there(self):
         trace = self.written("t.nt", "nodes 64x8\nspawn p\n")
@@ -172,11 +172,11 @@ class Playing(Case):
         self.assertRegex(err, "the trace has 64 nodes, and this machine has [0-9]+: --qemu plays it|no NUMA")
 
     def test_a_guest_that_hangs(self):
-        wait = self.written("qemu-system-x86_64", "#!/bin/sh\nfor word; do case $word in file:*/console) echo here it stands > \"${word#file:}\" ;; esac; done\nexec sleep 60\n")
+        wait = self.written("qemu-system-x86_64", "#!/bin/sh\nfor word; do case $word in file:*/console) echo last words > \"${word#file:}\" ;; esac; done\nexec sleep 60\n")
         os.chmod(wait, 0o755)
         with mock.patch.dict(os.environ, {"PATH": self.there + os.pathsep + os.environ["PATH"], "TMPDIR": self.there}), \
                 mock.patch.object(guest, "BOOT_LIMIT", 0.5), mock.patch.object(guest, "TRACE_LIMIT", 0), mock.patch("tempfile.tempdir", self.there):
-            with self.assertRaisesRegex(Bad, "did not end within 0.5 seconds; its console shows\n  here it stands"):
+            with self.assertRaisesRegex(Bad, "did not end within 0.5 seconds; its console shows\n  last words"):
                 guest.boot("k", wait, "", ([8], ((10,),), frozenset()))
         self.assertEqual(os.listdir(self.there), ["qemu-system-x86_64"])
 
@@ -199,7 +199,7 @@ class Predicting(Case):
 
 
 class Recording(Case):
-    """What strace told, as a trace."""
+    """What strace wrote, as a trace."""
 
     MACHINE = {"nodes": [4096, 4096], "distance": [[10, 20], [20, 10]]}
 
@@ -223,8 +223,8 @@ class Recording(Case):
     def test_thread_and_child(self):
         top = self.recorded("thread_and_child.strace")
         self.assertEqual(len([step for step in top["steps"] if step["op"] == "spawn"]), 2, "a thread is no process, a child is one")
-        self.assertIn("memory that a child has of its parent (fork): 1", top["left_out"])
-        self.assertIn("madvise that drops pages or wants huge ones: 1", top["left_out"])
+        self.assertIn("memory that a child has from its parent (fork): 1", top["left_out"])
+        self.assertIn("madvise that drops pages or asks for huge ones: 1", top["left_out"])
 
     def test_migratepages(self):
         events = [event for event, _ in self.events("migratepages.strace") if getattr(event, "name", "") == "migrate_pages"]
@@ -236,7 +236,7 @@ class Recording(Case):
         self.assertEqual([step["op"] for step in steps], ["spawn", "map", "map", "write", "write", "write", "move_pages", "migrate_pages"])
         self.assertEqual((steps[0]["home"], steps[0]["uid"], steps[6]["nodes"]), (1, 5, [0]))
         self.assertIn("set_mempolicy: 2", top["left_out"])
-        self.assertIn("migrate_pages error EPERM", model.report(top), "strace alone does not tell that the caller is privileged")
+        self.assertIn("migrate_pages error EPERM", model.report(top), "strace alone does not show that the caller is privileged")
 
     def events(self, name):
         from numalab.commands.record import events_of
@@ -261,8 +261,8 @@ class Recording(Case):
         self.assertEqual(strace.split('3, "a,\\"b", {x=[1, 2]}, NULL'), ["3", '"a,\\"b"', "{x=[1, 2]}", "NULL"])
 
     def test_bad_input(self):
-        for text, told in [("mmap(NULL, 1) = 0\n", "strace is wanted with -f"), ("7 <... mmap resumed>) = 0\n", "the beginning was cut"),
-                           ("7 mmap(NULL, 8192, 0x3\n", "the output was cut"), ("7 munmap(0x1000, 4096) = 0", "no line feed")]:
+        for text, told in [("mmap(NULL, 1) = 0\n", "run strace with -f"), ("7 <... mmap resumed>) = 0\n", "the beginning was cut off"),
+                           ("7 mmap(NULL, 8192, 0x3\n", "the output was cut off"), ("7 munmap(0x1000, 4096) = 0", "no line feed")]:
             path = self.written("s", text)
             status, out, err = run("record", "--from", path, "--machine", self.written("m", json.dumps(self.MACHINE)))
             self.assertEqual((status, out, err.count("\n")), (2, "", 1), text)

@@ -1,4 +1,4 @@
-"""The notation: what it means, the way back, the examples, and its faults."""
+"""The notation: what it means, the way back, the examples, and the faults."""
 import json
 import os
 import random
@@ -13,13 +13,13 @@ from numalab.translate import translated
 
 HEAD = "nodes 2x4\nspawn p uid 100\nmap p A 4\n"
 DRAWN, MUTATED = 300, 2000
-# Words that a mutated file has somewhere.
+# Words that are put into mutated files.
 ODD = ["!", "!!0", "0-", "-", "[", "A[", "A[]", "A[:]", "A[::0]", "A[1:0]", "A+", "A[0]+", "0x", "1x", "x", '"', '""', '"\\"', '"\\u"', "1M*", "A[i]",
        "18446744073709551616", "18446744073709551615", "99999999999999999999", "1K", "repeat", "end", "during", "i", "as", "of", "to", "none",
        "all", "A[*]+1", "0[0:0]", "0[5:1]", "2x", "64x1", "65x1", "0x4", "1-0", "0-63", "63-0", "64", "#", "/", ",", ",,", "A,B", "\x00", "\u00e4",
        "A[1%0]", "pages", "len", "at", "look", "nodes", "distance", "A", "p1", "flags", "MPOL_MF_MOVE|", "MPOL_BIND", "16385", "4294967296"]
 
-# A statement behind the head, and the steps that it makes.
+# A statement after the head, and the steps that it makes.
 SAID = [
     ("map p B 64K shared", [{"op": "map", "pid": 1, "addr": 0x20000, "pages": 16, "shared": True}]),
     ("spawn q privileged home 1 allowed !0", [{"op": "spawn", "pid": 2, "uid": 1000, "home": 1, "allowed": [1], "privileged": True}]),
@@ -53,43 +53,43 @@ SAID = [
     ("repeat 0\nlook\nend", []),
 ]
 
-# Lines behind the head, and what is said of them: line, column and words.
+# Lines after the head, and what is said of them: line, column and words.
 WRONG = [
-    ("wirte p A 61", [(4, 1, "wirte is no statement: did you mean write?")]),
+    ("wirte p A 61", [(4, 1, "wirte is not a statement: did you mean write?")]),
     ("read q A", [(4, 6, "there is no process q")]),
     ("read p B", [(4, 8, "there is no area B")]),
-    ("read p A[4]", [(4, 8, "A[4] is behind the last of 4 pages")]),
-    ("read p A[0:5]", [(4, 8, "A[0:5] are no pages of the area")]),
-    ("read p A[0:2]+1", [(4, 8, "A[0:2]+1 has a byte behind more than one page")]),
-    ("read p 0x10000[*]", [(4, 8, "[*] is for an area that has a name")]),
-    ("read p A[0", [(4, 8, "A[0 is no place of a page")]),
+    ("read p A[4]", [(4, 8, "A[4] is past the last of 4 pages")]),
+    ("read p A[0:5]", [(4, 8, "A[0:5] is not a range of pages of the area")]),
+    ("read p A[0:2]+1", [(4, 8, "A[0:2]+1 has a byte offset for more than one page")]),
+    ("read p 0x10000[*]", [(4, 8, "[*] is only for an area with a name")]),
+    ("read p A[0", [(4, 8, "A[0 does not name pages")]),
     ("read p", [(4, 7, "a page is missing")]),
     ("read p A len", [(4, 13, "a number of bytes is missing")]),
-    ("read p A leng 2", [(4, 10, "leng is not wanted here: did you mean len?")]),
+    ("read p A leng 2", [(4, 10, "leng is not expected here: did you mean len?")]),
     ("write p A 616", [(4, 11, "616 is neither a text in quotes nor an even number of hexadecimal digits")]),
-    ('write p A "a', [(4, 11, "a text has no end")]),
+    ('write p A "a', [(4, 11, "a text has no closing quote")]),
     ("move_pages p A", [(4, 15, "to is missing")]),
-    ("move_pages p A to 1 flags MPOL_MF_MOV", [(4, 27, "MPOL_MF_MOV is no flag: did you mean MPOL_MF_MOVE?")]),
-    ("move_pages p 0[0:16385] to 1", [(4, 14, "0[0:16385] are 16,385 pages, and a batch has at most 16,384")]),
-    ("mbind p A MPOL_BID 1", [(4, 11, "MPOL_BID is no mode: did you mean MPOL_BIND?")]),
-    ("mbind p A[::2] MPOL_BIND 1", [(4, 9, "A[::2] has gaps, where pages side by side are wanted")]),
+    ("move_pages p A to 1 flags MPOL_MF_MOV", [(4, 27, "MPOL_MF_MOV is not a flag: did you mean MPOL_MF_MOVE?")]),
+    ("move_pages p 0[0:16385] to 1", [(4, 14, "0[0:16385] is 16,385 pages, and a batch has at most 16,384")]),
+    ("mbind p A MPOL_BID 1", [(4, 11, "MPOL_BID is not a mode: did you mean MPOL_BIND?")]),
+    ("mbind p A[::2] MPOL_BIND 1", [(4, 9, "A[::2] has gaps, where adjacent pages are expected")]),
     ("spawn q allowed 64", [(4, 1, "spawn: allowed[0] is 64: expected a whole number from 0 to 63, in digits only")]),
     ("move_pages p A[0] to 1 during\nrun 1 read p A\nend", [(4, 1, "move_pages: during[0].run is 1: expected a number below 1, the number of runs")]),
-    ("spawn p hom 1", [(4, 9, "hom is not wanted here: did you mean home?")]),
-    ("spawn p home 0-1", [(4, 14, "0-1 are 2 nodes, where one is wanted")]),
-    ("map p B 5K", [(4, 9, "5K is not whole pages of 4K")]),
-    ("free cxl", [(4, 6, "cxl is no node")]),
-    ("nodes 4", [(4, 1, "nodes stands before all steps")]),
-    ("repeat 4000\nrepeat 4000\nend\nend", [(5, 8, "blocks would be played over 4,194,304 times")]),
+    ("spawn p hom 1", [(4, 9, "hom is not expected here: did you mean home?")]),
+    ("spawn p home 0-1", [(4, 14, "0-1 is 2 nodes, where one is expected")]),
+    ("map p B 5K", [(4, 9, "5K is not a whole number of 4K pages")]),
+    ("free cxl", [(4, 6, "cxl is not a node")]),
+    ("nodes 4", [(4, 1, "nodes must come before all steps")]),
+    ("repeat 4000\nrepeat 4000\nend\nend", [(5, 8, "blocks would be played more than 4,194,304 times")]),
     ("repeat 2\nlook", [(4, 1, "the block has no end")]),
-    ("end", [(4, 1, "end ends no block")]),
+    ("end", [(4, 1, "end without a block")]),
     ("repeat 3\nread q A\nend", [(5, 6, "there is no process q")]),
     ("move_pages p A[0] to 1 during\npin p A[0]\nend", [(5, 1, "pin is neither read nor write")]),
-    ("look now\nread p A[9]\nlok", [(4, 6, "now is not wanted here"), (5, 8, "A[9] is behind the last of 4 pages"),
-                                     (6, 1, "lok is no statement: did you mean look?")]),
+    ("look now\nread p A[9]\nlok", [(4, 6, "now is not expected here"), (5, 8, "A[9] is past the last of 4 pages"),
+                                     (6, 1, "lok is not a statement: did you mean look?")]),
     ("write p 0[0:99999999999999] 61", [(4, 9, "the trace would have more than 16,777,216 bytes")]),
     ("read p 18446744073709551615[0:2]", [(4, 8, "18446744073709551615[0:2] is past the last address")]),
-    ("read p A[0-1]", [(4, 8, "0-1 is no number from 0 to 18,446,744,073,709,551,615")]),
+    ("read p A[0-1]", [(4, 8, "0-1 is not a number from 0 to 18,446,744,073,709,551,615")]),
 ]
 MACHINES = [
     ("nodes 4", [4], [[10]]),
@@ -126,12 +126,12 @@ class Notation(Case):
         self.assertEqual(top["steps"][2]["during"][0]["at"], "dir/x.nt:5")
 
     def test_other_files(self):
-        for data, fault in [(b"", (1, 1, "nodes is missing: expected a line as `nodes 2x4`")), (b"nodes 1\n\xff", (2, 1, "no UTF-8")),
-                            (b"look", (1, 1, "the nodes come first, as `nodes 2x4`")),
+        for data, fault in [(b"", (1, 1, "nodes is missing: expected a line such as `nodes 2x4`")), (b"nodes 1\n\xff", (2, 1, "not UTF-8")),
+                            (b"look", (1, 1, "nodes must come first, with a line such as `nodes 2x4`")),
                             (b"nodes 2x1\nvmstat\n\n", None), (b"run_limit 0\nnodes 1", (1, 1, "run_limit is 0: expected a whole number from 1 to 16,384, in digits only")),
                             (b"nodes 4, 0", (1, 1, "machine.nodes[1] is 0: expected a whole number from 1 to 16,384, in digits only")),
                             (b"nodes 2x4\n\ndistance 10 20 / 20 10 / 10", (3, 1, "machine.distance has 3 rows: expected one for each of 2 nodes")),
-                            (b"nodes 65x1", (1, 7, "65x1 makes 65 nodes, where 1 to 64 are wanted"))]:
+                            (b"nodes 65x1", (1, 7, "65x1 makes 65 nodes, where 1 to 64 are allowed"))]:
             self.assertEqual((translated(data, "x.nt")[1] or [None])[0], fault, data)
 
 
@@ -217,7 +217,7 @@ class Command(Case):
 
     def test_faults(self):
         self.assertEqual(run("write", given=HEAD + "lok\nlook 1\n"), (
-            2, "", "numalab: -:4:1: lok is no statement: did you mean look? (numalab why - tells 1 more)\n"))
+            2, "", "numalab: -:4:1: lok is not a statement: did you mean look? (numalab why - shows 1 more)\n"))
         self.assertEqual(run("write", "--from", given="{}")[0], 2)
         self.assertEqual(run("write", "none.nt", folder=self.there), (2, "", "numalab: none.nt: No such file or directory\n"))
 

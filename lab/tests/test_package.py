@@ -1,4 +1,4 @@
-"""The wheel that pip makes and installs, as far as no network is wanted for it, and progress."""
+"""The wheel that pip makes and installs, as far as that needs no network, and progress."""
 import io
 import os
 import re
@@ -43,7 +43,7 @@ class Package(Case):
 
 
 class Waiting(unittest.TestCase):
-    """Progress is told at a terminal alone, and only of what takes long."""
+    """Progress is shown only at a terminal, and only for what takes long."""
 
     def shown(self, stream, patience, *done):
         with mock.patch.object(sys, "stderr", stream), mock.patch.object(progress, "PATIENCE", patience):

@@ -120,12 +120,12 @@ class Show(Case):
         other = self.written("other.report", read("examples/three_pages.report").replace("1: 7", "1: 4"))
         status, out, err = run("show", "--why", trace, other)
         self.assertEqual((status, "because" in out), (1, False))
-        self.assertEqual(err, f"numalab: {other}: the plain model has another line 8 than the report, so no reasons are given\n")
-        for text, fault in [("0 map ok\n", "line 1: the trace has another step 0"), ("0 spawn ok", "the last line has no line feed: the report was cut"),
-                            ("0 spawn ok\n1 map 7\n", "line 2: 7 is no answer of map"), ("0 spawn ok\n1 map segment=-1\n", "line 2: segment=-1 is no answer of map"),
-                            (read("examples/three_pages.report").replace("0: 1 1 1", "0: 1 1"), "line 6: wanted are 3 statuses"),
-                            (read("examples/three_pages.report").replace("00012000=6", "00012000=8"), "line 9: a frame is none of the trace"),
-                            (read("examples/three_pages.report").replace("6200", "620"), "line 10: 620 is no answer of read")]:
+        self.assertEqual(err, f"numalab: {other}: line 8 of the plain model's report differs, so no reasons are given\n")
+        for text, fault in [("0 map ok\n", "line 1: the trace has a different step 0"), ("0 spawn ok", "the last line has no line feed: the report was cut off"),
+                            ("0 spawn ok\n1 map 7\n", "line 2: 7 is not an answer of map"), ("0 spawn ok\n1 map segment=-1\n", "line 2: segment=-1 is not an answer of map"),
+                            (read("examples/three_pages.report").replace("0: 1 1 1", "0: 1 1"), "line 6: expected 3 statuses"),
+                            (read("examples/three_pages.report").replace("00012000=6", "00012000=8"), "line 9: a frame is not in the trace"),
+                            (read("examples/three_pages.report").replace("6200", "620"), "line 10: 620 is not an answer of read")]:
             report = self.written("bad.report", text)
             self.assertEqual(run("show", trace, report)[::2], (2, f"numalab: {fault}\n"))
         front = self.written("front.report", "0 spawn ok\n1 map segment=0\n")

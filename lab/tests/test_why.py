@@ -80,7 +80,7 @@ class Why(Case):
 
     def test_doubles(self):
         text = read("examples/three_pages.json").replace('"pid":1,"uid"', '"pid":1,"pid":2,"note":{"a":[{"a":0}],"b":{}},\n"uid":7,"uid"')
-        told = ['x.json:2:23: {}"pid" stands here again: the last one counts', 'x.json:3:9: {}"uid" stands here again: the last one counts']
+        told = ['x.json:2:23: {}"pid" occurs again here: the last one counts', 'x.json:3:9: {}"uid" occurs again here: the last one counts']
         status, out, _ = self.why(text, "--no-hints")
         self.assertEqual((status, out.splitlines()), (0, [line.format("warning: ") for line in told] + ["good"]))
         self.assertEqual(self.why(text, "--strict")[:2], (2, "".join(line.format("") + "\n" for line in told)))
@@ -95,7 +95,7 @@ class Why(Case):
 
     def test_notation(self):
         self.assertEqual(self.why("nodes 4\nlok\nread p\n", name="x.nt"), (
-            2, "x.nt:2:1: lok is no statement: did you mean look?\nx.nt:3:6: there is no process p\n", ""))
+            2, "x.nt:2:1: lok is not a statement: did you mean look?\nx.nt:3:6: there is no process p\n", ""))
 
     def test_streams(self):
         self.assertEqual(run("why", given="["), (2, "-:1:2: not JSON: expecting value\n", ""))

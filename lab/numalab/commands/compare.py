@@ -1,9 +1,9 @@
-"""Compares the program's report of a trace with what a kernel answered, step by step: same; differs as a row of docs/LINUX.md says, with
-the row; or DIFFERS. A row explains a difference where the plain model with its rule gives the kernel's line.
+"""Compares the program's report on a trace with what a kernel answered, step by step: same; differs as a row of docs/LINUX.md says,
+with the row; or DIFFERS. A row explains a difference where the plain model with its rule gives the kernel's line.
 
-What the kernel answered is the report of a replay that is named behind the trace, or is asked for now (--here, --qemu). With --all the
-scenarios of the repository are compared with what Linux 6.1 and 6.12 answered when they were last played, which is kept beside them, or
-with --qemu with what they answer now. The status is 1 where a step DIFFERS."""
+What the kernel answered is the report of a replay that is named after the trace, or the kernel is asked now (--here, --qemu). With
+--all the scenarios of the repository are compared with what Linux 6.1 and 6.12 answered when they were last played, which is kept
+next to them, or with --qemu with what they answer now. The status is 1 where a step DIFFERS."""
 import os
 
 from ..linux import guest, many
@@ -21,8 +21,8 @@ SUMMARY = "the model's report and a kernel's, step by step"
 
 def arguments(words):
     words.add_argument("trace", metavar="TRACE", nargs="?", help="a trace, .json or .nt")
-    words.add_argument("replayed", metavar="REPLAYED", nargs="?", help="what numalab replay printed for it")
-    words.add_argument("--all", action="store_true", help="all scenarios of the repository")
+    words.add_argument("replayed", metavar="REPLAYED", nargs="?", help="what numalab replay printed for the trace")
+    words.add_argument("--all", action="store_true", help="compare all scenarios of the repository")
     words.add_argument("-o", metavar="FOLDER", dest="out", help="with --all: keep what each kernel answered, as VERSION.replayed")
     arguments_of_kernel(words)
     words.add_argument("--program", metavar="PATH", help="the program numatrace")
@@ -38,7 +38,7 @@ def compare_one(asked):
     told = read_replayed(text, name)
     found = compared(trace.top, played(trace, asked.program), told, privilege_of(asked))
     if len(told.steps) != len(found):
-        raise Bad(f"{name}: {len(told.steps)} steps are told, and the trace has {len(found)}")
+        raise Bad(f"{name}: it has {len(told.steps)} steps, and the trace has {len(found)}")
     for line in lines_of(found, told.release):
         print(line)
     return 1 if worst(found) == OTHER else 0
@@ -56,7 +56,7 @@ def compare_scenario(trace, privilege, text, program):
 
 
 def compare_all(asked, version, kernel):
-    """Compares all scenarios on one kernel, or with what was kept of it; says whether one differs without a reason."""
+    """Compares all scenarios on one kernel, or with its kept answers; says whether one differs without a reason."""
     scenarios = many.scenarios()
     if kernel is None:
         texts = many.kept(scenarios, version)
@@ -71,12 +71,12 @@ def compare_all(asked, version, kernel):
     for what, counts in [("scenarios", [kinds.count(kind) for kind in (SAME, EXPLAINED, OTHER)]),
                          ("steps", [sum(tally(one)[kind] for one in found) for kind in (SAME, EXPLAINED, OTHER)])]:
         same, explained, other = counts
-        print(f"Linux {version}: {sum(counts)} {what}: {same} the same, {explained} different as said, {other} DIFFERENT")
+        print(f"Linux {version}: {sum(counts)} {what}: {same} the same, {explained} different as documented, {other} DIFFERENT")
     return OTHER in kinds
 
 
 def kernels_asked(asked):
-    """The versions to compare with, each with its kernel, or with None for what was kept."""
+    """The versions to compare with, each with its kernel, or with None for the kept answers."""
     if not asked.qemu:
         return {version: None for version in KERNELS}
     if asked.kernel:
@@ -91,12 +91,12 @@ def kernels_asked(asked):
 
 def run(asked):
     if asked.all != (asked.trace is None):
-        raise Bad("a trace is named, or --all is said")
+        raise Bad("name a trace, or give --all")
     program_found(asked.program)  # Before a kernel is asked, which takes longer.
     if not asked.all:
         if asked.replayed and (asked.here or asked.qemu):
-            raise Bad("a kernel is asked where no replay is named")
+            raise Bad("--here and --qemu do not go together with a replay")
         return compare_one(asked)
     if asked.here:
-        raise Bad("--all is for --qemu, or for what was kept: the scenarios have more nodes than this machine")
+        raise Bad("--all goes with --qemu or with the kept answers: the scenarios have more nodes than this machine")
     return int(any([compare_all(asked, version, kernel) for version, kernel in kernels_asked(asked).items()]))

@@ -1,10 +1,10 @@
 """Draws where pages are: an SVG of the moments at which a trace looks, or with --html a page with a slider over all steps, which
 needs no network.
 
-FILE is a trace (.json, or .nt in the notation), which the program plays; or a report; where a report stands beside a trace it is
-taken as its own. Of a report alone neither nodes nor processes are known. What comes of several goes to a folder. What the page shows between two
-looks comes from a plain model of the machine, which is not proved; where the model has another report there is no page, and the
-status is 1."""
+FILE is a trace (.json, or .nt in the notation), which the program plays, or a report; a report named next to a trace is taken as
+that trace's. From a report alone neither nodes nor processes are known. The output for several files goes to a folder. What the
+page shows between two looks comes from a plain model of the machine, which is not proved; where the model's report differs there
+is no page, and the status is 1."""
 import argparse
 import os
 import re
@@ -22,25 +22,25 @@ SUMMARY = "draw where pages are, as SVG or as a page with a slider"
 
 
 def step_range(text):
-    """A range of steps, as 5-20."""
+    """A range of steps, such as 5-20."""
     match = re.fullmatch("([0-9]{1,20})-([0-9]{1,20})", text)
     if not match:
-        raise argparse.ArgumentTypeError("wanted are the numbers of two steps, as 5-20")
+        raise argparse.ArgumentTypeError("expected the numbers of two steps, such as 5-20")
     return int(match[1]), int(match[2])
 
 
 def arguments(words):
     words.add_argument("files", metavar="FILE", nargs="+", help="traces and reports; - is standard input")
-    words.add_argument("--html", action="store_true", help="a page with a slider; the ending .html of OUT says so as well")
-    words.add_argument("--steps", metavar="A-B", type=step_range, help="draw the steps from A to B alone, or the moments that look at one")
+    words.add_argument("--html", action="store_true", help="make a page with a slider; so does an OUT that ends in .html")
+    words.add_argument("--steps", metavar="A-B", type=step_range, help="draw only the steps from A to B, or the moments that look at one of them")
     words.add_argument("-o", metavar="OUT", dest="out", help="a file, .svg or .html, or a folder; standard output if none is named")
     words.add_argument("--program", metavar="PATH", help="the program numatrace")
 
 
 def page(one, asked):
-    """The page on a trace and its report."""
+    """The page for a trace and its report."""
     if one.trace is None:
-        raise Bad(f"{one.name}: a page with a slider wants the trace")
+        raise Bad(f"{one.name}: a page with a slider needs the trace")
     lines = lines_of(one)
     if asked.steps and not asked.steps[0] <= asked.steps[1] < len(lines):
         raise Bad(f"{one.name}: the report has the steps 0 to {len(lines) - 1}")
@@ -57,6 +57,6 @@ def run(asked):
         try:
             write_file(out, page(one, asked) if html else picture_of(one.data, one.name, one.trace and one.trace.top, asked.steps))
         except Differs as differs:
-            print(f"numalab: {one.name}: the plain model has another answer to step {differs} than the report: there is no page", file=sys.stderr)
+            print(f"numalab: {one.name}: the plain model's answer to step {differs} differs from the report's, so there is no page", file=sys.stderr)
             return 1
     return 0

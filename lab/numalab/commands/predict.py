@@ -1,6 +1,6 @@
 """Prints the report that a kernel is expected to give for a trace: the plain model with the rules of the known differences in place. Its
-form is that of `numalab replay`; ? stands for a node that the rules do not tell. Nothing is claimed: `numalab compare` says where a
-kernel answered otherwise."""
+form is that of `numalab replay`; ? is a node that the rules do not determine. Nothing is claimed: `numalab compare` says where a
+kernel answered differently."""
 from ..linux import kernel
 from ..linux.differences import KERNELS
 from ..traces import Bad, load, write_file

@@ -1,9 +1,9 @@
 """Shows each step of a trace and its answer side by side, addresses in hexadecimal and statuses with their names.
 
-The report is the one of the program, which plays the trace, or the one that is named behind the trace. With --why each status, access, refusal
-and new page has its reason. Reasons come from a plain model of the machine, which is not proved; they are printed only where the
-model's whole report is the one that is shown, and else the status is 1. With --kernel as well, each step that a kernel is expected to answer
-otherwise has its answer and the row of docs/LINUX.md that tells why."""
+The report is the program's, which plays the trace, or the one that is named after the trace. With --why each status, access,
+refusal and new page has its reason. Reasons come from a plain model of the machine, which is not proved; they are printed only
+where the model's whole report is the one that is shown, and otherwise the status is 1. With --kernel as well, each step that a
+kernel is expected to answer differently has its answer and the row of docs/LINUX.md that says why."""
 import json
 import sys
 
@@ -20,17 +20,17 @@ SUMMARY = "show steps and answers side by side, and why"
 
 
 def arguments(words):
-    words.add_argument("files", metavar="FILE", nargs="+", help="traces, .json or .nt, each with its report behind it or not; - is standard input")
-    words.add_argument("--why", action="store_true", help="tell which rule decided, and from what")
-    words.add_argument("--kernel", metavar="VERSION", choices=KERNELS, help=f"with --why: also where Linux {' or '.join(KERNELS)} parts from the model")
-    words.add_argument("--all", action="store_true", help="also where a pagemap has more than 64 rows")
-    words.add_argument("--jsonl", action="store_true", help="an object of JSON for each step; the ending .jsonl of OUT says so as well")
+    words.add_argument("files", metavar="FILE", nargs="+", help="traces, .json or .nt, each followed by its report or not; - is standard input")
+    words.add_argument("--why", action="store_true", help="say which rule decided each answer, and from what")
+    words.add_argument("--kernel", metavar="VERSION", choices=KERNELS, help=f"with --why, also show where Linux {' or '.join(KERNELS)} differs from the model")
+    words.add_argument("--all", action="store_true", help="show all rows of a pagemap, not only 64")
+    words.add_argument("--jsonl", action="store_true", help="print a JSON object for each step; so does an OUT that ends in .jsonl")
     words.add_argument("-o", metavar="OUT", dest="out", help="a file, or a folder; standard output if none is named")
     words.add_argument("--program", metavar="PATH", help="the program numatrace")
 
 
 def reasons_of(one):
-    """For each step its reasons; None where the model has another report."""
+    """For each step its reasons; None where the model's report differs."""
     found, lines, trace, data = [], [], one.trace, one.data
     with Progress("the model plays step") as progress:
         for played_lines, reasons in explained(trace.top, progress):
@@ -40,7 +40,7 @@ def reasons_of(one):
     if own == data or data and data.endswith(b"\n") and own.startswith(data):
         return found
     other = next(k for k, pair in enumerate(zip(own.split(b"\n"), data.split(b"\n"))) if pair[0] != pair[1])
-    print(f"numalab: {one.name}: the plain model has another line {other + 1} than the report, so no reasons are given", file=sys.stderr)
+    print(f"numalab: {one.name}: line {other + 1} of the plain model's report differs, so no reasons are given", file=sys.stderr)
     return None
 
 
@@ -50,7 +50,7 @@ def about_object(about):
 
 
 def objects(trace, lines, reasons, parted):
-    """Each step as an object of JSON."""
+    """Each step as a JSON object."""
     for k, line in enumerate(lines):
         step = trace.steps[k]
         told = {"step": k, "op": line.op, "arguments": {key: value for key, value in step.items() if key not in ("op", "at")}}
@@ -73,7 +73,7 @@ def rows(trace, lines, reasons, parted, all_rows):
 
 
 def show(one, asked, file, jsonl):
-    """Shows a trace and its report; gives the status."""
+    """Shows a trace and its report; returns the status."""
     lines = lines_of(one)
     reasons = reasons_of(one) if asked.why else None
     parted = partings(one.trace.top, one.data, asked.kernel) if asked.kernel and reasons is not None else {}
@@ -88,11 +88,11 @@ def show(one, asked, file, jsonl):
 
 def run(asked):
     if asked.kernel and not asked.why:
-        raise Bad("--kernel is for --why")
+        raise Bad("--kernel needs --why")
     found, status = inputs_of(asked.files), 0
     for one in found:
         if one.trace is None:
-            raise Bad(f"{one.name}: a report is shown beside its trace")
+            raise Bad(f"{one.name}: a report can only be shown with its trace")
         jsonl = asked.jsonl or (asked.out or "").endswith(".jsonl")
         out = out_for(asked.out, one.trace.name, ".jsonl" if jsonl else ".txt", len(found) > 1 and asked.out is not None)
         one = with_report(one, asked.program)

@@ -1,6 +1,7 @@
-"""Says what in a trace breaks its form: every fault with its place, FILE:LINE:COLUMN, or the line of the notation that a step
-says it was written in. The words behind the place begin as the program's own do. Keys that the program does not know, and so
-ignores, are told as warnings. Of a good trace each refused step has a hint why; hints come from a plain model of the machine.
+"""Says what is wrong with the form of a trace: every fault with its place, FILE:LINE:COLUMN, or the line of the notation in
+which the step was written. The text after the place begins as the program's own message does. Keys that the program does not
+know, and so ignores, are warnings. In a good trace each refused step gets a hint why; hints come from a plain model of the
+machine.
 
 The status is 0 where all traces are good, and 2 where one is not."""
 import json
@@ -14,10 +15,10 @@ SUMMARY = "say all that is wrong with a trace, and where"
 
 
 def arguments(words):
-    words.add_argument("files", metavar="FILE", nargs="*", default=["-"], help="traces; - is standard input, also where none is named")
-    words.add_argument("--strict", action="store_true", help="take a key that the program ignores as a fault")
+    words.add_argument("files", metavar="FILE", nargs="*", default=["-"], help="traces; - is standard input, which is also the default")
+    words.add_argument("--strict", action="store_true", help="treat a key that the program ignores as a fault")
     words.add_argument("--no-hints", action="store_true", help="do not play good traces on the model")
-    words.add_argument("--schema", action="store_true", help="print the JSON Schema of traces, or with --strict the strict one, and end")
+    words.add_argument("--schema", action="store_true", help="print the JSON Schema of traces (with --strict the strict one) and exit")
 
 
 def run(asked):

@@ -1,7 +1,7 @@
 """Writes a trace in JSON from the notation for people (docs/NOTATION.md), or with --from the notation from a trace.
 
-Each step keeps where it was written under the key `at`, which the program ignores; faults point there. With -o the form is that
-of the file's ending, .json or .nt; where it is a folder, each FILE is written there under its own name."""
+Each step keeps where it was written under the key `at`, which the program ignores; faults point there. With -o the ending of
+the file, .json or .nt, decides the form; with a folder, each FILE is written there under its own name."""
 import os
 
 from ..faults import Form
@@ -21,7 +21,7 @@ def arguments(words):
 
 
 def without_places(top):
-    """The trace without the keys that tell where each step was written."""
+    """The trace without the keys that say where each step was written."""
     def bare(step):
         step = {key: value for key, value in step.items() if key != "at"}
         return {**step, "during": [bare(access) for access in step["during"]]} if "during" in step else step

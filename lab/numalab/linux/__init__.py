@@ -1,2 +1,2 @@
-"""Beside a real kernel: traces made with the real system calls, and what kernels are known to answer otherwise. Nothing of it is
-proved, nor claimed of other kernels than those that are named."""
+"""Beside a real kernel: traces made with the real system calls, and where kernels are known to answer differently. Nothing here is
+proved, nor claimed of kernels other than those named."""

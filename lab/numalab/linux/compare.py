@@ -14,16 +14,16 @@ Compared = namedtuple("Compared", "step kind rows model kernel expected")
 
 
 def rules_for(release):
-    """The kernel whose rules are those of a release, and what there is to say about it."""
+    """The kernel whose rules apply to a release, and what there is to say about that."""
     found = re.match(r"(\d+)\.(\d+)", release)
     version = (int(found[1]), int(found[2])) if found else (0, 0)
     name = "6.1" if version < (6, 12) else "6.12"
     exact = f"{version[0]}.{version[1]}" == name
-    return name, "" if exact else f"for Linux {release} no rows are on record: those of {name} are taken"
+    return name, "" if exact else f"there are no rows for Linux {release}: those of {name} are used"
 
 
 def fits(expected, told):
-    """Whether lines are as expected, where ? stands for what is not known."""
+    """Whether lines are as expected, where ? is what is not known."""
     if len(expected) != len(told):
         return False
     for line, other in zip(expected, told):
@@ -54,14 +54,14 @@ def compared(top, report, replayed, privilege=kernel.BOTH):
 
 
 def words_of_row(name, version):
-    """A row in words."""
+    """A row as text."""
     row = row_of(name)
     told = row["kernels"].get(version, row["kernels"].get("document"))
-    return f"{name}: {row['situation']}. This model: {row['model']}. Linux {version}: {told}. Reason: {row['reason'] or 'none is on record'}."
+    return f"{name}: {row['situation']}. This model: {row['model']}. Linux {version}: {told}. Reason: {row['reason'] or 'none on record'}."
 
 
 def lines_of(found, release):
-    """What a comparison says, step by step, with each row once behind it."""
+    """What a comparison says, step by step, with each row once at the end."""
     version, note = rules_for(release)
     named = []
     if note:
@@ -71,7 +71,7 @@ def lines_of(found, release):
         if one.kind == SAME:
             yield f"{one.step:6}  {op:14} same"
             continue
-        as_rows = f"differs as said: {', '.join(one.rows)}" if one.kind == EXPLAINED else "DIFFERS"
+        as_rows = f"differs as documented: {', '.join(one.rows)}" if one.kind == EXPLAINED else "DIFFERS"
         yield f"{one.step:6}  {op:14} {as_rows}"
         for who, lines in [("this model", one.model), (f"Linux {version}", one.kernel), *([("expected", one.expected)] if one.kind == OTHER else [])]:
             yield from (f"          {who + ':' if place == 0 else '':12} {line}" for place, line in enumerate(lines))
@@ -81,7 +81,7 @@ def lines_of(found, release):
 
 
 def tally(found):
-    """How many steps compare how."""
+    """How many steps compare in each way."""
     kinds = [one.kind for one in found]
     return {kind: kinds.count(kind) for kind in (SAME, EXPLAINED, OTHER)}
 
@@ -92,12 +92,12 @@ def worst(found):
     return OTHER if OTHER in kinds else EXPLAINED if EXPLAINED in kinds else SAME
 
 
-# What a kernel is expected to answer otherwise at a step: its lines, the rows, and both in words.
+# Where a kernel is expected to answer a step differently: its lines, the rows, and both as text.
 Parting = namedtuple("Parting", "lines rows texts")
 
 
 def partings(top, report, version):
-    """By step, where a kernel is expected to part from the model. Where a trace has accesses in flight nothing is expected."""
+    """By step, where a kernel is expected to differ from the model. For a trace with accesses in flight nothing is expected."""
     if any(step.get("during") for step in top["steps"]):
         return {}
     own = [frames_apart(top, lines) for lines in by_step(report.decode().split("\n")[:-1], "the report")]

@@ -1,8 +1,8 @@
-"""The rows that say where the model and Linux answer differently, and the tables of docs/LINUX.md, which are made of them.
+"""The rows that say where the model and Linux answer differently, and the tables of docs/LINUX.md, which are made from them.
 
-A row of differences.json has an id, the table that it stands in, the calls that it is about, the situation, what the model answers,
+A row of differences.json has an id, the table that it is in, the calls that it is about, the situation, what the model answers,
 what the kernels answer (or what a document says), the reason, and the kernel's functions. Run as a script with the path of the
-page this module writes its tables anew."""
+page, this module rewrites its tables."""
 import json
 import os
 import re
@@ -41,7 +41,7 @@ def table_text(name, found):
     """A table of the page."""
     table = [row for row in found if row["table"] == name]
     if not table:
-        raise ValueError(f"no row is of the table {name}")
+        raise ValueError(f"the table {name} has no rows")
     heads, cells = columns(table)
     lines = [["Situation", "This model", *heads, "Why"], ["---"] * (len(heads) + 3)]
     lines += [[row["situation"], row["model"], *cells(row), row["reason"]] for row in table]
@@ -49,12 +49,12 @@ def table_text(name, found):
 
 
 def cells_of_line(line):
-    """Cells as they stand between bars."""
+    """Cells as they are between bars."""
     return line if line[0] == "---" else [f" {cell} " if cell else " " for cell in line]
 
 
 def page_with_tables(page, found=None):
-    """The text of the page with each table behind a mark made anew."""
+    """The text of the page with the table after each mark written anew."""
     found = rows() if found is None else found
     return MARK.sub(lambda match: f"<!-- differences: {match[1]} -->\n{table_text(match[1], found)}", page)
 

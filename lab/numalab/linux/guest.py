@@ -12,12 +12,12 @@ from .player import cache_folder
 
 QEMU = "qemu-system-x86_64"
 NO_QEMU = f"there is no {QEMU}: it is in Debian's package qemu-system-x86"
-NO_KERNEL = ("there is no kernel: lab/kernels fetches those of Debian's packages linux-image-6.1.*-cloud-amd64 and "
+NO_KERNEL = ("there is no kernel: lab/kernels fetches those from Debian's packages linux-image-6.1.*-cloud-amd64 and "
              "linux-image-6.12.*-cloud-amd64, and --kernel VMLINUZ names another")
 MEGABYTE = 1 << 20
 FIRST_NODE, OTHER_NODE, BLOCK = 192, 64, 128
 MOST_NODES = 16
-# A boot takes some six seconds. A guest that has not ended after this many hangs.
+# A boot takes some six seconds. A guest that has not ended after this many has hung.
 BOOT_LIMIT, TRACE_LIMIT = 120, 20
 CONSOLE_LINES = 12
 APPEND = ("console=ttyS0 quiet panic=-1 transparent_hugepage=never numa_balancing=disable memhp_default_state=online_movable "
@@ -30,7 +30,7 @@ def kernels_folder():
 
 
 def release_of(path):
-    """The release that a kernel's image tells in its head."""
+    """The release in the header of a kernel image."""
     try:
         with open(path, "rb") as file:
             head = file.read(1 << 15)
@@ -39,7 +39,7 @@ def release_of(path):
     place = int.from_bytes(head[0x20E:0x210], "little") + 0x200
     match = RELEASE.match(head[place : place + 200]) if head[0x202:0x206] == b"HdrS" else None
     if not match:
-        raise Bad(f"{path} is no kernel's image")
+        raise Bad(f"{path} is not a kernel image")
     return match[1].decode()
 
 
@@ -72,7 +72,7 @@ def kernel_asked(asked):
     there = kernels()
     if asked:
         if asked not in there:
-            raise Bad(f"there is no kernel {asked}: lab/kernels fetches those of Debian's packages, and there are {', '.join(there) or 'none'}")
+            raise Bad(f"there is no kernel {asked} (those here: {', '.join(there) or 'none'}): lab/kernels fetches Debian's")
         return there[asked]
     if not there:
         raise Bad(NO_KERNEL)
@@ -98,7 +98,7 @@ def archive(player, program):
 
 
 def words_of(kernel, folder, shape):
-    """The words of the command. A shape has the frames and the distances of nodes, and those that can be taken away."""
+    """The command line. A shape has the sizes and distances of the nodes, and those that can be taken offline."""
     sizes, distance, removable = shape
     count, slots = len(sizes), []
     words = [QEMU, "-machine", "pc", "-nodefaults", "-no-user-config", "-display", "none", "-no-reboot", "-accel", "tcg,thread=single",
@@ -130,7 +130,7 @@ def last_lines(folder):
 
 
 def boot(kernel, player, program, shape, traces=1):
-    """Boots a guest that plays some instructions; gives its report."""
+    """Boots a guest that plays some instructions; returns its report."""
     if not shutil.which(QEMU):
         raise Bad(NO_QEMU)
     with tempfile.TemporaryDirectory(prefix="numalab-") as folder:
@@ -146,7 +146,7 @@ def boot(kernel, player, program, shape, traces=1):
         except OSError as error:
             raise Bad(f"{QEMU}: {error.strerror}") from error
         if ran.returncode != 0:
-            raise Bad(f"{QEMU} ends with status {ran.returncode}: {ran.stderr.decode('utf-8', 'replace').strip()}")
+            raise Bad(f"{QEMU} ended with status {ran.returncode}: {ran.stderr.decode('utf-8', 'replace').strip()}")
         with open(os.path.join(folder, "report"), "rb") as file:
             report = file.read().decode("utf-8", "replace").replace("\r\n", "\n")
         if not report.endswith("# end\n"):

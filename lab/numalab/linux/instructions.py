@@ -1,7 +1,7 @@
-"""What the player is to do for a trace: its instructions, one a line, and what a trace has that no kernel can be made to play.
+"""What the player has to do for a trace: its instructions, one per line, and what in a trace no kernel can be made to play.
 
-Where a call is the model's own (a spawn, a map in the way of another, a pin of what is not there) and the model refuses it, the
-player prints the model's answer. A node that is full in the model is filled by a process of the player before the step."""
+Where a call is the model's own (a spawn, a map over another area, a pin of a page that is not there) and the model refuses it,
+the player prints the model's answer. A node that is full in the model is filled by a process of the player before the step."""
 import os
 import re
 
@@ -15,12 +15,12 @@ MOST_PAGES = 1 << 20
 MOST_PROCESSES, MOST_SEGMENTS, MOST_AT_ONCE = 256, 1024, 256
 # The privilege of a privileged process.
 PRIVILEGES = {"nice": 1, "both": 2}
-# The steps that the player says the model's answer for where the model refuses them, and those that it never makes.
+# The steps for which the player prints the model's answer where the model refuses them.
 OWN = {"spawn", "map", "attach", "pin", "unpin"}
 
 
 class Watched(Machine):
-    """The plain model, which tells of targets that run full within a step."""
+    """The plain model, which notes targets that fill up within a step."""
 
     def __init__(self, trace):
         super().__init__(trace)
@@ -64,7 +64,7 @@ class Instructions:
         place = self.pinned_page(step) if op in ("pin", "unpin") else None
         head = machine.play(step)[0].split(" ", 2)[2]
         if machine.ran_full is not None:
-            self.cannot(f"node {machine.ran_full} runs full within the step, and a kernel's node is made full before a step alone")
+            self.cannot(f"node {machine.ran_full} fills up within the step, and a kernel's node can only be filled before a step")
         refused = head.startswith("error ")
         if op == "free":
             self.say(op, "-" if not refused else head)
@@ -77,9 +77,9 @@ class Instructions:
         self.body.append(f"{self.k} say {op} {text}")
 
     def fill(self, full):
-        """Makes the full nodes so, and the others not."""
+        """Fills the nodes that are full, and drains the others."""
         if full and self.here:
-            self.cannot(f"node {min(full)} is full, and --here fills no node of this machine")
+            self.cannot(f"node {min(full)} is full, and --here does not fill nodes of this machine")
         if full and len(full) == self.nodes:
             self.cannot("all nodes are full, and a kernel needs some memory for itself")
         self.body += [f"drain {node}" for node in sorted(self.filled - full)]
@@ -87,17 +87,17 @@ class Instructions:
         self.body += [f"fill {node} {source}" for node in sorted(full - self.filled)]
         self.filled = full
 
-    # ---- the words of each step
+    # ---- the arguments of each step
 
     def spawn(self, step):
         if step["uid"] not in self.users:
             self.users.append(step["uid"])
         if len(self.machine.processes) > MOST_PROCESSES:
-            self.cannot(f"at most {MOST_PROCESSES} processes are played at a time")
+            self.cannot(f"at most {MOST_PROCESSES} processes can be played at a time")
         allowed = sorted(set(step["allowed"]))
         everywhere = len(allowed) == self.nodes
         if self.here and not everywhere:
-            self.cannot("the process may not use all nodes, and --here makes no cpuset")
+            self.cannot("the process may not use all nodes, and --here does not make cpusets")
         user = FIRST_USER + self.users.index(step["uid"])
         privilege = self.privilege if step.get("privileged", False) else 0
         return f"{step['pid']} {user} {privilege} {step['home']} {'-' if everywhere else ','.join(map(str, allowed))}"
@@ -105,15 +105,15 @@ class Instructions:
     def place(self, step):
         end = step["addr"] + step["pages"] * PAGE
         if step["addr"] < LOWEST or end > HIGHEST:
-            self.cannot(f"areas are played from {LOWEST:#x} to {HIGHEST:#x} alone")
+            self.cannot(f"only areas from {LOWEST:#x} to {HIGHEST:#x} can be played")
         if step["pages"] > MOST_PAGES:
-            self.cannot(f"an area of at most {counted(MOST_PAGES, 'page')} is played")
+            self.cannot(f"only areas of at most {counted(MOST_PAGES, 'page')} can be played")
 
     def map(self, step):
         self.place(step)
         segment = self.machine.segments_made - 1
         if segment >= MOST_SEGMENTS:
-            self.cannot(f"at most {MOST_SEGMENTS:,} segments are played")
+            self.cannot(f"at most {MOST_SEGMENTS:,} segments can be played")
         if step.get("shared", False):
             self.shared.append(f"shared {segment} {step['pages']}")
         return f"{step['pid']} {step['addr']:#x} {step['pages']} {segment} {int(step.get('shared', False))}"
@@ -124,7 +124,7 @@ class Instructions:
 
     def unmap(self, step):
         if step["addr"] + step["pages"] * PAGE > HIGHEST:
-            self.cannot(f"what ends above {HIGHEST:#x} is not unmapped: the player itself is there")
+            self.cannot(f"a range that ends above {HIGHEST:#x} cannot be unmapped: the player itself is there")
         return f"{step['pid']} {step['addr']:#x} {min(step['pages'], END)}"
 
     def exit(self, step):
@@ -137,7 +137,7 @@ class Instructions:
 
     def offline(self, step):
         if self.here:
-            self.cannot("--here takes no node of this machine away")
+            self.cannot("--here does not take nodes of this machine offline")
         return str(step["node"])
 
     online = offline
@@ -147,13 +147,13 @@ class Instructions:
         return (process and process.seen.get(step["addr"] // PAGE)) or "nothing"
 
     def pin_words(self, step, page):
-        """A pin is made by the process that asks for it, and let go by the one that made it."""
+        """A pin is made by the process that asks for it, and released by the one that made it."""
         held = self.pins.setdefault(page, [])
         if step["op"] == "unpin":
             pid, number = held.pop()
             return f"{pid} {number}"
         if self.pins_made >= min(MOST_PINS, MOST_AT_ONCE):
-            self.cannot(f"at most {MOST_AT_ONCE} pins are played")
+            self.cannot(f"at most {MOST_AT_ONCE} pins can be played")
         held.append((step["pid"], self.pins_made))
         self.pins_made += 1
         return f"{step['pid']} {step['addr']:#x} {held[-1][1]}"

@@ -1,7 +1,7 @@
 """What Linux 6.1 and 6.12 are expected to answer: the plain model with the rules of the differences in place.
 
-Each rule that decides otherwise than the model's names its row of differences.json (`fire`). Nothing here is proved, and nothing
-is claimed of other kernels. Reports have nodes in place of frames, and ? where what is known does not tell the node."""
+Each rule that decides differently from the model's names its row of differences.json (`fire`). Nothing here is proved, and nothing
+is claimed of other kernels. Reports have nodes in place of frames, and ? where the rules do not determine the node."""
 from collections import namedtuple
 
 from .. import model
@@ -9,18 +9,18 @@ from ..model import END, MOST_ENTRIES, MOVE, MOVE_ALL, PAGE, STRICT, ZERO, Polic
 from .vmas import Vmas
 
 MOST_NODES = 1024
-WINDOW = 16  # so many pages are mapped around one that is read
+WINDOW = 16  # how many pages are mapped around one that is read
 PREFERRED_MANY = 5
 KINDS = [*model.MODES, "prefer(many)"]
-# Whether a privileged process has CAP_SYS_NICE alone.
+# Whether a privileged process has CAP_SYS_NICE and CAP_SYS_PTRACE, or only the first.
 BOTH, NICE = "both", "nice"
 
-# What a step gave: its lines, and the rows of which a rule decided.
+# What a step answers: its lines, and the rows whose rules decided.
 Given = namedtuple("Given", "lines rows")
 
 
 class Killed(Exception):
-    """A process that the out-of-memory killer took."""
+    """A process that the out-of-memory killer killed."""
 
 
 class Kernel(model.Machine):
@@ -28,10 +28,10 @@ class Kernel(model.Machine):
 
     def __init__(self, top, version, privilege=BOTH):
         super().__init__(top)
-        self.limit = MOST_ENTRIES  # of a trace's own runs a kernel knows nothing
+        self.limit = MOST_ENTRIES  # a kernel knows nothing of a trace's limit on runs
         self.version, self.privilege = version, privilege
         self.vmas, self.configured, self.shared_policies = {}, {}, {}
-        self.unknown = set()  # pages of which the node is not known
+        self.unknown = set()  # pages whose node is not known
         self.fired = []
         self.orders = self.orders_of_nodes()
 
@@ -40,7 +40,7 @@ class Kernel(model.Machine):
             self.fired.append(row)
 
     def give(self, step):
-        """The lines of the next step as a kernel would tell them, and the rows that decided."""
+        """The lines of the next step as a kernel would answer it, and the rows that decided."""
         self.fired = []
         try:
             lines = self.play(step)
@@ -69,8 +69,8 @@ class Kernel(model.Machine):
     # ---- the order of nodes
 
     def orders_of_nodes(self):
-        """For each node the others in the order in which they are asked: a node below counts as a bit farther, and of two that
-        are as far the one that is the first of fewer."""
+        """For each node the others in the order in which they are asked: a lower node counts as a bit farther, and of two
+        equally far nodes the one that comes first for fewer others is asked first."""
         load, orders = dict.fromkeys(self.nodes, 0), {}
         for node in self.nodes:
             order, left = [node], set(self.nodes) - {node}
@@ -185,7 +185,7 @@ class Kernel(model.Machine):
             raise Killed from refusal
 
     def take(self, process, policy, page, turn):
-        """Takes a frame for a page whose turn counts otherwise than its index."""
+        """Takes a frame for a page whose turn may not be its index."""
         node = next((node for node in self.order(process, policy, turn[1]) if self.free[node]), None)
         if node is None:
             raise Refused("ENOMEM")
@@ -217,7 +217,7 @@ class Kernel(model.Machine):
         return True
 
     def move_queued(self, queued, target, allowed):
-        """Moves pages to a node: the answer of the kernel, which is how many stay, or -12 once one finds no frame."""
+        """Moves pages to a node: the answer of the kernel, which is how many stay, or -12 as soon as one finds no frame."""
         stay, left = 0, []
         for page in queued:
             if self.pins.get(page, 0):
@@ -246,7 +246,7 @@ class Kernel(model.Machine):
         return [" ".join(map(str, [f"{answer}:", *batch.statuses]))]
 
     def status_of_absent(self, process, number):
-        """The status of what nobody touched."""
+        """The status of a page that nobody has touched."""
         private = not self.segments[process.area(number).segment].shared
         return -14 if private and self.version == "6.1" else -2
 
@@ -264,7 +264,7 @@ class Kernel(model.Machine):
         return [" ".join(statuses)]
 
     def new_nodes(self, step, process):
-        """The nodes of migrate_pages to go to."""
+        """The nodes to which migrate_pages goes."""
         caller, new = self.processes[step["caller"]], set(step["new"])
         missing = {node for node in new if node not in self.nodes}
         if not caller.privileged and not new <= process.allowed & self.online:
@@ -300,7 +300,7 @@ class Kernel(model.Machine):
         return [stay]
 
     def listed_again(self, process, queued, everyone, first, end):
-        """How often 6.12 meets a page again that it has taken up, which counts as one that stays."""
+        """How often 6.12 meets a page that it has already isolated, which counts as one that stays."""
         if self.version == "6.1" or not everyone:
             return 0
         again = sum(page in queued for number, page in process.seen.items() if first <= number < end and page != ZERO) - len(queued)
@@ -311,7 +311,7 @@ class Kernel(model.Machine):
     # ---- policies
 
     def refuse_mbind(self, process, step):
-        """The refusals that come before mode and nodes are looked at; gives the range, or None where there is nothing to do."""
+        """The refusals that come before mode and nodes are looked at; returns the range, or None where there is nothing to do."""
         flags, mode = step["flags"], step["mode"]
         if mode > PREFERRED_MANY or flags > STRICT | MOVE | MOVE_ALL:
             raise Refused("EINVAL")
@@ -331,7 +331,7 @@ class Kernel(model.Machine):
         return step["addr"] // PAGE, (step["addr"] + length) // PAGE
 
     def plain_refusal(self, process, step):
-        """What the plain model refuses the policy with."""
+        """The error with which the plain model refuses the policy."""
         try:
             super().policy_asked(process, step)
         except Refused as refusal:
@@ -369,7 +369,7 @@ class Kernel(model.Machine):
         return ["0"]
 
     def walk(self, process, step, span, policy, flags):
-        """The pages that are to move, area by area; holes and MPOL_MF_STRICT refuse on the way."""
+        """The pages that are to move, area by area; holes and MPOL_MF_STRICT refuse the call on the way."""
         first, end = span
         vmas = [vma for vma in self.vmas[step["caller"]].all if vma.first < end and vma.end > first]
         whole = sum(min(vma.end, end) - max(vma.first, first) for vma in vmas) == end - first
@@ -403,7 +403,7 @@ class Kernel(model.Machine):
             listed.append((number, page))
 
     def fire_unlisted(self, policy, page, step):
-        """A page that is on a node as given, and not where the policy wants it."""
+        """A page that is on one of the nodes as given, but not where the policy puts it."""
         if step["flags"] and not model.follows(policy, self.node(page)):
             row = "mbind-cpuset-strict" if policy.kind != "prefer" else "mbind-preferred-stays" if step["flags"] & 6 else "mbind-preferred-strict"
             self.fire(row)
@@ -423,14 +423,14 @@ class Kernel(model.Machine):
             self.fire("areas-default-merges" if policy.kind == "default" else "areas-policy-merges")
         if same:
             self.fire("areas-same-policy")
-        # The shared object has it only where the area of the process did not have it yet.
+        # The shared object gets it only where the area of the process did not have it yet.
         for part in [part for low, high in changed for area in process.areas for part in area.part(low, high)]:
             if self.segments[part.segment].shared:
                 policies = self.shared_policies.setdefault(part.segment, {})
                 policies.update({part.offset + place: policy for place in range(part.pages)})
 
     def move_listed(self, process, policy, listed):
-        """Moves listed pages to where their policy allocates; says whether one stays."""
+        """Moves listed pages to where their policy allocates them; says whether one stays."""
         stays, left = False, []
         if listed and not policy.nodes:
             self.fire("mbind-default-moves")
@@ -463,11 +463,11 @@ class Kernel(model.Machine):
     # ---- nodes that go and come
 
     def allowed_now(self, pid):
-        """What a process may use: of what it was given that which is online, or all that is."""
+        """What a process may use: those of its nodes that are online, or all online nodes if none is."""
         return set(self.configured[pid] & self.online) or set(self.online)
 
     def rebind(self):
-        """Cpusets lose and get nodes, and policies with them."""
+        """Cpusets lose and gain nodes, and policies change with them."""
         for pid, process in self.processes.items():
             before, now = sorted(process.allowed), sorted(self.allowed_now(pid))
             if before == now:
@@ -538,7 +538,7 @@ class Kernel(model.Machine):
 
 
 class Batch:
-    """A move_pages call as the kernel makes it: entries are queued while their target is the same and nothing is wrong with them."""
+    """A move_pages call as the kernel makes it: entries are queued while they have the same target and nothing is wrong with them."""
 
     def __init__(self, kernel, step, pid):
         self.kernel, self.step, self.pid = kernel, step, pid
@@ -570,7 +570,7 @@ class Batch:
         return error
 
     def add(self, place):
-        """Queues an entry, or writes its status and moves what is queued; gives the answer of the call where it ends."""
+        """Queues an entry, or writes its status and moves what is queued; returns the answer of the call where it ends."""
         status = self.status(place)
         if status is None:
             return None
@@ -582,7 +582,7 @@ class Batch:
         return None
 
     def status(self, place):
-        """The status of an entry that is not queued, or None of one that is."""
+        """The status of an entry that is not queued, or None for one that is."""
         kernel, number = self.kernel, self.step["pages"][place] // PAGE
         if self.process.area(number) is None:
             return -14
@@ -627,7 +627,7 @@ class Batch:
 
 
 def given(top, version, privilege=BOTH):
-    """What a kernel is expected to give for each step of a trace."""
+    """What a kernel is expected to answer to each step of a trace."""
     kernel = Kernel(top, version, privilege)
     return [kernel.give(step) for step in top["steps"]]
 

@@ -12,16 +12,16 @@ SCENARIOS = os.path.join(os.path.dirname(os.path.dirname(os.path.dirname(os.path
 
 
 def scenarios():
-    """The traces of the repository that kernels are asked with, each with what a privileged process of it has."""
+    """The traces of the repository that kernels are asked with, each with the capabilities of its privileged processes."""
     if not os.path.isdir(SCENARIOS):
-        raise Bad("the scenarios are in the repository, in lab/scenarios, and not in what is installed")
+        raise Bad("the scenarios are only in the repository, in lab/scenarios, and are not installed")
     privileges = {row["id"]: row["privilege"] for row in rows() if "privilege" in row}
     names = sorted(name for name in os.listdir(SCENARIOS) if name.endswith(".nt"))
     return [(load(os.path.join(SCENARIOS, name)).check(), privileges.get(name[:-3], BOTH)) for name in names]
 
 
 def kept(scenarios_asked, version):
-    """What a kernel answered of the scenarios when they were last played, as it is kept beside them."""
+    """What a kernel answered to the scenarios when they were last played, which is kept next to them."""
     path = os.path.join(SCENARIOS, version + ".replayed")
     text = text_of(read_file(path), path)
     return [part_for(text, short_name(trace.name), path) for trace, _ in scenarios_asked]
@@ -31,21 +31,21 @@ def text_of(data, name):
     try:
         return data.decode("ascii")
     except UnicodeDecodeError as error:
-        raise Bad(f"{name}: byte {error.start} is none of a report") from error
+        raise Bad(f"{name}: byte {error.start} does not belong in a report") from error
 
 
 def shape_of(trace, instructions):
-    """What traces have to have in common for one guest."""
+    """What traces must have in common to share a guest."""
     machine = trace.top["machine"]
     if len(machine["nodes"]) > guest.MOST_NODES:
         raise Bad(f"{trace.name}: a guest has at most {guest.MOST_NODES} nodes")
     if 0 in instructions.offlined:
-        raise Bad(f"{trace.name}: a guest's node 0 does not go")
+        raise Bad(f"{trace.name}: node 0 of a guest cannot go offline")
     return tuple(map(tuple, machine["distance"])), frozenset(instructions.offlined)
 
 
 def replay_in_guest(traces, kernel, progress=None):
-    """The reports of a kernel for traces, each with what a privileged process of it has, in their order."""
+    """The reports of a kernel on traces, in their order. Each trace comes with the capabilities of its privileged processes."""
     groups, texts = {}, {}
     for place, (trace, privilege) in enumerate(traces):
         instructions = Instructions(trace, privilege=privilege)

@@ -1,8 +1,8 @@
 // Makes the calls of a trace for real, and prints what the kernel answers as a report, with nodes in place of frames.
 //
-// Standard input has one instruction a line, as numalab/linux/instructions.py writes them. Each process of the trace is a child, which
-// gets the lines of its own calls by a pipe and leaves its answer in memory that all share: for a pipe it would need a page of its own,
-// which a process has not where its nodes are for pages that can move. As process 1 of a guest the player mounts what it needs,
+// Standard input has one instruction per line, as numalab/linux/instructions.py writes them. Each process of the trace is a child, which
+// gets the lines of its own calls through a pipe and leaves its answer in memory that all share: a pipe back would need a page of its
+// own, which a process cannot get where its nodes are only for movable pages. As process 1 of a guest the player mounts what it needs,
 // reads /program, writes the report to the second serial line, and turns the machine off.
 #define _GNU_SOURCE
 #include <ctype.h>
@@ -48,7 +48,7 @@ enum outcome { DONE, GONE, LATE };
 static struct process processes[MOST_PROCESSES];
 static int segments[MOST_SEGMENTS];
 
-// A process that fills a node, and the pipes by which it is told to look for room again.
+// A process that fills a node, and the pipes through which it is told to look for room again.
 static struct {
     pid_t pid;
     int to, from;
@@ -59,7 +59,7 @@ static char line[BUFFER], *answer;
 static size_t told; // how long the answer is so far
 static void *pages[MOST_ENTRIES];
 static int nodes[MOST_ENTRIES], statuses[MOST_ENTRIES];
-static unsigned long own_low = ~0UL; // the lowest address that the player itself has something at
+static unsigned long own_low = ~0UL; // the lowest address at which the player itself has something
 static FILE *report;
 static sigjmp_buf fault;
 
@@ -87,7 +87,7 @@ static void say_nothing(void)
     answer[0] = 0;
 }
 
-// Adds to the answer, which keeps room for what stands around it.
+// Adds to the answer, which keeps room for what is put around it.
 static void say(const char *form, ...)
 {
     va_list words;
@@ -140,13 +140,13 @@ static void write_all(int file, const char *text)
     for (size_t left = strlen(text); left;) {
         ssize_t done = write(file, text, left);
         if (done < 0)
-            return; // The other end is gone, which the answer will tell.
+            return; // The other end is gone, which the answer will show.
         text += done;
         left -= (size_t)done;
     }
 }
 
-// Reads up to the end of a line, and says whether there was one within some seconds.
+// Reads to the end of a line, and says whether one came within some seconds.
 static bool read_line(int file, char *to, int seconds)
 {
     size_t length = 0;
@@ -296,7 +296,7 @@ static void do_mbind(void)
         say("%ld", result);
 }
 
-// The pages of a range that this process has something at, by address.
+// The pages of a range at which this process has something, by address.
 static unsigned long say_range(int map, unsigned long first, unsigned long end)
 {
     unsigned long found = 0;
@@ -333,7 +333,7 @@ static void do_pagemap(void)
     say_before(found, ":");
 }
 
-// One line of numa_maps, with the fields that a report has. Lines are parted by ; on the way to the player.
+// One line of numa_maps, with the fields that a report has. Lines are separated by ; on the way to the player.
 static void say_area(char *text)
 {
     unsigned long counts[MOST_NODES] = {0}, sum = 0, most = 0, node, count;
@@ -407,10 +407,10 @@ static void become(unsigned long user, unsigned long privilege)
         stop("setresuid");
     if (user && syscall(SYS_capset, &head, sets) < 0)
         stop("capset");
-    prctl(PR_SET_DUMPABLE, 1); // A change of user takes this away, and others of the same user may look no more.
+    prctl(PR_SET_DUMPABLE, 1); // A change of user clears this, and then others of the same user may no longer look.
 }
 
-// Takes away the pages that the kernel gives to each process: they cannot move, and migrate_pages would count them.
+// Unmaps the pages that the kernel gives to each process: they cannot move, and migrate_pages would count them.
 static void leave_vdso(void)
 {
     char text[512];
@@ -450,7 +450,7 @@ static void live(int from, int done, unsigned long user, unsigned long privilege
 
 // ---- the player
 
-// Pages moved, pages that failed to, and pages that the kernel took up to make room of its own accord.
+// Pages moved, pages that failed to move, and pages that the kernel isolated to make room of its own accord.
 struct totals {
     long moved, failed, compacted;
 };
@@ -514,7 +514,7 @@ static void bury(struct process *process)
     process->number = 0;
 }
 
-// Waits for the answer of a process, which is in the answer then.
+// Waits until a process has written its answer.
 static enum outcome wait_for(struct process *process)
 {
     struct pollfd wait = {.fd = process->done, .events = POLLIN};
@@ -530,7 +530,7 @@ static enum outcome wait_for(struct process *process)
     return LATE;
 }
 
-// Puts a process that is not yet its user's into a cpuset of these nodes.
+// Puts a process that has not changed its user yet into a cpuset of these nodes.
 static void confine(pid_t pid, const char *allowed)
 {
     char path[128], text[32];
@@ -596,7 +596,7 @@ static void do_exit(void)
     say(process ? "ok" : "error ESRCH");
 }
 
-// The nodes of the pages that a process has of the player itself, which migrate_pages moves as well.
+// The nodes of a process's pages of the player itself, which migrate_pages moves as well.
 static unsigned long own_pages(pid_t pid, void **found, int *where)
 {
     char path[64], text[512];
@@ -639,7 +639,7 @@ static void ask_to_migrate(struct process *process, struct process *target, cons
         before_all.moved += before[at] >= 0 && after[at] >= 0 && before[at] != after[at];
 }
 
-// A call of a process goes to it, with the real pids of those that it names.
+// Sends a call to its process, with the real pids of the processes that it names.
 static void hand_on(const char *call)
 {
     static char sent[BUFFER];
@@ -670,7 +670,7 @@ static void do_vmstat(const char *step)
     say("pgmigrate_success %ld pgmigrate_fail %ld", now.moved - before_all.moved, now.failed - before_all.failed);
 }
 
-// ---- full nodes: a process takes what there is, by first touches while there is plenty and by moves up to the watermark
+// ---- full nodes: a process takes all that is free, by first touches while there is plenty, then by moves up to the watermark
 
 static unsigned long free_pages_of(unsigned long node)
 {
@@ -710,14 +710,14 @@ static bool moved_to(unsigned long node, unsigned long source, unsigned long cou
     return syscall(SYS_move_pages, 0, count, pages, nodes, statuses, 2) == 0;
 }
 
-// Moves pages to the node until there is no room for one more.
+// Moves pages to the node until there is no room for another.
 static void top_up(unsigned long node, unsigned long source)
 {
     while (moved_to(node, source, 1))
         continue;
 }
 
-// Fills a node, and then again whenever it is told to, for the kernel finds some room from time to time.
+// Fills a node, and again whenever it is told to, because the kernel finds some room from time to time.
 static void fill(unsigned long node, unsigned long source, int from, int to)
 {
     prctl(PR_SET_PDEATHSIG, SIGKILL);
@@ -763,7 +763,7 @@ static void do_fill(void)
     before_all.compacted += read_totals().compacted - before.compacted;
 }
 
-// Fills again what is to be full, before a call for which it counts.
+// Fills nodes that must be full again, before a call for which it matters.
 static void keep_full(void)
 {
     for (unsigned long node = 0; node < MOST_NODES; node++) {

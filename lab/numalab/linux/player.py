@@ -1,4 +1,4 @@
-"""The player: a program in C that makes the calls of a trace. It is built on first use, and kept in a folder for such things."""
+"""The player: a program in C that makes the calls of a trace. It is built on first use, and kept in the cache folder."""
 import hashlib
 import os
 import shutil
@@ -21,7 +21,7 @@ def cache_folder():
 
 
 def built():
-    """The path of the player, which is built if it is not there yet."""
+    """The path of the player, which is built if it does not exist yet."""
     with open(SOURCE, "rb") as file:
         name = "player-" + hashlib.sha256(file.read() + " ".join(FLAGS).encode()).hexdigest()[:16]
     path = os.path.join(cache_folder(), name)
@@ -35,7 +35,7 @@ def built():
             made = os.path.join(folder, name)
             ran = subprocess.run(["gcc", *FLAGS, "-o", made, SOURCE], capture_output=True, check=False)
             if ran.returncode != 0:
-                raise Bad(f"gcc does not build the player: {ran.stderr.decode('utf-8', 'replace').strip()} (is libc6-dev installed?)")
+                raise Bad(f"gcc cannot build the player: {ran.stderr.decode('utf-8', 'replace').strip()} (is libc6-dev installed?)")
             os.replace(made, path)
     except OSError as error:
         raise Bad(f"{error.filename or path}: {error.strerror}") from error
@@ -43,7 +43,7 @@ def built():
 
 
 def nodes_here():
-    """How many nodes this machine has online, counted from 0 without a gap, and with memory."""
+    """How many nodes with memory this machine has, counted from 0 without a gap."""
     try:
         with open(f"{NODES}/has_memory", encoding="ascii") as file:
             text = file.read().strip()
@@ -54,19 +54,19 @@ def nodes_here():
 
 
 def refuse_here(trace):
-    """What this machine lacks for a trace, as a fault."""
+    """Refuses a trace for which this machine lacks something."""
     wanted, there = len(trace.top["machine"]["nodes"]), nodes_here()
     if there < wanted:
-        raise Bad(f"{trace.name}: the trace has {wanted} nodes, and this machine has {there}: --qemu plays it with a kernel of its own")
+        raise Bad(f"{trace.name}: the trace has {wanted} nodes, and this machine has {there}: --qemu plays it on a kernel of its own")
     spawns = [step for step in trace.steps if step["op"] == "spawn"]
     if os.geteuid() != 0 and (len({step["uid"] for step in spawns}) > 1 or any(step.get("privileged", False) for step in spawns)):
-        raise Bad(f"{trace.name}: several users and privileged processes are played by root alone: sudo numalab replay --here, or --qemu")
+        raise Bad(f"{trace.name}: only root can play several users or privileged processes: sudo numalab replay --here, or --qemu")
     if there > wanted and any(len(set(step["allowed"])) == wanted for step in spawns):
-        raise Bad(f"{trace.name}: the trace has {wanted} node(s), and this machine has {there}: a trace of {there} nodes is played here")
+        raise Bad(f"{trace.name}: the trace has {wanted} node(s), and this machine has {there}: only a trace of {there} nodes can be played here")
 
 
 def as_myself(program):
-    """Instructions in which each process stays the user that plays."""
+    """Instructions in which each process keeps the current user."""
     lines = [line.split(" ") for line in program.split("\n")]
     return "\n".join(" ".join([*line[:3], "0", *line[4:]] if line[1:2] == ["spawn"] else line) for line in lines)
 
@@ -85,5 +85,5 @@ def play_here(trace, privilege="both"):
         raise Bad(f"{built()}: {error.strerror}") from error
     report = ran.stdout.decode("utf-8", "replace")
     if ran.returncode != 0 or not report.endswith("# end\n"):
-        raise Bad(f"{trace.name}: {ran.stderr.decode('utf-8', 'replace').strip() or 'the player ends early'} (status {ran.returncode})")
+        raise Bad(f"{trace.name}: {ran.stderr.decode('utf-8', 'replace').strip() or 'the player ended early'} (status {ran.returncode})")
     return report

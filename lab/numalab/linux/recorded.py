@@ -1,4 +1,4 @@
-"""From what was seen of a program to a trace: its calls by strace, and what its processes had by /proc at each call that is about nodes."""
+"""From what was seen of a program to a trace: its calls from strace, and what its processes had in /proc at each call about nodes."""
 from collections import Counter, namedtuple
 
 from ..model import END, MOST_ENTRIES, PAGE
@@ -10,13 +10,13 @@ MOST_FRAMES = 16384
 MAP_SHARED, MAP_FIXED, MAP_ANONYMOUS, MAP_HUGETLB, MAP_STACK = 0x1, 0x10, 0x20, 0x40000, 0x20000
 CLONE_VM, CLONE_THREAD = 0x100, 0x10000
 ABOUT_NODES = {"mbind", "move_pages", "migrate_pages"}
-# Calls that change what the model has no place for, and how that is told.
+# Calls that change what the model has no place for, and how they are listed.
 LEFT_OUT = {"set_mempolicy": "set_mempolicy", "set_mempolicy_home_node": "set_mempolicy_home_node", "mremap": "mremap", "shmat": "shmat",
-            "fork": "memory that a child has of its parent (fork)", "vfork": "memory that a child has of its parent (fork)",
+            "fork": "memory that a child has from its parent (fork)", "vfork": "memory that a child has from its parent (fork)",
             "mlock": "mlock", "mlockall": "mlockall", "setuid": "setuid", "setresuid": "setresuid", "capset": "capset"}
 
-# What /proc told of a process: its user, privilege, home and allowed nodes, the areas that it had before it was looked at (of a process
-# that is not traced), and which page numbers were there, each with its node or None.
+# What /proc showed of a process: its user, privilege, home and allowed nodes, the areas that it had before (for a process that is
+# not traced), and which page numbers were there, each with its node or None.
 Seen = namedtuple("Seen", "uid privileged home allowed areas pages")
 
 
@@ -28,7 +28,7 @@ class Process:
 
 
 class Recorder:
-    """Makes the steps of a trace of calls and of what was seen."""
+    """Makes the steps of a trace from calls and from what was seen."""
 
     def __init__(self, machine, scale=1):
         self.machine, self.scale = machine, scale
@@ -54,7 +54,7 @@ class Recorder:
         return self.processes[pid]
 
     def look(self, pid, seen, statuses):
-        """What was there becomes writes, or reads where the page of zeros was told."""
+        """What was there becomes writes, or reads where it was the page of zeros."""
         process = self.process(pid, seen)
         there = {number // self.scale: node for number, node in (seen.pages if seen else {}).items()}
         zeros = {number for number, status in statuses.items() if status == -14 and number in there}
@@ -90,7 +90,7 @@ class Recorder:
         return address // PAGE // self.scale, -(-(address + length) // PAGE // self.scale) if self.scale > 1 else -(-(address + length) // PAGE)
 
     def map(self, process, first, end, shared):
-        """A new area, without what an area has already where scaling made them touch."""
+        """A new area, without the pages that another area already has where scaling made them overlap."""
         for low, high in sorted(process.areas):
             if low <= first < high:
                 first = high
@@ -110,7 +110,7 @@ class Recorder:
     # ---- calls
 
     def add(self, event, seen=None):
-        """Adds what a call did; seen is what /proc told at its beginning, by process."""
+        """Adds what a call did; seen is what /proc showed at its beginning, by process."""
         if isinstance(event, Ended):
             self.ended(event.pid)
         elif event.name in ABOUT_NODES:
@@ -157,14 +157,14 @@ class Recorder:
 
     def do_madvise(self, call):
         if number(call.arguments[2]) in (4, 8, 9, 14):  # MADV_DONTNEED, MADV_FREE, MADV_REMOVE, MADV_HUGEPAGE
-            self.left["madvise that drops pages or wants huge ones"] += 1
+            self.left["madvise that drops pages or asks for huge ones"] += 1
 
     def do_clone(self, call):
         flags = next((number(part.split("=")[1]) or 0 for part in " ".join(call.arguments).replace("{", " ").replace(",", " ").split() if part.startswith("flags=")), 0)
         if flags & CLONE_THREAD:
             self.same_as[call.result] = self.same_as.get(call.pid, call.pid)
         elif not flags & CLONE_VM:
-            self.left["memory that a child has of its parent (fork)"] += 1
+            self.left["memory that a child has from its parent (fork)"] += 1
 
     do_clone3 = do_clone
 
@@ -186,7 +186,7 @@ class Recorder:
         pid, pages, nodes = number(call.arguments[0]), numbers(call.arguments[2]), numbers(call.arguments[3])
         statuses = numbers(call.arguments[4]) or []
         if pages is None or nodes is None or len(pages) > MOST_ENTRIES or any(node < 0 for node in nodes):
-            self.left["batches that strace does not tell in full, or of more than 16,384 entries"] += 1
+            self.left["batches that strace does not show in full, or with more than 16,384 entries"] += 1
             return
         told = {page // PAGE // self.scale: status for page, status in zip(pages, statuses)} if call.error is None else {}
         self.target(pid, call, seen, told)
@@ -225,24 +225,24 @@ class Recorder:
     # ---- the trace
 
     def trace(self):
-        """The trace of all that was added."""
+        """The trace of everything that was added."""
         frames = sum(self.machine["nodes"])
         if self.present > frames:
-            raise Bad(f"{counted(self.present, 'page')} were there at once or one after another, and the trace's machine has {frames:,} frames: "
-                      f"--scale {-(-self.present // frames)} or more lets one frame stand for so many pages")
+            raise Bad(f"{counted(self.present, 'page')} were there, together or one after another, and the trace's machine has {frames:,} frames: "
+                      f"--scale {-(-self.present // frames)} or more lets one frame stand for that many pages")
         left = [f"{what}: {count}" for what, count in sorted(self.left.items())]
         scale = {"scale": self.scale} if self.scale > 1 else {}
         return {"version": 1, "machine": self.machine, **scale, "left_out": left, "steps": self.steps}
 
 
 def machine_of(sizes, distance, scale=1):
-    """A machine of a trace for nodes of so many pages, with as many frames as there may be."""
+    """The machine of a trace for nodes of these sizes in pages, with as many frames as are allowed."""
     most = MOST_FRAMES // len(sizes)
     return {"nodes": [max(1, min(size // scale, most)) for size in sizes], "distance": distance}
 
 
 def recorded(events, machine, scale=1):
-    """The trace of events, which are pairs of a call or an end and of what was seen."""
+    """The trace of events, which are pairs: a call or an end, and what was seen."""
     recorder = Recorder(machine, scale)
     for event, seen in events:
         if isinstance(event, (Call, Ended)):

@@ -10,7 +10,7 @@ HEAD = re.compile(r"# Linux (\S+)")
 STEP = re.compile(r"(0|[1-9][0-9]*) ([a-z_]+) (.*)")
 ENTRY = re.compile(r"=(\d+)")
 
-# What a kernel told of a trace: its release, for each step its lines, and the steps before which it compacted memory by itself.
+# What a kernel answered to a trace: its release, for each step its lines, and the steps before which it compacted memory by itself.
 Replayed = namedtuple("Replayed", "release steps compacted")
 
 
@@ -24,12 +24,12 @@ def by_step(lines, name):
         elif steps and re.match(r"[0-9a-f]{8,}[ ;]|\d+\.\d+ ", line):
             steps[-1].append(line)
         else:
-            raise Bad(f"{name}: line {number}: wanted is the line of step {len(steps)}")
+            raise Bad(f"{name}: line {number}: expected the line of step {len(steps)}")
     return steps
 
 
 def read_replayed(text, name):
-    """What a replay of one trace told."""
+    """What a replay of one trace says."""
     release, lines = None, []
     compacted = {int(step) for step in re.findall(r"(?m)^# compacted (\d+)$", text)}
     for line in text.split("\n"):
@@ -39,9 +39,9 @@ def read_replayed(text, name):
         elif line and not line.startswith("#"):
             lines.append(line)
     if release is None:
-        raise Bad(f"{name}: the line '# Linux RELEASE' is missing: this is no report of a replay")
+        raise Bad(f"{name}: the line '# Linux RELEASE' is missing: this is not a report of a replay")
     if not text.endswith(END):
-        raise Bad(f"{name}: the line '# end' is missing: the report was cut")
+        raise Bad(f"{name}: the line '# end' is missing: the report was cut off")
     return Replayed(release, by_step(lines, name), compacted)
 
 
@@ -53,18 +53,18 @@ def parts(text):
 
 
 def joined(texts):
-    """Reports of one kernel as one text, from which parts gives them again."""
+    """Reports of one kernel as one text, which parts() takes apart again."""
     head = texts[0].split("# trace ", 1)[0]
     return head + "".join(text[len(head) : -len(END)] for text in texts) + END
 
 
 def part_for(text, name, file):
-    """Of the reports in a text the one for a trace, where there are several."""
+    """The report for a trace, where a text has several."""
     found = parts(text)
     if len(found) < 2 or not text.endswith(END):
         return text
     if name not in found:
-        raise Bad(f"{file}: it has the replays of {len(found)} traces, and none of {name}")
+        raise Bad(f"{file}: it has the replays of {len(found)} traces, but none of {name}")
     return found[name]
 
 

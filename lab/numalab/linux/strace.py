@@ -1,4 +1,4 @@
-"""What strace tells (`-f -X raw -e abbrev=none`): each call once, with its arguments and what it returned."""
+"""What strace writes (`-f -X raw -e abbrev=none`): each call once, with its arguments and what it returned."""
 import re
 from collections import namedtuple
 
@@ -15,7 +15,7 @@ Ended = namedtuple("Ended", "pid")
 
 
 def split(text):
-    """Arguments as they stand between commas, with brackets and texts whole."""
+    """Arguments as they are between commas, with brackets and texts kept whole."""
     found, depth, start, quoted, place = [], 0, 0, False, 0
     while place < len(text):
         letter = text[place]
@@ -45,7 +45,7 @@ def number(text):
 
 
 def numbers(text):
-    """A list of numbers, or None where it is not told in full."""
+    """A list of numbers, or None where it is not shown in full."""
     if not text.startswith("["):
         return []
     found = [number(part) for part in split(text[1:].rpartition("]")[0])]
@@ -53,24 +53,24 @@ def numbers(text):
 
 
 def nodes_of_mask(text, most):
-    """The nodes of a mask of words of 64 bits, of which so many bits count."""
+    """The nodes of a mask of 64-bit words, of which the first `most` - 1 bits count."""
     words = re.findall(r"0x[0-9a-f]+|\b0{2,}\b|\b\d+\b", text) if text.startswith("[") else []
     mask = sum(int(word, 16) << 64 * place for place, word in enumerate(words)) & ((1 << max(most - 1, 0)) - 1)
     return [node for node in range(mask.bit_length()) if mask >> node & 1]
 
 
 class Reader:
-    """Reads lines one by one. A call that another process's line interrupts is told once it has returned."""
+    """Reads lines one by one. A call that another process's line interrupts is returned once it has ended."""
 
     def __init__(self, name):
         self.name, self.count, self.begun = name, 0, {}
 
     def read(self, line):
-        """The call or the end that a line tells, or None."""
+        """The call or the end that a line shows, or None."""
         self.count += 1
         match = LINE.fullmatch(line.rstrip("\n"))
         if not match:
-            raise Bad(f"{self.name}: line {self.count}: no process is named: strace is wanted with -f")
+            raise Bad(f"{self.name}: line {self.count}: no process is named: run strace with -f")
         pid, text = int(match[1]), match[2]
         if text.startswith("+++ "):
             return Ended(pid)
@@ -82,17 +82,17 @@ class Reader:
         resumed = re.match(r"<\.\.\. ([a-z_0-9]+) resumed>(.*)", text)
         if resumed:
             if pid not in self.begun:
-                raise Bad(f"{self.name}: line {self.count}: a call goes on that has not begun: the beginning was cut")
+                raise Bad(f"{self.name}: line {self.count}: a call resumes that has not begun: the beginning was cut off")
             text = self.begun.pop(pid) + resumed[2]
         call = CALL.fullmatch(text)
         if not call:
-            raise Bad(f"{self.name}: line {self.count}: {text[:60]} is no call of strace's form: the output was cut")
+            raise Bad(f"{self.name}: line {self.count}: {text[:60]} is not a call as strace writes it: the output was cut off")
         result = None if call[3] == "?" else number(call[3])
         return Call(pid, call[1], split(call[2]), result, call[4])
 
 
 def begun_call(text):
-    """The process and the call of a line that is not whole yet, as (pid, name, arguments), or None."""
+    """The process and the call of a line that is not complete yet, as (pid, name, arguments), or None."""
     match = LINE.match(text)
     call = match and re.match(r"([a-z_0-9]+)\((.*)", match[2], re.S)
     return (int(match[1]), call[1], split(call[2].rstrip(") "))) if call else None

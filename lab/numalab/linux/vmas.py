@@ -24,7 +24,7 @@ class Vmas:
         return next((vma for vma in self.all if vma.first <= number < vma.end), None)
 
     def merged(self, first, end):
-        """Merges areas where one begins or ends at a place in a range; says whether any was."""
+        """Merges areas where one begins or ends within a range; says whether any were merged."""
         found, before = [], len(self.all)
         for vma in self.all:
             if found and first <= vma.first <= end and alike(found[-1], vma):
@@ -36,7 +36,7 @@ class Vmas:
         return len(found) < before
 
     def cut(self, first, end):
-        """Splits the areas at both ends of a range; gives those inside, and takes them out."""
+        """Splits the areas at both ends of a range; removes those inside, and returns them."""
         inside, rest = [], []
         for vma in self.all:
             for low, high in [(vma.first, min(vma.end, first)), (max(vma.first, first), min(vma.end, end)), (max(vma.first, end), vma.end)]:
@@ -54,8 +54,8 @@ class Vmas:
         return self.merged(first, end)
 
     def set_policy(self, first, end, policy):
-        """Sets a policy, where an area has another one; gives the ranges where it is new, whether areas were merged, and whether one was
-        left whole."""
+        """Sets a policy where an area has another one; returns the ranges where it is new, whether areas were merged, and whether
+        one was left whole."""
         merged = same = False
         changed = []
         for vma in list(self.all):
@@ -71,7 +71,7 @@ class Vmas:
         return changed, merged, same
 
     def touched(self, number):
-        """The first private page of an area keeps what may be merged with it to neighbours that are alike."""
+        """From its first private page on, an area can only be merged with neighbours that have the same anon or none."""
         place = next((place for place, vma in enumerate(self.all) if vma.first <= number < vma.end), None)
         if place is None or self.all[place].anon is not None or self.all[place].origin is not None:
             return

@@ -1,4 +1,4 @@
-"""Runs a command under strace, and looks at its processes by /proc while they stand at a call that is about nodes."""
+"""Runs a command under strace, and looks at its processes in /proc while they are stopped at a call about nodes."""
 import ctypes
 import glob
 import json
@@ -19,7 +19,7 @@ NO_STRACE = "there is no strace: it is in Debian's package strace"
 NODES = "/sys/devices/system/node"
 CALLS = ("mmap,munmap,brk,mremap,madvise,mbind,migrate_pages,move_pages,set_mempolicy,set_mempolicy_home_node,clone,clone3,fork,vfork,execve,"
          "shmat,mlock,mlockall,setuid,setresuid,capset,exit_group")
-DELAY = 20000  # so many microseconds a process stands before each call that is about nodes
+DELAY = 20000  # microseconds for which a process is stopped before each call about nodes
 CAP_SYS_NICE, MOVE_PAGES = 23, 279
 MOST_LOOKED_AT = 1 << 20
 PAUSE = 0.02  # seconds
@@ -31,7 +31,7 @@ def text_of(path):
 
 
 def listed(text):
-    """The numbers of a list as 0-2,5."""
+    """The numbers of a list such as 0-2,5."""
     return [value for part in text.split(",") if part.strip()
             for value in range(int(part.split("-")[0]), int(part.split("-")[-1]) + 1)]
 
@@ -43,9 +43,9 @@ def machine_here():
         distance = [[int(word) for word in text_of(f"{NODES}/node{node}/distance").split()] for node in nodes]
         sizes = [int(re.search(r"MemTotal:\s+(\d+)", text_of(f"{NODES}/node{node}/meminfo"))[1]) // 4 for node in nodes]
     except OSError as error:
-        raise Bad(f"this kernel has no NUMA: {error.filename}: {error.strerror}; --machine FILE names a machine") from error
+        raise Bad(f"this kernel has no NUMA: {error.filename}: {error.strerror}; --machine FILE names another machine") from error
     if nodes != list(range(len(nodes))) or any(len(row) != len(nodes) for row in distance):
-        raise Bad("the nodes of this machine are not numbered through: --machine FILE names a machine")
+        raise Bad("the nodes of this machine are not numbered consecutively: --machine FILE names another machine")
     return sizes, distance
 
 
@@ -92,7 +92,7 @@ def present_of(pid, areas):
 
 
 def look_at(pid, traced):
-    """What /proc tells of a process, or None where it tells nothing."""
+    """What /proc shows of a process, or None where it shows nothing."""
     try:
         status = dict(line.split(":\t", 1) for line in text_of(f"/proc/{pid}/status").splitlines() if ":\t" in line)
         areas = areas_of(pid)
@@ -115,7 +115,7 @@ class Watcher:
         self.reader, self.events, self.lines, self.traced, self.seen, self.looked = Reader("strace"), [], [], set(), {}, None
 
     def look(self, text):
-        """Looks at those whom a call that has begun is about, once for each call."""
+        """Looks at the processes that a call which has begun is about, once for each call."""
         begun = begun_call(text)
         if not begun or begun[1] not in ABOUT_NODES or self.looked == (len(self.lines), begun[0]):
             return
@@ -136,7 +136,7 @@ class Watcher:
             self.events.append((event, self.seen.pop(event.pid, {})))
 
     def follow(self, file, process):
-        """Reads up to the end of strace. What stands behind the last line feed is a call that has begun."""
+        """Reads up to the end of strace. What follows the last line feed is a call that has begun."""
         rest, ended = b"", False
         while not ended:
             ended = process.poll() is not None  # What it wrote before is read once more.
@@ -152,7 +152,7 @@ class Watcher:
 
 
 def read_what_is_there(file):
-    """Some bytes of a pipe, or none where there are none now."""
+    """The bytes that a pipe has now, or none."""
     try:
         return os.read(file, 1 << 16)
     except BlockingIOError:
@@ -160,7 +160,7 @@ def read_what_is_there(file):
 
 
 def watched(command):
-    """Runs a command; gives what was seen, and the command's status."""
+    """Runs a command; returns what was seen, and the command's status."""
     if not shutil.which("strace"):
         raise Bad(NO_STRACE)
     if not shutil.which(command[0]):
@@ -178,12 +178,12 @@ def watched(command):
         finally:
             os.close(file)
     if not watcher.lines:
-        raise Bad(f"strace ended with status {process.returncode} and told nothing: is it allowed to trace here?")
+        raise Bad(f"strace ended with status {process.returncode} and wrote nothing: is it allowed to trace here?")
     return watcher, process.returncode
 
 
 def machine_asked(path, most=MOST_FRAMES):
-    """The pages and distances of a machine that a file tells: a trace, or the object of its machine."""
+    """The pages and distances of the machine in a file: a trace, or only its machine object."""
     try:
         top = json.loads(text_of(path))
         machine = top.get("machine", top)
@@ -191,4 +191,4 @@ def machine_asked(path, most=MOST_FRAMES):
     except OSError as error:
         raise Bad(f"{path}: {error.strerror}") from error
     except (ValueError, KeyError, TypeError, AttributeError) as error:
-        raise Bad(f"{path}: wanted is a trace in JSON, or its object with nodes and distance") from error
+        raise Bad(f"{path}: expected a trace in JSON, or an object with nodes and distance") from error
