@@ -1,7 +1,7 @@
 #!/bin/sh
-# Makes a release of the built program and tries it where there is no kit: the archive is unpacked, and its install called, in a
-# root that has a shell, some tools and the C library alone, and the package is installed into one. Then install and the scripts
-# in this clone. With --twins CLONE it only compares the program with the one of another clone, and prints the sum of both; with
+# Makes a release of the built program and tries it where there is no kit: the archive is unpacked, and its install run, in a root
+# that has only a shell, some tools and the C library, and the package is installed into one. Then install and the scripts in this
+# clone are tried. With --twins CLONE it only compares the program with that of another clone, and prints the checksum of both; with
 # --twins alone it makes that clone, and builds there, which may take as long as ./build does.
 set -eu
 cd "$(dirname "$0")/.."
@@ -13,7 +13,7 @@ fail() {
 note() {
     echo "tests/release.sh: $1" >&2
 }
-[ -x "$program" ] || fail "there is no program: ./build makes it"
+[ -x "$program" ] || fail "there is no program: run ./build first"
 there=$(mktemp -d)
 trap 'rm -rf "$there"' EXIT
 trap 'exit 130' HUP INT TERM
@@ -35,7 +35,7 @@ case ${1-} in
     twins "${2-}"
     exit
     ;;
-*) fail "no word but --twins is known" ;;
+*) fail "it takes no argument other than --twins" ;;
 esac
 
 version=$(cat VERSION)
@@ -44,16 +44,16 @@ trace=$PWD/examples/three_pages.json
 report=$PWD/examples/three_pages.report
 root=$there/root
 
-# The release, made twice, is the same byte for byte, and the second time in another folder for temporary files.
+# The release, made twice, is the same byte for byte, the second time with another folder for temporary files.
 ./release > "$there/sums"
 mv dist "$there/first"
 mkdir "$there/tmp"
 TMPDIR=$there/tmp TZ=Asia/Tokyo ./release > "$there/again"
-cmp "$there/sums" "$there/again" || fail "a release that is made twice differs"
+cmp "$there/sums" "$there/again" || fail "two releases of the same program differ"
 rm -r "$there/first"
 package=dist/numatrace_${version}_amd64.deb
 
-# A root with these tools and what they load, and nothing else: no kit, no Python, no mounts.
+# A root with these tools and the libraries that they load, and nothing else: no kit, no Python, no mounts.
 make_root() {
     mkdir -p "$root/tmp" "$root/dev" "$root/bin"
     : > "$root/dev/null"
@@ -68,10 +68,10 @@ make_root() {
 enter() {
     if [ "$(id -u)" = 0 ]; then chroot "$root" "$@"; else unshare -r chroot "$root" "$@"; fi
 }
-# Plays the example by a command, and wants its report, byte for byte.
+# Plays the example with a command, and expects its report, byte for byte.
 expect_report() {
     "$@" < "$trace" > "$there/out" 2> "$there/err" || fail "$* ends with $?: $(cat "$there/err")"
-    cmp -s "$there/out" "$report" || fail "$* gives another report"
+    cmp -s "$there/out" "$report" || fail "$* writes a different report"
     [ ! -s "$there/err" ] || fail "$* says: $(cat "$there/err")"
 }
 
@@ -86,7 +86,7 @@ expect_report enter '/opt/a prefix/bin/numatrace' --workers 64
 tar -C "$root" -xzf "dist/$name.tar.gz"
 enter "/$name/install" --uninstall --prefix '/opt/a prefix'
 [ -z "$(find "$root/opt" -mindepth 1)" ] || fail "--uninstall leaves something of a release: $(find "$root/opt")"
-grep -q "^sha256:   $(sha256sum < "$program" | cut -c 1-64)$" "$root/$name/PROVENANCE" || fail "PROVENANCE has another sum"
+grep -q "^sha256:   $(sha256sum < "$program" | cut -c 1-64)$" "$root/$name/PROVENANCE" || fail "PROVENANCE has a different sum"
 rm -r "${root:?}/$name"
 
 # The package puts the command and the man page in place, and its removal takes them away.
@@ -107,17 +107,17 @@ expect_report enter /usr/bin/numatrace
 if command -v man > /dev/null; then
     [ "$(MANPATH=$root/usr/share/man man -w numatrace)" = "$root/usr/share/man/man1/numatrace.1.gz" ] || fail "man does not find the page of the package"
     MANPATH=$root/usr/share/man man --warnings numatrace > "$there/out" 2> "$there/err" || fail "man cannot show the page"
-    grep -q -- '--workers' "$there/out" || fail "man shows another page"
+    grep -q -- '--workers' "$there/out" || fail "man shows a different page"
     [ ! -s "$there/err" ] || fail "man says: $(cat "$there/err")"
 else
-    note "there is no command man, so the page is only looked for"
+    note "there is no command man, so only the file of the page is compared"
     gzip -dc "$root/usr/share/man/man1/numatrace.1.gz" | cmp - docs/numatrace.1 || fail "the package has no man page"
 fi
 dpkg_there -r numatrace
 left=$(find "$root" -path "$root/var" -prune -o -name '*numatrace*' -print)
 [ -z "$left" ] || fail "the removal of the package leaves $left"
 
-# install from this clone, below a prefix that has a folder already: it takes back what it made, and replaces nothing of others.
+# install from this clone, under a prefix that already has a folder: it removes what it made, and replaces nothing of others.
 prefix=$there/prefix
 mkdir -p "$prefix/bin"
 ./install --prefix "$prefix" > "$there/out"
@@ -128,19 +128,19 @@ expect_report "$there/link"
 ./install --uninstall --prefix "$prefix"
 [ "$(find "$prefix" -mindepth 1)" = "$prefix/bin" ] || fail "--uninstall leaves something: $(find "$prefix")"
 echo mine > "$prefix/bin/numatrace"
-! ./install --prefix "$prefix" > "$there/out" 2>&1 || fail "install replaces what another put there"
-[ "$(cat "$prefix/bin/numatrace")$(find "$prefix" -type f | wc -l)" = mine1 ] || fail "install changes something before it ends with an error"
+! ./install --prefix "$prefix" > "$there/out" 2>&1 || fail "install replaces a file that is not its own"
+[ "$(cat "$prefix/bin/numatrace")$(find "$prefix" -type f | wc -l)" = mine1 ] || fail "install changes something before it fails"
 rm "$prefix/bin/numatrace"
-! ./install --uninstall --prefix "$prefix" > "$there/out" 2>&1 || fail "what is not installed is taken back"
+! ./install --uninstall --prefix "$prefix" > "$there/out" 2>&1 || fail "--uninstall succeeds where nothing is installed"
 
-# bash completes the words that the program takes, and no others.
+# bash completes the arguments that the program takes, and no others.
 if command -v bash > /dev/null; then
     "$program" --help 2>&1 | grep -o -- '--[a-z]*' | sort -u > "$there/words"
     bash -c '. completions/numatrace; COMP_WORDS=(numatrace --) COMP_CWORD=1; _numatrace; printf "%s\n" "${COMPREPLY[@]}"' | sort | cmp - "$there/words" ||
-        fail "the completion has other words than the program"
+        fail "the completion's arguments are not the program's"
     bash -c '. completions/numalab; COMP_WORDS=(./numalab w) COMP_CWORD=1; _numalab; printf "%s " "${COMPREPLY[@]}"
         COMP_WORDS=(./numalab why --) COMP_CWORD=2; _numalab; printf "%s " "${COMPREPLY[@]}"' > "$there/words"
-    [ "$(cat "$there/words")" = "write why --help --strict --no-hints --schema " ] || fail "the completion of numalab has other words than its help"
+    [ "$(cat "$there/words")" = "write why --help --strict --no-hints --schema " ] || fail "the completion's arguments for numalab are not those of its help"
 fi
 
 # The script of this clone, also through a link.
@@ -150,7 +150,7 @@ expect_report "$there/clone"
 
 # Both scripts start the program within 3 ms. (It gets no trace, and so ends with 2.)
 if ! command -v hyperfine > /dev/null; then
-    note "there is no command hyperfine, so that the scripts start within 3 ms is not tried"
+    note "there is no command hyperfine, so it is not tested that the scripts start within 3 ms"
     exit
 fi
 ./install --prefix "$prefix" > "$there/out"

@@ -1,6 +1,6 @@
 #!/bin/sh
-# The scripts `numatrace` and `build`, over a program and a toolchain that stand in for the real ones: words, streams and status are
-# handed on, crates are proved in their order, and what was proved is kept. And the version is the same wherever it stands.
+# Tests the scripts `numatrace` and `build` with a program and a toolchain in place of the real ones: arguments, streams and status are
+# passed on, crates are proved in their order, and what was proved is kept. And the version is the same wherever it is given.
 set -eu
 cd "$(dirname "$0")/.."
 there=$(mktemp -d)
@@ -11,10 +11,10 @@ fail() {
     exit 1
 }
 
-# Which version it is stands in the file VERSION, and where no file can be read.
+# The version is in the file VERSION, and in places that cannot read a file.
 version=$(cat VERSION)
-grep -qxF "const VERSION: &str = \"$version\";" crates/numatrace/src/words.rt || fail "the program tells another version than $version"
-grep -q "^\.TH NUMATRACE 1 [0-9-]* \"numatrace $version\" " docs/numatrace.1 || fail "the man page tells another version than $version"
+grep -qxF "const VERSION: &str = \"$version\";" crates/numatrace/src/words.rt || fail "the program's version is not $version"
+grep -q "^\.TH NUMATRACE 1 [0-9-]* \"numatrace $version\" " docs/numatrace.1 || fail "the man page's version is not $version"
 [ "$(sed -n 's/^## \([0-9.]*\).*/\1/p' CHANGELOG.md | head -n 1)" = "$version" ] || fail "CHANGELOG.md does not begin with $version"
 
 # ---- The script numatrace
@@ -35,56 +35,56 @@ chmod +x "$there/stand_in"
 program=$clone/crates/numatrace/out/numatrace
 cp "$there/stand_in" "$program"
 
-# Calls the script that a path names, on a trace and two words, and wants the program's own answer; other words are set for it.
-expect_handed_on() {
+# Calls the script at a path with a trace and arguments, and expects the program's own answer; other arguments set its environment.
+expect_passed_on() {
     script=$1
     shift
     status=0
     printf 'in\000put' | env "$@" "$script" --one 'two words' '' > "$there/out" 2> "$there/err" || status=$?
     [ "$status" = 4 ] || fail "$script ends with $status and not with the program's status"
-    printf -- '--one;two words;;in\000put' | cmp -s - "$there/out" || fail "$script does not hand on words or streams"
+    printf -- '--one;two words;;in\000put' | cmp -s - "$there/out" || fail "$script does not pass on arguments or streams"
 }
-expect_told() {
+expect_message() {
     [ "$(cat "$there/err")" = "$1" ] || fail "$2: $(cat "$there/err")"
 }
 
-# Words, streams and status are handed on, also through a link, and the memory's pages are huge unless the user says otherwise.
-expect_handed_on "$clone/numatrace" -u GLIBC_TUNABLES
-expect_told 'err glibc.malloc.hugetlb=1' "standard error is not the program's alone"
+# Arguments, streams and status are passed on, also through a link, and memory is in huge pages unless the user says otherwise.
+expect_passed_on "$clone/numatrace" -u GLIBC_TUNABLES
+expect_message 'err glibc.malloc.hugetlb=1' "standard error has more than the program's"
 ln -s clone/numatrace "$there/link"
 ln -s ../link "$there/bin/numatrace"
-expect_handed_on "$there/link" GLIBC_TUNABLES=glibc.malloc.check=1
-expect_told 'err glibc.malloc.check=1' "GLIBC_TUNABLES is not the user's"
-expect_handed_on "$there/bin/numatrace" GLIBC_TUNABLES=
-expect_told 'err ' "an empty GLIBC_TUNABLES is not the user's"
+expect_passed_on "$there/link" GLIBC_TUNABLES=glibc.malloc.check=1
+expect_message 'err glibc.malloc.check=1' "GLIBC_TUNABLES is not the user's"
+expect_passed_on "$there/bin/numatrace" GLIBC_TUNABLES=
+expect_message 'err ' "an empty GLIBC_TUNABLES is not the user's"
 
-# That sources changed is told by what they hold: not where only their times did, nor of a program that came from elsewhere.
-changed="numatrace: the sources have changed since the program was built: ./build builds it anew
+# Changed sources are reported by their contents: not where only their times changed, nor for a program that came from elsewhere.
+changed="numatrace: the sources have changed since the program was built: ./build rebuilds it
 err "
 record() {
     printf '#!/bin/sh\nexit 0\n' > "$there/bin/rt"
     chmod +x "$there/bin/rt"
-    (cd "$clone" && PATH="$there/bin:$PATH" ./build 2> "$there/told") || fail "a build that has nothing to do fails: $(cat "$there/told")"
+    (cd "$clone" && PATH="$there/bin:$PATH" ./build 2> "$there/told") || fail "a build with nothing to do fails: $(cat "$there/told")"
 }
 echo 'Handles allowed: none.' > "$clone/HANDLES"
 record
 touch -t 209901010000 "$clone/crates/numatrace/src/main.rt"
-expect_handed_on "$clone/numatrace" GLIBC_TUNABLES=
-expect_told 'err ' "a source that has only another time is told as changed"
+expect_passed_on "$clone/numatrace" GLIBC_TUNABLES=
+expect_message 'err ' "a source with only a new time is reported as changed"
 echo 'fn main() { }' > "$clone/crates/numatrace/src/main.rt"
 touch -t 200001010000 "$clone/crates/numatrace/src/main.rt"
 echo 0 > "$program.looked"
-expect_handed_on "$clone/numatrace" GLIBC_TUNABLES=
-expect_told "$changed" "a source that changed goes unnoticed"
+expect_passed_on "$clone/numatrace" GLIBC_TUNABLES=
+expect_message "$changed" "a source that changed goes unnoticed"
 cp -R "$clone" "$there/elsewhere"
 echo 'fn main() {}' > "$there/elsewhere/crates/numatrace/src/main.rt"
 echo 0 > "$there/elsewhere/crates/numatrace/out/numatrace.looked"
-expect_handed_on "$there/elsewhere/numatrace" GLIBC_TUNABLES=
-expect_told 'err ' "a program that was copied is told as older than its own sources"
+expect_passed_on "$there/elsewhere/numatrace" GLIBC_TUNABLES=
+expect_message 'err ' "a copied program is reported as older than its own sources"
 echo '# another' >> "$program"
 echo 0 > "$program.looked"
-expect_handed_on "$clone/numatrace" GLIBC_TUNABLES=
-expect_told 'err ' "a program that no build made is told as older"
+expect_passed_on "$clone/numatrace" GLIBC_TUNABLES=
+expect_message 'err ' "a program that no build made is reported as older"
 
 # Without the kit and without a program, a line says where a release comes from.
 rm "$program"
@@ -95,20 +95,20 @@ PATH="$there/few" "$clone/numatrace" < /dev/null > "$there/out" 2> "$there/err" 
 [ "$status $(wc -l < "$there/err")" = '1 1' ] || fail "without the kit it ends with $status and says: $(cat "$there/err")"
 grep -q 'no Rattle kit .*\./release' "$there/err" || fail "without the kit it does not say where a release comes from"
 
-# The first call shows what an unproved build reports, on standard error, and then hands on the built program's report.
+# The first call shows what an unproved build reports, on standard error, and then passes on the built program's report.
 printf '#!/bin/sh\necho "unproved $*"\ncat\necho noise >&2\n' > "$there/bin/rt"
 printf '#!/bin/sh\ncp "%s" "%s"\n' "$there/stand_in" "$program" > "$clone/build"
 status=0
 printf 'input' | PATH="$there/bin:$PATH" "$clone/numatrace" --one > "$there/out" 2> "$there/err" || status=$?
 [ "$status" = 4 ] || fail "the first call's status is $status and not the program's"
-printf -- '--one;input' | cmp -s - "$there/out" || fail "the first call's words or streams differ"
+printf -- '--one;input' | cmp -s - "$there/out" || fail "the first call's arguments or streams differ"
 grep -q 'unproved try -- --one' "$there/err" || fail "the first call shows no report of an unproved build"
 grep -q '^input' "$there/err" || fail "the unproved build does not get the trace"
 ! grep -q 'noise' "$there/err" || fail "the toolchain's own lines are shown"
 
 # ---- The script build
 
-# A toolchain that notes where it is called, wants the libraries of the crates below, and makes one; FAILS and SLOW name crates.
+# A toolchain that notes where it is called, needs the libraries of the crates below, and makes one; FAILS and SLOW name crates.
 toolchain() {
     cat > "$there/bin/rt" << 'END'
 #!/bin/sh
@@ -146,14 +146,14 @@ expect_kept() {
     [ "$(cat "$all/crates/nm_crew/out/kept")$(count room)" = kept0 ] || fail "$1"
 }
 
-# Each crate of the program is proved once, after those below it; no room is left, and nothing is proved of what has no part in it.
+# Each crate of the program is proved once, after those below it; no room is left, and no crate is proved that the program does not need.
 build_all '' '' || fail "a build fails: $(cat "$there/err" "$there/notes")"
 [ "$(grep -c '^begins' "$there/notes")" = "$(count stamp)" ] || fail "a crate is proved more than once"
 [ "$(count room)" = 0 ] || fail "a build leaves a room"
-[ ! -e "$all/crates/nm_checks/out" ] || fail "a build proves what the program does not stand on"
+[ ! -e "$all/crates/nm_checks/out" ] || fail "a build proves what the program does not depend on"
 [ -x "$all/crates/numatrace/out/numatrace" ] || fail "a build makes no program"
 grep -q ' the kit$' "$all/crates/numatrace/out/numatrace.sources" || fail "a build does not note sources and kit"
-[ "$("$all/build" --sources)" = same ] || fail "the sources that were built are not known again"
+[ "$("$all/build" --sources)" = same ] || fail "the sources that were built are not recognized"
 
 # One that fails says which crate was not proved and where it says why, and keeps what was proved, the failed one's as well.
 rm -r "$all"/crates/nm_crew/out/rlib
@@ -166,22 +166,22 @@ grep -q 'a goal is open' "$all/crates/nm_crew/out/build.log" || fail "the log of
 expect_kept "a build that fails loses what was kept"
 [ "$(count stamp)" = 17 ] || fail "a build that fails loses what was proved"
 
-# One that is told to end ends soon, with what it had; and two do not work at a time.
+# One that is told to stop ends soon and keeps what it had; and two do not run at a time.
 : > "$there/notes"
 env FAILS= SLOW=nm_crew NOTES="$there/notes" ALL="$all" PATH="$there/bin:$PATH" "$all/build" 2> "$there/err" &
 building=$!
 until grep -q 'begins nm_crew' "$there/notes"; do sleep 0.1; done
 status=0
 PATH="$there/bin:$PATH" "$all/build" 2> "$there/second" || status=$?
-[ "$status" = 1 ] || fail "two builds work at a time"
+[ "$status" = 1 ] || fail "two builds run at a time"
 grep -q 'another build' "$there/second" || fail "a second build says: $(cat "$there/second")"
 kill "$building"
 status=0
 wait "$building" || status=$?
-[ "$status" = 130 ] || fail "a build that is told to end ends with $status"
-expect_kept "a build that is told to end loses what was kept"
+[ "$status" = 130 ] || fail "a build that is told to stop ends with $status"
+expect_kept "a build that is told to stop loses what was kept"
 
-# What one that was killed left in a room is taken back by the next.
+# What a killed build left in a room is recovered by the next.
 mkdir -p "$all/crates/nm_crew/out/room/crates/nm_crew/out"
 mv "$all/crates/nm_crew/out/kept" "$all/crates/nm_crew/out/room/crates/nm_crew/out/"
 build_all '' '' || fail "a build after one that was killed fails: $(cat "$there/err")"
