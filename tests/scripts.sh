@@ -15,7 +15,7 @@ fail() {
 version=$(cat VERSION)
 grep -qxF "const VERSION: &str = \"$version\";" crates/numatrace/src/words.rt || fail "the program's version is not $version"
 grep -q "^\.TH NUMATRACE 1 [0-9-]* \"numatrace $version\" " docs/numatrace.1 || fail "the man page's version is not $version"
-[ "$(sed -n 's/^## \([0-9.]*\).*/\1/p' CHANGELOG.md | head -n 1)" = "$version" ] || fail "CHANGELOG.md does not begin with $version"
+[ "$(sed -n 's/^## \([0-9][0-9.]*\).*/\1/p' CHANGELOG.md | head -n 1)" = "$version" ] || fail "the latest version in CHANGELOG.md is not $version"
 
 # ---- The script numatrace
 
