@@ -1,10 +1,11 @@
 #!/usr/bin/env python3
-"""Times the built program on each kind of trace at 1, 2, 4 and 8 times its smallest size, and writes the table of
-docs/PERFORMANCE.md: seconds of processor time (the best of five runs), peak memory, and how the time grows. With
-`--against PROGRAM` it plays each kind at its greatest size on that program and on the built one in turn, and tells the least
-seconds and the peak memory of both, so that a change for the worse is seen. With `--instructions` it counts what the program
-does, with valgrind, in place of the time that it takes: that tells how the work grows whatever else the machine does and
-whatever its caches hold, and takes tens of times as long. Words name kinds, if not all are wanted. `./build` makes the
+"""Times the built program on each kind of trace, and writes the table of docs/PERFORMANCE.md.
+
+The sizes are 1, 2, 4 and 8 times the smallest; the table has seconds of processor time (the best of five runs), peak memory, and
+how the time grows. With `--against PROGRAM` it plays each kind at its largest size on that program and on the built one in turn,
+and writes the least seconds and the peak memory of both, so that a regression can be seen. With `--instructions` it counts the
+program's instructions with valgrind in place of its time: that shows how the work grows whatever else the machine does and
+whatever its caches hold, and takes tens of times as long. Arguments select kinds; the default is all. `./build` makes the
 program."""
 import argparse
 import math
@@ -21,13 +22,13 @@ PROGRAM = os.path.join(ROOT, "crates/numatrace/out/numatrace")
 
 
 def make_trace(kind, size, path, script=(traces.__file__,)):
-    """Writes a trace in a process of its own: the peak memory of what this one starts counts from its own size on."""
+    """Writes a trace in a separate process: the peak memory of a child is never counted below the size of its parent."""
     with open(path, "wb") as trace:
         subprocess.run([sys.executable, *script, kind, str(size)], stdout=trace, check=True)
 
 
 def run_once(path, program=PROGRAM, *words):
-    """Seconds of processor time, in the program and in the kernel for it, and peak memory in KiB of one run with these words."""
+    """Seconds of processor time, user and system, and peak memory in KiB of one run with these arguments."""
     with open(path, "rb") as trace, open(os.devnull, "wb") as out:
         child = subprocess.Popen([program, *words], stdin=trace, stdout=out)
         _, status, used = os.wait4(child.pid, 0)
@@ -72,7 +73,7 @@ def compare(other, kinds):
 
 
 def measure(kinds, make, play, runs):
-    """Makes a trace of each kind at four sizes, plays it so many times, and writes the table. The kinds are given with their smallest
+    """Makes a trace of each kind at four sizes, plays it several times, and writes the table. The kinds are given with their smallest
     sizes."""
     print("| Trace | Size | MiB | Seconds | Peak memory | Growth |")
     print("|---|---|---|---|---|---|")
@@ -109,13 +110,13 @@ def count(kinds):
 
 def main():
     words = argparse.ArgumentParser(description=__doc__.split("\n")[0])
-    words.add_argument("--against", metavar="PROGRAM", help="an earlier build of the program")
-    words.add_argument("--instructions", action="store_true", help="count instructions in place of seconds, with valgrind")
+    words.add_argument("--against", metavar="PROGRAM", help="compare with an earlier build of the program")
+    words.add_argument("--instructions", action="store_true", help="count instructions with valgrind, in place of seconds")
     words.add_argument("kinds", nargs="*", metavar="KIND", help="a kind of trace: " + ", ".join(it.__name__ for it in traces.KINDS))
     given = words.parse_args()
     unknown = set(given.kinds) - {kind.__name__ for kind in traces.KINDS}
     if unknown:
-        words.error("no kind of trace: " + ", ".join(sorted(unknown)))
+        words.error("unknown kind of trace: " + ", ".join(sorted(unknown)))
     for program in filter(None, (PROGRAM, given.against)):
         if not os.access(program, os.X_OK):
             words.error("there is no program %s" % program)

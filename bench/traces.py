@@ -1,5 +1,6 @@
 #!/usr/bin/env python3
-"""Writes a trace of a named kind and size, to time the program with: `traces.py KIND SIZE > trace.json`."""
+"""Writes a trace of a named kind and size, for timing the program: `traces.py KIND SIZE > trace.json`. In what
+follows, N is the size."""
 import sys
 
 PAGE = 4096
@@ -7,7 +8,7 @@ BASE = 65536
 
 
 def trace(nodes, steps, version='"version":1'):
-    """A trace on nodes of so many frames each, all at distance 20, with process 1 on node 0."""
+    """A trace on nodes of these numbers of frames, all at distance 20, with process 1 on node 0."""
     count = len(nodes)
     rows = [[10 if row == column else 20 for column in range(count)] for row in range(count)]
     head = '{%s,"machine":{"nodes":%s,"distance":%s},"steps":[\n' % (version, nodes, rows)
@@ -52,7 +53,7 @@ def move(addresses, nodes, caller=1, pid=0, flags=2, more=""):
 
 
 def during(accesses):
-    """The key of accesses in flight, each a run and the step that it is as."""
+    """The key `during` for accesses in flight, each given as a run and a step."""
     return ',"during":[%s]' % ",".join('{"run":%d,%s' % (run, step[1:]) for run, step in accesses)
 
 
@@ -65,7 +66,7 @@ def migrate(old, new):
 
 
 def small_steps(size):
-    """So many thousand steps on 16 pages: in turn a write of a byte, a read of a byte, a move of a page to and fro."""
+    """N thousand steps on 16 pages: in turn a write of a byte, a read of a byte, a move of a page to and fro."""
     steps = [map_step(BASE, 16)]
     for number in range(size * 1000):
         address = BASE + PAGE * (number % 16)
@@ -79,7 +80,7 @@ def small_steps(size):
 
 
 def to_and_fro(size):
-    """One batch of 8,192 pages, moved to the other node and back so many times."""
+    """One batch of 8,192 pages, moved to the other node and back N times."""
     pages = [BASE + PAGE * page for page in range(8192)]
     steps = [map_step(BASE, 8192)] + [write(page) for page in pages]
     for number in range(2 * size):
@@ -97,7 +98,7 @@ def whole_pages(size):
 
 
 def migrations(size):
-    """So many pages, which fill half of 64 nodes, migrate to the other half and back 20 times."""
+    """N pages, which fill half of 64 nodes, migrate to the other half and back 20 times."""
     pages = [BASE + PAGE * page for page in range(size)]
     steps = [map_step(BASE, size)] + [write(page) for page in pages]
     for _ in range(20):
@@ -106,7 +107,7 @@ def migrations(size):
 
 
 def vain_migrations(size):
-    """So many pages fill 64 nodes, and 40 times all but the last node's are to go to the last, which has no room."""
+    """N pages fill 64 nodes, and 40 times all but the last node's are asked to go to the last, which has no room."""
     pages = [BASE + PAGE * page for page in range(size)]
     steps = [map_step(BASE, size)] + [write(page) for page in pages]
     steps += [migrate(range(63), [63])] * 40
@@ -114,7 +115,7 @@ def vain_migrations(size):
 
 
 def one_page(size):
-    """So many batches of 16,384 entries that all name one page."""
+    """N batches of 16,384 entries that all name one page."""
     steps = [map_step(BASE, 1), write(BASE)]
     for number in range(size):
         steps.append(move_to([BASE] * 16384, 1 - number % 2))
@@ -122,7 +123,7 @@ def one_page(size):
 
 
 def limited(size, limit):
-    """So many batches of 16,384 entries, of which every two name one page, in runs of at most so many entries."""
+    """N batches of 16,384 entries, in which every two name one page, in runs of at most `limit` entries."""
     pages = [BASE + PAGE * (entry // 2) for entry in range(16384)]
     steps = [map_step(BASE, 8192)] + [write(BASE + PAGE * page) for page in range(8192)]
     steps += [move_to(pages, 1 - number % 2) for number in range(size)]
@@ -130,7 +131,7 @@ def limited(size, limit):
 
 
 def runs_of_one(size):
-    """So many batches of 8,192 pages, each named twice, in runs of one entry."""
+    """N batches of 8,192 pages, each named twice, in runs of one entry."""
     return limited(size, 1)
 
 
@@ -140,12 +141,12 @@ def runs_of_two(size):
 
 
 def runs_of_all(size):
-    """The same in one run a batch."""
+    """The same with one run per batch."""
     return limited(size, 16384)
 
 
 def long_batches(size):
-    """A hundred batches, each of so many thousand entries that all name one page."""
+    """A hundred batches, each of N thousand entries that all name one page."""
     steps = [map_step(BASE, 1), write(BASE)]
     for number in range(100):
         steps.append(move_to([BASE] * (size * 1000), 1 - number % 2))
@@ -153,7 +154,7 @@ def long_batches(size):
 
 
 def sparse_touches(size):
-    """So many thousand touches, far from one another, in one area of 2^34 pages."""
+    """N thousand touches, far from one another, in one area of 2^34 pages."""
     steps = [map_step(0, 2**34)]
     for number in range(size * 1000):
         address = PAGE * (number * 7919 * 1021 % 2**34)
@@ -166,13 +167,13 @@ def numa_maps(pid=1):
 
 
 def first_touches(size):
-    """So many times the 4,096 frames of 64 nodes are taken by first touches, node after node as each is full, and let go."""
+    """N times the 4,096 frames of 64 nodes are taken by first touches, node after node as each fills up, and freed."""
     round_ = [map_step(BASE, 4096)] + [write(BASE + PAGE * page) for page in range(4096)] + [unmap(BASE, 4096)]
     return trace([64] * 64, round_ * size)
 
 
 def told_pages(size):
-    """One area of 2^34 pages, of which so many thousand are touched, far from one another, and told 50 times."""
+    """One area of 2^34 pages, of which N thousand are touched, far from one another, and counted 50 times."""
     steps = [map_step(0, 2**34)]
     steps += [write(PAGE * (number * 7919 * 1021 % 2**34)) for number in range(size * 1000)]
     return trace([8192, 8192], steps + [numa_maps()] * 50)
@@ -183,16 +184,16 @@ def bind(node):
 
 
 def bound_pages(size):
-    """One area of 2^34 pages, of which so many thousand are touched, far from one another, and bound to the other node 50
-    times: those that are not there move as far as it has room."""
+    """One area of 2^34 pages, of which N thousand are touched, far from one another, and bound to the other node 50 times:
+    those that are not there move as long as it has room."""
     steps = [map_step(0, 2**34)]
     steps += [write(PAGE * (number * 7919 * 1021 % 2**34)) for number in range(size * 1000)]
     return trace([8192, 8192], steps + [bind(1 - number % 2) for number in range(50)])
 
 
 def evacuated_node(size):
-    """So many thousand pages of two processes on a node that goes offline and comes back, and the other after it, 50 times
-    together: each time all pages go to the other node."""
+    """N thousand pages of two processes on a node that goes offline and comes back, and then the other node, 50 times in
+    all: each time all pages go to the other node."""
     second = BASE + PAGE * 500 * size
     steps = [share(BASE, 500 * size), spawn(2, [0, 1]), attach(BASE, 0, 500 * size, 2), map_step(second, 500 * size)]
     steps += [write(BASE + PAGE * page) for page in range(1000 * size)] + [read(BASE + PAGE * page, 2) for page in range(500 * size)]
@@ -202,7 +203,7 @@ def evacuated_node(size):
 
 
 def many_areas(size):
-    """So many thousand areas of one page, each touched when it is made."""
+    """N thousand areas of one page, each touched when it is made."""
     steps = []
     for number in range(size * 1000):
         address = 2 * PAGE * (number * 7919 % 2**20)
@@ -211,7 +212,7 @@ def many_areas(size):
 
 
 def many_runs(size):
-    """One batch of 8,192 pages, each of whose entries is a run of its own: neighbours change places so many times."""
+    """One batch of 8,192 pages, each of whose entries is a run of its own: neighbours change places N times."""
     pages = [BASE + PAGE * page for page in range(8192)]
     steps = [map_step(BASE, 8192)] + [write(page) for page in pages]
     for number in range(2 * size):
@@ -220,7 +221,7 @@ def many_runs(size):
 
 
 def accesses_in_a_run(size):
-    """One run of 4,096 pages with so many thousand accesses in flight: in turn a read of a page that moves, which is held, and
+    """One run of 4,096 pages with N thousand accesses in flight: in turn a read of a page that moves, which is held, and
     a read and a write of one of 1,024 pages that stay."""
     pages = [BASE + PAGE * page for page in range(5120)]
     steps = [map_step(BASE, 5120)] + [write(page) for page in pages]
@@ -232,8 +233,8 @@ def accesses_in_a_run(size):
 
 
 def accesses_in_many_runs(size):
-    """One batch of so many thousand pages whose entries name two nodes in turn, so that each is a run of its own, with 16
-    accesses in flight in each, in no order of runs: in turn a read of a page that moves, which is held, and a read and a
+    """One batch of N thousand pages whose entries name two nodes in turn, so that each is a run of its own, with 16
+    accesses in flight in each, not ordered by run: in turn a read of a page that moves, which is held, and a read and a
     write of one of 64 pages that stay."""
     count = size * 1000
     pages, stay = ([BASE + PAGE * page for page in part] for part in (range(count), range(count, count + 64)))
@@ -247,7 +248,7 @@ def accesses_in_many_runs(size):
 
 
 def shared_by(count):
-    """A shared segment of 64 pages that process 1 maps and writes, and so many others attach and read, and the pages'
+    """A shared segment of 64 pages that process 1 maps and writes and the others attach and read, and the pages'
     addresses. Process 1000 is privileged and has nothing."""
     pages = [BASE + PAGE * page for page in range(64)]
     steps = [spawn(1000, [0, 1], ',"privileged":true'), share(BASE, 64)] + [write(page) for page in pages]
@@ -257,18 +258,18 @@ def shared_by(count):
 
 
 def to_and_fro_with_all(pages, times):
-    """Process 1000 moves pages of process 1 that others see as well, to the other node and back so many times."""
+    """Process 1000 moves pages of process 1 that others see as well, to the other node and back N times."""
     return [move(pages, [1 - number % 2] * len(pages), 1000, 1, 4) for number in range(2 * times)]
 
 
 def shared_moves(size):
-    """64 pages that 200 processes share, moved to the other node and back with MPOL_MF_MOVE_ALL so many times."""
+    """64 pages that 200 processes share, moved to the other node and back with MPOL_MF_MOVE_ALL N times."""
     pages, steps = shared_by(199)
     return trace([64, 64], steps + to_and_fro_with_all(pages, size))
 
 
 def sharers(size):
-    """64 pages that so many processes share, moved with MPOL_MF_MOVE_ALL to the other node and back 400 times. Then the
+    """64 pages that N processes share, moved with MPOL_MF_MOVE_ALL to the other node and back 400 times. Then the
     processes exit."""
     pages, steps = shared_by(size)
     steps += to_and_fro_with_all(pages, 400)
@@ -276,8 +277,8 @@ def sharers(size):
 
 
 def churn(size):
-    """So many thousand rounds over 32 processes with 16 slots of 8 pages each: what is left in a slot goes, 8 pages are
-    mapped there, two are written and one read, and three in the middle go. After every 40 rounds a process exits, and
+    """N thousand rounds over 32 processes with 16 slots of 8 pages each: what is left in a slot is unmapped, 8 pages are
+    mapped there, two are written and one read, and three in the middle are unmapped. After every 40 rounds a process exits, and
     one with its pid is spawned."""
     steps = [spawn(pid, [0, 1]) for pid in range(2, 34)]
     for number in range(size * 1000):
@@ -292,8 +293,8 @@ def churn(size):
 
 
 def churn_among_areas(size):
-    """So many thousand areas of one page stand, each touched, and as many rounds follow in between them: a page is
-    mapped, written and unmapped."""
+    """N thousand areas of one page, each touched, and then as many rounds in the gaps between them: a page is mapped,
+    written and unmapped."""
     steps = []
     spots = [2 * PAGE * (number * 7919 % 2**20) for number in range(size * 1000)]
     for number, address in enumerate(spots):
@@ -304,7 +305,7 @@ def churn_among_areas(size):
 
 
 def big_exits(size):
-    """Four times a process maps and writes so many thousand areas of one page, and exits."""
+    """Four times a process maps and writes N thousand areas of one page, and exits."""
     steps = []
     for pid in range(2, 6):
         steps.append(spawn(pid, [0]))
@@ -316,14 +317,14 @@ def big_exits(size):
 
 
 def shared_holes(size):
-    """A shared segment of so many thousand pages, all written, in which every second page is unmapped."""
+    """A shared segment of N thousand pages, all written, in which every second page is unmapped."""
     pages = [BASE + PAGE * page for page in range(size * 1000)]
     steps = [share(BASE, size * 1000)] + [write(page) for page in pages]
     return trace([16384], steps + [unmap(page, 1) for page in pages[1::2]])
 
 
 def shared_windows(size):
-    """So many thousand pages of a shared segment, each attached as an area of its own and written. Then both processes
+    """N thousand pages of a shared segment, each attached as an area of its own and written. Then both processes
     that have areas of it exit."""
     steps = [share(BASE, size * 1000), spawn(2, [0])]
     for number in range(size * 1000):
@@ -333,7 +334,7 @@ def shared_windows(size):
 
 
 def shared_visits(size):
-    """A shared segment of so many thousand pages, all written, and 50 times as many visits of another process: it
+    """A shared segment of N thousand pages, all written, and 50 N visits of another process: it
     attaches the segment, reads one page, and unmaps it."""
     pages = size * 1000
     steps = [share(BASE, pages)] + [write(BASE + PAGE * page) for page in range(pages)] + [spawn(2, [0])]
@@ -343,7 +344,7 @@ def shared_visits(size):
 
 
 def spawns(size):
-    """So many processes stand, and 100 times as many times one exits and one with its pid is spawned."""
+    """N processes are alive, and 100 N times one exits and one with its pid is spawned."""
     steps = [spawn(pid, [0]) for pid in range(2, 2 + size)]
     for number in range(size * 100):
         pid = 2 + number * 7919 % size
@@ -387,7 +388,7 @@ KINDS = {
 def main():
     kinds = {kind.__name__: kind for kind in KINDS}
     if len(sys.argv) != 3 or sys.argv[1] not in kinds or not sys.argv[2].isdigit():
-        sys.exit("usage: traces.py KIND SIZE, with KIND one of " + ", ".join(kinds))
+        sys.exit("usage: traces.py KIND SIZE, where KIND is one of " + ", ".join(kinds))
     sys.stdout.write(kinds[sys.argv[1]](int(sys.argv[2])))
 
 

@@ -1,7 +1,7 @@
 #!/usr/bin/env python3
 """Times the built program by the clock with 1, 2 and 4 workers, and writes a table: the best of seven runs of each, in turn,
-and how many times as fast 4 workers are as one. Words name kinds of traces, if others are wanted. The figures say something
-on four idle processors alone. `./build` makes the program."""
+and how many times as fast 4 workers are as one. Arguments select other kinds of traces. The figures are only meaningful on
+four idle processors. `./build` makes the program."""
 import os
 import subprocess
 import sys
@@ -26,9 +26,9 @@ def run_once(path, workers):
 def main():
     unknown = set(sys.argv[1:]) - {kind.__name__ for kind in traces.KINDS}
     if unknown:
-        sys.exit("bench/workers.py: no kind of trace: " + ", ".join(sorted(unknown)))
+        sys.exit("bench/workers.py: unknown kind of trace: " + ", ".join(sorted(unknown)))
     if not os.access(PROGRAM, os.X_OK):
-        sys.exit("bench/workers.py: there is no program yet: ./build makes it")
+        sys.exit("bench/workers.py: there is no program yet: run ./build first")
     print("| Trace | Size | 1 worker | 2 workers | 4 workers | 4 as fast as 1 |")
     print("|---|---|---|---|---|---|")
     with tempfile.TemporaryDirectory() as folder:

@@ -1,9 +1,9 @@
 #!/usr/bin/env python3
-"""Runs a command, such as ./check or rt ci NAME, and tells what each crate cost in it, as a table for docs/PROVING.md: seconds of a
-processor for its proof, for its tests, for its proof again under the edits, and for all edits and the dearest.
+"""Runs a command, such as ./check or rt ci NAME, and prints what each crate cost in it, as a table for docs/PROVING.md: seconds of
+processor time for its proof, for its tests, for its proof again under the edits, and for all edits and the most expensive one.
 
-It looks at the prover's processes once a second (Linux), so the last second of each is not counted. Those of other commands are told
-apart by a variable of the environment, NUMATRACE_COSTS, that the command gets."""
+It looks at the prover's processes once a second (Linux), so the last second of each is not counted. An environment variable that
+the command gets, NUMATRACE_COSTS, tells its processes from those of other commands."""
 import collections
 import glob
 import os
@@ -22,7 +22,7 @@ def read(path):
 
 
 def prover_runs(mark):
-    """The prover's processes under the command: each with its words and the seconds that it has used so far."""
+    """The prover's processes under the command: each with its arguments and the seconds that it has used so far."""
     for folder in glob.glob("/proc/[0-9]*"):
         try:
             words = read(f"{folder}/cmdline").split("\0")
@@ -31,12 +31,12 @@ def prover_runs(mark):
                 fields = read(f"{folder}/stat").rpartition(")")[2].split()
                 yield (folder, fields[19]), words, (int(fields[11]) + int(fields[12])) / TICKS
         except (OSError, IndexError):
-            continue  # It ended meanwhile.
+            continue  # It has ended.
 
 
 def kind_of(words):
-    """Whose run this is, and what for: proof, tests, again (the proof under the edits), the number of an edit, or turn, where
-    the edits of a crate are tried in turn over one folder, which tells no numbers."""
+    """The crate that a run is for, and its purpose: proof, tests, again (the proof under the edits), the number of an edit, or
+    turn, where the edits of a crate are tried in turn in one folder, which shows no numbers."""
     crate = words[words.index("--crate-name") + 1]
     over = words[words.index("--incremental") + 1] if "--incremental" in words else ""
     edit = re.search(r"/rt-edits-[^/]+(?:/(seed|\d+))?$", over)
@@ -46,7 +46,7 @@ def kind_of(words):
 
 
 def numbered(runs):
-    """The runs by when they began, those in turn told apart: the first proves the crate under its first edit, and the last tries
+    """The runs by when they began, with those in turn separated: the first proves the crate under its first edit, and the last tries
     it as it is."""
     turns = collections.Counter(crate for (crate, kind), _ in runs if kind == "turn")
     made = collections.Counter()
@@ -59,7 +59,7 @@ def numbered(runs):
 
 
 def watched(command):
-    """Runs the command, and gives the seconds of each crate by what they were for, and the command's status."""
+    """Runs the command; returns the seconds of each crate by purpose, and the command's status."""
     used, mark = {}, str(os.getpid())
     ran = subprocess.Popen(command, env={**os.environ, "NUMATRACE_COSTS": mark})
     while ran.poll() is None:
@@ -73,7 +73,7 @@ def watched(command):
 
 
 def edits_text(crate, costs):
-    """What the edits cost: all, one of them, and the dearest by its name."""
+    """What the edits cost: all of them, one of them, and the most expensive by its name."""
     edits = {number: seconds for number, seconds in costs.items() if isinstance(number, int)}
     if not edits:
         return ""
@@ -86,14 +86,14 @@ def edits_text(crate, costs):
 
 def main():
     if not sys.argv[1:]:
-        sys.exit("tools/costs.py: a command is wanted, such as ./check")
+        sys.exit("tools/costs.py: name a command, such as ./check")
     costs, status = watched(sys.argv[1:])
-    print("| Crate | Its proof | Its tests | Its proof again, for the edits | Its edits, one of them, and the dearest |")
+    print("| Crate | Its proof | Its tests | Its proof again, for the edits | Its edits, one of them, and the most expensive |")
     print("|---|---|---|---|---|")
     for crate, used in costs.items():
         proof, tests, again = (f"{used[kind]:.0f}" if used[kind] else "" for kind in ("proof", "tests", "again"))
         print(f"| {crate} | {proof} | {tests} | {again} | {edits_text(crate, used)} |")
-    print(f"{sum(sum(used.values()) for used in costs.values()) / 60:.0f} minutes of a processor")
+    print(f"{sum(sum(used.values()) for used in costs.values()) / 60:.0f} minutes of processor time")
     return status
 
 

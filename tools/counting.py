@@ -1,7 +1,7 @@
-"""Follows the names that a public contract cites: what must be believed by whoever relies on it.
+"""Follows the names that a public contract cites: what whoever relies on it must believe.
 
 A definition is what a specification states outside lemmas: a record, a data type, a function, an abbreviation. Its lines are
-counted without comments, imports and blank lines. Types of the code that definitions name are counted apart, and what the
+counted without comments, imports and blank lines. Types of the code that definitions name are counted separately, and what the
 kit defines is not counted. `tools/definitions.py --count` prints the sums."""
 import collections
 import os
@@ -31,7 +31,7 @@ class Module:
                 item = self.take(bare, item)
 
     def take(self, line, item):
-        """Takes a line in, and returns the item that it belongs to."""
+        """Reads a line, and returns the item that it belongs to."""
         match = IMPORT.match(line)
         if match:
             self.take_import(*match.groups())
@@ -50,7 +50,7 @@ class Module:
         return item
 
     def begin(self, kind, name, item):
-        """The item that a line at the margin begins or goes on with."""
+        """The item that a line at the margin begins or continues."""
         if kind == "mutual":
             name = f"mutual {len(self.items)}"
         elif kind and kind.startswith("infix"):
@@ -94,7 +94,7 @@ class Follower:
         self.modules, self.seen, self.declared = known, set(), set()
 
     def resolve(self, path, name):
-        """The module and item that a path and a name stand for; none where the kit or the code has it."""
+        """The module and item that a path and a name mean; none where the kit or the code has it."""
         if ".declared." in path:
             self.declared.add(path.split(".TheVariants")[0].replace(".specs.declared", ""))
             return []
@@ -130,7 +130,7 @@ class Follower:
 
 
 def contracts(function):
-    """Of each public function of that name: the imports of its file, and the clauses of its contract."""
+    """For each public function of that name: the imports of its file, and the clauses of its contract."""
     for crate in sorted(os.listdir(CRATES)):
         for at, _, files in os.walk(os.path.join(CRATES, crate, "src")):
             for file in (file for file in files if file.endswith(".rt")):
@@ -168,7 +168,7 @@ def sentence(function):
 def count(words):
     """Prints what the contract of a public function rests on."""
     if not words or words[1:] not in ([], ["--list"]):
-        sys.exit("tools/definitions.py: --count wants the name of a public function, and perhaps --list")
+        sys.exit("tools/definitions.py: --count needs the name of a public function, and may be followed by --list")
     if words[1:]:
         for path, items in sorted(rest_of(words[0])[0].items()):
             print(f"{path}: {sum(lines for _, lines in items)} lines: {', '.join(item for item, _ in items)}")

@@ -1,7 +1,7 @@
 #!/usr/bin/env python3
 """Lists every public definition of the specifications, each with its file and the comment above it: docs/DEFINITIONS_ALL.md.
 
-Without a word it writes the list. With --check it writes nothing, and ends with status 1 where the list is not that of the
+Without an argument it writes the list. With --check it writes nothing, and ends with status 1 where the list is not that of the
 sources, or where docs/DEFINITIONS.md names a definition that is not in the file that it says, or more than 45, or does not
 say what the contract of run_trace rests on.
 
@@ -16,9 +16,9 @@ import counting
 ROOT = os.path.dirname(os.path.dirname(os.path.abspath(__file__)))
 LIST = os.path.join(ROOT, "docs/DEFINITIONS_ALL.md")
 PAGE = os.path.join(ROOT, "docs/DEFINITIONS.md")
-# What stands in a module with arguments is set in, where a field of a record and a lemma look alike: of it the abbreviations
+# The contents of a module with arguments are indented, where a field of a record and a lemma look alike: only its abbreviations
 # and what does not unfold by itself are listed, as all definitions there are one of the two. In a block of definitions that
-# name one another every public name is one.
+# name one another every public name is a definition.
 DEFINES = re.compile(r"^(?:(?:abbrev|unfoldable|opaque) |\s+(?:abbrev|unfoldable|opaque) )?pub (?:(?:record|data) )?([^\s({:]+)")
 MUTUAL = re.compile(r"^(?:(?:abbrev|unfoldable|opaque) )?mutual$")
 MEMBER = re.compile(r"^ +pub ([^\s({:]+) :")
@@ -47,7 +47,7 @@ def definitions(path):
             elif not line.strip():
                 said = []
             elif MUTUAL.match(line):
-                # (what stands above it is said of its first)
+                # (the comment above it belongs to its first)
                 is_mutual = True
             elif not line.startswith("infix"):
                 is_mutual = is_mutual and line.startswith(" ")
@@ -89,17 +89,17 @@ def listed():
 
 
 def faults(text, names):
-    """What is wrong of the two pages."""
+    """What is wrong with the two pages."""
     with open(LIST, encoding="utf-8") as file:
         if file.read() != text:
-            yield "docs/DEFINITIONS_ALL.md is not the list of the sources: tools/definitions.py writes it"
+            yield "docs/DEFINITIONS_ALL.md is not the list of the sources: run tools/definitions.py to write it"
     with open(PAGE, encoding="utf-8") as file:
         page = file.read()
     if counting.sentence("run_trace") not in page:
         yield f"docs/DEFINITIONS.md is to say: {counting.sentence('run_trace')}"
     rows = re.findall(r"^\| `([^`]+)` \| `([^`]+)` \|", page, re.M)
     if len(rows) > 45:
-        yield f"docs/DEFINITIONS.md lists {len(rows)} definitions, and at most 45 are to be read first"
+        yield f"docs/DEFINITIONS.md lists {len(rows)} definitions, and should have at most 45 to read first"
     for name, path in rows:
         if name not in names.get(path, ()):
             yield f"docs/DEFINITIONS.md: there is no {name} in {path}"
@@ -109,7 +109,7 @@ def main():
     if sys.argv[1:2] == ["--count"]:
         return counting.count(sys.argv[2:])
     if sys.argv[1:] not in ([], ["--check"]):
-        sys.exit("tools/definitions.py: no word but --check and --count is known")
+        sys.exit("tools/definitions.py: it takes no argument other than --check and --count")
     text, names = listed()
     if sys.argv[1:]:
         said = list(faults(text, names))

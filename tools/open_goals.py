@@ -1,9 +1,9 @@
 #!/usr/bin/env python3
-"""Tells which goals the edits of a crate leave open where no file of proofs/ answers them. The prover refuses an edit at once
+"""Lists the goals that the edits of a crate leave open and that no file of proofs/ answers. The prover refuses an edit at once
 where the goal that it breaks has an answer, and searches to its limits twice where it has none (docs/PROVING.md).
 
-tools/open_goals.py CRATE [EDIT ..] applies the crate's edits of must-fail/ together, or those that are named, on a copy, as far
-as each still finds its text, and checks that. What calls a function that is not proved is not looked at: name its edits alone."""
+tools/open_goals.py CRATE [EDIT ..] applies the crate's edits of must-fail/, or those that are named, together to a copy, as far as
+each still finds its text, and checks the copy. Callers of a function that is not proved are not checked: name their edits alone."""
 import glob
 import os
 import re
@@ -19,7 +19,7 @@ WAITS = re.compile(r"fn (\S+): no proof: it calls (.*)")
 
 
 def pairs_of(path):
-    """The changes that an edit makes: a file, a text in it, and what is to stand there. A file or text that no line names is None."""
+    """The changes that an edit makes: a file, a text in it, and the text that replaces it. A file or text that no line names is None."""
     file = old = None
     with open(path, encoding="utf-8") as edit:
         for line in edit.read().split("\n"):
@@ -33,7 +33,7 @@ def pairs_of(path):
 
 
 def apply(path, folder):
-    """Applies an edit to the crate in a folder, and says whether each of its texts stood there once."""
+    """Applies an edit to the crate in a folder, and says whether each of its texts occurred there once."""
     texts = {}
     for file, old, new in pairs_of(path):
         if file not in texts:
@@ -57,21 +57,21 @@ def checked(crate, edits):
         folder = os.path.join(room, "crates", crate)
         for edit in edits:
             if not apply(edit, folder):
-                print("left out, since another edit changes its text: %s" % os.path.basename(edit))
+                print("left out, because another edit changes its text: %s" % os.path.basename(edit))
         ran = subprocess.run(["rt", "check"], cwd=folder, capture_output=True, text=True, errors="replace")
         return (ran.stdout + ran.stderr).split("\n")
 
 
 def main():
     if not sys.argv[1:]:
-        sys.exit("tools/open_goals.py: the name of a crate is wanted")
+        sys.exit("tools/open_goals.py: name a crate")
     crate, names = sys.argv[1], sys.argv[2:]
     edits = sorted(glob.glob(os.path.join(ROOT, "crates", crate, "must-fail", "*.edit")))
     chosen = [edit for edit in edits if not names or os.path.basename(edit)[: -len(".edit")] in names]
     if not chosen:
-        sys.exit("tools/open_goals.py: no such edit of %s" % crate)
+        sys.exit("tools/open_goals.py: %s has no such edit" % crate)
     for line in checked(crate, chosen):
-        for what, form in (("open", OPEN), ("refused by an answer", REFUSED), ("not looked at", WAITS)):
+        for what, form in (("open", OPEN), ("refused by an answer", REFUSED), ("not checked", WAITS)):
             found = form.match(line)
             if found:
                 print("%s: %s %s" % (what, found[1], found[2]))

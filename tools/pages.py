@@ -1,7 +1,7 @@
 #!/usr/bin/env python3
-"""Looks whether what the pages name is there: links and their headings, paths, files of sources, and functions of crates, types and
-modules; and whether each stretch of a report in the manual is in the report of an example, or in a replay of a kernel's answers.
-`tools/pages.py --check` prints a line `page:line: text` for each that is not, and ends with status 1 if there is one.
+"""Checks that what the pages name exists: links and their headings, paths, source files, and functions of crates, types and
+modules; and that each stretch of a report in the manual is in the report of an example, or in a replay of a kernel's answers.
+`tools/pages.py --check` prints a line `page:line: text` for each fault, and ends with status 1 if there is one.
 
 It reads README.md, CHANGELOG.md, lab/README.md and docs/*.md: Markdown links, and what is in backticks. A path is looked for if it
 begins with a folder of the repository, a crate or `./`; what has a `*`, a brace, a placeholder in capitals or a folder that a build
@@ -20,7 +20,7 @@ MADE = {"out", "dist", "__pycache__", ".git"}
 # Names of std, of the kit and of libraries that are no part of the repository.
 FOREIGN = ("std::", "core::", "alloc::", "crate::", "json::", "serde_json::", "libc::", "rayon::", "rt ", "Vec::", "VecDeque::", "String::",
     "BTreeMap::", "BTreeSet::", "Box::", "Option::", "Result::", "Some::", "Ok::", "Err::")
-# What a page names though it is not there, as pairs of the page and what is in backticks, each with the reason in a comment.
+# What a page names although it does not exist, as pairs of the page and what is in backticks, each with the reason in a comment.
 EXCEPTIONS = set()
 
 SPAN = re.compile(r"(`+)(.+?)\1")
@@ -50,7 +50,7 @@ def lines_of(text):
 
 
 def headings(text):
-    """The anchors that a page has: those of its headings, as the forge makes them, and those that it sets."""
+    """The anchors of a page: those of its headings, as the forge makes them, and those that it sets."""
     seen, anchors = collections.Counter(), set(re.findall(r"<a (?:id|name)=\"([^\"]+)\"", text))
     for _, line in lines_of(text):
         heading = HEADING.match(line)
@@ -92,7 +92,7 @@ class Sources:
             self.names[owner] |= defined
 
     def lacks_path(self, word):
-        """Whether a word looks like a path of the repository and there is none."""
+        """Whether a word looks like a path of the repository, and there is no such path."""
         word = re.sub(r"(:\d+)?[,;:)'\"]*$", "", word.lstrip("('\""))
         parts = [part for part in word.split("/") if part not in ("", ".")]
         if "/" not in word or re.search(r"[*{}<>$\[\]|\u2026]|\.\.", word) or not parts:
@@ -106,7 +106,7 @@ class Sources:
         return not os.path.exists(os.path.join(ROOT, *parts))
 
     def lacks_name(self, span):
-        """Whether a span names a function, a variant or a constant of ours by its crate, type or module, and there is none."""
+        """Whether a span names a function, a variant or a constant of ours by its crate, type or module, and there is no such name."""
         named = NAMED.fullmatch(span)
         if not named or span.startswith(FOREIGN):
             return False
@@ -166,7 +166,7 @@ def unreported(text, reports):
 
 def main():
     if sys.argv[1:] != ["--check"]:
-        sys.exit("tools/pages.py: the word --check is wanted, and no other is known")
+        sys.exit("tools/pages.py: the only argument is --check")
     sources, anchors, status = Sources(), {}, 0
     reports = [read(path) for pattern in REPORTS for path in glob.glob(os.path.join(ROOT, pattern))]
     for pattern in PAGES:

@@ -1,10 +1,10 @@
 #!/usr/bin/env python3
-"""Tells which functions of a crate take longest to prove: seconds for each, the dearest first, and how many of them are the
-borrow checker's part, which grows faster than the function, and the search for what no answer says. `tools/slow.py CRATE` checks
-the crate from nothing with one job, `--test` its tests as well. The libraries that it stands on have to be built (`rt lib` in
-their folders, or `./build`).
+"""Lists the functions of a crate that take longest to prove: seconds for each, the most expensive first, and how many of them are
+the borrow checker's part, which grows faster than the function, and the search for what no file answers. `tools/slow.py CRATE`
+checks the crate from scratch with one job, with `--test` its tests as well. The libraries that it depends on must have been built
+(`rt lib` in their folders, or `./build`).
 
-A check writes a file for each module once it is done, so the time between two of them is what the second took."""
+A check writes a file for each module once it is done, so the time between two files is what the second module took."""
 import argparse
 import collections
 import glob
@@ -15,12 +15,12 @@ import sys
 import tempfile
 
 ROOT = os.path.dirname(os.path.dirname(os.path.abspath(__file__)))
-# What a module's name has behind that of its function.
+# What follows the function's name in that of a module.
 PARTS = r"\.(Lts|Tie|Proof|Code|Kinds|Met|Statement|Symbol|Goals|Given|Answers|Invariants|Reads|Instances|Key)\b.*$"
 
 
 def libraries(crate):
-    """The crates of the repository and of the kit that a crate stands on, by its line of crates.txt."""
+    """The crates of the repository and of the kit that a crate depends on, by its line of crates.txt."""
     with open(os.path.join(ROOT, "crates.txt")) as lines:
         for line in lines:
             name, _, below = line.partition(":")
@@ -30,7 +30,7 @@ def libraries(crate):
 
 
 def check_words(crate, tests, kept):
-    """The words of a check of the crate from nothing."""
+    """The arguments of a check of the crate from scratch."""
     kit = os.path.dirname(subprocess.run(["rt", "doc"], capture_output=True, text=True, check=True).stdout.strip())
     root = "src/main.rt" if os.path.isfile(os.path.join(ROOT, "crates", crate, "src/main.rt")) else "src/lib.rt"
     words = [os.path.join(kit, "bin/rattle"), "check", *(["--test"] if tests else []), "--crate-name", crate, root]
@@ -54,8 +54,8 @@ def modules(kept):
 def main():
     words = argparse.ArgumentParser(description=__doc__.split("\n")[0])
     words.add_argument("crate", metavar="CRATE")
-    words.add_argument("--test", action="store_true", help="with the crate's tests")
-    words.add_argument("--most", type=int, default=20, metavar="N", help="how many functions are told (20)")
+    words.add_argument("--test", action="store_true", help="also check the crate's tests")
+    words.add_argument("--most", type=int, default=20, metavar="N", help="how many functions to list (20)")
     given = words.parse_args()
     whole, borrows, searches = collections.Counter(), collections.Counter(), collections.Counter()
     with tempfile.TemporaryDirectory() as kept:
