@@ -258,7 +258,7 @@ def shared_by(count):
 
 
 def to_and_fro_with_all(pages, times):
-    """Process 1000 moves pages of process 1 that others see as well, to the other node and back N times."""
+    """Process 1000 moves pages of process 1 that others see as well, to the other node and back `times` times."""
     return [move(pages, [1 - number % 2] * len(pages), 1000, 1, 4) for number in range(2 * times)]
 
 

@@ -1,11 +1,11 @@
 #!/usr/bin/env python3
-"""Plays drawn traces on the built program and on the plain machine of lab/numalab/model.py, which have to give the same reports.
-First the plain machine plays each trace that has a report beside it.
+"""Plays random traces on the built program and on the plain model in Python, and compares the reports.
 
-`tests/drawn.py [PROGRAM]` takes crates/numatrace/out/numatrace, as `rt ci` and `./build` leave it, and plays 2,000 traces with 1,
-2 or 3 workers. A trace is drawn from its number alone, and --trace writes the one of a number. Nothing is printed where all is
-well; else the first trace that differs, and then the status is 1. With --times it tells how many traces were played in how many
-seconds, and how often each op gave each answer."""
+The model is lab/numalab/model.py. First it plays each trace that has a report beside it. `tests/drawn.py [PROGRAM]` tests
+crates/numatrace/out/numatrace by default, as `rt ci` and `./build` leave it, and plays 2,000 traces with 1, 2 or 3 workers. A trace
+is drawn only from its number, and --trace writes the trace with a number. Nothing is printed where all is well; otherwise the first
+trace that differs, and then the status is 1. With --times it prints how many traces were played in how many seconds, and how often
+each op had each answer."""
 import argparse
 import collections
 import glob
@@ -28,7 +28,7 @@ MOST_WAIT = 120
 PAGE, END = model.PAGE, model.END
 TOP, MOST = 1 << 47, (1 << 64) - 1
 
-# Addresses and numbers of pages at the edges of what there may be, good and bad; None leaves what was drawn.
+# Addresses and numbers of pages at the limits, good and bad; None keeps what was drawn.
 EDGES = [
     (TOP - PAGE, 1), (TOP - PAGE, 2), (TOP, 1), (0, 1), (0, 16), (0, END), (PAGE, END - 1), (PAGE, END), (1 << 40, 1 << 25),
     (1 << 46, 1 << 34), (MOST, 1), (MOST - 4095, 1), (MOST - 4095, 1 << 52), (MOST - 4095, (1 << 52) + 1), (None, 0), (None, END),
@@ -44,7 +44,7 @@ LENGTHS = [
 
 
 class Drawing:
-    """A trace that is drawn, and the machine of the model, which plays each step at once and shows what is worth asking next."""
+    """A trace that is being drawn, and the machine of the model, which plays each step at once and shows what is worth asking next."""
 
     def __init__(self, number):
         self.rng = random.Random(number)
@@ -57,13 +57,13 @@ class Drawing:
         self.processes = self.machine.processes
         self.lines = []
 
-    # ---- what is drawn of small things
+    # ---- small things
 
     def chance(self, share):
         return self.rng.random() < share
 
     def slip(self, share):
-        """Whether to ask what will be refused: seldom in some traces, and so often in others that one step has two mistakes."""
+        """Whether to ask for something that will be refused: seldom in some traces, and in others so often that one step has two mistakes."""
         return self.chance(share * self.haste)
 
     def top(self):
@@ -103,7 +103,7 @@ class Drawing:
         return self.choice([count, count + 1, 63, 64, 4294967295]) if self.slip(share) else self.below(count)
 
     def usable(self, pid):
-        """The nodes that a process may use; all that are online where there is no such process."""
+        """The nodes that a process may use; all online nodes where there is no such process."""
         process = self.processes.get(pid)
         return sorted(self.machine.online & process.allowed if process else self.machine.online)
 
@@ -168,7 +168,7 @@ class Drawing:
         return number * PAGE + self.choice([0, 0, 0, 1, self.below(PAGE), 4095])
 
     def gap(self, pid, pages):
-        """An address at which the process has room for so many pages."""
+        """An address at which the process has room for `pages` pages."""
         areas = self.processes[pid].areas if pid in self.processes else []
         drawn = [16 + self.below(28) for _ in range(6)]
         for first in drawn + list(range(16, 100)):
@@ -185,16 +185,16 @@ class Drawing:
         return [(pid, number) for pid, number in places if number not in self.processes[pid].seen]
 
     def pages_of(self, pid):
-        """The page numbers at which a process sees pages, upwards."""
+        """The page numbers at which a process sees pages, in ascending order."""
         seen = self.processes[pid].seen if pid in self.processes else {}
         return [number for number in sorted(seen) if seen[number] != model.ZERO]
 
     def nodes_of(self, pid):
-        """The nodes on which a process sees pages, upwards."""
+        """The nodes on which a process sees pages, in ascending order."""
         return sorted({self.machine.node(self.processes[pid].seen[number]) for number in self.pages_of(pid)})
 
     def seers(self, least=1):
-        """The processes that see so many pages."""
+        """The processes that see at least this many pages."""
         return [pid for pid in self.processes if len(self.pages_of(pid)) >= least]
 
     # ---- steps on processes and areas
@@ -271,7 +271,7 @@ class Drawing:
         return self.access(self.choice(["read", "write"]))
 
     def fill(self):
-        """A write where nobody has touched an area, half of the time one with a policy that mbind has set."""
+        """A write where nobody has touched an area, half of the time in one with a policy that mbind has set."""
         areas = [(pid, area) for pid, process in self.processes.items() for area in process.areas]
         if self.chance(0.5):
             areas = [(pid, area) for pid, area in areas if area.policy.nodes] or areas
@@ -282,7 +282,7 @@ class Drawing:
         return self.write_at(pid, number * PAGE)
 
     def share(self):
-        """A touch of a page that is there, where the process has not touched it."""
+        """A touch of a page that exists, where the process has not touched it."""
         places = self.untouched([place for page in self.machine.place for place in self.shown(page)])
         if not places:
             return self.attach()
@@ -290,7 +290,7 @@ class Drawing:
         return self.choice([{"op": "read", "pid": pid, "addr": number * PAGE, "len": 2}, self.write_at(pid, number * PAGE + 1)])
 
     def pin_or_unpin(self):
-        """A pin more, mostly of a page that has none, or one fewer, mostly of a page that has some."""
+        """Another pin, mostly on a page that has none, or one fewer, mostly on a page that has some."""
         pid, op = self.pid(), self.choice(["pin", "unpin"])
         wants_pinned = op == "unpin" or self.chance(0.4)
         pinned = {number: self.machine.pins.get(self.processes[pid].seen[number], 0) > 0 for number in self.pages_of(pid)}
@@ -320,7 +320,7 @@ class Drawing:
         return step
 
     def targets(self, pid, count):
-        """So many nodes, in stretches."""
+        """Some nodes, in stretches."""
         usable, change, nodes = self.usable(pid), self.choice([0.05, 0.35, 0.35, 0.6]), []
         while len(nodes) < count:
             again = nodes and not self.chance(change)
@@ -330,7 +330,7 @@ class Drawing:
         return nodes
 
     def in_flight(self, pid, numbers, count):
-        """An access while the pages of one of so many runs move: anywhere, or at a page that is asked for, through any area."""
+        """An access while the pages of one of the runs move: anywhere, or at a page that is asked for, through any area."""
         access = self.read_or_write()
         if self.chance(0.5) and not self.slip(0.1):
             number, places = self.choice(numbers), []
@@ -385,7 +385,7 @@ class Drawing:
         return {**self.edged(step, ("addr", "len"), LENGTHS, 0.07), "mode": mode, "nodes": nodes, "flags": flags}
 
     def touching(self, pid):
-        """A range of areas of a process that touch one another."""
+        """A range of adjacent areas of a process."""
         process = self.processes.get(pid)
         if not process or not process.areas:
             return 16, 18
@@ -463,7 +463,7 @@ class Drawing:
                 self.add({"op": "read", "pid": pid, "addr": number * PAGE, "len": 6})
 
     def draw(self):
-        """Draws the whole trace, with steps by their weights, which differ from trace to trace."""
+        """Draws the whole trace, choosing steps by weights that differ from trace to trace."""
         self.begin()
         weights = [weight * self.choice([0.3, 1, 1, 1, 2]) for weight in WEIGHTS.values()]
         for _ in range(self.rng.randint(20, 120)):
@@ -474,7 +474,7 @@ class Drawing:
         return self
 
 
-# How often steps are drawn, and what each trace begins with: at least and at most so many of each.
+# How often steps are drawn, and what each trace begins with: the least and the greatest number of each.
 WEIGHTS = {
     Drawing.spawn: 5, Drawing.map: 8, Drawing.attach: 9, Drawing.unmap: 8, Drawing.exit: 2, Drawing.read_or_write: 20,
     Drawing.fill: 10, Drawing.share: 8, Drawing.pin_or_unpin: 12, Drawing.move_pages: 22, Drawing.query: 4,
@@ -489,7 +489,7 @@ BEGIN = [(Drawing.spawn, 1, 3), (Drawing.map, 1, 4), (Drawing.attach, 0, 3), (Dr
 
 
 def answers(report):
-    """How often each op gave each answer, and pages each status."""
+    """How often each op had each answer, and pages each status."""
     counts = collections.Counter()
     for line in report.splitlines():
         number, op, *words = line.split(" ")
@@ -510,12 +510,12 @@ def difference(want, got):
 
 
 def workers(number):
-    """How many workers play the trace of a number."""
+    """How many workers play the trace with a number."""
     return 1 + number % 3
 
 
 def check(number, program):
-    """What differs in the trace of a number on a program, or None, and its answers."""
+    """What differs when a program plays the trace with a number, or None; and the answers."""
     drawing = Drawing(number).draw()
     want = "".join(line + "\n" for line in drawing.lines)
     command = [program, "--workers", str(workers(number))]
@@ -526,14 +526,14 @@ def check(number, program):
         return str(failure), {}
     fault, got = None, ran.stdout.decode("ascii", "replace")
     if (ran.returncode, ran.stderr) != (0, b""):
-        fault = f"the program ends with {ran.returncode} and says {ran.stderr[:200]!r}"
+        fault = f"the program ended with {ran.returncode} and said {ran.stderr[:200]!r}"
     elif want != got:
         fault = difference(want, got)
     return fault, answers(want)
 
 
 def check_model():
-    """The model gives each trace of the examples and the tests the report that stands beside it."""
+    """The model's report on each trace of the examples and the tests is the one beside the trace."""
     for folder in ("examples", "tests/traces"):
         for path in sorted(glob.glob(os.path.join(ROOT, folder, "*.json"))):
             with open(path, "rb") as trace, open(path[: -len("json")] + "report", encoding="ascii") as report:
@@ -543,7 +543,7 @@ def check_model():
 
 
 def play_all(numbers, program):
-    """Plays the traces of these numbers on a program, and gives the answers of all. Ends at the first that differs."""
+    """Plays the traces with these numbers on a program, and returns the answers of all. Exits at the first that differs."""
     counts = collections.Counter()
     for number in numbers:
         fault, counted = check(number, program)
@@ -557,17 +557,17 @@ def play_all(numbers, program):
 def main():
     words = argparse.ArgumentParser(description=__doc__.split("\n", maxsplit=1)[0])
     words.add_argument("program", nargs="?", default=PROGRAM)
-    words.add_argument("--count", type=int, default=TRACES, help="play so many traces")
-    words.add_argument("--first", type=int, default=0, help="the number of the first")
-    words.add_argument("--trace", type=int, help="write the trace of this number, and play none")
-    words.add_argument("--times", action="store_true", help="tell what that took, and how often each op gave each answer")
+    words.add_argument("--count", type=int, default=TRACES, help="how many traces to play")
+    words.add_argument("--first", type=int, default=0, help="the number of the first trace")
+    words.add_argument("--trace", type=int, help="write the trace with this number, and play none")
+    words.add_argument("--times", action="store_true", help="print how long that took, and how often each op had each answer")
     asked = words.parse_args()
     if asked.trace is not None:
         print(json.dumps(Drawing(asked.trace).draw().trace))
         return
     program = os.path.abspath(asked.program)
     if not os.access(program, os.X_OK):
-        sys.exit(f"tests/drawn.py: there is no program {asked.program}: ./build makes it")
+        sys.exit(f"tests/drawn.py: there is no program {asked.program}: run ./build first")
     check_model()
     begun = time.monotonic()
     counts = play_all(range(asked.first, asked.first + asked.count), program)

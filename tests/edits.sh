@@ -1,8 +1,8 @@
 #!/bin/sh
-# Tries the edits that must fail and that the gate leaves out, those of tests/edits/CRATE: the prover must refuse each.
-# With words, those of these crates alone. It works on a copy, where they are put into must-fail/. An edit of nm_model changes a
-# definition, and that crate has no code: the laws over it refuse it, nm_laws'. Ends with a status other than 0 where one is
-# not refused.
+# Tries the edits that must fail and that the gate leaves out, those of tests/edits/CRATE: the prover must refuse each. With
+# arguments, only those of these crates. It works on a copy, where they are put into must-fail/. An edit of nm_model changes a
+# definition, and that crate has no code: the laws of nm_laws about it must refuse the edit. Ends with a status other than 0 where
+# one is not refused.
 set -eu
 cd "$(dirname "$0")/.."
 [ $# -gt 0 ] || set -- $(ls tests/edits)

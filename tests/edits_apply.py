@@ -1,7 +1,7 @@
 #!/usr/bin/env python3
-"""Whether each edit of must-fail/ and of tests/edits can be applied to the sources as they stand: every text that it replaces
-stands once in its file. So an edit is mended with the code that it speaks of: one that cannot be applied fails no `rt ci`, and
-the gate leaves out those of tests/edits. Prints those that cannot, and then ends with status 1."""
+"""Checks that each edit of must-fail/ and of tests/edits can be applied to the sources: every text that it replaces occurs once in
+its file. So an edit is updated with the code that it is about: one that cannot be applied does not fail `rt ci`, and the gate
+leaves out those of tests/edits. Prints those that cannot be applied, and then ends with status 1."""
 import glob
 import os
 import sys
@@ -14,11 +14,11 @@ from open_goals import pairs_of  # noqa: E402
 
 
 def fault(path, crate):
-    """Says why an edit cannot be applied to the files of its crate, or gives None."""
+    """Why an edit cannot be applied to the files of its crate, or None."""
     texts = {}
     for file, old, new in pairs_of(path):
         if file is None or old is None:
-            return "a 'new:' line stands before any 'file:' or 'old:' line"
+            return "a 'new:' line comes before any 'file:' or 'old:' line"
         if file not in texts:
             try:
                 with open(os.path.join("crates", crate, file), encoding="utf-8") as source:
@@ -27,7 +27,7 @@ def fault(path, crate):
                 return f"there is no file {file}"
         found = texts[file].count(old)
         if found != 1:
-            return f"an 'old:' text stands in {file} {found} times, and not once"
+            return f"an 'old:' text occurs {found} times in {file}, not once"
         texts[file] = texts[file].replace(old, new)
     return None if texts else "it changes nothing"
 

@@ -1,6 +1,6 @@
 #!/usr/bin/env python3
 """Tries the edits of tests/edits/nm_model in a copy of the repository: each changes a definition, and nm_laws must not be
-proved over it. Prints those that are not refused, and then ends with status 1.
+proved with it. Prints those that are not refused, and then ends with status 1.
 
     tests/edits_of_model.py COPY"""
 import glob
@@ -22,7 +22,7 @@ def verdict(copy):
 
 
 def tried(path, copy):
-    """What a check says of the laws under an edit, which is taken back then."""
+    """What a check says about the laws under an edit, which is then undone."""
     kept = {}
     for file, old, new in pairs_of(path):
         at = os.path.join(copy, "crates/nm_model", file)
@@ -41,7 +41,7 @@ def tried(path, copy):
 def main():
     copy, bad = sys.argv[1], 0
     if verdict(copy) != "proved":
-        sys.exit("tests/edits_of_model.py: nm_laws is not proved as it is")
+        sys.exit("tests/edits_of_model.py: nm_laws is not proved even without an edit")
     for path in sorted(glob.glob(os.path.join(ROOT, "tests/edits/nm_model/*.edit"))):
         said = tried(path, copy)
         name = os.path.basename(path)

@@ -1,12 +1,13 @@
 #!/usr/bin/env python3
-"""Hands the built program what an enemy would: bad traces and bad words, a trace that is cut after each byte, 10,000 that are
-mutated from those of examples/ and tests/traces/, the greatest that there are, streams that fail or move a byte at a time, and
-little memory.
+"""Gives the built program hostile input, and checks what it says.
 
-`tests/hostile.py [PROGRAM]` takes crates/numatrace/out/numatrace, as `rt ci` and `./build` leave it. Tables say what the program has
-to say of some traces, and lab/numalab/faults.py, which knows the schema of traces, says it of the others. Nothing is printed
-where all is well; else what differs, and then the status is 1. With --short it makes only the parts that take seconds, with
---times it tells what each part took. The traces are the same each time."""
+The input: bad traces and bad arguments, a trace that is cut after each byte, 10,000 that are mutated from those of examples/ and
+tests/traces/, the largest that there can be, streams that fail or move a byte at a time, and little memory.
+
+`tests/hostile.py [PROGRAM]` tests crates/numatrace/out/numatrace by default, as `rt ci` and `./build` leave it. Tables say what the
+program must say about some traces, and lab/numalab/faults.py, which knows the schema of traces, about the others. Nothing is
+printed where all is well; otherwise what differs, and then the status is 1. With --short it runs only the parts that take seconds,
+with --times it prints what each part took. The traces are the same each time."""
 import argparse
 import collections
 import fcntl
@@ -34,7 +35,7 @@ from numalab import faults  # noqa: E402
 PROGRAM = os.path.join(ROOT, "crates/numatrace/out/numatrace")
 MUTATED = 10000
 MOST_BYTES = 16777216
-# What one run may take: seconds of the processor, and KiB of memory. Waiting for a processor is not counted, but ends in time.
+# What one run may take: seconds of processor time, and KiB of memory; and how long it may take in all.
 MOST_SECONDS = 10
 MOST_KIB = 1200 * 1000 * 1000 // 1024
 MOST_WAIT = 120
@@ -67,7 +68,7 @@ def play(data, words=()):
 
 
 def is_report(out, steps):
-    """Whether lines are those of these steps: one for each, behind that of numa_maps as many as it says, and behind that of a
+    """Whether lines are those of these steps: one for each, after that of numa_maps as many as it says, and after that of a
     batch that is not refused one for each access in flight."""
     lines = out.decode("ascii", "replace").split("\n")
     at = 0
@@ -87,7 +88,7 @@ def is_report(out, steps):
 
 
 def told(verdict):
-    """Status and standard error for what numalab says of a trace."""
+    """The status and standard error that follow from what numalab says about a trace."""
     if verdict == "good":
         return 0, b""
     head = verdict.split(":")[0]
@@ -95,11 +96,11 @@ def told(verdict):
 
 
 def check_trace(data, words=(), verdict=None):
-    """Fails where the program says something else of a trace than it should. Gives how it ended."""
+    """Fails where the program does not say what it should about a trace. Returns how it ended."""
     verdict = verdict or faults.verdict(data)
     status, out, err = play(data, words)
     if (status, err) != told(verdict):
-        raise Fault(f"status {status} and {err[:200]!r}, where this is to be told: {verdict[:200]}")
+        raise Fault(f"status {status} and {err[:200]!r}, where it should say: {verdict[:200]}")
     if status != 0:
         if out:
             raise Fault("something was written before the fault")
@@ -108,7 +109,7 @@ def check_trace(data, words=(), verdict=None):
     return verdict.split(" ")[1] if status == 2 else str(status)
 
 
-# ---- bad traces, other spellings, and words
+# ---- bad traces, other spellings, and arguments
 
 
 def changed(old, new):
@@ -117,7 +118,7 @@ def changed(old, new):
     return FIRST.replace(old, new, 1)
 
 
-# The first example with one place changed, and its fault.
+# The first example with one change, and its fault.
 BAD = [
     ("[[10,20],[20,10]]", "[[10,10],[20,10]]", "bad machine"),
     ('"nodes":[4,4]', '"nodes":[4,0]', "bad machine"),
@@ -163,7 +164,7 @@ BAD = [
     ('"addr":65536', '"addr":18446744073709551616', "bad step 1"),
 ]
 
-# What stands in `during` of the first example's batch, which has one run: bad steps all.
+# What is in `during` of the first example's batch, which has one run: all of them are bad steps.
 DURING = [
     "null", "{}", "0", "7", "[7]", "[null]", "[[]]", "[{}]", '[{"op":"pin","pid":1,"addr":65536,"run":0}]',
     '[{"pid":1,"addr":65536,"len":1,"run":0}]', '[{"op":"read","addr":65536,"len":1,"run":0}]', '[{"op":"read","pid":1,"len":1,"run":0}]',
@@ -195,7 +196,7 @@ WHOLE = [
     (FIRST.encode().ljust(MOST_BYTES + 1), "read fault"),
 ]
 
-# The first example with one place changed, which changes nothing.
+# The first example with one change that makes no difference.
 SAME = [
     ('"version":1', '"version":2,"version":1'),
     ('"version":1', '"version":2,"run_limit":1'),
@@ -208,14 +209,14 @@ SAME = [
     ('"steps"', ' "st\\u0065ps" '),
 ]
 
-# Words that are refused: others than the option, and numbers of workers that are none from 1 to 64.
+# Arguments that are refused: all but the option, and numbers of workers that are not from 1 to 64.
 REFUSED = [
     ["trace.json"], ["--help"], ["-h"], ["--version"], ["-V"], ["--workers"], ["--workers", "0"], ["--workers", "65"],
     ["--workers", "x"], ["--workers", ""], ["--workers", "-1"], ["--workers", "4.0"], ["--workers", "18446744073709551617"],
     ["--workers=0"], ["--worker", "4"], ["--workers", "4", "4"], ["--workers", "4", "--workers", "4"], ["4"],
 ]
 
-# Words that are taken.
+# Arguments that are accepted.
 TAKEN = [[], ["--workers", "1"], ["--workers=2"], ["--workers", "+4"], ["--workers", "04"], ["--workers", "64"], ["--workers=064"]]
 
 
@@ -225,7 +226,7 @@ def check_bad(row):
 
 
 def check_during(during):
-    """Accesses in flight that are none, as they stand, and with their run in front."""
+    """Bad accesses in flight, as they are written and with their run first."""
     for text in {during, re.sub(r'\{([^{}]*),("run":[^,{}]*)\}', r"{\2,\1}", during)}:
         check_trace(changed('"flags":2', '"flags":2,"during":' + text).encode(), verdict="bad step 5")
 
@@ -236,7 +237,7 @@ def check_whole(row):
 
 
 def expect(report, data, words=()):
-    """Fails where the program gives another report on a good trace."""
+    """Fails where the program's report on a good trace is not this one."""
     status, out, err = play(data, words)
     if (status, out, err) != (0, report, b""):
         raise Fault(f"status {status}, {err[:200]!r} and {len(out)} bytes of a report that should have {len(report)}: {out[-200:]!r}")
@@ -254,22 +255,22 @@ def check_taken(words):
 def check_refused(words):
     status, out, err = play(FIRST.encode(), words)
     if status != 2 or out or not err:
-        raise Fault(f"words that are none end with status {status}, {out[:200]!r} and {err[:200]!r}")
+        raise Fault(f"bad arguments end with status {status}, {out[:200]!r} and {err[:200]!r}")
 
 
 def check_told(_):
-    """What is told of the program itself stands on standard error, as clap prints it. A word that is no UTF-8 has its line."""
+    """What the program says about itself goes to standard error, as clap prints it. An argument that is not UTF-8 has its own line."""
     if play(FIRST.encode(), ["--version"]) != (2, b"", b"numatrace 1.0.0\n"):
-        raise Fault("--version tells something else")
+        raise Fault("--version prints something else")
     err = play(FIRST.encode(), ["--help"])[2]
     if not err.startswith(b"Plays a trace of page migration calls") or not err.endswith(b"what they answer.\n"):
-        raise Fault(f"--help tells something else: {err!r}")
+        raise Fault(f"--help prints something else: {err!r}")
     if play(FIRST.encode(), [b"\xff"]) != (2, b"", b"numatrace: a word is not UTF-8\n"):
-        raise Fault("a word that is no UTF-8 is told as something else")
+        raise Fault("an argument that is not UTF-8 is reported as something else")
 
 
 def check_runs(_):
-    """A batch of three entries with two a run has a second run, and no third."""
+    """A batch of three entries with at most two per run has a second run, but no third."""
     limited_runs = changed('"version":1', '"version":2,"run_limit":2')
     read = '"flags":2,"during":[{"run":%d,"op":"read","pid":1,"addr":65536,"len":1}]'
     moved = b"5 move_pages 0: 1 1 1\n"
@@ -278,7 +279,7 @@ def check_runs(_):
 
 
 def named(entries):
-    """The first example up to its batch, and then a batch that names one page so often and moves it to node 1."""
+    """The first example up to its batch, and then a batch that names one page `entries` times and moves it to node 1."""
     pages, nodes = ",".join(["65536"] * entries), ",".join(["1"] * entries)
     front = FIRST[: FIRST.index('{"op":"move_pages"')]
     return front + f'{{"op":"move_pages","caller":1,"pid":0,"pages":[{pages}],"nodes":[{nodes}],"flags":2}}'
@@ -299,7 +300,7 @@ def check_limits(_):
 
 
 def check_front(length):
-    """A trace that is cut is no JSON."""
+    """A trace that is cut off is not JSON."""
     check_trace(FIRST.encode()[:length], verdict="not JSON")
 
 
@@ -307,7 +308,7 @@ def check_front(length):
 
 
 def drained(end):
-    """Waits until what was sent is read: an error would overtake it."""
+    """Waits until what was sent has been read: an error would overtake it."""
     late = time.monotonic() + MOST_WAIT
     while struct.unpack("i", fcntl.ioctl(end, termios.TIOCOUTQ, bytes(4))) != (0,):
         if time.monotonic() > late:
@@ -316,12 +317,12 @@ def drained(end):
 
 
 def served(pieces, broken=False):
-    """What the program answers where each call of its reader gets one of these pieces, and where it fails then if it is to
+    """What the program answers where each call of its reader gets one of these pieces, and where reading then fails if it is to
     break."""
     ours, its = socket.socketpair(socket.AF_UNIX, socket.SOCK_SEQPACKET)
     child = subprocess.Popen([SETTINGS["program"]], stdin=its, stdout=subprocess.PIPE, stderr=subprocess.PIPE)
     if broken:
-        its.send(b"unread")  # What our end never reads makes its close an error of the other end.
+        its.send(b"unread")  # Closing our end with something unread is an error at the other end.
     its.close()
     try:
         for piece in pieces:
@@ -335,31 +336,31 @@ def served(pieces, broken=False):
 
 
 def check_reader():
-    """A reader that gives a byte a call, and one that fails after so many bytes, or pieces of 64."""
+    """A reader that returns one byte per call, and one that fails after some bytes, or after some pieces of 64."""
     data = FIRST.encode()
     pieces = [data[at : at + 1] for at in range(len(data))]
     if served(pieces) != (0, FIRST_REPORT, b""):
-        raise Fault("a trace that comes a byte at a time does not give its report")
+        raise Fault("a trace that comes one byte at a time does not get its report")
     fronts = [pieces[:count] for count in [0, 1, 2, 100, len(data) - 1, len(data)]]
     pieces = [data[at : at + 64] for at in range(0, len(data), 64)]
     for front in fronts + [pieces[:count] for count in range(1, len(pieces) + 1)]:
         if served(front, broken=True) != (4, b"", b"numatrace: read fault\n"):
-            raise Fault(f"a reader that fails after {len(front)} pieces is not told as a read fault")
+            raise Fault(f"a reader that fails after {len(front)} pieces is not reported as a read fault")
     folder = os.open(ROOT, os.O_RDONLY)
     ran = subprocess.run([SETTINGS["program"]], stdin=folder, capture_output=True, check=False)
     os.close(folder)
     if (ran.returncode, ran.stdout, ran.stderr) != (4, b"", b"numatrace: read fault\n"):
-        raise Fault("a folder as input is not told as a read fault")
+        raise Fault("a folder as input is not reported as a read fault")
 
 
 def limited(most):
-    """Lets a child write no file longer than this: the write that passes it is short, and the next fails."""
+    """Limits the files of a child to this length: the write that exceeds it is short, and the next fails."""
     signal.signal(signal.SIGXFSZ, signal.SIG_IGN)
     resource.setrlimit(resource.RLIMIT_FSIZE, (most, most))
 
 
 def written(data, most):
-    """Status and standard error where standard output is a file that may have so many bytes, and what is in it then."""
+    """Status and standard error where standard output is a file of limited length, and what is in the file afterwards."""
     with tempfile.TemporaryFile() as trace, tempfile.TemporaryFile() as out:
         trace.write(data)
         trace.seek(0)
@@ -370,29 +371,29 @@ def written(data, most):
 
 
 def check_writer(data, report, places):
-    """Writers that take so many bytes and then fail: what was written is a prefix of the report."""
+    """Writers that take some bytes and then fail: what was written is a prefix of the report."""
     for most in places:
         fault = (4, b"numatrace: write fault\n", report[:most])
         if written(data, most) != (fault if most < len(report) else (0, b"", report)):
-            raise Fault(f"a writer that takes {most} of {len(report)} bytes is told as {written(data, most)[:2]}")
+            raise Fault(f"a writer that takes {most} of {len(report)} bytes is reported as {written(data, most)[:2]}")
 
 
 def check_closed_writers():
-    """A full device, and a pipe that nobody reads: as standard output, and as standard error, where the status stays."""
+    """A full device, and a pipe that nobody reads: as standard output, and as standard error, where the status is the same."""
     ends = os.pipe()
     os.close(ends[0])
     with open("/dev/full", "wb") as full, os.fdopen(ends[1], "wb") as pipe:
         for out in (full, pipe):
             ran = subprocess.run([SETTINGS["program"]], input=FIRST.encode(), stdout=out, stderr=subprocess.PIPE, check=False)
             if (ran.returncode, ran.stderr) != (4, b"numatrace: write fault\n"):
-                raise Fault(f"a writer that fails at once is told as {ran.returncode}, {ran.stderr!r}")
+                raise Fault(f"a writer that fails at once is reported as {ran.returncode}, {ran.stderr!r}")
             ran = subprocess.run([SETTINGS["program"]], input=b"[]", stdout=subprocess.PIPE, stderr=out, check=False)
             if (ran.returncode, ran.stdout) != (2, b""):
                 raise Fault(f"where standard error fails at once, the status is {ran.returncode}, with {ran.stdout!r}")
 
 
 def check_short_error():
-    """Standard error that takes three bytes and then fails: the status stays."""
+    """Standard error that takes three bytes and then fails: the status is the same."""
     with tempfile.TemporaryFile() as err:
         ran = subprocess.run([SETTINGS["program"]], input=b"[]", stdout=subprocess.PIPE, stderr=err, restore_signals=False,
                              preexec_fn=lambda: limited(3), timeout=MOST_WAIT, check=False)
@@ -403,7 +404,7 @@ def check_short_error():
 
 # ---- mutated traces
 
-# Values of JSON, and what is none.
+# JSON values, and what is not JSON.
 ODD = """0 1 2 -1 -0 1.0 1e0 1E+2 0.5 63 64 255 256 4095 4096 4097 16384 16385 65535 65536 65537 2147483647 2147483648 4294967295
 4294967296 140737488351232 140737488355327 140737488355328 9223372036854775807 9223372036854775808 18446744073709547520
 18446744073709551615 18446744073709551616 99999999999999999999999999 1e308 1e-999 1e999 -1e999 0e999999999999 true false null
@@ -425,7 +426,7 @@ def put(text, match, new):
 
 
 def values(text):
-    """The tokens of a text that are values and no keys."""
+    """The tokens of a text that are values and not keys."""
     found = [match for match in TOKEN.finditer(text) if match[0] not in "[]{}:,"]
     return [match for match in found if text[match.end() : match.end() + 1] != ":"]
 
@@ -451,7 +452,7 @@ def without_pair(rng, text, _):
 
 
 def twice(rng, text, _):
-    """A key that stands twice, the other value before it or behind it."""
+    """A key that occurs twice, with the other value before it or after it."""
     match = rng.choice(list(PAIR.finditer(text)))
     pair = match[0].rstrip(",")
     other = pair.split(":")[0] + ":" + rng.choice(ODD)
@@ -471,7 +472,7 @@ def other_op(rng, text, _):
 
 
 def other_steps(rng, text, others):
-    """Steps left out, made twice, in another order, or taken from another trace."""
+    """Steps left out, repeated, in another order, or taken from another trace."""
     try:
         top = json.loads(text)
         steps = top["steps"]
@@ -538,7 +539,7 @@ def check_mutated(number):
     return check_trace(mutated(number, SETTINGS["texts"]), ("--workers", str(1 + number % 64)))
 
 
-# ---- the greatest that there are
+# ---- the largest traces
 
 
 def square(count):
@@ -555,7 +556,7 @@ def spawn(pid, nodes, **more):
 
 
 def filled(pid, count, **more):
-    """A process that maps so many pages and writes each."""
+    """A process that maps some pages and writes each."""
     steps = [{"op": "map", "pid": pid, "addr": 65536, "pages": count, **more}]
     return steps + [{"op": "write", "pid": pid, "addr": 65536 + 4096 * page, "data": "61"} for page in range(count)]
 
@@ -565,7 +566,7 @@ def batch(op, pages, **more):
 
 
 def ended(pid):
-    """What is looked at in the end, and a process that goes with all that it has."""
+    """The looks at the end, and a process that exits with all that it has."""
     looks = [{"op": "pagemap", "pid": pid}, {"op": "numa_maps", "pid": pid}, {"op": "vmstat"}]
     return looks + [{"op": "exit", "pid": pid}, {"op": "free", "node": 0}]
 
@@ -596,7 +597,7 @@ def whole_batches():
 
 
 def whole_flight():
-    """16,384 runs of one entry with 200,000 accesses in flight in no order of runs, and then one run with held accesses, those
+    """16,384 runs of one entry with 200,000 accesses in flight, not ordered by run, and then one run with held accesses, those
     of pages without a frame until none is left, and refused ones."""
     pages = [65536 + 4096 * page for page in range(8192)]
     steps = [spawn(1, 2), *filled(1, 8192), {"op": "map", "pid": 1, "addr": 1 << 32, "pages": 1 << 20}]
@@ -636,7 +637,7 @@ SMALL = b'{"version":1,"machine":{"nodes":[1],"distance":[[10]]},"steps":['
 BATCH = b'{"op":"move_pages","caller":1,"pid":0,"pages":[0],"nodes":[0],"flags":2,"during":['
 READ = b'{"run":0,"op":"read","pid":1,"addr":0,"len":1}'
 
-# Traces as long as a trace may be, in the shapes that take most of a reader: front, piece, back, and what is to be said.
+# Traces as long as a trace may be, in the shapes that cost a reader most: front, piece, back, and what must be said.
 LONG = [
     (NOTE + b"[[]", b",[]", b"]}", "good"),
     (NOTE + b"[{}", b",{}", b"]}", "good"),
@@ -668,7 +669,7 @@ LONG = [
 ]
 
 
-# A shape that takes a little more memory than that: a list of one value has room for four.
+# A shape that takes a little more memory: a list of one value has room for four.
 HEAVY = [(NOTE + b"[0", b"," + b"[" * 125 + b"]" * 125, b"]}", "good")]
 MOST_KIB_OF_HEAVY = 1300 * 1000 * 1000 // 1024
 
@@ -743,7 +744,7 @@ def check_edge(trace):
 
 
 def tried(item):
-    """One check: what differs, or how the trace ended, with the seconds of the processor and the KiB that it took; the KiB are
+    """One check: what differs, or how the trace ended, with the seconds of processor time and the KiB that it took; the KiB are
     the most that any check of this process has taken."""
     check, argument = item
     before = resource.getrusage(resource.RUSAGE_CHILDREN)
@@ -772,15 +773,15 @@ def check_streams(_):
 
 
 def within(data, most, words):
-    """Status, standard output and standard error with so many bytes of addresses."""
+    """Status, standard output and standard error with a limited number of bytes of address space."""
     ran = subprocess.run([SETTINGS["program"], *words], input=data, capture_output=True, timeout=MOST_WAIT, check=False,
                          preexec_fn=lambda: resource.setrlimit(resource.RLIMIT_AS, (most, most)))
     return ran.returncode, ran.stdout, ran.stderr
 
 
 def check_memory(_):
-    """Little memory, so that threads are refused, and then the trace itself: the whole report, or a front with as many steps
-    as are told."""
+    """Little memory, so that threads are refused, and then the trace itself: the whole report, or a prefix with as many steps
+    as standard error says."""
     with tempfile.TemporaryDirectory() as there:
         paths = [os.path.join(there, "trace"), os.path.join(there, "report")]
         subprocess.run([os.path.join(ROOT, "tests/long_run.py"), *paths], check=True)
@@ -802,14 +803,14 @@ SHORT = PARTS[:3]
 
 
 def rows():
-    """The check of each row of the tables, and of what is no row."""
+    """The check of each row of the tables, and the checks that have no table."""
     tables = [(check_bad, BAD), (check_during, DURING), (check_whole, WHOLE), (check_same, SAME), (check_refused, REFUSED)]
     made = [(check, row) for check, table in [*tables, (check_taken, TAKEN)] for row in table]
     return made + [(check, None) for check in (check_told, check_runs, check_limits)]
 
 
 def parts():
-    """Each part: its name, its checks, and how many of them one process makes."""
+    """Each part: its name, its checks, and how many of them one process runs."""
     fronts = [(check_front, length) for length in range(len(FIRST))]
     great = [(check_great, make) for make in (whole_nodes, whole_batches, whole_flight, whole_table)]
     yield PARTS[0], rows(), None
@@ -821,7 +822,7 @@ def parts():
 
 
 def run_part(name, checks, most):
-    """Makes the checks of a part side by side. Ends where one fails."""
+    """Runs the checks of a part in parallel. Exits where one fails."""
     begun = time.monotonic()
     with multiprocessing.Pool(maxtasksperchild=most) as pool:
         results = pool.map(tried, checks, chunksize=1 if most else max(1, min(50, len(checks) // 16)))
@@ -830,18 +831,18 @@ def run_part(name, checks, most):
             sys.exit(f"tests/hostile.py: {check.__name__}, {str(argument)[:300]}: {fault}")
     ends = collections.Counter(str(ended_as) for _, ended_as, _, _ in results)
     longest_run, most_memory = (max(result[place] for result in results) for place in (2, 3))
-    return (f"{name}: {len(checks)} in {time.monotonic() - begun:.1f} s, none over {longest_run:.1f} s of the processor and "
+    return (f"{name}: {len(checks)} in {time.monotonic() - begun:.1f} s, none over {longest_run:.1f} s of processor time and "
             f"{most_memory * 1024 // 1000000} MB; {dict(ends)}")
 
 
 def main():
     words = argparse.ArgumentParser(description=__doc__.split("\n", maxsplit=1)[0])
     words.add_argument("program", nargs="?", default=PROGRAM)
-    words.add_argument("--times", action="store_true", help="tell what each part took")
-    words.add_argument("--trace", type=int, help="write the mutated trace of this number, and play none")
+    words.add_argument("--times", action="store_true", help="print what each part took")
+    words.add_argument("--trace", type=int, help="write the mutated trace with this number, and play none")
     which = words.add_mutually_exclusive_group()
-    which.add_argument("--part", choices=PARTS, help="make this part alone")
-    which.add_argument("--short", action="store_true", help=f"make the parts that take seconds: {', '.join(SHORT)}")
+    which.add_argument("--part", choices=PARTS, help="run only this part")
+    which.add_argument("--short", action="store_true", help=f"run only the parts that take seconds: {', '.join(SHORT)}")
     asked = words.parse_args()
     traces = sorted(glob.glob(os.path.join(ROOT, "examples/*.json")) + glob.glob(os.path.join(ROOT, "tests/traces/*.json")))
     SETTINGS["program"] = os.path.abspath(asked.program)
@@ -850,7 +851,7 @@ def main():
         sys.stdout.buffer.write(mutated(asked.trace, SETTINGS["texts"]))
         return
     if not os.access(SETTINGS["program"], os.X_OK):
-        sys.exit(f"tests/hostile.py: there is no program {asked.program}: ./build makes it")
+        sys.exit(f"tests/hostile.py: there is no program {asked.program}: run ./build first")
     wanted = (asked.part,) if asked.part else SHORT if asked.short else PARTS
     for name, checks, most in parts():
         if name in wanted:

@@ -1,7 +1,7 @@
 #!/usr/bin/env python3
-"""Writes traces that come to limits which take many calls to reach, and their reports, each worked out here from the rules:
-`tests/limits.py FOLDER`. A page has at most 65,535 pins (pins.json). A machine makes at most 65,536 segments, whose numbers never
-come again (segments.json)."""
+"""Writes traces that reach limits which take many calls to reach, and their reports, which are worked out here from the rules:
+`tests/limits.py FOLDER`. A page has at most 65,535 pins (pins.json). A machine makes at most 65,536 segments, whose numbers are
+never used again (segments.json)."""
 import json
 import os
 import sys
@@ -21,7 +21,7 @@ class Trace:
             self.step("ok", op="write", pid=1, addr=BASE + PAGE * page, data="61")
 
     def step(self, answer, **keys):
-        """One more step, and its line."""
+        """Adds a step, and its line."""
         self.lines.append(f"{len(self.steps)} {keys['op']} {answer}\n")
         self.steps.append(keys)
 
@@ -34,7 +34,7 @@ class Trace:
 
 
 def pins():
-    """The first page takes no pin more than it may have, the second one does, and the first again where one is taken off."""
+    """The first page takes no more pins than it may have, the second takes one, and the first takes another after an unpin."""
     trace = Trace()
     for _ in range(MOST_PINS):
         trace.step("ok", op="pin", pid=1, addr=BASE)
@@ -47,8 +47,8 @@ def pins():
 
 
 def segments():
-    """All segments but the last come and go. Once the last is made, a place that is taken is EINVAL as ever, and a free one
-    ENOMEM. Areas of the last one still come and go, until none shows it."""
+    """All segments but the last are made and go. Once the last is made, a map over an area is EINVAL as ever, and one at a free place
+    ENOMEM. Areas of the last one can still be attached and unmapped, until none shows it."""
     trace = Trace()
     for number in range(1, SEGMENTS - 1):
         trace.step(f"segment={number}", op="map", pid=1, addr=NEXT, pages=1)

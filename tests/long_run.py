@@ -1,9 +1,9 @@
 #!/usr/bin/env python3
-"""Writes a trace with runs of 1,100 pages that were written to their last byte, 4.5 MB and so enough for several workers, each
-with 500 accesses in flight, and its report: `tests/long_run.py TRACE REPORT`. The report is worked out here from the rules,
-without the program: pages take the front of the free list of the node that they go to, and the frames that they leave go to
-the end of their own node's list. An access to a page that moves is held; others find the frames that the run took gone, and
-those that it leaves not free yet."""
+"""Writes a trace with runs of 1,100 pages that were written to their last byte (4.5 MB, so enough for several workers), each with
+500 accesses in flight, and its report: `tests/long_run.py TRACE REPORT`. The report is worked out here from the rules, without
+the program: pages take the front of the free list of the node that they go to, and the frames that they leave go to the end of
+their own node's list. An access to a page that moves is held; for others the frames that the run took are gone, and those that it
+leaves are not free yet."""
 import json
 import sys
 
@@ -12,18 +12,18 @@ PAGES, FRAMES, BASE = 1100, 2048, 65536
 BESIDE, SECOND, ACCESSES = 301, BASE + 4096 * 2 * PAGES, 500
 addresses = [BASE + 4096 * page for page in range(PAGES)]
 frames, free = [], [list(range(FRAMES)), list(range(FRAMES, 2 * FRAMES))]
-beside, written = {}, {}  # by page that never moves: its frame, or zero; and its first byte
+beside, written = {}, {}  # for each page that never moves: its frame, or zero; and its first byte
 steps, lines = [], []
 
 
 def step(answer, **keys):
-    """One more step, and its line."""
+    """Adds a step, and its line."""
     lines.append(f"{len(steps)} {keys['op']} {answer}\n")
     steps.append(keys)
 
 
 def access(j):
-    """The access of a number while all pages of the first area move, and what is answered. The first write to a page takes a
+    """The access of a number while all pages of the first area move, and its answer. The first write to a page takes a
     frame of the home node, or of the other where that has none; a first read shows the page of zeros."""
     moving, page, byte = addresses[j * 7 % PAGES], (j * 11 + len(steps)) % BESIDE, (j + len(steps)) % 251
     read, write = {"run": 0, "op": "read", "pid": 1, "len": 1}, {"run": 0, "op": "write", "pid": 1, "data": f"{byte:02x}"}
@@ -44,7 +44,7 @@ def access(j):
 
 
 def move(node):
-    """Moves all pages of the first area to a node on which none of them is, with accesses in flight."""
+    """Moves all pages of the first area to a node that has none of them, with accesses in flight."""
     global frames
     left, frames = frames, [free[node].pop(0) for _ in addresses]
     made = [access(j) for j in range(ACCESSES)]
@@ -56,7 +56,7 @@ def move(node):
 
 
 def look():
-    """Tells the lists of both nodes, where each page is, and what is in some of them."""
+    """Shows the lists of both nodes, where each page is, and what is in some of them."""
     for node in (0, 1):
         step(f"{len(free[node])}: " + " ".join(map(str, free[node])), op="free", node=node)
     entries = [*zip(addresses, frames), *((SECOND + 4096 * page, beside[page]) for page in sorted(beside))]

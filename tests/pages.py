@@ -1,7 +1,6 @@
 #!/usr/bin/env python3
-"""Whether tools/pages.py finds what it should: names that are there and names that are not, headings as a forge makes them, and
-lines of reports.
-Prints those that it takes for the other, and then ends with status 1."""
+"""Checks that tools/pages.py finds what it should: names that exist and names that do not, headings as a forge makes them, and
+lines of reports. Prints those that it gets wrong, and then ends with status 1."""
 import os
 import sys
 

@@ -1,6 +1,6 @@
 #!/usr/bin/env python3
-"""Checks docs/trace.schema.json (lab/tests check the strict one beside it): each example and each trace of the tests fits it, and traces that the program refuses do
-not, wherever a schema can say so. It knows the keywords that the schema uses, and refuses any other."""
+"""Checks docs/trace.schema.json (lab/tests check the strict one): each example and each trace of the tests fits it, and traces that
+the program refuses do not, wherever a schema can say so. It knows the keywords that the schema uses, and refuses any other."""
 import glob
 import json
 import os
@@ -11,7 +11,7 @@ ROOT = os.path.dirname(os.path.dirname(os.path.abspath(__file__)))
 COMMENTS = {"$schema", "$defs", "title", "description"}
 TYPES = {"object": dict, "array": list, "string": str, "boolean": bool, "integer": int}
 
-# The first example with one place changed, which the program plays as it plays the example.
+# The first example with one change after which the program plays it as before.
 SAME = [
     ('"version":1', '"version":1,"run_limit":"none"'),
     ('"version":1', '"version":2,"run_limit":1'),
@@ -20,14 +20,14 @@ SAME = [
     ('"op":"free"', '"during":null,"op":"free"'),
 ]
 
-# The same, where the program makes accesses in flight besides.
+# The same, where the program also makes accesses in flight.
 MORE = [
     ('"flags":2', '"flags":2,"during":[{"run":0,"op":"read","pid":1,"addr":65536,"len":1}]'),
     ('"flags":2', '"flags":2,"during":[{"run":0,"op":"write","pid":4294967295,"addr":18446744073709551615,"data":"aF","len":null}]'),
     ('"flags":2', '"during":[{"op":"read","pid":1,"addr":0,"len":0,"run":0,"data":6},{"op":"write","pid":1,"addr":0,"data":"","run":0}],"flags":2'),
 ]
 
-# The first example with one place changed, each of which the program tells of as a bad machine or a bad step.
+# The first example with one change after which the program reports a bad machine or a bad step.
 FAULTS = [
     ('"version":1', '"version":2'),
     ('"version":1', '"version":3'),
@@ -82,7 +82,7 @@ def fault_of_type(schema, value):
     if kind is None:
         return None
     right = isinstance(value, TYPES[kind]) and (kind == "boolean" or not isinstance(value, bool))
-    return None if right else "is no " + kind
+    return None if right else "is not of type " + kind
 
 
 def fault_of_value(schema, value):
@@ -94,7 +94,7 @@ def fault_of_value(schema, value):
         if word == "minItems" and len(value) < limit or word == "maxItems" and len(value) > limit:
             return "has too few or too many items"
         if word == "pattern" and not re.fullmatch(limit.strip("^$"), value):
-            return "has another form"
+            return "does not match the pattern"
         if word == "required" and not all(key in value for key in limit):
             return "lacks a key"
         if word == "additionalProperties" and not set(value) <= set(schema["properties"]):
@@ -119,11 +119,11 @@ def fault_of_parts(schema, value, top):
 
 
 def fault_of(schema, value, top):
-    """The first fault of a value by a schema, or None. In the strict schema a key may have any value, and `not` is an object's."""
+    """The first fault of a value by a schema, or None. In the strict schema a key may have any value, and `not` is about an object."""
     if schema is True:
         return None
     if "not" in schema and fault_of_value(schema["not"], value) is None:
-        return "is what it may not be"
+        return "is what it must not be"
     if "$ref" in schema:
         return fault_of(top["$defs"][schema["$ref"].removeprefix("#/$defs/")], value, top)
     return fault_of_type(schema, value) or fault_of_value(schema, value) or fault_of_parts(schema, value, top)
@@ -167,7 +167,7 @@ def main():
         if old not in text:
             sys.exit("tests/schema.py: %s is not in the first example" % old)
         if fault_of(schema, json.loads(text.replace(old, new, 1)), schema) is None:
-            sys.exit("tests/schema.py: the schema takes %s for %s" % (new, old))
+            sys.exit("tests/schema.py: the schema accepts %s for %s" % (new, old))
 
 
 if __name__ == "__main__":

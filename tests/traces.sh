@@ -1,7 +1,7 @@
 #!/bin/sh
-# Plays each example, each trace of the tests, a long one, whose runs are worth several workers, and two that come to limits,
-# with 1, 2, 3 and 64 workers: the report is the one beside the trace, byte for byte, the status 0, and standard error empty.
-# A word names another program than the one that ./build makes. Silent where all is well.
+# Plays each example, each trace of the tests, a long one, whose runs are long enough for several workers, and two that reach
+# limits, with 1, 2, 3 and 64 workers: the report is the one beside the trace, byte for byte, the status is 0, and standard error is
+# empty. An argument names a program other than the one that ./build makes. Silent where all is well.
 set -eu
 program=${1-}
 case $program in
@@ -10,7 +10,7 @@ case $program in
 esac
 cd "$(dirname "$0")/.."
 program=${program:-$(pwd)/crates/numatrace/out/numatrace}
-[ -x "$program" ] || { echo "tests/traces.sh: there is no program $program: ./build makes it" >&2; exit 1; }
+[ -x "$program" ] || { echo "tests/traces.sh: there is no program $program: run ./build first" >&2; exit 1; }
 room=$(mktemp -d)
 trap 'rm -rf "$room"' EXIT
 trap 'exit 130' HUP INT TERM
@@ -21,7 +21,7 @@ for trace in examples/*.json tests/traces/*.json "$room"/*.json; do
         status=0
         "$program" --workers "$workers" < "$trace" > "$room/out" 2> "$room/err" || status=$?
         if [ "$status" != 0 ] || [ -s "$room/err" ] || ! cmp -s "$room/out" "${trace%.json}.report"; then
-            echo "tests/traces.sh: $trace with $workers workers ends with $status and another report than the one beside it:" >&2
+            echo "tests/traces.sh: $trace with $workers workers ends with $status, or its report differs from the one beside it:" >&2
             cat "$room/err" >&2
             diff "${trace%.json}.report" "$room/out" | head -n 10 >&2
             exit 1
