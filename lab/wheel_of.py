@@ -1,4 +1,4 @@
-"""Makes the wheel that `pip install ./lab` asks for, with the standard library alone, so that it needs no network.
+"""Makes the wheel that `pip install ./lab` asks for, using only the standard library, so that it needs no network.
 
 What is in pyproject.toml is here as well, since Python has no TOML reader before 3.11; the tests compare both."""
 import base64

@@ -23,7 +23,7 @@ if not pages.bad_link("docs/MODEL.md", "#nothing", {}) or pages.bad_link("docs/M
     wrong.append("links")
 REPORT = "0 spawn ok\n1 map segment=0\n2 numa_maps 1\n00010000 default\n"
 SHOWN = "text\n\n    1 map segment=0\n    2 numa_maps 1\n    00010000 default\n\n    0 spawn ok\n    2 numa_maps 1\n"
-if list(pages.unreported(SHOWN, [REPORT])) != [(7, "no report has the line or lines from '0 spawn ok' on")]:
+if list(pages.unreported(SHOWN, [REPORT])) != [(7, "no report has the lines that begin with '0 spawn ok'")]:
     wrong.append("reports")
 for word in wrong:
     print(f"tools/pages.py is wrong about {word}")

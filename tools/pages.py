@@ -121,12 +121,12 @@ def bad_link(page, target, anchors):
     path, _, heading = target.partition("#")
     there = os.path.normpath(os.path.join(os.path.dirname(page), path)) if path else page
     if not os.path.exists(os.path.join(ROOT, there)):
-        return f"the link {target} leads to no file"
+        return f"the link {target} leads to a file that does not exist"
     if heading and there.endswith(".md"):
         if there not in anchors:
             anchors[there] = headings(read(there))
         if heading not in anchors[there]:
-            return f"the link {target} leads to no heading of {there}"
+            return f"the link {target} leads to a heading that {there} does not have"
     return None
 
 
@@ -147,7 +147,7 @@ def faults_of(page, sources, anchors):
             elif "/" not in span and FILE.fullmatch(span) and span not in sources.ends:
                 yield number, f"there is no file {span}"
             elif sources.lacks_name(span):
-                yield number, f"nothing is defined as {span}"
+                yield number, f"{span} is not defined"
 
 
 def unreported(text, reports):
@@ -160,7 +160,7 @@ def unreported(text, reports):
         elif stretch:
             lines = "\n" + "\n".join(stretch) + "\n"
             if not any(lines in "\n" + report for report in reports):
-                yield number - len(stretch), f"no report has the line or lines from {stretch[0]!r} on"
+                yield number - len(stretch), f"no report has the lines that begin with {stretch[0]!r}"
             stretch = []
 
 

@@ -1,8 +1,9 @@
 #!/usr/bin/env python3
-"""Lists the functions of a crate that take longest to prove: seconds for each, the most expensive first, and how many of them are
-the borrow checker's part, which grows faster than the function, and the search for what no file answers. `tools/slow.py CRATE`
-checks the crate from scratch with one job, with `--test` its tests as well. The libraries that it depends on must have been built
-(`rt lib` in their folders, or `./build`).
+"""Lists the functions of a crate that take longest to prove.
+
+It prints the seconds for each, the most expensive first, and how many of them are the borrow checker's part, which grows faster
+than the function, and the search for what no file answers. `tools/slow.py CRATE` checks the crate from scratch with one job, with
+`--test` its tests as well. The libraries that it depends on must have been built (`rt lib` in their folders, or `./build`).
 
 A check writes a file for each module once it is done, so the time between two files is what the second module took."""
 import argparse

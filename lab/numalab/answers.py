@@ -1,4 +1,4 @@
-"""The answers of a report as values, each beside its step."""
+"""The answers of a report as values."""
 import re
 
 from .report import ENTRY, FRAME, items_of

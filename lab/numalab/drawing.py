@@ -192,7 +192,7 @@ def draw_head(picture, x, y, moment):
     """Which steps look at this moment, and what was before."""
     first, last = moment.steps[0], moment.steps[-1]
     picture.text(x, y, 11, f"step {first}" if first == last else f"steps {first} to {last}")
-    picture.text(x, y + 13, 8, f"after {moment.after[0]} {moment.after[1]}" if moment.after else "at first", ink=PALE)
+    picture.text(x, y + 13, 8, f"after {moment.after[0]} {moment.after[1]}" if moment.after else "at the start", ink=PALE)
 
 
 def draw_flight(picture, x, y, moment):

@@ -56,7 +56,7 @@ def wanted(schema):
         bounds = f" of at most {schema['maxItems']:,} elements" if "maxItems" in schema else ""
         return "a list" + bounds
     if schema["type"] == "string":
-        return "a text of hexadecimal digits, an even number of them"
+        return "a text with an even number of hexadecimal digits"
     return {"boolean": "true or false", "object": "an object"}[schema["type"]]
 
 

@@ -28,7 +28,7 @@ def inputs_of(files):
 
 
 def with_report(one, program):
-    """The same with its report: the program plays a trace that has none beside it."""
+    """The same with its report: the program plays a trace that has none named with it."""
     if one.data is None:
         return one._replace(data=played(one.trace, program))
     if one.trace:

@@ -87,7 +87,7 @@ class Words:
 
 
 class Numbers:
-    """Numbers, sizes, sets of nodes and places, by the names that a file has given so far."""
+    """Numbers, sizes, sets of nodes and places, with the names that a file has given so far."""
 
     def __init__(self):
         self.nodes, self.node_names = [], {}
@@ -225,7 +225,7 @@ class Numbers:
         return range(first or 0, max(end, first or 0), step or 1), False
 
     def addresses(self, word):
-        """The addresses of a place, as far as a batch may have them."""
+        """The addresses of a place, at most as many as a batch may have."""
         pages = self.place(word)
         if count(pages) > MOST_ENTRIES:
             raise Wrong(f"{word.text} is {counted(count(pages), 'page')}, and a batch has at most {MOST_ENTRIES:,}", word.column)

@@ -85,7 +85,7 @@ def kernels_asked(asked):
     there = {version: path for version, path in guest.kernels().items() if version in KERNELS}
     missing = [version for version in KERNELS if version not in there]
     if missing:
-        raise Bad(f"there is no kernel {missing[0]}: lab/kernels fetches those of Debian's packages linux-image-{missing[0]}.*-cloud-amd64")
+        raise Bad(f"there is no kernel {missing[0]}: lab/kernels fetches those from Debian's packages linux-image-{missing[0]}.*-cloud-amd64")
     return {version: there[version] for version in KERNELS}
 
 

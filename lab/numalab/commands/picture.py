@@ -34,7 +34,7 @@ def arguments(words):
     words.add_argument("--html", action="store_true", help="make a page with a slider; so does an OUT that ends in .html")
     words.add_argument("--steps", metavar="A-B", type=step_range, help="draw only the steps from A to B, or the moments that look at one of them")
     words.add_argument("-o", metavar="OUT", dest="out", help="a file, .svg or .html, or a folder; standard output if none is named")
-    words.add_argument("--program", metavar="PATH", help="the program numatrace")
+    words.add_argument("--program", metavar="PATH", help="the path of the program numatrace")
 
 
 def page(one, asked):

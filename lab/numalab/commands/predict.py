@@ -19,6 +19,6 @@ def arguments(words):
 def run(asked):
     trace = load(asked.trace).check()
     if any(step.get("during") for step in trace.steps):
-        raise Bad(f"{trace.name}: accesses in flight are the model's own, and no kernel is asked about them")
+        raise Bad(f"{trace.name}: accesses in flight exist only in the model, and nothing is predicted about them")
     write_file(asked.out, kernel.report(trace.top, asked.kernel, privilege_of(asked)))
     return 0

@@ -26,7 +26,7 @@ def arguments(words):
     words.add_argument("--all", action="store_true", help="show all rows of a pagemap, not only 64")
     words.add_argument("--jsonl", action="store_true", help="print a JSON object for each step; so does an OUT that ends in .jsonl")
     words.add_argument("-o", metavar="OUT", dest="out", help="a file, or a folder; standard output if none is named")
-    words.add_argument("--program", metavar="PATH", help="the program numatrace")
+    words.add_argument("--program", metavar="PATH", help="the path of the program numatrace")
 
 
 def reasons_of(one):

@@ -30,7 +30,7 @@ def without_places(top):
 
 
 def text_of(path, asked, ending):
-    """What is to be written of a file."""
+    """The text to write for a file."""
     data = read_file(path)
     back = asked.back or path.endswith(".json")
     top = Trace(path, data).check().top if back else trace_from(data, path)

@@ -72,7 +72,7 @@ def kernel_asked(asked):
     there = kernels()
     if asked:
         if asked not in there:
-            raise Bad(f"there is no kernel {asked} (those here: {', '.join(there) or 'none'}): lab/kernels fetches Debian's")
+            raise Bad(f"there is no kernel {asked} (those here: {', '.join(there) or 'none'}): lab/kernels fetches Debian's kernels")
         return there[asked]
     if not there:
         raise Bad(NO_KERNEL)

@@ -166,7 +166,7 @@ class Instructions:
 
     def move_pages(self, step):
         if step.get("during"):
-            self.cannot("accesses in flight are the model's own, and no kernel can be told when to make them")
+            self.cannot("accesses in flight exist only in the model: no kernel can be told when to make them")
         entries = "".join(f" {address:#x} {node}" for address, node in zip(step["pages"], step["nodes"]))
         return f"{step['caller']} {step['pid']} {step['flags']} {len(step['pages'])}{entries}"
 
