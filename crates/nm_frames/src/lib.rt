@@ -4,6 +4,7 @@
 mod buf;
 mod bytes;
 mod job;
+mod slot;
 mod store;
 #[cfg(test)]
 mod tests;

@@ -1,45 +1,45 @@
 //! The bytes of all frames.
 
-ghost use Rattle.std.specs.Prelude.{◌≡◌, [], ◌+◌, ◌<◌, ◌≤◌, length, slice_index, slice_set, Some, None, IfOk, replicate};
-ghost use Rattle.nm_model.specs.definitions.Frames.{IsHome, IsOut, AllWhole, bytes_of, overwrite};
+ghost use Rattle.std.specs.Prelude.{◌≡◌, ◌==◌, [], ◌+◌, ◌<◌, ◌≤◌, length, slice_index, slice_set, Some, None, IfOk, OnOk, OnErr, replicate};
+ghost use Rattle.nm_model.specs.definitions.Frames.{IsHome, IsOut, bytes_of, overwrite};
+ghost use Rattle.nm_frames.specs.Populated.{IsPopulated, populated};
 
 use crate::buf::FrameBuf;
 use crate::bytes::Bytes;
+use crate::slot::Slot;
 use nm_types::FrameId;
 use std::alloc::{AllocError, Allocator};
 use std::marker::Model;
 
 /// The bytes of each frame, or none where they are out as a `FrameBuf`. Contracts see a list by frame, with the list
-/// of the bytes for a frame that is home and None for one that is out.
+/// of the bytes for a frame that is home and None for one that is out. A frame has no bytes in memory, and its list is
+/// empty, until it is populated.
 #[derive(Debug, Drop)]
 pub struct FrameStore<A: Allocator + Copy> {
-    frames: Vec<Option<Bytes<A>>, A>,
+    frames: Vec<Slot<A>, A>,
 }
 
 impl<A: Allocator + Copy> Model for FrameStore<A> {
-    ghost use Rattle.nm_model.specs.definitions.Frames.{Store, AllWhole};
+    ghost use Rattle.nm_model.specs.definitions.Frames.{Store};
 
     ghost Value = { Store };
 
     ghost view = { λ s. s.frames.items };
-
-    ghost invariant = { λ s. AllWhole s.frames.items };
 }
 
 impl<A: Allocator + Copy> FrameStore<A> {
-    /// A store of `frames` frames, all home, of zeros. It makes the buffer of every frame; no other call takes memory.
+    /// A store of `frames` frames, all home, none of them populated.
     pub fn new(alloc: A, frames: usize) -> Result<Self, AllocError>
-        ensures { IfOk result (λ store. store ≡ replicate frames (Some (replicate 4096 0))) }
+        ensures { IfOk result (λ store. store ≡ replicate frames (Some [])) }
     {
         let mut store = Vec::with_capacity(alloc, frames)?;
         for _ in 0..frames {
-            let bytes = Bytes::zeros(alloc)?;
-            store.push(Some(bytes))?;
+            store.push(Slot::unused())?;
         }
         Ok(FrameStore { frames: store })
     }
 
-    /// No frames. It takes no memory.
+    /// No frames. Does not allocate.
     pub fn none(alloc: A) -> Self
         ensures { result ≡ [] }
     {
@@ -50,28 +50,46 @@ impl<A: Allocator + Copy> FrameStore<A> {
 
     /// How many frames there are, home or out.
     pub fn frame_count(&self) -> usize
-        ensures count { result ≡ length self.now }
-        ensures whole { AllWhole self.now }
+        ensures { result ≡ length self.now }
     {
         self.frames.len()
     }
 
-    /// The byte of a home frame at a place below 4,096.
+    /// The byte of a home frame at a place below 4,096, which is 0 where the frame is not populated.
     pub fn byte(&self, frame: FrameId, at: usize) -> u8
         requires home { IsHome self.now frame }
         requires inside { at < 4096 }
-        ensures value { result ≡ slice_index (bytes_of self.now frame) at }
-        ensures whole { length (bytes_of self.now frame) ≡ 4096 }
+        ensures { result ≡ slice_index (bytes_of self.now frame) at }
     {
-        match &self.frames[frame.index()] {
-            Some(bytes) => bytes.as_slice()[at],
-            None => unreachable!(),
-        }
+        self.frames[frame.index()].byte(at)
     }
 
-    /// Puts bytes in place of those of a home frame from `at` on. They end at its 4,096 bytes' end at the latest.
+    /// Whether a home frame is populated.
+    pub fn is_populated(&self, frame: FrameId) -> bool
+        requires { IsHome self.now frame }
+        ensures { result ≡ (length (bytes_of self.now frame) == 4096) }
+    {
+        self.frames[frame.index()].is_populated()
+    }
+
+    /// Gives a home frame its 4,096 bytes in memory, zeros, unless it has them. An error means that the host is out of
+    /// memory, and that nothing has changed.
+    pub fn populate(&mut self, alloc: A, frame: FrameId) -> Result<(), AllocError>
+        requires { IsHome self.old frame }
+        ensures ok { OnOk result (self.new ≡ populated self.old frame) }
+        ensures err { OnErr result (self.new ≡ self.old) }
+    {
+        if self.is_populated(frame) {
+            return Ok(());
+        }
+        self.frames[frame.index()] = Slot::of(Bytes::zeros(alloc)?);
+        Ok(())
+    }
+
+    /// Puts bytes in place of those of a populated frame from `at` on. They end at its 4,096 bytes' end at the latest.
     pub fn write(&mut self, frame: FrameId, at: usize, bytes: &[u8])
         requires home { IsHome self.old frame }
+        requires populated { IsPopulated self.old frame }
         requires inside { at + length bytes.now ≤ 4096 }
         ensures { self.new ≡ slice_set self.old frame (Some (overwrite (bytes_of self.old frame) at bytes.now)) }
     {
@@ -80,9 +98,10 @@ impl<A: Allocator + Copy> FrameStore<A> {
         self.put_back(buf);
     }
 
-    /// Makes the bytes of a home frame zeros.
+    /// Makes the bytes of a populated frame zeros.
     pub fn zero(&mut self, frame: FrameId)
-        requires { IsHome self.old frame }
+        requires home { IsHome self.old frame }
+        requires populated { IsPopulated self.old frame }
         ensures { self.new ≡ slice_set self.old frame (Some (replicate 4096 0)) }
     {
         let mut buf = self.take_out(frame);
@@ -90,16 +109,15 @@ impl<A: Allocator + Copy> FrameStore<A> {
         self.put_back(buf);
     }
 
-    /// Takes the bytes of a home frame out. No byte is copied.
+    /// Takes the bytes of a populated frame out. No byte is copied.
     pub fn take_out(&mut self, frame: FrameId) -> FrameBuf<A>
-        requires { IsHome self.old frame }
+        requires home { IsHome self.old frame }
+        requires populated { IsPopulated self.old frame }
         ensures buf { result ≡ (frame, bytes_of self.old frame) }
         ensures out { self.new ≡ slice_set self.old frame None }
     {
-        match self.frames[frame.index()].take() {
-            Some(bytes) => FrameBuf { frame, bytes },
-            None => unreachable!(),
-        }
+        let bytes = self.frames[frame.index()].take();
+        FrameBuf { frame, bytes }
     }
 
     /// Puts the bytes of a frame that is out back home. No byte is copied.
@@ -108,6 +126,6 @@ impl<A: Allocator + Copy> FrameStore<A> {
         ensures { self.new ≡ slice_set self.old buf.0 (Some buf.1) }
     {
         let FrameBuf { frame, bytes } = buf;
-        self.frames[frame.index()] = Some(bytes);
+        self.frames[frame.index()] = Slot::of(bytes);
     }
 }

@@ -9,6 +9,9 @@ fn first_to_fifth(alloc: Global) -> Result<bool, AllocError> {
     let fourth = FrameId::new(3);
     let fifth = FrameId::new(4);
     let mut store = FrameStore::new(alloc, 8)?;
+    for frame in [first, fourth, fifth] {
+        store.populate(alloc, frame)?;
+    }
     store.write(first, 1, [61, 62].as_slice());
     store.write(fourth, 0, [64].as_slice());
     store.write(fifth, 2, [65, 66, 67].as_slice());
@@ -51,6 +54,7 @@ fn ends_of_a_frame(alloc: Global) -> Result<[u8; 4], AllocError> {
     let mut store = FrameStore::new(alloc, 2)?;
     let frame = FrameId::new(1);
     let new = store.byte(frame, 4095);
+    store.populate(alloc, frame)?;
     store.write(frame, 4094, [97, 98].as_slice());
     let written = store.byte(frame, 4094);
     store.zero(frame);

@@ -1,6 +1,5 @@
-use Rattle.std.proofs.Common.{◌≡◌, ℕ, ◌+◌, ◌-◌, ◌<◌, ◌≤◌, List, [], ◌∷◌, ◌++◌, Some, replicate, ap, ◌∙◌, arith}
+use Rattle.std.proofs.Common.{◌≡◌, ℕ, ◌+◌, ◌-◌, ◌<◌, ◌≤◌, List, [], ◌∷◌, ◌++◌, Option, Some, replicate, ap, ◌∙◌, arith}
 use Rattle.std.proofs.lemmas.List.{replicate-append-replicate}
-use Rattle.nm_frames.proofs.Homes.{new_whole}
 use Rattle.nm_frames.proofs.store.FrameStore.new.Goals as goal
 
 one_more : {X : Type 0} (before after : List X) (n : ℕ) (x y : X) → before ≡ replicate n y → x ≡ y → after ≡ before ++ (x ∷ []) → after ≡ replicate (n + 1) y
@@ -21,12 +20,8 @@ loop-smaller g c = smaller c.loop.counter c.args.frames c.loop-test.true
 
 pub loop-preserved : goal.loop-preserved
 loop-preserved g c =
-    one_more c.loop.store.items c.push.new.self.items c.loop.counter (Some c.in_ok-bytes.bytes) (Some (replicate 4096 0)) c.loop.invariant
-    (ap (λ (bytes : List ℕ). Some bytes) c.in_ok-bytes.ensures) c.in_ok-push.ensures.items
-
-pub invariant_of-result : goal.invariant_of-result
-invariant_of-result g c = new_whole c.loop.store.items c.loop.counter c.loop.invariant
+    one_more c.loop.store.items c.push.new.self.items c.loop.counter c.unused.result (Some []) c.loop.invariant c.unused.ensures c.in_ok-push.ensures.items
 
 pub returns : goal.returns
 returns g c =
-    c.loop.invariant ∙ ap (λ (n : ℕ). replicate n (Some (replicate {A = ℕ} 4096 0))) (at_end c.loop.counter c.args.frames c.loop.auto.counter-end c.loop-test.false)
+    c.loop.invariant ∙ ap (λ (n : ℕ). replicate {A = Option (List ℕ)} n (Some [])) (at_end c.loop.counter c.args.frames c.loop.auto.counter-end c.loop-test.false)
