@@ -13,3 +13,4 @@ pub mod Carried
 pub mod Touches
 pub mod Undone
 pub mod Shelves
+pub mod Populated

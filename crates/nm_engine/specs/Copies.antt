@@ -2,6 +2,7 @@
 use Rattle.std.specs.Prelude.{◌≢◌, ℕ, ◌+◌, List, [], ◌∷◌, Some, None, slice_set}
 use Rattle.std.specs.List.{fold}
 use Rattle.nm_frames.specs.declared.job.CopyJob.{CopyJob}
+use Rattle.nm_frames.specs.Populated.{IsPopulated}
 use Rattle.nm_model.specs.definitions.Frames.{Store, IsHome, IsOut, bytes_of}
 use Rattle.nm_types.specs.declared.taken.Taken.{Taken}
 
@@ -21,6 +22,10 @@ without_both store t = slice_set (slice_set store t.from None) t.to None
 abbrev pub CanCopy : Store → List Taken → Type 0
 CanCopy store [] = Unit {0}
 CanCopy store (t ∷ taken) = IsHome store t.from × IsHome store t.to × (t.from ≢ t.to) × CanCopy (without_both store t) taken
+
+-- both frames of a move have their bytes in memory
+abbrev pub HasBoth : Store → Taken → Type 0
+HasBoth store t = IsPopulated store t.from × IsPopulated store t.to
 
 -- the store while the bytes of these moves are out
 abbrev pub emptied : Store → List Taken → Store

@@ -3,6 +3,7 @@ use Rattle.std.specs.Prelude.{◌≡◌, ℕ, ◌+◌, ◌≤◌, List, [], ◌�
 use Rattle.std.specs.Option.{unwrap_or}
 use Rattle.nm_types.specs.declared.page.Page.{Page}
 use Rattle.nm_types.specs.Map.{Map, get, page_cmp}
+use Rattle.nm_frames.specs.Populated.{IsPopulated}
 use Rattle.nm_model.specs.definitions.Frames.{Store, IsHome, bytes_of, overwrite}
 use Rattle.nm_model.specs.definitions.Memory.{stretch_of}
 use Rattle.nm_model.specs.definitions.Touch.{AccessAnswer, Bytes, Done}
@@ -36,11 +37,12 @@ all_done place store (d ∷ dues) =
     let rest = all_done place (done_in place store d) dues in
     record { store = rest.store; answers = told_in place store d ∷ rest.answers }
 
--- the page is in this frame, whose bytes are home, and `len` of them from `at` on are inside it
+-- the page is in this frame, whose bytes are home and in memory, and `len` of them from `at` on are inside it
 pub record IsIn (place : Map Page ℕ) (store : Store) (page : Page) (at len : ℕ) : Type 0 where
   pub frame : ℕ
   pub placed : get page_cmp place page ≡ Some frame
   pub home : IsHome store frame
+  pub populated : IsPopulated store frame
   pub inside : at + len ≤ 4096
 
 -- it can be done

@@ -5,7 +5,8 @@ use Rattle.nm_types.specs.declared.page.Page.{Page}
 use Rattle.nm_types.specs.Map.{Map}
 use Rattle.nm_types.specs.Layout.{Layout, node_count, frame_count, owner}
 use Rattle.nm_types.specs.Nodes.{is_in}
-use Rattle.nm_model.specs.definitions.Frames.{Store, IsHome, Pool, list_of, appended}
+use Rattle.nm_model.specs.definitions.Frames.{Store, IsHome, Pool, bytes_of, list_of, appended}
+use Rattle.nm_frames.specs.Populated.{IsPopulated}
 
 -- frames by themselves
 pub record FramesView : Type 0 where
@@ -23,6 +24,12 @@ pub record HasAllFrames (k : FramesView) : Type 0 where
   pub lists : length k.free ≡ node_count k.layout
   pub buffers : length k.frames ≡ frame_count k.layout
   pub home : (frame : ℕ) → frame < frame_count k.layout → IsHome k.frames frame
+
+-- frames that are home stay so, and those that have their bytes in memory keep them
+pub record KeepsBytes (old new : Store) : Type 0 where
+  pub as_many : length new ≡ length old
+  pub home : (frame : ℕ) → IsHome old frame → IsHome new frame
+  pub bytes : (frame : ℕ) → IsPopulated old frame → bytes_of new frame ≡ bytes_of old frame
 
 -- the free frames of a node
 abbrev pub free_on : FramesView → ℕ → List ℕ

@@ -6,7 +6,7 @@ ghost use Rattle.nm_types.specs.Nodes.{is_in};
 ghost use Rattle.nm_model.specs.definitions.Touch.{has_free};
 ghost use Rattle.nm_model.specs.definitions.Frames.{list_of, with_list, appended, prepended};
 ghost use Rattle.std.specs.List.{AllByRecursion};
-ghost use Rattle.nm_engine.specs.Copies.{CanCopy, with_copies, emptied};
+ghost use Rattle.nm_engine.specs.Copies.{CanCopy, HasBoth, with_copies, emptied};
 ghost use Rattle.nm_model.specs.definitions.Early.{tos};
 ghost use Rattle.nm_engine.specs.Finishing.{all_done, CanDo};
 ghost use Rattle.nm_engine.specs.Answering.{answer_shown, due_shown, HasRoom};
@@ -14,7 +14,8 @@ ghost use Rattle.nm_model.specs.definitions.Run.{left};
 ghost use Rattle.nm_model.specs.definitions.Frames.{IsHome, bytes_of, overwrite};
 ghost use Rattle.nm_model.specs.definitions.Sound.{is_audited, numbered};
 ghost use Rattle.nm_model.specs.definitions.Frames.{all_frames};
-ghost use Rattle.nm_engine.specs.Frames.{HasAllFrames, free_on, pool_of, all_freed, CanFree, CanReturn, with_freed};
+ghost use Rattle.nm_engine.specs.Frames.{HasAllFrames, KeepsBytes, free_on, pool_of, all_freed, CanFree, CanReturn, with_freed};
+ghost use Rattle.nm_frames.specs.Populated.{IsPopulated};
 ghost use Rattle.nm_model.specs.definitions.Memory.{stretch_of};
 
 mod copying;
@@ -48,6 +49,8 @@ pub(crate) struct Frames<A: Allocator + Copy> {
 
 impl<A: Allocator + Copy> Model for Frames<A> {
     ghost use Rattle.std.specs.Prelude.{◌≡◌, [], min, vec_capacity};
+    ghost use Rattle.std.specs.List.{AllByRecursion};
+    ghost use Rattle.nm_frames.specs.Populated.{IsPopulated};
     ghost use Rattle.nm_engine.specs.Frames.{FramesView, HasAllFrames};
 
     ghost Value = { FramesView };
@@ -66,7 +69,7 @@ impl<A: Allocator + Copy> Model for Frames<A> {
       free = s.nodes.lists;
       vacated = s.vacated.items;
       room = min (vec_capacity s.vacated) (vec_capacity s.jobs);
-    }) × (s.jobs.items ≡ []) };
+    }) × (s.jobs.items ≡ []) × AllByRecursion (IsPopulated s.frames) s.vacated.items };
 }
 
 impl<A: Allocator + Copy> Frames<A> {
@@ -196,9 +199,33 @@ impl<A: Allocator + Copy> Frames<A> {
         copy_bytes(&self.frames, frame, at, len, bytes);
     }
 
+    /// Gives a frame its bytes in memory, unless it has them. An error means that the host is out of memory.
+    pub(crate) fn populate(&mut self, alloc: A, frame: FrameId) -> Result<(), AllocError>
+        requires { frame < frame_count self.old.layout }
+        ensures kept { KeepsBytes self.old.frames self.new.frames }
+        ensures same { self.new ≡ record (self.old) { frames = self.new.frames } }
+        ensures populated { OnOk result (IsPopulated self.new.frames frame) }
+        ensures shelf { HasAllFrames self.new }
+    {
+        populate(&mut self.frames, alloc, frame)
+    }
+
+    /// Gives the frames that pages of moves take their bytes in memory, as far as they lack them. An error means that the
+    /// host is out of memory.
+    pub(crate) fn populate_each(&mut self, alloc: A, moves: &[Taken]) -> Result<(), AllocError>
+        requires { AllByRecursion (λ frame. frame < frame_count self.old.layout) (tos moves.now) }
+        ensures kept { KeepsBytes self.old.frames self.new.frames }
+        ensures same { self.new ≡ record (self.old) { frames = self.new.frames } }
+        ensures populated { OnOk result (AllByRecursion (IsPopulated self.new.frames) (tos moves.now)) }
+        ensures shelf { HasAllFrames self.new }
+    {
+        populate_each(&mut self.frames, alloc, moves)
+    }
+
     /// Puts bytes in place of those of a frame from `at` on.
     pub(crate) fn write(&mut self, frame: FrameId, at: usize, bytes: &[u8])
         requires frame { frame < frame_count self.old.layout }
+        requires populated { IsPopulated self.old.frames frame }
         requires inside { at + length bytes.now ≤ 4096 }
         ensures written { self.new ≡ record (self.old) { frames = slice_set self.old.frames frame (Some (overwrite (bytes_of self.old.frames frame) at bytes.now)) } }
         ensures shelf { HasAllFrames self.old }
@@ -208,7 +235,8 @@ impl<A: Allocator + Copy> Frames<A> {
 
     /// Puts zeros in place of all bytes of a frame.
     pub(crate) fn zero(&mut self, frame: FrameId)
-        requires { frame < frame_count self.old.layout }
+        requires frame { frame < frame_count self.old.layout }
+        requires populated { IsPopulated self.old.frames frame }
         ensures { self.new ≡ record (self.old) { frames = slice_set self.old.frames frame (Some (replicate 4096 0)) } }
     {
         self.frames.zero(frame);
@@ -235,6 +263,7 @@ impl<A: Allocator + Copy> Frames<A> {
     pub(crate) fn take_for(&mut self, node: NodeId, moves: &[Taken])
         requires node { node < node_count self.old.layout }
         requires room { length self.old.vacated + length moves.now ≤ self.old.room }
+        requires populated { AllByRecursion (IsPopulated self.old.frames) (tos moves.now) }
         ensures taken { self.new ≡ record (self.old) { free = slice_set self.old.free node (drop (length moves.now) (free_on self.old node)); vacated = self.old.vacated ++ tos moves.now } }
         ensures shelf { HasAllFrames self.old }
     {
@@ -255,8 +284,10 @@ impl<A: Allocator + Copy> Frames<A> {
 
     /// The pages of these moves leave their frames, which become free at the run's end, for those that were taken for them.
     pub(crate) fn vacate_each(&mut self, moves: &[Taken])
-        requires { length moves.now ≤ self.old.room }
+        requires room { length moves.now ≤ self.old.room }
+        requires populated { AllByRecursion (IsPopulated self.old.frames) (left moves.now) }
         ensures vacated { self.new ≡ record (self.old) { vacated = left moves.now } }
+        ensures populated { AllByRecursion (IsPopulated self.old.frames) self.old.vacated }
         ensures shelf { HasAllFrames self.old }
     {
         self.vacated.clear();
@@ -313,6 +344,7 @@ impl<A: Allocator + Copy + Send + Sync> Frames<A> {
         answers: Vec<AccessAnswer<A>, A>,
     ) -> Vec<AccessAnswer<A>, A>
         requires can { CanCopy self.old.frames moves.now }
+        requires populated { AllByRecursion (HasBoth self.old.frames) moves.now }
         requires few { length moves.now ≤ self.old.room }
         requires due { AllByRecursion (CanDo spaces.now.place (emptied self.old.frames moves.now)) (map (due_shown accesses.now) dues.items) }
         requires room { AllByRecursion HasRoom dues.items }
@@ -336,6 +368,36 @@ impl<A: Allocator + Copy + Send + Sync> Frames<A> {
         self.jobs = jobs;
         answers
     }
+}
+
+/// Gives a frame its bytes in memory, unless it has them. An error means that the host is out of memory.
+fn populate<A: Allocator + Copy>(
+    frames: &mut FrameStore<A>,
+    alloc: A,
+    frame: FrameId,
+) -> Result<(), AllocError>
+    requires { IsHome frames.old frame }
+    ensures kept { KeepsBytes frames.old frames.new }
+    ensures populated { OnOk result (IsPopulated frames.new frame) }
+{
+    frames.populate(alloc, frame)
+}
+
+/// Gives the frames that pages of moves take their bytes in memory, as far as they lack them. An error means that the host
+/// is out of memory.
+fn populate_each<A: Allocator + Copy>(
+    frames: &mut FrameStore<A>,
+    alloc: A,
+    moves: &[Taken],
+) -> Result<(), AllocError>
+    requires { AllByRecursion (IsHome frames.old) (tos moves.now) }
+    ensures kept { KeepsBytes frames.old frames.new }
+    ensures populated { OnOk result (AllByRecursion (IsPopulated frames.new) (tos moves.now)) }
+{
+    for taken in moves {
+        populate(frames, alloc, taken.to)?;
+    }
+    Ok(())
 }
 
 /// Takes `count` frames from the front of a node's list.

@@ -9,9 +9,9 @@ fn first_to_fifth(alloc: Global) -> Result<bool, AllocError> {
     let fourth = FrameId::new(3);
     let fifth = FrameId::new(4);
     let mut store = FrameStore::new(alloc, 8)?;
-    for frame in [first, fourth, fifth] {
-        store.populate(alloc, frame)?;
-    }
+    store.populate(alloc, first)?;
+    store.populate(alloc, fourth)?;
+    store.populate(alloc, fifth)?;
     store.write(first, 1, [61, 62].as_slice());
     store.write(fourth, 0, [64].as_slice());
     store.write(fifth, 2, [65, 66, 67].as_slice());

@@ -7,14 +7,15 @@ use Rattle.std.specs.Ordering.{is_eq}
 use Rattle.std.specs.Cmp.{tied_itself}
 use Rattle.std.proofs.lemmas.Bool.{or_left}
 use Rattle.nm_types.specs.declared.page.Page.{Page}
-use Rattle.nm_types.specs.Layout.{frame_count, node_count}
+use Rattle.nm_types.specs.Layout.{frame_count, node_count, node_of}
 use Rattle.nm_types.specs.Map.{Map, get, page_cmp, same_page, with_values}
 use Rattle.nm_types.specs.State.{State}
 use Rattle.nm_types.proofs.Maps.{page_cmp_total, keys-values}
 use Rattle.nm_model.specs.definitions.Frames.{Store, IsHome, overwrite}
 use Rattle.nm_types.specs.declared.taken.Taken.{Taken}
 use Rattle.nm_engine.specs.AddressSpaces.{SpacesView, with_moved, table_of}
-use Rattle.nm_engine.specs.Copies.{without_both, emptied, with_copies, CanCopy}
+use Rattle.nm_frames.specs.Populated.{IsPopulated}
+use Rattle.nm_engine.specs.Copies.{without_both, emptied, with_copies, CanCopy, HasBoth}
 use Rattle.nm_engine.specs.Frames.{FramesView, HasAllFrames, free_on}
 use Rattle.nm_model.specs.definitions.Touch.{AllAnswered}
 use Rattle.nm_laws.specs.Laws.{with_moves}
@@ -28,8 +29,9 @@ use Rattle.nm_model.specs.definitions.Early.{Due, Known, ToRead, ToWrite, at_pag
 use Rattle.nm_engine.specs.Finishing.{Finished, all_done, IsIn, CanDo}
 use Rattle.nm_laws.proofs.Soundness.Frames.{here, times_cons}
 use Rattle.nm_laws.proofs.Soundness.Once.{counted_place}
-use Rattle.nm_engine.proofs.Together.Carried.{by_parts, all_carried, IsCarried, is_carried, carried_copy}
-use Rattle.nm_engine.proofs.Together.Copies.{stays_home, copies_home}
+use Rattle.nm_engine.proofs.Together.Carried.{by_parts, all_carried, all_taken, tos_are, IsCarried, is_carried, carried_copy}
+use Rattle.nm_engine.proofs.Together.Copies.{stays_home, stays_populated, copies_home}
+use Rattle.nm_engine.proofs.Together.Populated.{place_populated, left_populated, all_leave, both_populated, copies_populated}
 use Rattle.nm_laws.proofs.Seen.Frames.{place_in_range}
 use Rattle.nm_engine.proofs.Early.Finished.{all_done_shows, finished_as}
 use Rattle.nm_laws.proofs.Early.Kept.{beside}
@@ -102,6 +104,12 @@ one_here f = ap (λ b. cond b 1 0) (Rattle.std.proofs.Common.eq-eqb f f refl)
 none_here : (f g : ℕ) (xs : List ℕ) → times f (g ∷ xs) ≡ 0 → f ≢ g
 none_here f g xs none e = let one : here f g ≡ 1 = ap (here f) (sym e) ∙ one_here f in omega (arith, none, one, times_cons f g xs)
 
+populated_meanwhile : (taken : List Taken) (store : Store) (f : ℕ) → times f (left taken) ≡ 0 → times f (tos taken) ≡ 0 → IsPopulated store f → IsPopulated (emptied store taken) f
+populated_meanwhile [] store f from to whole = whole
+populated_meanwhile (t ∷ taken) store f from to whole =
+    populated_meanwhile taken (without_both store t) f (omega (arith, from, times_cons f t.from (left taken))) (omega (arith, to, times_cons f t.to (tos taken)))
+    (stays_populated store t f (none_here f t.from (left taken) from) (none_here f t.to (tos taken) to) whole)
+
 home_meanwhile : (taken : List Taken) (store : Store) (f : ℕ) → times f (left taken) ≡ 0 → times f (tos taken) ≡ 0 → IsHome store f → IsHome (emptied store taken) f
 home_meanwhile [] store f from to home = home
 home_meanwhile (t ∷ taken) store f from to home =
@@ -149,12 +157,13 @@ module _ (y : SpacesView) (k : FramesView) (online : List ℕ) (moved failed tar
     pub back : IsSound state_given
     pub can : CanMove state_given target taken
     pub due : AllByRecursion (IsDue (pages_of taken) (shown_by y k online moved failed)) dues
+    pub populated : AllByRecursion (IsPopulated k.frames) k.vacated
 
   -- by what is known of the machine
   pub prepared : (x : MidRun) → record { state = shown_by y k online moved failed; left = k.vacated; room = k.room } ≡ x → IsKept (shown_by y k online moved failed) k.vacated y.frames → HasAllFrames k
       → target < node_count x.state.layout → x.left ≡ tos taken → IsSound (with_fronts (x.state) target (tos taken)) → CanMove (with_fronts (x.state) target (tos taken)) target taken
-      → AllByRecursion (IsDue (pages_of taken) (x.state)) dues → IsPrepared
-  prepared x is kept shelf inside taken_now sound can due =
+      → AllByRecursion (IsDue (pages_of taken) (x.state)) dues → AllByRecursion (IsPopulated k.frames) k.vacated → IsPrepared
+  prepared x is kept shelf inside taken_now sound can due populated =
       let same = ap (λ (z : MidRun). node_count z.state.layout) is in
       record {
         kept = kept;
@@ -164,7 +173,20 @@ module _ (y : SpacesView) (k : FramesView) (online : List ℕ) (moved failed tar
         back = subst (λ (z : MidRun). IsSound (with_fronts (z.state) target (tos taken))) (sym is) sound;
         can = subst (λ (z : MidRun). CanMove (with_fronts (z.state) target (tos taken)) target taken) (sym is) can;
         due = subst (λ (z : MidRun). AllByRecursion (IsDue (pages_of taken) (z.state)) dues) (sym is) due;
+        populated = populated;
       }
+
+  -- the frames that pages leave have their bytes in memory
+  lefts : IsSound state_given → CanMove state_given target taken → AllByRecursion (IsPopulated k.frames) (left taken)
+  lefts sound can =
+      let on : AllByRecursion (λ f. node_of k.layout f ≡ target) (tos taken) =
+      subst (AllByRecursion (λ f. node_of k.layout f ≡ target)) (sym (tos_are taken state_given target can)) (all_taken (length taken) (free_on given target) k.layout target (sound.frames.own target)) in
+      left_populated taken state_given target k.frames sound.bytes.whole (all_leave taken state_given target on can)
+
+  pub lefts_populated : (x : MidRun) → record { state = shown_by y k online moved failed; left = k.vacated; room = k.room } ≡ x
+      → IsSound (with_fronts (x.state) target (tos taken)) → CanMove (with_fronts (x.state) target (tos taken)) target taken → AllByRecursion (IsPopulated k.frames) (left taken)
+  lefts_populated x is sound can =
+      lefts (subst (λ (z : MidRun). IsSound (with_fronts (z.state) target (tos taken))) (sym is) sound) (subst (λ (z : MidRun). CanMove (with_fronts (z.state) target (tos taken)) target taken) (sym is) can)
 
   module _ (h : IsPrepared) where
     shelf_given : HasAllFrames given
@@ -185,6 +207,9 @@ module _ (y : SpacesView) (k : FramesView) (online : List ℕ) (moved failed tar
     pub can_copy : CanCopy k.frames taken
     can_copy = carried_copy taken y given online moved failed target kept_given shelf_given inside_given h.can done
 
+    pub both_whole : AllByRecursion (HasBoth k.frames) taken
+    both_whole = both_populated taken k.frames (lefts h.back h.can) (subst (AllByRecursion (IsPopulated k.frames)) h.reserved h.populated)
+
     all_is : all_carried target given taken ≡ frames_then
     all_is = by_parts taken target given inside_given ∙ ap (λ (f : List (List ℕ)). record frames_then { free = f }) (again_list taken k.free target h.inside)
 
@@ -194,37 +219,39 @@ module _ (y : SpacesView) (k : FramesView) (online : List ℕ) (moved failed tar
     kept_then : IsKept (shown_by spaces_then frames_then online moved failed) (left taken) spaces_then.frames
     kept_then = subst (λ (x : FramesView). IsKept (shown_by spaces_then x online moved failed) x.vacated spaces_then.frames) all_is done.kept
 
-    -- the page of what is left to do stands in a frame that is home meanwhile
-    page_in : (store : Store) → ((f : ℕ) → times f (left taken) ≡ 0 → times f (tos taken) ≡ 0 → IsHome k.frames f → IsHome store f)
+    -- frames that no move names are home and have their bytes in memory
+    abbrev Beside : Store → Type 0
+    Beside store =
+        (f : ℕ) → times f (left taken) ≡ 0 → times f (tos taken) ≡ 0 → IsHome k.frames f → IsPopulated k.frames f → IsHome store f × IsPopulated store f
+
+    -- the page of what is left to do is in a frame that is home meanwhile
+    page_in : (store : Store) → Beside store
         → (p : Page) (at len : ℕ) (o : Option ℕ) → get page_cmp y.place p ≡ o → IsSome o → list_any (same_page p) (pages_of taken) ≡ false → at + len ≤ 4096 → IsIn spaces_then.place store p at len
     page_in store homes p at len None e some other fits = cc
     page_in store homes p at len (Some f) e some other fits =
         let placed : get page_cmp spaces_then.place p ≡ Some f = moved_beside taken y p other ∙ e in
-        record {
-          frame = f;
-          placed = placed;
-          home = homes f (placed_apart (shown_by spaces_then frames_then online moved failed) (left taken) p f kept_then.sound placed)
-              (subst (λ (l : List ℕ). times f l ≡ 0) h.reserved (placed_apart (shown_by y k online moved failed) k.vacated p f h.kept.sound e))
-              (h.shelf.home f (place_in_range (shown_by y k online moved failed) k.vacated p f h.kept.sound e));
-          inside = fits;
-        }
+        let there = homes f (placed_apart (shown_by spaces_then frames_then online moved failed) (left taken) p f kept_then.sound placed)
+        (subst (λ (l : List ℕ). times f l ≡ 0) h.reserved (placed_apart (shown_by y k online moved failed) k.vacated p f h.kept.sound e))
+        (h.shelf.home f (place_in_range (shown_by y k online moved failed) k.vacated p f h.kept.sound e))
+        (place_populated k.frames y.place p f h.kept.sound.bytes.whole e) in
+        record { frame = f; placed = placed; home = there.0; populated = there.1; inside = fits }
 
-    one_can : (store : Store) → ((f : ℕ) → times f (left taken) ≡ 0 → times f (tos taken) ≡ 0 → IsHome k.frames f → IsHome store f)
+    one_can : (store : Store) → Beside store
         → (d : Due) → IsDue (pages_of taken) (shown_by y k online moved failed) d → CanDo spaces_then.place store d
     one_can store homes (Known answer) due = tt
     one_can store homes (ToRead page at len) due = page_in store homes page at len (get page_cmp y.place page) refl due.0 due.1 due.2
     one_can store homes (ToWrite page at new) due = page_in store homes page at (length new) (get page_cmp y.place page) refl due.0 due.1 due.2
 
-    all_can : (store : Store) → ((f : ℕ) → times f (left taken) ≡ 0 → times f (tos taken) ≡ 0 → IsHome k.frames f → IsHome store f)
+    all_can : (store : Store) → Beside store
         → (ds : List Due) → AllByRecursion (IsDue (pages_of taken) (shown_by y k online moved failed)) ds → AllByRecursion (CanDo spaces_then.place store) ds
     all_can store homes [] due = tt
     all_can store homes (d ∷ ds) due = (one_can store homes d due.0, all_can store homes ds due.1)
 
     pub can_meanwhile : AllByRecursion (CanDo spaces_then.place (emptied k.frames taken)) dues
-    can_meanwhile = all_can (emptied k.frames taken) (λ f from to home. home_meanwhile taken k.frames f from to home) dues h.due
+    can_meanwhile = all_can (emptied k.frames taken) (λ f from to home whole. (home_meanwhile taken k.frames f from to home, populated_meanwhile taken k.frames f from to whole)) dues h.due
 
     can_after : AllByRecursion (CanDo spaces_then.place (with_copies k.frames taken)) dues
-    can_after = all_can (with_copies k.frames taken) (λ f from to home. copies_home taken k.frames f home) dues h.due
+    can_after = all_can (with_copies k.frames taken) (λ f from to home whole. (copies_home taken k.frames f home, copies_populated taken k.frames f both_whole whole)) dues h.due
 
     abbrev pub finished : Finished
     finished = all_done spaces_then.place (with_copies k.frames taken) dues

@@ -83,7 +83,7 @@ module _ (processes : Map ℕ Process) (table : Table) (online : List ℕ) (move
     all_done_shows [] store can = refl
     all_done_shows (d ∷ dues) store can =
         let next = done_in x.place store d in
-        ap (told_first (told_in x.place store d)) (all_done_shows dues next (all_can_then x.place store d dues can.1) ∙ ap (λ (s : State). all_made s dues) (done_shows store d can.0))
+        ap (told_first (told_in x.place store d)) (all_done_shows dues next (all_can_then x.place store d dues can.0 can.1) ∙ ap (λ (s : State). all_made s dues) (done_shows store d can.0))
         ∙ ap (λ a. told_first a (all_made (made (with_store x store) d) dues)) (told_shows store d can.0)
       where
         told_first : AccessAnswer → AllAnswered → AllAnswered

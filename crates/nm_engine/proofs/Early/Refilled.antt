@@ -1,5 +1,5 @@
 -- What is done on the bytes that are home while others are out is done as well once those are back.
-use Rattle.std.proofs.Common.{◌≡◌, ◌≢◌, ℕ, List, [], ◌∷◌, map, refl, sym, ap, subst, ◌∙◌, arith, length-set}
+use Rattle.std.proofs.Common.{◌≡◌, ◌≢◌, ℕ, ◌+◌, ◌≤◌, List, [], ◌∷◌, length, map, refl, sym, ap, subst, ◌∙◌, arith, length-set}
 use Rattle.std.specs.Prelude.{Option, Some, None, slice_index_or, slice_set}
 use Rattle.std.specs.Option.{unwrap_or}
 use Rattle.std.specs.List.{AllByRecursion}
@@ -18,6 +18,7 @@ use Rattle.nm_model.specs.definitions.Early.{Due, Known, ToRead, ToWrite}
 use Rattle.nm_engine.specs.Finishing.{frame_at, done_in, told_in, Finished, all_done, CanDo}
 use Rattle.nm_engine.proofs.Together.Free.{home_bytes}
 use Rattle.nm_engine.proofs.Together.Copies.{can_refill, home_set, refilled_is}
+use Rattle.nm_engine.proofs.Together.Populated.{written_populated}
 
 abbrev at : Store → ℕ → Option (List ℕ)
 at store f = slice_index_or store f None
@@ -32,19 +33,31 @@ still_out store f q bytes apart out = record {
 }
 
 -- what can be done can be done after something else
-can_beside : (place : Map Page ℕ) (store : Store) (f : ℕ) (bytes : List ℕ) (d : Due) → CanDo place store d → CanDo place (slice_set store f (Some bytes)) d
-can_beside place store f bytes (Known answer) can = tt
-can_beside place store f bytes (ToRead page i len) can = record { frame = can.frame; placed = can.placed; home = home_set store f can.frame bytes can.home; inside = can.inside }
-can_beside place store f bytes (ToWrite page i new) can = record { frame = can.frame; placed = can.placed; home = home_set store f can.frame bytes can.home; inside = can.inside }
+can_beside : (place : Map Page ℕ) (store : Store) (f i : ℕ) (new : List ℕ) (d : Due) → i + length new ≤ 4096 → CanDo place store d → CanDo place (slice_set store f (Some (overwrite (bytes_of store f) i new))) d
+can_beside place store f i new (Known answer) fits can = tt
+can_beside place store f i new (ToRead page j len) fits can = record {
+  frame = can.frame;
+  placed = can.placed;
+  home = home_set store f can.frame (overwrite (bytes_of store f) i new) can.home;
+  populated = written_populated store f can.frame i new fits can.populated;
+  inside = can.inside;
+}
+can_beside place store f i new (ToWrite page j other) fits can = record {
+  frame = can.frame;
+  placed = can.placed;
+  home = home_set store f can.frame (overwrite (bytes_of store f) i new) can.home;
+  populated = written_populated store f can.frame i new fits can.populated;
+  inside = can.inside;
+}
 
-can_then : (place : Map Page ℕ) (store : Store) (d e : Due) → CanDo place store e → CanDo place (done_in place store d) e
-can_then place store (Known answer) e can = can
-can_then place store (ToRead page i len) e can = can
-can_then place store (ToWrite page i new) e can = can_beside place store (frame_at place page) (overwrite (bytes_of store (frame_at place page)) i new) e can
+can_then : (place : Map Page ℕ) (store : Store) (d e : Due) → CanDo place store d → CanDo place store e → CanDo place (done_in place store d) e
+can_then place store (Known answer) e first can = can
+can_then place store (ToRead page i len) e first can = can
+can_then place store (ToWrite page i new) e first can = can_beside place store (frame_at place page) i new e first.inside can
 
-pub all_can_then : (place : Map Page ℕ) (store : Store) (d : Due) (dues : List Due) → AllByRecursion (CanDo place store) dues → AllByRecursion (CanDo place (done_in place store d)) dues
-all_can_then place store d [] can = tt
-all_can_then place store d (e ∷ dues) can = (can_then place store d e can.0, all_can_then place store d dues can.1)
+pub all_can_then : (place : Map Page ℕ) (store : Store) (d : Due) (dues : List Due) → CanDo place store d → AllByRecursion (CanDo place store) dues → AllByRecursion (CanDo place (done_in place store d)) dues
+all_can_then place store d [] first can = tt
+all_can_then place store d (e ∷ dues) first can = (can_then place store d e first can.0, all_can_then place store d dues first can.1)
 
 abbrev told_first : AccessAnswer → Finished → Finished
 told_first a rest = record { store = rest.store; answers = a ∷ rest.answers }
@@ -116,7 +129,7 @@ module _ {A : Type 0} where
   all_after [] place jobs store can doable = (refl, can)
   all_after (d ∷ dues) place jobs store can doable =
       let now = after place jobs store d can doable.0 in
-      let rest = all_after dues place jobs (done_in place store d) now.can (all_can_then place store d dues doable.1) in (
+      let rest = all_after dues place jobs (done_in place store d) now.can (all_can_then place store d dues doable.0 doable.1) in (
         ap (told_first (told_in place store d)) (rest.0 ∙ ap (λ (x : Store). all_done place x dues) now.later)
             ∙ ap (λ a. told_first a (all_done place (done_in place (refilled store jobs) d) dues)) now.told,
         rest.1,

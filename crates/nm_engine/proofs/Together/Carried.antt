@@ -179,7 +179,7 @@ all_fine (t ∷ taken) s g k target e f shelf can below under on =
       all_fine taken (with_move target s t) g k target e f shelf can.3 (λ q some. below q (omega (arith, some, times_cons q t.from (left taken)))) (λ q some. under q (omega (arith, some, times_cons q t.to (tos taken)))) on.1,
     )
 
-all_taken : (n : ℕ) (xs : List ℕ) (g : Layout) (target : ℕ) → AllByRecursion (λ f. node_of g f ≡ target) xs → AllByRecursion (λ f. node_of g f ≡ target) (take n xs)
+pub all_taken : (n : ℕ) (xs : List ℕ) (g : Layout) (target : ℕ) → AllByRecursion (λ f. node_of g f ≡ target) xs → AllByRecursion (λ f. node_of g f ≡ target) (take n xs)
 all_taken zero xs g target all = tt
 all_taken (suc n) [] g target all = tt
 all_taken (suc n) (x ∷ xs) g target all = (all.0, all_taken n xs g target all.1)
@@ -217,3 +217,19 @@ carried_copy taken y k online moved failed target kept shelf inside can done =
     (subst (AllByRecursion (λ f. node_of g f ≡ target)) (sym on) (all_taken n list g target (start.own target))))
     (λ f. at_most_one (times f places) (sum_by (times f) whole.free) (times f k.vacated) (times f (left taken)) (times f (k.vacated ++ left taken)) _ (ends.once f) (times_both f k.vacated (left taken)))
     (λ f. let most = taken_few f in at_most (times f (values_of y.place)) (sum_by (times f) k.free) (times f k.vacated) (times f (tos taken)) _ (start.once f) most)
+
+-- what holds of each frame that is in a list
+each_in : (P : ℕ → Type 0) (xs : List ℕ) → ((f : ℕ) → 1 ≤ times f xs → P f) → AllByRecursion P xs
+each_in P [] h = tt
+each_in P (x ∷ xs) h = (h x (omega (arith, one_here x, times_cons x x xs)), each_in P xs (λ f some. h f (omega (arith, some, times_cons f x xs))))
+
+-- the frames that moves take are the machine's
+pub tos_below : (taken : List Taken) (s : State) (target : ℕ) (left : List ℕ) → target < length s.free → FramesAreOnce s.layout s.place s.free left → CanMove s target taken → AllByRecursion (λ f. f < frame_count s.layout) (tos taken)
+tos_below taken s target left inside once can =
+    let n = length taken in
+    let list = free_list s target in
+    subst (AllByRecursion (λ f. f < frame_count s.layout)) (sym (tos_are taken s target can))
+    (each_in (λ f. f < frame_count s.layout) (take n list) (λ f some.
+    let parted : times f list ≡ times f (take n list) + times f (drop n list) = sym (ap (times f) (take-append-drop n list)) ∙ times_both f (take n list) (drop n list) in
+    let part = sum_by_more_le (times f) s.free target [] inside in
+    counted_below (times f (values_of s.place)) (sum_by (times f) s.free) (times f left) f (frame_count s.layout) (once.once f) (omega (arith, some, parted, part))))

@@ -4,11 +4,13 @@ use Rattle.std.specs.Prelude.{Option, Some, None, slice_get, slice_index_or, sli
 use Rattle.std.proofs.lemmas.List.{get_or-set_same, get_or-set_other, set_comm}
 use Rattle.std.proofs.lemmas.Bool.{cases_eq}
 use Rattle.std.specs.Option.{unwrap_or}
+use Rattle.std.specs.List.{AllByRecursion}
 use Rattle.nm_frames.specs.declared.job.CopyJob.{CopyJob}
 use Rattle.nm_frames.specs.Job.{copied}
+use Rattle.nm_frames.specs.Populated.{IsPopulated}
 use Rattle.nm_model.specs.definitions.Frames.{Store, IsHome, IsOut, bytes_of}
 use Rattle.nm_types.specs.declared.taken.Taken.{Taken}
-use Rattle.nm_engine.specs.Copies.{with_copy, with_copies, without_both, CanCopy, emptied, with_buf, jobs_of, with_job, refilled, CanRefill}
+use Rattle.nm_engine.specs.Copies.{with_copy, with_copies, without_both, CanCopy, HasBoth, emptied, with_buf, jobs_of, with_job, refilled, CanRefill}
 use Rattle.nm_engine.proofs.Together.Free.{copied_frame, home_bytes}
 
 -- what is at a frame
@@ -66,6 +68,10 @@ module _ (store : Store) (t : Taken) where
     here = subst (λ (o : Option (List ℕ)). IsSome o) (sym (untouched q a b)) home.here;
   }
 
+  -- others keep their bytes in memory
+  pub stays_populated : (q : ℕ) → q ≢ t.from → q ≢ t.to → IsPopulated store q → IsPopulated (without_both store t) q
+  stays_populated q a b whole = ap (λ (o : Option (List ℕ)). length (unwrap_or o [])) (untouched q a b) ∙ whole
+
 -- what is home stays so where another frame gets bytes
 home_beside : (store : Store) (f q : ℕ) (bytes : List ℕ) → q ≢ f → IsHome store q → IsHome (slice_set store f (Some bytes)) q
 home_beside store f q bytes apart home = record {
@@ -94,6 +100,18 @@ can_where_more (t ∷ taken) g h covers can = (
   can.2,
   can_where_more taken (without_both g t) (without_both h t) (λ q home. stays_home h t q (not_from g t q home) (not_to g t q home) (covers q (was_home g t q home))) can.3,
 )
+
+-- the frames of later moves keep their bytes in memory while those of one move are out
+pub both_without : (taken : List Taken) (store : Store) (t : Taken) → CanCopy (without_both store t) taken → AllByRecursion (HasBoth store) taken → AllByRecursion (HasBoth (without_both store t)) taken
+both_without [] store t can both = tt
+both_without (u ∷ taken) store t can both =
+    let g = without_both store t in (
+      (
+        stays_populated store t u.from (not_from store t u.from can.0) (not_to store t u.from can.0) both.0.0,
+        stays_populated store t u.to (not_from store t u.to can.1) (not_to store t u.to can.1) both.0.1,
+      ),
+      both_without taken store t (can_where_more taken (without_both g u) g (λ q home. was_home g u q home) can.3) both.1,
+    )
 
 after_copy : (taken : List Taken) (store : Store) (t : Taken) → CanCopy (without_both store t) taken → CanCopy (with_copy store t) taken
 after_copy taken store t can =

@@ -51,13 +51,13 @@ all_home n k bytes lt =
     }
 
 -- the frames of a new machine, all of them home
-pub new_shelf : (g : Layout) (frames : Store) (free : List (List ℕ)) (vacated : List ℕ) (room n : ℕ) → n ≡ frame_count g → frames ≡ replicate n (Some (replicate 4096 0)) → free ≡ all_frames 0 g.sizes
+pub new_shelf : (g : Layout) (frames : Store) (free : List (List ℕ)) (vacated : List ℕ) (room n : ℕ) → n ≡ frame_count g → frames ≡ replicate n (Some []) → free ≡ all_frames 0 g.sizes
     → HasAllFrames (record { layout = g; frames = frames; free = free; vacated = vacated; room = room })
 new_shelf g frames free vacated room n count f l =
     record {
       lists = ap length l ∙ (new_frames g).lists;
-      buffers = ap length f ∙ (length-replicate n (Some (replicate 4096 0)) ∙ count);
-      home = λ k lt. subst (λ fs. IsHome fs k) (sym f) (all_home n k (replicate 4096 0) (omega (arith, lt, count)));
+      buffers = ap length f ∙ (length-replicate {A = Option (List ℕ)} n (Some []) ∙ count);
+      home = λ k lt. subst (λ fs. IsHome fs k) (sym f) (all_home n k [] (omega (arith, lt, count)));
     }
 
 -- as many lists after frames were freed

@@ -1,15 +1,20 @@
 -- What a machine's frames keep where one part of them changes.
-use Rattle.std.proofs.Common.{◌≡◌, ℕ, ◌<◌, List, length, sym, ap, subst, ◌∙◌, arith, length-set}
+use Rattle.std.proofs.Common.{◌≡◌, ℕ, ◌<◌, List, [], ◌∷◌, length, sym, ap, subst, ◌∙◌, arith, length-set}
 use Rattle.std.specs.Prelude.{Some, slice_set}
+use Rattle.std.specs.List.{AllByRecursion}
 use Rattle.nm_types.specs.Layout.{node_count, frame_count}
 use Rattle.nm_model.specs.definitions.Frames.{Store, IsHome}
 use Rattle.nm_model.specs.definitions.Frames.{Pool}
-use Rattle.nm_engine.specs.Frames.{FramesView, HasAllFrames, CanFree, pool_of}
+use Rattle.nm_engine.specs.Frames.{FramesView, HasAllFrames, KeepsBytes, CanFree, pool_of}
 use Rattle.nm_engine.proofs.Together.Copies.{home_set}
 
 -- what holds of the view `v` holds of the fields `k` behind it
 pub seen_home : (k v : FramesView) (f : ℕ) → k ≡ v → HasAllFrames k → f < frame_count v.layout → IsHome k.frames f
 seen_home k v f e shelf below = shelf.home f (subst (λ (x : FramesView). f < frame_count x.layout) (sym e) below)
+
+pub all_home : (fs : List ℕ) (k v : FramesView) → k ≡ v → HasAllFrames k → AllByRecursion (λ f. f < frame_count v.layout) fs → AllByRecursion (IsHome k.frames) fs
+all_home [] k v e shelf below = tt
+all_home (f ∷ fs) k v e shelf below = (seen_home k v f e shelf below.0, all_home fs k v e shelf below.1)
 
 pub seen_node : (k v : FramesView) (node : ℕ) → k ≡ v → HasAllFrames k → node < node_count v.layout → node < length k.free
 seen_node k v node e shelf below =
@@ -23,6 +28,10 @@ bytes_set k frames f bytes is shelf = record {
   buffers = ap (λ (s : Store). length s) is ∙ length-set k.frames f (Some bytes) ∙ shelf.buffers;
   home = λ q below. subst (λ (s : Store). IsHome s q) (sym is) (home_set k.frames f q bytes (shelf.home q below));
 }
+
+-- the store keeps its bytes
+pub store_kept : (k : FramesView) (frames : Store) → KeepsBytes k.frames frames → HasAllFrames k → HasAllFrames (record k { frames = frames })
+store_kept k frames kept shelf = record { lists = shelf.lists; buffers = kept.as_many ∙ shelf.buffers; home = λ f below. kept.home f (shelf.home f below) }
 
 -- one node's list changes
 pub list_set : (k : FramesView) (p q : Pool) (node : ℕ) (xs vacated : List ℕ) (room : ℕ) → q ≡ record { sizes = p.sizes; lists = slice_set p.lists node xs } → length p.lists ≡ node_count k.layout → HasAllFrames k

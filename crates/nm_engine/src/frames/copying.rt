@@ -2,7 +2,7 @@
 
 ghost use Rattle.std.specs.Prelude.{◌≡◌, ◌+◌, ◌<◌, ◌≤◌, ◌++◌, [], map, length, slice_get, IsSome, vec_len, vec_capacity};
 ghost use Rattle.std.specs.List.{AllByRecursion};
-ghost use Rattle.nm_engine.specs.Copies.{with_copies, CanCopy, emptied, jobs_of, refilled, CanRefill};
+ghost use Rattle.nm_engine.specs.Copies.{with_copies, CanCopy, HasBoth, emptied, jobs_of, refilled, CanRefill};
 ghost use Rattle.nm_engine.specs.Finishing.{all_done, done_in, told_in, frame_at, CanDo};
 ghost use Rattle.nm_types.specs.Map.{get, page_cmp};
 ghost use Rattle.nm_engine.specs.Answering.{answer_shown, due_shown, written_by, HasRoom};
@@ -39,6 +39,7 @@ pub(super) fn copy_pages<
     answers: Vec<AccessAnswer<A>, A>,
 ) -> (Vec<CopyJob<A>, A>, Vec<AccessAnswer<A>, A>)
     requires can { CanCopy frames.old moves.now }
+    requires populated { AllByRecursion (HasBoth frames.old) moves.now }
     requires empty { jobs.items ≡ [] }
     requires few { length moves.now ≤ vec_capacity jobs }
     requires due { AllByRecursion (CanDo spaces.now.place (emptied frames.old moves.now)) (map (due_shown accesses.now) dues.items) }
@@ -76,6 +77,7 @@ fn take_out_each<A: Allocator + Copy>(
     jobs: &mut Vec<CopyJob<A>, A>,
 )
     requires can { CanCopy frames.old moves.now }
+    requires populated { AllByRecursion (HasBoth frames.old) moves.now }
     requires room { vec_len jobs.old + length moves.now ≤ vec_capacity jobs.old }
     ensures frames { frames.new ≡ emptied frames.old moves.now }
     ensures jobs { jobs.new.items ≡ jobs.old.items ++ jobs_of (vec_len jobs.old) frames.old moves.now }

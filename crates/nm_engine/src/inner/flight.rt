@@ -47,7 +47,7 @@ impl<A: Allocator + Copy> Inner<A> {
         ensures sound { IsSound self.old.state }
         ensures err { OnErr result (self.new ≡ self.old) }
     {
-        self.take_frames(target, moves);
+        self.take_frames(target, moves)?;
         match self.prepare(moves, accesses) {
             Ok(dues) => Ok(dues),
             Err(error) => {
@@ -58,18 +58,22 @@ impl<A: Allocator + Copy> Inner<A> {
     }
 
     /// Takes the frames of moves to a node: they no longer belong to a node's list, but to the run, until its pages
-    /// stand in them.
-    fn take_frames(&mut self, target: NodeId, moves: &[Taken])
+    /// are in them. Each gets its bytes in memory. An error means that the host is out of memory, and that all is as it
+    /// was.
+    fn take_frames(&mut self, target: NodeId, moves: &[Taken]) -> Result<(), AllocError>
         requires target { target < node_count self.old.state.layout }
         requires room { length moves.now ≤ self.old.room }
         requires none { self.old.left ≡ [] }
         requires moves { CanMove self.old.state target moves.now }
-        ensures state { self.new.state ≡ without_fronts self.old.state target (length moves.now) }
-        ensures left { self.new.left ≡ tos moves.now }
-        ensures room { self.new.room ≡ self.old.room }
+        ensures state { OnOk result (self.new.state ≡ without_fronts self.old.state target (length moves.now)) }
+        ensures left { OnOk result (self.new.left ≡ tos moves.now) }
+        ensures room { OnOk result (self.new.room ≡ self.old.room) }
         ensures sound { IsSound self.old.state }
+        ensures err { OnErr result (self.new ≡ self.old) }
     {
+        self.frames.populate_each(self.alloc, moves)?;
         self.frames.take_for(target, moves);
+        Ok(())
     }
 
     /// Makes ready what accesses come to while the pages of these moves are on their way. An error means that the host

@@ -152,6 +152,7 @@ impl<A: Allocator + Copy> Inner<A> {
         let Some(frame) = self.frames.front(node) else {
             unreachable!()
         };
+        self.frames.populate(self.alloc, frame)?;
         self.spaces.allocate(t.pid, t.vpn, page, frame)?;
         self.frames.take_front(node);
         self.frames.zero(frame);

@@ -13,7 +13,7 @@ loop-k-preserved g c =
     let rest = stretch_of bytes (k + 1) (end - (k + 1)) in
     record {
       copied = ap (λ xs. xs ++ rest) c.push_reserved.ensures.items ∙ append_assoc c.loop-k.bytes.items (c.byte.result ∷ []) rest
-          ∙ ap (λ b. c.loop-k.bytes.items ++ b ∷ rest) c.byte.ensures.value ∙ ap (λ xs. c.loop-k.bytes.items ++ xs) (sym (stretch_step bytes k end c.loop-k-test.true))
+          ∙ ap (λ b. c.loop-k.bytes.items ++ b ∷ rest) c.byte.ensures ∙ ap (λ xs. c.loop-k.bytes.items ++ xs) (sym (stretch_step bytes k end c.loop-k-test.true))
           ∙ c.loop-k.invariant.copied;
       end = refl;
       room = omega (arith, c.loop-k.invariant.room, c.loop-k-test.true, c.push_reserved.ensures.len, c.push_reserved.ensures.capacity);

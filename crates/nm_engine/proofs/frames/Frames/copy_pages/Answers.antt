@@ -3,11 +3,13 @@ use Rattle.std.specs.Prelude.{min, vec_capacity}
 use Rattle.std.specs.List.{AllByRecursion}
 use Rattle.nm_model.specs.definitions.Frames.{Store, IsHome}
 use Rattle.nm_engine.specs.Answering.{due_shown}
-use Rattle.nm_engine.specs.Copies.{CanCopy, with_copies, emptied}
+use Rattle.nm_frames.specs.Populated.{IsPopulated}
+use Rattle.nm_engine.specs.Copies.{CanCopy, HasBoth, with_copies, emptied}
 use Rattle.nm_engine.specs.Finishing.{all_done, CanDo}
 use Rattle.nm_engine.specs.Frames.{FramesView}
 use Rattle.nm_engine.proofs.Together.Copies.{copies_as_many, copies_home}
 use Rattle.nm_engine.proofs.Early.Finished.{done_as_many, done_home}
+use Rattle.nm_engine.proofs.Together.Populated.{after_populated}
 use Rattle.nm_engine.proofs.frames.Frames.copy_pages.Goals as goal
 
 pub invariant_of-self : goal.invariant_of-self
@@ -25,7 +27,15 @@ invariant_of-self g c =
         home = λ f below. subst (λ (s : Store). IsHome s f) (sym is) (done_home place dues copied f (copies_home moves k.frames f (c.self.invariant.1.home f below)));
       },
       c.copy_pages-jobs.ensures.empty,
+      subst (λ (s : Store). AllByRecursion (IsPopulated s) k.vacated.items) (sym is)
+          (after_populated k.vacated.items place dues moves (emptied k.frames moves) k.frames
+          (subst (λ (v : FramesView). AllByRecursion (HasBoth v.frames) moves) (sym c.self.view_is) c.requires.populated)
+          (subst (λ (v : FramesView). AllByRecursion (CanDo place (emptied v.frames moves)) dues) (sym c.self.view_is) c.requires.due)
+          c.self.invariant.3),
     )
+
+pub copy_pages-jobs-requires-clause-populated : goal.copy_pages-jobs-requires-clause-populated
+copy_pages-jobs-requires-clause-populated g c κs within = subst (λ (k : FramesView). AllByRecursion (HasBoth k.frames) c.args.moves.now) (sym c.self.view_is) c.requires.populated
 
 pub copy_pages-jobs-requires-clause-can : goal.copy_pages-jobs-requires-clause-can
 copy_pages-jobs-requires-clause-can g c κs within = subst (λ (k : FramesView). CanCopy k.frames c.args.moves.now) (sym c.self.view_is) c.requires.can

@@ -15,6 +15,7 @@ invariant_of-self g c = (
   ap (λ (p : Pool). p.sizes) c.append.ensures ∙ c.self.invariant.0,
   list_set _ c.self.inside.nodes c.append.new.self (owner c.self.inside.nodes.sizes c.args.frame) _ _ _ c.append.ensures c.self.invariant.1.lists c.self.invariant.1,
   c.self.invariant.2,
+  c.self.invariant.3,
 )
 
 pub returns : goal.returns

@@ -1,4 +1,6 @@
 use Rattle.std.proofs.Common.{◌≡◌, ℕ, List, [], min, length, vec_capacity, ap, sym, subst, ◌∙◌}
+use Rattle.std.specs.List.{AllByRecursion}
+use Rattle.nm_frames.specs.Populated.{IsPopulated}
 use Rattle.nm_model.specs.definitions.Frames.{Pool}
 use Rattle.nm_engine.specs.Frames.{FramesView, CanFree, pool_of, with_freed, all_freed}
 use Rattle.nm_engine.proofs.Together.Free.{lists_stay, sizes_stay}
@@ -14,6 +16,7 @@ invariant_of-self g c =
         home = c.self.invariant.1.home;
       },
       c.self.invariant.2,
+      subst (AllByRecursion (IsPopulated c.self.inside.frames)) (sym c.clear.ensures.items) tt,
     )
 
 pub free_frames-requires : goal.free_frames-requires

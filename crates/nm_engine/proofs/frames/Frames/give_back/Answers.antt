@@ -1,4 +1,6 @@
 use Rattle.std.proofs.Common.{ℕ, List, ap, sym, subst, ◌∙◌}
+use Rattle.std.specs.List.{AllByRecursion}
+use Rattle.nm_frames.specs.Populated.{IsPopulated}
 use Rattle.nm_model.specs.definitions.Frames.{Pool}
 use Rattle.nm_model.specs.definitions.Early.{tos}
 use Rattle.nm_engine.specs.Frames.{FramesView, HasAllFrames, CanReturn, pool_of}
@@ -18,6 +20,7 @@ invariant_of-self g c = (
   ap (λ (p : Pool). p.sizes) c.return_tos.ensures ∙ c.self.invariant.0,
   list_set _ c.self.inside.nodes c.return_tos.new.nodes c.args.node _ _ _ c.return_tos.ensures c.self.invariant.1.lists c.self.invariant.1,
   c.self.invariant.2,
+  subst (AllByRecursion (IsPopulated c.self.inside.frames)) (sym c.clear.ensures.items) tt,
 )
 
 pub returns-clause-shelf : goal.returns-clause-shelf

@@ -1,4 +1,6 @@
-use Rattle.std.proofs.Common.{ap}
+use Rattle.std.proofs.Common.{ap, sym, subst}
+use Rattle.std.specs.List.{AllByRecursion}
+use Rattle.nm_frames.specs.Populated.{IsPopulated}
 use Rattle.nm_model.specs.definitions.Frames.{Pool}
 use Rattle.nm_engine.proofs.Together.Free.{new_shelf}
 use Rattle.nm_engine.proofs.frames.Frames.new.Goals as goal
@@ -9,6 +11,7 @@ invariant_of-result g c = (
   new_shelf c.args.geometry c.in_ok-frames.frames c.in_ok-nodes.nodes.lists c.new-3.result.items _ c.frame_count.result
       c.frame_count.ensures c.in_ok-frames.ensures (ap (λ (p : Pool). p.lists) c.in_ok-nodes.ensures),
   c.new-4.ensures.items,
+  subst (AllByRecursion (IsPopulated c.in_ok-frames.frames)) (sym c.new-3.ensures.items) tt,
 )
 
 pub returns-clause-shelf : goal.returns-clause-shelf

@@ -1,4 +1,6 @@
-use Rattle.std.proofs.Common.{ℕ, List, min, ap, ◌∙◌, arith, vec_capacity}
+use Rattle.std.proofs.Common.{ℕ, List, min, ap, sym, subst, ◌∙◌, arith, vec_capacity}
+use Rattle.std.specs.List.{AllByRecursion}
+use Rattle.nm_frames.specs.Populated.{IsPopulated}
 use Rattle.std.proofs.lemmas.Result.{on_ok_weaker}
 use Rattle.nm_engine.specs.Frames.{FramesView}
 use Rattle.nm_engine.proofs.frames.Frames.reserve.Goals as goal
@@ -6,12 +8,12 @@ use Rattle.nm_engine.proofs.frames.Frames.reserve.Goals as goal
 pub invariant_of-self : goal.invariant_of-self
 invariant_of-self g c =
     let shelf = c.self.invariant.1 in
-    (c.self.invariant.0, record { lists = shelf.lists; buffers = shelf.buffers; home = shelf.home }, c.self.invariant.2)
+    (c.self.invariant.0, record { lists = shelf.lists; buffers = shelf.buffers; home = shelf.home }, c.self.invariant.2, subst (AllByRecursion (IsPopulated c.self.inside.frames)) (sym c.reserve.ensures.items) c.self.invariant.3)
 
 pub invariant_of-self-2 : goal.invariant_of-self-2
 invariant_of-self-2 g c =
     let shelf = c.self.invariant.1 in
-    (c.self.invariant.0, record { lists = shelf.lists; buffers = shelf.buffers; home = shelf.home }, c.reserve-2.ensures.items ∙ c.self.invariant.2)
+    (c.self.invariant.0, record { lists = shelf.lists; buffers = shelf.buffers; home = shelf.home }, c.reserve-2.ensures.items ∙ c.self.invariant.2, subst (AllByRecursion (IsPopulated c.self.inside.frames)) (sym c.in_ok-reserve.ensures.items) c.self.invariant.3)
 
 pub returns-clause-room : goal.returns-clause-room
 returns-clause-room g c =

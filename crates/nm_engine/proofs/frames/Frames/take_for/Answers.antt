@@ -1,9 +1,12 @@
 use Rattle.std.proofs.Common.{ℕ, List, ◌+◌, ◌≤◌, ◌++◌, min, length, drop, vec_capacity, ap, sym, subst, ◌∙◌, arith}
 use Rattle.std.specs.Prelude.{slice_set}
+use Rattle.std.specs.List.{AllByRecursion}
+use Rattle.nm_frames.specs.Populated.{IsPopulated}
 use Rattle.nm_model.specs.definitions.Frames.{Pool, list_of}
 use Rattle.nm_engine.specs.Frames.{FramesView, HasAllFrames, free_on}
 use Rattle.nm_model.specs.definitions.Early.{tos}
 use Rattle.nm_engine.proofs.Together.Shelves.{seen_node, list_set}
+use Rattle.nm_engine.proofs.Together.Populated.{all_joined}
 use Rattle.nm_engine.proofs.frames.Frames.take_for.Goals as goal
 
 pub take_fronts-requires : goal.take_fronts-requires
@@ -14,6 +17,9 @@ invariant_of-self g c = (
   ap (λ (p : Pool). p.sizes) c.take_fronts.ensures ∙ c.self.invariant.0,
   list_set _ c.self.inside.nodes c.take_fronts.new.nodes c.args.node _ _ _ c.take_fronts.ensures c.self.invariant.1.lists c.self.invariant.1,
   c.self.invariant.2,
+  subst (AllByRecursion (IsPopulated c.self.inside.frames)) (sym c.push_tos.ensures.items)
+      (all_joined c.self.inside.frames c.self.inside.vacated.items (tos c.args.moves.now) c.self.invariant.3
+      (subst (λ (v : FramesView). AllByRecursion (IsPopulated v.frames) (tos c.args.moves.now)) (sym c.self.view_is) c.requires.populated)),
 )
 
 pub returns-clause-shelf : goal.returns-clause-shelf

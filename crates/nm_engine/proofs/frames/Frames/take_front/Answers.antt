@@ -12,6 +12,7 @@ invariant_of-self g c = (
   ap (λ (p : Pool). p.sizes) c.take_front.ensures.rest ∙ c.self.invariant.0,
   list_set _ c.self.inside.nodes c.take_front.new.self c.args.node _ _ _ c.take_front.ensures.rest c.self.invariant.1.lists c.self.invariant.1,
   c.self.invariant.2,
+  c.self.invariant.3,
 )
 
 pub returns-clause-shelf : goal.returns-clause-shelf

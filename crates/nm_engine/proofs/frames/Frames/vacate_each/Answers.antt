@@ -1,4 +1,6 @@
 use Rattle.std.proofs.Common.{ℕ, List, ◌≤◌, ◌++◌, min, length, vec_capacity, ap, sym, subst, ◌∙◌, arith}
+use Rattle.std.specs.List.{AllByRecursion}
+use Rattle.nm_frames.specs.Populated.{IsPopulated}
 use Rattle.nm_engine.specs.Frames.{FramesView, HasAllFrames}
 use Rattle.nm_model.specs.definitions.Run.{left}
 use Rattle.nm_engine.proofs.frames.Frames.vacate_each.Goals as goal
@@ -6,14 +8,23 @@ use Rattle.nm_engine.proofs.frames.Frames.vacate_each.Goals as goal
 pub invariant_of-self : goal.invariant_of-self
 invariant_of-self g c =
     let shelf = c.self.invariant.1 in
-    (c.self.invariant.0, record { lists = shelf.lists; buffers = shelf.buffers; home = shelf.home }, c.self.invariant.2)
+    let k = c.self.inside in
+    let items = c.push_left.ensures.items ∙ ap (λ xs. xs ++ left c.args.moves.now) c.clear.ensures.items in (
+      c.self.invariant.0,
+      record { lists = shelf.lists; buffers = shelf.buffers; home = shelf.home },
+      c.self.invariant.2,
+      subst (AllByRecursion (IsPopulated k.frames)) (sym items) (subst (λ (v : FramesView). AllByRecursion (IsPopulated v.frames) (left c.args.moves.now)) (sym c.self.view_is) c.requires.populated),
+    )
+
+pub returns-clause-populated : goal.returns-clause-populated
+returns-clause-populated g c = subst (λ (v : FramesView). AllByRecursion (IsPopulated v.frames) v.vacated) c.self.view_is c.self.invariant.3
 
 pub returns-clause-shelf : goal.returns-clause-shelf
 returns-clause-shelf g c = subst HasAllFrames c.self.view_is c.self.invariant.1
 
 pub push_left-requires : goal.push_left-requires
 push_left-requires g c =
-    let fits = subst (λ (v : FramesView). length c.args.moves.now ≤ v.room) (sym c.self.view_is) c.requires in
+    let fits = subst (λ (v : FramesView). length c.args.moves.now ≤ v.room) (sym c.self.view_is) c.requires.room in
     omega (arith, fits, c.clear.ensures.len, c.clear.ensures.capacity)
 
 pub returns-clause-vacated : goal.returns-clause-vacated

@@ -1,8 +1,11 @@
-use Rattle.std.proofs.Common.{subst}
+use Rattle.std.proofs.Common.{sym, subst}
+use Rattle.std.specs.List.{AllByRecursion}
+use Rattle.nm_frames.specs.Populated.{IsPopulated}
 use Rattle.std.specs.Prelude.{Some, slice_set}
 use Rattle.nm_model.specs.definitions.Frames.{Store, bytes_of, overwrite}
-use Rattle.nm_engine.specs.Frames.{HasAllFrames}
+use Rattle.nm_engine.specs.Frames.{FramesView, HasAllFrames}
 use Rattle.nm_engine.proofs.Together.Shelves.{seen_home, bytes_set, frames_changed}
+use Rattle.nm_engine.proofs.Together.Populated.{all_written}
 use Rattle.nm_engine.proofs.frames.Frames.write.Goals as goal
 
 pub write-requires-clause-home : goal.write-requires-clause-home
@@ -12,7 +15,16 @@ pub write-requires-clause-inside : goal.write-requires-clause-inside
 write-requires-clause-inside g c = c.requires.inside
 
 pub invariant_of-self : goal.invariant_of-self
-invariant_of-self g c = (c.self.invariant.0, bytes_set _ c.write.new.self c.args.frame _ c.write.ensures c.self.invariant.1, c.self.invariant.2)
+invariant_of-self g c = (
+  c.self.invariant.0,
+  bytes_set _ c.write.new.self c.args.frame _ c.write.ensures c.self.invariant.1,
+  c.self.invariant.2,
+  subst (λ (s : Store). AllByRecursion (IsPopulated s) c.self.inside.vacated.items) (sym c.write.ensures)
+      (all_written c.self.inside.vacated.items c.self.inside.frames c.args.frame c.args.at c.args.bytes.now c.requires.inside c.self.invariant.3),
+)
+
+pub write-requires-clause-populated : goal.write-requires-clause-populated
+write-requires-clause-populated g c = subst (λ (v : FramesView). IsPopulated v.frames c.args.frame) (sym c.self.view_is) c.requires.populated
 
 pub returns-clause-written : goal.returns-clause-written
 returns-clause-written g c =

@@ -51,7 +51,7 @@ loop-due-preserved g c =
     let len = ap length step in
     let more = ap length c.push_reserved.ensures.items ∙ length-append c.loop-due.answers.items _ in
     record {
-      due = subst (λ (s : Store). AllByRecursion (CanDo place s) (map shown rest)) (sym there) (all_can_then place store (shown one) (map shown rest) can.1);
+      due = subst (λ (s : Store). AllByRecursion (CanDo place s) (map shown rest)) (sym there) (all_can_then place store (shown one) (map shown rest) can.0 can.1);
       room = (subst (λ ds. AllByRecursion HasRoom ds) step c.loop-due.invariant.room).1;
       store = ap (λ (s : Store). (all_done place s (map shown rest)).store) there ∙ ap (λ ds. (all_done place store (map shown ds)).store) (sym step) ∙ c.loop-due.invariant.store;
       answers =

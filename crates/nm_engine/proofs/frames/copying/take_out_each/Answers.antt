@@ -1,12 +1,15 @@
 use Rattle.std.proofs.Common.{◌≡◌, ◌≢◌, ℕ, ◌+◌, List, [], ◌∷◌, ◌++◌, length, drop, IsSome, refl, ap, sym, subst, ◌∙◌, arith, append_assoc, length-set}
 use Rattle.std.specs.Prelude.{Option, None, slice_set, vec_len}
 use Rattle.std.specs.Option.{unwrap_or}
+use Rattle.std.specs.List.{AllByRecursion}
 use Rattle.std.proofs.Math.ListN.{drop_of_length-le}
 use Rattle.std.proofs.lemmas.List.{append-nil, get_or-set_other}
 use Rattle.nm_frames.specs.declared.job.CopyJob.{CopyJob}
+use Rattle.nm_frames.specs.Populated.{IsPopulated}
 use Rattle.nm_model.specs.definitions.Frames.{Store, IsHome, bytes_of}
 use Rattle.nm_types.specs.declared.taken.Taken.{Taken}
-use Rattle.nm_engine.specs.Copies.{without_both, CanCopy, emptied, jobs_of}
+use Rattle.nm_engine.specs.Copies.{without_both, CanCopy, HasBoth, emptied, jobs_of}
+use Rattle.nm_engine.proofs.Together.Copies.{both_without}
 use Rattle.nm_engine.proofs.Together.Paces.{drop_item}
 use Rattle.nm_engine.proofs.frames.copying.take_out_each.Goals as goal
 
@@ -21,13 +24,26 @@ home_beside store f q apart home = record {
 same_bytes : (store : Store) (f q : ℕ) → f ≢ q → bytes_of (slice_set store f None) q ≡ bytes_of store q
 same_bytes store f q apart = ap (λ (o : Option (List ℕ)). unwrap_or o []) (get_or-set_other store f q None None (λ e. apart (sym e)))
 
-pub take_out-source-requires : goal.take_out-source-requires
-take_out-source-requires g c =
+pub take_out-source-requires-clause-populated : goal.take_out-source-requires-clause-populated
+take_out-source-requires-clause-populated g c =
+    let at = drop_item c.args.moves.now c.loop-taken.taken-index c.taken-item.result c.loop-taken-test.true c.taken-item.is in
+    (subst (AllByRecursion (HasBoth c.loop-taken.frames)) at c.loop-taken.invariant.populated).0.0
+
+pub take_out-target-requires-clause-populated : goal.take_out-target-requires-clause-populated
+take_out-target-requires-clause-populated g c =
+    let t = c.taken-item.result in
+    let at = drop_item c.args.moves.now c.loop-taken.taken-index t c.loop-taken-test.true c.taken-item.is in
+    let can = subst (CanCopy c.loop-taken.frames) at c.loop-taken.invariant.can in
+    let both = subst (AllByRecursion (HasBoth c.loop-taken.frames)) at c.loop-taken.invariant.populated in
+    subst (λ (s : Store). IsPopulated s t.to) (sym c.take_out-source.ensures.out) (ap (λ (bytes : List ℕ). length bytes) (same_bytes c.loop-taken.frames t.from t.to can.2) ∙ both.0.1)
+
+pub take_out-source-requires-clause-home : goal.take_out-source-requires-clause-home
+take_out-source-requires-clause-home g c =
     let at = drop_item c.args.moves.now c.loop-taken.taken-index c.taken-item.result c.loop-taken-test.true c.taken-item.is in
     (subst (CanCopy c.loop-taken.frames) at c.loop-taken.invariant.can).0
 
-pub take_out-target-requires : goal.take_out-target-requires
-take_out-target-requires g c =
+pub take_out-target-requires-clause-home : goal.take_out-target-requires-clause-home
+take_out-target-requires-clause-home g c =
     let t = c.taken-item.result in
     let at = drop_item c.args.moves.now c.loop-taken.taken-index t c.loop-taken-test.true c.taken-item.is in
     let can = subst (CanCopy c.loop-taken.frames) at c.loop-taken.invariant.can in
@@ -45,6 +61,7 @@ loop-taken-preserved g c =
     let at = drop_item moves k t c.loop-taken-test.true c.taken-item.is in
     let less = ap (λ (ts : List Taken). length ts) at in
     let can = subst (CanCopy store) at c.loop-taken.invariant.can in
+    let both = subst (AllByRecursion (HasBoth store)) at c.loop-taken.invariant.populated in
     let now : c.take_out-target.new.self ≡ without_both store t = c.take_out-target.ensures.out ∙ ap (λ (s : Store). slice_set s t.to None) c.take_out-source.ensures.out in
     let bytes = ap (λ (s : Store). bytes_of s t.to) c.take_out-source.ensures.out ∙ same_bytes store t.from t.to can.2 in
     let job : ℕ × List ℕ → ℕ × List ℕ → ℕ → CopyJob g.row.A.Denot = λ s b ticket. record { source = s; target = b; ticket = ticket } in
@@ -53,6 +70,7 @@ loop-taken-preserved g c =
     let later = jobs_of {A = g.row.A.Denot} (vec_len c.push_reserved.new.self) c.take_out-target.new.self rest in
     record {
       can = subst (λ (s : Store). CanCopy s rest) (sym now) can.3;
+      populated = subst (λ (s : Store). AllByRecursion (HasBoth s) rest) (sym now) (both_without rest store t can.3 both.1);
       frames = ap (λ (s : Store). emptied s rest) now ∙ ap (emptied store) (sym at) ∙ c.loop-taken.invariant.frames;
       jobs =
           ap (λ xs. xs ++ later) c.push_reserved.ensures.items
@@ -81,6 +99,7 @@ returns-clause-jobs g c =
 pub loop-taken-init : goal.loop-taken-init
 loop-taken-init g c = record {
   can = c.requires.can;
+  populated = c.requires.populated;
   frames = refl;
   jobs = refl;
   fits = c.requires.room;

@@ -2,14 +2,14 @@ use Rattle.std.proofs.Common.{map, ap, sym, subst, ◌∙◌}
 use Rattle.std.specs.List.{AllByRecursion}
 use Rattle.nm_engine.specs.AddressSpaces.{SpacesView}
 use Rattle.nm_engine.specs.Answering.{due_shown}
-use Rattle.nm_engine.specs.Copies.{CanCopy, emptied, with_copies}
+use Rattle.nm_engine.specs.Copies.{CanCopy, HasBoth, emptied, with_copies}
 use Rattle.nm_model.specs.definitions.Early.{all_made, with_fronts, tos}
 use Rattle.nm_engine.specs.Finishing.{all_done, CanDo}
 use Rattle.nm_engine.specs.Frames.{FramesView}
 use Rattle.nm_laws.specs.Laws.{with_moves}
 use Rattle.nm_engine.specs.MidRun.{MidRun, IsKept}
 use Rattle.nm_engine.specs.Shown.{shown_by}
-use Rattle.nm_engine.proofs.Early.Carrying.{spaces_then, copied_frames, prepared, remap, can_copy, can_meanwhile, finished_shows, finished_told, finished_kept}
+use Rattle.nm_engine.proofs.Early.Carrying.{spaces_then, copied_frames, prepared, lefts_populated, both_whole, remap, can_copy, can_meanwhile, finished_shows, finished_told, finished_kept}
 use Rattle.nm_engine.proofs.inner.Inner.carry_out.Goals as goal
 
 pub move_pages-requires : goal.move_pages-requires
@@ -21,7 +21,7 @@ move_pages-requires g c =
     let t = c.args.target in
     let dues = map (due_shown c.args.accesses.now) c.args.dues.items in
     let h = prepared y k i.online i.totals.moved i.totals.failed t moves dues c.args.self.now c.self.view_is c.self.invariant c.vacate_each.ensures.shelf
-    c.requires.target c.requires.taken c.requires.sound c.requires.moves c.requires.due in
+    c.requires.target c.requires.taken c.requires.sound c.requires.moves c.requires.due c.vacate_each.ensures.populated in
     remap y k i.online i.totals.moved i.totals.failed t moves dues h
 
 pub copy_pages-requires-clause-can : goal.copy_pages-requires-clause-can
@@ -33,8 +33,26 @@ copy_pages-requires-clause-can g c κs within =
     let t = c.args.target in
     let dues = map (due_shown c.args.accesses.now) c.args.dues.items in
     let h = prepared y k i.online i.totals.moved i.totals.failed t moves dues c.args.self.now c.self.view_is c.self.invariant c.vacate_each.ensures.shelf
-    c.requires.target c.requires.taken c.requires.sound c.requires.moves c.requires.due in
+    c.requires.target c.requires.taken c.requires.sound c.requires.moves c.requires.due c.vacate_each.ensures.populated in
     subst (λ (v : FramesView). CanCopy v.frames moves) (sym c.vacate_each.ensures.vacated) (can_copy y k i.online i.totals.moved i.totals.failed t moves dues h)
+
+pub copy_pages-requires-clause-populated : goal.copy_pages-requires-clause-populated
+copy_pages-requires-clause-populated g c κs within =
+    let i = c.self.inside in
+    let y = i.spaces in
+    let k : FramesView = i.frames in
+    let moves = c.args.moves.now in
+    let t = c.args.target in
+    let dues = map (due_shown c.args.accesses.now) c.args.dues.items in
+    let h = prepared y k i.online i.totals.moved i.totals.failed t moves dues c.args.self.now c.self.view_is c.self.invariant c.vacate_each.ensures.shelf
+    c.requires.target c.requires.taken c.requires.sound c.requires.moves c.requires.due c.vacate_each.ensures.populated in
+    subst (λ (v : FramesView). AllByRecursion (HasBoth v.frames) moves) (sym c.vacate_each.ensures.vacated) (both_whole y k i.online i.totals.moved i.totals.failed t moves dues h)
+
+pub vacate_each-requires-clause-populated : goal.vacate_each-requires-clause-populated
+vacate_each-requires-clause-populated g c =
+    let i = c.self.inside in
+    let dues = map (due_shown c.args.accesses.now) c.args.dues.items in
+    lefts_populated i.spaces i.frames i.online i.totals.moved i.totals.failed c.args.target c.args.moves.now dues c.args.self.now c.self.view_is c.requires.sound c.requires.moves
 
 pub copy_pages-requires-clause-due : goal.copy_pages-requires-clause-due
 copy_pages-requires-clause-due g c κs within =
@@ -45,7 +63,7 @@ copy_pages-requires-clause-due g c κs within =
     let t = c.args.target in
     let dues = map (due_shown c.args.accesses.now) c.args.dues.items in
     let h = prepared y k i.online i.totals.moved i.totals.failed t moves dues c.args.self.now c.self.view_is c.self.invariant c.vacate_each.ensures.shelf
-    c.requires.target c.requires.taken c.requires.sound c.requires.moves c.requires.due in
+    c.requires.target c.requires.taken c.requires.sound c.requires.moves c.requires.due c.vacate_each.ensures.populated in
     subst (λ (z : SpacesView). AllByRecursion (CanDo z.place (emptied c.vacate_each.new.self.frames moves)) dues) (sym c.move_pages.ensures)
     (subst (λ (v : FramesView). AllByRecursion (CanDo (spaces_then y k i.online i.totals.moved i.totals.failed t moves dues).place (emptied v.frames moves)) dues) (sym c.vacate_each.ensures.vacated) (can_meanwhile y k i.online i.totals.moved i.totals.failed t moves dues h))
 
@@ -58,7 +76,7 @@ invariant_of-self g c =
     let t = c.args.target in
     let dues = map (due_shown c.args.accesses.now) c.args.dues.items in
     let h = prepared y k i.online i.totals.moved i.totals.failed t moves dues c.args.self.now c.self.view_is c.self.invariant c.vacate_each.ensures.shelf
-    c.requires.target c.requires.taken c.requires.sound c.requires.moves c.requires.due in
+    c.requires.target c.requires.taken c.requires.sound c.requires.moves c.requires.due c.vacate_each.ensures.populated in
     let w = c.copy_pages.new.self in
     let is = copied_frames y k i.online i.totals.moved i.totals.failed t moves dues c.vacate_each.new.self w c.move_pages.new.self c.vacate_each.ensures.vacated c.move_pages.ensures c.copy_pages.ensures.frames in
     subst (λ (z : SpacesView). IsKept (shown_by z w i.online i.totals.moved i.totals.failed) w.vacated z.frames) (sym c.move_pages.ensures) (finished_kept y k i.online i.totals.moved i.totals.failed t moves dues h w is)
@@ -72,7 +90,7 @@ returns-clause-state g c =
     let t = c.args.target in
     let dues = map (due_shown c.args.accesses.now) c.args.dues.items in
     let h = prepared y k i.online i.totals.moved i.totals.failed t moves dues c.args.self.now c.self.view_is c.self.invariant c.vacate_each.ensures.shelf
-    c.requires.target c.requires.taken c.requires.sound c.requires.moves c.requires.due in
+    c.requires.target c.requires.taken c.requires.sound c.requires.moves c.requires.due c.vacate_each.ensures.populated in
     let w = c.copy_pages.new.self in
     let is = copied_frames y k i.online i.totals.moved i.totals.failed t moves dues c.vacate_each.new.self w c.move_pages.new.self c.vacate_each.ensures.vacated c.move_pages.ensures c.copy_pages.ensures.frames in
     ap (λ (z : SpacesView). shown_by z w i.online i.totals.moved i.totals.failed) c.move_pages.ensures ∙ finished_shows y k i.online i.totals.moved i.totals.failed t moves dues h w is
@@ -87,7 +105,7 @@ returns-clause-answers g c =
     let t = c.args.target in
     let dues = map (due_shown c.args.accesses.now) c.args.dues.items in
     let h = prepared y k i.online i.totals.moved i.totals.failed t moves dues c.args.self.now c.self.view_is c.self.invariant c.vacate_each.ensures.shelf
-    c.requires.target c.requires.taken c.requires.sound c.requires.moves c.requires.due in
+    c.requires.target c.requires.taken c.requires.sound c.requires.moves c.requires.due c.vacate_each.ensures.populated in
     c.copy_pages.ensures.answers
     ∙ ap (λ (v : FramesView). (all_done c.move_pages.new.self.place (with_copies v.frames moves) dues).answers) c.vacate_each.ensures.vacated
     ∙ ap (λ (z : SpacesView). (all_done z.place (with_copies k.frames moves) dues).answers) c.move_pages.ensures

@@ -8,12 +8,15 @@ use Rattle.nm_model.specs.definitions.Seen.{sight_in, sight_at}
 use Rattle.nm_model.specs.definitions.Order.{first_touch_order}
 use Rattle.nm_model.specs.definitions.Touch.{filled, first_free}
 use Rattle.nm_types.specs.Layout.{frame_count}
+use Rattle.nm_frames.specs.Populated.{IsPopulated}
 use Rattle.nm_engine.specs.AddressSpaces.{SpacesView, table_of, with_new_page}
 use Rattle.nm_engine.specs.Frames.{FramesView, free_on}
 use Rattle.nm_engine.specs.Shown.{shown, shown_by, paged_frames}
 use Rattle.nm_engine.specs.MidRun.{MidRun, IsKept, IsResolved, spot_at}
 use Rattle.nm_model.specs.definitions.Seen.{frame_of}
 use Rattle.nm_engine.proofs.Together.Joint.{kept_stocked, front_spare, stocked_both}
+use Rattle.nm_engine.proofs.Together.Populated.{same_shown, kept_again, view_again}
+use Rattle.nm_engine.proofs.inner.HandedOn.{nothing_touched}
 use Rattle.nm_engine.proofs.Together.Touches.{inside, found_free, no_front, short_list, sees_now, filled_shows, filled_kept, filled_is, get_set_same}
 use Rattle.nm_engine.proofs.inner.Inner.fill.Goals as goal
 
@@ -37,44 +40,83 @@ allocate-requires-clause-spare g c =
     let front : slice_get (free_on c.self.inside.frames c.in-Some.node) 0 ≡ Some c.in-Some-front.frame = sym c.front.ensures.front ∙ c.in-Some-front.is in
     (front_spare c.self.inside.spaces c.self.inside.frames c.self.inside.online c.self.inside.totals.moved c.self.inside.totals.failed c.self.invariant c.front.ensures.shelf c.in-Some.node c.in-Some-front.frame front).place
 
-pub zero-requires : goal.zero-requires
-zero-requires g c =
+pub populate-requires : goal.populate-requires
+populate-requires g c =
     let front : slice_get (free_on c.self.inside.frames c.in-Some.node) 0 ≡ Some c.in-Some-front.frame = sym c.front.ensures.front ∙ c.in-Some-front.is in
-    subst (λ (k : FramesView). c.in-Some-front.frame < frame_count k.layout) (sym c.take_front.ensures.rest) (front_spare c.self.inside.spaces c.self.inside.frames c.self.inside.online c.self.inside.totals.moved c.self.inside.totals.failed c.self.invariant c.front.ensures.shelf c.in-Some.node c.in-Some-front.frame front).below
+    (front_spare c.self.inside.spaces c.self.inside.frames c.self.inside.online c.self.inside.totals.moved c.self.inside.totals.failed c.self.invariant c.front.ensures.shelf c.in-Some.node c.in-Some-front.frame front).below
+
+pub zero-requires-clause-frame : goal.zero-requires-clause-frame
+zero-requires-clause-frame g c =
+    let front : slice_get (free_on c.self.inside.frames c.in-Some.node) 0 ≡ Some c.in-Some-front.frame = sym c.front.ensures.front ∙ c.in-Some-front.is in
+    subst (λ (k : FramesView). c.in-Some-front.frame < frame_count k.layout) (sym c.take_front.ensures.rest)
+    (subst (λ (k : FramesView). c.in-Some-front.frame < frame_count k.layout) (sym c.in_ok-populate.ensures.same)
+    (front_spare c.self.inside.spaces c.self.inside.frames c.self.inside.online c.self.inside.totals.moved c.self.inside.totals.failed c.self.invariant c.front.ensures.shelf c.in-Some.node c.in-Some-front.frame front).below)
+
+pub zero-requires-clause-populated : goal.zero-requires-clause-populated
+zero-requires-clause-populated g c = subst (λ (k : FramesView). IsPopulated k.frames c.in-Some-front.frame) (sym c.take_front.ensures.rest) c.in_ok-populate.ensures.populated
 
 pub invariant_of-self-2 : goal.invariant_of-self-2
 invariant_of-self-2 g c =
-    let found = inside _ _ _ _ c.self.view_is (λ s. first_free s.free (first_touch_order s.layout s.online c.args.t.info.home c.args.t.info.allowed c.args.t.policy c.args.t.page.index) ≡ Some c.in-Some.node) (sym c.first_node.ensures ∙ c.in-Some.is) in
-    let front : slice_get (free_on c.self.inside.frames c.in-Some.node) 0 ≡ Some c.in-Some-front.frame = sym c.front.ensures.front ∙ c.in-Some-front.is in
-    let touched = inside _ _ _ _ c.self.view_is (λ s. IsResolved s c.args.t c.requires.touched.0 c.requires.touched.1) c.requires.touched.2 in
-    let unplaced = inside _ _ _ _ c.self.view_is (λ s. get page_cmp s.place c.args.t.page ≡ None) c.requires.unplaced in
-    let unseen = inside _ _ _ _ c.self.view_is (λ s. (q : Page) → sight_at s c.args.t.pid c.args.t.vpn ≡ Some (Sees q) → ⊥) c.requires.unseen in
+    let kept = kept_again c.self.inside.spaces c.self.inside.frames c.populate.new.self c.self.inside.online c.self.inside.totals.moved c.self.inside.totals.failed c.in_ok-populate.ensures.same c.in_ok-populate.ensures.kept c.self.invariant in
+    let view = view_again c.self.inside.spaces c.self.inside.frames c.populate.new.self c.self.inside.online c.self.inside.totals.moved c.self.inside.totals.failed c.in_ok-populate.ensures.same c.in_ok-populate.ensures.kept c.args.self.now c.self.invariant c.self.view_is in
+    let found = inside _ _ _ _ view (λ s. first_free s.free (first_touch_order s.layout s.online c.args.t.info.home c.args.t.info.allowed c.args.t.policy c.args.t.page.index) ≡ Some c.in-Some.node) (sym c.first_node.ensures ∙ c.in-Some.is) in
+    let front : slice_get (free_on c.populate.new.self c.in-Some.node) 0 ≡ Some c.in-Some-front.frame = subst (λ (k : FramesView). slice_get (free_on k c.in-Some.node) 0 ≡ Some c.in-Some-front.frame) (sym c.in_ok-populate.ensures.same) (sym c.front.ensures.front ∙ c.in-Some-front.is) in
+    let touched = inside _ _ _ _ view (λ s. IsResolved s c.args.t c.requires.touched.0 c.requires.touched.1) c.requires.touched.2 in
+    let unplaced = inside _ _ _ _ view (λ s. get page_cmp s.place c.args.t.page ≡ None) c.requires.unplaced in
+    let unseen = inside _ _ _ _ view (λ s. (q : Page) → sight_at s c.args.t.pid c.args.t.vpn ≡ Some (Sees q) → ⊥) c.requires.unseen in
     let is = c.in_ok-allocate.ensures.ok c.requires.touched.0 touched.known in
-    let to = stocked_both c.self.inside.spaces c.allocate.new.self c.self.inside.frames c.take_front.new.self c.zero.new.self c.args.t.pid c.args.t.vpn c.requires.touched.0 c.args.t.page c.in-Some.node c.in-Some-front.frame is c.take_front.ensures.rest c.zero.ensures front in
-    let whole = kept_stocked c.self.inside.spaces c.self.inside.frames c.self.inside.online c.self.inside.totals.moved c.self.inside.totals.failed c.self.invariant c.front.ensures.shelf in
-    let vacated : c.zero.new.self.vacated ≡ c.self.inside.frames.vacated = ap (λ (k : FramesView). k.vacated) c.zero.ensures ∙ ap (λ (k : FramesView). k.vacated) c.take_front.ensures.rest in
+    let to = stocked_both c.self.inside.spaces c.allocate.new.self c.populate.new.self c.take_front.new.self c.zero.new.self c.args.t.pid c.args.t.vpn c.requires.touched.0 c.args.t.page c.in-Some.node c.in-Some-front.frame is c.take_front.ensures.rest c.zero.ensures front in
+    let whole = kept_stocked c.self.inside.spaces c.populate.new.self c.self.inside.online c.self.inside.totals.moved c.self.inside.totals.failed kept c.in_ok-populate.ensures.shelf in
+    let vacated : c.zero.new.self.vacated ≡ c.populate.new.self.vacated = ap (λ (k : FramesView). k.vacated) c.zero.ensures ∙ ap (λ (k : FramesView). k.vacated) c.take_front.ensures.rest in
     subst (λ l. IsKept (shown_by c.allocate.new.self c.zero.new.self c.self.inside.online c.self.inside.totals.moved c.self.inside.totals.failed) l c.allocate.new.self.frames) (sym vacated)
-    (subst (λ (z : SpacesView). IsKept (shown z.processes (table_of z) (paged_frames c.allocate.new.self c.zero.new.self) c.self.inside.online c.self.inside.totals.moved c.self.inside.totals.failed) c.self.inside.frames.vacated z.frames) (sym is)
-    (filled_kept c.self.inside.spaces.processes (table_of c.self.inside.spaces) (paged_frames c.self.inside.spaces c.self.inside.frames) c.self.inside.online c.self.inside.totals.moved c.self.inside.totals.failed _ c.args.t c.requires.touched.0 c.requires.touched.1 c.self.invariant touched c.in-Some.node (with_new_page c.self.inside.spaces c.args.t.pid c.requires.touched.0 c.args.t.vpn c.args.t.page c.in-Some-front.frame).processes (paged_frames c.allocate.new.self c.zero.new.self) whole refl to unplaced (found_free c.self.inside.frames.free _ c.in-Some.node found) unseen))
+    (subst (λ (z : SpacesView). IsKept (shown z.processes (table_of z) (paged_frames c.allocate.new.self c.zero.new.self) c.self.inside.online c.self.inside.totals.moved c.self.inside.totals.failed) c.populate.new.self.vacated z.frames) (sym is)
+    (filled_kept c.self.inside.spaces.processes (table_of c.self.inside.spaces) (paged_frames c.self.inside.spaces c.populate.new.self) c.self.inside.online c.self.inside.totals.moved c.self.inside.totals.failed _ c.args.t c.requires.touched.0 c.requires.touched.1 kept touched c.in-Some.node (with_new_page c.self.inside.spaces c.args.t.pid c.requires.touched.0 c.args.t.vpn c.args.t.page c.in-Some-front.frame).processes (paged_frames c.allocate.new.self c.zero.new.self) whole refl to unplaced (found_free c.populate.new.self.free _ c.in-Some.node found) unseen))
 
 pub returns-clause-touches : goal.returns-clause-touches
 returns-clause-touches g c p a known =
-    let found = inside _ _ _ _ c.self.view_is (λ s. first_free s.free (first_touch_order s.layout s.online c.args.t.info.home c.args.t.info.allowed c.args.t.policy c.args.t.page.index) ≡ Some c.in-Some.node) (sym c.first_node.ensures ∙ c.in-Some.is) in
-    let front : slice_get (free_on c.self.inside.frames c.in-Some.node) 0 ≡ Some c.in-Some-front.frame = sym c.front.ensures.front ∙ c.in-Some-front.is in
-    let touched = inside _ _ _ _ c.self.view_is (λ s. IsResolved s c.args.t p a) known in
-    let unplaced = inside _ _ _ _ c.self.view_is (λ s. get page_cmp s.place c.args.t.page ≡ None) c.requires.unplaced in
+    let kept = kept_again c.self.inside.spaces c.self.inside.frames c.populate.new.self c.self.inside.online c.self.inside.totals.moved c.self.inside.totals.failed c.in_ok-populate.ensures.same c.in_ok-populate.ensures.kept c.self.invariant in
+    let view = view_again c.self.inside.spaces c.self.inside.frames c.populate.new.self c.self.inside.online c.self.inside.totals.moved c.self.inside.totals.failed c.in_ok-populate.ensures.same c.in_ok-populate.ensures.kept c.args.self.now c.self.invariant c.self.view_is in
+    let found = inside _ _ _ _ view (λ s. first_free s.free (first_touch_order s.layout s.online c.args.t.info.home c.args.t.info.allowed c.args.t.policy c.args.t.page.index) ≡ Some c.in-Some.node) (sym c.first_node.ensures ∙ c.in-Some.is) in
+    let front : slice_get (free_on c.populate.new.self c.in-Some.node) 0 ≡ Some c.in-Some-front.frame = subst (λ (k : FramesView). slice_get (free_on k c.in-Some.node) 0 ≡ Some c.in-Some-front.frame) (sym c.in_ok-populate.ensures.same) (sym c.front.ensures.front ∙ c.in-Some-front.is) in
+    let touched = inside _ _ _ _ view (λ s. IsResolved s c.args.t p a) known in
+    let unplaced = inside _ _ _ _ view (λ s. get page_cmp s.place c.args.t.page ≡ None) c.requires.unplaced in
     let is = c.in_ok-allocate.ensures.ok p touched.known in
-    let to = stocked_both c.self.inside.spaces c.allocate.new.self c.self.inside.frames c.take_front.new.self c.zero.new.self c.args.t.pid c.args.t.vpn p c.args.t.page c.in-Some.node c.in-Some-front.frame is c.take_front.ensures.rest c.zero.ensures front in
-    let whole = kept_stocked c.self.inside.spaces c.self.inside.frames c.self.inside.online c.self.inside.totals.moved c.self.inside.totals.failed c.self.invariant c.front.ensures.shelf in
-    ap (λ (y : MidRun). filled y.state (spot_at c.args.t p a)) (sym c.self.view_is)
-    ∙ filled_is c.self.inside.spaces.processes (table_of c.self.inside.spaces) (paged_frames c.self.inside.spaces c.self.inside.frames) c.self.inside.online c.self.inside.totals.moved c.self.inside.totals.failed _ c.args.t p a c.self.invariant touched c.in-Some.node found
+    let to = stocked_both c.self.inside.spaces c.allocate.new.self c.populate.new.self c.take_front.new.self c.zero.new.self c.args.t.pid c.args.t.vpn p c.args.t.page c.in-Some.node c.in-Some-front.frame is c.take_front.ensures.rest c.zero.ensures front in
+    let whole = kept_stocked c.self.inside.spaces c.populate.new.self c.self.inside.online c.self.inside.totals.moved c.self.inside.totals.failed kept c.in_ok-populate.ensures.shelf in
+    ap (λ (y : MidRun). filled y.state (spot_at c.args.t p a)) (sym view)
+    ∙ filled_is c.self.inside.spaces.processes (table_of c.self.inside.spaces) (paged_frames c.self.inside.spaces c.populate.new.self) c.self.inside.online c.self.inside.totals.moved c.self.inside.totals.failed _ c.args.t p a kept touched c.in-Some.node found
     ∙ ap Ok (sym (ap (λ (z : SpacesView). shown z.processes (table_of z) (paged_frames c.allocate.new.self c.zero.new.self) c.self.inside.online c.self.inside.totals.moved c.self.inside.totals.failed) is
-    ∙ filled_shows c.self.inside.spaces.processes (table_of c.self.inside.spaces) (paged_frames c.self.inside.spaces c.self.inside.frames) c.self.inside.online c.self.inside.totals.moved c.self.inside.totals.failed _ c.args.t p a c.self.invariant touched c.in-Some.node (with_new_page c.self.inside.spaces c.args.t.pid p c.args.t.vpn c.args.t.page c.in-Some-front.frame).processes (paged_frames c.allocate.new.self c.zero.new.self) whole refl to unplaced (found_free c.self.inside.frames.free _ c.in-Some.node found)))
+    ∙ filled_shows c.self.inside.spaces.processes (table_of c.self.inside.spaces) (paged_frames c.self.inside.spaces c.populate.new.self) c.self.inside.online c.self.inside.totals.moved c.self.inside.totals.failed _ c.args.t p a kept touched c.in-Some.node (with_new_page c.self.inside.spaces c.args.t.pid p c.args.t.vpn c.args.t.page c.in-Some-front.frame).processes (paged_frames c.allocate.new.self c.zero.new.self) whole refl to unplaced (found_free c.populate.new.self.free _ c.in-Some.node found)))
 
 pub returns-clause-frame : goal.returns-clause-frame
 returns-clause-frame g c =
-    let touched = inside _ _ _ _ c.self.view_is (λ s. IsResolved s c.args.t c.requires.touched.0 c.requires.touched.1) c.requires.touched.2 in
+    let kept = kept_again c.self.inside.spaces c.self.inside.frames c.populate.new.self c.self.inside.online c.self.inside.totals.moved c.self.inside.totals.failed c.in_ok-populate.ensures.same c.in_ok-populate.ensures.kept c.self.invariant in
+    let view = view_again c.self.inside.spaces c.self.inside.frames c.populate.new.self c.self.inside.online c.self.inside.totals.moved c.self.inside.totals.failed c.in_ok-populate.ensures.same c.in_ok-populate.ensures.kept c.args.self.now c.self.invariant c.self.view_is in
+    let touched = inside _ _ _ _ view (λ s. IsResolved s c.args.t c.requires.touched.0 c.requires.touched.1) c.requires.touched.2 in
     let is = c.in_ok-allocate.ensures.ok c.requires.touched.0 touched.known in
     ap (λ (z : SpacesView). frame_of z.place (sight_in (get nat_cmp z.processes c.args.t.pid) c.args.t.vpn)) is
-    ∙ ap (frame_of (with_new_page c.self.inside.spaces c.args.t.pid c.requires.touched.0 c.args.t.vpn c.args.t.page c.in-Some-front.frame).place) (sees_now c.self.inside.spaces.processes (table_of c.self.inside.spaces) (paged_frames c.self.inside.spaces c.self.inside.frames) c.self.inside.online c.self.inside.totals.moved c.self.inside.totals.failed _ c.args.t c.requires.touched.0 c.requires.touched.1 c.self.invariant touched _ (with_new_page c.self.inside.spaces c.args.t.pid c.requires.touched.0 c.args.t.vpn c.args.t.page c.in-Some-front.frame).processes refl)
+    ∙ ap (frame_of (with_new_page c.self.inside.spaces c.args.t.pid c.requires.touched.0 c.args.t.vpn c.args.t.page c.in-Some-front.frame).place) (sees_now c.self.inside.spaces.processes (table_of c.self.inside.spaces) (paged_frames c.self.inside.spaces c.populate.new.self) c.self.inside.online c.self.inside.totals.moved c.self.inside.totals.failed _ c.args.t c.requires.touched.0 c.requires.touched.1 kept touched _ (with_new_page c.self.inside.spaces c.args.t.pid c.requires.touched.0 c.args.t.vpn c.args.t.page c.in-Some-front.frame).processes refl)
     ∙ get_set_same c.self.inside.spaces.place c.args.t.page c.in-Some-front.frame
+
+-- without memory the machine is as it was
+
+pub invariant_of-self : goal.invariant_of-self
+invariant_of-self g c = kept_again c.self.inside.spaces c.self.inside.frames c.populate.new.self c.self.inside.online c.self.inside.totals.moved c.self.inside.totals.failed c.in_err-populate.ensures.same c.in_err-populate.ensures.kept c.self.invariant
+
+pub returns-in_err-populate-clause-touches : goal.returns-in_err-populate-clause-touches
+returns-in_err-populate-clause-touches g c p a known =
+    nothing_touched c.from_residual.result _ _ _ c.from_residual.ensures
+    (same_shown c.self.inside.spaces c.self.inside.frames c.populate.new.self c.self.inside.online c.self.inside.totals.moved c.self.inside.totals.failed c.in_err-populate.ensures.same c.in_err-populate.ensures.kept c.self.inside.frames.vacated c.self.invariant.sound
+    ∙ ap (λ (x : MidRun). x.state) c.self.view_is)
+
+pub invariant_of-self-in_err-allocate : goal.invariant_of-self-in_err-allocate
+invariant_of-self-in_err-allocate g c =
+    subst (λ (z : SpacesView). IsKept (shown_by z c.populate.new.self c.self.inside.online c.self.inside.totals.moved c.self.inside.totals.failed) c.populate.new.self.vacated z.frames) (sym c.in_err-allocate.ensures.err)
+    (kept_again c.self.inside.spaces c.self.inside.frames c.populate.new.self c.self.inside.online c.self.inside.totals.moved c.self.inside.totals.failed c.in_ok-populate.ensures.same c.in_ok-populate.ensures.kept c.self.invariant)
+
+pub returns-in_err-allocate-clause-touches : goal.returns-in_err-allocate-clause-touches
+returns-in_err-allocate-clause-touches g c p a known =
+    nothing_touched c.from_residual-in_err-allocate.result _ _ _ c.from_residual-in_err-allocate.ensures
+    (ap (λ (z : SpacesView). shown_by z c.populate.new.self c.self.inside.online c.self.inside.totals.moved c.self.inside.totals.failed) c.in_err-allocate.ensures.err
+    ∙ same_shown c.self.inside.spaces c.self.inside.frames c.populate.new.self c.self.inside.online c.self.inside.totals.moved c.self.inside.totals.failed c.in_ok-populate.ensures.same c.in_ok-populate.ensures.kept c.self.inside.frames.vacated c.self.invariant.sound
+    ∙ ap (λ (x : MidRun). x.state) c.self.view_is)

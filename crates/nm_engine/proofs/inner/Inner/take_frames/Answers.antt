@@ -1,19 +1,52 @@
-use Rattle.std.proofs.Common.{ap, sym, subst, ◌∙◌, arith, ℕ, List}
-use Rattle.nm_types.specs.Layout.{node_count}
+use Rattle.std.proofs.Common.{ap, sym, subst, ◌∙◌, arith, ℕ, ◌<◌, ◌≤◌, ◌+◌, List, length}
+use Rattle.std.specs.List.{AllByRecursion}
+use Rattle.nm_types.specs.Layout.{node_count, frame_count}
+use Rattle.nm_frames.specs.Populated.{IsPopulated}
+use Rattle.nm_model.specs.definitions.Early.{tos}
+use Rattle.nm_model.specs.definitions.Sound.{IsSoundMidRun}
+use Rattle.nm_engine.specs.Frames.{FramesView}
 use Rattle.nm_engine.specs.MidRun.{MidRun}
 use Rattle.nm_laws.specs.Moves.{CanMove}
-use Rattle.nm_model.specs.definitions.Sound.{IsSoundMidRun}
+use Rattle.nm_areas.proofs.Counted.{err_always}
+use Rattle.nm_model.specs.definitions.Early.{without_fronts}
+use Rattle.nm_engine.specs.Shown.{shown_by}
+use Rattle.nm_types.specs.State.{State}
 use Rattle.nm_engine.proofs.Early.Taken.{taken_kept}
+use Rattle.nm_engine.proofs.Together.Carried.{tos_below}
+use Rattle.nm_engine.proofs.Together.Populated.{same_shown, kept_again, view_again}
 use Rattle.nm_engine.proofs.inner.Inner.take_frames.Goals as goal
+
+pub populate_each-requires : goal.populate_each-requires
+populate_each-requires g c =
+    let i = c.self.inside in
+    let same = ap (λ (x : MidRun). node_count x.state.layout) c.self.view_is in
+    tos_below c.args.moves.now _ c.args.target i.frames.vacated (omega (arith, same, c.self.invariant.sound.frames.lists, c.requires.target)) c.self.invariant.sound.frames
+    (subst (λ (x : MidRun). CanMove x.state c.args.target c.args.moves.now) (sym c.self.view_is) c.requires.moves)
+
+pub invariant_of-self-2 : goal.invariant_of-self-2
+invariant_of-self-2 g c =
+    let i = c.self.inside in
+    let k = c.populate_each.new.self in
+    let kept = kept_again i.spaces i.frames k i.online i.totals.moved i.totals.failed c.in_ok-populate_each.ensures.same c.in_ok-populate_each.ensures.kept c.self.invariant in
+    let view = view_again i.spaces i.frames k i.online i.totals.moved i.totals.failed c.in_ok-populate_each.ensures.same c.in_ok-populate_each.ensures.kept c.args.self.now c.self.invariant c.self.view_is in
+    let same = ap (λ (x : MidRun). node_count x.state.layout) view in
+    taken_kept i.spaces k c.take_for.new.self i.online i.totals.moved i.totals.failed c.args.target c.args.moves.now kept
+    (ap (λ (x : MidRun). x.left) view ∙ c.requires.none) (omega (arith, same, c.take_for.ensures.shelf.lists, c.requires.target))
+    (subst (λ (x : MidRun). CanMove x.state c.args.target c.args.moves.now) (sym view) c.requires.moves) c.take_for.ensures.taken
 
 pub invariant_of-self : goal.invariant_of-self
 invariant_of-self g c =
     let i = c.self.inside in
-    let same = ap (λ (x : MidRun). node_count x.state.layout) c.self.view_is in
-    taken_kept i.spaces i.frames c.take_for.new.self i.online i.totals.moved i.totals.failed c.args.target c.args.moves.now c.self.invariant
-    (ap (λ (x : MidRun). x.left) c.self.view_is ∙ c.requires.none) (omega (arith, same, c.take_for.ensures.shelf.lists, c.requires.target))
-    (subst (λ (x : MidRun). CanMove x.state c.args.target c.args.moves.now) (sym c.self.view_is) c.requires.moves) c.take_for.ensures.taken
+    kept_again i.spaces i.frames c.populate_each.new.self i.online i.totals.moved i.totals.failed c.in_err-populate_each.ensures.same c.in_err-populate_each.ensures.kept c.self.invariant
 
-pub returns-clause-sound : goal.returns-clause-sound
-returns-clause-sound g c =
-    subst (λ (l : List ℕ). IsSoundMidRun c.args.self.now.state l) c.requires.none (subst (λ (x : MidRun). IsSoundMidRun x.state x.left) c.self.view_is c.self.invariant.sound)
+pub returns-in_err-populate_each-clause-err : goal.returns-in_err-populate_each-clause-err
+returns-in_err-populate_each-clause-err g c =
+    let i = c.self.inside in
+    err_always c.from_residual.result (view_again i.spaces i.frames c.populate_each.new.self i.online i.totals.moved i.totals.failed c.in_err-populate_each.ensures.same c.in_err-populate_each.ensures.kept c.args.self.now c.self.invariant c.self.view_is)
+
+pub returns-clause-state : goal.returns-clause-state
+returns-clause-state g c =
+    let i = c.self.inside in
+    ap (λ (x : FramesView). shown_by i.spaces x i.online i.totals.moved i.totals.failed) c.take_for.ensures.taken
+    ∙ ap (λ (s : State). without_fronts s c.args.target (length c.args.moves.now))
+    (same_shown i.spaces i.frames c.populate_each.new.self i.online i.totals.moved i.totals.failed c.in_ok-populate_each.ensures.same c.in_ok-populate_each.ensures.kept i.frames.vacated c.self.invariant.sound ∙ ap (λ (x : MidRun). x.state) c.self.view_is)

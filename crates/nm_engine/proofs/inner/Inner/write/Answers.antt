@@ -12,6 +12,7 @@ use Rattle.nm_laws.proofs.Seen.Frames.{page_of_frame, place_in_range}
 use Rattle.nm_engine.specs.AddressSpaces.{table_of}
 use Rattle.nm_engine.specs.Shown.{paged_frames, shown_by}
 use Rattle.nm_engine.proofs.Together.Joint.{kept_stocked}
+use Rattle.nm_engine.proofs.Together.Populated.{place_populated}
 use Rattle.nm_engine.proofs.inner.Inner.write.Goals as goal
 
 abbrev overwritten : FramesView → ℕ → List ℕ → ℕ → FramesView
@@ -23,6 +24,13 @@ write-requires-clause-frame g c =
     (ap (λ (x : ℕ × ℕ). frame_seen c.touch.new.self.state x.0 x.1) (λ i. (sym c.in_ok-resolved.ensures.pid i, sym c.in_ok-resolved.ensures.page i)) ∙ sym c.in_ok-frame.ensures.frame ∙ c.in-Some.is)) in
     let page = page_of_frame c.self.inside.spaces.place _ c.in-Some.frame seen in
     place_in_range (shown c.self.inside.spaces.processes (table_of c.self.inside.spaces) (paged_frames c.self.inside.spaces c.self.inside.frames) c.self.inside.online c.self.inside.totals.moved c.self.inside.totals.failed) _ page.0 c.in-Some.frame c.self.invariant.sound page.2
+
+pub write-requires-clause-populated : goal.write-requires-clause-populated
+write-requires-clause-populated g c =
+    let seen = (inside _ _ _ _ c.self.view_is (λ s. frame_seen s c.args.pid (c.args.addr / 4096) ≡ Some c.in-Some.frame)
+    (ap (λ (x : ℕ × ℕ). frame_seen c.touch.new.self.state x.0 x.1) (λ i. (sym c.in_ok-resolved.ensures.pid i, sym c.in_ok-resolved.ensures.page i)) ∙ sym c.in_ok-frame.ensures.frame ∙ c.in-Some.is)) in
+    let page = page_of_frame c.self.inside.spaces.place _ c.in-Some.frame seen in
+    place_populated c.self.inside.frames.frames c.self.inside.spaces.place page.0 c.in-Some.frame c.self.invariant.sound.bytes.whole page.2
 
 pub invariant_of-self : goal.invariant_of-self
 invariant_of-self g c =

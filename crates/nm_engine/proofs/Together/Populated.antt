@@ -1,0 +1,216 @@
+-- Frames that have their bytes in memory, and what keeps them.
+use Rattle.std.proofs.Common.{◌≡◌, ◌≢◌, ℕ, zero, suc, ◌+◌, ◌<◌, ◌≤◌, ◌==◌, List, [], ◌∷◌, ◌++◌, Bool, true, false, cond, length, refl, sym, ap, subst, ◌∙◌, arith, length-set, length-append, length-take, length-drop, eq-eqb, eqb-true, ⊎_elim}
+use Rattle.std.specs.Prelude.{Option, Some, None, replicate, slice_index_or, slice_set, if◌then◌else◌}
+use Rattle.std.specs.Option.{unwrap_or}
+use Rattle.std.specs.List.{AllByRecursion}
+use Rattle.std.specs.Ordering.{is_eq}
+use Rattle.std.specs.Cmp.{tied_itself}
+use Rattle.std.proofs.lemmas.Bool.{cases_eq, false≢true}
+use Rattle.std.proofs.lemmas.List.{get_or-set_same, get_or-set_other, length-replicate}
+use Rattle.nm_types.specs.declared.page.Page.{Page}
+use Rattle.nm_types.specs.declared.taken.Taken.{Taken}
+use Rattle.nm_types.specs.Map.{Map, get, set, page_cmp}
+use Rattle.nm_types.specs.Layout.{node_of}
+use Rattle.nm_types.specs.State.{State}
+use Rattle.nm_types.proofs.Cases.{some_is}
+use Rattle.nm_types.proofs.Maps.{page_cmp_total, get-set}
+use Rattle.nm_frames.specs.Populated.{IsPopulated, populated}
+use Rattle.nm_model.specs.definitions.Frames.{Store, IsHome, bytes_of, overwrite}
+use Rattle.nm_model.specs.definitions.Early.{Due, Known, ToRead, ToWrite, IsInside, tos}
+use Rattle.nm_model.specs.definitions.Run.{left}
+use Rattle.nm_laws.specs.Laws.{with_move}
+use Rattle.nm_laws.specs.Moves.{CanMove}
+use Rattle.nm_laws.proofs.Early.Kept.{beside}
+use Rattle.nm_engine.specs.Copies.{HasBoth, with_copy, with_copies}
+use Rattle.nm_engine.specs.Finishing.{frame_at, all_done, CanDo}
+use Rattle.nm_engine.specs.AddressSpaces.{SpacesView}
+use Rattle.nm_engine.specs.Frames.{FramesView, KeepsBytes}
+use Rattle.nm_engine.specs.MidRun.{MidRun, IsKept}
+use Rattle.nm_engine.specs.Shown.{bytes_in, shown_by}
+use Rattle.nm_model.specs.definitions.Sound.{IsSoundMidRun}
+use Rattle.nm_engine.proofs.Together.Copies.{home_set}
+
+-- ---- what a store keeps
+
+pub keeps_self : (s : Store) → KeepsBytes s s
+keeps_self s = record { as_many = refl; home = λ f home. home; bytes = λ f whole. refl }
+
+pub keeps_populated : (a b : Store) (f : ℕ) → KeepsBytes a b → IsPopulated a f → IsPopulated b f
+keeps_populated a b f kept whole = ap (λ (bytes : List ℕ). length bytes) (kept.bytes f whole) ∙ whole
+
+pub keeps_then : (a b c : Store) → KeepsBytes a b → KeepsBytes b c → KeepsBytes a c
+keeps_then a b c first next = record {
+  as_many = next.as_many ∙ first.as_many;
+  home = λ f home. next.home f (first.home f home);
+  bytes = λ f whole. next.bytes f (keeps_populated a b f first whole) ∙ first.bytes f whole;
+}
+
+pub keeps_all : (fs : List ℕ) (a b : Store) → KeepsBytes a b → AllByRecursion (IsPopulated a) fs → AllByRecursion (IsPopulated b) fs
+keeps_all [] a b kept all = tt
+keeps_all (f ∷ fs) a b kept all = (keeps_populated a b f kept all.0, keeps_all fs a b kept all.1)
+
+pub homes_all : (fs : List ℕ) (a b : Store) → KeepsBytes a b → AllByRecursion (IsHome a) fs → AllByRecursion (IsHome b) fs
+homes_all [] a b kept all = tt
+homes_all (f ∷ fs) a b kept all = (kept.home f all.0, homes_all fs a b kept all.1)
+
+pub all_joined : (s : Store) (fs gs : List ℕ) → AllByRecursion (IsPopulated s) fs → AllByRecursion (IsPopulated s) gs → AllByRecursion (IsPopulated s) (fs ++ gs)
+all_joined s [] gs front back = back
+all_joined s (f ∷ fs) gs front back = (front.0, all_joined s fs gs front.1 back)
+
+-- ---- a frame gets its bytes in memory
+
+pub populated_keeps : (s : Store) (f : ℕ) → KeepsBytes s (populated s f)
+populated_keeps s f =
+    let zeros : List ℕ = replicate 4096 0 in
+    elim (length (bytes_of s f) == 4096) as (λ b. (length (bytes_of s f) == 4096) ≡ b → KeepsBytes s (if b then s else slice_set s f (Some zeros))) [
+      | true ↦ λ is. keeps_self s
+      | false ↦ λ is. record {
+        as_many = length-set s f (Some zeros);
+        home = λ q home. home_set s f q zeros home;
+        bytes = λ q whole. ap (λ (o : Option (List ℕ)). unwrap_or o [])
+            (get_or-set_other s f q (Some zeros) None (λ same. false≢true (sym is ∙ eq-eqb (length (bytes_of s f)) 4096 (ap (λ k. length (bytes_of s k)) (sym same) ∙ whole))));
+      }
+    ] refl
+
+pub populated_there : (s : Store) (f : ℕ) → IsHome s f → IsPopulated (populated s f) f
+populated_there s f home =
+    let zeros : List ℕ = replicate 4096 0 in
+    elim (length (bytes_of s f) == 4096) as (λ b. (length (bytes_of s f) == 4096) ≡ b → IsPopulated (if b then s else slice_set s f (Some zeros)) f) [
+      | true ↦ λ is. eqb-true (length (bytes_of s f)) 4096 is
+      | false ↦ λ is. ap (λ (o : Option (List ℕ)). length (unwrap_or o [])) (get_or-set_same s f (Some zeros) None home.in_range) ∙ length-replicate {A = ℕ} 4096 0
+    ] refl
+
+-- ---- a frame gets other bytes
+
+populated_inside : (s : Store) (q : ℕ) → IsPopulated s q → q < length s
+populated_inside [] q whole = absurd (omega (arith, whole))
+populated_inside (x ∷ s) zero whole = omega arith
+populated_inside (x ∷ s) (suc q) whole = let rest = populated_inside s q whole in omega (arith, rest)
+
+pub set_populated : (s : Store) (f q : ℕ) (bytes : List ℕ) → length bytes ≡ 4096 → IsPopulated s q → IsPopulated (slice_set s f (Some bytes)) q
+set_populated s f q bytes many whole =
+    let read : Option (List ℕ) → ℕ = λ o. length (unwrap_or o []) in
+    ⊎_elim (λ same.
+    ap (λ k. length (bytes_of (slice_set s f (Some bytes)) k)) same
+    ∙ ap read (get_or-set_same s f (Some bytes) None (subst (λ k. k < length s) same (populated_inside s q whole))) ∙ many)
+    (λ apart. ap read (get_or-set_other s f q (Some bytes) None apart) ∙ whole) (cases_eq q f)
+
+pub all_set : (fs : List ℕ) (s : Store) (f : ℕ) (bytes : List ℕ) → length bytes ≡ 4096 → AllByRecursion (IsPopulated s) fs → AllByRecursion (IsPopulated (slice_set s f (Some bytes))) fs
+all_set [] s f bytes many all = tt
+all_set (g ∷ fs) s f bytes many all = (set_populated s f g bytes many all.0, all_set fs s f bytes many all.1)
+
+pub overwritten_whole : (old : List ℕ) (at : ℕ) (new : List ℕ) → at + length new ≤ 4096 → length old ≡ 4096 → length (overwrite old at new) ≡ 4096
+overwritten_whole old at new fits whole = simp (length-append, length-take, length-drop) (omega (arith, whole, fits))
+
+pub written_populated : (s : Store) (f q at : ℕ) (new : List ℕ) → at + length new ≤ 4096 → IsPopulated s q → IsPopulated (slice_set s f (Some (overwrite (bytes_of s f) at new))) q
+written_populated s f q at new fits whole =
+    let now = overwrite (bytes_of s f) at new in
+    ⊎_elim (λ same. set_populated s f q now (overwritten_whole (bytes_of s f) at new fits (ap (λ k. length (bytes_of s k)) (sym same) ∙ whole)) whole)
+    (λ apart. ap (λ (o : Option (List ℕ)). length (unwrap_or o [])) (get_or-set_other s f q (Some now) None apart) ∙ whole) (cases_eq q f)
+
+pub all_written : (fs : List ℕ) (s : Store) (f at : ℕ) (new : List ℕ) → at + length new ≤ 4096 → AllByRecursion (IsPopulated s) fs → AllByRecursion (IsPopulated (slice_set s f (Some (overwrite (bytes_of s f) at new)))) fs
+all_written [] s f at new fits all = tt
+all_written (g ∷ fs) s f at new fits all = (written_populated s f g at new fits all.0, all_written fs s f at new fits all.1)
+
+-- ---- pages are copied, and accesses are made
+
+froms_then : (taken : List Taken) (s : Store) (t : Taken) → IsPopulated s t.from → AllByRecursion (HasBoth s) taken → AllByRecursion (HasBoth (with_copy s t)) taken
+froms_then [] s t from all = tt
+froms_then (u ∷ taken) s t from all = (
+  (set_populated s t.to u.from (bytes_of s t.from) from all.0.0, set_populated s t.to u.to (bytes_of s t.from) from all.0.1),
+  froms_then taken s t from all.1,
+)
+
+pub copies_populated : (taken : List Taken) (s : Store) (q : ℕ) → AllByRecursion (HasBoth s) taken → IsPopulated s q → IsPopulated (with_copies s taken) q
+copies_populated [] s q both whole = whole
+copies_populated (t ∷ taken) s q both whole =
+    copies_populated taken (with_copy s t) q (froms_then taken s t both.0.0 both.1) (set_populated s t.to q (bytes_of s t.from) both.0.0 whole)
+
+done_populated : (place : Map Page ℕ) (dues : List Due) (s : Store) (q : ℕ) → AllByRecursion IsInside dues → IsPopulated s q → IsPopulated (all_done place s dues).store q
+done_populated place [] s q inside whole = whole
+done_populated place (Known answer ∷ dues) s q inside whole = done_populated place dues s q inside.1 whole
+done_populated place (ToRead page at len ∷ dues) s q inside whole = done_populated place dues s q inside.1 whole
+done_populated place (ToWrite page at new ∷ dues) s q inside whole =
+    let f = frame_at place page in
+    done_populated place dues (slice_set s f (Some (overwrite (bytes_of s f) at new))) q inside.1 (written_populated s f q at new inside.0 whole)
+
+can_inside : (place : Map Page ℕ) (s : Store) (dues : List Due) → AllByRecursion (CanDo place s) dues → AllByRecursion IsInside dues
+can_inside place s [] can = tt
+can_inside place s (Known answer ∷ dues) can = (tt, can_inside place s dues can.1)
+can_inside place s (ToRead page at len ∷ dues) can = (can.0.inside, can_inside place s dues can.1)
+can_inside place s (ToWrite page at new ∷ dues) can = (can.0.inside, can_inside place s dues can.1)
+
+-- frames that have their bytes in memory have them once pages are copied and accesses made
+pub after_populated : (fs : List ℕ) (place : Map Page ℕ) (dues : List Due) (taken : List Taken) (out s : Store) → AllByRecursion (HasBoth s) taken → AllByRecursion (CanDo place out) dues → AllByRecursion (IsPopulated s) fs
+    → AllByRecursion (IsPopulated (all_done place (with_copies s taken) dues).store) fs
+after_populated [] place dues taken out s both can all = tt
+after_populated (f ∷ fs) place dues taken out s both can all = (
+  done_populated place dues (with_copies s taken) f (can_inside place out dues can) (copies_populated taken s f both all.0),
+  after_populated fs place dues taken out s both can all.1,
+)
+
+-- ---- pages with a frame, in a sound machine
+
+pub place_populated : (s : Store) (place : Map Page ℕ) (p : Page) (f : ℕ) → AllByRecursion (λ e. length e.1 ≡ 4096) (bytes_in s place) → get page_cmp place p ≡ Some f → IsPopulated s f
+place_populated s [] p f whole found = cc
+place_populated s (e ∷ place) p f whole found =
+    elim (is_eq (page_cmp p e.0)) as (λ b. cond b (Some e.1) (get page_cmp place p) ≡ Some f → IsPopulated s f) [
+      | true ↦ λ k. ap (λ g. length (bytes_of s g)) (sym (some_is k)) ∙ whole.0
+      | false ↦ λ k. place_populated s place p f whole.1 k
+    ] found
+
+-- a store that keeps the bytes of frames keeps those of pages
+pub bytes_kept : (old new : Store) (place : Map Page ℕ) → KeepsBytes old new → AllByRecursion (λ e. length e.1 ≡ 4096) (bytes_in old place) → bytes_in new place ≡ bytes_in old place
+bytes_kept old new [] kept whole = refl
+bytes_kept old new (e ∷ place) kept whole =
+    ap (λ (bytes : List ℕ). (e.0, bytes) ∷ bytes_in new place) (kept.bytes e.1 whole.0) ∙ ap (λ (m : Map Page (List ℕ)). (e.0, bytes_of old e.1) ∷ m) (bytes_kept old new place kept whole.1)
+
+placed : (m : Map Page ℕ) (p : Page) (v : ℕ) → get page_cmp (set page_cmp m p v) p ≡ Some v
+placed m p v = get-set page_cmp_total m p v p ∙ ap (λ b. cond b (Some v) (get page_cmp m p)) (ap is_eq (tied_itself page_cmp_total p))
+
+-- the page of a move is in the frame that it leaves, which is on another node
+abbrev pub Leaves : State → ℕ → Taken → Type 0
+Leaves s target t = (get page_cmp s.place t.page ≡ Some t.from) × (node_of s.layout t.from ≢ target)
+
+leave_before : (taken : List Taken) (s : State) (target : ℕ) (t : Taken) → node_of s.layout t.to ≡ target → AllByRecursion (Leaves (with_move target s t) target) taken → AllByRecursion (Leaves s target) taken
+leave_before [] s target t there all = tt
+leave_before (u ∷ taken) s target t there all =
+    let apart : u.page ≢ t.page = λ same.
+    let to : t.to ≡ u.from = some_is (sym (placed s.place t.page t.to) ∙ ap (get page_cmp (set page_cmp s.place t.page t.to)) (sym same) ∙ all.0.0) in
+    all.0.1 (ap (node_of s.layout) (sym to) ∙ there) in
+    ((sym (beside s.place t.page u.page t.to apart) ∙ all.0.0, all.0.1), leave_before taken s target t there all.1)
+
+pub all_leave : (taken : List Taken) (s : State) (target : ℕ) → AllByRecursion (λ f. node_of s.layout f ≡ target) (tos taken) → CanMove s target taken → AllByRecursion (Leaves s target) taken
+all_leave [] s target on can = tt
+all_leave (t ∷ taken) s target on can = ((can.0, can.2), leave_before taken s target t on.0 (all_leave taken (with_move target s t) target on.1 can.3))
+
+pub left_populated : (taken : List Taken) (s : State) (target : ℕ) (store : Store) → AllByRecursion (λ e. length e.1 ≡ 4096) (bytes_in store s.place) → AllByRecursion (Leaves s target) taken → AllByRecursion (IsPopulated store) (left taken)
+left_populated [] s target store whole all = tt
+left_populated (t ∷ taken) s target store whole all = (place_populated store s.place t.page t.from whole all.0.0, left_populated taken s target store whole all.1)
+
+pub both_populated : (taken : List Taken) (store : Store) → AllByRecursion (IsPopulated store) (left taken) → AllByRecursion (IsPopulated store) (tos taken) → AllByRecursion (HasBoth store) taken
+both_populated [] store froms fronts = tt
+both_populated (t ∷ taken) store froms fronts = ((froms.0, fronts.0), both_populated taken store froms.1 fronts.1)
+
+-- ---- a machine whose frames keep their bytes is the same machine
+
+module _ (y : SpacesView) (k after : FramesView) (online : List ℕ) (moved failed : ℕ) (is : after ≡ record k { frames = after.frames }) (keeps : KeepsBytes k.frames after.frames) where
+  pub same_shown : (l : List ℕ) → IsSoundMidRun (shown_by y k online moved failed) l → shown_by y after online moved failed ≡ shown_by y k online moved failed
+  same_shown l sound =
+      ap (λ (x : FramesView). shown_by y x online moved failed) is
+      ∙ ap (λ (b : Map Page (List ℕ)). record (shown_by y k online moved failed) { bytes = b }) (bytes_kept k.frames after.frames y.place keeps sound.bytes.whole)
+
+  same_left : after.vacated ≡ k.vacated
+  same_left = ap (λ (x : FramesView). x.vacated) is
+
+  pub kept_again : IsKept (shown_by y k online moved failed) k.vacated y.frames → IsKept (shown_by y after online moved failed) after.vacated y.frames
+  kept_again kept =
+      subst (λ l. IsKept (shown_by y after online moved failed) l y.frames) (sym same_left)
+      (subst (λ s. IsKept s k.vacated y.frames) (sym (same_shown k.vacated kept.sound)) kept)
+
+  pub view_again : (x : MidRun) → IsKept (shown_by y k online moved failed) k.vacated y.frames → record { state = shown_by y k online moved failed; left = k.vacated; room = k.room } ≡ x
+      → record { state = shown_by y after online moved failed; left = after.vacated; room = after.room } ≡ x
+  view_again x kept view =
+      let state = same_shown k.vacated kept.sound in
+      let room : after.room ≡ k.room = ap (λ (x : FramesView). x.room) is in
+      (λ i. record { state = state i; left = same_left i; room = room i }) ∙ view

@@ -1,0 +1,14 @@
+use Rattle.std.proofs.Common.{drop}
+use Rattle.std.specs.List.{AllByRecursion}
+use Rattle.nm_frames.specs.Populated.{IsPopulated}
+use Rattle.nm_model.specs.definitions.Early.{tos}
+use Rattle.nm_model.specs.definitions.Frames.{Store, IsHome}
+use Rattle.nm_engine.specs.Frames.{KeepsBytes}
+use Rattle.nm_engine.proofs.frames.populate_each.Given as goal
+
+abbrev pub invariant-loop-taken : goal.invariant-loop-taken
+invariant-loop-taken g l = let rest = tos (drop l.taken-index l.moves) in record {
+  kept : KeepsBytes l.fn.frames l.frames;
+  homes : AllByRecursion (IsHome l.frames) rest;
+  populated : (s : Store) → KeepsBytes l.frames s → AllByRecursion (IsPopulated s) rest → AllByRecursion (IsPopulated s) (tos l.moves);
+}
