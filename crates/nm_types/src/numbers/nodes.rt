@@ -31,7 +31,7 @@ impl NodeId {
         self.number
     }
 
-    /// Its number, as the index of a list.
+    /// Its number as an index into a list.
     pub const fn index(self) -> usize
         ensures { result ≡ self }
     {
