@@ -9,8 +9,8 @@ use nm_types::FrameId;
 use std::alloc::{AllocError, Allocator};
 use std::marker::Model;
 
-/// The bytes of each frame, or none where they are out as a `FrameBuf`. Contracts see a list by frame, with the list
-/// of the bytes for a frame that is home and None for one that is out.
+/// The bytes of each frame, or none while they are out as a `FrameBuf`. Contracts see a list by frame: the list of a
+/// frame's bytes if it is home, and None if it is out.
 #[derive(Debug, Drop)]
 pub struct FrameStore<A: Allocator + Copy> {
     frames: Vec<Option<Bytes<A>>, A>,
@@ -27,7 +27,8 @@ impl<A: Allocator + Copy> Model for FrameStore<A> {
 }
 
 impl<A: Allocator + Copy> FrameStore<A> {
-    /// A store of `frames` frames, all home, of zeros. It makes the buffer of every frame; no other call takes memory.
+    /// Makes a store of `frames` frames, all home and all zeros. Allocates every frame's bytes; no other call
+    /// allocates.
     pub fn new(alloc: A, frames: usize) -> Result<Self, AllocError>
         ensures { IfOk result (λ store. store ≡ replicate frames (Some (replicate 4096 0))) }
     {
@@ -39,7 +40,7 @@ impl<A: Allocator + Copy> FrameStore<A> {
         Ok(FrameStore { frames: store })
     }
 
-    /// No frames. It takes no memory.
+    /// A store without frames. Does not allocate.
     pub fn none(alloc: A) -> Self
         ensures { result ≡ [] }
     {
@@ -48,7 +49,7 @@ impl<A: Allocator + Copy> FrameStore<A> {
         }
     }
 
-    /// How many frames there are, home or out.
+    /// How many frames there are, home and out.
     pub fn frame_count(&self) -> usize
         ensures count { result ≡ length self.now }
         ensures whole { AllWhole self.now }
@@ -56,7 +57,7 @@ impl<A: Allocator + Copy> FrameStore<A> {
         self.frames.len()
     }
 
-    /// The byte of a home frame at a place below 4,096.
+    /// The byte at an index below 4,096 of a home frame.
     pub fn byte(&self, frame: FrameId, at: usize) -> u8
         requires home { IsHome self.now frame }
         requires inside { at < 4096 }
@@ -69,7 +70,7 @@ impl<A: Allocator + Copy> FrameStore<A> {
         }
     }
 
-    /// Puts bytes in place of those of a home frame from `at` on. They end at its 4,096 bytes' end at the latest.
+    /// Overwrites the bytes of a home frame from index `at` on. They must end within its 4,096 bytes.
     pub fn write(&mut self, frame: FrameId, at: usize, bytes: &[u8])
         requires home { IsHome self.old frame }
         requires inside { at + length bytes.now ≤ 4096 }
@@ -80,7 +81,7 @@ impl<A: Allocator + Copy> FrameStore<A> {
         self.put_back(buf);
     }
 
-    /// Makes the bytes of a home frame zeros.
+    /// Sets all bytes of a home frame to zero.
     pub fn zero(&mut self, frame: FrameId)
         requires { IsHome self.old frame }
         ensures { self.new ≡ slice_set self.old frame (Some (replicate 4096 0)) }
@@ -90,7 +91,7 @@ impl<A: Allocator + Copy> FrameStore<A> {
         self.put_back(buf);
     }
 
-    /// Takes the bytes of a home frame out. No byte is copied.
+    /// Takes the bytes of a home frame out, without copying them.
     pub fn take_out(&mut self, frame: FrameId) -> FrameBuf<A>
         requires { IsHome self.old frame }
         ensures buf { result ≡ (frame, bytes_of self.old frame) }
@@ -102,7 +103,7 @@ impl<A: Allocator + Copy> FrameStore<A> {
         }
     }
 
-    /// Puts the bytes of a frame that is out back home. No byte is copied.
+    /// Puts the bytes of a frame that is out back home, without copying them.
     pub fn put_back(&mut self, buf: FrameBuf<A>)
         requires { IsOut self.old buf.0 }
         ensures { self.new ≡ slice_set self.old buf.0 (Some buf.1) }
