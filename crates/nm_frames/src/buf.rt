@@ -50,7 +50,7 @@ impl<A: Allocator + Copy> FrameBuf<A> {
         self.bytes.written()
     }
 
-    /// Makes the bytes those of another frame.
+    /// Overwrites all bytes with another frame's.
     pub(crate) fn copy_from(&mut self, other: &Self)
         ensures { self.new ≡ (self.old.0, other.now.1) }
     {
