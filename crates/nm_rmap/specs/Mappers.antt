@@ -18,7 +18,7 @@ with_spot mappings spot = insert_key spot_cmp mappings spot
 abbrev pub without_spot : List Mapper → Mapper → List Mapper
 without_spot mappings spot = remove_key (is_at (spot_cmp spot)) mappings
 
--- the pids of the mappers, without repetition
+-- the pids of the mappers, one for each
 abbrev pub pids : List Mapper → List ℕ
 pids mappings = map (λ spot. spot.0) mappings
 
