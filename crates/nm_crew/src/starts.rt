@@ -4,7 +4,7 @@ use std::thread::Builder;
 
 /// Configures the threads of workers.
 pub(crate) trait Starts {
-    /// How to start the thread of the worker of this number.
+    /// The settings for the thread of the worker with this number.
     fn builder(&self, worker: usize) -> Builder;
 }
 

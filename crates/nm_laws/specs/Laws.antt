@@ -87,13 +87,13 @@ written areas q at byte (Write pid address new) Done =
     if overlaps areas pid address (length new) q at then Some (slice_index new (at % 4096 - address % 4096)) else byte
 written areas q at byte a answer = byte
 
--- ... after one access after another ...
+-- the byte after one access after another
 abbrev pub all_written : Map (ℕ × ℕ) Area → ℕ → ℕ → Option ℕ → List Access → List AccessAnswer → Option ℕ
 all_written areas q at byte (a ∷ accesses) (answer ∷ answers) =
     all_written areas q at (written areas q at byte a answer) accesses answers
 all_written areas q at byte accesses answers = byte
 
--- ... and after the accesses of one run after another, numbered from k on
+-- the byte after the accesses of one run after another, with runs numbered from k on
 abbrev pub runs_written : Map (ℕ × ℕ) Area → ℕ → ℕ → Option ℕ → List (ℕ × Access) → ℕ → List (List AccessAnswer) → Option ℕ
 runs_written areas q at byte accesses k [] = byte
 runs_written areas q at byte accesses k (answers ∷ rest) =
@@ -139,7 +139,7 @@ abbrev pub with_move : ℕ → State → Taken → State
 with_move target s t =
     record s { place = set page_cmp s.place t.page t.to; free = slice_set s.free target (drop 1 (free_list s target)) }
 
--- one page after another does so
+-- one page after another takes the target's front frame
 abbrev pub with_moves : State → ℕ → List Taken → State
 with_moves s target taken = fold (with_move target) s taken
 
@@ -157,62 +157,62 @@ PlanIsOneByOne =
     AllByRecursion (λ w. moves_all w ≡ all) ws →
     Agrees s target (each s target ws) (decide (map (status_or_move s target) ws) [] (free_list s target) target)
 
--- reads and writes keep a machine sound, also during a run that has left these frames ...
+-- reads and writes keep a machine sound, also during a run that has left these frames
 abbrev pub AccessIsSound : Type 0
 AccessIsSound = (s : State) (left : List ℕ) (a : Access) → IsSoundMidRun s left → IsSoundMidRun (access s a).state left
 
--- ... and so do runs with accesses in flight ...
+-- so does a run with accesses in flight
 abbrev pub RunIsSound : Type 0
 RunIsSound =
     (s : State) (target : ℕ) (ws : List Wanted) (accesses : List Access) →
     IsSound s → IsSound (run s target ws accesses).state
 
--- ... and batches
+-- so does a batch
 abbrev pub BatchIsSound : Type 0
 BatchIsSound =
     (s : State) (requests : List Request) (accesses : List (ℕ × Access)) →
     IsSound s → IsSound (batch s requests accesses).state
 
--- the new machine is sound ...
+-- a new machine is sound
 abbrev pub NewIsSound : Type 0
 NewIsSound = (g : Layout) → IsSound (new_machine g)
 
--- ... and calls that are not refused keep a machine sound: a new process
+-- a call that is not refused keeps a machine sound: a new process
 abbrev pub SpawnIsSound : Type 0
 SpawnIsSound =
     (s : State) (pid uid home : ℕ) (allowed : List ℕ) (privileged : Bool) →
     IsSound s → spawn_refusal s pid home allowed ≡ None → IsSound (spawn s pid uid home allowed privileged)
 
--- ... an area over a new segment
+-- so does an area over a new segment
 abbrev pub MapIsSound : Type 0
 MapIsSound =
     (s : State) (pid address pages : ℕ) (shared : Bool) →
     IsSound s → map_refusal s pid address pages ≡ None → IsSound (map_new s pid address pages shared)
 
--- ... an area over an existing segment
+-- so does an area over an existing segment
 abbrev pub AttachIsSound : Type 0
 AttachIsSound =
     (s : State) (pid address segment offset pages : ℕ) →
     IsSound s → attach_refusal s pid address segment offset pages ≡ None →
     IsSound (attach s pid address segment offset pages)
 
--- ... a pin
+-- so does a pin
 abbrev pub PinIsSound : Type 0
 PinIsSound = (s : State) (pid address : ℕ) → IsSound s → pin_refusal s pid address ≡ None → IsSound (pin s pid address)
 
--- ... the removal of a pin
+-- so does the removal of a pin, refused or not
 abbrev pub UnpinIsSound : Type 0
 UnpinIsSound = (s : State) (pid address : ℕ) → IsSound s → IsSound (unpin s pid address)
 
--- ... another policy for a range
+-- so does another policy for a range
 abbrev pub PolicyIsSound : Type 0
 PolicyIsSound =
     (s : State) (pid address len : ℕ) (policy : Policy) → IsSound s → IsSound (set_policy s pid address len policy)
 
--- ... the removal of areas
+-- so does unmapping a range
 abbrev pub UnmapIsSound : Type 0
 UnmapIsSound = (s : State) (pid address pages : ℕ) → IsSound s → IsSound (unmap s pid address pages)
 
--- ... the end of a process
+-- so does the exit of a process
 abbrev pub ExitIsSound : Type 0
 ExitIsSound = (s : State) (pid : ℕ) → IsSound s → IsSound (exit s pid)
