@@ -135,13 +135,18 @@ pub fn run_words<
     W: TellingWriter,
     E: Write,
 >(rt: &T, alloc: A, heap: Global, words: &[String], reader: &mut R, out: &mut W, err: &mut E) -> u8
+    // In any case
     ensures status { IsStatus result }
     ensures reports { OfSomeBytes (R.remaining reader.old) (λ trace.
         Leaves result (refusals_of (map string_bytes words.now)) trace (W.contents out.old) (W.contents out.new)) }
 
-    // Status by status
+    // If words are refused
     ensures refused { Refuses (refusals_of (map string_bytes words.now)) result }
+
+    // After status 4
     ensures streams { result ≡ 4 → HasStreamCause (R.has_failed reader.new) (R.gave reader.old reader.new) (W.has_failed out.new) }
+
+    // After status 2
     ensures bad { result ≡ 2 → Appends (W.contents out.old) (W.contents out.new) [] }
 {
     run_words_through(rt, alloc, heap, words, reader, out, err, &OpenGate)
@@ -165,13 +170,18 @@ pub(crate) fn run_words_through<
     err: &mut E,
     gate: &G,
 ) -> u8
+    // In any case
     ensures status { IsStatus result }
     ensures reports { OfSomeBytes (R.remaining reader.old) (λ trace.
         Leaves result (refusals_of (map string_bytes words.now)) trace (W.contents out.old) (W.contents out.new)) }
 
-    // Status by status
+    // If words are refused
     ensures refused { Refuses (refusals_of (map string_bytes words.now)) result }
+
+    // After status 4
     ensures streams { result ≡ 4 → HasStreamCause (R.has_failed reader.new) (R.gave reader.old reader.new) (W.has_failed out.new) }
+
+    // After status 2
     ensures bad { result ≡ 2 → Appends (W.contents out.old) (W.contents out.new) [] }
 {
     let workers = match read_words(heap, words) {
