@@ -155,12 +155,16 @@ impl<A: Allocator + Copy> AreaTable<A> {
         requires number { self.old.next < 65536 }
         requires new { get nat_cmp self.old.segments self.old.next ≡ None }
         requires free { get spot_cmp self.old.areas (pid, first) ≡ None }
+
+        // On success
         ensures number { IfOk result (λ number. number ≡ self.old.next) }
         ensures ok { OnOk result (self.new ≡ record {
           areas = set spot_cmp self.old.areas (pid, first) (new_area self.old.next 0 pages);
           segments = set nat_cmp self.old.segments self.old.next (record { pages = pages; shared = shared });
           next = suc self.old.next;
         }) }
+
+        // Without memory
         ensures err { OnErr result (self.new ≡ self.old) }
     {
         let number = self.next_segment;

@@ -55,8 +55,12 @@ impl<A: Allocator + Copy> Hand<A> {
     pub fn join(&mut self, board: &Board<A>, other: Hand<A>)
         requires own { (self.old.board ≡ board.now) × (other.board ≡ board.now) }
         requires given { (self.old.out ≡ []) × (other.out ≡ []) }
+
+        // In any case
         ensures both { self.new ≡ joined self.old other }
         ensures once { HasNoneTwice self.new }
+
+        // With all shares
         ensures each { self.new.past_end ≡ true → self.new.shares ≡ 64 → HasEach self.new }
     {
         let Hand {

@@ -36,6 +36,8 @@ fn wanted_of<A: Allocator + Copy>(
 /// The run at the front of a batch: its longest stretch for one target.
 fn first_run<A: Allocator + Copy>(alloc: A, requests: &[Request]) -> Result<Run<A>, AllocError>
     requires { 0 < length requests.now }
+
+    // On success
     ensures some { IfOk result (λ run. 0 < length run.wanted.items) }
     ensures within { IfOk result (λ run. length run.wanted.items ≤ length requests.now) }
     ensures first { IfOk result (λ run. IsFirst requests.now run.target run.wanted.items) }

@@ -194,8 +194,14 @@ impl<A: Allocator + Copy> Geometry<A> {
     pub fn distance(&self, from: NodeId, to: NodeId) -> u8
         requires from { from < node_count self.now }
         requires to { to < node_count self.now }
+
+        // In any case
         ensures distance { result ≡ distance self.now from to }
+
+        // To itself
         ensures own { from ≡ to → result ≡ 10 }
+
+        // To another node
         ensures other { from ≢ to → 11 ≤ result }
     {
         self.distances[from.index()][to.index()]
