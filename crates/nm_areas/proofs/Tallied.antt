@@ -1,4 +1,4 @@
--- Whether a page that a process shows has a frame with a number over 0 in a list by frame.
+-- Whether a page that a process shows has a frame with a number above 0 in a list by frame.
 use Rattle.std.proofs.Common.{◌≡◌, ℕ, ◌+◌, ◌≤◌, ◌<◌, List, true, false, refl, sym, ap, ◌∙◌, arith}
 use Rattle.std.specs.Prelude.{Some, None, nat_lt, slice_index_or}
 use Rattle.std.specs.List.{AllByRecursion}
@@ -63,7 +63,7 @@ module _ (areas : Map (ℕ × ℕ) Area) (place : Map Page ℕ) (counts : List �
         absurd (omega (arith, up, before))
 
     module _ (from : ℕ) (so_far : NoneShown from) where
-      -- one area more
+      -- one more area
       pub shown_next : (start : ℕ) (x : Area) → AllByRecursion IsSomePages areas → NoneBegins areas pid from start → get spot_cmp areas (pid, start) ≡ Some x
           → ((v frame : ℕ) → first ≤ v → v < end → start ≤ v → v < start + x.pages → get page_cmp place (page_of ((0, start), x) v) ≡ Some frame → slice_index_or counts frame 0 ≡ 0) → NoneShown (start + 1)
       shown_next start x whole gap there none a m own before v l h s t frame has =

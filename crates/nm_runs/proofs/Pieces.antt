@@ -321,7 +321,7 @@ in_room limit xs room is =
     ⊎_elim (λ less. let more : length xs ≤ room = omega (arith, is, less) in take_all room xs more ∙ sym (take_all limit xs (omega (arith, less))))
     (λ more. let same : room ≡ limit = omega (arith, is, more) in ap (λ n. take n xs) same) (cases_lt (length xs) limit)
 
--- one more run is made, of what stands at the front of the rest
+-- one more run is made, of the requests at the front of the rest
 pub one_more : {A : Type 0} (limit : ℕ) (made : List (Run A)) (run : Run A) (es rest : List Request) (at room : ℕ) → 0 < limit → rest ≡ drop at es → room ≡ min (length rest) limit → 0 < length run.wanted.items → length run.wanted.items ≤ length (take room rest) → IsFirst (take room rest) run.target run.wanted.items
     → stretches_of made ++ cut_within limit (drop at es) ≡ cut_within limit es → stretches_of (made ++ run ∷ []) ++ cut_within limit (drop (at + length run.wanted.items) es) ≡ cut_within limit es
 one_more limit made run es rest at room some is front has inside first so_far =

@@ -1,4 +1,4 @@
--- The blocks of a page table after one of them goes with its leaf, whose number the last leaf takes.
+-- The blocks of a page table after one of them is removed with its leaf, whose number the last leaf gets.
 use Rattle.std.proofs.Common.{◌≡◌, ℕ, zero, suc, ◌+◌, ◌-◌, ◌/◌, ◌≤◌, ◌<◌, List, Option, [], ◌∷◌, length, get_or, take, refl, sym, ap, subst, ◌∙◌, arith}
 use Rattle.std.specs.Prelude.{Some, None, IsSome, slice_get, set as put, swap_remove}
 use Rattle.std.specs.Option.{option_map}
@@ -150,7 +150,7 @@ module _ (leaves : List Places) (index : Map ℕ Slot) (is : AreBlocks leaves in
   named_other : (i : ℕ) (leaf : Places) → slice_get leaves i ≡ Some leaf → (i ≡ n → ⊥) → leaf.block ≡ v / 512 → ⊥
   named_other i leaf at apart z = apart (leaf_is i n (some_is (sym (named i leaf at) ∙ ap (get nat_cmp index) z ∙ there)))
 
-  -- the last leaf itself goes
+  -- the last leaf itself is removed
   module _ (last : n + 1 ≡ length leaves) where
     last_match : (k : ℕ) → Matches leaves (swap_remove leaves n x) k (get nat_cmp (without nat_cmp index (v / 512)) k) (get nat_cmp (without nat_cmp index (v / 512)) k)
     last_match k = at_other_block k (λ j apart of. let low = within leaves j k of in let differs = other k j apart of in not_last j low differs)

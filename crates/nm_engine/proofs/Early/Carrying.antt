@@ -112,14 +112,14 @@ none_more : (a b c : ℕ) (t : Bool) → a + b + c ≡ cond t 1 0 → 1 ≤ a �
 none_more a b c true e h = omega (arith, e, h)
 none_more a b c false e h = omega (arith, e, h)
 
--- a frame that is a page's is none that a run has left or taken
+-- a page's frame is not one that a run has left or taken
 placed_apart : (s : State) (l : List ℕ) (p : Page) (f : ℕ) → IsSoundMidRun s l → get page_cmp s.place p ≡ Some f → times f l ≡ 0
 placed_apart s l p f h placed = none_more (times f (values_of s.place)) (sum_by (times f) s.free) (times f l) (nat_lt f (frame_count s.layout)) (h.frames.once f) (counted_place s.place p f placed)
 
 -- ---- all at once
 
 module _ (y : SpacesView) (k : FramesView) (online : List ℕ) (moved failed target : ℕ) (taken : List Taken) (dues : List Due) where
-  -- the frames as if those that are taken were a node's still
+  -- the frames as if those that are taken were still a node's
   abbrev pub given : FramesView
   given = record k { free = slice_set k.free target (tos taken ++ free_on k target); vacated = [] }
 
@@ -194,7 +194,7 @@ module _ (y : SpacesView) (k : FramesView) (online : List ℕ) (moved failed tar
     kept_then : IsKept (shown_by spaces_then frames_then online moved failed) (left taken) spaces_then.frames
     kept_then = subst (λ (x : FramesView). IsKept (shown_by spaces_then x online moved failed) x.vacated spaces_then.frames) all_is done.kept
 
-    -- the page of what is left to do stands in a frame that is home meanwhile
+    -- the page concerned is in a frame that is home meanwhile
     page_in : (store : Store) → ((f : ℕ) → times f (left taken) ≡ 0 → times f (tos taken) ≡ 0 → IsHome k.frames f → IsHome store f)
         → (p : Page) (at len : ℕ) (o : Option ℕ) → get page_cmp y.place p ≡ o → IsSome o → list_any (same_page p) (pages_of taken) ≡ false → at + len ≤ 4096 → IsIn spaces_then.place store p at len
     page_in store homes p at len None e some other fits = cc

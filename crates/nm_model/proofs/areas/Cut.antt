@@ -105,7 +105,7 @@ cut_mid pid at a own low high =
     ∙ ap (λ x. x ∷ rest_of at a ∷ []) (same_placed (front_of at a) (a.0, shorter at a) refl refl (omega (arith, high)) refl refl refl)
     ∙ ap (λ x. (a.0, shorter at a) ∷ x ∷ []) (same_placed (rest_of at a) ((a.0.0, at), later at a) refl (omega (arith, low)) (omega (arith, low)) refl refl (omega (arith, low)))
 
--- an area that is not over the page number, or begins there, stays as it is
+-- an area that does not cover the page number, or begins there, stays as it is
 pub cut_not : (pid at : ℕ) (a : Placed) → 0 < a.1.pages → (a.0.0 ≡ pid → a.0.1 < at → at < behind_last a → ⊥) → parts_outside pid at at a ≡ a ∷ []
 cut_not pid at a some h =
     elim (nat_lt a.0.1 at) as (λ b. nat_lt a.0.1 at ≡ b → parts_outside pid at at a ≡ a ∷ []) [
