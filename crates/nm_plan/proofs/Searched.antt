@@ -103,7 +103,7 @@ module _ {A : Type 0} (s : Search A) (ts : List Taken) (t : Taken) (h : Finds s 
   cond_or false true = refl
   cond_or false false = refl
 
-  -- one past them, whose page the set has now
+  -- one past them, whose page the set then has
   pub one_past_few : (new : BTreeSet Page) → s.ascending + 8 ≤ length ts → Updates page_cmp s.later new t.page true → Finds {A = A} (record { ascending = s.ascending; later = new }) (ts ++ t ∷ [])
   one_past_few new many updates =
       let behind = λ (p : Page).

@@ -1,4 +1,4 @@
-//! Worked examples over the definitions alone.
+//! Worked examples of the definitions alone. Each function does nothing, and its contract is the law.
 
 ghost use Rattle.nm_tables.specs.Examples.{EntriesStandUpwards, ClearedEntryIsGone};
 

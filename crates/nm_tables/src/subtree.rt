@@ -23,7 +23,7 @@ pub(crate) trait Subtree<A: Allocator + Copy>: Drop {
     /// What always holds of a part.
     ghost whole: { Self → Type 0 };
 
-    /// It is the part of this number.
+    /// It is the part with this number.
     ghost is_in: { Self → ℕ → Type 0 };
 
     /// It may be asked about this block.

@@ -34,7 +34,7 @@ pub struct Area {
 /// A run of pages that areas show.
 #[derive(Clone, Copy, Debug, PartialEq, Eq)]
 pub struct Segment {
-    /// Its length in pages, at least 1.
+    /// Its length in pages: at least 1, at most 2^35.
     pub pages: u64,
     /// Whether processes may attach it. A private segment is shown only by the area that its `map` made, or by what is
     /// left of that area after splits.

@@ -5,6 +5,6 @@
 pub struct Page {
     /// The segment's number, below 65,536.
     pub segment: u32,
-    /// The page's index in the segment, in pages from 0.
+    /// The page's index in the segment, in pages from 0: below the segment's length.
     pub index: u64,
 }

@@ -18,7 +18,7 @@ impl Model for FrameId {
 }
 
 impl FrameId {
-    /// The FrameId of this number.
+    /// The FrameId with this number.
     pub const fn new(number: u16) -> Self
         ensures { result ≡ number }
     {

@@ -17,7 +17,7 @@ impl Model for NodeId {
 }
 
 impl NodeId {
-    /// The NodeId of this number.
+    /// The NodeId with this number.
     pub const fn new(number: u32) -> Self
         ensures { result ≡ number }
     {

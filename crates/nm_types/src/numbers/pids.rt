@@ -17,7 +17,7 @@ impl Model for Pid {
 }
 
 impl Pid {
-    /// The Pid of this number.
+    /// The Pid with this number.
     pub const fn new(number: u32) -> Self
         ensures { result ≡ number }
     {

@@ -18,7 +18,7 @@ impl Model for Vpn {
 }
 
 impl Vpn {
-    /// The Vpn of this number.
+    /// The Vpn with this number.
     pub const fn new(number: u64) -> Self
         ensures { result ≡ number }
     {
