@@ -50,7 +50,7 @@ IsPool-without_front p node is within =
     let ns = list_of p node in
     IsPool-with_list p node (drop 1 ns) is within (λ q h. is.in_machine node q (is_in-drop ns q h)) (λ q h. is.own node q (is_in-drop ns q h)) (distinct-drop ns (is.distinct node))
 
--- the same of as many as one likes
+-- the same of any number of them
 is_in-drop_many : (n : ℕ) (ns : List ℕ) (q : ℕ) → is_in (drop n ns) q ≡ true → is_in ns q ≡ true
 is_in-drop_many zero ns q h = h
 is_in-drop_many (suc n) [] q h = h

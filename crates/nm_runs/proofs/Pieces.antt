@@ -63,7 +63,7 @@ cut_within_other limit t ws es some has short apart =
     ap (flat_map (within limit)) (cut_other t ws es has apart)
     ∙ ap (λ l. l ++ cut_within limit es) (within_short limit (record { target = t; wanted = ws }) some has short)
 
--- requests as many as the limit are a run in front, whatever follows
+-- as many requests as the limit are a run at the front, whatever follows
 cut_within_full : (limit t : ℕ) (ws : List Wanted) (es : List Request) → 0 < limit → length ws ≡ limit → cut_within limit (all_to t ws ++ es) ≡ record { target = t; wanted = ws } ∷ cut_within limit es
 cut_within_full limit t ws es some full = by_first (cut es) refl
   where

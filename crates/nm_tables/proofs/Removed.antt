@@ -22,7 +22,7 @@ use Rattle.nm_tables.proofs.Joined.{one_or_other, alike}
 use Rattle.nm_tables.proofs.Slots.{within, blocks-found, get-written, get-written_other}
 use Rattle.nm_tables.proofs.Kept.{replaced_here, replaced_other, taken_here, taken_other}
 
--- the first of a list, and what stands there
+-- the first of a list, and the item there
 get-taken : (leaves : List Places) (m j : ℕ) → j < m → slice_get (take m leaves) j ≡ slice_get leaves j
 get-taken [] zero j l = refl
 get-taken [] (suc m) j l = refl

@@ -64,7 +64,7 @@ get-written_other (leaf ∷ leaves) zero (suc j) q apart = refl
 get-written_other (leaf ∷ leaves) (suc i) zero q apart = refl
 get-written_other (leaf ∷ leaves) (suc i) (suc j) q apart = get-written_other leaves i j q (λ e. apart (ap suc e))
 
--- a leaf comes behind the others
+-- a leaf is added after the others
 pub get-behind : (leaves : List Places) (q : Places) → slice_get (leaves ++ q ∷ []) (length leaves) ≡ Some q
 get-behind [] q = refl
 get-behind (leaf ∷ leaves) q = get-behind leaves q
@@ -237,7 +237,7 @@ module _ (leaves : List Places) (index : Map ℕ Slot) (is : AreBlocks leaves in
         ∙ joined-without block_number blocks_upwards (shown (slot_entries leaves) index) (are_parts (slot_entries leaves) block_number IsSlot (IsSlotOf leaves) (slot_part leaves) index is) v (leaf_entries p)
         (at_shown (v / 512) (Leaf i) h ∙ ap (λ o. Some (entries_there o)) at)
 
-  -- a leaf comes behind the others
+  -- a leaf is added after the others
   module _ (q : Places) where
     behind_there : (j k : ℕ) → IsLeafOf (slice_get leaves j) k → slice_get (leaves ++ q ∷ []) j ≡ slice_get leaves j
     behind_there j k of = get-before leaves q j (within leaves j k of)

@@ -51,7 +51,7 @@ members-without_first bits some small =
     lowest (bit_and bits (bit_not w64 (1 * 2 ^ t % 2 ^ 64))) bits 0 64 t (omega arith) (omega (arith, is.0)) is.1 is.2 (bit_at_clear_same w64 bits t is.0)
     (λ i lt ne. bit_at_clear_other w64 bits t is.0 i (omega arith) ne)
 
--- members are at most as many as the places
+-- there are at most as many members as places
 few : (bits n k : ℕ) → length (members_from bits n k) ≤ k
 few bits n zero = omega arith
 few bits n (suc k) =

@@ -85,7 +85,7 @@ module _ (y : SpacesView) (tasks : Map ℕ Task) (m : Mapped) (r : Mappers) (pid
 
 -- ---- entries in a range go
 
--- whether a page number is in front of a range or after it
+-- whether a page number is before a range or after it
 abbrev pub out : ℕ → ℕ → ℕ → Bool
 out a b w = nat_lt w a || nat_le b w
 
