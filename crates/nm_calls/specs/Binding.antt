@@ -112,7 +112,7 @@ abbrev pub binding : State → ℕ → ℕ → ℕ → ℕ → List ℕ → Bind
 binding s pid address len mode nodes =
     range_of pid address len (policy_of mode (usable s (allowed_to (info_at s pid)) nodes))
 
--- ESRCH: no such caller. EINVAL: bad arguments. EPERM: MPOL_MF_MOVE_ALL without privilege
+-- ESRCH: no such caller; EINVAL: bad arguments; EPERM: MPOL_MF_MOVE_ALL without privilege
 abbrev pub mode_refusal : State → Option ProcessInfo → ℕ → List ℕ → ℕ → Option Errno
 mode_refusal s None mode nodes flags = Some Esrch
 mode_refusal s (Some caller) mode nodes flags =
@@ -123,7 +123,7 @@ mode_refusal s (Some caller) mode nodes flags =
 abbrev pub is_strictly_refused : State → Binding → ℕ → Bool
 is_strictly_refused s b flags = is_strict flags && not (moves flags) && not (length (astray s b) == 0)
 
--- EINVAL: a bad address or length. EFAULT: a page without an area. EIO: a page that does not follow the policy
+-- EINVAL: a bad address or length; EFAULT: a page without an area. EIO: a page that does not follow the policy
 abbrev pub range_refusal : State → ℕ → ℕ → ℕ → Policy → ℕ → Option Errno
 range_refusal s caller address len policy flags =
     let strict = is_strictly_refused s (range_of caller address len policy) flags in

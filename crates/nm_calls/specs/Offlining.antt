@@ -17,7 +17,7 @@ use Rattle.nm_calls.specs.Migrating.{is_on}
 use Rattle.nm_calls.specs.Passes.{passes}
 use Rattle.nm_calls.specs.Permission.{is_none}
 
--- EINVAL: no such node. EBUSY: no other node is online
+-- EINVAL: no such node; EBUSY: no other node is online
 abbrev pub offline_refusal : State → ℕ → Option Errno
 offline_refusal s node =
     let only = is_in s.online node && is_none (without_node s.online node) in

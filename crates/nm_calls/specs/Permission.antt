@@ -26,12 +26,12 @@ moves_all flags = flags / 4 % 2 == 1
 abbrev pub owner_of : ℕ → ℕ → ℕ
 owner_of caller pid = if pid == 0 then caller else pid
 
--- EINVAL: an unknown flag. EPERM: MPOL_MF_MOVE_ALL without privilege
+-- EINVAL: an unknown flag; EPERM: MPOL_MF_MOVE_ALL without privilege
 abbrev pub flags_refusal : Bool → ℕ → Option Errno
 flags_refusal privileged flags =
     first_error ((has_other_flags flags, Einval) ∷ (moves_all flags && not privileged, Eperm) ∷ [])
 
--- ESRCH: no such process. EPERM: a process of another user, without privilege
+-- ESRCH: no such process; EPERM: a process of another user, without privilege
 abbrev pub right_refusal : ProcessInfo → Option ProcessInfo → Option Errno
 right_refusal caller None = Some Esrch
 right_refusal caller (Some owner) = if (caller.uid == owner.uid) || caller.privileged then None else Some Eperm

@@ -29,7 +29,7 @@ abbrev pub is_room : Map (ℕ × ℕ) Area → ℕ → ℕ → ℕ → Bool
 is_room areas pid address pages =
     is_range address pages && not (list_any (overlaps pid (address / 4096) (address / 4096 + pages)) areas)
 
--- EINVAL: no room for the area. ENOMEM: no segment number is left
+-- EINVAL: no room for the area; ENOMEM: no segment number is left
 abbrev pub insert_refusal : Mapped → ℕ → ℕ → ℕ → Option Errno
 insert_refusal m pid address pages =
     let full = nat_le 65536 m.next in
@@ -46,7 +46,7 @@ stretch_refusal m pid address segment offset pages =
     let fits = is_room m.areas pid address pages && is_stretch (get nat_cmp m.segments segment) offset pages in
     first_error ((not fits, Einval) ∷ [])
 
--- EINVAL: an address inside a page, or an end past 2^64 - 1. EFAULT: a page without an area
+-- EINVAL: an address inside a page, or an end past 2^64 - 1; EFAULT: a page without an area
 abbrev pub range_refusal : Mapped → ℕ → ℕ → ℕ → Option Errno
 range_refusal m pid address len =
     let pages = pages_of len in

@@ -155,7 +155,7 @@ abbrev pub is_unknown : State → ℕ → Bool
 is_unknown s pid = not (is_some (get nat_cmp s.processes pid))
 
 -- EINVAL: pid 0 or one that is alive, a home that is no node, or an allowed set that is empty or not all of the
--- machine. ENOMEM: 1,024 processes are alive
+-- machine; ENOMEM: 1,024 processes are alive
 abbrev pub spawn_refusal : State → ℕ → ℕ → List ℕ → Option Errno
 spawn_refusal s pid home allowed =
     let nodes = node_count s.layout in
@@ -163,12 +163,12 @@ spawn_refusal s pid home allowed =
     let full = nat_le 1024 (length s.processes) in
     first_error (((pid == 0) || not (is_unknown s pid) || bad_nodes, Einval) ∷ (full, Enomem) ∷ [])
 
--- ESRCH: no such process. EINVAL: no room for the area. ENOMEM: no segment number is left
+-- ESRCH: no such process; EINVAL: no room for the area; ENOMEM: no segment number is left
 abbrev pub map_refusal : State → ℕ → ℕ → ℕ → Option Errno
 map_refusal s pid address pages =
     if is_unknown s pid then Some Esrch else areas.insert_refusal (areas_of s) pid address pages
 
--- ESRCH: no such process. EINVAL: no room for the area, or no such range of a shared segment
+-- ESRCH: no such process; EINVAL: no room for the area, or no such range of a shared segment
 abbrev pub attach_refusal : State → ℕ → ℕ → ℕ → ℕ → ℕ → Option Errno
 attach_refusal s pid address segment offset pages =
     if is_unknown s pid then Some Esrch else areas.stretch_refusal (areas_of s) pid address segment offset pages
@@ -180,31 +180,31 @@ shows_pinned areas pins pid first end =
     let shown = λ (a : Placed). (a.0.0 == pid) && list_any is_pinned (pages_between first end a) in
     list_any shown areas
 
--- ESRCH: no such process. EINVAL: no range of whole pages. EBUSY: a page in the range has a pin
+-- ESRCH: no such process; EINVAL: no range of whole pages; EBUSY: a page in the range has a pin
 abbrev pub unmap_refusal : State → ℕ → ℕ → ℕ → Option Errno
 unmap_refusal s pid address pages =
     let busy = shows_pinned s.areas s.pins pid (address / 4096) (address / 4096 + pages) in
     first_error ((is_unknown s pid, Esrch) ∷ (not (is_range address pages), Einval) ∷ (busy, Ebusy) ∷ [])
 
--- ESRCH: no such process. EBUSY: a page in one of its areas has a pin
+-- ESRCH: no such process; EBUSY: a page in one of its areas has a pin
 abbrev pub exit_refusal : State → ℕ → Option Errno
 exit_refusal s pid = first_error ((is_unknown s pid, Esrch) ∷ (shows_pinned s.areas s.pins pid 0 (2 ^ 35), Ebusy) ∷ [])
 
--- EFAULT: no area, or the page of zeros. ENOENT: nothing touched there. Else this error, for these numbers of pins
+-- EFAULT: no area, or the page of zeros; ENOENT: nothing touched there; else this error, for these numbers of pins
 abbrev pub pins_refusal : State → (ℕ → Bool) → Errno → Seen → Option Errno
 pins_refusal s is_bad e NoArea = Some Efault
 pins_refusal s is_bad e Absent = Some Enoent
 pins_refusal s is_bad e Zero = Some Efault
 pins_refusal s is_bad e (At p frame processes pinned) = if is_bad (pins_of s p) then Some e else None
 
--- ESRCH: no such process. EFAULT: no area, or the page of zeros. ENOENT: nothing touched there. EBUSY: the page has
+-- ESRCH: no such process; EFAULT: no area, or the page of zeros; ENOENT: nothing touched there; EBUSY: the page has
 -- 65,535 pins
 abbrev pub pin_refusal : State → ℕ → ℕ → Option Errno
 pin_refusal s pid address =
     if is_unknown s pid then Some Esrch
     else pins_refusal s (nat_le 65535) Ebusy (look s pid (address / 4096))
 
--- ESRCH: no such process. EFAULT: no area, or the page of zeros. ENOENT: nothing touched there. EINVAL: the page has no
+-- ESRCH: no such process; EFAULT: no area, or the page of zeros; ENOENT: nothing touched there; EINVAL: the page has no
 -- pin
 abbrev pub unpin_refusal : State → ℕ → ℕ → Option Errno
 unpin_refusal s pid address =
@@ -219,7 +219,7 @@ list_refusal s node = first_error ((nat_le (node_count s.layout) node, Einval) �
 abbrev pub entries_refusal : State → ℕ → Option Errno
 entries_refusal s pid = first_error ((is_unknown s pid, Esrch) ∷ [])
 
--- ESRCH: no such process. EINVAL: an address inside a page, or an end past 2^64 - 1. EFAULT: a page without an area
+-- ESRCH: no such process; EINVAL: an address inside a page, or an end past 2^64 - 1; EFAULT: a page without an area
 abbrev pub policy_refusal : State → ℕ → ℕ → ℕ → Option Errno
 policy_refusal s pid address len =
     if is_unknown s pid then Some Esrch else areas.range_refusal (areas_of s) pid address len
