@@ -123,7 +123,7 @@ mode_refusal s (Some caller) mode nodes flags =
 abbrev pub is_strictly_refused : State → Binding → ℕ → Bool
 is_strictly_refused s b flags = is_strict flags && not (moves flags) && not (length (astray s b) == 0)
 
--- EINVAL: a bad address or length; EFAULT: a page without an area. EIO: a page that does not follow the policy
+-- EINVAL: a bad address or length; EFAULT: a page without an area; EIO: a page that does not follow the policy
 abbrev pub range_refusal : State → ℕ → ℕ → ℕ → Policy → ℕ → Option Errno
 range_refusal s caller address len policy flags =
     let strict = is_strictly_refused s (range_of caller address len policy) flags in

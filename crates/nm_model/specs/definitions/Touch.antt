@@ -34,7 +34,7 @@ abbrev pub spot_over : ℕ → Process → ℕ → Option Placed → Result Spot
 spot_over pid process v None = Err Efault
 spot_over pid process v (Some area) = Ok (record { pid = pid; process = process; area = area; vpn = v })
 
--- this place, or the first refusal; ESRCH: no such process; EINVAL: no byte, or past the page's end; EFAULT: no area
+-- this place, or the first refusal (ESRCH: no such process; EINVAL: no byte, or past the page's end; EFAULT: no area)
 abbrev pub spot_of : State → Option Process → ℕ → ℕ → ℕ → Result Spot Errno
 spot_of s None pid address len = Err Esrch
 spot_of s (Some process) pid address len =
