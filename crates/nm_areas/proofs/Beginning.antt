@@ -83,7 +83,7 @@ module _ (pid at start : ℕ) (area : Area) (areas : Map (ℕ × ℕ) Area) (apa
             ] found
       ] refl
 
-  -- and with the rest gone again
+  -- and with the rest removed again
   pub same_back : (now : Map (ℕ × ℕ) Area) → now ≡ split_at pid at areas → IfSome (get spot_cmp (without spot_cmp now (pid, at)) (pid, start)) (λ a. a.page.segment ≡ area.page.segment)
   same_back now is =
       elim (get spot_cmp (without spot_cmp now (pid, at)) (pid, start)) as (λ o. get spot_cmp (without spot_cmp now (pid, at)) (pid, start) ≡ o → IfSome o (λ a. a.page.segment ≡ area.page.segment)) [

@@ -72,7 +72,7 @@ total_parts f test (x ∷ areas) =
       | false ↦ omega (arith, rest)
     ]
 
--- an area more
+-- with another area
 pub total_set : (f : Placed → ℕ) (areas : Map (ℕ × ℕ) Area) (s : ℕ × ℕ) (x : Area) → get spot_cmp areas s ≡ None → total f (set spot_cmp areas s x) ≡ total f areas + f (s, x)
 total_set f [] s x h = omega arith
 total_set f (e ∷ areas) s x h =
@@ -82,7 +82,7 @@ total_set f (e ∷ areas) s x h =
       | Greater ↦ λ k. let rest = total_set f areas s x k in omega (arith, rest)
     ] h
 
--- of areas that are apart at most one is over a page number
+-- of areas that do not overlap at most one covers a page number
 module _ (f : Placed → ℕ) (pid at : ℕ) (not_over : (a : Placed) → covers a pid at ≡ false → f a ≡ 0) where
   pub total_over : (areas : Map (ℕ × ℕ) Area) → AreasAreApart areas → (a : Placed) → area_over areas pid at ≡ Some a → total f areas ≡ f a
   total_over [] apart a h = absurd (none_some h)
@@ -261,7 +261,7 @@ split_there pid at p a own low high =
     ap (λ b. if b && (nat_lt a.0.1 at && same_page (page_of a at) p) then 2 else 0) (covers_from a pid at own (omega (arith, low)) high)
     ∙ ap (λ b. if b && same_page (page_of a at) p then 2 else 0) (lt-ltb a.0.1 at low)
 
--- an area that is not over a page number, or begins there, is not split
+-- an area that does not cover a page number, or begins there, is not split
 pub not_over : (pid at : ℕ) (p : Page) (a : Placed) → covers a pid at ≡ false → split_of pid at p a ≡ 0
 not_over pid at p a h = ap (λ b. if b && (nat_lt a.0.1 at && same_page (page_of a at) p) then 2 else 0) h
 
@@ -327,7 +327,7 @@ module _ (pid at : ℕ) (p : Page) (a : Placed) where
       let nothing : covers_of p a.1 + 0 ≡ covers_of p a.1 = omega arith in
       ap (total (λ b. covers_of p b.1)) (cut_not pid at a some other) ∙ nothing)
 
-  -- a split in front of it changes nothing at a page number
+  -- a split before a page number changes nothing there
   pub split_stays : (first : ℕ) → first < at → 0 < a.1.pages → total (split_of pid at p) (parts_outside pid first first a) ≡ split_of pid at p a
   split_stays first less some =
       crossing pid first a _

@@ -14,7 +14,7 @@ two = ((1, 16), new_area 7 0 3) ∷ ((2, 16), new_area 7 2 2) ∷ []
 abbrev step : ℕ → ℕ → Step
 step covers ends = record { covers = covers; ends = ends }
 
--- both cover page 2; after page 3 none does, and nothing stands after page 4
+-- both cover page 2, none covers a page after 3, and there is no step after page 4
 abbrev their_steps : Map Page Step
 their_steps = (page_in 7 0, step 1 1) ∷ (page_in 7 2, step 2 1) ∷ (page_in 7 3, step 1 1) ∷ (page_in 7 4, step 0 1) ∷ []
 

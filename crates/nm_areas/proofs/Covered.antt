@@ -1,4 +1,4 @@
--- The steps are those of the areas again after a call.
+-- After a call the steps are again those of the areas.
 use Rattle.std.proofs.Common.{◌≡◌, ℕ, ◌+◌, ◌<◌, Bool, true, refl, sym, ap, subst, ◌∙◌}
 use Rattle.std.specs.Prelude.{None}
 use Rattle.std.specs.List.{AllByRecursion, flat_map, list_any}
@@ -24,7 +24,7 @@ pub came : (m : Map Page Step) (t now : Table) (s : ℕ × ℕ) (x y : Area) (sh
 came m t now s x y shared same free is kind old steps =
     subst (IsCoverage m now.segments) (sym is) (more_covered m t.segments now.segments t.areas s y shared free kind old (subst (λ z. IsWith m t.segments t.areas z shared) same steps))
 
--- it did not come after all
+-- the area was not added after all
 module _ (t now : Table) (place : Map Page ℕ) (m back : Map Page Step) (x y : Area) (shared : Bool) (fine : IsMapped (mapped t place)) (same : x ≡ y) (steps : IsWith m t.segments t.areas x shared)
     (gone : (segments : Map ℕ Segment) (areas : Map (ℕ × ℕ) Area) → IsWith m segments areas y shared → IsCoverage back segments areas) (is : now ≡ t) where
   pub stayed : IsMapped (mapped now place) × IsCoverage back now.segments now.areas
@@ -50,7 +50,7 @@ module _ (m : Map Page Step) (segments : Map ℕ Segment) (areas : Map (ℕ × �
   pub was_cut : (now : Map (ℕ × ℕ) Area) → now ≡ both → IsCoverage m segments now
   was_cut now is = subst (IsCoverage m segments) (sym is) cut_both
 
-  -- and those between have a policy
+  -- and those between get a policy
   pub was_policed : (policy : Policy) (n count : ℕ) (now : Map (ℕ × ℕ) Area) → end ≡ n + count → n ≡ first → now ≡ flat_map (repoliced pid first (first + count) policy) areas → IsCoverage m segments now
   was_policed policy n count now sum same is =
       subst (IsCoverage m segments) (all_repoliced pid first end policy less areas some ∙ ap (λ k. flat_map (repoliced pid first k policy) areas) (sum ∙ ap (λ k. k + count) same) ∙ sym is)

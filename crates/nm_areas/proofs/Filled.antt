@@ -1,4 +1,4 @@
--- Areas of a process, one right behind another.
+-- Areas of a process, each right after another.
 use Rattle.std.proofs.Common.{◌≡◌, ℕ, ◌+◌, ◌≤◌, ◌<◌, true, false, ◌&&◌, refl, sym, ap, subst, ◌∙◌, arith}
 use Rattle.std.specs.Prelude.{Some, None, zero, suc, max, nat_lt}
 use Rattle.std.specs.Option.{is_some}
@@ -17,18 +17,18 @@ use Rattle.nm_areas.proofs.Own.{NoneBegins}
 use Rattle.nm_model.proofs.areas.Cut.{over_facts}
 use Rattle.nm_areas.proofs.Searched.{begun_all, over_all}
 
--- no area that is over a page number begins in front of it
+-- no area that covers a page number begins before it
 abbrev pub NoneReaches : Map (ℕ × ℕ) Area → ℕ → ℕ → Type 0
 NoneReaches areas pid at = (a : Placed) → Among a areas → covers a pid at ≡ true → at ≤ a.0.1
 
--- an area is over all of its page numbers
+-- an area covers all of its page numbers
 abbrev pub IsOver : Map (ℕ × ℕ) Area → ℕ → ℕ → Area → Type 0
 IsOver areas pid start x = (v : ℕ) → start ≤ v → v < start + x.pages → area_over areas pid v ≡ Some ((pid, start), x)
 
 pub pages_some : (areas : Map (ℕ × ℕ) Area) (pid start : ℕ) (x : Area) → AllByRecursion IsSomePages areas → get spot_cmp areas (pid, start) ≡ Some x → 0 < x.pages
 pages_some areas pid start x whole there = All-among IsSomePages areas ((pid, start), x) whole (get_among areas (pid, start) x there)
 
--- behind an area
+-- after an area
 module _ (areas : Map (ℕ × ℕ) Area) (apart : AreasAreApart areas) (whole : AllByRecursion IsSomePages areas) (pid start : ℕ) (x : Area) (some : 0 < x.pages) (its : IsOver areas pid start x) where
   pub none_within : NoneBegins areas pid (start + 1) (start + x.pages)
   none_within v low high =
@@ -73,7 +73,7 @@ module _ (areas : Map (ℕ × ℕ) Area) (pid at : ℕ) (reaches : NoneReaches a
             absurd (get_not_none areas a found.0 (ap (λ (k : ℕ × ℕ). get spot_cmp areas k) (λ i. (parts.0 i, same i)) ∙ none))
       ] refl
 
--- an area that begins from there on, where none begins in front of a page number
+-- an area that begins there or later, where none begins before a page number
 pub begins_from : (areas : Map (ℕ × ℕ) Area) (pid from at start : ℕ) (x : Area) → NoneBegins areas pid from at → from ≤ start → get spot_cmp areas (pid, start) ≡ Some x → at ≤ start
 begins_from areas pid from at start x none low there =
     elim (nat_lt start at) as (λ b. nat_lt start at ≡ b → at ≤ start) [
@@ -94,7 +94,7 @@ module _ (inside areas : Map (ℕ × ℕ) Area) (is : inside ≡ areas) (pid at 
   pub mapped_inside : (n : ℕ) → is_mapped inside pid at n ≡ is_mapped areas pid at n
   mapped_inside n = ap (λ m. is_mapped m pid at n) is
 
--- where an area is over a later page number, and begins no later than this one
+-- where an area covers a later page number, and begins no later than this one
 module _ (areas : Map (ℕ × ℕ) Area) (apart : AreasAreApart areas) (pid at v start : ℕ) (x : Area) (later : at ≤ v) (there : area_over areas pid v ≡ Some ((pid, start), x)) where
   over_earlier : start ≤ at → area_over areas pid at ≡ Some ((pid, start), x)
   over_earlier low = let facts = over_facts pid v areas start x (sym there) in over_all areas apart pid v start x (sym there) at low (omega (arith, later, facts.2))

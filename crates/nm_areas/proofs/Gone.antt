@@ -1,4 +1,4 @@
--- Areas that go, and the segments that no other area shows.
+-- Areas that are removed, and the segments that no other area shows.
 use Rattle.std.proofs.Common.{◌≡◌, ℕ, suc, ◌≤◌, ◌<◌, arith, List, [], ◌∷◌, length, Bool, true, false, not, ◌||◌, cond, refl, sym, ap, subst, ◌∙◌, eq-eqb, inl, inr}
 use Rattle.std.specs.Prelude.{Some, ◌==◌}
 use Rattle.std.specs.List.{AllByRecursion, list_any, filter}
@@ -54,7 +54,7 @@ module _ (pid first end : ℕ) where
       let parts = own_parts pid first end a h in
       get_not_none areas a m (ap (λ (p : ℕ). get spot_cmp areas (p, a.0.1)) parts.0 ∙ none a.0.1 parts.1 parts.2))))
 
--- one less
+-- one area fewer
 pub fewer : (areas : Map (ℕ × ℕ) Area) (k : ℕ × ℕ) (x : Area) → get spot_cmp areas k ≡ Some x → length (without spot_cmp areas k) < length areas
 fewer [] k x h = absurd (some_none (sym h))
 fewer (e ∷ areas) k x h =
@@ -159,12 +159,12 @@ module _ (pid first end : ℕ) (areas now : Map (ℕ × ℕ) Area) (s : ℕ) (x 
       removed ∙ ap (λ m. without nat_cmp m x.page.segment) so_far
       ∙ segment_gone areas (pid, s) x there (ap (list_any (shows_segment x.page.segment)) (sym gone) ∙ sym is ∙ shown) all sorted ∙ ap (segments_left all) (sym gone)
 
--- all have gone
+-- all are removed
 pub both_left : (pid first end : ℕ) (t now : Table) → now.areas ≡ others pid first end t.areas → now.next ≡ t.next → now.segments ≡ segments_left t.segments now.areas → now ≡ without_own t pid first end
 both_left pid first end t now areas next segments =
     let left = segments ∙ ap (segments_left t.segments) areas in
     λ i. record { areas = areas i; segments = left i; next = next i }
 
--- a segment goes after an area
+-- a segment is removed after an area
 pub dropped_from : (t taken dropped : Table) (areas : Map (ℕ × ℕ) Area) (n : ℕ) → taken ≡ with_areas t areas → dropped ≡ record taken { segments = without nat_cmp taken.segments n } → dropped.segments ≡ without nat_cmp t.segments n
 dropped_from t taken dropped areas n took is = ap (λ (u : Table). u.segments) is ∙ ap (λ (u : Table). without nat_cmp u.segments n) took

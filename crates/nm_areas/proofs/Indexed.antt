@@ -89,7 +89,7 @@ module _ (keys new_keys : List Key) (areas new : Map (ℕ × ℕ) Area) (s : ℕ
       changed keys new_keys areas new number s None false index key area refl
       (λ m other. ap (is_of m) there ∙ false_from_ne_true (number == m) (λ e. other (eqb-true number m e)))
 
--- a key that comes and goes again
+-- a key that is added and removed again
 pub key_undone : (keys more back : List Key) (areas : Map (ℕ × ℕ) Area) (k : Key) → IsIndex keys areas → get spot_cmp areas (k.1, k.2) ≡ None → ((q : Key) → has more q ≡ cond (is_eq (key_cmp k q)) true (has keys q))
     → ((q : Key) → has back q ≡ cond (is_eq (key_cmp k q)) false (has more q)) → IsIndex back areas
 key_undone keys more back areas k index fresh came went q =

@@ -1,4 +1,4 @@
--- What an area more keeps of all areas.
+-- What another area preserves of all areas.
 use Rattle.std.proofs.Common.{◌≡◌, ℕ, suc, ◌+◌, ◌≤◌, ◌<◌, ◌^◌, [], ◌∷◌, Bool, true, false, not, cond, refl, sym, subst, ◌∙◌, arith, ◌||◌, eq-eqb}
 use Rattle.std.specs.Prelude.{None, Some}
 use Rattle.std.specs.List.{AllByRecursion, list_any}
@@ -51,10 +51,10 @@ not_true : (b : Bool) → true ≡ not b → b ≡ false
 not_true true h = cc
 not_true false h = refl
 
--- an area more
+-- another area
 module _ (t : Table) (place : Map Page ℕ) (h : IsMapped (mapped t place)) (pid first : ℕ) (new : Area) (some : 0 < new.pages) (low : first + new.pages ≤ 2 ^ 35) (index : new.page.index + new.pages < 2 ^ 64)
     (free : true ≡ not (list_any (overlaps pid first (first + new.pages)) t.areas)) where
-  -- what an area showed is shown still
+  -- what an area showed is still shown
   any_more : (test : Placed → Bool) (areas : Map (ℕ × ℕ) Area) → AllByRecursion IsSomePages areas → NoneOverlaps pid first new areas → list_any test areas ≡ true → list_any test (set spot_cmp areas (pid, first) new) ≡ true
   any_more test [] each none h = cc
   any_more test (a ∷ areas) each none h =
@@ -130,7 +130,7 @@ all_with areas (e ∷ segments) n segment new h =
       | Greater ↦ (h.0, all_with areas segments n segment new h.1)
     ]
 
--- a segment more, and an area over it
+-- another segment, and an area over it
 pub inserted_mapped : (t now : Table) (place : Map Page ℕ) (pid first pages : ℕ) (shared : Bool) → IsMapped (mapped t place) → 0 < pages → first + pages ≤ 2 ^ 35 → true ≡ not (list_any (overlaps pid first (first + pages)) t.areas)
     → now ≡ record {
       areas = set spot_cmp t.areas (pid, first) (new_area t.next 0 pages);

@@ -1,4 +1,4 @@
--- What is left when a process lets go a range of page numbers, by the areas that are split at both ends.
+-- What is left when a process unmaps a range of page numbers, from the areas split at both ends.
 use Rattle.std.proofs.Common.{◌≡◌, ℕ, ◌+◌, ◌-◌, ◌≤◌, ◌<◌, List, [], ◌∷◌, ◌++◌, Bool, true, false, not, ◌&&◌, cond, refl, sym, ap, subst, ◌∙◌, arith, append-nil, eq-eqb}
 use Rattle.std.specs.Prelude.{nat_lt, nat_le, ◌==◌, min, max, if◌then◌else◌}
 use Rattle.std.specs.List.{AllByRecursion, list_any, filter, flat_map, fold}

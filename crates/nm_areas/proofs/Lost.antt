@@ -93,7 +93,7 @@ module _ (areas : Map (ℕ × ℕ) Area) where
         ap (λ k. fold (place_left areas) place (pages_from segment at k)) parts_add ∙ skip_left place segment (s - at) (suc (past - (s + 1))) at none_there
         ∙ ap (λ k. fold (place_left areas) place (pages_from segment k (suc (past - (s + 1))))) there
 
-  -- where no more page has one
+  -- where no further page has one
   module _ (place : Map Page ℕ) (segment at past : ℕ) (up : at ≤ past) (none : NoneHas place segment at past) where
     whole : past - at ≡ (past - at) + 0
     whole = omega arith

@@ -114,7 +114,7 @@ module _ (f : Page → Area → ℕ) (away : (p : Page) (x : Area) → (p.segmen
       let rest = none_at p areas (rest_none (shows_segment p.segment a) _ none) in
       omega (arith, here, rest)
 
-  -- one area more
+  -- one more area
   pub masked_set : (segments : Map ℕ Segment) (areas : Map (ℕ × ℕ) Area) (s : ℕ × ℕ) (y : Area) → get spot_cmp areas s ≡ None → (shared : Bool) → shared ≡ is_shared segments y.page.segment → (p : Page)
       → of_shared segments (λ q. total (λ a. f q a.1) areas) p + (if shared then f p y else 0) ≡ of_shared segments (λ q. total (λ a. f q a.1) (set spot_cmp areas s y)) p
   masked_set segments areas s y free shared is p =
@@ -151,7 +151,7 @@ other_covered m old now areas same h =
 pub left_covered : (m : Map Page Step) (segments : Map ℕ Segment) (areas : Map (ℕ × ℕ) Area) → IsCoverage m segments areas → IsCoverage m (segments_left segments areas) areas
 left_covered m segments areas = other_covered m segments (segments_left segments areas) areas (λ n shown. ap (λ o. unwrap_or (option_map (λ (x : Segment). x.shared) o) false) (sym (get_kept areas segments n shown)))
 
--- an area more, over a segment that was there or is new
+-- another area, over an existing segment or a new one
 pub more_covered : (m : Map Page Step) (old now : Map ℕ Segment) (areas : Map (ℕ × ℕ) Area) (s : ℕ × ℕ) (y : Area) (shared : Bool) → get spot_cmp areas s ≡ None → shared ≡ is_shared now y.page.segment
     → ((n : ℕ) → list_any (shows_segment n) areas ≡ true → is_shared old n ≡ is_shared now n) → IsWith m old areas y shared → IsCoverage m now (set spot_cmp areas s y)
 more_covered m old now areas s y shared free is same h =

@@ -93,7 +93,7 @@ module _ (pid s end : ℕ) (x : Area) (high : s < end) where
       ∙ sym (ap (λ b. cond b (it ∷ filter (is_own pid (s + 1) end) areas) (filter (is_own pid (s + 1) end) areas)) (false_from_ne_true (is_own pid (s + 1) end it) (λ h.
       let parts = own_parts pid (s + 1) end it h in absurd (omega (arith, parts.1))))))
 
-  -- one that begins after it does not stand in front of it
+  -- one that begins after it is not before it
   not_later : (e : Placed) (areas : Map (ℕ × ℕ) Area) → IsStrictlySortedBy spot_cmp (keys_of (e ∷ areas)) → get spot_cmp areas (pid, s) ≡ Some x → e.0.0 ≡ pid → s < e.0.1 → ⊥
   not_later e areas sorted found own past =
       let less = less_to e.0 (pid, s) (among_keys (λ k. spot_cmp e.0 k ≡ Less) areas it (sorted_head spot_cmp e.0 (keys_of areas) sorted) (get_among areas (pid, s) x found)) in

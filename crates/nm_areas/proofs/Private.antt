@@ -77,7 +77,7 @@ module _ (pid first end : ℕ) (range : first ≤ end) (areas : Map (ℕ × ℕ)
 
 -- ---- one area more
 
--- a segment that is there has a number below the next one's
+-- an existing segment has a number below the next one's
 pub numbered : (m : Map ℕ Segment) (n next : ℕ) (segment : Segment) → AllByRecursion (λ e. e.0 < next) m → get nat_cmp m n ≡ Some segment → n < next
 numbered [] n next segment h found = absurd (none_some found)
 numbered (e ∷ m) n next segment h found =
@@ -86,7 +86,7 @@ numbered (e ∷ m) n next segment h found =
       | false ↦ λ b k. numbered m n next segment h.1 k
     ] refl found
 
--- a segment with a stretch is there, and shared
+-- a segment with such a range exists, and is shared
 pub stretch_shared : (m : Map ℕ Segment) (number offset pages next : ℕ) → AllByRecursion (λ e. e.0 < next) m → true ≡ is_stretch (get nat_cmp m number) offset pages → (is_shared m number ≡ true) × (number < next)
 stretch_shared m number offset pages next h is =
     elim (get nat_cmp m number) as (λ o. get nat_cmp m number ≡ o → true ≡ is_stretch o offset pages → (is_shared m number ≡ true) × (number < next)) [
@@ -97,7 +97,7 @@ stretch_shared m number offset pages next h is =
       )
     ] refl is
 
--- another segment than the next one is shared as before
+-- any segment other than the next one is shared as before
 pub shared_before : (m : Map ℕ Segment) (next n : ℕ) (segment : Segment) → n < next → is_shared (set nat_cmp m next segment) n ≡ is_shared m n
 shared_before m next n segment low =
     let other : eq_by_cmp nat_cmp n next ≡ false = false_from_ne_true _ (λ b. let same : n ≡ next = exact_unsigned n next (equal _ b) in omega (arith, same, low)) in
@@ -124,7 +124,7 @@ module _ (pid first : ℕ) (new : Area) (areas : Map (ℕ × ℕ) Area) (fresh :
       let same : new.page.index + (v - first) ≡ new.page.index + (w - first) = ap (λ (z : Page). z.index) (at ∙ sym to) in
       (sym x.0 ∙ y.0, omega (arith, same, x.1, y.1))
 
-  -- where segments are there that were not, and the new area's is shared or shown by no other
+  -- where there are new segments, and the new area's is shared or shown by no other area
   pub once_more : (old now : Map ℕ Segment) (next : ℕ) → AllByRecursion (λ a. a.1.page.segment < next) areas → ((n : ℕ) → n < next → is_shared now n ≡ is_shared old n)
       → (is_shared now new.page.segment ≡ false → new.page.segment < next → ⊥) → PrivateIsOnce areas old → PrivateIsOnce more now
   once_more old now next below same alone once q v r w p here there private =

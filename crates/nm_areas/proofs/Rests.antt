@@ -128,7 +128,7 @@ spot_down k a q low next =
           (upto spot_cmp_total k a q low (from_up_to a q h.0 (omega (arith, past))), spot_same q a (sym h.0) ∙ sym (nat_cmp_is q.1 a.1 Greater (omega (arith, past))))
     ]
 
--- a spot in front of another
+-- one spot before another
 abbrev pub Past : ℕ → ℕ → ℕ × ℕ → Type 0
 Past n v a = (n < a.0) ⊎ ((a.0 ≡ n) × (v < a.1))
 
@@ -148,7 +148,7 @@ spot_past n at v a low other =
     ]
 
 module _ {V : Type 0} where
-  -- the areas of a process, or what else stands at spots
+  -- the areas of a process, or other values at spots
   module _ (m : Map (ℕ × ℕ) V) (n at : ℕ) (r : Map (ℕ × ℕ) V) (is : IsRest spot_cmp m (n, at) r) where
     pub no_spot : r ≡ [] → (v : ℕ) → at ≤ v → get spot_cmp m (n, v) ≡ None
     no_spot empty v low = rest_none spot_cmp_total m (n, at) r is empty (n, v) (from_up_to (n, at) (n, v) refl low)

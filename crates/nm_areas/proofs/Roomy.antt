@@ -66,7 +66,7 @@ module _ (pid first end : ℕ) (range : first ≤ end) where
             omega (arith, from, rest, range, few_between a, length-append (pages_between first end a) (pages_gone areas pid first end))
       ] refl
 
--- of a range no more than its page numbers
+-- in a range, no more than its page numbers
 pub few_own : (t cut : Table) (place : Map Page ℕ) (pid first end : ℕ) → IsMapped (mapped t place) → first < end → cut ≡ with_areas t (split_at pid end (split_at pid first t.areas)) → length (pages_of_own pid first end cut.areas) ≤ end - first
 few_own t cut place pid first end h range was =
     let few = few_gone pid first end (omega (arith, range)) 0 t.areas (all_from_among _ t.areas (λ a m own. omega arith)) h.whole h.apart h.ordered in

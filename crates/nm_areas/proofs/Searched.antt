@@ -1,4 +1,4 @@
--- An area that is found is over each of its page numbers.
+-- An area that is found covers each of its page numbers.
 use Rattle.std.proofs.Common.{◌≡◌, ℕ, ◌+◌, ◌≤◌, ◌<◌, refl, sym, arith, option_map}
 use Rattle.std.specs.Prelude.{Option, Some, None, IfSome}
 use Rattle.nm_types.specs.declared.area.Area.{Area}
@@ -12,7 +12,7 @@ use Rattle.nm_model.proofs.areas.Overs.{get_among}
 -- ---- areas that do not overlap
 
 module _ (areas : Map (ℕ × ℕ) Area) (apart : AreasAreApart areas) (pid : ℕ) where
-  -- an area is over all of its page numbers
+  -- an area covers all of its page numbers
   over_its : (start : ℕ) (x : Area) → Among ((pid, start), x) areas → (v : ℕ) → start ≤ v → v < start + x.pages → area_over areas pid v ≡ Some ((pid, start), x)
   over_its start x m v low high = over_among areas pid v ((pid, start), x) apart m (covers_from ((pid, start), x) pid v refl low high)
 
@@ -27,6 +27,6 @@ module _ (areas : Map (ℕ × ℕ) Area) (apart : AreasAreApart areas) (pid : �
   pub begun_all : (start : ℕ) (x : Area) → get spot_cmp areas (pid, start) ≡ Some x → (v : ℕ) → start ≤ v → v < start + x.pages → area_over areas pid v ≡ Some ((pid, start), x)
   begun_all start x h = over_its start x (get_among areas (pid, start) x h)
 
--- an area that is over its page numbers is there
+-- an area that covers its page numbers exists
 pub over_it : (areas : Map (ℕ × ℕ) Area) (pid start : ℕ) (x : Area) → 0 < x.pages → ((v : ℕ) → start ≤ v → v < start + x.pages → area_over areas pid v ≡ Some ((pid, start), x)) → Among ((pid, start), x) areas
 over_it areas pid start x some over = (among_over areas pid start ((pid, start), x) (over start (omega arith) (omega (arith, some)))).0

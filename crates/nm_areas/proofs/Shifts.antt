@@ -1,4 +1,4 @@
--- What stands in a range from a key up to another: the steps of a stretch, and the areas of a process.
+-- The entries in a range from one key up to another: the steps of a stretch, and the areas of a process.
 use Rattle.std.proofs.Common.{◌≡◌, ℕ, ◌≤◌, ◌<◌, Bool, true, false, ◌&&◌, cond, refl, sym, ap, ◌∙◌, inl, inr}
 use Rattle.std.specs.Prelude.{not, nat_le, nat_lt, ◌==◌}
 use Rattle.std.specs.Ordering.{nat_cmp, is_le, is_gt}

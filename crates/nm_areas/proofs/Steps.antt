@@ -122,7 +122,7 @@ last_none m page ends covers steps flat r range empty =
 
 -- ---- a step that changes
 
--- where none stands, none is put
+-- where there is none, none is replaced
 pub step_nowhere : (m : Map Page Step) (k : Page) (x : Step) → None ≡ get page_cmp m k → replace page_cmp m k x ≡ m
 step_nowhere [] k x h = refl
 step_nowhere (e ∷ m) k x h =

@@ -1,4 +1,4 @@
--- A map whose values in a range of keys are changed where they stand.
+-- A map whose values in a range of keys are changed in place.
 use Rattle.std.proofs.Common.{◌≡◌, ℕ, ◌+◌, List, [], ◌∷◌, ◌++◌, length, map, Bool, true, false, cond, refl, sym, ap, subst, ◌∙◌, arith}
 use Rattle.std.specs.Prelude.{Option, Some, None, zero, option_to_list, take, drop, MatchOption, MatchBool, suc}
 use Rattle.std.specs.List.{AllByRecursion, filter}

@@ -1,4 +1,4 @@
--- Whether a page that a process shows has a frame with a number over 0 in a list by frame.
+-- Whether a page that a process shows has a frame with a number above 0 in a list by frame.
 use Rattle.std.proofs.Common.{◌≡◌, ℕ, ◌+◌, ◌≤◌, ◌<◌, List, true, false, refl, sym, ap, ◌∙◌, arith}
 use Rattle.std.specs.Prelude.{Some, None, nat_lt, slice_index_or}
 use Rattle.std.specs.List.{AllByRecursion}
@@ -21,7 +21,7 @@ use Rattle.nm_areas.proofs.Filled.{pages_some}
 abbrev pub Uncounted : Map Page ℕ → List ℕ → Page → Type 0
 Uncounted place counts p = (frame : ℕ) → get page_cmp place p ≡ Some frame → slice_index_or counts frame 0 ≡ 0
 
--- the same of the pages of a segment from an index up to another, in front of an end
+-- the same of the pages of a segment from an index up to another, before an end
 abbrev pub NoneTallied : Map Page ℕ → List ℕ → ℕ → ℕ → ℕ → ℕ → Type 0
 NoneTallied place counts segment at to past = (i frame : ℕ) → at ≤ i → i < to → i < past → get page_cmp place (page_in segment i) ≡ Some frame → slice_index_or counts frame 0 ≡ 0
 
@@ -47,7 +47,7 @@ module _ (place : Map Page ℕ) (counts : List ℕ) (segment at from past : ℕ)
       ] refl
 
 module _ (areas : Map (ℕ × ℕ) Area) (place : Map Page ℕ) (counts : List ℕ) (pid first end : ℕ) where
-  -- the same of the page numbers of the areas that begin in front of a page number
+  -- the same of the page numbers of the areas that begin before a page number
   abbrev pub NoneShown : ℕ → Type 0
   NoneShown from = (a : Placed) → Among a areas → a.0.0 ≡ pid → a.0.1 < from → (v : ℕ) → first ≤ v → v < end → a.0.1 ≤ v → v < behind_last a → Uncounted place counts (page_of a v)
 
@@ -63,7 +63,7 @@ module _ (areas : Map (ℕ × ℕ) Area) (place : Map Page ℕ) (counts : List �
         absurd (omega (arith, up, before))
 
     module _ (from : ℕ) (so_far : NoneShown from) where
-      -- one area more
+      -- one more area
       pub shown_next : (start : ℕ) (x : Area) → AllByRecursion IsSomePages areas → NoneBegins areas pid from start → get spot_cmp areas (pid, start) ≡ Some x
           → ((v frame : ℕ) → first ≤ v → v < end → start ≤ v → v < start + x.pages → get page_cmp place (page_of ((0, start), x) v) ≡ Some frame → slice_index_or counts frame 0 ≡ 0) → NoneShown (start + 1)
       shown_next start x whole gap there none a m own before v l h s t frame has =

@@ -1,4 +1,4 @@
--- The areas by segment.
+-- The areas by the segments that they show.
 use Rattle.std.specs.Prelude.{◌≡◌, ℕ, ◌==◌, Bool, false, List, Option, Some, None}
 use Rattle.std.specs.BTreeMap.{is_at}
 use Rattle.std.specs.List.{list_any}
@@ -7,20 +7,20 @@ use Rattle.std.specs.declared.cmp.Ordering.{Ordering}
 use Rattle.nm_types.specs.declared.area.Area.{Area}
 use Rattle.nm_types.specs.Map.{Map, get, spot_cmp}
 
--- a segment, and the place of an area
+-- a segment, and an area's pid and first page number
 abbrev pub Key : Type 0
 Key = ℕ × ℕ × ℕ
 
--- by segment, and then by place
+-- by segment, then by pid and first page number
 abbrev pub key_cmp : Key → Key → Ordering
 key_cmp a b = ordering_then (ordering_then (nat_cmp a.0 b.0) (nat_cmp a.1 b.1)) (nat_cmp a.2 b.2)
 
--- whether there is an area, and it shows pages of a segment
+-- whether there is an area, and it shows pages of this segment
 abbrev pub is_of : ℕ → Option Area → Bool
 is_of number None = false
 is_of number (Some area) = area.page.segment == number
 
--- whether an area at that place shows pages of that segment
+-- whether the area with that pid and first page number shows pages of that segment
 abbrev pub is_key : Map (ℕ × ℕ) Area → Key → Bool
 is_key areas k = is_of k.0 (get spot_cmp areas (k.1, k.2))
 

@@ -1,4 +1,4 @@
--- The areas of a process, as they are listed.
+-- The list of a process's areas.
 use Rattle.std.specs.Prelude.{ℕ, ◌==◌, List, map}
 use Rattle.std.specs.List.{filter}
 use Rattle.nm_types.specs.declared.area.Area.{Area}
@@ -8,7 +8,7 @@ use Rattle.nm_types.specs.State.{Placed}
 use Rattle.nm_areas.specs.declared.lines.Line.{Line}
 use Rattle.nm_model.specs.definitions.Areas.{is_shared}
 
--- an area and whether its segment is shared
+-- an area, and whether its segment is shared
 abbrev pub line_of : Map ℕ Segment → Placed → Line
 line_of segments a =
     record {
@@ -19,6 +19,6 @@ line_of segments a =
       shared = is_shared segments a.1.page.segment;
     }
 
--- the areas of a process, by address
+-- the areas of a process, in address order
 abbrev pub lines_of : Map ℕ Segment → Map (ℕ × ℕ) Area → ℕ → List Line
 lines_of segments areas pid = map (line_of segments) (filter (λ a. a.0.0 == pid) areas)

@@ -1,4 +1,4 @@
-//! The areas of the processes, and the segments that they show.
+//! The areas of all processes, and the segments that they show.
 
 ghost use Rattle.std.specs.Prelude.{ℕ, ◌≡◌, ◌≤◌, ◌<◌, ◌+◌, ◌^◌, [], suc, not, false, true, None, Some, IfSome, IfNone, OnOk, OnErr, IfOk, length, option_map};
 ghost use Rattle.std.specs.Ordering.{nat_cmp};
@@ -21,8 +21,8 @@ use std::alloc::{AllocError, Allocator};
 use std::collections::{BTreeMap, BTreeSet};
 use std::marker::Model;
 
-/// The areas by process and first page number, the segment of each with that place, the segments by number, and the
-/// number of the next segment. Contracts see all but the places by segment, which are those of the areas.
+/// The areas by process and first page number, the same keys again by segment, the segments by number, and the number
+/// of the next segment. Contracts see all but the keys by segment, which are those of the areas.
 #[derive(Drop)]
 pub(crate) struct AreaTable<A: Allocator + Copy> {
     pub(crate) areas: BTreeMap<(Pid, Vpn), Area, A>,
@@ -43,7 +43,7 @@ impl<A: Allocator + Copy> Model for AreaTable<A> {
 }
 
 impl<A: Allocator + Copy> AreaTable<A> {
-    /// No area and no segment.
+    /// Makes a table without areas or segments.
     pub(crate) fn new(alloc: A) -> Self
         ensures { result ≡ record { areas = []; segments = []; next = 0 } }
     {
@@ -55,7 +55,7 @@ impl<A: Allocator + Copy> AreaTable<A> {
         }
     }
 
-    /// The number of the next segment.
+    /// The number that the next segment gets.
     pub(crate) fn next_segment(&self) -> u32
         ensures { result ≡ self.now.next }
     {
@@ -70,14 +70,14 @@ impl<A: Allocator + Copy> AreaTable<A> {
         self.areas.len()
     }
 
-    /// The segment of a number, or None if there is none.
+    /// The segment with a number, or None if there is none.
     pub(crate) fn segment(&self, number: u32) -> Option<Segment>
         ensures { result ≡ get nat_cmp self.now.segments number }
     {
         self.segments.get(&number).copied()
     }
 
-    /// The number of a segment, if there is such a segment, it is shared, and it has `pages` pages from `offset` on.
+    /// The number of a segment, if it exists, is shared, and has `pages` pages from `offset` on. None otherwise.
     pub(crate) fn stretch_of(&self, segment: u64, offset: u64, pages: u64) -> Option<u32>
         requires numbers { AllByRecursion (λ e. e.0 < self.now.next) self.now.segments }
         ensures none { IfNone result (is_stretch (get nat_cmp self.now.segments segment) offset pages ≡ false) }
@@ -90,14 +90,14 @@ impl<A: Allocator + Copy> AreaTable<A> {
         is_stretch(self.segment(number), offset, pages).then_some(number)
     }
 
-    /// Whether a segment is shared. One that is not there is not.
+    /// Whether a segment is shared. False if there is no such segment.
     pub(crate) fn is_shared(&self, number: u32) -> bool
         ensures { result ≡ is_shared self.now.segments number }
     {
         is_shared(&self.segments, number)
     }
 
-    /// The area of a process over a page number, with its first page number.
+    /// The area of a process that covers a page number, with its first page number.
     pub(crate) fn over(&self, pid: Pid, vpn: Vpn) -> Option<(Vpn, Area)>
         requires apart { AreasAreApart self.now.areas }
         requires whole { AllByRecursion IsSomePages self.now.areas }
@@ -112,8 +112,8 @@ impl<A: Allocator + Copy> AreaTable<A> {
         }
     }
 
-    /// Where the area of a process begins that is over a page number, or the page number if none is. No area of the process
-    /// that is over it or a later one begins in front.
+    /// The first page number of the process's area that covers a page number, or that page number if no area does. No
+    /// area of the process that covers it or a later page number begins before the result.
     pub(crate) fn begin(&self, pid: Pid, vpn: Vpn) -> Vpn
         requires apart { AreasAreApart self.now.areas }
         requires whole { AllByRecursion IsSomePages self.now.areas }
@@ -126,7 +126,7 @@ impl<A: Allocator + Copy> AreaTable<A> {
         }
     }
 
-    /// Whether no area of the process is over any of the `pages` page numbers from `first` on.
+    /// Whether no area of the process covers any of the `pages` page numbers from `first` on.
     pub(crate) fn is_free(&self, pid: Pid, first: Vpn, pages: u64) -> bool
         requires apart { AreasAreApart self.now.areas }
         requires whole { AllByRecursion IsSomePages self.now.areas }
@@ -143,7 +143,7 @@ impl<A: Allocator + Copy> AreaTable<A> {
         }
     }
 
-    /// Makes a segment of `pages` pages and an area of the process over all of it, with the default policy. Returns the
+    /// Makes a segment of `pages` pages, and an area of the process over all of it with the default policy. Returns the
     /// segment's number.
     pub(crate) fn insert(
         &mut self,
@@ -155,12 +155,16 @@ impl<A: Allocator + Copy> AreaTable<A> {
         requires number { self.old.next < 65536 }
         requires new { get nat_cmp self.old.segments self.old.next ≡ None }
         requires free { get spot_cmp self.old.areas (pid, first) ≡ None }
+
+        // On success
         ensures number { IfOk result (λ number. number ≡ self.old.next) }
         ensures ok { OnOk result (self.new ≡ record {
           areas = set spot_cmp self.old.areas (pid, first) (new_area self.old.next 0 pages);
           segments = set nat_cmp self.old.segments self.old.next (record { pages = pages; shared = shared });
           next = suc self.old.next;
         }) }
+
+        // Without memory
         ensures err { OnErr result (self.new ≡ self.old) }
     {
         let number = self.next_segment;
@@ -173,7 +177,7 @@ impl<A: Allocator + Copy> AreaTable<A> {
         Ok(number)
     }
 
-    /// Makes an area of the process, with the default policy, over `pages` pages of a segment from `offset` on.
+    /// Makes an area of the process over `pages` pages of a segment from index `offset` on, with the default policy.
     pub(crate) fn attach(
         &mut self,
         pid: Pid,
@@ -189,7 +193,7 @@ impl<A: Allocator + Copy> AreaTable<A> {
         self.add(pid, first, new_area(segment, offset, pages))
     }
 
-    /// Makes an area where none begins. An error means that nothing has changed.
+    /// Adds an area where none begins. An error means that nothing has changed.
     pub(crate) fn add(&mut self, pid: Pid, first: Vpn, area: Area) -> Result<(), AllocError>
         requires free { get spot_cmp self.old.areas (pid, first) ≡ None }
         ensures ok { OnOk result (self.new ≡ with_areas self.old (set spot_cmp self.old.areas (pid, first) area)) }
@@ -205,7 +209,8 @@ impl<A: Allocator + Copy> AreaTable<A> {
         Ok(())
     }
 
-    /// Puts another area over pages of the same segment at a place, if one is there. It takes no memory.
+    /// Replaces the area at a pid and first page number, if there is one, by another over pages of the same segment.
+    /// Does not allocate.
     pub(crate) fn put(&mut self, pid: Pid, start: Vpn, area: Area)
         requires same { IfSome (get spot_cmp self.old.areas (pid, start)) (λ a. a.page.segment ≡ area.page.segment) }
         ensures { self.new ≡ with_areas self.old (replace spot_cmp self.old.areas (pid, start) area) }
@@ -224,7 +229,7 @@ impl<A: Allocator + Copy> AreaTable<A> {
     }
 }
 
-/// Whether the segment is shared and has `pages` pages from `offset` on.
+/// Whether the segment is there, is shared, and has `pages` pages from `offset` on.
 fn is_stretch(segment: Option<Segment>, offset: u64, pages: u64) -> bool
     ensures { result ≡ is_stretch segment offset pages }
 {
@@ -234,7 +239,7 @@ fn is_stretch(segment: Option<Segment>, offset: u64, pages: u64) -> bool
     }
 }
 
-/// An area with the default policy over `pages` pages of a segment from `offset` on.
+/// An area over `pages` pages of a segment from index `offset` on, with the default policy.
 pub(crate) fn new_area(segment: u32, offset: u64, pages: u64) -> Area
     ensures { result ≡ new_area segment offset pages }
 {

@@ -19,9 +19,9 @@ use std::collections::BTreeMap;
 use std::marker::Model;
 
 /// The areas of all processes, the segments that they show, and the frame of each page that has one. Contracts see
-/// maps: the areas by process and first page number, the segments by number, and the frames by page. No two areas of a
-/// process are over one page number, and a page of a private segment is shown at one page number alone. Beside them
-/// stands how many areas cover a page of a shared segment (`coverage`), which no contract sees.
+/// maps: the areas by process and first page number, the segments by number, and the frames by page. The areas of a
+/// process do not overlap, and a page of a private segment is shown at one page number only. How many areas cover each
+/// page of a shared segment is kept too (`coverage`), and no contract sees it.
 #[derive(Drop)]
 pub struct Areas<A: Allocator + Copy> {
     pub(crate) table: AreaTable<A>,
@@ -42,7 +42,7 @@ impl<A: Allocator + Copy> Model for Areas<A> {
 }
 
 impl<A: Allocator + Copy> Areas<A> {
-    /// No area, no segment, and no page with a frame.
+    /// Makes a table without areas, segments and frames. Does not allocate.
     pub fn new(alloc: A) -> Self
         ensures { result ≡ no_areas }
     {
@@ -54,8 +54,8 @@ impl<A: Allocator + Copy> Areas<A> {
         }
     }
 
-    /// The area of a process over a page number, with the area's first page number. None if no area is over it. It is over
-    /// each of its page numbers, so whoever asks for one after another may keep it.
+    /// The area of a process that covers a page number, with the area's first page number. None if no area does. The
+    /// result holds for all of the area's page numbers, so callers may keep it for those.
     pub fn find(&self, pid: Pid, vpn: Vpn) -> Option<(Vpn, Area)>
         ensures found { option_map {U = Placed} (λ found. ((pid, found.0), found.1)) result ≡ area_over self.now.areas pid vpn }
         ensures over { IfSome result (λ a. (v : ℕ) → a.0 ≤ v → v < a.0 + a.1.pages → area_over self.now.areas pid v ≡ Some ((pid, a.0), a.1)) }
@@ -64,19 +64,19 @@ impl<A: Allocator + Copy> Areas<A> {
         self.table.over(pid, vpn)
     }
 
-    /// Whether a segment is shared. One that is not there is not.
+    /// Whether a segment is shared. False if there is no such segment.
     pub fn is_shared(&self, segment: u32) -> bool
         ensures { result ≡ is_shared self.now.segments segment }
     {
         self.table.is_shared(segment)
     }
 
-    /// Makes the next segment, of `pages` pages, and an area of the process over all of it that begins at `addr`, with
-    /// the default policy. Returns the segment's number, which is not given again.
+    /// Makes the next segment, of `pages` pages, and an area of the process over all of it that begins at address
+    /// `addr`, with the default policy. Returns the segment's number, which no other segment ever gets.
     ///
-    /// EINVAL: the address is not a page's, there is no page, the area would end past 2^47, or an area of the process
-    /// is over one of its page numbers. Then ENOMEM: 65,536 segments were made. A refused call uses up no number.
-    /// Memory is asked for only where the call is not refused.
+    /// Errors, in order: EINVAL if the address is not a multiple of 4,096, `pages` is 0, the area would end past 2^47,
+    /// or an area of the process covers one of its page numbers; ENOMEM if 65,536 segments have been made. A refused
+    /// call uses up no number. Allocates only if the call is not refused.
     pub fn insert(
         &mut self,
         pid: Pid,
@@ -84,8 +84,13 @@ impl<A: Allocator + Copy> Areas<A> {
         pages: u64,
         shared: bool,
     ) -> Result<u32, MachineError>
+        // In any case
         ensures done { Makes result self.old self.new (insert_refusal self.old pid addr pages) (inserted self.old pid addr pages shared) }
+
+        // Without memory
         ensures memory { result ≡ Err MachineError.HostMemory → insert_refusal self.old pid addr pages ≡ None }
+
+        // On success
         ensures number { IfOk result (λ number. number ≡ self.old.next) }
         ensures over { OnOk result ((q v : ℕ) → area_over self.new.areas q v ≡ over_with self.old.areas ((pid, addr / 4096), new_area self.old.next 0 pages) q v) }
     {
@@ -113,11 +118,11 @@ impl<A: Allocator + Copy> Areas<A> {
         Ok(number)
     }
 
-    /// Makes an area of the process that begins at `addr`, with the default policy, over `pages` pages of a shared
-    /// segment from `offset` on, which is counted in pages.
+    /// Makes an area of the process that begins at address `addr`, over `pages` pages of a shared segment from `offset`
+    /// on, in pages, with the default policy.
     ///
-    /// EINVAL: as at `insert`; or there is no such segment, it is private, or it ends before the area would. Memory is asked
-    /// for only where the call is not refused.
+    /// Errors: EINVAL as for `insert`, or if there is no such segment, it is private, or it ends before the area would.
+    /// Allocates only if the call is not refused.
     pub fn attach(
         &mut self,
         pid: Pid,

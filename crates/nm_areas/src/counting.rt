@@ -1,5 +1,5 @@
-//! The areas of a table that are over shared segments, counted in the steps of `coverage` as they come, are split and go.
-//! Those over private segments are not counted, since no page of one is shown twice.
+//! Counts a table's areas over shared segments in the steps of `coverage`, as areas are added, split and removed. Areas
+//! over private segments are not counted, since each page of those is shown only once.
 
 ghost use Rattle.std.specs.List.{AllByRecursion};
 ghost use Rattle.std.specs.Prelude.{IfNone, IfSome, OnErr, OnOk, ℕ, ◌+◌, ◌<◌, ◌^◌, ◌≡◌, ◌≤◌, if◌then◌else◌};
@@ -16,8 +16,8 @@ use nm_types::{Area, Page, Pid, Vpn};
 use std::alloc::{AllocError, Allocator};
 use std::collections::BTreeMap;
 
-/// Counts in an area that is to come to those of a table, if it is over a shared segment. An error means that the steps
-/// are still those of the table.
+/// Counts an area that is to be added to a table, if it is over a shared segment. An error means that the steps are
+/// still those of the table.
 pub(crate) fn count_in<A: Allocator + Copy>(
     table: &AreaTable<A>,
     steps: &mut BTreeMap<Page, Step, A>,
@@ -27,20 +27,24 @@ pub(crate) fn count_in<A: Allocator + Copy>(
     requires steps { IsCoverage steps.old.entries table.now.segments table.now.areas }
     requires whole { AllByRecursion IsSomePages table.now.areas }
     requires indices { area.page.index + area.pages < 2 ^ 64 }
+
+    // On success
     ensures ok { OnOk result (IsWith steps.new.entries table.now.segments table.now.areas area shared) }
+
+    // Without memory
     ensures err { OnErr result (IsCoverage steps.new.entries table.now.segments table.now.areas) }
 {
     if !shared {
         return Ok(());
     }
-    // So few areas that no number of a step is too great for its type.
+    // There are so few areas that no number in a step overflows.
     let areas = table.count();
     prove!(areas < usize::MAX);
     cover(steps, area)?;
     Ok(())
 }
 
-/// Counts out an area that was counted in, if it is over a shared segment. It takes no memory.
+/// Removes an area that was counted from the count, if it is over a shared segment. Does not allocate.
 pub(crate) fn count_out<A: Allocator + Copy>(
     steps: &mut BTreeMap<Page, Step, A>,
     area: Area,
@@ -54,8 +58,8 @@ pub(crate) fn count_out<A: Allocator + Copy>(
     }
 }
 
-/// Counts out the areas of a process that begin from one page number up to another, so that the steps are those of the
-/// other areas. It takes no memory.
+/// Removes from the count the areas of a process that begin from one page number up to another; the steps are then
+/// those of the other areas. Does not allocate.
 pub(crate) fn count_out_own<A: Allocator + Copy>(
     table: &AreaTable<A>,
     steps: &mut BTreeMap<Page, Step, A>,
@@ -75,7 +79,7 @@ pub(crate) fn count_out_own<A: Allocator + Copy>(
     }
 }
 
-/// Counts out an area of a table, if it is over a shared segment. It takes no memory.
+/// Removes an area of a table from the count, if it is over a shared segment. Does not allocate.
 fn count_out_one<A: Allocator + Copy>(
     table: &AreaTable<A>,
     steps: &mut BTreeMap<Page, Step, A>,
@@ -89,8 +93,8 @@ fn count_out_one<A: Allocator + Copy>(
     }
 }
 
-/// Counts what ends when the areas of a process are split at two page numbers. An error means that the steps are still
-/// those of the table.
+/// Counts the new ends that appear when the areas of a process are split at two page numbers. An error means that the
+/// steps are still those of the table.
 pub(crate) fn split_steps<A: Allocator + Copy>(
     table: &AreaTable<A>,
     steps: &mut BTreeMap<Page, Step, A>,
@@ -102,10 +106,14 @@ pub(crate) fn split_steps<A: Allocator + Copy>(
     requires apart { AreasAreApart table.now.areas }
     requires whole { AllByRecursion IsSomePages table.now.areas }
     requires indices { AllByRecursion HasIndices table.now.areas }
+
+    // On success
     ensures ok { OnOk result (IsSteps steps.new.entries (λ p. (of_shared table.now.segments (ends_at table.now.areas) p + of_shared table.now.segments (splits_at table.now.areas pid first) p) + of_shared table.now.segments (splits_at table.now.areas pid end) p) (of_shared table.now.segments (covers_at table.now.areas))) }
+
+    // Without memory
     ensures err { OnErr result (IsCoverage steps.new.entries table.now.segments table.now.areas) }
 {
-    // So few areas that no number of a step is too great for its type.
+    // There are so few areas that no number in a step overflows.
     let areas = table.count();
     prove!(areas < usize::MAX);
     split_step(table, steps, pid, first)?;
@@ -116,7 +124,7 @@ pub(crate) fn split_steps<A: Allocator + Copy>(
     Ok(())
 }
 
-/// Takes back what `split_steps` counted, where the areas were not split. It takes no memory.
+/// Undoes what `split_steps` counted, where the areas were not split after all. Does not allocate.
 pub(crate) fn join_steps<A: Allocator + Copy>(
     table: &AreaTable<A>,
     steps: &mut BTreeMap<Page, Step, A>,
@@ -134,7 +142,8 @@ pub(crate) fn join_steps<A: Allocator + Copy>(
     join_step(table, steps, pid, first);
 }
 
-/// Counts what ends when the areas of a process are split at a page number. An error means that nothing has changed.
+/// Counts the new ends that appear when the areas of a process are split at a page number. An error means that nothing
+/// has changed.
 fn split_step<A: Allocator + Copy>(
     table: &AreaTable<A>,
     steps: &mut BTreeMap<Page, Step, A>,
@@ -144,7 +153,11 @@ fn split_step<A: Allocator + Copy>(
     requires apart { AreasAreApart table.now.areas }
     requires whole { AllByRecursion IsSomePages table.now.areas }
     requires indices { AllByRecursion HasIndices table.now.areas }
+
+    // On success
     ensures ok { OnOk result ((ends covers : Page → ℕ) → IsSteps steps.old.entries ends covers → IsFlat ends covers → ((p : Page) → ends p + 2 < 2 ^ 64) → IsSteps steps.new.entries (λ p. ends p + of_shared table.now.segments (splits_at table.now.areas pid at) p) covers) }
+
+    // Without memory
     ensures err { OnErr result (steps.new.entries ≡ steps.old.entries) }
 {
     match table.split_page(pid, at) {
@@ -153,7 +166,7 @@ fn split_step<A: Allocator + Copy>(
     }
 }
 
-/// Takes back what `split_step` counted. It takes no memory.
+/// Undoes what `split_step` counted. Does not allocate.
 fn join_step<A: Allocator + Copy>(
     table: &AreaTable<A>,
     steps: &mut BTreeMap<Page, Step, A>,
@@ -171,13 +184,17 @@ fn join_step<A: Allocator + Copy>(
 }
 
 impl<A: Allocator + Copy> AreaTable<A> {
-    /// The page with which the second part begins where an area of the process over a shared segment is split at a page
-    /// number. None if no such area is split there.
+    /// The first page of the second part where an area of the process over a shared segment is split at a page number.
+    /// None if the split concerns no such area.
     fn split_page(&self, pid: Pid, at: Vpn) -> Option<Page>
         requires apart { AreasAreApart self.now.areas }
         requires whole { AllByRecursion IsSomePages self.now.areas }
         requires indices { AllByRecursion HasIndices self.now.areas }
+
+        // If there is one
         ensures some { IfSome result (λ page. (p : Page) → of_shared self.now.segments (splits_at self.now.areas pid at) p ≡ (if same_page page p then 2 else 0)) }
+
+        // If there is none
         ensures none { IfNone result ((p : Page) → of_shared self.now.segments (splits_at self.now.areas pid at) p ≡ 0) }
     {
         let (start, area) = self.over(pid, at)?;

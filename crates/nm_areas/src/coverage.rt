@@ -1,9 +1,9 @@
-//! How many areas cover a page.
+//! How many areas cover each page.
 //!
-//! At each page where an area begins, and at the page after the last one of an area, stands how many areas cover it.
-//! Between two such pages of a segment nothing changes, so the last of them up to a page holds for that page as well. A
-//! new area asks for memory for two steps at most, and one that goes for none. Numbers are added so that they stop at
-//! the greatest one, which none reaches: there are fewer areas than 2^63.
+//! For each page where an area begins, and the page after each area's last one, a step stores how many areas cover it.
+//! That number is the same for all pages of a segment between two steps, so the last step at or before a page holds for
+//! that page. Adding an area allocates for at most two steps, and removing one does not allocate. Additions saturate,
+//! and none reaches the limit: there are fewer areas than 2^63.
 
 ghost use Rattle.std.specs.Option.{option_map};
 ghost use Rattle.std.specs.Prelude.{false, None, OnErr, OnOk, Some, ℕ, ◌+◌, ◌<◌, ◌^◌, ◌≡◌, ◌≤◌, if◌then◌else◌};
@@ -20,16 +20,16 @@ use std::alloc::{AllocError, Allocator};
 use std::collections::BTreeMap;
 use std::collections::btree_map::Range;
 
-/// What stands at a page where an area begins, or that is after the last page of one.
+/// The step at a page where an area begins, or that follows the last page of one.
 #[derive(Clone, Copy)]
 pub(crate) struct Step {
     /// How many areas cover the page.
     pub(crate) covers: u64,
-    /// How many areas begin there, and how many end in front of it, together.
+    /// How many areas begin at the page plus how many end just before it.
     pub(crate) ends: u64,
 }
 
-/// Counts an area in. An error means that nothing has changed.
+/// Counts an area. An error means that nothing has changed.
 pub(crate) fn cover<A: Allocator + Copy>(
     steps: &mut BTreeMap<Page, Step, A>,
     area: Area,
@@ -54,7 +54,7 @@ pub(crate) fn cover<A: Allocator + Copy>(
     Ok(())
 }
 
-/// Counts an area out that was counted in. It takes no memory.
+/// Removes an area that was counted. Does not allocate.
 pub(crate) fn uncover<A: Allocator + Copy>(steps: &mut BTreeMap<Page, Step, A>, area: Area)
     requires indices { area.page.index + area.pages < 2 ^ 64 }
     ensures { (ends covers : Page → ℕ) → IsSteps steps.old.entries (λ p. ends p + ends_of p area) (λ p. covers p + covers_of p area) → IsSteps steps.new.entries ends covers }
@@ -73,7 +73,7 @@ pub(crate) fn uncover<A: Allocator + Copy>(steps: &mut BTreeMap<Page, Step, A>, 
     unmark(steps, Page { segment, index }, 1);
 }
 
-/// `times` more areas begin or end at a page. An error means that nothing has changed.
+/// Counts `times` more areas that begin or end at a page. An error means that nothing has changed.
 pub(crate) fn mark<A: Allocator + Copy>(
     steps: &mut BTreeMap<Page, Step, A>,
     page: Page,
@@ -91,7 +91,7 @@ pub(crate) fn mark<A: Allocator + Copy>(
     Ok(())
 }
 
-/// `times` fewer areas begin or end at a page. It takes no memory.
+/// Counts `times` fewer areas that begin or end at a page. Does not allocate.
 pub(crate) fn unmark<A: Allocator + Copy>(
     steps: &mut BTreeMap<Page, Step, A>,
     page: Page,
@@ -111,7 +111,7 @@ pub(crate) fn unmark<A: Allocator + Copy>(
     }
 }
 
-/// One area more, or one less, covers each page of a segment from an index up to another.
+/// Counts one more area, or one fewer, over each page of a segment from an index up to another.
 fn shift<A: Allocator + Copy>(
     steps: &mut BTreeMap<Page, Step, A>,
     segment: u32,
@@ -130,7 +130,7 @@ fn shift<A: Allocator + Copy>(
         segment,
         index: past,
     };
-    // Each is changed where it stands, and none is taken out.
+    // Each step is changed in place, and none is removed.
     let mut walk = steps.extract_if(
         from..to,
         move |_page: &Page, step: &mut Step| -> bool
@@ -143,7 +143,7 @@ fn shift<A: Allocator + Copy>(
     walk.next();
 }
 
-/// A step with one area more that covers its page, or one less.
+/// A step with one more area over its page, or one fewer.
 fn shifted(step: Step, up: bool) -> Step
     ensures { result ≡ shifted up step }
 {
@@ -158,7 +158,7 @@ fn shifted(step: Step, up: bool) -> Step
     }
 }
 
-/// Puts another step at a page, if one is there. It takes no memory.
+/// Replaces the step at a page, if there is one. Does not allocate.
 fn put_step<A: Allocator + Copy>(steps: &mut BTreeMap<Page, Step, A>, page: Page, step: Step)
     ensures { steps.new.entries ≡ replace page_cmp steps.old.entries page step }
 {
@@ -193,12 +193,15 @@ fn ends_at<A: Allocator + Copy>(steps: &BTreeMap<Page, Step, A>, page: Page) -> 
     }
 }
 
-/// The next index in front of another one at which an area begins or ends, of the steps from some page on, with how many
-/// areas cover that page; or that other one.
+/// Of the steps from some page on, the next index before `past` at which an area begins or ends, with how many areas
+/// cover that page; or `past` if there is none.
 pub(crate) fn step_change(rest: &mut Range<'_, Page, Step>, segment: u32, past: u64) -> (u64, u64)
+    // The index
     ensures low { (steps : Map Page Step) (at : ℕ) → IsRest page_cmp steps (page_in segment at) rest.old → at ≤ past → at ≤ result.0 }
     ensures high { result.0 ≤ past }
     ensures none { (steps : Map Page Step) (at : ℕ) → IsRest page_cmp steps (page_in segment at) rest.old → (i : ℕ) → at ≤ i → i < result.0 → get page_cmp steps (page_in segment i) ≡ None }
+
+    // If it is before `past`
     ensures count { (steps : Map Page Step) (at : ℕ) → IsRest page_cmp steps (page_in segment at) rest.old → (ends covers : Page → ℕ) → IsSteps steps ends covers → result.0 < past → result.1 ≡ covers (page_in segment result.0) }
     ensures rest { (steps : Map Page Step) (at : ℕ) → IsRest page_cmp steps (page_in segment at) rest.old → result.0 < past → IsRest page_cmp steps (page_in segment (result.0 + 1)) rest.new }
 {

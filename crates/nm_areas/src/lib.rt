@@ -1,4 +1,4 @@
-//! The areas of all processes, the segments that they show, and the frames in which pages stand.
+//! The areas of all processes, the segments that they show, and the frames of pages.
 #![tactic(auto)]
 
 mod area_table;

@@ -1,4 +1,4 @@
-//! The areas of a process, listed.
+//! The list of a process's areas.
 
 ghost use Rattle.std.specs.Prelude.{◌≡◌, IfOk};
 ghost use Rattle.std.specs.List.{AllByRecursion};
@@ -16,21 +16,21 @@ use std::collections::BTreeMap;
 /// An area of a process.
 #[derive(Clone, Copy, Debug, PartialEq, Eq)]
 pub struct Line {
-    /// Its first page number.
+    /// Its first page number: below 2^35.
     pub first: Vpn,
-    /// Its length in pages, at least 1.
+    /// Its length in pages: at least 1.
     pub pages: u64,
-    /// Where its new pages are placed.
+    /// How its new pages are placed.
     pub policy: Policy,
-    /// The page that it shows first.
+    /// The page at its first page number.
     pub page: Page,
     /// Whether its segment is shared.
     pub shared: bool,
 }
 
 impl<A: Allocator + Copy> Areas<A> {
-    /// The areas of a process, by address: an empty list where it has none, and where there is no such process. An
-    /// error means that the host is out of memory.
+    /// The areas of a process, in address order. Empty if it has none, or if there is no such process. An error means
+    /// that the host is out of memory.
     pub fn lines(&self, pid: Pid) -> Result<Vec<Line, A>, AllocError>
         ensures { IfOk result (λ lines. lines.items ≡ lines_of self.now.segments self.now.areas pid) }
     {
@@ -38,7 +38,7 @@ impl<A: Allocator + Copy> Areas<A> {
     }
 }
 
-/// The areas of a process, by address.
+/// The areas of a process, in address order.
 fn list_lines<A: Allocator + Copy>(
     alloc: A,
     segments: &BTreeMap<u32, Segment, A>,
@@ -57,7 +57,7 @@ fn list_lines<A: Allocator + Copy>(
     Ok(lines)
 }
 
-/// An area from a page number on, and whether its segment is shared.
+/// An area that begins at a page number, and whether its segment is shared.
 fn line_of<A: Allocator + Copy>(
     segments: &BTreeMap<u32, Segment, A>,
     first: Vpn,
@@ -74,7 +74,7 @@ fn line_of<A: Allocator + Copy>(
     }
 }
 
-/// Whether a segment is shared. One that is not there is not.
+/// Whether a segment is shared. False if there is no such segment.
 pub(crate) fn is_shared<A: Allocator + Copy>(
     segments: &BTreeMap<u32, Segment, A>,
     number: u32,

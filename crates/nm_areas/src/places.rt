@@ -25,8 +25,8 @@ impl<A: Allocator + Copy> Areas<A> {
         self.places.get(&page).copied()
     }
 
-    /// Whether an area of a process shows, at a page number from one up to another, a page with a frame that has a number
-    /// over 0 in a list by frame. A frame past the end of the list has none. It takes no memory.
+    /// Whether an area of a process shows, at a page number from `first` up to `end`, a page whose frame has a number
+    /// above 0 in a list by frame. A frame past the end of the list counts as 0. Does not allocate.
     pub fn shows_counted(&self, pid: Pid, first: Vpn, end: Vpn, counts: &[u32]) -> bool
         ensures shown { result ≡ true → (v : ℕ) × (p : Page) × (frame : ℕ) × (first ≤ v) × (v < end) × (page_at self.now.areas pid v ≡ Some p) × (get page_cmp self.now.place p ≡ Some frame) × (0 < slice_index_or counts.now frame 0) }
         ensures none { result ≡ false → (v : ℕ) (p : Page) (frame : ℕ) → first ≤ v → v < end → page_at self.now.areas pid v ≡ Some p → get page_cmp self.now.place p ≡ Some frame → slice_index_or counts.now frame 0 ≡ 0 }
@@ -35,14 +35,14 @@ impl<A: Allocator + Copy> Areas<A> {
         shows_counted(&self.table, &self.places, pid, first, end, counts)
     }
 
-    /// The frames of the pages that have one, in the order of the pages. An error means that the host is out of memory.
+    /// The frames of all pages that have one, in page order. An error means that the host is out of memory.
     pub fn frames(&self) -> Result<Vec<FrameId, A>, AllocError>
         ensures { IfOk result (λ frames. frames.items ≡ values_of self.now.place) }
     {
         list_frames(self.alloc, &self.places)
     }
 
-    /// The pages that have a frame, by segment and index, each with its frame. An error means that the host is out of
+    /// The pages that have a frame, each with its frame, by segment and index. An error means that the host is out of
     /// memory.
     #[tactic(auto, using(crate::proofs::Values::same_values))]
     pub fn placed(&self) -> Result<Vec<(Page, FrameId), A>, AllocError>
@@ -51,7 +51,7 @@ impl<A: Allocator + Copy> Areas<A> {
         list_placed(self.alloc, &self.places)
     }
 
-    /// A page has this frame from now on. An error means that nothing has changed.
+    /// Sets the frame of a page. An error means that nothing has changed.
     pub fn set_frame(&mut self, page: Page, frame: FrameId) -> Result<(), AllocError>
         ensures ok { OnOk result (self.new ≡ with_frame self.old page frame) }
         ensures err { OnErr result (self.new ≡ self.old) }
@@ -61,7 +61,7 @@ impl<A: Allocator + Copy> Areas<A> {
         Ok(())
     }
 
-    /// A page that has a frame has another one from now on. It takes no memory.
+    /// Replaces the frame of a page that has one. Does not allocate.
     pub fn move_page(&mut self, page: Page, frame: FrameId)
         requires { IsSome (get page_cmp self.old.place page) }
         ensures { self.new ≡ moved self.old page frame }
@@ -71,7 +71,7 @@ impl<A: Allocator + Copy> Areas<A> {
         }
     }
 
-    /// A page that has a frame has none from now on. It takes no memory.
+    /// Removes the frame of a page that has one. Does not allocate.
     pub fn drop_frame(&mut self, page: Page)
         requires { IsSome (get page_cmp self.old.place page) }
         ensures { self.new ≡ without_frame self.old page }
@@ -80,8 +80,8 @@ impl<A: Allocator + Copy> Areas<A> {
     }
 }
 
-/// Whether an area of a process shows, at a page number from one up to another, a page with a frame that has a number over
-/// 0 in a list by frame.
+/// Whether an area of a process shows, at a page number from one up to another, a page whose frame has a number above 0
+/// in a list by frame.
 fn shows_counted<A: Allocator + Copy>(
     table: &AreaTable<A>,
     places: &BTreeMap<Page, FrameId, A>,
@@ -104,7 +104,7 @@ fn shows_counted<A: Allocator + Copy>(
     false
 }
 
-/// The same of an area, given with its first page number.
+/// The same for one area, given with its first page number.
 fn area_shows_counted<A: Allocator + Copy>(
     places: &BTreeMap<Page, FrameId, A>,
     start: Vpn,
@@ -115,7 +115,11 @@ fn area_shows_counted<A: Allocator + Copy>(
 ) -> bool
     requires begins { start < end }
     requires indices { area.page.index + area.pages < 2 ^ 64 }
+
+    // If there is one
     ensures shown { result ≡ true → (v : ℕ) × (frame : ℕ) × (first ≤ v) × (v < end) × (start ≤ v) × (v < start + area.pages) × (get page_cmp places.now.entries (page_of ((0, start), area) v) ≡ Some frame) × (0 < slice_index_or counts.now frame 0) }
+
+    // If there is none
     ensures none { result ≡ false → (v frame : ℕ) → first ≤ v → v < end → start ≤ v → v < start + area.pages → get page_cmp places.now.entries (page_of ((0, start), area) v) ≡ Some frame → slice_index_or counts.now frame 0 ≡ 0 }
 {
     let Page { segment, index } = area.page;
@@ -127,7 +131,7 @@ fn area_shows_counted<A: Allocator + Copy>(
     has_counted(places, segment, index + front, index + back, counts)
 }
 
-/// The same of the pages of a segment from an index up to another.
+/// The same for the pages of a segment from an index up to another.
 fn has_counted<A: Allocator + Copy>(
     places: &BTreeMap<Page, FrameId, A>,
     segment: u32,
@@ -148,7 +152,7 @@ fn has_counted<A: Allocator + Copy>(
     false
 }
 
-/// Whether a frame has a number over 0 in a list by frame.
+/// Whether a frame has a number above 0 in a list by frame.
 fn is_counted(counts: &[u32], frame: FrameId) -> bool
     ensures { result ≡ nat_lt 0 (slice_index_or counts.now frame 0) }
 {
@@ -158,7 +162,7 @@ fn is_counted(counts: &[u32], frame: FrameId) -> bool
     }
 }
 
-/// The frames of pages, in the order of the pages.
+/// The frames of all pages that have one, in page order.
 fn list_frames<A: Allocator + Copy>(
     alloc: A,
     places: &BTreeMap<Page, FrameId, A>,
@@ -168,7 +172,7 @@ fn list_frames<A: Allocator + Copy>(
     places.values().copied().collect(alloc)
 }
 
-/// The pages that have a frame, in their order, each with its frame.
+/// The pages that have a frame, each with its frame, in page order.
 fn list_placed<A: Allocator + Copy>(
     alloc: A,
     places: &BTreeMap<Page, FrameId, A>,

@@ -1,4 +1,4 @@
-//! The policy of a range of page numbers of a process, as `mbind(2)` sets it.
+//! The policy of a range of a process's page numbers, as mbind(2) sets it.
 
 ghost use Rattle.std.specs.List.{AllByRecursion, flat_map};
 ghost use Rattle.std.specs.List.Sorted.{IsStrictlySortedBy};
@@ -23,8 +23,7 @@ use std::alloc::{AllocError, Allocator};
 use std::collections::BTreeMap;
 
 impl<A: Allocator + Copy> Areas<A> {
-    /// Whether `split_policy` would set the policy of a range: returns EINVAL and then EFAULT as it does. It takes no
-    /// memory.
+    /// Whether `split_policy` would accept a range. If not, returns the same EINVAL or EFAULT. Does not allocate.
     pub fn check_policy(&self, pid: Pid, addr: u64, len: u64) -> Result<(), Errno>
         ensures ok { OnOk result (range_refusal self.now pid addr len ≡ None) }
         ensures err { IfErr result (λ e. range_refusal self.now pid addr len ≡ Some e) }
@@ -38,12 +37,12 @@ impl<A: Allocator + Copy> Areas<A> {
         Ok(())
     }
 
-    /// Sets the policy of the whole pages of `len` bytes from an address on, and of no others: the areas of the process
-    /// are split at both ends, and those between have the policy. Areas are never merged.
+    /// Sets the policy of the whole pages of `len` bytes from address `addr` on, and of no others: the process's areas
+    /// are split at both ends, and those between get the policy. Areas are never merged.
     ///
-    /// EINVAL: the address is not a page's, or the pages end past 2^64 - 1. Then EFAULT: one of the pages has no area.
-    /// No byte is no page, and then nothing is split. Memory is asked for only where the call is not refused, and there is
-    /// a byte.
+    /// Errors, in order: EINVAL if the address is not a multiple of 4,096 or the pages end past 2^64 - 1; EFAULT if one
+    /// of the pages has no area. A length of 0 is no page, and splits nothing. Allocates only if the call is not
+    /// refused and `len` is not 0.
     pub fn split_policy(
         &mut self,
         pid: Pid,
@@ -74,7 +73,7 @@ impl<A: Allocator + Copy> Areas<A> {
 }
 
 impl<A: Allocator + Copy> AreaTable<A> {
-    /// Whether an area of the process is over each of the `count` page numbers from `first` on.
+    /// Whether areas of the process cover each of the `count` page numbers from `first` on.
     pub(crate) fn is_mapped(&self, pid: Pid, first: Vpn, count: u64) -> bool
         requires apart { AreasAreApart self.now.areas }
         requires whole { AllByRecursion IsSomePages self.now.areas }
@@ -92,8 +91,8 @@ impl<A: Allocator + Copy> AreaTable<A> {
         }
     }
 
-    /// Splits the areas of the process at both ends of one or more pages from a page number on, and sets the policy of
-    /// those between. An error means that no area has changed.
+    /// Splits the process's areas at both ends of one or more pages from a page number on, and sets the policy of those
+    /// between. An error means that no area has changed.
     pub(crate) fn set_policy(
         &mut self,
         pid: Pid,
@@ -107,7 +106,11 @@ impl<A: Allocator + Copy> AreaTable<A> {
         requires ordered { IsStrictlySortedBy spot_cmp (keys_of self.old.areas) }
         requires some { 0 < count }
         requires end { first + count < 2 ^ 64 }
+
+        // On success
         ensures ok { OnOk result (self.new ≡ with_areas self.old (flat_map (repoliced pid first (first + count) policy) self.old.areas)) }
+
+        // Without memory
         ensures err { OnErr result (self.new ≡ self.old) }
     {
         let end = Vpn::new(first.number() + count);
@@ -117,7 +120,8 @@ impl<A: Allocator + Copy> AreaTable<A> {
     }
 }
 
-/// Whether areas of the process are over all page numbers behind an area, given with its first page number, up to another.
+/// Whether areas of the process cover all page numbers from the end of an area, given with its first page number, up to
+/// another.
 fn goes_on<A: Allocator + Copy>(
     areas: &BTreeMap<(Pid, Vpn), Area, A>,
     pid: Pid,
@@ -143,7 +147,7 @@ fn goes_on<A: Allocator + Copy>(
     true
 }
 
-/// Sets the policy of the areas of a process that begin from one page number up to another.
+/// Sets the policy of a process's areas that begin from one page number up to another.
 fn paint<A: Allocator + Copy>(
     areas: &mut BTreeMap<(Pid, Vpn), Area, A>,
     pid: Pid,
@@ -155,7 +159,7 @@ fn paint<A: Allocator + Copy>(
     ensures { areas.new.entries ≡ with_values (painted pid first end policy.now) areas.old.entries }
 {
     let policy = *policy;
-    // Each is changed where it stands, and none is taken out.
+    // Each area is changed in place, and none is removed.
     let mut walk = areas.extract_if(
         (pid, first)..(pid, end),
         move |_spot: &(Pid, Vpn), area: &mut Area| -> bool

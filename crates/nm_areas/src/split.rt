@@ -1,4 +1,4 @@
-//! Areas that are split.
+//! Splitting areas.
 
 ghost use Rattle.std.specs.List.{AllByRecursion};
 ghost use Rattle.std.specs.List.Sorted.{IsStrictlySortedBy};
@@ -15,13 +15,17 @@ use nm_types::{Area, Page, Pid, Vpn};
 use std::alloc::{AllocError, Allocator};
 
 impl<A: Allocator + Copy> AreaTable<A> {
-    /// Splits the areas of the process at two page numbers. An error means that no area has changed.
+    /// Splits the process's areas at two page numbers. An error means that no area has changed.
     pub(crate) fn cut(&mut self, pid: Pid, first: Vpn, end: Vpn) -> Result<(), AllocError>
         requires apart { AreasAreApart self.old.areas }
         requires whole { AllByRecursion IsSomePages self.old.areas }
         requires indices { AllByRecursion HasIndices self.old.areas }
         requires ordered { IsStrictlySortedBy spot_cmp (keys_of self.old.areas) }
+
+        // On success
         ensures ok { OnOk result (self.new ≡ with_areas self.old (split_at pid end (split_at pid first self.old.areas))) }
+
+        // Without memory
         ensures err { OnErr result (self.new ≡ self.old) }
     {
         let cut = self.split(pid, first)?;
@@ -34,15 +38,19 @@ impl<A: Allocator + Copy> AreaTable<A> {
         Ok(())
     }
 
-    /// Splits the area of the process that begins in front of a page number and is over it, so that one begins there.
-    /// Returns that area with its first page number, or None if there is nothing to split.
+    /// Splits the area of the process that covers a page number and begins before it, so that an area begins there.
+    /// Returns the area as it was, with its first page number, or None if there is nothing to split.
     fn split(&mut self, pid: Pid, at: Vpn) -> Result<Option<(Vpn, Area)>, AllocError>
         requires apart { AreasAreApart self.old.areas }
         requires whole { AllByRecursion IsSomePages self.old.areas }
         requires indices { AllByRecursion HasIndices self.old.areas }
+
+        // On success
         ensures ok { OnOk result (self.new ≡ with_areas self.old (split_at pid at self.old.areas)) }
         ensures some { IfOk result (λ cut. IfSome cut (λ c. (c.0 < at) × (area_over self.old.areas pid at ≡ Some ((pid, c.0), c.1)))) }
         ensures none { IfOk result (λ cut. IfNone cut (self.new ≡ self.old)) }
+
+        // Without memory
         ensures err { OnErr result (self.new ≡ self.old) }
     {
         let Some((start, area)) = self.over(pid, at) else {
@@ -71,7 +79,7 @@ impl<A: Allocator + Copy> AreaTable<A> {
         Ok(Some((start, area)))
     }
 
-    /// Removes the area that begins at a page number, and gives another its old length back. It takes no memory.
+    /// Removes the area that begins at a page number, and restores another one to its old length. Does not allocate.
     fn unsplit(&mut self, pid: Pid, at: Vpn, whole: (Vpn, Area))
         requires same { IfSome (get spot_cmp (without spot_cmp self.old.areas (pid, at)) (pid, whole.0)) (λ a. a.page.segment ≡ whole.1.page.segment) }
         ensures { self.new ≡ with_areas self.old (replace spot_cmp (without spot_cmp self.old.areas (pid, at)) (pid, whole.0) whole.1) }

@@ -14,7 +14,7 @@ fn three_pages(alloc: Global) -> Result<Areas<Global>, MachineError> {
     Ok(areas)
 }
 
-/// The same after the second page has a policy of its own.
+/// The same, after the second page gets a policy of its own.
 fn second_apart(alloc: Global) -> Result<Areas<Global>, MachineError> {
     let mut areas = three_pages(alloc)?;
     areas.split_policy(Pid::new(1), 0x11000, 4096, Policy::Local)?;
@@ -32,7 +32,7 @@ fn begins(areas: &Areas<Global>, numbers: &[u64]) -> Result<bool, AllocError> {
     )
 }
 
-/// How many pages the area of a process over a page number has.
+/// The length in pages of the area of a process that covers a page number.
 fn pages_over(areas: &Areas<Global>, pid: u32, vpn: u64) -> Option<u64> {
     match areas.find(Pid::new(pid), Vpn::new(vpn)) {
         Some((_, area)) => Some(area.pages),
@@ -40,18 +40,18 @@ fn pages_over(areas: &Areas<Global>, pid: u32, vpn: u64) -> Option<u64> {
     }
 }
 
-/// Whether a process is refused an area of its own for an argument.
+/// Whether a process is refused an area with EINVAL.
 fn is_invalid(areas: &mut Areas<Global>, pid: u32, addr: u64, pages: u64) -> bool {
     areas.insert(Pid::new(pid), addr, pages, false).err() == Some(INVALID)
 }
 
-/// Whether process 1 is refused a policy from page number 16 on for a hole.
+/// Whether process 1 is refused a policy from page number 16 on because of a hole.
 fn has_hole(areas: &mut Areas<Global>, len: u64) -> bool {
     let set = areas.split_policy(Pid::new(1), 0x10000, len, Policy::Local);
     set.err() == Some(FAULT)
 }
 
-/// Whether a policy of the second page makes three areas, of which the first has one page.
+/// Whether a policy for the second page makes three areas, the first of one page.
 fn splits_a_page_off(alloc: Global) -> Result<bool, MachineError> {
     let areas = second_apart(alloc)?;
     let begin = begins(&areas, [16, 17, 18].as_slice())?;
@@ -77,7 +77,8 @@ fn policies_of_holes(rt: HostRuntime) -> Result<(), Fail> {
     Ok(())
 }
 
-/// Whether areas over others, off a page's address and of no page are refused, and one beside the others is made.
+/// Whether areas that overlap others, begin inside a page or have no page are refused, and one beside the others is
+/// made.
 fn keeps_areas_apart(alloc: Global) -> Result<bool, MachineError> {
     let mut areas = three_pages(alloc)?;
     let refused = is_invalid(&mut areas, 1, 0x12000, 1)
@@ -93,7 +94,7 @@ fn areas_do_not_overlap(rt: HostRuntime) -> Result<(), Fail> {
     Ok(())
 }
 
-/// Whether an area may have all pages and no more, and its last page a policy of its own.
+/// Whether an area may have all pages and no more, and its last page may get a policy of its own.
 fn holds_all_pages(alloc: Global) -> Result<bool, MachineError> {
     let mut areas = three_pages(alloc)?;
     let all = 34_359_738_368u64;
@@ -111,7 +112,7 @@ fn the_largest_areas(rt: HostRuntime) -> Result<(), Fail> {
     Ok(())
 }
 
-/// What attaching pages of a segment to process 2 returns, with segment 0 one of three pages.
+/// What attaching pages of a segment to process 2 returns, where segment 0 has three pages.
 fn attached(
     alloc: Global,
     shared: bool,
@@ -144,7 +145,7 @@ fn stretches_of_shared_segments(rt: HostRuntime) -> Result<(), Fail> {
     Ok(())
 }
 
-/// Whether a page without a frame gets one, goes to another and loses that.
+/// Whether a page without a frame gets one, moves to another and loses it.
 fn gets_moves_and_loses(areas: &mut Areas<Global>, page: Page) -> Result<bool, AllocError> {
     let had_none = areas.page_frame(page).is_none();
     areas.set_frame(page, FrameId::new(4))?;
@@ -169,14 +170,14 @@ fn frames_of_pages(rt: HostRuntime) -> Result<(), Fail> {
     Ok(())
 }
 
-/// The same after it let go its second page.
+/// The same, after process 1 unmaps its second page.
 fn second_gone(alloc: Global) -> Result<Areas<Global>, MachineError> {
     let mut areas = second_apart(alloc)?;
     areas.remove(Pid::new(1), 0x11000, 1)?;
     Ok(areas)
 }
 
-/// Whether the hole stays where a policy over it is refused, and an area beside it as well.
+/// Whether the hole stays when a policy over it is refused, and an area over a page beside it is refused as well.
 fn leaves_a_hole(alloc: Global) -> Result<bool, MachineError> {
     let mut areas = second_gone(alloc)?;
     let was_there = begins(&areas, [16, 18].as_slice())?;
@@ -191,8 +192,8 @@ fn a_page_goes(rt: HostRuntime) -> Result<(), Fail> {
     Ok(())
 }
 
-/// Segment 0, a shared one of three pages, whose pages stand in frames 5, 6 and 7. Process 1 has all of them from page
-/// number 16 on, and the last two again from 32 on. Process 2 has the second.
+/// Segment 0 is shared and has three pages, in frames 5, 6 and 7. Process 1 has all of them from page number 16 on, and
+/// the last two again from 32 on. Process 2 has the second.
 fn shared_pages(alloc: Global) -> Result<Areas<Global>, MachineError> {
     let mut areas = Areas::new(alloc);
     areas.insert(Pid::new(1), 0x10000, 3, true)?;
@@ -222,7 +223,7 @@ fn shows(areas: &Areas<Global>, pid: u32, first: u64, frame: usize) -> bool {
     )
 }
 
-/// Whether the frames of shared pages are found where they are shown, and none where none is.
+/// Whether the frames of shared pages are found where they are shown, and nowhere else.
 fn are_found(alloc: Global) -> Result<bool, MachineError> {
     let mut areas = shared_pages(alloc)?;
     areas.insert(Pid::new(3), 0x10000, 3, false)?;
@@ -244,7 +245,7 @@ fn frames_are_found_where_they_are_shown(rt: HostRuntime) -> Result<(), Fail> {
     Ok(())
 }
 
-/// Whether a process that lets go all that it has gives these frames.
+/// Whether a process that unmaps all that it has frees these frames.
 fn gives(areas: &mut Areas<Global>, pid: u32, frames: &[u16]) -> Result<bool, MachineError> {
     let freed = areas.remove(Pid::new(pid), 0, 34_359_738_368)?;
     Ok(
@@ -255,7 +256,7 @@ fn gives(areas: &mut Areas<Global>, pid: u32, frames: &[u16]) -> Result<bool, Ma
     )
 }
 
-/// Whether each frame is given when the last area over its page goes, and the segment goes with the last of all.
+/// Whether each frame is freed with the last area over its page, and the segment with the last area of all.
 fn gives_what_none_covers(alloc: Global) -> Result<bool, MachineError> {
     let mut areas = shared_pages(alloc)?;
     let first = gives(&mut areas, 1, [7, 5].as_slice())? && areas.is_shared(0);

@@ -1,4 +1,4 @@
-//! Areas that go.
+//! Unmapping areas.
 
 ghost use Rattle.std.specs.List.{AllByRecursion, fold, list_any};
 ghost use Rattle.std.specs.List.Sorted.{IsStrictlySortedBy};
@@ -27,22 +27,27 @@ use std::alloc::Allocator;
 use std::collections::BTreeMap;
 
 impl<A: Allocator + Copy> Areas<A> {
-    /// Unmaps `pages` pages of a process from an address on, among which there may be holes. Its areas are split at
-    /// both ends, and those between go. So do segments that no area shows any more. Pages that no area of any process
-    /// covers any more lose their frames: returns them with the frames that they had, by ascending address, each page
-    /// at its lowest.
+    /// Unmaps `pages` pages of a process from address `addr` on; the range may have holes. The process's areas are
+    /// split at both ends, and those between are removed, with the segments that no other area shows. Pages that no
+    /// other area of any process covers lose their frames. Returns these pages with the frames that they had, in
+    /// address order, each page at its lowest address.
     ///
-    /// EINVAL: the address is not a page's, there is no page, or they end past 2^47. Memory is asked for only where the
-    /// call is not refused; the list that is returned takes room for no more pages than have frames, and for no more
-    /// than the range has.
+    /// Errors: EINVAL if the address is not a multiple of 4,096, `pages` is 0, or the pages end past 2^47. Allocates
+    /// only if the call is not refused; the returned list has room for at most as many pages as have frames, and at
+    /// most as many as the range has.
     pub fn remove(
         &mut self,
         pid: Pid,
         addr: u64,
         pages: u64,
     ) -> Result<Vec<(Page, FrameId), A>, MachineError>
+        // In any case
         ensures done { Makes result self.old self.new (remove_refusal addr pages) (removed self.old pid (addr / 4096) (addr / 4096 + pages)) }
+
+        // Without memory
         ensures memory { result ≡ Err MachineError.HostMemory → remove_refusal addr pages ≡ None }
+
+        // On success
         ensures pages { OnOk result ((q v : ℕ) → page_at self.new.areas q v ≡ page_outside self.old.areas pid (addr / 4096) (addr / 4096 + pages) q v) }
         ensures freed { IfOk result (λ freed. freed.items ≡ frames_lost self.old pid (addr / 4096) (addr / 4096 + pages)) }
         ensures room { IfOk result (λ freed. vec_capacity freed ≤ min (length self.old.place) pages) }
@@ -58,7 +63,8 @@ impl<A: Allocator + Copy> Areas<A> {
             join_steps(&self.table, &mut self.steps, pid, first, end);
             return Err(MachineError::HostMemory);
         };
-        // Pages that other areas cover stay, so the counts are theirs before the first page goes.
+        // Pages that other areas cover keep their frames, so the steps are those of the others before the first page
+        // loses its.
         count_out_own(&self.table, &mut self.steps, pid, first, end);
         self.table
             .lose_all(&self.steps, pid, first, end, &mut self.places, &mut freed);
@@ -68,9 +74,9 @@ impl<A: Allocator + Copy> Areas<A> {
 }
 
 impl<A: Allocator + Copy> AreaTable<A> {
-    /// Pages that the areas of a process show that begin from one page number up to another, and that no other area
-    /// covers, lose their frames. They are appended to a list that has room for them. The steps are those of the other
-    /// areas.
+    /// Takes the frames of pages that the areas of a process show that begin from one page number up to another, and
+    /// that no other area covers. Appends these pages to a list that has room for them. The steps are those of the
+    /// other areas.
     fn lose_all(
         &self,
         steps: &BTreeMap<Page, Step, A>,
@@ -86,8 +92,12 @@ impl<A: Allocator + Copy> AreaTable<A> {
         requires once { PrivateIsOnce self.now.areas self.now.segments }
         requires indices { AllByRecursion HasIndices self.now.areas }
         requires room { vec_len freed.old + min (length places.old.entries) (length (pages_of_own pid first end self.now.areas)) ≤ vec_capacity freed.old }
+
+        // The pages lose their frames and join the list
         ensures places { places.new.entries ≡ fold (place_left (others pid first end self.now.areas)) places.old.entries (pages_of_own pid first end self.now.areas) }
         ensures freed { freed.new.items ≡ freed.old.items ++ all_lost (others pid first end self.now.areas) places.old.entries (pages_of_own pid first end self.now.areas) }
+
+        // The list keeps its capacity
         ensures room { vec_capacity freed.new ≡ vec_capacity freed.old }
     {
         let mut at = first.number();
@@ -113,7 +123,7 @@ impl<A: Allocator + Copy> AreaTable<A> {
         }
     }
 
-    /// Whether some area shows pages of a segment.
+    /// Whether any area shows pages of a segment.
     fn is_shown(&self, segment: u32) -> bool
         requires ordered { IsStrictlySortedBy spot_cmp (keys_of self.now.areas) }
         ensures { result ≡ list_any (shows_segment segment) self.now.areas }
@@ -125,7 +135,7 @@ impl<A: Allocator + Copy> AreaTable<A> {
         }
     }
 
-    /// Removes a segment, if it is there.
+    /// Removes a segment, if there is one of this number.
     fn drop_segment(&mut self, number: u32)
         ensures { self.new ≡ record self.old { segments = without nat_cmp self.old.segments number } }
     {
@@ -133,8 +143,8 @@ impl<A: Allocator + Copy> AreaTable<A> {
     }
 }
 
-/// Pages that an area shows, and that none of the areas covers whose steps these are, lose their frames. They are
-/// appended to a list that has room for them. No other area covers a page of a private segment.
+/// Takes the frames of pages that an area shows and that none of the areas covers whose steps these are. Appends these
+/// pages to a list that has room for them. No other area covers a page of a private segment.
 fn lose_area<A: Allocator + Copy>(
     steps: &BTreeMap<Page, Step, A>,
     area: Area,
@@ -144,8 +154,12 @@ fn lose_area<A: Allocator + Copy>(
 )
     requires indices { area.page.index + area.pages < 2 ^ 64 }
     requires room { vec_len freed.old + min (length places.old.entries) area.pages ≤ vec_capacity freed.old }
+
+    // The pages lose their frames and join the list
     ensures places { (segments : Map ℕ Segment) (left : Map (ℕ × ℕ) Area) → IsCoverage steps.now.entries segments left → shared ≡ is_shared segments area.page.segment → IsAlone left area shared → places.new.entries ≡ fold (place_left left) places.old.entries (pages_of_area area) }
     ensures freed { (segments : Map ℕ Segment) (left : Map (ℕ × ℕ) Area) → IsCoverage steps.now.entries segments left → shared ≡ is_shared segments area.page.segment → IsAlone left area shared → freed.new.items ≡ freed.old.items ++ all_lost left places.old.entries (pages_of_area area) }
+
+    // The list grows by as many, and keeps its capacity
     ensures counted { vec_len freed.new + length places.new.entries ≡ vec_len freed.old + length places.old.entries }
     ensures few { vec_len freed.new ≤ vec_len freed.old + area.pages }
     ensures room { vec_capacity freed.new ≡ vec_capacity freed.old }
@@ -158,9 +172,9 @@ fn lose_area<A: Allocator + Copy>(
     }
 }
 
-/// Pages of a shared segment that an area shows, and that none of the areas covers whose steps these are, lose their
-/// frames. They are appended to a list that has room for them. It goes from change to change: between two as many areas
-/// cover each page.
+/// Takes the frames of pages of a shared segment that an area shows and that none of the areas covers whose steps these
+/// are. Appends these pages to a list that has room for them. Goes from step to step, since between two steps the
+/// number of areas over a page is the same.
 fn lose<A: Allocator + Copy>(
     steps: &BTreeMap<Page, Step, A>,
     area: Area,
@@ -169,8 +183,12 @@ fn lose<A: Allocator + Copy>(
 )
     requires indices { area.page.index + area.pages < 2 ^ 64 }
     requires room { vec_len freed.old + min (length places.old.entries) area.pages ≤ vec_capacity freed.old }
+
+    // The pages lose their frames and join the list
     ensures places { (segments : Map ℕ Segment) (left : Map (ℕ × ℕ) Area) → IsCoverage steps.now.entries segments left → is_shared segments area.page.segment ≡ true → places.new.entries ≡ fold (place_left left) places.old.entries (pages_of_area area) }
     ensures freed { (segments : Map ℕ Segment) (left : Map (ℕ × ℕ) Area) → IsCoverage steps.now.entries segments left → is_shared segments area.page.segment ≡ true → freed.new.items ≡ freed.old.items ++ all_lost left places.old.entries (pages_of_area area) }
+
+    // The list grows by as many, and keeps its capacity
     ensures counted { vec_len freed.new + length places.new.entries ≡ vec_len freed.old + length places.old.entries }
     ensures few { vec_len freed.new ≤ vec_len freed.old + area.pages }
     ensures room { vec_capacity freed.new ≡ vec_capacity freed.old }
@@ -194,7 +212,7 @@ fn lose<A: Allocator + Copy>(
     }
 }
 
-/// The pages of a segment from an index up to another lose their frames. They are appended to a list that has room for
+/// Takes the frames of a segment's pages from an index up to another. Appends these pages to a list that has room for
 /// them.
 fn lose_stretch<A: Allocator + Copy>(
     segment: u32,
@@ -205,8 +223,12 @@ fn lose_stretch<A: Allocator + Copy>(
 )
     requires range { first ≤ past }
     requires room { vec_len freed.old + min (length places.old.entries) (past - first) ≤ vec_capacity freed.old }
+
+    // The pages lose their frames and join the list
     ensures places { places.new.entries ≡ fold (place_left []) places.old.entries (pages_from segment first (past - first)) }
     ensures freed { freed.new.items ≡ freed.old.items ++ all_lost [] places.old.entries (pages_from segment first (past - first)) }
+
+    // The list grows by as many, and keeps its capacity
     ensures counted { vec_len freed.new + length places.new.entries ≡ vec_len freed.old + length places.old.entries }
     ensures few { vec_len freed.new ≤ vec_len freed.old + (past - first) }
     ensures room { vec_capacity freed.new ≡ vec_capacity freed.old }
@@ -218,7 +240,7 @@ fn lose_stretch<A: Allocator + Copy>(
     }
 }
 
-/// A page loses its frame, and is appended to a list that has room for it.
+/// Takes the frame of a page, and appends the page to a list that has room for it.
 fn lose_page<A: Allocator + Copy>(
     page: Page,
     frame: FrameId,
@@ -227,8 +249,12 @@ fn lose_page<A: Allocator + Copy>(
 )
     requires has { get page_cmp places.old.entries page ≡ Some frame }
     requires room { vec_len freed.old + min (length places.old.entries) 1 ≤ vec_capacity freed.old }
+
+    // The page loses its frame and joins the list
     ensures places { places.new.entries ≡ place_left [] places.old.entries page }
     ensures freed { freed.new.items ≡ freed.old.items ++ lost [] places.old.entries page }
+
+    // The list grows by one, and keeps its capacity
     ensures counted { vec_len freed.new + length places.new.entries ≡ vec_len freed.old + length places.old.entries }
     ensures few { vec_len freed.new ≤ vec_len freed.old + 1 }
     ensures room { vec_capacity freed.new ≡ vec_capacity freed.old }

@@ -1,4 +1,4 @@
--- Where as many tickets were given back as there are, each of them was.
+-- If as many tickets were given back as there are, each of them was.
 use Rattle.std.proofs.Common.{◌≡◌, ℕ, zero, suc, ◌+◌, ◌-◌, ◌<◌, ◌≤◌, List, [], ◌∷◌, length, sym, refl, ap, ◌∙◌, arith, min, true, Option, Some}
 use mathlib.Core.Option.{some, some-injective, some-ne-none}
 use mathlib.Core.Option as Opt

@@ -19,7 +19,8 @@ use Rattle.nm_board.proofs.Sums.{total_set, total_snoc, total_has}
 use Rattle.nm_board.proofs.Counts.{times_append, step_is, get_lt, lt_get, once_lt, past_split, past_join, once_zero}
 
 module _ {A : Type 0} where
-  -- what a step owes that makes the words these: a new view and an act that keep the rule, and what the hand learns from it
+  -- what a step must show that makes the words these: a new view and an act that keep the rule, and what the hand
+  -- learns from it
   abbrev Goes : List (CopyJob A) → List (Opt.Option (Option (CopyJob A))) → List (View A) → ℕ → List (ℕ × Option (CopyJob A)) → List ℕ → (Mine A → Type 0) → Type 0
   Goes jobs homes views id carried words told =
       (w : View A) × (a : Act (Option (CopyJob A))) × Valid homes carried a

@@ -14,23 +14,23 @@ abbrev pub total : {A : Type 0} → (View A → ℕ) → List (View A) → ℕ
 total f [] = 0
 total f (v ∷ vs) = f v + total f vs
 
--- the shares of a hand that is past the end
+-- the shares of a hand that is past the end, 0 for any other
 abbrev pub past_shares : {A : Type 0} → View A → ℕ
 past_shares v = if v.past_end then v.shares else 0
 
--- what holds of one hand, dropped ones included
+-- what holds of each hand, including dropped ones
 pub record IsHand {A : Type 0} (jobs : List (CopyJob A)) (next given : ℕ) (v : View A) : Type 0 where
   pub jobs_are : 0 < v.shares → v.jobs ≡ jobs
-  -- what it gave back it drew
+  -- it drew every ticket that it gave back
   pub within : (t : ℕ) → times t v.done ≤ times t v.drawn
   pub fewer : length v.done ≤ length v.drawn
-  -- it is past the end only where no ticket is left
+  -- it is past the end only if no ticket is left
   pub none_left : v.past_end ≡ true → length jobs ≤ next
   pub all_given : v.full ≡ true → given ≡ length jobs
-  -- one that was joined into another has no share and no ticket
+  -- a hand that was joined into another has no shares and no tickets
   pub spent : v.shares ≡ 0 → (v.drawn ≡ []) × (v.done ≡ [])
 
--- the words: `next` first and `given` last, with 64 bytes from one to the other, so that they share no line of a cache
+-- the words: `next` first and `given` last, 64 bytes apart, so that they do not share a cache line
 abbrev pub words_of : ℕ → ℕ → List ℕ
 words_of next given = next ∷ 0 ∷ 0 ∷ 0 ∷ 0 ∷ 0 ∷ 0 ∷ 0 ∷ given ∷ []
 
@@ -41,7 +41,7 @@ pub record Keeps {A : Type 0} (jobs : List (CopyJob A)) (words : List ℕ) (home
   pub few : length jobs < 2 ^ 63
   pub slots : length homes ≡ length jobs
   pub shares : total (λ v. v.shares) views ≡ 64
-  -- each ticket below `next` that has a job was drawn by one hand, once, and no other was drawn
+  -- each ticket below `next` that has a job was drawn by exactly one hand, once, and no other was drawn
   pub once : (t : ℕ) → total (λ v. times t v.drawn) views ≡ once_below t (min next (length jobs))
   pub drawn : total (λ v. length v.drawn) views ≡ min next (length jobs)
   -- `given` counts the tickets that were given back
@@ -49,7 +49,7 @@ pub record Keeps {A : Type 0} (jobs : List (CopyJob A)) (words : List ℕ) (home
   -- each share past the end drew in vain at most once
   pub ahead : next ≤ length jobs + total past_shares views
   pub hands : (id : ℕ) (v : View A) → get_elem? views id ≡ some v → IsHand jobs next given v
-  -- a job lies as it was laid until it is drawn, and as its copy once it was given back
+  -- a job is as it was laid until it is drawn, and is its copy once it was given back
   pub laid : (t : ℕ) (job : CopyJob A) → next ≤ t → get_elem? jobs t ≡ some job → get_elem? homes t ≡ some (some (Some job))
   pub back : (t : ℕ) (job : CopyJob A) → 0 < total (λ v. times t v.done) views → get_elem? jobs t ≡ some job
       → get_elem? homes t ≡ some (some (Some (copied job)))
@@ -58,7 +58,7 @@ pub record Keeps {A : Type 0} (jobs : List (CopyJob A)) (words : List ℕ) (home
 abbrev pub IsKept : {A : Type 0} → List (CopyJob A) → State (Option (CopyJob A)) (View A) → Type 0
 IsKept jobs state = (next : ℕ) × (given : ℕ) × Keeps jobs state.words state.homes state.views next given
 
--- the first hand has all shares
+-- the first hand, with all shares
 abbrev pub first_view : {A : Type 0} → List (CopyJob A) → View A
 first_view jobs = record { shares = 64; past_end = false; drawn = []; done = []; full = false; jobs = jobs }
 

@@ -1,17 +1,17 @@
--- What a board and a hand show.
+-- What contracts see of a board and a hand.
 use Rattle.std.specs.Prelude.{◌≡◌, ◌≢◌, ℕ, ◌+◌, ◌-◌, ◌^◌, ◌<◌, ◌≤◌, Bool, false, ◌||◌, List, [], ◌∷◌, ◌++◌, drop, length, slice_get, Some}
 use Rattle.atomic_table.specs.Seated.{TableId}
 use Rattle.nm_frames.specs.declared.job.CopyJob.{CopyJob}
 use Rattle.nm_board.specs.Tickets.{InTicketOrder, times, once_below}
 use Rattle.nm_board.specs.Steps.{Mine, tickets, DrewEach}
 
--- a board: which one it is, and the jobs that were laid, in the order of their tickets
+-- a board: its identity, and the jobs that were laid, in the order of their tickets
 pub record Laying (A : Type 0) : Type 0 where
   pub id : TableId
   pub jobs : List (CopyJob A)
 
--- a hand: its board, its shares, whether it is past the end, the tickets that it drew and that it gave back, in order,
--- and those that are out with it, the last first
+-- a hand: its board, its shares, whether it is past the end, the tickets that it drew and those that it gave back, in
+-- order, and those that it has out, the last first
 pub record Holding (A : Type 0) : Type 0 where
   pub board : Laying A
   pub shares : ℕ
@@ -21,7 +21,7 @@ pub record Holding (A : Type 0) : Type 0 where
   pub out : List ℕ
 
 module _ {A : Type 0} where
-  -- what a hand shows of its fields: its table, what its seat knows, its shares, and whether it is past the end
+  -- what contracts see of a hand's fields: its table, what its seat knows, its shares, and whether it is past the end
   abbrev pub shown : TableId → Mine A → ℕ → Bool → Holding A
   shown id me shares past = record {
     board = record { id = id; jobs = me.0.jobs };
@@ -32,19 +32,19 @@ module _ {A : Type 0} where
     out = tickets me.1;
   }
 
-  -- the hand that comes with a board: all 64 shares, and no ticket yet
+  -- the hand made with a board: all 64 shares, and no tickets
   abbrev pub all_shares : Laying A → Holding A
   all_shares board = record { board = board; shares = 64; past_end = false; drawn = []; done = []; out = [] }
 
-  -- a hand without these shares
+  -- a hand after these shares were split off
   abbrev pub without : Holding A → ℕ → Holding A
   without hand n = record hand { shares = hand.shares - n }
 
-  -- a new hand with these shares of another
+  -- the new hand that gets these shares of another
   abbrev pub split_off : Holding A → ℕ → Holding A
   split_off hand n = record hand { shares = n; drawn = []; done = []; out = [] }
 
-  -- a hand that took in another
+  -- a hand that another was joined into
   abbrev pub joined : Holding A → Holding A → Holding A
   joined hand other = record hand {
     shares = hand.shares + other.shares;
@@ -53,27 +53,27 @@ module _ {A : Type 0} where
     done = hand.done ++ other.done;
   }
 
-  -- the hand once it drew this ticket
+  -- a hand after it drew this ticket
   abbrev pub with_ticket : Holding A → ℕ → Holding A
   with_ticket hand t = record hand { drawn = hand.drawn ++ t ∷ []; out = t ∷ hand.out }
 
-  -- the hand once it gave its last ticket back
+  -- a hand after it gave its last ticket back
   abbrev pub without_ticket : Holding A → ℕ → Holding A
   without_ticket hand t = record hand { done = hand.done ++ t ∷ []; out = drop 1 hand.out }
 
-  -- each ticket stands once among those that the hand drew, and nothing else does
+  -- the hand drew each ticket once, and nothing else
   abbrev pub HasEach : Holding A → Type 0
   HasEach hand = (t : ℕ) → times t hand.drawn ≡ once_below t (length hand.board.jobs)
 
-  -- each ticket that the hand drew it gave back, or it is out with it
+  -- each ticket that the hand drew was given back by it or is out with it
   abbrev pub OutIsTheRest : Holding A → Type 0
   OutIsTheRest hand = (t : ℕ) → times t hand.drawn ≡ times t hand.done + times t hand.out
 
-  -- no ticket stands twice among those that the hand drew
+  -- the hand drew no ticket twice
   abbrev pub HasNoneTwice : Holding A → Type 0
   HasNoneTwice hand = (t : ℕ) → times t hand.drawn ≤ 1
 
--- a hand drew this job: it was laid, and its ticket is above all that the hand drew before
+-- the hand drew this job: it was laid, and its ticket is above all that the hand drew before
 pub record Drew {A : Type 0} (old new : Holding A) (job : CopyJob A) : Type 0 where
   pub laid : slice_get old.board.jobs job.ticket ≡ Some job
   pub above : (t : ℕ) → 0 < times t old.drawn → t < job.ticket
@@ -86,7 +86,7 @@ pub record IsShort {A : Type 0} (hand : Holding A) : Type 0 where
   pub kept : times ticket hand.done ≡ 0
   pub out : hand.out ≢ []
 
--- the fields of a board: the numbers of its words and slots, its jobs, and the room in which it gives them back
+-- a board's fields: the numbers of its words and slots, its jobs, and the list with room to return them in
 pub record IsBoard {A : Type 0} (board : Laying A) (room capacity : ℕ) : Type 0 where
   pub words : board.id.words ≡ 9
   pub slots : board.id.slots ≡ length board.jobs
@@ -95,7 +95,7 @@ pub record IsBoard {A : Type 0} (board : Laying A) (room capacity : ℕ) : Type 
   pub empty : room ≡ 0
   pub room_left : length board.jobs ≤ capacity
 
--- the fields of a hand agree with what its seat knows
+-- a hand's fields agree with what its seat knows
 pub record Fits {A : Type 0} (me : Mine A) (shares : ℕ) (past : Bool) : Type 0 where
   pub shares_are : me.0.shares ≡ shares
   pub past_is : me.0.past_end ≡ past

@@ -1,4 +1,4 @@
--- The words and the hands of a board show how far each job is.
+-- A board's words and hands show how far each job is.
 use Rattle.std.specs.Prelude.{◌≡◌, ◌≢◌, ℕ, ◌+◌, ◌<◌, ◌≤◌, Bool, List, [], ◌∷◌, ◌++◌, length, slice_index, slice_set, Option}
 use mathlib.Core.Option.{some}
 use lib.ListN.{get_elem?}
@@ -10,7 +10,7 @@ use Rattle.nm_board.specs.Rule.{total, IsKept, spent_view}
 use Rattle.nm_board.specs.Steps.{Mine, Draws, Gives, less, part, both}
 use Rattle.nm_board.specs.Shown.{Fits}
 
--- a job lies on the board, a hand has it, or it was given back
+-- a job lies on the board, is in a hand, or was given back
 pub data Stage : Type 0 where
   Laid : Stage
   InHand : (hand : ℕ) → Stage
@@ -27,29 +27,29 @@ next_of s = slice_index s.words 0
 abbrev pub given_of : {A : Type 0} → Moment A → ℕ
 given_of s = slice_index s.words 8
 
--- what a board shows of the job of ticket t: it lies where no draw has come so far; a hand has it that drew it and has
--- not given it back; it is given where some hand gave it back
+-- what a board shows of the job of ticket t: it lies there if no draw has reached it; it is in a hand that drew it and
+-- has not given it back; it was given back if some hand did so
 abbrev pub IsAt : {A : Type 0} → Moment A → ℕ → Stage → Type 0
 IsAt s t Laid = next_of s ≤ t
 IsAt {A} s t (InHand hand) = (v : View A) × (get_elem? s.views hand ≡ some v) × (0 < times t v.drawn) × (times t v.done ≡ 0)
 IsAt s t Given = 0 < total (λ v. times t v.done) s.views
 
--- at each moment each job is at one stage and at no other
+-- at each moment each job is at exactly one stage
 abbrev pub EachIsAtOneStage : Type 0 → Type 0
 EachIsAtOneStage A = (jobs : List (CopyJob A)) (s : Moment A) → IsKept jobs s → (t : ℕ) → t < length jobs
     → (stage : Stage) × IsAt s t stage × ((other : Stage) → IsAt s t other → other ≡ stage)
 
--- the job of ticket t goes from one stage to another, and every other job stays where it is
+-- the job of ticket t goes from one stage to another, and every other job stays at its stage
 pub record Turns {A : Type 0} (old new : Moment A) (t : ℕ) (from to : Stage) : Type 0 where
   pub was : IsAt old t from
   pub is : IsAt new t to
   pub others : (u : ℕ) (stage : Stage) → u ≢ t → IsAt old u stage → IsAt new u stage
 
--- each of the jobs stays where it is
+-- each job stays at its stage
 abbrev pub Stays : {A : Type 0} → List (CopyJob A) → Moment A → Moment A → Type 0
 Stays jobs old new = (t : ℕ) (stage : Stage) → t < length jobs → IsAt old t stage → IsAt new t stage
 
--- a hand steps: a word becomes this number, the hand knows what it knows after the step, and nothing else changes
+-- a hand makes a step: one word gets this number, the hand knows what it knows after the step, and nothing else changes
 pub record Moves {A : Type 0} (jobs : List (CopyJob A)) (hand word number : ℕ) (old new : Moment A) (me now : Mine A) : Type 0 where
   pub kept : IsKept jobs old
   pub shares : ℕ
@@ -59,19 +59,19 @@ pub record Moves {A : Type 0} (jobs : List (CopyJob A)) (hand word number : ℕ)
   pub words : new.words ≡ slice_set old.words word number
   pub views : new.views ≡ slice_set old.views hand now.0
 
--- a draw takes the first job that lies into the hand
+-- a draw moves the first job that lies on the board into the hand
 abbrev pub DrawTakesTheFirst : Type 0 → Type 0
 DrawTakesTheFirst A = (jobs : List (CopyJob A)) (hand : ℕ) (old new : Moment A) (me now : Mine A) (s : Step (Option (CopyJob A)))
     → Moves jobs hand 0 (next_of old + 1) old new me now → Draws s me (next_of old) now → next_of old < length jobs
     → Turns old new (next_of old) Laid (InHand hand) × ((t : ℕ) → IsAt old t Laid → next_of old ≤ t)
 
--- where no job is left, it takes none
+-- if no job is left, a draw moves none
 abbrev pub LateDrawTakesNone : Type 0 → Type 0
 LateDrawTakesNone A = (jobs : List (CopyJob A)) (hand : ℕ) (old new : Moment A) (me now : Mine A) (s : Step (Option (CopyJob A)))
     → Moves jobs hand 0 (next_of old + 1) old new me now → Draws s me (next_of old) now → length jobs ≤ next_of old
     → Stays jobs old new
 
--- a hand gives back the job that it took last
+-- a hand gives back the job that it drew last
 abbrev pub GiveReturnsTheLast : Type 0 → Type 0
 GiveReturnsTheLast A = (jobs : List (CopyJob A)) (hand t : ℕ) (job : Option (CopyJob A)) (old new : Moment A) (me now : Mine A)
     → (s : Step (Option (CopyJob A)))

@@ -1,4 +1,4 @@
--- What the hand that makes a step learns from it.
+-- What a hand learns from the step that it makes.
 use Rattle.std.specs.Prelude.{◌≡◌, ℕ, ◌-◌, ◌+◌, ◌<◌, ◌≤◌, ◌≢◌, true, false, List, [], ◌∷◌, ◌++◌, length, Option, Some, ◌||◌}
 use mathlib.Core.Option.{some}
 use lib.ListN.{get_elem?}
@@ -7,11 +7,11 @@ use Rattle.nm_frames.specs.declared.job.CopyJob.{CopyJob}
 use Rattle.nm_board.specs.declared.view.View.{View}
 use Rattle.nm_board.specs.Tickets.{times, once_below}
 
--- a hand's view, and the slots that are out with it
+-- what a hand knows, and the slots that it has out
 abbrev pub Mine : Type 0 → Type 0
 Mine A = Me (Option (CopyJob A)) (View A)
 
--- the ticket taken last, if there is one
+-- the ticket drawn last, if there is one
 abbrev pub front : {A : Type 0} → List (ℕ × Option (CopyJob A)) → List ℕ
 front [] = []
 front (x ∷ xs) = x.0 ∷ []
@@ -21,18 +21,18 @@ abbrev pub tickets : {A : Type 0} → List (ℕ × Option (CopyJob A)) → List 
 tickets [] = []
 tickets (x ∷ xs) = x.0 ∷ tickets xs
 
--- a hand of all shares that is past the end drew each ticket once
+-- a hand with all shares that is past the end drew each ticket once
 abbrev pub DrewEach : {A : Type 0} → View A → Type 0
 DrewEach v = v.shares ≡ 64 → v.past_end ≡ true → (t : ℕ) → times t v.drawn ≡ once_below t (length v.jobs)
 
--- a ticket that has a job comes with the job that was laid, and is above all that the hand drew
+-- a drawn ticket that has a job comes with the job that was laid, and is above all that the hand drew before
 pub record DrawsNext {A : Type 0} (m : Mine A) (found : ℕ) (r : Mine A) : Type 0 where
   pub job : CopyJob A
   pub laid : get_elem? m.0.jobs found ≡ some job
   pub now : r ≡ (record m.0 { drawn = m.0.drawn ++ found ∷ [] }, (found, Some job) ∷ m.1)
   pub above : (t : ℕ) → 0 < times t m.0.drawn → t < found
 
--- from the number of jobs on the hand is past the end
+-- a draw that finds no job left puts the hand past the end
 pub record DrawsNone {A : Type 0} (m r : Mine A) : Type 0 where
   pub now : r ≡ (record m.0 { past_end = true }, m.1)
   pub each : DrewEach r.0
@@ -41,11 +41,11 @@ pub record Draws {A : Type 0} (s : Step (Option (CopyJob A))) (m : Mine A) (foun
   pub below : found < length m.0.jobs → DrawsNext m found r
   pub past : length m.0.jobs ≤ found → DrawsNone m r
 
--- the ticket taken last is given back
+-- the ticket drawn last is given back
 abbrev pub Gives : {A : Type 0} → Step (Option (CopyJob A)) → Mine A → ℕ → Mine A → Type 0
 Gives s m found r = r ≡ (record m.0 { done = m.0.done ++ front m.1 }, rest m.1)
 
--- how many tickets were given back; where it is all of them, the hand knows it
+-- the step returns how many tickets were given back; if that is all of them, the hand knows it
 pub record Counts {A : Type 0} (s : Step (Option (CopyJob A))) (m : Mine A) (found : ℕ) (r : Mine A) : Type 0 where
   pub all : found ≡ length m.0.jobs → r ≡ (record m.0 { full = true }, m.1)
   pub some_out : found ≢ length m.0.jobs → r ≡ m
@@ -58,15 +58,15 @@ pub record Looks {A : Type 0} (s : Step (Option (CopyJob A))) (m : Mine A) (foun
   pub once : (t : ℕ) → times t m.0.drawn ≤ 1
   pub each : DrewEach m.0
 
--- what is left of a hand when shares are split off
+-- what a hand keeps when shares are split off
 abbrev pub less : {A : Type 0} → ℕ → View A → View A
 less n v = record v { shares = v.shares - n }
 
--- the hand that they make
+-- the hand that gets them
 abbrev pub part : {A : Type 0} → ℕ → View A → View A
 part n v = record { shares = n; past_end = v.past_end; drawn = []; done = []; full = false; jobs = v.jobs }
 
--- two hands in one
+-- two hands joined into one
 abbrev pub both : {A : Type 0} → View A → View A → View A
 both v w = record {
   shares = v.shares + w.shares;

@@ -2,15 +2,15 @@
 use Rattle.std.specs.Prelude.{◌≡◌, ℕ, ◌+◌, ◌==◌, nat_lt, if◌then◌else◌, List, [], ◌∷◌, slice_get, Some}
 use Rattle.nm_frames.specs.declared.job.CopyJob.{CopyJob}
 
--- the jobs stand in the order of their tickets, 0 first
+-- the jobs are in the order of their tickets, from 0 up
 abbrev pub InTicketOrder : {A : Type 0} → List (CopyJob A) → Type 0
 InTicketOrder {A} jobs = (t : ℕ) (job : CopyJob A) → slice_get jobs t ≡ Some job → job.ticket ≡ t
 
--- 1 where the two are one ticket, else 0
+-- 1 if both are the same ticket, else 0
 abbrev pub hit : ℕ → ℕ → ℕ
 hit t u = if t == u then 1 else 0
 
--- how often a ticket stands in a list
+-- how often a ticket is in a list
 abbrev pub times : ℕ → List ℕ → ℕ
 times t [] = 0
 times t (u ∷ us) = hit t u + times t us

@@ -1,4 +1,4 @@
-//! What can be asked of a hand.
+//! What a hand reports of itself.
 
 ghost use Rattle.std.specs.Prelude.{◌≡◌, ◌<◌, ◌≤◌, true};
 ghost use Rattle.nm_board.specs.Shown.{HasEach, HasNoneTwice, OutIsTheRest};
@@ -7,7 +7,7 @@ use crate::hand::Hand;
 use std::alloc::Allocator;
 
 impl<A: Allocator + Copy> Hand<A> {
-    /// How many of the 64 shares it has: at least one.
+    /// How many of the board's 64 shares it has: 1 to 64.
     pub fn shares(&self) -> u64
         ensures value { result ≡ self.now.shares }
         ensures range { (0 < result) × (result ≤ 64) }
@@ -15,13 +15,16 @@ impl<A: Allocator + Copy> Hand<A> {
         self.shares
     }
 
-    /// Whether it tried to draw when no job was left, or a hand did that it was split off from or took in. A hand of
-    /// all shares that is past the end has drawn each ticket once. No hand draws a ticket twice, and what a hand drew
-    /// it either gave back or still has out.
+    /// Whether it tried to draw when no job was left, or a hand did that it was split off from or that was joined into
+    /// it. A hand with all shares that is past the end has drawn each ticket once. No hand draws a ticket twice, and it
+    /// has given back each ticket that it drew or still has it out.
     pub fn past_end(&self) -> bool
+        // In any case
         ensures value { result ≡ self.now.past_end }
         ensures once { HasNoneTwice self.now }
         ensures rest { OutIsTheRest self.now }
+
+        // With all shares
         ensures each { result ≡ true → self.now.shares ≡ 64 → HasEach self.now }
     {
         self.past_end

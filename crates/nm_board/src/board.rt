@@ -19,22 +19,22 @@ use std::snapshot::Snapshot;
 /// The word that counts the draws.
 pub(crate) const NEXT: usize = 0;
 
-/// The word that counts the jobs that were given back.
+/// The word that counts the jobs given back.
 pub(crate) const GIVEN: usize = 8;
 
-/// The words of a new board. Between the two that count lie 64 bytes: threads that draw and threads that give back do not
-/// wait for one line of the cache.
+/// The words of a new board. There are 64 bytes between the two that count, so that threads that draw and threads that
+/// give back do not contend for one cache line.
 const WORDS: [u64; 9] = [0; 9];
 
 /// How many shares a board has, over all its hands.
 pub(crate) const SHARES: u64 = 64;
 
-/// Copying jobs that are ready for threads. Contracts see the list of the jobs as they were when the board was made,
-/// and which board it is.
+/// Copy jobs laid out for threads. Contracts see the jobs as they were when the board was made, and the board's
+/// identity.
 #[derive(Drop)]
 pub struct Board<A: Allocator + Copy> {
     pub(crate) table: Table<Slot<A>, View<A>, Snapshot<Vec<CopyJob<A>, A>>, Tickets, A>,
-    /// The list in which the jobs came: empty, with room to return them in.
+    /// The list that the jobs came in: empty, with room to return them in.
     room: Vec<CopyJob<A>, A>,
 }
 
@@ -49,7 +49,7 @@ impl<A: Allocator + Copy> Model for Board<A> {
     ghost invariant = { λ b. IsBoard (record { id = b.table.shared.table_id; jobs = b.table.shared.key.value.items }) (vec_len b.room) (vec_capacity b.room) };
 }
 
-/// Some ticket was not given back. The board and the hand come back as they were.
+/// Some ticket was not given back. The board and the hand are returned unchanged.
 #[derive(Drop)]
 pub struct Short<A: Allocator + Copy> {
     /// The board.
@@ -59,15 +59,19 @@ pub struct Short<A: Allocator + Copy> {
 }
 
 impl<A: Allocator + Copy> Board<A> {
-    /// Makes a board of jobs whose tickets count up from 0, and a hand with all 64 shares. If the host is out of
-    /// memory, returns the jobs.
+    /// Makes a board of jobs whose tickets count up from 0, and a hand with all 64 shares. Returns the jobs if the host
+    /// is out of memory.
     pub fn lay(
         alloc: A,
         jobs: Vec<CopyJob<A>, A>,
     ) -> Result<(Board<A>, Hand<A>), Vec<CopyJob<A>, A>>
         requires { InTicketOrder jobs.items }
+
+        // On success
         ensures jobs { IfOk result (λ r. r.0.jobs ≡ jobs.items) }
         ensures hand { IfOk result (λ r. r.1 ≡ all_shares r.0) }
+
+        // Without memory
         ensures refused { IfErr result (λ back. back.items ≡ jobs.items) }
     {
         let laid = Snapshot::of(&jobs);
@@ -91,13 +95,17 @@ impl<A: Allocator + Copy> Board<A> {
         }
     }
 
-    /// Draws the job of the next ticket, which is above each ticket that the hand drew before. If no job is left,
-    /// returns None, and the hand is past the end. The hand must be one of this board and not past the end. A draw
-    /// waits for no other thread and takes no memory.
+    /// Draws the job of the next ticket, which is above each ticket that the hand drew before. Returns None if no job
+    /// is left; the hand is then past the end. The hand must be one of this board and not past the end. A draw waits
+    /// for no other thread and does not allocate.
     pub fn draw(&self, hand: &mut Hand<A>) -> Option<CopyJob<A>>
         requires own { hand.old.board ≡ self.now }
         requires open { hand.old.past_end ≡ false }
+
+        // If a job is left
         ensures job { IfSome result (λ job. Drew hand.old hand.new job) }
+
+        // If none is left
         ensures none { IfNone result (hand.new ≡ record hand.old { past_end = true }) }
         ensures each { IfNone result (hand.new.shares ≡ 64 → HasEach hand.new) }
     {
@@ -112,8 +120,8 @@ impl<A: Allocator + Copy> Board<A> {
         take_out(&self.table.shared, &mut hand.seat, ticket as usize)
     }
 
-    /// Gives back the job of the last ticket that the hand drew and still has: as it was drawn, and copied. It waits
-    /// for no other thread and takes no memory.
+    /// Gives back the job of the last ticket that the hand drew and still has out: as it was drawn, and copied. Waits
+    /// for no other thread and does not allocate.
     pub fn give(&self, hand: &mut Hand<A>, job: CopyJob<A>)
         requires own { hand.old.board ≡ self.now }
         requires last { slice_get hand.old.out 0 ≡ Some job.ticket }
@@ -128,12 +136,16 @@ impl<A: Allocator + Copy> Board<A> {
     }
 
     /// Returns all jobs in the order of their tickets, each as it was when the board was made, and copied. If some
-    /// ticket was not given back, returns the board and the hand: for a hand of all shares, that ticket is still out
-    /// with it.
+    /// ticket was not given back, returns the board and the hand instead; if the hand has all shares, that ticket is
+    /// still out with it.
     pub fn clear(self, mut hand: Hand<A>) -> Result<Vec<CopyJob<A>, A>, Short<A>>
         requires own { hand.board ≡ self }
         requires past_end { hand.past_end ≡ true }
+
+        // On success
         ensures all { IfOk result (λ jobs. jobs.items ≡ map copied self.jobs) }
+
+        // If a ticket was not given back
         ensures back { IfErr result (λ short. (short.board ≡ self) × (short.hand ≡ hand)) }
         ensures short { IfErr result (λ short. hand.shares ≡ 64 → IsShort hand) }
     {

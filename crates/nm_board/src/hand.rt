@@ -12,7 +12,7 @@ use std::alloc::Allocator;
 use std::marker::{Brand, Model};
 
 /// The right to draw from a board, with some of its 64 shares. Contracts see its board, its shares, whether it is past
-/// the end, the tickets that it drew, those that it gave back, and those that are out with it.
+/// the end, the tickets that it drew, those that it gave back, and those that it has out.
 #[derive(Drop)]
 pub struct Hand<A: Allocator + Copy> {
     pub(crate) seat: Seat<Slot<A>, View<A>>,
@@ -31,8 +31,8 @@ impl<A: Allocator + Copy> Model for Hand<A> {
 }
 
 impl<A: Allocator + Copy> Hand<A> {
-    /// Splits off a new hand with `shares` of this one's shares, 1 to all but one. The new one has drawn nothing, and
-    /// is past the end where this one is.
+    /// Splits off a new hand with `shares` of this hand's shares: at least 1, and fewer than it has. The new hand has
+    /// drawn nothing, and is past the end if this one is.
     pub fn split(&mut self, board: &Board<A>, shares: u64) -> Hand<A>
         requires own { self.old.board ≡ board.now }
         requires some { 0 < shares }
@@ -50,13 +50,17 @@ impl<A: Allocator + Copy> Hand<A> {
         }
     }
 
-    /// Takes in another hand, its shares and its tickets. Both have given back all that they drew. A hand that then has
-    /// all shares, and of which a part was past the end, has drawn each ticket once.
+    /// Joins another hand into this one, with its shares and tickets. Both must have given back all that they drew. A
+    /// hand that then has all shares, and any part of which was past the end, has drawn each ticket once.
     pub fn join(&mut self, board: &Board<A>, other: Hand<A>)
         requires own { (self.old.board ≡ board.now) × (other.board ≡ board.now) }
         requires given { (self.old.out ≡ []) × (other.out ≡ []) }
+
+        // In any case
         ensures both { self.new ≡ joined self.old other }
         ensures once { HasNoneTwice self.new }
+
+        // With all shares
         ensures each { self.new.past_end ≡ true → self.new.shares ≡ 64 → HasEach self.new }
     {
         let Hand {

@@ -1,17 +1,17 @@
-//! Laws over the board's rule alone.
+//! Laws of the board's rule. Each function does nothing, and its contract is the law.
 
 ghost use Rattle.nm_board.specs.Stages.{EachIsAtOneStage, DrawTakesTheFirst, LateDrawTakesNone, GiveReturnsTheLast, SplitChangesNone, JoinChangesNone};
 
 use std::alloc::Allocator;
 
-/// At any time, the words and the hands of a board show each job at one stage: it lies on the board, one hand has it,
-/// or it was given back.
+/// At any moment the words and hands of a board show each job at one stage: it lies on the board, one hand has it, or
+/// it was given back.
 pub fn stages_are_shown<A: Allocator + Copy>()
     ensures { EachIsAtOneStage A }
 {}
 
-/// A draw moves the first job that lies on the board into the hand that draws, a give puts back the job that the hand
-/// took last, and nothing else changes a job's stage: no draw where no job is left, no split and no join.
+/// A draw moves the first job that lies on the board into the drawing hand, and giving a job back moves the one that
+/// the hand drew last. Nothing else changes a job's stage: no draw when no job is left, no split and no join.
 pub fn steps_are_events<A: Allocator + Copy>()
     ensures draw { DrawTakesTheFirst A }
     ensures late { LateDrawTakesNone A }

@@ -1,5 +1,5 @@
-//! A board that hands out copying jobs by ticket: each job is drawn by one hand, in whatever order threads draw, and
-//! all of them come back in order.
+//! A board that hands out copy jobs by ticket: each job is drawn by one hand, in whatever order threads draw, and all
+//! jobs come back in order.
 #![tactic(auto)]
 
 mod asking;

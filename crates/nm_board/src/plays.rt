@@ -1,4 +1,4 @@
-//! The board's rule, and what the hand that makes a step learns from it. These types are for the proofs alone.
+//! The board's rule, and what a hand learns from each step that it makes. These types are for proofs only.
 
 ghost use Rattle.std.specs.Prelude.{ℕ};
 ghost use Rattle.nm_board.specs.Rule.{IsKept, first_view, spent_view};
@@ -11,7 +11,7 @@ use std::alloc::Allocator;
 use std::marker::{Brand, PhantomData};
 use std::snapshot::Snapshot;
 
-/// What lies in a slot of the table: a job, or none while its job is out.
+/// The content of a slot of the table: a job, or none while its job is out.
 pub(crate) type Slot<A> = Option<CopyJob<A>>;
 
 /// The words and slots of a board, as threads share them.
@@ -26,21 +26,21 @@ impl<A: Allocator + Copy> TableRule<Slot<A>, View<A>, Snapshot<Vec<CopyJob<A>, A
     ghost first = { λ laid. first_view laid.value.items };
 }
 
-/// The draw of a ticket.
+/// Drawing a ticket.
 pub struct Drawing;
 
 impl<A: Allocator + Copy> Play<Slot<A>, View<A>> for Drawing {
     ghost then = { Draws };
 }
 
-/// The giving back of a ticket.
+/// Giving a ticket back.
 pub struct Giving;
 
 impl<A: Allocator + Copy> Play<Slot<A>, View<A>> for Giving {
     ghost then = { Gives };
 }
 
-/// The count of the tickets that were given back.
+/// Counting the tickets that were given back.
 pub struct Counting;
 
 impl<A: Allocator + Copy> Play<Slot<A>, View<A>> for Counting {
@@ -54,7 +54,7 @@ impl<A: Allocator + Copy> Play<Slot<A>, View<A>> for Looking {
     ghost then = { Looks };
 }
 
-/// How many shares are split off.
+/// A number of shares to split off.
 pub trait Amount {
     ghost amount: { ℕ };
 }
@@ -63,7 +63,7 @@ impl Amount for Brand {
     ghost amount = { 1 };
 }
 
-/// The split of `N.amount` shares off a hand.
+/// Splitting `N.amount` shares off a hand.
 pub struct Cut<N> {
     amount: PhantomData<N>,
 }
@@ -74,7 +74,7 @@ impl<A: Allocator + Copy, N: Amount> Split<View<A>> for Cut<N> {
     ghost right = { part N.amount };
 }
 
-/// The join of two hands.
+/// Joining two hands.
 pub struct Both;
 
 impl<A: Allocator + Copy> Join<View<A>> for Both {

@@ -1,4 +1,4 @@
-//! Steps of a hand's seat on the table.
+//! Steps that a hand's seat makes at the table.
 
 ghost use Rattle.std.specs.Prelude.{◌≡◌, ◌<◌, [], ◌∷◌, Option, Some, None};
 ghost use Rattle.nm_frames.specs.declared.job.CopyJob.{CopyJob};
@@ -39,7 +39,7 @@ pub(crate) fn put_in<A: Allocator + Copy>(
     shelf.exchange(seat, slot, Some(job));
 }
 
-/// Cuts a seat with `shares` shares off another.
+/// Splits a seat with `shares` shares off another.
 pub(crate) fn cut<N: Amount, A: Allocator + Copy>(
     shelf: &Shelf<A>,
     seat: &mut Seat<Slot<A>, View<A>>,
@@ -48,7 +48,11 @@ pub(crate) fn cut<N: Amount, A: Allocator + Copy>(
     requires amount { shares ≡ N.amount }
     requires table { (seat.old.table_id ≡ shelf.now.table_id) × (shelf.now.table_id.words ≡ 9) }
     requires shares { (0 < shares) × (shares < seat.old.me.0.shares) }
+
+    // Both are of this table
     ensures table { (seat.new.table_id ≡ seat.old.table_id) × (result.table_id ≡ seat.old.table_id) }
+
+    // What each knows
     ensures left { seat.new.me ≡ (less shares seat.old.me.0, seat.old.me.1) }
     ensures right { result.me ≡ (part shares seat.old.me.0, []) }
 {

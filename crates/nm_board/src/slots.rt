@@ -1,4 +1,4 @@
-//! Jobs on their way into the slots of a table and out of them.
+//! Moving jobs into the slots of a table and out of them.
 
 ghost use Rattle.std.specs.Prelude.{◌≡◌, ◌≤◌, map, vec_len, vec_capacity, List, IfOk, OnErr, Some};
 ghost use Rattle.std.specs.Mem.Slots.{slots_items, slots_len, IsFull};
@@ -10,7 +10,7 @@ use nm_frames::CopyJob;
 use std::alloc::{AllocError, Allocator};
 use std::snapshot::Snapshot;
 
-/// Moves the jobs into a list of slots, in order. The list in which they came keeps its room.
+/// Moves the jobs into a list of slots, in order. The list that they came in keeps its capacity.
 pub(crate) fn into_slots<A: Allocator + Copy>(
     alloc: A,
     room: &mut Vec<CopyJob<A>, A>,
@@ -27,7 +27,7 @@ pub(crate) fn into_slots<A: Allocator + Copy>(
     Ok(slots)
 }
 
-/// Moves the jobs out of their slots again.
+/// Moves the jobs back out of their slots.
 pub(crate) fn refill<A: Allocator + Copy>(
     room: &mut Vec<CopyJob<A>, A>,
     mut slots: Vec<Slot<A>, A>,

@@ -11,7 +11,7 @@ use std::process::Abort;
 use std::test::Fail;
 use std::thread;
 
-/// A job whose source begins with a byte.
+/// A job whose source begins with this byte.
 fn job<A: Allocator + Copy>(alloc: A, ticket: u64, byte: u8) -> Result<CopyJob<A>, AllocError>
     ensures { IfOk result (λ job. job.ticket ≡ ticket) }
 {
@@ -47,7 +47,7 @@ fn is_job<A: Allocator + Copy>(job: &CopyJob<A>, ticket: u8, copied: bool) -> bo
     job.ticket == ticket as u64 && job.source.bytes()[0] == byte && job.target.bytes()[0] == target
 }
 
-/// Whether these are the jobs of `jobs` in order, all of them copied or none.
+/// Whether these are the jobs of `jobs` in order, all copied or none copied.
 fn are_jobs<A: Allocator + Copy>(jobs: &[CopyJob<A>], copied: bool) -> bool {
     let mut next = 0u8;
     for job in jobs {
@@ -69,7 +69,7 @@ fn laid(alloc: Global, count: u8) -> Result<(Board<Global>, Hand<Global>), Alloc
     }
 }
 
-/// The job that a draw returns.
+/// The job that a draw returns. Fails the test if there is none.
 fn draw_job(rt: &impl Abort, board: &Board<Global>, hand: &mut Hand<Global>) -> CopyJob<Global>
     requires own { hand.old.board ≡ board.now }
     requires open { hand.old.past_end ≡ false }
@@ -81,7 +81,7 @@ fn draw_job(rt: &impl Abort, board: &Board<Global>, hand: &mut Hand<Global>) -> 
     job
 }
 
-/// Whether a draw returns none.
+/// Whether a draw returns no job.
 fn draws_none(board: &Board<Global>, hand: &mut Hand<Global>) -> bool
     requires own { hand.old.board ≡ board.now }
     requires open { hand.old.past_end ≡ false }
@@ -101,7 +101,7 @@ fn give_copied(board: &Board<Global>, hand: &mut Hand<Global>, mut job: CopyJob<
     board.give(hand, job);
 }
 
-/// A board and its hand, of which a ticket was not given back.
+/// What `clear` returns for a board and its hand if a ticket was not given back.
 fn short(rt: &impl Abort, board: Board<Global>, hand: Hand<Global>) -> Short<Global>
     requires own { hand.board ≡ board }
     requires past_end { hand.past_end ≡ true }
@@ -113,7 +113,7 @@ fn short(rt: &impl Abort, board: Board<Global>, hand: Hand<Global>) -> Short<Glo
     back
 }
 
-/// Whether a board gives back so many jobs, those of `jobs` in order and copied.
+/// Whether a board returns this many jobs, those of `jobs` in order and copied.
 fn comes_back(board: Board<Global>, hand: Hand<Global>, count: usize) -> bool
     requires own { hand.board ≡ board }
     requires past_end { hand.past_end ≡ true }
@@ -124,7 +124,7 @@ fn comes_back(board: Board<Global>, hand: Hand<Global>, count: usize) -> bool
     }
 }
 
-/// Three draws return ticket 0, ticket 1 and none. With one job back the board is short, with both it gives them back.
+/// Three draws return ticket 0, ticket 1 and none. With one job back the board is short; with both it returns them.
 #[test]
 fn two_jobs(rt: HostRuntime) -> Result<(), Fail> {
     let (board, mut hand) = laid(rt.alloc(), 2)?;
@@ -140,8 +140,8 @@ fn two_jobs(rt: HostRuntime) -> Result<(), Fail> {
     Ok(())
 }
 
-/// A hand of 32 shares is split off: each ticket is drawn by one of the two hands. When both have given back and are
-/// joined, the hand has all 64 shares and is past the end, as the other was.
+/// A hand of 32 shares is split off: each ticket is drawn by one of the two hands. When both have given back all and
+/// are joined, the hand has all 64 shares and is past the end, as the other was.
 #[test]
 fn two_hands(rt: HostRuntime) -> Result<(), Fail> {
     let (board, mut hand) = laid(rt.alloc(), 2)?;
@@ -159,7 +159,7 @@ fn two_hands(rt: HostRuntime) -> Result<(), Fail> {
     Ok(())
 }
 
-/// The first draw of a board without jobs returns none, and the board gives none back.
+/// The first draw from a board without jobs returns none, and the board returns none.
 #[test]
 fn no_jobs(rt: HostRuntime) -> Result<(), Fail> {
     let (board, mut hand) = laid(rt.alloc(), 0)?;
@@ -168,7 +168,7 @@ fn no_jobs(rt: HostRuntime) -> Result<(), Fail> {
     Ok(())
 }
 
-/// What a hand drew: how many tickets, and a bit for each of them.
+/// What a hand drew: the number of tickets, and a bit for each.
 #[derive(Drop)]
 struct Drawn {
     count: u32,
@@ -199,7 +199,7 @@ fn work_off(board: &Board<Global>, mut hand: Hand<Global>) -> (Hand<Global>, Dra
     (hand, drawn)
 }
 
-/// Whether two hands drew each of 100 tickets, and none of them both.
+/// Whether two hands drew each of 100 tickets between them, and none twice.
 fn share_hundred(one: &Drawn, two: &Drawn) -> bool {
     one.count.wrapping_add(two.count) == 100
         && one.tickets & two.tickets == 0
@@ -231,7 +231,7 @@ fn two_threads(rt: HostRuntime) -> Result<(), Fail> {
     Ok(())
 }
 
-/// Where memory is refused, each allocation in turn, the jobs come back as they were.
+/// If memory is refused, each allocation in turn, the jobs come back as they were.
 #[test]
 fn refused_memory(rt: HostRuntime) -> Result<(), Fail> {
     let heap = Refusing::new(rt.alloc());
@@ -250,7 +250,7 @@ fn refused_memory(rt: HostRuntime) -> Result<(), Fail> {
     panic!(rt; "never laid")
 }
 
-/// The laws, at the allocator that programs use.
+/// The laws, for the allocator that programs use.
 #[test]
 fn laws_hold() {
     crate::laws::stages_are_shown::<Global>();

@@ -1,4 +1,4 @@
--- What a call that sets a policy comes to.
+-- The result of a call that sets a policy.
 use Rattle.std.proofs.Common.{◌≡◌, ◌<◌, ◌≤◌, ◌+◌, ◌^◌, ℕ, Bool, true, false, ◌&&◌, Some, None, List, [], inl, inr, length, refl, sym, ap, subst, ◌∙◌, arith, slice_index_or, Result, Ok, Err}
 use Rattle.std.specs.Prelude.{◌-◌}
 use Rattle.std.specs.Result.{IsErr, IsErrAnd}

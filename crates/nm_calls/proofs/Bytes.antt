@@ -1,4 +1,4 @@
--- A call that neither writes nor lets areas come or go changes no byte of any process but by writes in flight.
+-- A call that neither writes nor adds or removes areas changes no byte of any process except by writes in flight.
 use Rattle.std.proofs.Common.{◌≡◌, ℕ, zero, suc, ◌+◌, ◌-◌, ◌/◌, Bool, true, false, List, [], ◌∷◌, take, refl, sym, ap, ◌∙◌}
 use Rattle.std.specs.Prelude.{Option, Some, None}
 use Rattle.nm_types.specs.declared.area.Area.{Area}

@@ -44,7 +44,7 @@ differ_filtered test (e ∷ es) h =
       | false ↦ rest
     ]
 
--- what is left has not the page
+-- the rest does not have the page
 left_differs : (e : ℕ × Page) (es : Map ℕ Page) → AllByRecursion (Differs e) (filter (λ f. not (same_page e.1 f.1)) es)
 left_differs e [] = tt
 left_differs e (f ∷ es) =
@@ -86,7 +86,7 @@ differ-append : (es fs : Map ℕ Page) → AllDiffer es → AllDiffer fs → All
 differ-append [] fs h k cross = k
 differ-append (e ∷ es) fs h k cross = (all-append (Differs e) es fs h.0 cross.0, differ-append es fs h.1 k cross.1)
 
--- a page on a node is none that is not on it
+-- a page on a node differs from any page that is not on it
 apart : (s : State) (n : ℕ) (e f : ℕ × Page) → is_on s n e.1 ≡ true → is_on s n f.1 ≡ false → Differs e f
 apart s n e f here there =
     false_from_ne_true (same_page e.1 f.1) (λ same. false≢true (sym there ∙ ap (is_on s n) (sym (exact_page e.1 f.1 (equal _ same))) ∙ here))

@@ -1,4 +1,4 @@
--- What a node that goes offline comes to.
+-- The result of taking a node offline.
 use Rattle.std.proofs.Common.{◌≡◌, ℕ, ◌<◌, Bool, true, false, cond, List, [], ◌∷◌, inl, inr, length, refl, sym, ap, subst, ◌∙◌, slice_index_or, None, Result, Ok, Err}
 use Rattle.std.specs.Prelude.{◌==◌, not, ◌&&◌, ◌||◌, nat_lt, map, if◌then◌else◌}
 use Rattle.std.specs.List.{AllByRecursion, fold, list_any}
@@ -58,7 +58,7 @@ module _ (P : ℕ → Type 0) (g : Layout) (from : ℕ) where
   pub by_distance_all : (ns : List ℕ) → AllByRecursion P ns → AllByRecursion P (zonelist g ns from)
   by_distance_all ns h = folded_all [] ns tt h
 
--- a set without a node that is none of it
+-- a set without a node that it does not have
 same_without : (ns : List ℕ) (n : ℕ) → is_in ns n ≡ false → without_node ns n ≡ ns
 same_without [] n h = refl
 same_without (m ∷ ns) n h =

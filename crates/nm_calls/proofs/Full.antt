@@ -58,7 +58,7 @@ status_other : (s : State) (target : ℕ) (w : Wanted) → IsOther (status_or_mo
 status_other s target (Spot pid v all) = under_other s target pid all (page_at s.areas pid v) (sight_at s pid v)
 status_other s target (Whole p) = page_other s target false p (get page_cmp s.place p)
 
--- what a request asks goes neither by the free frames nor by the totals
+-- what a request asks for depends neither on the free frames nor on the totals
 class_free : (s : State) (frame target : ℕ) (w : Wanted) → status_or_move (with_free s frame) target w ≡ status_or_move s target w
 class_free s frame target (Spot pid v all) = refl
 class_free s frame target (Whole p) = refl
@@ -333,7 +333,7 @@ counted_again s n m =
     let failed : added (added s.failed n) m ≡ added s.failed (n + m) = omega arith in
     ap (λ x. record s { moved = x; failed = added (added s.failed n) m }) moved ∙ ap (λ x. record s { moved = added s.moved 0; failed = x }) failed
 
--- so many have failed by now, and these of them last
+-- this many have failed, and these of them last
 abbrev Fail : State → ℕ → List Wanted → Ran → Type 0
 Fail s n ws made = (made.state ≡ counted s 0 n) × (made.statuses ≡ no_frame ws)
 
@@ -388,7 +388,7 @@ next_pass_takes_none limit s node next wanted some has none away =
     full_node_takes_none limit first.state next ws some has none
     (all_elsewhere_move first.state node next ws (left_would_move limit s node wanted some) away)
 
--- so many pieces hold so many, and one less would not
+-- this many pieces hold this many, and one fewer would not
 abbrev Hold : ℕ → ℕ → ℕ → Type 0
 Hold limit n k = (n ≤ k * limit) × (k * limit < n + limit)
 

@@ -1,4 +1,4 @@
--- What comes of the runs of a batch, said by the functions that make them.
+-- The result of the runs of a batch, as stated by the functions that make them.
 use Rattle.std.proofs.Common.{◌≡◌, ℕ, Bool, true, false, ◌&&◌, inl, inr, List, [], refl, sym, ap, subst, ◌∙◌, arith, Result, Ok, Err}
 use Rattle.std.specs.Result.{IsErrAnd}
 use Rattle.std.proofs.lemmas.Result.{err_from_is_err_and}
@@ -56,7 +56,7 @@ batch_stopped {A = A} m r e old new rs qs during Gives is err runs none h =
     let all = moved_same m old new rs qs during [] runs none h in
     subst (λ r. Batches r old new qs Gives) (sym (err_of r e err)) (stopped A e old new qs Gives (subst (λ m. Moves m old new qs []) is all))
 
--- .. of which another function has told
+-- .. as another function has reported
 told : (T U : Type 0) (e : CallError) (old new : State) (rs : List Stretch) (Gives : T → Ran → Type 0) (Tells : U → Ran → Type 0) → Batches (Err e) old new rs Gives → Batches (Err e) old new rs Tells
 told T U (Refused e) old new rs Gives Tells h = h
 told T U (HostMemory k policy_set) old new rs Gives Tells h = h

@@ -87,7 +87,7 @@ module _ {X Y : Type 0} (shown : X → List Y) (xs : List X) where
   pub list_after : (after : List X) (k : ℕ) (x : X) → after ≡ slice_set xs k x → map shown after ≡ slice_set (map shown xs) k (shown x)
   list_after after k x is = ap (map shown) is ∙ map-set shown xs k x
 
--- one empty list more
+-- one more empty list
 pub empty_more : {X : Type 0} (lists : List (List X)) → ((k : ℕ) → list_at lists k ≡ []) → (k : ℕ) → list_at (lists ++ [] ∷ []) k ≡ []
 empty_more [] h zero = refl
 empty_more [] h (suc k) = refl

@@ -161,7 +161,7 @@ pub runs_layout : (k : ℕ) (s : State) (rs : List Stretch) → (runs_from k s r
 runs_layout k s [] = refl
 runs_layout k s (r ∷ rs) = runs_layout (k + 1) (run s r.target r.wanted []).state rs ∙ run_layout s r.target r.wanted []
 
--- one request more
+-- one more request
 left_upto : (ws : List Wanted) (zs : List ℤ) (k : ℕ) (w : Wanted) (d : ℤ) → k < length ws → length ws ≡ length zs → w ≡ slice_index_or ws k w
     → without_frame (take (suc k) ws) (take (suc k) zs) ≡ without_frame (take k ws) (take k zs) ++ cond (int_eq (slice_index_or zs k d) (code Enomem)) (w ∷ []) []
 left_upto [] zs k w d lt same iw = absurd (omega (arith, lt))

@@ -31,7 +31,7 @@ pub none_is : (ns : List ℕ) → is_none ns ≡ true → ns ≡ []
 none_is [] e = refl
 none_is (n ∷ ns) e = let none : suc (length ns) ≡ 0 = eqb-true (suc (length ns)) 0 e in absurd (omega (arith, none))
 
--- where a set names nodes of the machine alone, so does what is usable of it
+-- if a set names only nodes of the machine, so does its usable part
 pub usable_nodes : (s : State) (allowed ns : List ℕ) → names_missing_node s ns ≡ false → AllByRecursion (λ n. n < node_count s.layout) (usable s allowed ns)
 usable_nodes s allowed [] h = tt
 usable_nodes s allowed (n ∷ ns) h =

@@ -1,4 +1,4 @@
--- On which nodes that stands which is left, and what that says of the next pass.
+-- The nodes that the pages left are on, and what that means for the next pass.
 use Rattle.std.proofs.Common.{arith, ◌≡◌, ℕ, ◌+◌, ◌<◌, ◌≤◌, Bool, true, false, not, ◌&&◌, ◌||◌, is_none, List, [], ◌∷◌, ◌++◌, length, take, get_or, refl, sym, ap, subst, ◌∙◌, inl, inr}
 use Rattle.std.proofs.lemmas.Bool.{eqb-true, eq-eqb, cases_order}
 use Rattle.std.proofs.lemmas.List.{take_more}
@@ -59,11 +59,11 @@ under_stands : (s : State) (target pid : ℕ) (all : Bool) (shown : Option Page)
 under_stands s target pid all None o h = cc
 under_stands s target pid all (Some shown) o h = sight_stands s target pid all o h
 
--- a page that is wanted by address stands where its status says
+-- a page requested by address is where its status says
 pub spot_stands : (s : State) (target pid v : ℕ) (all : Bool) → StandsOn s target (Spot pid v all) → node_status s pid v ≡ pos target
 spot_stands s target pid v all h = under_stands s target pid all (page_at s.areas pid v) (sight_at s pid v) h
 
--- one that is wanted by itself stands where its frame is
+-- a page requested by name is where its frame is
 pub whole_stands : (s : State) (target : ℕ) (p : Page) → StandsOn s target (Whole p) → option_map (node_of s.layout) (get page_cmp s.place p) ≡ Some target
 whole_stands s target p h = page_stands s target false p (get page_cmp s.place p) h
 
@@ -81,7 +81,7 @@ or_true : (a : Bool) → (a || true) ≡ true
 or_true true = refl
 or_true false = refl
 
--- a number is in a set with one more where it is that one, or was in it
+-- a number is in a set with another number if it is that number, or was in the set
 is_in_insert : (ns : List ℕ) (j n : ℕ) → is_in (insert_key nat_cmp ns j) n ≡ ((j == n) || is_in ns n)
 is_in_insert [] j n = refl
 is_in_insert (m ∷ ns) j n =
@@ -103,7 +103,7 @@ among_push s nodes ws k w lt is front here =
     subst (StandAmong s nodes) (sym (take_more ws k w lt ∙ ap (λ x. take k ws ++ x ∷ []) (sym is)))
     (All-push (OnAmong s nodes) (take k ws) w front here)
 
--- one that stands on a node, which is added ..
+-- a page that is on a node, which is added ..
 pub stands_there : (s : State) (nodes : List ℕ) (ws : List Wanted) (k : ℕ) (w : Wanted) (node : ℕ) → k < length ws → w ≡ get_or ws k w → StandAmong s nodes (take k ws) → ((m : ℕ) → StandsOn s m w → Some node ≡ Some m) → StandAmong s (insert_key nat_cmp nodes node) (take (k + 1) ws)
 stands_there s nodes ws k w node lt is front on =
     among_push s (insert_key nat_cmp nodes node) ws k w lt is
@@ -115,7 +115,7 @@ pub stands_nowhere : (s : State) (nodes : List ℕ) (ws : List Wanted) (k : ℕ)
 stands_nowhere s nodes ws k w lt is front off =
     among_push s nodes ws k w lt is front (λ m few h. absurd (off m few h))
 
--- where a node is none of those, nothing stands on it
+-- if a node is none of those, no page is on it
 pub none_there : (s : State) (nodes : List ℕ) (node : ℕ) (ws : List Wanted) → node < 64 → is_in nodes node ≡ false → StandAmong s nodes ws → AllByRecursion (λ w. StandsOn s node w → ⊥) ws
 none_there s nodes node ws few out among =
     recursion_from_All (λ w. StandsOn s node w → ⊥) ws (λ k d lt on. true_false (sym (among k d lt node few on) ∙ out))
@@ -144,7 +144,7 @@ move_counted s m n node [] h = tt
 move_counted s m n node (w ∷ ws) h =
     ((h.0.0, h.0.1, class_counted s m n node w ∙ h.0.2), move_counted s m n node ws h.1)
 
--- a node from 64 on is none below
+-- a node of 64 or above is not below 64
 pub past_all : (number node m : ℕ) → 64 ≤ number → number ≡ node → node ≡ m → m < 64 → ⊥
 past_all number node m past is same few = omega (arith, past, is, same, few)
 

@@ -1,4 +1,4 @@
--- Runs do not ask which nodes are online.
+-- Runs do not depend on which nodes are online.
 use Rattle.std.proofs.Common.{◌≡◌, ℕ, ◌+◌, List, [], ◌∷◌, ◌++◌, length, refl, ap, ◌∙◌}
 use Rattle.nm_types.specs.State.{State, free_list}
 use Rattle.nm_types.specs.declared.page.Page.{Page}

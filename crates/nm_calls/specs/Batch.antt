@@ -1,4 +1,4 @@
--- Batches of pages to be moved: what is refused, what is asked for, and which accesses are made meanwhile.
+-- Batches of pages to move: what is refused, what is requested, and which accesses are made meanwhile.
 use Rattle.std.specs.Prelude.{ℕ, ◌/◌, Bool, List, map, Option, Some, None}
 use Rattle.std.specs.List.{zip}
 use Rattle.std.specs.Option.{option_map}
@@ -19,21 +19,21 @@ use Rattle.nm_engine.specs.Answering.{access_shown, answer_shown}
 use Rattle.nm_model.specs.definitions.Run.{accesses_of}
 use Rattle.nm_calls.specs.declared.call.InFlight.{InFlight}
 
--- the nodes that a process may use, if it is there
+-- the nodes that a process may use, if it exists
 abbrev pub allowed_at : State → ℕ → Option (List ℕ)
 allowed_at s pid = option_map (λ (i : ProcessInfo). i.allowed) (info_at s pid)
 
--- the refusal of the first of these nodes to which no page of a process with allowed nodes may go
+-- the refusal of the first of these nodes that pages of a process with allowed nodes may not go to
 abbrev pub targets_refusal : State → Option (List ℕ) → List ℕ → Option Errno
 targets_refusal s None nodes = None
 targets_refusal s (Some allowed) nodes = first_refusal (node_count s.layout) s.online allowed nodes
 
--- the refusal of a move: that of a look, and then that of the first node that is refused
+-- the refusal of a move: that of a query, or else that of the first node that is refused
 abbrev pub move_refusal : State → ℕ → ℕ → List ℕ → ℕ → Option Errno
 move_refusal s caller pid nodes flags =
     earlier (query_refusal s caller pid flags) (targets_refusal s (allowed_at s (owner_of caller pid)) nodes)
 
--- the requests of a batch: each address of the process with the node at its place
+-- the requests of a batch: each address of the process, with the node at the same index
 abbrev pub requests_of : ℕ → Bool → List ℕ → List ℕ → List Request
 requests_of pid all addresses nodes =
     map (λ e. record { target = e.1; wanted = At pid (e.0 / 4096) all }) (zip addresses nodes)
@@ -42,35 +42,34 @@ requests_of pid all addresses nodes =
 abbrev pub shown_during : {A : Type 0} → List (InFlight A) → List (ℕ × Access)
 shown_during during = map (λ d. (d.run, access_shown d.access)) during
 
--- the numbers of the runs of accesses, in their order
+-- the numbers of the runs that accesses name, in order
 abbrev pub runs_named : List (ℕ × Access) → List ℕ
 runs_named during = map (λ d. d.0) during
 
--- the list at a place, and an empty one where there is none
+-- the list at an index, or an empty list if there is none
 abbrev pub list_at : {X : Type 0} → List (List X) → ℕ → List X
 list_at lists k = slice_index_or lists k []
 
--- the answers in the order of the accesses: for each run those to its accesses are given, in their order. The first
--- access has the first answer of its run, and the others have theirs among the answers that are left. An access of a
--- run that is not made has no answer
+-- the answers in the order of the accesses, from each run's answers in order: an access has the first answer of its run
+-- that no earlier access has. An access of a run that is not made has no answer
 abbrev pub in_order : List ℕ → List (List AccessAnswer) → List AccessAnswer
 in_order [] answers = []
 in_order (run ∷ runs) answers =
     take 1 (list_at answers run) ++ in_order runs (slice_set answers run (drop 1 (list_at answers run)))
 
--- the same by places: the answer to an access is that of its run's answers whose place is the number of accesses before it
--- that name the run
+-- the same by counting: an access has the answer of its run whose index is the number of earlier accesses that name the
+-- run
 abbrev pub by_place : List ℕ → List ℕ → List (List AccessAnswer) → List AccessAnswer
 by_place before [] answers = []
 by_place before (run ∷ runs) answers =
     take 1 (drop (count_by (λ r. r == run) before) (list_at answers run)) ++ by_place (run ∷ before) runs answers
 
--- lists of accesses are those of the first `count` runs
+-- these are the lists of the accesses of the first `count` runs
 abbrev pub AreByRun : {A : Type 0} → List (Vec (Asked A) A) → ℕ → List (ℕ × Access) → Type 0
 AreByRun lists count during =
     (length lists ≡ count)
     × ((k : ℕ) → k < count → list_at (map (λ list. map access_shown list.items) lists) k ≡ accesses_of k during)
 
--- the answers that are left of a run's
+-- the answers of a run that are left
 abbrev pub left_shown : {A : Type 0} → IntoIter (Given A) A → List AccessAnswer
 left_shown left = map answer_shown left.rest.items

@@ -1,4 +1,4 @@
--- mbind(2): what is refused, which policy is set, and what moves.
+-- mbind(2): what is refused, which policy is set, and which pages move.
 use Rattle.std.specs.Prelude.{ℕ, ◌+◌, ◌/◌, ◌%◌, nat_le, ◌==◌, Bool, not, ◌&&◌, ◌||◌, List, [], ◌∷◌, map, length, false, Option, Some, None, if◌then◌else◌}
 use Rattle.std.specs.List.{IsDistinct, list_any, filter}
 use Rattle.std.specs.Option.{unwrap_or, option_map}
@@ -29,7 +29,7 @@ use Rattle.nm_calls.specs.Permission.{moves_all, info_at}
 use Rattle.nm_calls.specs.Passes.{passes}
 use Rattle.nm_calls.specs.Permission.{names_missing_node, usable, is_none}
 
--- the modes by their numbers
+-- the modes, by their numbers
 abbrev pub MPOL_DEFAULT : ℕ
 MPOL_DEFAULT = 0
 
@@ -45,7 +45,7 @@ MPOL_INTERLEAVE = 3
 abbrev pub MPOL_LOCAL : ℕ
 MPOL_LOCAL = 4
 
--- the lowest node is preferred, or the nearest where there is none
+-- the lowest node is preferred, or the nearest if there is none
 abbrev pub preferred : List ℕ → Policy
 preferred [] = Local
 preferred (n ∷ ns) = Preferred n
@@ -58,47 +58,47 @@ policy_of mode nodes =
     else (if mode == MPOL_INTERLEAVE then Interleave nodes
     else (if mode == MPOL_LOCAL then Local else Default)))
 
--- whether MPOL_MF_STRICT, which is 1, is among flags
+-- whether MPOL_MF_STRICT (1) is among the flags
 abbrev pub is_strict : ℕ → Bool
 is_strict flags = flags % 2 == 1
 
--- whether MPOL_MF_MOVE or MPOL_MF_MOVE_ALL is among flags, which are 2 and 4
+-- whether MPOL_MF_MOVE (2) or MPOL_MF_MOVE_ALL (4) is among the flags
 abbrev pub moves : ℕ → Bool
 moves flags = (flags / 2 % 2 == 1) || moves_all flags
 
--- nodes for a mode that takes none, or none for a mode that needs some
+-- nodes for a mode that takes none, or no nodes for a mode that needs some
 abbrev pub is_misfit : ℕ → List ℕ → Bool
 is_misfit mode nodes =
     if is_none nodes then (mode == MPOL_BIND) || (mode == MPOL_INTERLEAVE)
     else (mode == MPOL_DEFAULT) || (mode == MPOL_LOCAL)
 
--- a mode that is unknown; nodes that do not fit it, or are none of the machine; none that can be used
+-- an unknown mode; nodes that do not fit it, or are not in the machine; or no node that can be used
 abbrev pub is_bad_set : State → List ℕ → ℕ → List ℕ → Bool
 is_bad_set s allowed mode nodes =
     nat_le 5 mode || is_misfit mode nodes || names_missing_node s nodes || (not (is_none nodes) && is_none (usable s allowed nodes))
 
--- a flag that is unknown, or such a mode or set
+-- an unknown flag, or such a mode or set
 abbrev pub is_invalid : State → List ℕ → ℕ → List ℕ → ℕ → Bool
 is_invalid s allowed mode nodes flags = nat_le 8 flags || is_bad_set s allowed mode nodes
 
--- pages without those that come before
+-- pages without repetition
 abbrev pub once : List Located → List Located
 once [] = []
 once (l ∷ ls) = l ∷ filter (λ m. not (same_page l.page m.page)) (once ls)
 
--- the pages seen from one page number up to another that do not follow a policy, by page number
+-- the pages seen from one page number up to another that do not follow a policy, in order of page number
 abbrev pub strays_between : State → ℕ → ℕ → ℕ → Policy → List Located
 strays_between s pid first end policy = filter (λ l. not (follows policy l.node)) (located_between s pid first end)
 
--- the pages seen in the range that do not follow the policy, by address, each at its lowest
+-- the pages seen in the range that do not follow the policy, in address order, each at its lowest address
 abbrev pub astray : State → Binding → List Located
 astray s b = once (strays_between s b.pid b.first b.end b.policy)
 
--- the nodes that a process may use, and none where there is no such process
+-- the nodes that a process may use; none if there is no such process
 abbrev pub allowed_to : Option ProcessInfo → List ℕ
 allowed_to caller = unwrap_or (option_map (λ (i : ProcessInfo). i.allowed) caller) []
 
--- the home node of a process, and node 0 where there is no such process
+-- the home node of a process; node 0 if there is no such process
 abbrev pub home_of : Option ProcessInfo → ℕ
 home_of caller = unwrap_or (option_map (λ (i : ProcessInfo). i.home) caller) 0
 
@@ -107,47 +107,47 @@ abbrev pub range_of : ℕ → ℕ → ℕ → Policy → Binding
 range_of pid address len policy =
     let first = address / 4096 in record { pid = pid; first = first; end = first + pages_of len; policy = policy }
 
--- what a call asks for: the set that is kept is what is online and allowed of its nodes
+-- what a call asks for; the policy keeps those of its nodes that are online and allowed
 abbrev pub binding : State → ℕ → ℕ → ℕ → ℕ → List ℕ → Binding
 binding s pid address len mode nodes =
     range_of pid address len (policy_of mode (usable s (allowed_to (info_at s pid)) nodes))
 
--- no such caller; bad arguments; MPOL_MF_MOVE_ALL without privilege
+-- ESRCH: no such caller; EINVAL: bad arguments; EPERM: MPOL_MF_MOVE_ALL without privilege
 abbrev pub mode_refusal : State → Option ProcessInfo → ℕ → List ℕ → ℕ → Option Errno
 mode_refusal s None mode nodes flags = Some Esrch
 mode_refusal s (Some caller) mode nodes flags =
     let invalid = is_invalid s caller.allowed mode nodes flags in
     first_error ((invalid, Einval) ∷ (moves_all flags && not caller.privileged, Eperm) ∷ [])
 
--- whether MPOL_MF_STRICT alone is given, and a page does not follow the policy
+-- whether MPOL_MF_STRICT is given without a flag to move, and a page does not follow the policy
 abbrev pub is_strictly_refused : State → Binding → ℕ → Bool
 is_strictly_refused s b flags = is_strict flags && not (moves flags) && not (length (astray s b) == 0)
 
--- a bad address; a page without an area; a page that does not follow
+-- EINVAL: a bad address or length; EFAULT: a page without an area; EIO: a page that does not follow the policy
 abbrev pub range_refusal : State → ℕ → ℕ → ℕ → Policy → ℕ → Option Errno
 range_refusal s caller address len policy flags =
     let strict = is_strictly_refused s (range_of caller address len policy) flags in
     earlier (policy_refusal s caller address len) (first_error ((strict, Eio) ∷ []))
 
--- no such caller, bad arguments or no privilege; then the range
+-- the refusal of the arguments, or else that of the range
 abbrev pub mbind_refusal : State → ℕ → ℕ → ℕ → ℕ → List ℕ → ℕ → Option Errno
 mbind_refusal s caller address len mode nodes flags =
     let policy = policy_of mode (usable s (allowed_to (info_at s caller)) nodes) in
     earlier (mode_refusal s (info_at s caller) mode nodes flags) (range_refusal s caller address len policy flags)
 
--- requests for pages at the page numbers at which a process sees them
+-- requests for pages, each at the page number where a process sees it
 abbrev pub spots : ℕ → Bool → List Located → List Wanted
 spots pid all pages = map (λ l. At pid l.vpn all) pages
 
--- pages as strays
+-- pages, as strays
 abbrev pub strays_of : List Located → List Stray
 strays_of pages = map (λ l. record { vpn = l.vpn; page = l.page }) pages
 
--- requests for page numbers with their nodes
+-- requests for page numbers, each with its node
 abbrev pub each_to : ℕ → Bool → List Sent → List Request
 each_to pid all targets = map (λ t. record { target = t.to; wanted = At pid t.vpn all }) targets
 
--- the nodes that a policy tries one after another for all pages: by distance from a home node for BIND
+-- the nodes that a policy tries one after another for all pages; for BIND by distance from a home node
 abbrev pub nodes_tried : State → ℕ → Policy → List ℕ
 nodes_tried s home Default = []
 nodes_tried s home (Preferred node) = node ∷ []
@@ -155,13 +155,13 @@ nodes_tried s home (Bind nodes) = filter (is_in nodes) (zonelist s.layout s.onli
 nodes_tried s home (Interleave nodes) = []
 nodes_tried s home Local = []
 
--- the runs that bring pages to where a policy wants them: turns for INTERLEAVE, and passes for the others
+-- the runs that bring pages to where a policy wants them: by turns for INTERLEAVE, in passes for the others
 abbrev pub runs_by : ℕ → State → Policy → ℕ → ℕ → Bool → List Located → List Stretch
 runs_by limit s (Interleave nodes) home pid all pages =
     cut_within limit (each_to pid all (by_turns nodes (strays_of pages)))
 runs_by limit s policy home pid all pages = passes limit s (nodes_tried s home policy) (spots pid all pages)
 
--- the pages that are to move: none without a flag to move
+-- the pages to move: none without a flag to move
 abbrev pub listed : State → Binding → ℕ → List Located
 listed s b flags = if moves flags then astray s b else []
 
@@ -170,7 +170,7 @@ abbrev pub mbind_runs : ℕ → State → Binding → ℕ → List Stretch
 mbind_runs limit s b flags =
     runs_by limit s b.policy (home_of (info_at s b.pid)) b.pid (moves_all flags) (listed s b flags)
 
--- whether a listed page does not follow the policy where it is now
+-- whether a listed page, where it is in this state, does not follow the policy
 abbrev pub strays : State → Policy → Located → Bool
 strays s policy l =
     unwrap_or (option_map (λ frame. not (follows policy (node_of s.layout frame))) (get page_cmp s.place l.page)) false
@@ -183,11 +183,11 @@ still_strays old new b = list_any (strays new b.policy) (astray old b)
 abbrev pub NoStrayIsListedTwice : Type 0
 NoStrayIsListedTwice = (s : State) (b : Binding) → IsDistinct same_page (map (λ l. l.page) (astray s b))
 
--- whether flags ask for moves, and for an error where a page does not follow
+-- whether the flags ask for moves, and for an error if a page does not follow after them
 abbrev pub tells_late : ℕ → Bool
 tells_late flags = is_strict flags && moves flags
 
--- the state before the first run: the policy is set
+-- the state before the first run, with the policy set
 abbrev pub policed : State → ℕ → ℕ → ℕ → ℕ → List ℕ → State
 policed s caller address len mode nodes =
     set_policy s caller address len (binding s caller address len mode nodes).policy

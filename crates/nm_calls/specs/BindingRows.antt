@@ -1,4 +1,4 @@
--- Worked examples of mbind(2), and of the areas of a process as text.
+-- Worked examples of mbind(2), and of a process's areas as text.
 use Rattle.std.specs.Prelude.{◌≡◌, ℕ, ◌+◌, false, true, List, [], ◌∷◌, map, codes, length, Option, Some, None}
 use Rattle.nm_types.specs.declared.errno.Errno.TheVariants.{Eperm, Esrch, Eio, Enomem, Efault, Einval}
 use Rattle.nm_types.specs.Layout.{Layout}
@@ -29,7 +29,7 @@ ask addr len mode nodes flags = record { addr = addr; len = len; mode = mode; no
 abbrev pub system_in : State → SystemState
 system_in s = record { state = s; run_limit = default_limit }
 
--- the same as a call of a process
+-- the same, as a call of a process
 abbrev pub call_by : ℕ → Asked → Call
 call_by pid a = Mbind pid a.addr a.len a.mode a.nodes a.flags
 
@@ -37,7 +37,7 @@ call_by pid a = Mbind pid a.addr a.len a.mode a.nodes a.flags
 abbrev pub bound_by : ℕ → State → Asked → Outcome
 bound_by pid s a = outcome (system_in s) (call_by pid a)
 
--- what process 1 is answered
+-- the answer to process 1
 abbrev pub answer : State → Asked → Answer
 answer s a = (bound_by 1 s a).answer
 
@@ -64,7 +64,7 @@ abbrev pub left_in : State → List ℕ → Left
 left_in s addresses =
     record { free = s.free; moved = s.moved; failed = s.failed; frames = map (frame_at s 1) addresses }
 
--- two pages, of which the second is pinned
+-- two pages, the second of which has a pin
 abbrev pub second_pinned : State
 second_pinned = pin (wrote (wrote (map_new one_process 1 A 2 false) 1 A 0x61) 1 B 0x62) 1 B
 
@@ -72,7 +72,7 @@ second_pinned = pin (wrote (wrote (map_new one_process 1 A 2 false) 1 A 0x61) 1 
 abbrev pub both_to_1 : ℕ → Asked
 both_to_1 flags = ask A 8192 MPOL_BIND (1 ∷ []) flags
 
--- a pinned page stays, and that is reported; the other has moved, and the policy is set
+-- a pinned page stays and is reported; the other has moved, and the policy is set
 abbrev pub PinnedPageIsTold : Type 0
 PinnedPageIsTold =
     let s = after second_pinned (both_to_1 3) in
@@ -99,7 +99,7 @@ abbrev pub StayingIsNoError : Type 0
 StayingIsNoError =
     (answer second_pinned (both_to_1 2) ≡ Failed 0) × ((after second_pinned (both_to_1 2)).failed ≡ 1)
 
--- a policy for one byte splits an area into three
+-- setting the policy of one byte splits an area into three
 abbrev pub LinesAreSplit : Type 0
 LinesAreSplit =
     numa_maps (after three_pages (ask B 1 MPOL_PREFERRED (1 ∷ []) 0)) 1
@@ -115,7 +115,7 @@ NewPagesTakeTurns =
     (map (frame_at t 1) (A ∷ B ∷ C ∷ D ∷ []) ≡ Some 0 ∷ Some 4 ∷ Some 1 ∷ Some 5 ∷ [])
     × (numa_maps t 1 ≡ codes "00010000 interleave:0-1 anon=4 N0=2 N1=2 kernelpagesize_kB=4" ∷ [])
 
--- new pages go nowhere else than to the nodes to which they are bound
+-- new pages go only to the nodes that they are bound to
 abbrev pub BoundPagesGoNowhereElse : Type 0
 BoundPagesGoNowhereElse =
     let s = after (map_new one_process 1 A 5 false) (ask A 20480 MPOL_BIND (1 ∷ []) 2) in
@@ -123,18 +123,18 @@ BoundPagesGoNowhereElse =
     (map (frame_at t 1) (A ∷ B ∷ C ∷ D ∷ []) ≡ Some 4 ∷ Some 5 ∷ Some 6 ∷ Some 7 ∷ [])
     × ((write t 1 E (0x65 ∷ [])).answer ≡ Refused Enomem) × (t.free ≡ (0 ∷ 1 ∷ 2 ∷ 3 ∷ []) ∷ [] ∷ [])
 
--- nodes of four frames, one and four, each as far from the others
+-- nodes of four frames, one frame and four frames, all equally far apart
 abbrev pub narrow : Layout
 narrow =
     let distances : List (List ℕ) = (10 ∷ 20 ∷ 20 ∷ []) ∷ (20 ∷ 10 ∷ 20 ∷ []) ∷ (20 ∷ 20 ∷ 10 ∷ []) ∷ [] in
     record { sizes = 4 ∷ 1 ∷ 4 ∷ []; distances = distances }
 
--- two pages of process 1 on node 0 of these
+-- two pages of process 1, on node 0 of these
 abbrev pub two_on_narrow : State
 two_on_narrow =
     wrote (wrote (map_new (spawn (new_machine narrow) 1 100 0 (0 ∷ 1 ∷ 2 ∷ []) false) 1 A 2 false) 1 A 0x61) 1 B 0x62
 
--- what the first node has no room for goes to the second; and between the two passes
+-- the pages that the first node has no room for go to the second; also the state between the two passes
 abbrev pub SecondPassTakesTheRest : Type 0
 SecondPassTakesTheRest =
     let call = ask A 8192 MPOL_BIND (1 ∷ 2 ∷ []) 2 in
@@ -170,7 +170,7 @@ FollowersStay =
     × (answer three_pages interleaved ≡ Failed 0) × ((after three_pages interleaved).free ≡ where_they_are)
     × (answer three_pages strict ≡ Failed 0) × ((after three_pages strict).free ≡ where_they_are)
 
--- pages that do not follow take turns, here all to one node
+-- pages that do not follow take turns; here all go to one node
 abbrev pub StrayPagesTakeTurns : Type 0
 StrayPagesTakeTurns =
     let call = ask A 12288 MPOL_INTERLEAVE (1 ∷ []) 2 in
@@ -183,7 +183,7 @@ StrayPagesTakeTurns =
       frames = Some 4 ∷ Some 5 ∷ Some 6 ∷ [];
     })
 
--- no length is no change, and what is refused
+-- a length of 0 changes nothing; and calls that are refused
 abbrev pub BindingsAreRefused : Type 0
 BindingsAreRefused =
     (answer three_pages (ask A 16384 MPOL_BIND (1 ∷ []) 0) ≡ Refusal Efault)
@@ -198,19 +198,19 @@ BindingsAreRefused =
     × (answer three_pages (ask 0x10001 4096 MPOL_BIND (1 ∷ []) 4) ≡ Refusal Eperm)
     × ((bound_by 77 three_pages (ask 0x10001 4096 MPOL_BIND (1 ∷ []) 8)).answer ≡ Refusal Esrch)
 
--- a byte of a page is the page
+-- one byte of a page counts as the page
 abbrev pub LastByteCounts : Type 0
 LastByteCounts =
     map (frame_at (after three_pages (ask A 4097 MPOL_PREFERRED (1 ∷ []) 2)) 1) (A ∷ B ∷ C ∷ [])
     ≡ Some 4 ∷ Some 5 ∷ Some 2 ∷ []
 
--- three pages at an odd page number, on node 0 of three
+-- three pages from an odd page number on, on node 0 of three
 abbrev pub from_b : State
 from_b =
     let s = map_new (spawn (new_machine three_nodes) 1 100 0 (0 ∷ 1 ∷ 2 ∷ []) false) 1 B 3 false in
     wrote (wrote (wrote s 1 B 0x61) 1 C 0x62) 1 D 0x63
 
--- the index in the segment counts, and all pages for one node come before those for the next
+-- turns go by the index in the segment, and all pages for one node come before those for the next
 abbrev pub TurnsGoByIndex : Type 0
 TurnsGoByIndex =
     left_in (after from_b (ask B 12288 MPOL_INTERLEAVE (1 ∷ 2 ∷ []) 2)) (B ∷ C ∷ D ∷ [])
@@ -221,7 +221,7 @@ TurnsGoByIndex =
       frames = Some 4 ∷ Some 8 ∷ Some 5 ∷ [];
     }
 
--- a page at two addresses of a process, pinned: it is listed once, and counted once
+-- a page with a pin at two addresses of a process is listed once, and counted once
 abbrev pub StrayIsListedOnce : Type 0
 StrayIsListedOnce =
     let both = attach (map_new one_process 1 A 1 true) 1 B 0 0 1 in
@@ -232,11 +232,11 @@ StrayIsListedOnce =
     ≡ codes "00010000 prefer:1 anon=1 N0=1 kernelpagesize_kB=4"
     ∷ codes "00011000 prefer:1 anon=1 N0=1 kernelpagesize_kB=4" ∷ [])
 
--- process 3 is privileged, and sees the page too
+-- process 3 is privileged, and also sees the page
 abbrev pub seen_by_three : State
 seen_by_three = (read (attach (spawn seen_by_two 3 300 0 (0 ∷ 1 ∷ []) true) 3 0x20000 0 0 1) 3 0x20000 1).state
 
--- what others see stays, and is reported with MPOL_MF_STRICT, but moves with MPOL_MF_MOVE_ALL
+-- a page that others see stays, and is reported with MPOL_MF_STRICT; with MPOL_MF_MOVE_ALL it moves
 abbrev pub SharedPagesMoveWithAll : Type 0
 SharedPagesMoveWithAll =
     let all = (bound_by 3 seen_by_three (ask 0x20000 4096 MPOL_BIND (1 ∷ []) 4)).system.state in
@@ -252,7 +252,7 @@ SetsAsText =
     map set_text ((7 ∷ []) ∷ (0 ∷ 2 ∷ []) ∷ (0 ∷ 1 ∷ 3 ∷ []) ∷ (0 ∷ 1 ∷ 2 ∷ 5 ∷ 6 ∷ []) ∷ [])
     ≡ codes "7" ∷ codes "0,2" ∷ codes "0-1,3" ∷ codes "0-2,5-6" ∷ []
 
--- a page that process 2 has at another address
+-- a page that process 2 also has, at another address
 abbrev pub attached_elsewhere : State
 attached_elsewhere =
     let one = wrote (map_new (with_second one_process) 1 0x20000 1 true) 1 0x20000 0x61 in
@@ -263,11 +263,11 @@ abbrev pub BothProcessesAreCounted : Type 0
 BothProcessesAreCounted =
     numa_maps attached_elsewhere 2 ≡ codes "00030000 default anon=1 mapmax=2 N0=1 kernelpagesize_kB=4" ∷ []
 
--- the last page that there is
+-- the last page that an area can have
 abbrev pub last : ℕ
 last = 140737488351232
 
--- it is mapped, shown and read; two pages are too many, and two bytes at its last byte
+-- it can be mapped, shown and read; two pages there are too many, and so are two bytes at its last byte
 abbrev pub LastPage : Type 0
 LastPage =
     let s = map_new (with_second one_process) 1 last 1 false in

@@ -1,9 +1,9 @@
--- What can be asked of the machine, and its answers.
+-- The calls of a system, and their answers.
 use Rattle.std.specs.Prelude.{ℕ, ℤ, Bool, List, Option}
 use Rattle.nm_types.specs.declared.errno.Errno.{Errno}
 use Rattle.nm_model.specs.definitions.Touch.{Access, AccessAnswer}
 
--- a call and its arguments; a set of nodes is the list of its nodes in ascending order
+-- a call with its arguments; a set of nodes is the list of its nodes in ascending order
 pub data Call : Type 0 where
   Spawn : (pid uid home : ℕ) (allowed : List ℕ) (privileged : Bool) → Call
   MapPages : (pid addr pages : ℕ) (shared : Bool) → Call
@@ -14,7 +14,7 @@ pub data Call : Type 0 where
   Unpin : (pid addr : ℕ) → Call
   ReadBytes : (pid addr len : ℕ) → Call
   WriteBytes : (pid addr : ℕ) (bytes : List ℕ) → Call
-  -- while pages move, accesses are made, each in the run of its number
+  -- while the pages move, accesses are made, each in the run with its number
   MovePages : (caller pid : ℕ) (pages nodes : List ℕ) (flags : ℕ) (during : List (ℕ × Access)) → Call
   MigratePages : (caller pid : ℕ) (old new : List ℕ) → Call
   Query : (caller pid : ℕ) (pages : List ℕ) (flags : ℕ) → Call
@@ -26,21 +26,21 @@ pub data Call : Type 0 where
   Vmstat : Call
   NumaMaps : (pid : ℕ) → Call
 
--- the answers, by their kind
+-- the answers, by kind
 pub data Answer : Type 0 where
   Refusal : Errno → Answer
   Done : Answer
-  -- for an access to a page that moves
+  -- to an access to a page that moves
   Held : Answer
   NewSegment : (segment : ℕ) → Answer
   TheBytes : List ℕ → Answer
   -- how many entries failed
   Failed : (failed : ℕ) → Answer
-  -- the same, the status of each entry, and the answers to the accesses that were made meanwhile
+  -- the same, with the status of each entry and the answers to the accesses made meanwhile
   Statuses : (failed : ℕ) → List ℤ → (answers : List AccessAnswer) → Answer
-  -- frames, the front first
+  -- frames, front first
   Frames : List ℕ → Answer
-  -- page numbers and the frame at each, or none for the page of zeros
+  -- page numbers with the frame at each, or none for the page of zeros
   Entries : List (ℕ × Option ℕ) → Answer
   -- how many pages moved, and how many entries failed
   TheTotals : (moved failed : ℕ) → Answer

@@ -1,4 +1,4 @@
--- How a contract says that the answer and the effect of a call are those of its definition.
+-- How a contract states that a call's answer and effect are those of its definition.
 use Rattle.std.specs.Prelude.{◌≡◌, ◌⊎◌, ℕ, ◌<◌, ◌≤◌, ◌-◌, Bool, false, List, length, map, slice_index_or, None, Result, Ok, Err}
 use Rattle.nm_types.specs.declared.errno.Errno.{Errno}
 use Rattle.nm_types.specs.State.{State}
@@ -14,30 +14,31 @@ use Rattle.nm_calls.specs.Batch.{runs_named, in_order}
 use Rattle.nm_calls.specs.Systems.{SystemState}
 use Rattle.nm_calls.specs.Outcome.{refused_at_once, outcome, sets_policy, runs_of, after_runs, states_from}
 
--- a host without memory leaves the system as it was, or as it is after some first ones of the runs, with the policy set,
--- and never after the last
+-- a call that runs out of host memory leaves the system as it was, or as after some of its first runs with the policy
+-- set, but never after the last run
 abbrev pub LeavesSome : SystemState → Call → ℕ → Bool → SystemState → Type 0
 LeavesSome old call runs policy_set new =
     ((runs ≡ 0) × (policy_set ≡ false) × (new ≡ old))
     ⊎ ((runs < length (runs_of old call)) × (policy_set ≡ sets_policy call) × (new ≡ after_runs old call runs))
 
--- .. and the call is none that is refused
+-- ... and would not have been refused
 abbrev pub HostLeaves : SystemState → Call → ℕ → Bool → SystemState → Type 0
 HostLeaves old call runs policy_set new =
     (refused_at_once old.state call ≡ None) × LeavesSome old call runs policy_set new
 
--- the answer of a call and the system after it are as defined, also if it is refused; or the host has no memory for it
+-- the answer and the system after the call are as defined, whether or not it is refused; or the host is out of memory
 abbrev pub Does : {T : Type 0} → (T → Answer) → Result T CallError → SystemState → SystemState → Call → Type 0
 Does view (Ok value) old new call = outcome old call ≡ record { answer = view value; system = new }
 Does view (Err (Refused e)) old new call = outcome old call ≡ record { answer = Refusal e; system = new }
 Does view (Err (HostMemory runs policy_set)) old new call = HostLeaves old call runs policy_set new
 
--- the answer of a call that takes no memory and the system after it are as defined, also if it is refused
+-- the answer and the system after a call that does not allocate are as defined, whether or not it is refused
 abbrev pub DoesOrRefuses : {T : Type 0} → (T → Answer) → Result T Errno → SystemState → SystemState → Call → Type 0
 DoesOrRefuses view (Ok value) old new call = outcome old call ≡ record { answer = view value; system = new }
 DoesOrRefuses view (Err e) old new call = outcome old call ≡ record { answer = Refusal e; system = new }
 
--- the runs of a batch, each with its accesses: they are made, or the host has no memory for one of them, after those before it
+-- the runs of a batch are made, each with its accesses; or the host runs out of memory for one of them, after those
+-- before it
 abbrev pub Moves : {A : Type 0} → Result (Moved A) CallError → State → State → List Stretch → List (ℕ × Access) → Type 0
 Moves (Ok moved) old new stretches during =
     let made = runs_from 0 old stretches during in

@@ -5,11 +5,11 @@ use Rattle.nm_engine.specs.declared.MachineError.TheVariants as machine
 use Rattle.nm_calls.specs.declared.call_error.CallError.{CallError}
 use Rattle.nm_calls.specs.declared.call_error.CallError.TheVariants.{Refused, HostMemory}
 
--- the error of a host out of memory after `runs` runs of a call that sets no policy
+-- the error of a call that sets no policy, if the host runs out of memory after `runs` runs
 abbrev pub out_of_memory : ℕ → CallError
 out_of_memory runs = HostMemory runs false
 
--- the same, said by a call
+-- a machine's error as a call's error
 abbrev pub of_machine : MachineError → CallError
 of_machine (machine.Refused errno) = Refused errno
 of_machine machine.HostMemory = out_of_memory 0

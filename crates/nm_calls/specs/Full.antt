@@ -1,4 +1,4 @@
--- Passes over nodes that have no free frame.
+-- Passes over nodes without a free frame.
 use Rattle.std.specs.Prelude.{◌≡◌, ℕ, ◌+◌, ◌<◌, ◌/◌, ◌%◌, min, pos, true, All, List, [], length}
 use Rattle.std.specs.List.{AllByRecursion}
 use Rattle.nm_types.specs.declared.page.Page.{Page}
@@ -13,24 +13,24 @@ use Rattle.nm_model.specs.definitions.Run.{Ran, counted}
 use Rattle.nm_model.specs.definitions.Run.{runs_from}
 use Rattle.nm_calls.specs.Passes.{without_frame}
 
--- what is wanted is a page that stands on this node
+-- this asks for a page that is on this node
 abbrev pub StandsOn : State → ℕ → Wanted → Type 0
 StandsOn s node w = status_or_move s node w ≡ Status (pos node)
 
--- what is wanted is a page that would move to this node
+-- this asks for a page that would move to this node
 abbrev pub WouldMove : State → ℕ → Wanted → Type 0
 WouldMove s node w = (page : Page) × (from : ℕ) × (status_or_move s node w ≡ Move page from)
 
--- the state and the statuses of a pass over a node
+-- the state and the statuses after a pass over a node
 abbrev pub pass : ℕ → State → ℕ → List Wanted → Ran
 pass limit s node wanted = runs_from 0 s (cut_within limit (all_to node wanted)) []
 
--- how many runs a batch of so many requests for one node is cut into: their number by the limit, rounded up
+-- how many runs a batch of this many requests for one node has: their number divided by the limit, rounded up
 abbrev pub rounded_up : ℕ → ℕ → ℕ
 rounded_up n limit = n / limit + min 1 (n % limit)
 
--- a pass over a node without a free frame for pages that would move to it: nothing is changed but the total of failures,
--- which grows by their number, and all of them are left
+-- a pass over a node without a free frame, for pages that would move to it, only adds their number to the total of
+-- failures, and leaves all of them
 abbrev pub FullNodeTakesNone : Type 0
 FullNodeTakesNone =
     (limit : ℕ) (s : State) (node : ℕ) (wanted : List Wanted) → 0 < limit → 0 < length wanted → free_list s node ≡ []
@@ -38,25 +38,25 @@ FullNodeTakesNone =
     let made = pass limit s node wanted in
     (made.state ≡ counted s 0 (length wanted)) × (without_frame wanted made.statuses ≡ wanted)
 
--- what a pass leaves without a frame would move to its node still
+-- the pages that a pass leaves without a frame would still move to its node
 abbrev pub LeftWouldMove : Type 0
 LeftWouldMove =
     (limit : ℕ) (s : State) (node : ℕ) (wanted : List Wanted) → 0 < limit →
     let made = pass limit s node wanted in
     AllByRecursion (WouldMove made.state node) (without_frame wanted made.statuses)
 
--- a page that would move to one node would move to each on which it does not stand
+-- a page that would move to one node would move to any node that it is not on
 abbrev pub MovesElsewhere : Type 0
 MovesElsewhere =
     (s : State) (node next : ℕ) (w : Wanted) → WouldMove s node w → (StandsOn s next w → ⊥) → WouldMove s next w
 
--- how many runs a batch for one node has goes by its length
+-- the number of runs of a batch for one node depends on its length alone
 abbrev pub RunsGoByLength : Type 0
 RunsGoByLength =
     (limit node : ℕ) (wanted : List Wanted) → 0 < limit → length (cut_within limit (all_to node wanted)) ≡ rounded_up (length wanted) limit
 
--- so after a pass, one over another node that has no free frame, and on which nothing stands that is left, leaves the same,
--- and fails for each
+-- so after a pass, another one over a node that has no free frame and none of the pages left leaves the same pages, and
+-- fails for each
 abbrev pub NextPassTakesNone : Type 0
 NextPassTakesNone =
     (limit : ℕ) (s : State) (node next : ℕ) (wanted : List Wanted) → 0 < limit →
@@ -66,10 +66,10 @@ NextPassTakesNone =
     let made = pass limit first.state next left in
     (made.state ≡ counted first.state 0 (length left)) × (without_frame left made.statuses ≡ left)
 
--- a pass has found no free frame for any of this
+-- a pass has found no free frame for any of these
 abbrev pub HasFailed : State → List Wanted → Type 0
 HasFailed s wanted = (node : ℕ) × AllByRecursion (WouldMove s node) wanted
 
--- each of the nodes below 64 on which some of this stands is among these
+-- each node below 64 that some of these pages are on is in this set
 abbrev pub StandAmong : State → List ℕ → List Wanted → Type 0
 StandAmong s nodes wanted = All (λ w. (node : ℕ) → node < 64 → StandsOn s node w → is_in nodes node ≡ true) wanted

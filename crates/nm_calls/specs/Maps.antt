@@ -1,4 +1,4 @@
--- The areas of a process as text, as in numa(7).
+-- A process's areas as text, as in numa(7).
 use Rattle.std.specs.Prelude.{ℕ, ◌+◌, ◌-◌, max, ◌==◌, nat_lt, List, [], ◌∷◌, ◌++◌, map, length, replicate, count_by, String, string_bytes, false, codes, decimal, if◌then◌else◌}
 use Rattle.std.specs.Fmt.{digits}
 use Rattle.std.specs.List.{flat_map, fold, join_with_byte}
@@ -13,25 +13,25 @@ use Rattle.nm_areas.specs.Lines.{lines_of}
 use Rattle.nm_types.specs.declared.located.Located.{Located}
 use Rattle.nm_model.specs.definitions.Seen.{located_between}
 
--- a node is the first of the stretch after it, or a stretch of one
+-- a node extends the range after it, or is a range of its own
 abbrev pub node_in_front : ℕ → List (ℕ × ℕ) → List (ℕ × ℕ)
 node_in_front n [] = (n, n) ∷ []
 node_in_front n (r ∷ rs) = if n + 1 == r.0 then (n, r.1) ∷ rs else (n, n) ∷ r ∷ rs
 
--- the longest stretches of consecutive nodes of a set, each by its first and its last
+-- the longest ranges of consecutive nodes of a set, each as its first and last node
 abbrev pub stretches : List ℕ → List (ℕ × ℕ)
 stretches [] = []
 stretches (n ∷ nodes) = node_in_front n (stretches nodes)
 
--- one node, or the first and the last of several
+-- a single node, or the first and last of several
 abbrev pub stretch_text : ℕ × ℕ → List ℕ
 stretch_text r = if r.0 == r.1 then decimal r.0 else decimal r.0 ++ codes "-" ++ decimal r.1
 
--- a set of nodes, as 0-1,3
+-- a set of nodes, such as 0-1,3
 abbrev pub set_text : List ℕ → List ℕ
 set_text nodes = join_with_byte 44 (map stretch_text (stretches nodes))
 
--- a policy, as bind:0-1,3
+-- a policy, such as bind:0-1,3
 unfoldable pub policy_text : Policy → List ℕ
 policy_text Default = codes "default"
 policy_text (Preferred node) = codes "prefer:" ++ decimal node
@@ -39,11 +39,11 @@ policy_text (Bind nodes) = codes "bind:" ++ set_text nodes
 policy_text (Interleave nodes) = codes "interleave:" ++ set_text nodes
 policy_text Local = codes "local"
 
--- digits, after as many zeros as bring them to a width
+-- digits, padded with zeros to a width
 abbrev pub zero_filled : ℕ → List ℕ → List ℕ
 zero_filled width ds = replicate (width - length ds) 48 ++ ds
 
--- the address at which a page begins, as at least eight hexadecimal digits: those of its number, and three zeros
+-- the address of a page, in at least eight hexadecimal digits: those of its page number, and three zeros
 abbrev pub address_text : ℕ → List ℕ
 address_text vpn = zero_filled 5 (digits 16 false vpn) ++ codes "000"
 
@@ -55,7 +55,7 @@ pages_of s pid line = located_between s pid line.first (line.first + line.pages)
 abbrev pub count_on : List Located → ℕ → ℕ
 count_on pages node = count_by (λ p. p.node == node) pages
 
--- the greatest number of processes that see one of these pages
+-- the greatest number of processes that see any of these pages
 abbrev pub most_users : State → List Located → ℕ
 most_users s pages = fold (λ most p. max most (length (users s p.page))) 0 pages
 
@@ -63,11 +63,11 @@ most_users s pages = fold (λ most p. max most (length (users s p.page))) 0 page
 abbrev pub told_from : ℕ → List ℕ → ℕ → List ℕ
 told_from least word n = if nat_lt n least then [] else word ++ decimal n
 
--- how many pages are on a node, where some are
+-- how many pages are on a node, if any are
 abbrev pub node_text : List Located → ℕ → List ℕ
 node_text pages node = told_from 1 (codes " N" ++ decimal node ++ codes "=") (count_on pages node)
 
--- what is shown of the pages in an area, if there are some
+-- what is shown of the pages in an area, if there are any
 abbrev pub pages_text : State → List Located → List ℕ
 pages_text s [] = []
 pages_text s (p ∷ ps) =
@@ -83,6 +83,6 @@ area_text s pid line =
 abbrev pub lines_shown : {A : Type 0} → List (String A) → List (List ℕ)
 lines_shown lines = map (λ line. string_bytes line) lines
 
--- the areas of a process as text, by address
+-- a process's areas as text, in address order
 abbrev pub numa_maps : State → ℕ → List (List ℕ)
 numa_maps s pid = map (area_text s pid) (lines_of s.segments s.areas pid)

@@ -1,4 +1,4 @@
--- What holds of the list of migrate_pages(2).
+-- What holds for the list of pages of migrate_pages(2).
 use Rattle.std.specs.Prelude.{◌≡◌, ℕ, ◌<◌, true, List}
 use Rattle.std.specs.List.{AllByRecursion, IsDistinct, flat_map}
 use Rattle.std.specs.Map.{values_of}
@@ -12,7 +12,7 @@ use Rattle.nm_calls.specs.Systems.{SystemState}
 use Rattle.nm_calls.specs.Calls.{MigratePages}
 use Rattle.nm_calls.specs.Outcome.{runs_of}
 
--- the pages of a process that go from some nodes to others, in the order in which they are listed
+-- the pages of a process that go from some nodes to others, in the order of the list
 abbrev pub pages_listed : State → ℕ → List ℕ → List ℕ → List Page
 pages_listed s pid old new = values_of (flat_map (λ p. pages_on s pid p.from) (pairs old new))
 
@@ -21,7 +21,7 @@ abbrev pub EachPageIsListedOnce : Type 0
 EachPageIsListedOnce =
     (s : State) (pid : ℕ) (old new : List ℕ) → IsNodeSet old → IsDistinct same_page (pages_listed s pid old new)
 
--- each run goes to a node that is online
+-- each run goes to an online node
 abbrev pub RunsGoToNodesOnline : Type 0
 RunsGoToNodesOnline =
     (y : SystemState) (caller pid : ℕ) (old new : List ℕ) → 0 < y.run_limit → IsNodeSet old →

@@ -9,11 +9,11 @@ use Rattle.nm_calls.specs.Systems.{SystemState, default_limit}
 use Rattle.nm_calls.specs.Calls.{Call, MigratePages, Answer, Failed}
 use Rattle.nm_calls.specs.Outcome.{refused, outcome, trail}
 
--- a system in this state, with a limit on runs
+-- a system in this state, with this limit on runs
 abbrev pub within : ℕ → State → SystemState
 within limit s = record { state = s; run_limit = limit }
 
--- .. and with the limit where nothing is said
+-- ... and with the default limit
 abbrev pub system : State → SystemState
 system s = within default_limit s
 
@@ -32,12 +32,13 @@ pub record Left : Type 0 where
   pub failed : ℕ
   pub frames : List (Option ℕ)
 
--- this of a state
+-- what a state shows of this
 abbrev pub left_in : State → List ℕ → Left
 left_in s addresses =
     record { free = s.free; moved = s.moved; failed = s.failed; frames = map (frame_at s 1) addresses }
 
--- pages on nodes 0 and 1 go to 1 and 2: the one on node 1 first, and none goes on to node 2 by way of node 1
+-- pages on nodes 0 and 1 go to nodes 1 and 2: the page on node 1 goes first, and no page goes on to node 2 through node
+-- 1
 abbrev pub EachPageGoesOnce : Type 0
 EachPageGoesOnce =
     let call = MigratePages 1 0 (0 ∷ 1 ∷ []) (1 ∷ 2 ∷ []) in
@@ -50,7 +51,7 @@ EachPageGoesOnce =
       frames = Some 5 ∷ Some 8 ∷ [];
     })
 
--- between its two runs
+-- the state between its two runs
 abbrev pub HalfWay : Type 0
 HalfWay =
     let states = trail (system on_two_of_three) (MigratePages 1 0 (0 ∷ 1 ∷ []) (1 ∷ 2 ∷ [])) in
@@ -63,7 +64,7 @@ HalfWay =
       frames = Some 0 ∷ Some 8 ∷ [];
     })
 
--- room on the new node for two of four
+-- the new node has room for two of four pages
 abbrev pub TwoOfFourGo : Type 0
 TwoOfFourGo =
     let call = MigratePages 1 0 (0 ∷ []) (1 ∷ []) in
@@ -85,11 +86,11 @@ SharedPageGoesByPrivilege =
     × (answer (with_third seen_by_two) by_third ≡ Failed 0)
     × (map (λ pid. frame_at there pid 0x20000) (1 ∷ 2 ∷ []) ≡ Some 4 ∷ Some 4 ∷ [])
 
--- process 4 may use node 0 alone
+-- process 4 may use node 0 only
 abbrev pub four_processes : State
 four_processes = spawn (with_third (with_second one_process)) 4 400 0 (0 ∷ []) false
 
--- the first refusal in order; a privileged caller may name a node that the process may not use, but not that one alone
+-- the first refusal in order; a privileged caller may name a node that the process may not use, but not only such nodes
 abbrev pub MigrationsAreRefused : Type 0
 MigrationsAreRefused =
     let why = λ (call : Call). refused four_processes call in
@@ -104,7 +105,7 @@ MigrationsAreRefused =
     × (answer four_processes (MigratePages 3 4 (0 ∷ []) (0 ∷ 1 ∷ [])) ≡ Failed 0)
     × (why (MigratePages 1 0 (0 ∷ []) []) ≡ Some Einval)
 
--- from no node, and from a set to itself
+-- from an empty set, and from a set to itself
 abbrev pub NothingMigrates : Type 0
 NothingMigrates =
     (answer three_pages (MigratePages 1 0 [] (1 ∷ [])) ≡ Failed 0)
@@ -112,27 +113,28 @@ NothingMigrates =
     × (answer three_pages (MigratePages 1 0 (0 ∷ 1 ∷ []) (0 ∷ 1 ∷ [])) ≡ Failed 0)
     × (after three_pages (MigratePages 1 0 (0 ∷ 1 ∷ []) (0 ∷ 1 ∷ [])) ≡ three_pages)
 
--- four nodes of two frames, each as far from the others
+-- four nodes of two frames each, all equally far apart
 abbrev pub four_nodes : Layout
 four_nodes =
     let distances : List (List ℕ) =
     (10 ∷ 20 ∷ 20 ∷ 20 ∷ []) ∷ (20 ∷ 10 ∷ 20 ∷ 20 ∷ []) ∷ (20 ∷ 20 ∷ 10 ∷ 20 ∷ []) ∷ (20 ∷ 20 ∷ 20 ∷ 10 ∷ []) ∷ [] in
     record { sizes = 2 ∷ 2 ∷ 2 ∷ 2 ∷ []; distances = distances }
 
--- pages on nodes 0 and 1, while node 3 is offline
+-- pages on nodes 0 and 1, with node 3 offline
 abbrev pub without_last : State
 without_last =
     let s = map_new (spawn (new_machine four_nodes) 1 100 0 (0 ∷ 1 ∷ 2 ∷ 3 ∷ []) false) 1 A 3 false in
     record (wrote (wrote (wrote s 1 A 0x61) 1 B 0x62) 1 C 0x63) { online = 0 ∷ 1 ∷ 2 ∷ [] }
 
--- the sizes of the sets are compared when the new one is cut to what is online: two and two, so that node 1 is left
+-- the sizes of the sets are compared after the new set is reduced to its online nodes: two and two, so node 1 is
+-- emptied
 abbrev pub SizesOfWhatIsKept : Type 0
 SizesOfWhatIsKept =
     let call = MigratePages 1 0 (0 ∷ 1 ∷ []) (1 ∷ 2 ∷ 3 ∷ []) in
     (answer without_last call ≡ Failed 0)
     × (map (frame_at (after without_last call) 1) (A ∷ B ∷ C ∷ []) ≡ Some 3 ∷ Some 2 ∷ Some 4 ∷ [])
 
--- a page at two addresses is listed once: it moves once, and where it is pinned it fails once
+-- a page at two addresses is listed once: it moves once, and fails once if it has a pin
 abbrev pub PageIsListedOnce : Type 0
 PageIsListedOnce =
     let call = MigratePages 1 0 (0 ∷ []) (1 ∷ []) in
@@ -146,7 +148,7 @@ PageIsListedOnce =
     })
     × (answer pinned call ≡ Failed 1) × ((after pinned call).failed ≡ 1)
 
--- a limit of two cuts the run of three pages, and frees the frames of the first two before the third goes
+-- a limit of two cuts the run of three pages, and frees the frames of the first two before the third moves
 abbrev pub RunsHaveALimit : Type 0
 RunsHaveALimit =
     let states = trail (within 2 three_pages) (MigratePages 1 0 (0 ∷ []) (1 ∷ [])) in

@@ -1,4 +1,4 @@
--- Worked examples of nodes that go offline and come online.
+-- Worked examples of taking nodes offline and bringing them online.
 use Rattle.std.specs.Prelude.{◌≡◌, ℕ, false, true, List, [], ◌∷◌, map, length, codes, Some, None}
 use Rattle.nm_types.specs.declared.errno.Errno.TheVariants.{Ebusy, Enodev, Enomem, Einval}
 use Rattle.nm_types.specs.Layout.{Layout}
@@ -21,11 +21,11 @@ answer s call = (outcome (system_in s) call).answer
 abbrev pub after : State → Call → State
 after s call = (outcome (system_in s) call).system.state
 
--- node 0 has gone offline
+-- node 0 has been taken offline
 abbrev pub first_offline : State
 first_offline = after three_pages (Offline 0)
 
--- its pages are on the other node, which is no target any more
+-- its pages are on the other node, and it is not a target
 abbrev pub PagesLeaveTheNode : Type 0
 PagesLeaveTheNode =
     (answer three_pages (Offline 0) ≡ Done)
@@ -38,18 +38,18 @@ PagesLeaveTheNode =
     })
     × (refused first_offline (MovePages 1 0 (A ∷ []) (0 ∷ []) 2 []) ≡ Some Enodev)
 
--- two pages more, of which the first takes the last frame
+-- two more pages, the first of which takes the last frame
 abbrev pub filled_up : State
 filled_up = wrote (map_new first_offline 1 D 2 false) 1 D 0x64
 
--- nothing is taken from a node that is offline; the last one stays; online, the node serves again
+-- no frame is taken from an offline node; the last online node stays online; once online again, the node serves frames
 abbrev pub NothingIsTakenOffline : Type 0
 NothingIsTakenOffline =
     (frame_at filled_up 1 D ≡ Some 7) × ((write filled_up 1 E (0x65 ∷ [])).answer ≡ Refused Enomem)
     × (answer filled_up (Offline 1) ≡ Refusal Ebusy) × (online_refusal filled_up 0 ≡ None)
     × (frame_at (wrote (set_online filled_up 0 true) 1 E 0x65) 1 E ≡ Some 3)
 
--- a pinned page keeps its node online, and the moves stay
+-- a page with a pin keeps its node online, and the moves stay
 abbrev pub PinnedPageKeepsItsNode : Type 0
 PinnedPageKeepsItsNode =
     let pinned = pin three_pages 1 B in
@@ -63,13 +63,13 @@ PinnedPageKeepsItsNode =
     })
     × ((after pinned (Offline 0)).online ≡ 0 ∷ 1 ∷ [])
 
--- three pages on node 0 of three, the second pinned; node 1 has one frame
+-- three pages on node 0 of three, the second with a pin; node 1 has one frame
 abbrev pub three_on_narrow : State
 three_on_narrow =
     let s = map_new (spawn (new_machine narrow) 1 100 0 (0 ∷ 1 ∷ 2 ∷ []) false) 1 A 3 false in
     pin (wrote (wrote (wrote s 1 A 0x61) 1 B 0x62) 1 C 0x63) 1 B
 
--- what node 1 has no room for goes to node 2, but not what is pinned; and between the two passes
+-- what node 1 has no room for goes to node 2, except the page with a pin; also the state between the two passes
 abbrev pub PassesGoByDistance : Type 0
 PassesGoByDistance =
     let s = after three_on_narrow (Offline 0) in
@@ -92,7 +92,8 @@ UnseenPageMoves =
     (answer s (Offline 0) ≡ Done) × ((after s (Offline 0)).free ≡ (1 ∷ 2 ∷ 3 ∷ 0 ∷ []) ∷ (5 ∷ 6 ∷ 7 ∷ []) ∷ [])
     × ((read (after s (Offline 0)) 2 0x20000 1).answer ≡ Bytes (0x61 ∷ []))
 
--- a page moves for all who see it; twice offline is as once; no node is none
+-- a page moves for all processes that see it; taking a node offline twice is the same as once; a node that does not
+-- exist is refused
 abbrev pub SharedPageLeavesItsNode : Type 0
 SharedPageLeavesItsNode =
     let s = after seen_by_two (Offline 0) in
@@ -102,7 +103,7 @@ SharedPageLeavesItsNode =
     × (answer s (Offline 0) ≡ Done) × (after s (Offline 0) ≡ s)
     × (refused s (Offline 9) ≡ Some Einval) × (online_refusal s 9 ≡ Some Einval)
 
--- a node that is offline is none of the new ones, and none of a policy's
+-- an offline node is left out of the new nodes, and of a policy's nodes
 abbrev pub OfflineNodesAreNotKept : Type 0
 OfflineNodesAreNotKept =
     let s = after three_pages (Offline 1) in
@@ -113,25 +114,25 @@ OfflineNodesAreNotKept =
     ≡ codes "00010000 bind:0 anon=1 N0=1 kernelpagesize_kB=4"
     ∷ codes "00011000 default anon=2 N0=2 kernelpagesize_kB=4" ∷ [])
 
--- three nodes in a row of four frames each: node 2 is nearer to node 1 than node 0 is
+-- three nodes of four frames each in a row: node 2 is nearer to node 1 than node 0 is
 abbrev pub in_a_row : Layout
 in_a_row =
     let distances : List (List ℕ) = (10 ∷ 30 ∷ 40 ∷ []) ∷ (30 ∷ 10 ∷ 20 ∷ []) ∷ (40 ∷ 20 ∷ 10 ∷ []) ∷ [] in
     record { sizes = 4 ∷ 4 ∷ 4 ∷ []; distances = distances }
 
--- the nearest of the other nodes comes first
+-- the nearest other node comes first
 abbrev pub NearestNodeFirst : Type 0
 NearestNodeFirst =
     let s = wrote (map_new (spawn (new_machine in_a_row) 1 100 1 (0 ∷ 1 ∷ 2 ∷ []) false) 1 A 1 false) 1 A 0x61 in
     frame_at (after s (Offline 1)) 1 A ≡ Some 8
 
--- the last node stays online, though no page is on it
+-- the last online node stays online, even if no page is on it
 abbrev pub LastNodeStays : Type 0
 LastNodeStays =
     let s = after one_process (Offline 1) in
     (s.online ≡ 0 ∷ []) × (answer s (Offline 0) ≡ Refusal Ebusy) × (after s (Offline 0) ≡ s)
 
--- two segments, the second of which is mapped below the first: pages go by segment and index, and not by address
+-- of two segments the second is mapped below the first: pages go by segment and index, not by address
 abbrev pub PagesGoBySegment : Type 0
 PagesGoBySegment =
     let s = wrote (wrote (map_new (map_new one_process 1 C 1 false) 1 A 1 false) 1 A 0x61) 1 C 0x62 in

@@ -1,4 +1,4 @@
--- Nodes that go offline and come online: what is refused, and which pages move.
+-- Taking nodes offline and bringing them online: what is refused, and which pages move.
 use Rattle.std.specs.Prelude.{◌≡◌, ℕ, nat_le, Bool, ◌&&◌, List, [], ◌∷◌, map, Option, if◌then◌else◌}
 use Rattle.std.specs.List.{list_any}
 use Rattle.nm_types.specs.declared.errno.Errno.{Errno}
@@ -17,26 +17,26 @@ use Rattle.nm_calls.specs.Migrating.{is_on}
 use Rattle.nm_calls.specs.Passes.{passes}
 use Rattle.nm_calls.specs.Permission.{is_none}
 
--- no such node; the only one that is online
+-- EINVAL: no such node; EBUSY: no other node is online
 abbrev pub offline_refusal : State → ℕ → Option Errno
 offline_refusal s node =
     let only = is_in s.online node && is_none (without_node s.online node) in
     first_error ((nat_le (node_count s.layout) node, Einval) ∷ (only, Ebusy) ∷ [])
 
--- the other nodes that are online, by their distance from a node
+-- the other online nodes, by their distance from a node
 abbrev pub refuges : State → ℕ → List ℕ
 refuges s node = zonelist s.layout (without_node s.online node) node
 
--- the runs: passes with all pages of the node over those nodes. A node that is offline is left alone
+-- the runs: passes over those nodes, with all pages of the node. None for a node that is offline already
 abbrev pub offline_runs : ℕ → State → ℕ → List Stretch
 offline_runs limit s node =
     if is_in s.online node then passes limit s (refuges s node) (map Whole (placed_on s node)) else []
 
--- whether a page of a node that was online before the moves is on it after them
+-- whether a page of a node that was online before the moves is still on it after them
 abbrev pub still_on : State → State → ℕ → Bool
 still_on old new node = is_in old.online node && list_any (is_on new node) (placed_on old node)
 
--- no such node
+-- EINVAL: no such node
 abbrev pub online_refusal : State → ℕ → Option Errno
 online_refusal s node = first_error ((nat_le (node_count s.layout) node, Einval) ∷ [])
 
@@ -44,8 +44,7 @@ online_refusal s node = first_error ((nat_le (node_count s.layout) node, Einval)
 abbrev pub with_online : List ℕ → State → State
 with_online online s = record s { online = online }
 
--- runs do not ask which nodes are online: it makes no difference whether a node goes offline before its pages leave it,
--- or after
+-- runs do not depend on which nodes are online: a node may go offline before its pages leave it, or after
 pub record RunsIgnoreOnline : Type 0 where
   pub runs :
       (s : State) (online : List ℕ) (runs : List Stretch) → let made = runs_from 0 s runs [] in

@@ -1,4 +1,4 @@
--- Which call is refused, the answers of the others, and the state after each, also if the host refuses memory.
+-- Which calls are refused, the answers of the others, and the state after each, also if the host runs out of memory.
 use Rattle.std.specs.Prelude.{ℕ, ℤ, ◌+◌, ◌/◌, Bool, true, false, ◌&&◌, if◌then◌else◌, List, [], ◌∷◌, length, map, slice_index_or, Option, Some, None}
 use Rattle.nm_types.specs.declared.errno.Errno.{Errno}
 use Rattle.nm_types.specs.State.{State, free_list}
@@ -24,7 +24,7 @@ use Rattle.nm_calls.specs.Binding.{mbind_refusal, policed, binding, mbind_runs, 
 use Rattle.nm_calls.specs.Offlining.{offline_refusal, offline_runs, still_on, online_refusal}
 use Rattle.nm_calls.specs.Systems.{SystemState, in_state}
 
--- why an access is refused
+-- why an access is refused, if it is
 abbrev pub refusal_in : engine.AccessAnswer → Option Errno
 refusal_in (engine.Bytes bytes) = None
 refusal_in engine.Done = None
@@ -38,7 +38,7 @@ shown engine.Done = Done
 shown engine.Held = Held
 shown (engine.Refused e) = Refusal e
 
--- where the pages of a process at these addresses are
+-- where the pages at these addresses of a process are
 abbrev pub statuses_of : State → ℕ → List ℕ → List ℤ
 statuses_of s pid addresses = map (λ address. node_status s pid (address / 4096)) addresses
 
@@ -64,13 +64,13 @@ refused s (Pagemap pid) = entries_refusal s pid
 refused s Vmstat = None
 refused s (NumaMaps pid) = entries_refusal s pid
 
--- the refusals that a call comes to before it asks the host for memory: all but the lack of a free frame, for an access
+-- the refusals that a call checks before it allocates: all except the lack of a free frame for an access
 unfoldable pub refused_at_once : State → Call → Option Errno
 refused_at_once s (ReadBytes pid addr len) = spot_refusal s pid addr len
 refused_at_once s (WriteBytes pid addr bytes) = spot_refusal s pid addr (length bytes)
 refused_at_once s call = refused s call
 
--- the state before the first run of a call that is not refused: mbind has set its policy
+-- the state before the first run of a call that is not refused, with the policy of mbind set
 unfoldable pub start : SystemState → Call → State
 start y (Mbind caller addr len mode nodes flags) = policed y.state caller addr len mode nodes
 start y call = y.state
@@ -80,7 +80,7 @@ unfoldable pub sets_policy : Call → Bool
 sets_policy (Mbind caller addr len mode nodes flags) = true
 sets_policy call = false
 
--- the runs that a call makes, where it is not refused; one that moves no pages makes none
+-- the runs that a call makes if it is not refused; none if it moves no pages
 unfoldable pub runs_asked : SystemState → Call → List Stretch
 runs_asked y (MovePages caller pid pages nodes flags during) =
     cut_within y.run_limit (requests_of (owner_of caller pid) (moves_all flags) pages nodes)
@@ -91,30 +91,30 @@ runs_asked y (Mbind caller addr len mode nodes flags) =
 runs_asked y (Offline node) = offline_runs y.run_limit y.state node
 runs_asked y call = []
 
--- the accesses that are made while pages move, each with the number of its run
+-- the accesses made while pages move, each with the number of its run
 unfoldable pub accesses_asked : Call → List (ℕ × Access)
 accesses_asked (MovePages caller pid pages nodes flags during) = during
 accesses_asked call = []
 
--- an answer, and the system after it
+-- an answer, and the system after the call
 pub record Outcome : Type 0 where
   pub answer : Answer
   pub system : SystemState
 
--- this answer, and the system in this state
+-- an answer, and the system in this state
 abbrev pub leaves : SystemState → Answer → State → Outcome
 leaves y answer s = record { answer = answer; system = in_state y s }
 
--- EIO, or the answer of a call of which nothing failed
+-- EIO, or the answer of a call without failures
 abbrev pub late_answer : Bool → Answer
 late_answer late = if late then Refusal Eio else Failed 0
 
--- a node with a page that stays is online still; else it is offline
+-- a node that a page stays on is still online; otherwise it is offline
 abbrev pub emptied : SystemState → ℕ → State → Bool → Outcome
 emptied y node s stays = if stays then leaves y (Refusal Ebusy) s else leaves y Done (set_online s node false)
 
--- the answer of a call that is not refused at first, once its runs are made, and the system then: mbind reports a page
--- that still does not follow its policy, and offline one that stays; the moves stay
+-- the answer after the runs of a call that is not refused before them, and the system then: mbind reports a page that
+-- does not follow its policy, and offline a page that stays, and the moves remain
 unfoldable pub ended : SystemState → Call → Ran → Outcome
 ended y (Spawn pid uid home allowed privileged) made = leaves y Done (spawn y.state pid uid home allowed privileged)
 ended y (MapPages pid addr pages shared) made =
@@ -143,27 +143,27 @@ ended y (Pagemap pid) made = leaves y (Entries (entries_shown (entries_of y.stat
 ended y Vmstat made = leaves y (TheTotals y.state.moved y.state.failed) y.state
 ended y (NumaMaps pid) made = leaves y (Lines (numa_maps y.state pid)) y.state
 
--- the refusal and the system as it was, unless there is no refusal
+-- the refusal, with the system as it was; or this outcome if there is no refusal
 abbrev pub unless : Option Errno → SystemState → Outcome → Outcome
 unless (Some e) y o = record { answer = Refusal e; system = y }
 unless None y o = o
 
--- the answer of a call, and the system after it; one that is refused at first changes nothing
+-- the answer of a call, and the system after it; a call refused before its runs changes nothing
 abbrev pub outcome : SystemState → Call → Outcome
 outcome y call =
     let made = runs_from 0 (start y call) (runs_asked y call) (accesses_asked call) in
     unless (refused y.state call) y (ended y call made)
 
--- no runs, unless there is no refusal
+-- these runs, or none if there is a refusal
 abbrev pub runs_unless : Option Errno → List Stretch → List Stretch
 runs_unless (Some e) runs = []
 runs_unless None runs = runs
 
--- the runs of a call; one that is refused makes none
+-- the runs of a call; none if it is refused
 abbrev pub runs_of : SystemState → Call → List Stretch
 runs_of y call = runs_unless (refused y.state call) (runs_asked y call)
 
--- the states before, between and after runs, with numbers from k on, each with its accesses
+-- the states before, between and after runs numbered from k on, each with its accesses
 abbrev pub states_from : ℕ → State → List Stretch → List (ℕ × Access) → List State
 states_from k s [] accesses = s ∷ []
 states_from k s (r ∷ rs) accesses =
@@ -173,7 +173,7 @@ states_from k s (r ∷ rs) accesses =
 abbrev pub states_of : State → List Stretch → List State
 states_of s rs = states_from 0 s rs []
 
--- the state as it was, unless there is no refusal
+-- the first state if there is a refusal, otherwise the second
 abbrev pub started : Option Errno → State → State → State
 started (Some e) s t = s
 started None s t = t

@@ -1,4 +1,4 @@
--- Passes: all that is wanted goes to one node, and what finds no free frame goes on to the next.
+-- Passes: all requests go to one node, and those that find no free frame go on to the next.
 use Rattle.std.specs.Prelude.{ℕ, ℤ, List, [], ◌∷◌, ◌++◌, map}
 use Rattle.std.specs.List.{filter, zip}
 use Rattle.std.specs.Ordering.{int_eq}
@@ -11,11 +11,12 @@ use Rattle.nm_model.specs.definitions.Cut.{cut_within}
 use Rattle.nm_model.specs.definitions.Run.{Ran}
 use Rattle.nm_model.specs.definitions.Run.{runs_from}
 
--- what was wanted and found no free frame
+-- the requests that found no free frame
 abbrev pub without_frame : List Wanted → List ℤ → List Wanted
 without_frame wanted statuses = map (λ e. e.0) (filter (λ e. int_eq e.1 (code Enomem)) (zip wanted statuses))
 
--- the runs of passes over nodes: each pass is one batch to one node, and what finds no free frame goes on to the next
+-- the runs of passes over nodes: each pass is one batch to one node, and requests without a free frame go on to the
+-- next
 abbrev pub passes : ℕ → State → List ℕ → List Wanted → List Stretch
 passes limit s [] wanted = []
 passes limit s (node ∷ nodes) wanted =

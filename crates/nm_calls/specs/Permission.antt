@@ -1,4 +1,4 @@
--- Who may act on the pages of a process, and which nodes may be named.
+-- Who may act on a process's pages, and which nodes may be named.
 use Rattle.std.specs.Prelude.{ℕ, nat_le, ◌/◌, ◌%◌, ◌==◌, Bool, not, ◌&&◌, ◌||◌, [], ◌∷◌, Option, Some, None, if◌then◌else◌}
 use Rattle.std.specs.Option.{option_map}
 use Rattle.std.specs.Ordering.{nat_cmp}
@@ -14,11 +14,11 @@ use Rattle.std.specs.List.{list_any, filter}
 use Rattle.nm_types.specs.Layout.{node_count}
 use Rattle.nm_types.specs.Nodes.{is_in}
 
--- whether flags have a bit other than those of MPOL_MF_MOVE and MPOL_MF_MOVE_ALL, which are 2 and 4
+-- whether the flags have a bit other than MPOL_MF_MOVE (2) and MPOL_MF_MOVE_ALL (4)
 abbrev pub has_other_flags : ℕ → Bool
 has_other_flags flags = nat_le 8 flags || (flags % 2 == 1)
 
--- whether MPOL_MF_MOVE_ALL is among flags; without it they act as MPOL_MF_MOVE
+-- whether MPOL_MF_MOVE_ALL is among the flags; without it they act as MPOL_MF_MOVE
 abbrev pub moves_all : ℕ → Bool
 moves_all flags = flags / 4 % 2 == 1
 
@@ -26,26 +26,26 @@ moves_all flags = flags / 4 % 2 == 1
 abbrev pub owner_of : ℕ → ℕ → ℕ
 owner_of caller pid = if pid == 0 then caller else pid
 
--- a flag that is unknown; MPOL_MF_MOVE_ALL without privilege
+-- EINVAL: an unknown flag; EPERM: MPOL_MF_MOVE_ALL without privilege
 abbrev pub flags_refusal : Bool → ℕ → Option Errno
 flags_refusal privileged flags =
     first_error ((has_other_flags flags, Einval) ∷ (moves_all flags && not privileged, Eperm) ∷ [])
 
--- no such process; one of another user, for a caller without privilege
+-- ESRCH: no such process; EPERM: a process of another user, without privilege
 abbrev pub right_refusal : ProcessInfo → Option ProcessInfo → Option Errno
 right_refusal caller None = Some Esrch
 right_refusal caller (Some owner) = if (caller.uid == owner.uid) || caller.privileged then None else Some Eperm
 
--- no such caller; then the flags; then the right to act on the process
+-- ESRCH: no such caller. Then the flags, then the right to act on the process
 abbrev pub asking_refusal : Option ProcessInfo → Option ProcessInfo → ℕ → Option Errno
 asking_refusal None owner flags = Some Esrch
 asking_refusal (Some caller) owner flags = earlier (flags_refusal caller.privileged flags) (right_refusal caller owner)
 
--- what is fixed of a process, if it is there
+-- what `spawn` fixed of a process, if it exists
 abbrev pub info_at : State → ℕ → Option ProcessInfo
 info_at s pid = option_map info_of (get nat_cmp s.processes pid)
 
--- the refusal of a look at the pages of a process
+-- the refusal of a query about a process's pages
 abbrev pub query_refusal : State → ℕ → ℕ → ℕ → Option Errno
 query_refusal s caller pid flags = asking_refusal (info_at s caller) (info_at s (owner_of caller pid)) flags
 
@@ -53,14 +53,14 @@ query_refusal s caller pid flags = asking_refusal (info_at s caller) (info_at s 
 abbrev pub names_missing_node : State → List ℕ → Bool
 names_missing_node s nodes = list_any (nat_le (node_count s.layout)) nodes
 
--- whether a set has a node outside another one
+-- whether a set has a node that another set does not have
 abbrev pub goes_beyond : List ℕ → List ℕ → Bool
 goes_beyond allowed nodes = list_any (λ n. not (is_in allowed n)) nodes
 
--- what is online and allowed of a set
+-- the online and allowed nodes of a set
 abbrev pub usable : State → List ℕ → List ℕ → List ℕ
 usable s allowed nodes = filter (λ n. is_in s.online n && is_in allowed n) nodes
 
--- whether a set has no node
+-- whether a set is empty
 abbrev pub is_none : List ℕ → Bool
 is_none nodes = length nodes == 0

@@ -1,23 +1,23 @@
--- What a system is, as its calls see it.
+-- A system, as its calls see it.
 use Rattle.std.specs.Prelude.{ℕ}
 use Rattle.nm_types.specs.Layout.{Layout}
 use Rattle.nm_types.specs.State.{State}
 use Rattle.nm_model.specs.definitions.Effect.{new_machine}
 
--- the state of its machine, and how many entries a run has at most
+-- the state of its machine, and the most entries that a run may have
 pub record SystemState : Type 0 where
   pub state : State
   pub run_limit : ℕ
 
--- how many entries a run has at most where nothing is said: as many as a batch
+-- the most entries that a run may have by default: as many as a batch
 abbrev pub default_limit : ℕ
 default_limit = 16384
 
--- a new machine of these nodes, with this limit
+-- a new machine with these nodes, and this limit on runs
 abbrev pub system_with : Layout → ℕ → SystemState
 system_with layout limit = record { state = new_machine layout; run_limit = limit }
 
--- .. and where nothing is said of runs
+-- ... and with the default limit
 abbrev pub new_system : Layout → SystemState
 new_system layout = system_with layout default_limit
 

@@ -1,4 +1,4 @@
--- Calls and their answers, without where they lie in memory.
+-- Calls and answers of the code, as the definitions have them.
 use Rattle.std.specs.Prelude.{map}
 use Rattle.nm_calls.specs.declared.call.Call as values
 use Rattle.nm_calls.specs.declared.call.Call.TheVariants as call
@@ -10,7 +10,7 @@ use Rattle.nm_calls.specs.Batch.{shown_during}
 use Rattle.nm_calls.specs.Entries.{entries_mapped}
 use Rattle.nm_calls.specs.Maps.{lines_shown}
 
--- what a call asks
+-- a call, as the definitions have it
 abbrev pub call_of : {A : Type 0} → values.Call A → Call
 call_of (call.Spawn process) = Spawn process.pid process.uid process.home process.allowed process.privileged
 call_of (call.Map area) = MapPages area.pid area.addr area.pages area.shared
@@ -35,7 +35,7 @@ call_of (call.Pagemap pid) = Pagemap pid
 call_of call.Vmstat = Vmstat
 call_of (call.NumaMaps pid) = NumaMaps pid
 
--- the answer of a call
+-- an answer, as the definitions have it
 abbrev pub answer_of : {A : Type 0} → values_of_answers.Answer A → Answer
 answer_of answer.Done = Done
 answer_of (answer.Segment segment) = NewSegment segment

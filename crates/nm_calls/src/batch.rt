@@ -1,5 +1,5 @@
-//! A batch of pages to be moved: whether they may go there, and its runs, one after another, with the accesses that are made
-//! meanwhile.
+//! A batch of pages to move: whether they may go to their nodes, and its runs, one after another, with the accesses
+//! made meanwhile.
 
 ghost use Rattle.std.specs.Prelude.{◌≡◌, ◌<◌, ◌≤◌, ◌/◌, [], All, EachIndex, IfOk, OnOk, length, slice_index, vec_capacity, map};
 ghost use Rattle.std.specs.List.{sum_by};
@@ -25,8 +25,9 @@ use std::sync::Wait;
 use std::thread::Threads;
 use std::vec;
 
-/// Whether the pages of a process that may use the allowed nodes may go to these nodes; else the refusal of the first
-/// entry that is refused: ENODEV if there is no such node or it is offline, and then EACCES if it is not allowed.
+/// Whether the pages of a process that may use the allowed nodes may go to these nodes. If not, returns the refusal of
+/// the first entry that is refused: ENODEV if its node does not exist or is offline, or else EACCES if it is not
+/// allowed.
 pub(crate) fn check_targets<A: Allocator + Copy + Send + Sync>(
     machine: &Machine<A>,
     allowed: NodeMask,
@@ -38,7 +39,7 @@ pub(crate) fn check_targets<A: Allocator + Copy + Send + Sync>(
     check_batch(machine.node_count(), machine.online(), allowed, nodes)
 }
 
-/// The request for the page of a process at an address.
+/// The request for the page at an address of a process.
 fn request_of(pid: Pid, all: bool, address: u64, node: u32) -> Request
     ensures { result ≡ record { target = node; wanted = At pid (address / 4096) all } }
 {
@@ -49,7 +50,7 @@ fn request_of(pid: Pid, all: bool, address: u64, node: u32) -> Request
     }
 }
 
-/// The requests of a process at some addresses, each with the node at its place.
+/// The requests for some addresses of a process, each with the node at the same index.
 fn requests_of<A: Allocator + Copy + Send + Sync>(
     alloc: A,
     pid: Pid,
@@ -66,7 +67,7 @@ fn requests_of<A: Allocator + Copy + Send + Sync>(
         .collect(alloc)
 }
 
-/// How many runs a batch of pages for these nodes has, none of more entries than the limit. It takes no memory.
+/// How many runs a batch of pages for these nodes has under a limit of at least 1 entry in each run. Does not allocate.
 pub fn run_count(nodes: &[u32], limit: usize) -> usize
     requires { 0 < limit }
     ensures { result ≡ run_count limit nodes.now }
@@ -74,10 +75,9 @@ pub fn run_count(nodes: &[u32], limit: usize) -> usize
     nm_runs::run_count(nodes, limit)
 }
 
-/// Makes runs one after another, whose pages a crew copies, and puts the statuses into a list that has room
-/// for them. The accesses are made meanwhile, each in the run of its number. All memory is asked for before the first
-/// run starts, but for what a run itself needs. An error means that the host refused memory, and says after how many
-/// runs.
+/// Makes runs one after another, with a crew that copies their pages, and puts the statuses into a list that has room
+/// for them. The accesses are made meanwhile, each in the run with its number. Allocates before the first run starts,
+/// except for what a run itself needs. An error means that the host is out of memory, and says after how many runs.
 #[tactic(auto, using(crate::proofs::Trails::first_state))]
 pub(crate) fn move_runs<
     R: Threads + Wait + Sync,
@@ -119,9 +119,9 @@ pub(crate) fn move_runs<
     })
 }
 
-/// Moves the pages of a batch, run after run, with at most `limit` entries in a run. The runs and
-/// the lists are made before the first run starts, so that memory for them is not refused in the middle. An error means
-/// that the host refused memory, and says after how many runs.
+/// Moves the pages of a batch, run after run, with at most `limit` entries in each run. The runs and lists are made
+/// before the first run starts, so that memory for them cannot be refused halfway. An error means that the host is out
+/// of memory, and says after how many runs.
 #[tactic(auto, using(crate::proofs::Trails::first_state))]
 pub(crate) fn move_batch<
     R: Threads + Wait + Sync,
@@ -150,7 +150,7 @@ pub(crate) fn move_batch<
     move_runs(crew, alloc, machine, runs, during, statuses)
 }
 
-/// The same access, with bytes of its own.
+/// The same access with bytes of its own.
 fn copy_of<A: Allocator + Copy>(alloc: A, access: &Access<A>) -> Result<Access<A>, AllocError>
     ensures { IfOk result (λ copy. access_shown copy ≡ access_shown access.now) }
 {
@@ -168,7 +168,7 @@ fn copy_of<A: Allocator + Copy>(alloc: A, access: &Access<A>) -> Result<Access<A
     }
 }
 
-/// The accesses of each of the first `count` runs, those of a run in their order.
+/// The accesses of each of the first `count` runs, each run's in order.
 pub(crate) fn by_run<A: Allocator + Copy + Send + Sync>(
     alloc: A,
     during: &[InFlight<A>],

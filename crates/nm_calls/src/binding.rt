@@ -1,4 +1,4 @@
-//! The policy of a range, as `mbind(2)` sets it: what is refused, and what is done in which order.
+//! The policy of a range, as mbind(2) sets it: what is refused, and what is done in which order.
 
 ghost use Rattle.std.specs.Prelude.{◌≡◌, ◌+◌, ◌-◌, ◌^◌, ◌<◌, ◌≤◌, ◌&&◌, not, IfOk, None, length, true};
 ghost use Rattle.std.specs.List.{AllByRecursion, list_any};
@@ -22,7 +22,7 @@ use std::alloc::{AllocError, Allocator};
 use std::sync::Wait;
 use std::thread::Threads;
 
-// The modes of `mbind(2)` by their numbers.
+// The modes of mbind(2), by their numbers.
 const MPOL_DEFAULT: u32 = 0;
 
 const MPOL_PREFERRED: u32 = 1;
@@ -33,20 +33,20 @@ const MPOL_INTERLEAVE: u32 = 3;
 
 const MPOL_LOCAL: u32 = 4;
 
-/// A range of page numbers of a process, and the policy that it is to have.
+/// A range of a process's page numbers, and the policy that it gets.
 #[derive(Clone, Copy)]
 pub(crate) struct Binding {
-    /// The process.
+    /// The process's number.
     pub(crate) pid: Pid,
     /// The first page number.
     pub(crate) first: Vpn,
-    /// The one after the last.
+    /// The page number after the last.
     pub(crate) end: Vpn,
     /// The policy.
     pub(crate) policy: Policy,
 }
 
-/// The lowest node is preferred, or the nearest where there is none.
+/// The lowest node is preferred, or the nearest if there is none.
 fn preferred(nodes: NodeMask) -> Policy
     ensures { result ≡ preferred nodes }
 {
@@ -73,8 +73,8 @@ fn policy_of(mode: u32, nodes: NodeMask) -> Policy
     }
 }
 
-/// Whether a mode takes this set of nodes: MPOL_DEFAULT and MPOL_LOCAL take none, MPOL_BIND and MPOL_INTERLEAVE need
-/// some.
+/// Whether a mode takes this set of nodes: MPOL_DEFAULT and MPOL_LOCAL take none, MPOL_BIND and MPOL_INTERLEAVE need at
+/// least one.
 fn fits(mode: u32, nodes: NodeMask) -> bool
     ensures { result ≡ not (is_misfit mode nodes) }
 {
@@ -88,7 +88,7 @@ fn fits(mode: u32, nodes: NodeMask) -> bool
 /// What a caller asks for with a mode, a set of nodes and flags.
 #[derive(Clone, Copy)]
 pub(crate) struct Asked {
-    /// The policy, with the nodes that are kept: those that are online and that the caller may use.
+    /// The policy, with the nodes that it keeps: those that are online and that the caller may use.
     pub(crate) policy: Policy,
     /// The caller's home node.
     pub(crate) home: NodeId,
@@ -96,8 +96,8 @@ pub(crate) struct Asked {
     pub(crate) flags: MoveFlags,
 }
 
-/// Whether a mode is unknown, or nodes do not fit it, or one of them is not in the machine, or none of them is online
-/// and may be used.
+/// Whether a mode is unknown, nodes do not fit it, one of them is not in the machine, or none of them is online and
+/// allowed.
 fn is_bad_set<A: Allocator + Copy + Send + Sync>(
     machine: &Machine<A>,
     allowed: NodeMask,
@@ -112,9 +112,9 @@ fn is_bad_set<A: Allocator + Copy + Send + Sync>(
     nodes.len() != 0 && usable(machine, allowed, nodes).len() == 0
 }
 
-/// What a caller asks for. ESRCH (no such caller); EINVAL (a flag or a mode that is unknown, nodes that do not fit the
-/// mode, a node that the machine does not have, no node that is online and that the caller may use); EPERM
-/// (MPOL_MF_MOVE_ALL without privilege).
+/// What a caller asks for. Errors, in order: ESRCH (no such caller); EINVAL (an unknown flag or mode, nodes that do not
+/// fit the mode, a node that the machine does not have, no node that is online and allowed); EPERM (MPOL_MF_MOVE_ALL
+/// without privilege).
 fn asked_of<A: Allocator + Copy + Send + Sync>(
     machine: &Machine<A>,
     caller: Pid,
@@ -122,7 +122,10 @@ fn asked_of<A: Allocator + Copy + Send + Sync>(
     nodes: NodeMask,
     flags: u32,
 ) -> Result<Asked, Errno>
+    // In any case
     ensures exact { Checks result (mode_refusal machine.now (info_at machine.now caller) mode nodes flags) }
+
+    // On success
     ensures policy { IfOk result (λ asked. asked.policy ≡ policy_of mode (usable machine.now (allowed_to (info_at machine.now caller)) nodes)) }
     ensures home { IfOk result (λ asked. asked.home ≡ home_of (info_at machine.now caller)) }
     ensures flags { IfOk result (λ asked. asked.flags ≡ flags) }
@@ -158,8 +161,8 @@ fn wants_moves(flags: MoveFlags) -> bool
     flags.moves() || flags.moves_all()
 }
 
-/// The range of a policy. EINVAL and EFAULT as for `Machine::check_policy`; EIO (MPOL_MF_STRICT alone, and a page that the
-/// caller sees in the range is not where the policy wants it).
+/// The range of a policy. Errors, in order: EINVAL and EFAULT as for `Machine::check_policy`; EIO (MPOL_MF_STRICT
+/// without a flag to move, and a page that the caller sees in the range is not where the policy wants it).
 fn binding_of<A: Allocator + Copy + Send + Sync>(
     machine: &Machine<A>,
     caller: Pid,
@@ -188,7 +191,7 @@ fn binding_of<A: Allocator + Copy + Send + Sync>(
     })
 }
 
-/// What a call asks for, and the range of its policy. The refusals of `asked_of`, and then those of `binding_of`.
+/// What a call asks for, and the range of its policy. Returns the errors of `asked_of`, then those of `binding_of`.
 pub(crate) fn ready<A: Allocator + Copy + Send + Sync>(
     machine: &Machine<A>,
     caller: Pid,
@@ -198,7 +201,10 @@ pub(crate) fn ready<A: Allocator + Copy + Send + Sync>(
     nodes: NodeMask,
     flags: u32,
 ) -> Result<(Asked, Binding), Errno>
+    // In any case
     ensures exact { Checks result (mbind_refusal machine.now caller addr len mode nodes flags) }
+
+    // On success
     ensures free { IfOk result (λ r. policy_refusal machine.now caller addr len ≡ None) }
     ensures binding { IfOk result (λ r. r.1 ≡ binding machine.now caller addr len mode nodes) }
     ensures home { IfOk result (λ r. r.0.home ≡ home_of (info_at machine.now caller)) }
@@ -212,7 +218,7 @@ pub(crate) fn ready<A: Allocator + Copy + Send + Sync>(
     Ok((asked, binding))
 }
 
-/// The pages that are to move: none without a flag to move.
+/// The pages to move: none without a flag to move.
 fn listed<A: Allocator + Copy + Send + Sync>(
     alloc: A,
     machine: &Machine<A>,
@@ -228,7 +234,7 @@ fn listed<A: Allocator + Copy + Send + Sync>(
     Ok(Vec::new(alloc))
 }
 
-/// Whether MPOL_MF_STRICT asks for an error, since one of these pages is not where a policy wants it.
+/// Whether MPOL_MF_STRICT asks for an error because one of these pages is not where a policy wants it.
 fn is_late<A: Allocator + Copy + Send + Sync>(
     machine: &Machine<A>,
     policy: &Policy,
@@ -240,10 +246,10 @@ fn is_late<A: Allocator + Copy + Send + Sync>(
     flags.is_strict() && some_stray(machine, policy, pages)
 }
 
-/// Sets a policy, and moves the pages of its range that are not where it wants them, where the flags ask for it. The
-/// list of pages and the way in which they go are made before the policy is set, so that memory for them is not refused
-/// after it. EIO (MPOL_MF_STRICT and a flag to move, and a page is not where the policy wants it after the moves, which
-/// stay).
+/// Sets a policy and, if the flags ask for it, moves the pages of its range that are not where it wants them. The list
+/// of pages and their moves are prepared before the policy is set, so that memory for them cannot be refused after it.
+/// EIO if MPOL_MF_STRICT and a flag to move are given, and a page is not where the policy wants it after the moves,
+/// which remain.
 pub(crate) fn bind<R: Threads + Wait + Sync, A: Allocator + Copy + Send + Sync, G: Gate + Sync>(
     crew: &Crew<R, G>,
     alloc: A,

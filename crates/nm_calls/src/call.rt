@@ -1,4 +1,4 @@
-//! The calls of a system, and their answers, as values.
+//! The calls of a system and their answers, as values.
 
 ghost use Rattle.std.specs.Prelude.{◌≡◌, length};
 
@@ -6,60 +6,60 @@ use nm_engine::{AccessAnswer, Totals};
 use nm_types::{Access, FrameId, NodeId, NodeMask, Pid, Vpn};
 use std::alloc::Allocator;
 
-/// What a new process is.
+/// A new process.
 #[derive(Clone, Copy, Debug, PartialEq, Eq)]
 pub struct NewProcess {
-    /// Its number.
+    /// Its number: 1 to 2^32 - 1, and not that of a process that is alive.
     pub pid: Pid,
-    /// Its user.
+    /// Its user's number.
     pub uid: u32,
-    /// The node where its memory is placed at first.
+    /// Its home node, near which its memory is placed by default: a number below the machine's number of nodes.
     pub home: NodeId,
-    /// The nodes that it may use.
+    /// The nodes that it may use: at least one, all of the machine.
     pub allowed: NodeMask,
-    /// Whether it may act on the processes of others, as CAP_SYS_NICE lets it.
+    /// Whether it may act on other users' processes, as with CAP_SYS_NICE.
     pub privileged: bool,
 }
 
 /// An area over a new segment.
 #[derive(Clone, Copy, Debug, PartialEq, Eq)]
 pub struct NewArea {
-    /// Whose area it is.
+    /// The number of the process whose area it is.
     pub pid: Pid,
-    /// The address at which it begins, in bytes.
+    /// The address at which it begins, in bytes: a multiple of 4,096.
     pub addr: u64,
-    /// How many pages it has, and its segment.
+    /// The length of the area and of its segment in pages: at least 1, and ending at 2^47 at the latest.
     pub pages: u64,
     /// Whether other processes may attach the segment.
     pub shared: bool,
 }
 
-/// An area over a stretch of a shared segment.
+/// An area over a range of a shared segment.
 #[derive(Clone, Copy, Debug, PartialEq, Eq)]
 pub struct Attachment {
-    /// Whose area it is.
+    /// The number of the process whose area it is.
     pub pid: Pid,
-    /// The address at which it begins, in bytes.
+    /// The address at which it begins, in bytes: a multiple of 4,096.
     pub addr: u64,
-    /// The segment's number.
+    /// The segment's number: below 65,536.
     pub segment: u64,
-    /// The page of the segment that it shows first.
+    /// The index, in pages from 0, of the segment's page that the area shows first.
     pub offset: u64,
-    /// How many pages it has.
+    /// The length of the area in pages: at least 1, ending at 2^47 at the latest and within the segment.
     pub pages: u64,
 }
 
-/// Pages by an address in each, and for each the node that it is to move to: as many.
+/// Pages, each named by an address in it, and for each the node that it is to move to: two lists of equal length.
 #[derive(Debug, Drop)]
 pub struct Batch<A: Allocator + Copy + Send + Sync> {
-    /// An address in each page.
+    /// An address in each page, in bytes.
     pub pages: Vec<u64, A>,
-    /// The target of each page, which need not be a node of the machine.
+    /// The number of each page's target node. Numbers that are not of the machine are refused.
     pub nodes: Vec<u32, A>,
     pub ghost paired: { length pages.items ≡ length nodes.items },
 }
 
-/// A read or a write that is made while the pages of a run move.
+/// A read or a write made while the pages of a run move.
 #[derive(Debug, Drop)]
 pub struct InFlight<A: Allocator + Copy + Send + Sync> {
     /// The number of the run in its call, from 0. It must be below `run_count`: an access of a run that the call does
@@ -69,65 +69,66 @@ pub struct InFlight<A: Allocator + Copy + Send + Sync> {
     pub access: Access<A>,
 }
 
-/// Pages that are to move.
+/// Pages to move, as in move_pages(2).
 #[derive(Debug, Drop)]
 pub struct MoveRequest<A: Allocator + Copy + Send + Sync> {
-    /// Who calls.
+    /// The number of the calling process.
     pub caller: Pid,
-    /// Whose addresses are named: 0 is the caller.
+    /// The number of the process whose addresses are named. 0 means the caller.
     pub pid: Pid,
     /// The pages and their targets.
     pub batch: Batch<A>,
     /// The flags by their bits: MPOL_MF_MOVE is 2, MPOL_MF_MOVE_ALL is 4.
     pub flags: u32,
-    /// The accesses that are made meanwhile: those of a run one after another, in the order of the list.
+    /// The accesses to make meanwhile: those of one run are made one after another, in the order of this list.
     pub during: Vec<InFlight<A>, A>,
 }
 
-/// Nodes from which pages of a process are to move, and nodes to which they are to go.
+/// Nodes that pages of a process are to leave, and nodes that they are to go to, as in migrate_pages(2).
 #[derive(Clone, Copy, Debug, PartialEq, Eq)]
 pub struct MigrateRequest {
-    /// Who calls.
+    /// The number of the calling process.
     pub caller: Pid,
-    /// Whose pages: 0 is the caller.
+    /// The number of the process whose pages they are. 0 means the caller.
     pub pid: Pid,
-    /// The nodes that they leave.
+    /// The nodes that the pages leave, all of the machine.
     pub old: NodeMask,
-    /// The nodes to which they go.
+    /// The nodes that the pages go to, all of the machine.
     pub new: NodeMask,
 }
 
-/// A range of bytes of a process, and the policy that it is to have.
+/// A range of a process's bytes, and the policy that it is to get, as in mbind(2).
 #[derive(Clone, Copy, Debug, PartialEq, Eq)]
 pub struct MbindRequest {
-    /// Who calls, and whose range it is.
+    /// The number of the calling process, whose range it is.
     pub caller: Pid,
-    /// The address at which the range begins, in bytes.
+    /// The address at which the range begins, in bytes: a multiple of 4,096.
     pub addr: u64,
-    /// Its length in bytes, which is rounded up to whole pages.
+    /// Its length in bytes, rounded up to whole pages. 0 changes nothing.
     pub len: u64,
-    /// The mode by its number: MPOL_DEFAULT is 0, MPOL_PREFERRED 1, MPOL_BIND 2, MPOL_INTERLEAVE 3, MPOL_LOCAL 4.
+    /// The mode's number: MPOL_DEFAULT 0, MPOL_PREFERRED 1, MPOL_BIND 2, MPOL_INTERLEAVE 3, MPOL_LOCAL 4.
     pub mode: u32,
-    /// The nodes of the policy.
+    /// The nodes of the policy, all of the machine: none for MPOL_DEFAULT and MPOL_LOCAL, at least one for MPOL_BIND
+    /// and MPOL_INTERLEAVE.
     pub nodes: NodeMask,
     /// The flags by their bits: MPOL_MF_STRICT is 1, MPOL_MF_MOVE 2, MPOL_MF_MOVE_ALL 4.
     pub flags: u32,
 }
 
-/// Pages that are looked at.
+/// Pages to look at, as in move_pages(2) without nodes.
 #[derive(Debug, Drop)]
 pub struct Question<A: Allocator + Copy + Send + Sync> {
-    /// Who calls.
+    /// The number of the calling process.
     pub caller: Pid,
-    /// Whose addresses are named: 0 is the caller.
+    /// The number of the process whose addresses are named. 0 means the caller.
     pub pid: Pid,
-    /// An address in each page.
+    /// An address in each page, in bytes.
     pub pages: Vec<u64, A>,
-    /// The flags by their bits, as for pages that are to move.
+    /// The flags by their bits, as in `MoveRequest`.
     pub flags: u32,
 }
 
-/// A call of a system, with its arguments: `System::call` makes it.
+/// A call of a system with its arguments, for `System::call`.
 #[derive(Debug, Drop)]
 pub enum Call<A: Allocator + Copy + Send + Sync> {
     /// Makes a process.
@@ -138,64 +139,83 @@ pub enum Call<A: Allocator + Copy + Send + Sync> {
     Attach(Attachment),
     /// Unmaps pages from an address on.
     Unmap {
+        /// The process.
         pid: Pid,
+        /// The address of the first page, in bytes: a multiple of 4,096.
         addr: u64,
+        /// How many pages: at least 1, ending at 2^47 at the latest.
         pages: u64,
     },
     /// Ends a process.
     Exit {
+        /// The process.
         pid: Pid,
     },
-    /// Pins the page at an address once more.
+    /// Adds a pin to the page at an address.
     Pin {
+        /// The process.
         pid: Pid,
+        /// An address in the page, in bytes.
         addr: u64,
     },
-    /// Takes one pin off the page at an address.
+    /// Removes a pin from the page at an address.
     Unpin {
+        /// The process.
         pid: Pid,
+        /// An address in the page, in bytes.
         addr: u64,
     },
     /// Reads bytes at an address.
     Read {
+        /// The process.
         pid: Pid,
+        /// The address of the first byte.
         addr: u64,
+        /// How many bytes: 1 to 4,096, inside one page.
         len: u64,
     },
     /// Writes bytes at an address.
     Write {
+        /// The process.
         pid: Pid,
+        /// The address of the first byte.
         addr: u64,
+        /// The bytes to write: 1 to 4,096, inside one page.
         bytes: Vec<u8, A>,
     },
-    /// Moves pages, as `move_pages(2)`.
+    /// Moves pages, as move_pages(2) does.
     MovePages(MoveRequest<A>),
-    /// Moves the pages of a process from nodes to nodes, as `migrate_pages(2)`.
+    /// Moves a process's pages from nodes to nodes, as migrate_pages(2) does.
     MigratePages(MigrateRequest),
-    /// Sets the policy of a range, as `mbind(2)`.
+    /// Sets the policy of a range, as mbind(2) does.
     Mbind(MbindRequest),
-    /// Empties a node and takes it offline.
+    /// Moves all pages off a node, and takes it offline.
     Offline {
+        /// The node's number: below the machine's number of nodes.
         node: NodeId,
     },
     /// Brings a node online.
     Online {
+        /// The node's number: below the machine's number of nodes.
         node: NodeId,
     },
-    /// Asks where pages are, as `move_pages(2)` without nodes.
+    /// Asks where pages are, as move_pages(2) without nodes does.
     Query(Question<A>),
     /// Asks for the free frames of a node.
     FreeList {
+        /// The node's number: below the machine's number of nodes.
         node: NodeId,
     },
-    /// Asks for the entries of a process.
+    /// Asks for a process's entries.
     Pagemap {
+        /// The process.
         pid: Pid,
     },
-    /// Asks how many pages moved and how many entries failed so far.
+    /// Asks how many pages have moved and how many entries have failed.
     Vmstat,
-    /// Asks for the areas of a process as text.
+    /// Asks for a process's areas as text.
     NumaMaps {
+        /// The process.
         pid: Pid,
     },
 }
@@ -203,21 +223,22 @@ pub enum Call<A: Allocator + Copy + Send + Sync> {
 /// The answer to a batch.
 #[derive(Debug, Drop)]
 pub struct Moved<A: Allocator + Copy + Send + Sync> {
-    /// How many entries failed, for a pin or for lack of a free frame: those with status -16 or -12.
+    /// How many entries failed because of a pin or for lack of a free frame: those with status -16 or -12.
     pub failed: usize,
-    /// The status of each entry: the node where its page is, or an error's number with a minus sign.
+    /// The status of each entry, in order: the number of the node where its page is (0 to 63), or an error's number
+    /// with a minus sign.
     pub statuses: Vec<i32, A>,
-    /// The answers to the accesses that were made while pages moved, in the order in which they were asked for. One of a run
-    /// that the call does not make has none.
+    /// The answers to the accesses made while pages moved, in the order of the accesses. An access of a run that the
+    /// call does not make has none.
     pub answers: Vec<AccessAnswer<A>, A>,
 }
 
-/// An entry of a process, at a page number.
+/// An entry of a process.
 #[derive(Clone, Copy, Debug, PartialEq, Eq)]
 pub struct PagemapEntry {
-    /// The page number.
+    /// The page number: below 2^35.
     pub vpn: Vpn,
-    /// The frame, or None for the page of zeros.
+    /// The number of the frame, below 16,384, or None for the page of zeros.
     pub frame: Option<FrameId>,
 }
 
@@ -226,19 +247,19 @@ pub struct PagemapEntry {
 pub enum Answer<A: Allocator + Copy + Send + Sync> {
     /// Nothing to report.
     Done,
-    /// The number of a new segment.
+    /// The number of a new segment: below 65,536.
     Segment(u32),
     /// The bytes that were read.
     Bytes(Vec<u8, A>),
-    /// The statuses of a batch, or of pages that are looked at, where none failed.
+    /// The statuses of a batch, or of pages that were looked at, none of which count as failed.
     Statuses(Moved<A>),
-    /// How many pages failed to move, for a pin or for lack of a free frame.
+    /// How many pages failed to move because of a pin or for lack of a free frame.
     Failed(usize),
-    /// Frames, the front first.
+    /// Frames, front first.
     Frames(Vec<FrameId, A>),
-    /// The entries of a process, by address.
+    /// The entries of a process, in address order.
     Entries(Vec<PagemapEntry, A>),
-    /// How many pages moved and how many entries failed so far.
+    /// How many pages have moved and how many entries have failed.
     Totals(Totals),
     /// Lines of text, without line feeds.
     Lines(Vec<String<A>, A>),

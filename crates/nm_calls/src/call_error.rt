@@ -12,16 +12,16 @@ use thiserror::Error;
 /// Why a call failed.
 #[derive(Clone, Copy, Debug, PartialEq, Eq, Error)]
 pub enum CallError {
-    /// A rule of the machine refuses the call, which changed nothing. Two calls are refused after their moves, which
-    /// stay: `mbind` with EIO where it moves pages, and `offline` with EBUSY if a page stays.
+    /// A rule of the machine refuses the call, which has changed nothing. Two calls are refused after their moves,
+    /// which remain: `mbind` with EIO if it moves pages, and `offline` with EBUSY if a page stays.
     #[error("{0}")]
     Refused(Errno),
-    /// The host refused memory. The machine is as the first runs of the call left it, with the policy set or not.
+    /// The host is out of memory. The machine is as the first runs of the call left it, with the policy set or not.
     #[error("host memory refused after {runs} runs")]
     HostMemory {
-        /// How many runs of the call were made.
+        /// How many runs of the call were made: fewer than it has, and 0 if it has none.
         runs: usize,
-        /// Whether the call had set the policy of areas, as `mbind` does before its first run.
+        /// Whether the call had set the policy of areas, which `mbind` does before its first run.
         policy_set: bool,
     },
 }

@@ -1,4 +1,4 @@
-//! Calls that are given as values.
+//! Making calls that are given as values.
 
 ghost use Rattle.std.specs.Prelude.{map};
 ghost use Rattle.nm_engine.specs.Answering.{answer_shown};
@@ -55,7 +55,7 @@ fn map<A: Allocator + Copy + Send + Sync>(
     system.map(*pid, *addr, *pages, *shared)
 }
 
-/// Makes an area over a stretch of a shared segment.
+/// Makes an area over a range of a shared segment.
 fn attach<A: Allocator + Copy + Send + Sync>(
     system: &mut System<A>,
     area: &Attachment,
@@ -104,7 +104,7 @@ fn move_pages<R: Threads + Wait + Sync, A: Allocator + Copy + Send + Sync, G: Ga
     )
 }
 
-/// Moves the pages of a process from nodes to nodes.
+/// Moves a process's pages from nodes to nodes.
 fn migrate_pages<R: Threads + Wait + Sync, A: Allocator + Copy + Send + Sync, G: Gate + Sync>(
     rt: &R,
     system: &mut System<A>,
@@ -169,7 +169,7 @@ fn online<A: Allocator + Copy + Send + Sync>(
     Ok(Answer::Done)
 }
 
-/// Asks where pages are.
+/// Reports where pages are.
 fn query<A: Allocator + Copy + Send + Sync>(
     system: &System<A>,
     question: &Question<A>,
@@ -191,8 +191,8 @@ fn query<A: Allocator + Copy + Send + Sync>(
 }
 
 impl<A: Allocator + Copy + Send + Sync> System<A> {
-    /// Makes a call that is given as a value. It is refused as the method of the same name is, and leaves the same
-    /// behind if the host is out of memory. The workers of a call that moves pages pass the gate.
+    /// Makes a call that is given as a value. It returns the same errors as the method of the same name, and leaves the
+    /// same state if the host is out of memory. The workers of a call that moves pages call the gate.
     pub fn call<R: Threads + Wait + Sync, G: Gate + Sync>(
         &mut self,
         rt: &R,

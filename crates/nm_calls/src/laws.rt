@@ -1,4 +1,4 @@
-//! What holds of every call, as the contracts of functions that do nothing.
+//! What holds for every call. Each function does nothing, and its contract is the law.
 
 ghost use Rattle.nm_calls.specs.Laws.{RefusalsChangeNothing, TrailIsAfterRuns, CallsStaySound, CallsKeepMemory, TrailKeepsMemory, WithoutAccessesNone, AnswersGoByPlace, EachAccessIsAnswered};
 ghost use Rattle.nm_calls.specs.MigrateLaws.{EachPageIsListedOnce, RunsGoToNodesOnline};
@@ -10,32 +10,32 @@ ghost use Rattle.nm_calls.specs.OfflineRows.{PagesLeaveTheNode, NothingIsTakenOf
 ghost use Rattle.nm_calls.specs.DuringRows.{FramesAreReserved, AccessFindsNoFrame, HeldAtEachAddress, RefusedBeforeHeld, RefusedCallsMakeNone, AnsweredInOrder, LimitMakesRuns};
 ghost use Rattle.nm_calls.specs.BindingRows.{PinnedPageIsTold, StrictAloneRefuses, StayingIsNoError, LinesAreSplit, NewPagesTakeTurns, BoundPagesGoNowhereElse, SecondPassTakesTheRest, FollowersStay, StrayPagesTakeTurns, BindingsAreRefused, LastByteCounts, TurnsGoByIndex, StrayIsListedOnce, SharedPagesMoveWithAll, SetsAsText, BothProcessesAreCounted, LastPage};
 
-/// A call that is refused leaves the system as it was, but for EIO of mbind(2) with MPOL_MF_STRICT and a flag to move, and
-/// EBUSY of a node that is to go offline.
+/// A call that is refused leaves the system as it was, except for EIO of mbind(2) with MPOL_MF_STRICT and a flag to
+/// move, and EBUSY of taking a node offline.
 pub fn refusals_change_nothing()
     ensures { RefusalsChangeNothing }
 {}
 
-/// The states in which a call may leave the system if the host is out of memory are those after its first runs.
+/// The states in which running out of host memory may leave the system are those after a call's first runs.
 pub fn trail_is_after_runs()
     ensures { TrailIsAfterRuns }
 {}
 
-/// A sound system stays sound, whatever is called, and whether the call is refused or not.
+/// A sound system stays sound, whatever call is made, and whether or not it is refused.
 pub fn calls_stay_sound()
     ensures { CallsStaySound }
 {}
 
-/// No call but a write, and those by which areas come or go, changes a byte that a process has, whether the call ends
+/// No call except a write, and those that add or remove areas, changes a byte that a process has, whether the call ends
 /// or the host runs out of memory in it. Where accesses are made while pages move, each byte is that of the last write
-/// which was done there, or else what it was before.
+/// made there, or else the same as before.
 pub fn calls_keep_memory()
     ensures calls { CallsKeepMemory }
     ensures trail { TrailKeepsMemory }
     ensures none { WithoutAccessesNone }
 {}
 
-/// `migrate_pages` lists no page twice, and each of its runs goes to a node that is online.
+/// `migrate_pages` lists no page twice, and each of its runs goes to an online node.
 pub fn migrations_are_lists()
     ensures once { EachPageIsListedOnce }
     ensures online { RunsGoToNodesOnline }
@@ -77,14 +77,14 @@ pub fn each_page_is_listed_once()
     ensures { NoStrayIsListedTwice }
 {}
 
-/// Runs and passes are the same whatever set of nodes is online: it makes no difference whether a node goes offline
-/// before its pages leave it, or after.
+/// Runs and passes are the same whichever nodes are online: a node may go offline before its pages leave it, or after.
 pub fn runs_ignore_online()
     ensures { RunsIgnoreOnline }
 {}
 
-/// What a pass leaves without a frame is left by a pass over another node too, if that has no free frame and none of it
-/// stands there: the failures grow by its number, and nothing else changes. How many runs that is goes by its number.
+/// Pages that a pass leaves without a frame are also left by a pass over another node, if that has no free frame and
+/// none of these pages: only the total of failures grows, by their number. How many runs such a pass has depends on
+/// their number alone.
 pub fn full_nodes_take_none()
     ensures full { FullNodeTakesNone }
     ensures left { LeftWouldMove }
@@ -93,7 +93,7 @@ pub fn full_nodes_take_none()
     ensures next { NextPassTakesNone }
 {}
 
-/// Worked examples of nodes that go offline and come online.
+/// Worked examples of taking nodes offline and bringing them online.
 pub fn nodes_go_offline()
     ensures pages_leave_the_node { PagesLeaveTheNode }
     ensures nothing_is_taken_offline { NothingIsTakenOffline }
@@ -114,14 +114,14 @@ pub fn areas_are_told()
     ensures last_page { LastPage }
 {}
 
-/// The answer to an access in flight is that of its run's answers whose place is the number of accesses before it that name
-/// the same run; and where each access names a run that is made, each has one.
+/// The answer to an access in flight is the one among its run's answers whose index is the number of earlier accesses
+/// that name the same run. If each access names a run that is made, each has an answer.
 pub fn answers_go_by_place()
     ensures place { AnswersGoByPlace }
     ensures each { EachAccessIsAnswered }
 {}
 
-/// Worked examples of accesses that are made while pages move.
+/// Worked examples of accesses made while pages move.
 pub fn accesses_meet_moves()
     ensures frames_are_reserved { FramesAreReserved }
     ensures access_finds_no_frame { AccessFindsNoFrame }

@@ -1,4 +1,4 @@
-//! The calls of the modelled machine: the refusals and answers of `move_pages(2)` and of the calls around it.
+//! The calls of the modelled machine: the errors and answers of move_pages(2) and the calls around it.
 #![tactic(auto)]
 
 mod batch;

@@ -1,4 +1,4 @@
-//! The areas of a process as text.
+//! A process's areas as text.
 
 ghost use Rattle.std.specs.Prelude.{◌≡◌, ℕ, ◌+◌, ◌++◌, ◌∷◌, ◌<◌, ◌≤◌, ◌^◌, All, Some, IfOk, OnOk, length, map, string_bytes, slice_index};
 ghost use Rattle.nm_types.specs.Layout.{node_count};
@@ -34,7 +34,7 @@ fn push_comma<A: Allocator>(line: &mut String<A>, wanted: bool) -> Result<(), Al
     if wanted { line.push_str(",") } else { Ok(()) }
 }
 
-/// Appends one node, or the first and the last of several, after a comma, if it is wanted.
+/// Appends a single node, or the first and last of several, after a comma, if it is wanted.
 fn push_stretch<A: Allocator>(
     line: &mut String<A>,
     behind: bool,
@@ -91,14 +91,14 @@ fn push_policy<A: Allocator>(line: &mut String<A>, policy: Policy) -> Result<(),
     }
 }
 
-/// What is counted of the pages that a process sees in an area.
+/// The counts of the pages that a process sees in an area.
 #[derive(Clone, Copy)]
 struct Tally {
-    /// How many there are.
+    /// How many pages there are.
     pages: u64,
-    /// The greatest number of processes that see one of them.
+    /// The greatest number of processes that see one of the pages.
     most: usize,
-    /// How many are on each node.
+    /// How many pages are on each node.
     on: [u64; 64],
 }
 
@@ -128,13 +128,15 @@ fn tally_of<A: Allocator + Copy + Send + Sync>(machine: &Machine<A>, pages: &[Lo
     }
 }
 
-/// Counts the pages that a process sees in an area. It walks once over what the process has there.
+/// Counts the pages that a process sees in an area. Walks once over what the process has there.
 fn count_pages<A: Allocator + Copy + Send + Sync>(
     machine: &Machine<A>,
     pid: Pid,
     area: &Line,
 ) -> Result<Tally, AllocError>
     requires { area.now.first + area.now.pages < 2 ^ 64 }
+
+    // On success
     ensures pages { IfOk result (λ tally. tally.pages ≡ length (pages_of machine.now pid area.now)) }
     ensures most { IfOk result (λ tally. tally.most ≡ most_users machine.now (pages_of machine.now pid area.now)) }
     ensures on { IfOk result (λ tally. (node : ℕ) → node < 64 → slice_index tally.on node ≡ count_on (pages_of machine.now pid area.now) node) }
@@ -171,7 +173,7 @@ fn push_nodes<A: Allocator>(
     Ok(())
 }
 
-/// Appends what was counted, if there are pages.
+/// Appends the counts, if there are pages.
 fn push_tally<A: Allocator>(
     line: &mut String<A>,
     tally: &Tally,
@@ -210,7 +212,7 @@ fn area_text<A: Allocator + Copy + Send + Sync>(
     Ok(line)
 }
 
-/// Areas of a process as text.
+/// A process's areas as text.
 pub(crate) fn areas_text<A: Allocator + Copy + Send + Sync>(
     alloc: A,
     machine: &Machine<A>,

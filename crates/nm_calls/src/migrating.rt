@@ -1,4 +1,4 @@
-//! What moves from nodes to nodes, as by `migrate_pages(2)`: whether it may, and its runs.
+//! Moving pages from nodes to nodes, as migrate_pages(2) does: whether it is allowed, and its runs.
 
 ghost use Rattle.std.specs.Prelude.{◌≡◌, ◌<◌, ◌≤◌, [], IfOk, IsSome, Some};
 ghost use Rattle.std.specs.List.{AllByRecursion};
@@ -25,19 +25,19 @@ use std::alloc::Allocator;
 use std::sync::Wait;
 use std::thread::Threads;
 
-/// What a caller moves.
+/// What a caller may move.
 #[derive(Clone, Copy)]
 pub(crate) struct Migration {
-    /// The process whose pages go.
+    /// The number of the process whose pages move.
     pub(crate) pid: Pid,
-    /// Whether pages go though other processes see them.
+    /// Whether pages move even if other processes see them.
     pub(crate) all: bool,
-    /// The nodes to which they go: those that were named, are online, and may be used by the process.
+    /// The nodes that they go to: those named that are online and that the process may use.
     pub(crate) targets: NodeMask,
 }
 
-/// The nodes to which the pages of a process may go, of those that a caller names. EPERM (one that the process may not
-/// use, without privilege); EINVAL (none that is online and may be used).
+/// Which of the nodes that a caller names the pages of a process may go to. Errors, in order: EPERM (a node that the
+/// process may not use, without privilege); EINVAL (no node that is online and allowed).
 #[tactic(auto, using(crate::proofs::Reach::beyond_is, crate::proofs::Reach::none_is))]
 fn targets_of<A: Allocator + Copy + Send + Sync>(
     machine: &Machine<A>,
@@ -58,10 +58,10 @@ fn targets_of<A: Allocator + Copy + Send + Sync>(
     Ok(targets)
 }
 
-/// What a caller may move of a process, where pid 0 is the caller, to some nodes. ESRCH (no such caller); EINVAL (a
-/// node that the machine does not have); ESRCH (no such process); EPERM (a process of another user, without privilege);
-/// EPERM (a new node that the process may not use, without privilege); EINVAL (no new node that is online and may be
-/// used).
+/// What a caller may move of a process to some nodes. Pid 0 means the caller. Errors, in order: ESRCH (no such caller);
+/// EINVAL (a node that the machine does not have); ESRCH (no such process); EPERM (a process of another user, without
+/// privilege); EPERM (a new node that the process may not use, without privilege); EINVAL (no new node that is online
+/// and allowed).
 pub(crate) fn migration_of<A: Allocator + Copy + Send + Sync>(
     machine: &Machine<A>,
     caller: Pid,
@@ -69,7 +69,10 @@ pub(crate) fn migration_of<A: Allocator + Copy + Send + Sync>(
     old: NodeMask,
     new: NodeMask,
 ) -> Result<Migration, Errno>
+    // In any case
     ensures exact { Checks result (migrate_refusal machine.now caller pid old new) }
+
+    // On success
     ensures list { IfOk result (λ m. migration machine.now caller pid old new ≡ migrate_list machine.now m.pid m.all (pairs old m.targets)) }
     ensures there { IfOk result (λ m. IsSome (info_at machine.now m.pid)) }
     ensures nodes { IfOk result (λ m. AllByRecursion (λ n. n < node_count (machine.now.layout)) m.targets) }
@@ -91,8 +94,9 @@ pub(crate) fn migration_of<A: Allocator + Copy + Send + Sync>(
     })
 }
 
-/// Moves the pages of a process from nodes to nodes, run after run, with at most `limit` requests in a run. The list of pages and all runs are made before the first run starts. An error means that the host
-/// refused memory, and says after how many runs.
+/// Moves a process's pages from nodes to nodes, run after run, with at most `limit` requests in each run. The list of
+/// pages and all runs are made before the first run starts. An error means that the host is out of memory, and says
+/// after how many runs.
 #[tactic(auto, using(crate::proofs::Trails::first_state))]
 pub(crate) fn migrate<R: Threads + Wait + Sync, A: Allocator + Copy + Send + Sync, G: Gate + Sync>(
     crew: &Crew<R, G>,

@@ -1,4 +1,4 @@
-//! Nodes that go offline: what is refused, which pages move, and their runs.
+//! Taking nodes offline: what is refused, which pages move, and their runs.
 
 ghost use Rattle.std.specs.Prelude.{◌≡◌, ◌<◌, ◌≤◌, ◌&&◌, All, IfOk, OnOk, length, map, true};
 ghost use Rattle.std.specs.List.{list_any};
@@ -21,7 +21,7 @@ use std::alloc::{AllocError, Allocator};
 use std::sync::Wait;
 use std::thread::Threads;
 
-/// The other nodes that are online.
+/// The other online nodes.
 fn others<A: Allocator + Copy + Send + Sync>(machine: &Machine<A>, node: NodeId) -> NodeMask
     ensures { result ≡ without_node machine.now.online node }
 {
@@ -30,7 +30,8 @@ fn others<A: Allocator + Copy + Send + Sync>(machine: &Machine<A>, node: NodeId)
     others
 }
 
-/// Whether a node may go offline, if its pages may leave it. EINVAL (no such node); EBUSY (no other node is online).
+/// Whether a node may go offline, if its pages can leave it. Errors, in order: EINVAL (no such node); EBUSY (no other
+/// node is online).
 pub(crate) fn check_offline<A: Allocator + Copy + Send + Sync>(
     machine: &Machine<A>,
     node: NodeId,
@@ -47,7 +48,7 @@ pub(crate) fn check_offline<A: Allocator + Copy + Send + Sync>(
     Ok(())
 }
 
-/// The other nodes that are online, by their distance from a node.
+/// The other online nodes, by their distance from a node.
 fn refuges<A: Allocator + Copy + Send + Sync>(
     alloc: A,
     machine: &Machine<A>,
@@ -63,14 +64,14 @@ fn refuges<A: Allocator + Copy + Send + Sync>(
     Ok(order)
 }
 
-/// What is wanted of a page, wherever it is seen.
+/// The request for a page, whoever sees it.
 fn whole(page: &Page) -> Wanted
     ensures { result ≡ Whole page.now }
 {
     Wanted::Whole(*page)
 }
 
-/// The same of pages.
+/// The same for several pages.
 fn wholes<A: Allocator + Copy>(alloc: A, pages: &[Page]) -> Result<Vec<Wanted, A>, AllocError>
     ensures { IfOk result (λ wanted. wanted.items ≡ map Whole pages.now) }
 {
@@ -102,9 +103,9 @@ fn some_on<A: Allocator + Copy + Send + Sync>(
     pages.iter().any(|page| is_on(machine, node, page))
 }
 
-/// Moves the pages of a node that is online to the others, in passes by their distance from it, and takes the node offline.
-/// All pages are listed before the first moves. EBUSY (a page is on the node still: the node is online, and what moved has
-/// moved). An error of the host leaves the first runs made, and the node online.
+/// Moves the pages of an online node to the others, in passes by their distance from it, and takes the node offline.
+/// All pages are listed before the first moves. EBUSY if a page is still on the node: the node is online, and the moves
+/// remain. If the host runs out of memory, the first runs remain, and the node is online.
 pub(crate) fn empty<R: Threads + Wait + Sync, A: Allocator + Copy + Send + Sync, G: Gate + Sync>(
     crew: &Crew<R, G>,
     alloc: A,

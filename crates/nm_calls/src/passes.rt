@@ -1,4 +1,4 @@
-//! Batches and passes: all that is wanted goes to one node after another, until it has found a free frame.
+//! Batches and passes: all requests go to one node after another, until they have found a free frame.
 
 ghost use Rattle.std.specs.Prelude.{◌≡◌, ◌^◌, ◌<◌, ◌≤◌, ℕ, All, [], IfOk, IfSome, Some, length, vec_capacity};
 ghost use Rattle.std.specs.List.{AllByRecursion};
@@ -25,16 +25,16 @@ use std::alloc::{AllocError, Allocator};
 use std::sync::Wait;
 use std::thread::Threads;
 
-/// What came of a batch.
+/// The result of a batch.
 #[derive(Drop)]
 pub(crate) struct Made<A: Allocator + Copy> {
     /// How many runs it had.
     pub(crate) runs: usize,
-    /// The status of each entry.
+    /// The status of each entry, in order.
     pub(crate) statuses: Vec<i32, A>,
 }
 
-/// Makes the runs of a batch, none of more entries than the limit.
+/// Makes the runs of a batch, each of at most `limit` entries.
 #[tactic(auto, using(crate::proofs::Trails::first_state))]
 pub(crate) fn make_batch<
     R: Threads + Wait + Sync,
@@ -70,7 +70,7 @@ pub(crate) fn make_batch<
     })
 }
 
-/// The request of something for a node.
+/// The request for this, with a node as its target.
 fn to_node(node: NodeId, wanted: &Wanted) -> Request
     ensures { result ≡ record { target = node; wanted = wanted.now } }
 {
@@ -80,7 +80,7 @@ fn to_node(node: NodeId, wanted: &Wanted) -> Request
     }
 }
 
-/// Requests of all that is wanted for one node.
+/// The requests for all of these, with one node as their target.
 fn all_to<A: Allocator + Copy>(
     alloc: A,
     node: NodeId,
@@ -91,12 +91,12 @@ fn all_to<A: Allocator + Copy>(
     wanted.iter().map(|page| to_node(node, page)).collect(alloc)
 }
 
-/// What came of a pass.
+/// The result of a pass.
 #[derive(Drop)]
 struct Pass<A: Allocator + Copy> {
     /// How many runs it had.
     runs: usize,
-    /// What found no free frame.
+    /// The requests that found no free frame.
     left: Vec<Wanted, A>,
 }
 
@@ -107,7 +107,7 @@ fn is_short(status: &i32) -> bool
     *status == -Errno::Enomem.number()
 }
 
-/// Appends what was wanted and found no free frame to an empty list that has room for it.
+/// Appends the requests that found no free frame to an empty list that has room for them.
 fn put_without_frame<A: Allocator + Copy>(
     wanted: &[Wanted],
     statuses: &[i32],
@@ -125,8 +125,8 @@ fn put_without_frame<A: Allocator + Copy>(
     }
 }
 
-/// Makes a pass: all that is wanted goes to one node. All memory is asked for before its first run starts, but for what
-/// a run itself needs.
+/// Makes a pass: all requests go to one node. Allocates before its first run starts, except for what a run itself
+/// needs.
 #[tactic(auto, using(crate::proofs::Trails::first_state))]
 fn make_pass<R: Threads + Wait + Sync, A: Allocator + Copy + Send + Sync, G: Gate + Sync>(
     crew: &Crew<R, G>,
@@ -153,18 +153,18 @@ fn make_pass<R: Threads + Wait + Sync, A: Allocator + Copy + Send + Sync, G: Gat
     })
 }
 
-/// What is wanted still.
+/// The requests that are left.
 #[derive(Drop)]
 pub(crate) struct Left<A: Allocator + Copy> {
-    /// The pages.
+    /// What they ask for.
     pub(crate) wanted: Vec<Wanted, A>,
     /// Whether a pass has found no free frame for any of them.
     pub(crate) tried: bool,
-    /// The nodes on which they stand, if that was asked since the last pass.
+    /// The nodes that their pages are on, if they were looked up since the last pass.
     pub(crate) standing: Option<NodeMask>,
 }
 
-/// The node on which what is wanted stands, if it is a page that has a frame.
+/// The node that the requested page is on, if it has a frame.
 fn place_of<A: Allocator + Copy + Send + Sync>(
     machine: &Machine<A>,
     wanted: &Wanted,
@@ -183,7 +183,7 @@ fn place_of<A: Allocator + Copy + Send + Sync>(
     }
 }
 
-/// The nodes below 64 on which this stands.
+/// The nodes below 64 that these pages are on.
 fn standing<A: Allocator + Copy + Send + Sync>(machine: &Machine<A>, wanted: &[Wanted]) -> NodeMask
     ensures { StandAmong machine.now result wanted.now }
 {
@@ -198,8 +198,8 @@ fn standing<A: Allocator + Copy + Send + Sync>(machine: &Machine<A>, wanted: &[W
     nodes
 }
 
-/// The nodes on which what is left stands, if a pass over a node finds a free frame for none of it: the node has none, and
-/// is none of these.
+/// The nodes that the pages left are on, if a pass over a node would find a free frame for none of them: the node has
+/// no free frame, and none of these pages is on it.
 fn lost_on<A: Allocator + Copy + Send + Sync>(
     machine: &Machine<A>,
     node: NodeId,
@@ -207,6 +207,8 @@ fn lost_on<A: Allocator + Copy + Send + Sync>(
 ) -> Option<NodeMask>
     requires node { node < node_count (machine.now.layout) }
     requires left { IsLeft machine.now left.now }
+
+    // If there are such nodes
     ensures full { IfSome result (λ nodes. free_list machine.now node ≡ []) }
     ensures lost { IfSome result (λ nodes. AllByRecursion (WouldMove machine.now node) left.now.wanted.items) }
     ensures standing { IfSome result (λ nodes. StandAmong machine.now nodes left.now.wanted.items) }
@@ -225,16 +227,16 @@ fn lost_on<A: Allocator + Copy + Send + Sync>(
     Some(nodes)
 }
 
-/// What came of the next pass.
+/// The result of the next pass.
 #[derive(Drop)]
 struct Next<A: Allocator + Copy> {
     /// How many runs it had.
     runs: usize,
-    /// What is left.
+    /// The requests that are left.
     left: Left<A>,
 }
 
-/// Makes the next pass. Where the node has no free frame, nothing is looked at that an earlier pass left: all of it fails.
+/// Makes the next pass. If the node has no free frame, nothing that an earlier pass left is looked at: all of it fails.
 fn next_pass<R: Threads + Wait + Sync, A: Allocator + Copy + Send + Sync, G: Gate + Sync>(
     crew: &Crew<R, G>,
     alloc: A,
@@ -248,9 +250,12 @@ fn next_pass<R: Threads + Wait + Sync, A: Allocator + Copy + Send + Sync, G: Gat
     requires alike { HasOneAll left.wanted.items }
     requires pages { 0 < length left.wanted.items }
     requires left { IsLeft machine.old left }
+
+    // In any case
     ensures runs { Batches result machine.old machine.new (cut_within limit (all_to node left.wanted.items))
         (λ next ran. (next.runs ≡ length (cut_within limit (all_to node left.wanted.items)))
         × (next.left.wanted.items ≡ without_frame left.wanted.items ran.statuses)) }
+    // On success
     ensures left { IfOk result (λ next. IsLeft machine.new next.left) }
 {
     if let Some(nodes) = lost_on(machine, node, &left) {
@@ -277,7 +282,7 @@ fn next_pass<R: Threads + Wait + Sync, A: Allocator + Copy + Send + Sync, G: Gat
     })
 }
 
-/// The same error after `made` more runs, and with the policy set or not. A refusal stays as it is.
+/// The same error after `made` more runs, with the policy set or not. A refusal is unchanged.
 pub(crate) fn later(error: CallError, made: usize, policy_set: bool) -> CallError
     requires { IsCounted error made }
     ensures { result ≡ later error made policy_set }
@@ -291,8 +296,8 @@ pub(crate) fn later(error: CallError, made: usize, policy_set: bool) -> CallErro
     }
 }
 
-/// Makes a pass over each node in turn, until nothing is left that found no free frame. `policy_set` says whether the
-/// call has set a policy, and is passed on in an error.
+/// Makes a pass over each node in turn, until every request has found a free frame or failed for another reason.
+/// `policy_set` says whether the call has set a policy, and is passed on in an error.
 pub(crate) fn make_passes<
     R: Threads + Wait + Sync,
     A: Allocator + Copy + Send + Sync,

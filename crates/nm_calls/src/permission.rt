@@ -1,4 +1,4 @@
-//! Who may act on the pages of a process.
+//! Who may act on a process's pages.
 
 ghost use Rattle.std.specs.Prelude.{◌≡◌, IfOk, Some};
 ghost use Rattle.nm_runs.specs.Targets.{Checks};
@@ -10,18 +10,18 @@ use nm_engine::{Machine, ProcessInfo};
 use nm_types::{Errno, MoveFlags, NodeMask, Pid};
 use std::alloc::Allocator;
 
-/// What a caller may do with the pages of a process.
+/// What a caller may do with a process's pages.
 #[derive(Clone, Copy)]
 pub(crate) struct Permit {
-    /// The process.
+    /// The process's number.
     pub(crate) pid: Pid,
     /// The nodes that it may use.
     pub(crate) allowed: NodeMask,
-    /// Whether pages move though other processes see them.
+    /// Whether pages move even if other processes see them.
     pub(crate) all: bool,
 }
 
-/// Whether the flags ask for pages that other processes see as well: EINVAL for a flag that is unknown, and then EPERM
+/// Whether the flags ask for pages that other processes also see. Errors, in order: EINVAL for an unknown flag; EPERM
 /// if they do so without privilege.
 fn asks_all(flags: u32, privileged: bool) -> Result<bool, Errno>
     ensures exact { Checks result (flags_refusal privileged flags) }
@@ -38,15 +38,15 @@ fn asks_all(flags: u32, privileged: bool) -> Result<bool, Errno>
     Ok(all)
 }
 
-/// Whose pages a call names, where pid 0 is the caller.
+/// The process whose pages a call names. Pid 0 means the caller.
 pub(crate) fn owner_of(caller: Pid, pid: Pid) -> Pid
     ensures { result ≡ owner_of caller pid }
 {
     if pid.number() == 0 { caller } else { pid }
 }
 
-/// What is fixed of a process on whose pages another may act: ESRCH (there is no such process); EPERM (it is of another
-/// user, and the other one has no privilege).
+/// What `spawn` fixed of a process, if another may act on its pages. Errors, in order: ESRCH (no such process); EPERM
+/// (it has another user, and the caller is not privileged).
 pub(crate) fn acted_on(
     asking: ProcessInfo,
     asked: Option<ProcessInfo>,
@@ -68,7 +68,7 @@ pub(crate) fn acted_on(
     Ok(asked)
 }
 
-/// What is online of a set, and may be used by a process.
+/// The nodes of a set that are online and that a process may use.
 #[tactic(auto, using(crate::proofs::Reach::usable_is))]
 pub(crate) fn usable<A: Allocator + Copy + Send + Sync>(
     machine: &Machine<A>,
@@ -80,16 +80,19 @@ pub(crate) fn usable<A: Allocator + Copy + Send + Sync>(
     nodes.intersection(machine.online()).intersection(allowed)
 }
 
-/// What a caller may do with the pages of a process, where pid 0 is the caller. ESRCH (no such caller); EINVAL (a flag
-/// that is unknown); EPERM (MPOL_MF_MOVE_ALL without privilege); ESRCH (no such process); EPERM (a process of another user
-/// without privilege).
+/// What a caller may do with a process's pages. Pid 0 means the caller. Errors, in order: ESRCH (no such caller);
+/// EINVAL (an unknown flag); EPERM (MPOL_MF_MOVE_ALL without privilege); ESRCH (no such process); EPERM (a process of
+/// another user, without privilege).
 pub(crate) fn permit_of<A: Allocator + Copy + Send + Sync>(
     machine: &Machine<A>,
     caller: Pid,
     pid: Pid,
     flags: u32,
 ) -> Result<Permit, Errno>
+    // In any case
     ensures exact { Checks result (query_refusal machine.now caller pid flags) }
+
+    // On success
     ensures pid { IfOk result (λ permit. permit.pid ≡ owner_of caller pid) }
     ensures all { IfOk result (λ permit. permit.all ≡ moves_all flags) }
     ensures allowed { IfOk result (λ permit. allowed_at machine.now (owner_of caller pid) ≡ Some permit.allowed) }

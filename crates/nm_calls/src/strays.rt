@@ -19,8 +19,8 @@ fn is_astray(policy: &Policy, page: &Located) -> bool
     !follows(*policy, page.node)
 }
 
-/// The first page that a process sees from one page number up to another and that is not where a policy wants it. It takes
-/// no memory.
+/// The first page that a process sees from one page number up to another that is not where a policy wants it. Does not
+/// allocate.
 pub(crate) fn stray_from<A: Allocator + Copy + Send + Sync>(
     machine: &Machine<A>,
     pid: Pid,
@@ -42,7 +42,7 @@ pub(crate) fn stray_from<A: Allocator + Copy + Send + Sync>(
     None
 }
 
-/// Those of some pages that are not where a policy wants them.
+/// Those of these pages that are not where a policy wants them.
 fn strays_among<A: Allocator + Copy>(
     alloc: A,
     policy: &Policy,
@@ -57,7 +57,7 @@ fn strays_among<A: Allocator + Copy>(
         .collect(alloc)
 }
 
-/// Pages without those that come before.
+/// The pages without repetition, each at its first place.
 fn once<A: Allocator + Copy>(alloc: A, pages: &[Located]) -> Result<Vec<Located, A>, AllocError>
     ensures list { IfOk result (λ all. all.items ≡ once pages.now) }
     ensures few { IfOk result (λ all. length all.items ≤ length pages.now) }
@@ -72,8 +72,8 @@ fn once<A: Allocator + Copy>(alloc: A, pages: &[Located]) -> Result<Vec<Located,
     Ok(all)
 }
 
-/// The pages that a process sees in a range and that are not where the policy wants them, by address, each at its
-/// lowest. It walks once over what the process has in the range.
+/// The pages that a process sees in a range that are not where the policy wants them, in address order, each at its
+/// lowest address. Walks once over what the process has in the range.
 pub(crate) fn astray<A: Allocator + Copy + Send + Sync>(
     alloc: A,
     machine: &Machine<A>,
@@ -93,7 +93,7 @@ pub(crate) fn astray<A: Allocator + Copy + Send + Sync>(
     once(alloc, strays.as_slice())
 }
 
-/// Whether a page is not where a policy wants it, wherever it has gone since it was found.
+/// Whether a page is not where a policy wants it, wherever it has moved since it was found.
 fn strays_now<A: Allocator + Copy + Send + Sync>(
     machine: &Machine<A>,
     policy: &Policy,

@@ -1,4 +1,4 @@
-//! A system: a machine, its limit on runs and its workers, and the calls that processes make on it.
+//! A system: a machine, its limit on runs and its workers, and the calls that processes make.
 
 ghost use Rattle.std.specs.Prelude.{◌≡◌, ◌<◌, ◌≤◌, true, [], IfOk, length, map};
 ghost use Rattle.nm_model.specs.definitions.Sound.{audited};
@@ -29,7 +29,7 @@ use std::marker::Model;
 use std::sync::Wait;
 use std::thread::Threads;
 
-/// Entries as a process's list shows them.
+/// Entries in the form that `pagemap` returns.
 fn mapped_of<A: Allocator + Copy>(
     alloc: A,
     entries: &[(Vpn, Entry)],
@@ -48,7 +48,7 @@ fn mapped_of<A: Allocator + Copy>(
     Ok(mapped)
 }
 
-/// Where the pages of a process at some addresses are.
+/// Where the pages at some addresses of a process are.
 fn statuses_of<A: Allocator + Copy + Send + Sync>(
     alloc: A,
     machine: &Machine<A>,
@@ -65,8 +65,8 @@ fn statuses_of<A: Allocator + Copy + Send + Sync>(
     Ok(statuses)
 }
 
-/// A machine of nodes, processes and pages, how many entries a run has at most, and how many workers copy. Contracts
-/// see its state, which is sound, and that limit: how many workers there are changes nothing that a call does or
+/// A machine of nodes, processes and pages, the most entries that a run may have, and the number of workers that copy.
+/// Contracts see its state, which is sound, and that limit: the number of workers changes nothing that a call does or
 /// returns.
 #[derive(Drop)]
 pub struct System<A: Allocator + Copy + Send + Sync> {
@@ -88,8 +88,9 @@ impl<A: Allocator + Copy + Send + Sync> Model for System<A> {
 }
 
 impl<A: Allocator + Copy + Send + Sync> System<A> {
-    /// A new machine, whose pages 1 to 64 workers copy, the caller and threads that each call starts: no process, every
-    /// node online, every frame free and its list in ascending order. An error means that the host is out of memory.
+    /// Makes a new machine, whose pages are copied by 1 to 64 workers, the caller and threads that each call starts: no
+    /// process, every node online, every frame free, and each free list in ascending order. An error means that the
+    /// host is out of memory.
     pub fn new(alloc: A, geometry: Geometry<A>, workers: usize) -> Result<Self, AllocError>
         requires { (0 < workers) × (workers ≤ 64) }
         ensures { IfOk result (λ system. system ≡ new_system geometry) }
@@ -97,8 +98,8 @@ impl<A: Allocator + Copy + Send + Sync> System<A> {
         System::with_run_limit(alloc, geometry, workers, MAX_BATCH)
     }
 
-    /// A new machine as by `new`, whose runs have at most `run_limit` entries, 1 to 16,384: a longer stretch of one
-    /// target is cut from its front. An error means that the host is out of memory.
+    /// Makes a new machine as `new` does, whose runs have at most `run_limit` entries, 1 to 16,384: a longer stretch
+    /// for one target is cut from its front. An error means that the host is out of memory.
     pub fn with_run_limit(
         alloc: A,
         geometry: Geometry<A>,
@@ -118,13 +119,16 @@ impl<A: Allocator + Copy + Send + Sync> System<A> {
         })
     }
 
-    /// Where its lists are made.
+    /// The allocator of its lists.
     pub(crate) fn allocator(&self) -> A {
         self.alloc
     }
 
-    /// Makes a process. Refusals in order: EINVAL (pid 0 or alive, a home that is not a node, no allowed node or one
-    /// beyond the machine), ENOMEM (1,024 processes are alive).
+    /// Makes a process, with the credentials and the cpuset of credentials(7), capabilities(7) and cpuset(7). Its home
+    /// node need be neither allowed nor online.
+    ///
+    /// Errors, in order: EINVAL (pid 0 or one that is alive, a home that is not a node, an allowed set that is empty or
+    /// has a node that the machine does not have); ENOMEM (1,024 processes are alive).
     #[tactic(auto, unfolding(crate::specs::Outcome::refused, crate::specs::Outcome::refused_at_once, crate::specs::Outcome::ended, crate::specs::Outcome::runs_asked, crate::specs::Outcome::start, crate::specs::Outcome::sets_policy, crate::specs::Outcome::accesses_asked), using(crate::proofs::Outcomes::answers, crate::proofs::Outcomes::refuses, crate::proofs::Outcomes::unchanged))]
     pub fn spawn(
         &mut self,
@@ -139,9 +143,11 @@ impl<A: Allocator + Copy + Send + Sync> System<A> {
         Ok(self.machine.spawn(pid, uid, home, allowed, privileged)?)
     }
 
-    /// Makes an area of `pages` pages over a new segment, private or shared, and returns the segment's number. Refusals
-    /// in order: ESRCH; EINVAL (an address in mid-page, no page, past 2^47, an area there); ENOMEM (no segment number
-    /// left).
+    /// Makes an area of `pages` pages from address `addr` on, over a new segment, private or shared, with the default
+    /// policy (mmap(2)). Returns the segment's number.
+    ///
+    /// Errors, in order: ESRCH (no such process); EINVAL (an address that is not a multiple of 4,096, no page, an end
+    /// past 2^47, an area in the way); ENOMEM (no segment number left).
     #[tactic(auto, unfolding(crate::specs::Outcome::refused, crate::specs::Outcome::refused_at_once, crate::specs::Outcome::ended, crate::specs::Outcome::runs_asked, crate::specs::Outcome::start, crate::specs::Outcome::sets_policy, crate::specs::Outcome::accesses_asked), using(crate::proofs::Outcomes::answers, crate::proofs::Outcomes::refuses, crate::proofs::Outcomes::unchanged))]
     pub fn map(&mut self, pid: Pid, addr: u64, pages: u64, shared: bool) -> Result<u32, CallError>
         ensures { Does NewSegment result self.old self.new (MapPages pid addr pages shared) }
@@ -149,9 +155,11 @@ impl<A: Allocator + Copy + Send + Sync> System<A> {
         Ok(self.machine.map(pid, addr, pages, shared)?)
     }
 
-    /// Makes an area over `pages` pages of a shared segment, from an offset in pages on. Refusals in order: ESRCH;
-    /// EINVAL (an address in mid-page, no page, past 2^47, an area there; or a segment that is unknown, gone or
-    /// private, or ends before the area would).
+    /// Makes an area of `pages` pages from address `addr` on, over a shared segment from `offset` on, in pages, with
+    /// the default policy (mmap(2), MAP_SHARED).
+    ///
+    /// Errors, in order: ESRCH (no such process); EINVAL (an address that is not a multiple of 4,096, no page, an end
+    /// past 2^47, an area in the way; or a segment that is unknown, gone or private, or ends before the area would).
     #[tactic(auto, unfolding(crate::specs::Outcome::refused, crate::specs::Outcome::refused_at_once, crate::specs::Outcome::ended, crate::specs::Outcome::runs_asked, crate::specs::Outcome::start, crate::specs::Outcome::sets_policy, crate::specs::Outcome::accesses_asked), using(crate::proofs::Outcomes::answers, crate::proofs::Outcomes::refuses, crate::proofs::Outcomes::unchanged))]
     pub fn attach(
         &mut self,
@@ -166,9 +174,11 @@ impl<A: Allocator + Copy + Send + Sync> System<A> {
         Ok(self.machine.attach(pid, addr, segment, offset, pages)?)
     }
 
-    /// Unmaps `pages` pages from an address on, among which there may be holes. A page that no area of any process
-    /// covers any more loses its frame, which goes to the end of its node's free list, by ascending address. Refusals
-    /// in order: ESRCH; EINVAL (an address in mid-page, no page, past 2^47); EBUSY (an area shows a pinned page there).
+    /// Unmaps `pages` pages from address `addr` on; the range may have holes (munmap(2)). Pages that no area of any
+    /// process covers lose their frames, which go to the ends of their nodes' free lists, in address order.
+    ///
+    /// Errors, in order: ESRCH (no such process); EINVAL (an address that is not a multiple of 4,096, no page, an end
+    /// past 2^47); EBUSY (an area shows a page with a pin there).
     #[tactic(auto, unfolding(crate::specs::Outcome::refused, crate::specs::Outcome::refused_at_once, crate::specs::Outcome::ended, crate::specs::Outcome::runs_asked, crate::specs::Outcome::start, crate::specs::Outcome::sets_policy, crate::specs::Outcome::accesses_asked), using(crate::proofs::Outcomes::answers, crate::proofs::Outcomes::refuses, crate::proofs::Outcomes::unchanged))]
     pub fn unmap(&mut self, pid: Pid, addr: u64, pages: u64) -> Result<(), CallError>
         ensures { Does (λ done. Done) result self.old self.new (Unmap pid addr pages) }
@@ -176,8 +186,9 @@ impl<A: Allocator + Copy + Send + Sync> System<A> {
         Ok(self.machine.unmap(pid, addr, pages)?)
     }
 
-    /// Ends a process, which lets go all its areas as by one `unmap`. Its pid may be used again. Refusals in order:
-    /// ESRCH; EBUSY (an area of it shows a pinned page).
+    /// Ends a process, which loses all its areas as by one `unmap`. Its pid may be used again.
+    ///
+    /// Errors, in order: ESRCH (no such process); EBUSY (one of its areas shows a page with a pin).
     #[tactic(auto, unfolding(crate::specs::Outcome::refused, crate::specs::Outcome::refused_at_once, crate::specs::Outcome::ended, crate::specs::Outcome::runs_asked, crate::specs::Outcome::start, crate::specs::Outcome::sets_policy, crate::specs::Outcome::accesses_asked), using(crate::proofs::Outcomes::answers, crate::proofs::Outcomes::refuses, crate::proofs::Outcomes::unchanged))]
     pub fn exit(&mut self, pid: Pid) -> Result<(), CallError>
         ensures { Does (λ done. Done) result self.old self.new (Exit pid) }
@@ -185,9 +196,10 @@ impl<A: Allocator + Copy + Send + Sync> System<A> {
         Ok(self.machine.exit(pid)?)
     }
 
-    /// Pins the page at an address once more, and takes no memory: the page stays in its frame until it is unpinned as
-    /// often. Refusals in order: ESRCH; EFAULT (no area, or the page of zeros); ENOENT (nothing was touched there); EBUSY
-    /// (65,535 pins).
+    /// Adds a pin to the page at an address: the page stays in its frame while it has one. Does not allocate.
+    ///
+    /// Errors, in order: ESRCH (no such process); EFAULT (no area, or the page of zeros); ENOENT (nothing was touched
+    /// there); EBUSY (65,535 pins).
     #[tactic(auto, unfolding(crate::specs::Outcome::refused, crate::specs::Outcome::refused_at_once, crate::specs::Outcome::ended, crate::specs::Outcome::runs_asked, crate::specs::Outcome::start, crate::specs::Outcome::sets_policy, crate::specs::Outcome::accesses_asked), using(crate::proofs::Outcomes::answers, crate::proofs::Outcomes::refuses, crate::proofs::Outcomes::unchanged))]
     pub fn pin(&mut self, pid: Pid, addr: u64) -> Result<(), Errno>
         ensures { DoesOrRefuses (λ done. Done) result self.old self.new (Pin pid addr) }
@@ -195,8 +207,9 @@ impl<A: Allocator + Copy + Send + Sync> System<A> {
         self.machine.pin(pid, addr)
     }
 
-    /// Takes one pin off the page at an address, whoever pinned it, and takes no memory. Refusals in order: ESRCH, EFAULT
-    /// and ENOENT as for `pin`; EINVAL (no pin).
+    /// Removes a pin from the page at an address, whoever added it. Does not allocate.
+    ///
+    /// Errors, in order: ESRCH, EFAULT and ENOENT as for `pin`; EINVAL (no pin).
     #[tactic(auto, unfolding(crate::specs::Outcome::refused, crate::specs::Outcome::refused_at_once, crate::specs::Outcome::ended, crate::specs::Outcome::runs_asked, crate::specs::Outcome::start, crate::specs::Outcome::sets_policy, crate::specs::Outcome::accesses_asked), using(crate::proofs::Outcomes::answers, crate::proofs::Outcomes::refuses, crate::proofs::Outcomes::unchanged))]
     pub fn unpin(&mut self, pid: Pid, addr: u64) -> Result<(), Errno>
         ensures { DoesOrRefuses (λ done. Done) result self.old self.new (Unpin pid addr) }
@@ -204,8 +217,11 @@ impl<A: Allocator + Copy + Send + Sync> System<A> {
         self.machine.unpin(pid, addr)
     }
 
-    /// Reads 1 to 4,096 bytes inside one page. Refusals in order: ESRCH, EINVAL (no byte, or past the page's end),
-    /// EFAULT (no area), ENOMEM (no free frame).
+    /// Reads 1 to 4,096 bytes inside one page. Memory never written reads as zeros; the first touch of shared memory
+    /// takes a frame (numa(7)).
+    ///
+    /// Errors, in order: ESRCH (no such process); EINVAL (no byte, or past the page's end); EFAULT (no area); ENOMEM
+    /// (no free frame).
     #[tactic(auto, unfolding(crate::specs::Outcome::refused, crate::specs::Outcome::refused_at_once, crate::specs::Outcome::ended, crate::specs::Outcome::runs_asked, crate::specs::Outcome::start, crate::specs::Outcome::sets_policy, crate::specs::Outcome::accesses_asked), using(crate::proofs::Outcomes::answers, crate::proofs::Outcomes::refuses, crate::proofs::Outcomes::unchanged))]
     pub fn read(&mut self, pid: Pid, addr: u64, len: u64) -> Result<Vec<u8, A>, CallError>
         ensures { Does (λ bytes. TheBytes bytes.items) result self.old self.new (ReadBytes pid addr len) }
@@ -213,7 +229,8 @@ impl<A: Allocator + Copy + Send + Sync> System<A> {
         Ok(self.machine.read(pid, addr, len)?)
     }
 
-    /// Writes 1 to 4,096 bytes inside one page. Refusals as for `read`.
+    /// Writes 1 to 4,096 bytes inside one page. The first write to a page takes a frame (numa(7)). Errors as for
+    /// `read`.
     #[tactic(auto, unfolding(crate::specs::Outcome::refused, crate::specs::Outcome::refused_at_once, crate::specs::Outcome::ended, crate::specs::Outcome::runs_asked, crate::specs::Outcome::start, crate::specs::Outcome::sets_policy, crate::specs::Outcome::accesses_asked), using(crate::proofs::Outcomes::answers, crate::proofs::Outcomes::refuses, crate::proofs::Outcomes::unchanged))]
     pub fn write(&mut self, pid: Pid, addr: u64, bytes: &[u8]) -> Result<(), CallError>
         ensures { Does (λ done. Done) result self.old self.new (WriteBytes pid addr bytes.now) }
@@ -221,29 +238,32 @@ impl<A: Allocator + Copy + Send + Sync> System<A> {
         Ok(self.machine.write(pid, addr, bytes)?)
     }
 
-    /// Moves pages, each named by an address in it, to the node of the same place in the list, as move_pages(2).
-    /// `nodes` is as long as `pages`. Pid 0 is the caller. Flags 0 act as MPOL_MF_MOVE (2): a page that another process
-    /// sees stays; with MPOL_MF_MOVE_ALL (4) it moves. The list is cut into its longest stretches of one target, and
-    /// each is a run, or several if it is longer than the limit.
+    /// Moves pages, each named by an address in it, to the node at the same index of `nodes`, as move_pages(2) does.
+    /// `nodes` must be as long as `pages`. Pid 0 means the caller. Flags 0 act as MPOL_MF_MOVE (2): a page that another
+    /// process sees stays; with MPOL_MF_MOVE_ALL (4) it moves. The list is cut into its longest stretches for one
+    /// target, and each is a run, or several if it is longer than the limit.
     ///
-    /// The status of an entry is the first that holds: -14 (EFAULT) no area; -2 (ENOENT) nothing was touched there; -14 the
-    /// page of zeros; the target's number, if the page is there; -13 (EACCES) another process sees it, without
-    /// MPOL_MF_MOVE_ALL; -16 (EBUSY) it is pinned; -12 (ENOMEM) the target has no free frame; and the target's number, where
-    /// the page moves. -16 and -12 count as failed. A frame that a run leaves is free when the run ends.
+    /// The status of an entry is the first that holds: -14 (EFAULT) no area; -2 (ENOENT) nothing was touched there; -14
+    /// the page of zeros; the target's number, if the page is there already; -13 (EACCES) another process sees it,
+    /// without MPOL_MF_MOVE_ALL; -16 (EBUSY) it has a pin; -12 (ENOMEM) the target has no free frame; otherwise the
+    /// target's number, and the page moves. -16 and -12 count as failed. A frame that a run leaves becomes free when
+    /// the run ends.
     ///
-    /// The accesses of `during` are made meanwhile, each in the run of its number, from 0: those of a run in their
-    /// order, once its frames are reserved and before those that its pages left are free. One to a page that its run
-    /// moves is held, and neither reads nor writes nor fills anything: on Linux it would find a migration entry, and
-    /// wait. Held comes after ESRCH, EINVAL and EFAULT, and before ENOMEM. Any other does what `read` or `write` would,
-    /// and has the same answer.
+    /// The accesses of `during` are made meanwhile, each in the run with its number, from 0: those of a run in order,
+    /// after its frames are reserved and before those that its pages left are free. An access to a page that its run
+    /// moves is held: it reads and writes nothing, and takes no frame. On Linux it would find a migration entry, and
+    /// wait (the kernel's Documentation/mm/page_migration.rst). Held comes after ESRCH, EINVAL and EFAULT, and before
+    /// ENOMEM. Any other access does what `read` or `write` would, with the same answer.
     ///
-    /// Returns the statuses in the list's order, how many entries failed, and the answers to the accesses in the order
-    /// of `during`. An access of a run that the call does not make has none: `run_count` says how many runs there are.
+    /// Returns the statuses in the order of the list, the number of entries that failed, and the answers to the
+    /// accesses in the order of `during`. An access of a run that the call does not make has none: `run_count` returns
+    /// how many runs there are.
     ///
-    /// Refusals in order, each before anything moves: ESRCH (unknown caller); EINVAL (a flag other than the two); EPERM
+    /// Errors, in order, each before anything moves: ESRCH (no such caller); EINVAL (a flag other than the two); EPERM
     /// (MPOL_MF_MOVE_ALL without privilege); ESRCH (no such process); EPERM (a process of another user, without
-    /// privilege); then for the first entry that is refused ENODEV (no such node, or it is offline) before EACCES (a node
-    /// that the process may not use, whoever calls). `HostMemory { runs, .. }` leaves the first runs made.
+    /// privilege); then for the first entry that is refused ENODEV (a node that does not exist or is offline) or else
+    /// EACCES (a node that the process may not use, whoever calls). After `HostMemory { runs, .. }` the first `runs`
+    /// runs remain.
     #[tactic(auto, unfolding(crate::specs::Outcome::refused, crate::specs::Outcome::refused_at_once, crate::specs::Outcome::ended, crate::specs::Outcome::runs_asked, crate::specs::Outcome::start, crate::specs::Outcome::sets_policy, crate::specs::Outcome::accesses_asked), using(crate::proofs::Outcomes::answers, crate::proofs::Outcomes::refuses, crate::proofs::Outcomes::unchanged, crate::proofs::Outcomes::host_leaves))]
     pub fn move_pages<R: Threads + Wait + Sync, G: Gate + Sync>(
         &mut self,
@@ -281,18 +301,18 @@ impl<A: Allocator + Copy + Send + Sync> System<A> {
         )
     }
 
-    /// Moves the pages that a process sees on the nodes of `old` to those of `new` that are online and that it may use,
-    /// as migrate_pages(2), and returns how many of them failed, for a pin or for lack of a free frame. Pid 0 is the
-    /// caller. Each node of `old` is paired with one of those, which take turns upwards; a node keeps its pages if it
-    /// is its own target, or if the sets differ in size and it is in the new one. The pages are listed before the first
-    /// moves, each once and at its lowest address: by pair, so that a chain of nodes is emptied from its end, and then
-    /// by address. Each stretch of the list with one target is a run, or several if it is longer than the limit. A page
-    /// that another process sees stays, and is no failure; a privileged caller moves it.
+    /// Moves the pages that a process sees on the nodes of `old` to those nodes of `new` that are online and that it
+    /// may use, as migrate_pages(2) does. Returns how many of them failed because of a pin or for lack of a free frame.
+    /// Pid 0 means the caller. Each node of `old` is paired with one of these nodes, which take turns in ascending
+    /// order; a node keeps its pages if it is its own target, or if the sets differ in size and it is in the new one.
+    /// The pages are listed before the first moves, each once at its lowest address: by pair, so that a chain of nodes
+    /// is emptied from its end, then by address. Each stretch of the list for one target is a run, or several if it is
+    /// longer than the limit. A page that another process sees stays, and is no failure; a privileged caller moves it.
     ///
-    /// Refusals in order, each before anything moves: ESRCH (unknown caller); EINVAL (a node that the machine does not
+    /// Errors, in order, each before anything moves: ESRCH (no such caller); EINVAL (a node that the machine does not
     /// have); ESRCH (no such process); EPERM (a process of another user, without privilege); EPERM (a node of `new`
-    /// that the process may not use, without privilege); EINVAL (no node of `new` is online and may be used by the
-    /// process). `HostMemory { runs, .. }` leaves the first runs made.
+    /// that the process may not use, without privilege); EINVAL (no node of `new` that is online and that the process
+    /// may use). After `HostMemory { runs, .. }` the first `runs` runs remain.
     #[tactic(auto, unfolding(crate::specs::Outcome::refused, crate::specs::Outcome::refused_at_once, crate::specs::Outcome::ended, crate::specs::Outcome::runs_asked, crate::specs::Outcome::start, crate::specs::Outcome::sets_policy, crate::specs::Outcome::accesses_asked), using(crate::proofs::Outcomes::answers, crate::proofs::Outcomes::refuses, crate::proofs::Outcomes::unchanged, crate::proofs::Outcomes::host_leaves))]
     pub fn migrate_pages<R: Threads + Wait + Sync, G: Gate + Sync>(
         &mut self,
@@ -312,25 +332,26 @@ impl<A: Allocator + Copy + Send + Sync> System<A> {
         Ok(moved.failed)
     }
 
-    /// Sets where the new pages of `len` bytes of the caller from an address on are placed, rounded up to whole pages,
-    /// as mbind(2). The modes are MPOL_DEFAULT (0), MPOL_PREFERRED (1), MPOL_BIND (2), MPOL_INTERLEAVE (3) and
-    /// MPOL_LOCAL (4). The set that is kept is what is online and allowed of `nodes`; MPOL_PREFERRED keeps its lowest
-    /// node, and is as MPOL_LOCAL without nodes. The areas are split at both ends of the range, and never merged. With
-    /// MPOL_MF_MOVE (2) or MPOL_MF_MOVE_ALL (4) the pages that the caller sees in the range and that are not where the
-    /// policy wants them are listed, each once and at its lowest address, and move: for MPOL_PREFERRED to its node; for
-    /// MPOL_INTERLEAVE each to the node whose turn it is by the page's index in its segment, by node and then by
-    /// address; for MPOL_BIND in passes over its nodes, the nearest to the caller's home first, where what finds no
-    /// free frame goes on to the next node. Each stretch of pages for one node is a run, or several if it is longer
-    /// than the limit. A page that another process sees stays, unless MPOL_MF_MOVE_ALL is given.
+    /// Sets where new pages of the caller are placed in the `len` bytes from address `addr` on, rounded up to whole
+    /// pages, as mbind(2) does. The modes are MPOL_DEFAULT (0), MPOL_PREFERRED (1), MPOL_BIND (2), MPOL_INTERLEAVE (3)
+    /// and MPOL_LOCAL (4). The policy keeps those of `nodes` that are online and allowed; MPOL_PREFERRED keeps the
+    /// lowest, and without nodes acts as MPOL_LOCAL. The areas are split at both ends of the range, and never merged.
+    /// With MPOL_MF_MOVE (2) or MPOL_MF_MOVE_ALL (4) the pages that the caller sees in the range and that are not where
+    /// the policy wants them are listed, each once at its lowest address, and move: for MPOL_PREFERRED to its node; for
+    /// MPOL_INTERLEAVE each to the node whose turn it is by the page's index in its segment, in the order of nodes and
+    /// then of addresses; for MPOL_BIND in passes over its nodes, the nearest to the caller's home first, and pages
+    /// that find no free frame go on to the next node. Each stretch of pages for one node is a run, or several if it is
+    /// longer than the limit. A page that another process sees stays, unless MPOL_MF_MOVE_ALL is given.
     ///
-    /// Refusals in order: ESRCH (unknown caller); EINVAL (a flag beyond 7; an unknown mode; nodes with MPOL_DEFAULT or
-    /// MPOL_LOCAL, or none with MPOL_BIND or MPOL_INTERLEAVE; a node that the machine does not have; nodes of which
-    /// none is online and allowed); EPERM (MPOL_MF_MOVE_ALL without privilege); EINVAL (an address in mid-page, or
-    /// `addr` plus `len` rounded up to whole pages is over 2^64 - 1); then a `len` of 0 changes nothing; EFAULT (a page
-    /// of the range without an area); EIO (MPOL_MF_STRICT (1) alone, and a page that the caller sees in the range is
-    /// not where the policy wants it). Each changes nothing. With MPOL_MF_STRICT and a flag to move, EIO is returned if
-    /// a listed page is not where the policy wants it after the moves: policy and moves stay.
-    /// `HostMemory { runs, policy_set }` leaves the first runs made, and the policy set where it says so.
+    /// Errors, in order: ESRCH (no such caller); EINVAL (a flag beyond 7; an unknown mode; nodes with MPOL_DEFAULT or
+    /// MPOL_LOCAL, or none with MPOL_BIND or MPOL_INTERLEAVE; a node that the machine does not have; nodes none of
+    /// which is online and allowed); EPERM (MPOL_MF_MOVE_ALL without privilege); EINVAL (an address that is not a
+    /// multiple of 4,096, or `addr` plus `len` rounded up to whole pages is over 2^64 - 1); then a `len` of 0 changes
+    /// nothing; EFAULT (a page of the range has no area); EIO (MPOL_MF_STRICT (1) without a flag to move, and a page
+    /// that the caller sees in the range is not where the policy wants it). Each changes nothing. With MPOL_MF_STRICT
+    /// and a flag to move, EIO is also returned if a listed page is not where the policy wants it after the moves:
+    /// policy and moves remain. After `HostMemory { runs, policy_set }` the first `runs` runs remain, and the policy is
+    /// set if `policy_set` says so.
     #[tactic(auto, unfolding(crate::specs::Outcome::refused, crate::specs::Outcome::refused_at_once, crate::specs::Outcome::ended, crate::specs::Outcome::runs_asked, crate::specs::Outcome::start, crate::specs::Outcome::sets_policy, crate::specs::Outcome::accesses_asked), using(crate::proofs::Outcomes::answers, crate::proofs::Outcomes::refuses, crate::proofs::Outcomes::unchanged))]
     pub fn mbind<R: Threads + Wait + Sync, G: Gate + Sync>(
         &mut self,
@@ -360,15 +381,15 @@ impl<A: Allocator + Copy + Send + Sync> System<A> {
         )
     }
 
-    /// Takes a node offline: its pages, by segment and index, go to the other nodes that are online, in passes by their
-    /// distance from it and by number where that is the same, whoever sees them and whatever is allowed. A pinned page
-    /// stays; what finds no free frame goes on to the next node. Each pass is a run, or several if it is longer than
-    /// the limit. Nothing is taken from a node that is offline; its free frames stay its own, and so do those that
-    /// become free. A node that is offline already is left as it is.
+    /// Takes a node offline: its pages, by segment and index, go to the other online nodes, in passes by their distance
+    /// from it, ties by number, whoever sees them and whatever is allowed. A page with a pin stays; one that finds no
+    /// free frame goes on to the next node. Each pass is a run, or several if it is longer than the limit. No frame is
+    /// taken from an offline node; its free frames remain in its list, and so do those that become free. A node that is
+    /// offline already is left as it is.
     ///
-    /// Refusals in order: EINVAL (no such node); EBUSY (no other node is online). EBUSY is also returned if a page of
-    /// the node stays: what moved has moved, and the node is online. `HostMemory { runs, .. }` leaves the first runs
-    /// made, and the node online.
+    /// Errors, in order: EINVAL (no such node); EBUSY (no other node is online). EBUSY is also returned if a page of
+    /// the node stays: the moves remain, and the node is online. After `HostMemory { runs, .. }` the first `runs` runs
+    /// remain, and the node is online.
     #[tactic(auto, unfolding(crate::specs::Outcome::refused, crate::specs::Outcome::refused_at_once, crate::specs::Outcome::ended, crate::specs::Outcome::runs_asked, crate::specs::Outcome::start, crate::specs::Outcome::sets_policy, crate::specs::Outcome::accesses_asked), using(crate::proofs::Outcomes::answers, crate::proofs::Outcomes::refuses, crate::proofs::Outcomes::unchanged))]
     pub fn offline<R: Threads + Wait + Sync, G: Gate + Sync>(
         &mut self,
@@ -387,8 +408,8 @@ impl<A: Allocator + Copy + Send + Sync> System<A> {
         empty(&crew, self.alloc, &mut self.machine, node, limit)
     }
 
-    /// Brings a node online, and takes no memory: its free frames may be taken again, and pages may go there. One that is
-    /// online already is left as it is. Refusal: EINVAL (no such node).
+    /// Brings a node online: its free frames may be taken again, and pages may go there. Does not allocate. A node that
+    /// is online already is left as it is. Error: EINVAL (no such node).
     #[tactic(auto, unfolding(crate::specs::Outcome::refused, crate::specs::Outcome::refused_at_once, crate::specs::Outcome::ended, crate::specs::Outcome::runs_asked, crate::specs::Outcome::start, crate::specs::Outcome::sets_policy, crate::specs::Outcome::accesses_asked), using(crate::proofs::Outcomes::answers, crate::proofs::Outcomes::refuses, crate::proofs::Outcomes::unchanged))]
     pub fn online(&mut self, node: NodeId) -> Result<(), Errno>
         ensures { DoesOrRefuses (λ done. Done) result self.old self.new (Online node) }
@@ -400,9 +421,9 @@ impl<A: Allocator + Copy + Send + Sync> System<A> {
         Ok(())
     }
 
-    /// Where pages are, each named by an address in it, as move_pages(2) without nodes: the number of its node, -14
-    /// (EFAULT) without an area or for the page of zeros, -2 (ENOENT) where nothing was touched. Pid 0 is the caller.
-    /// Refusals as for `move_pages`, but for those of entries: ESRCH, EINVAL, EPERM, ESRCH, EPERM.
+    /// Reports where pages are, each named by an address in it, as move_pages(2) without nodes does: the number of its
+    /// node, -14 (EFAULT) if there is no area or only the page of zeros, -2 (ENOENT) if nothing was touched. Pid 0
+    /// means the caller. Errors as for `move_pages`, except those of entries: ESRCH, EINVAL, EPERM, ESRCH, EPERM.
     #[tactic(auto, unfolding(crate::specs::Outcome::refused, crate::specs::Outcome::refused_at_once, crate::specs::Outcome::ended, crate::specs::Outcome::runs_asked, crate::specs::Outcome::start, crate::specs::Outcome::sets_policy, crate::specs::Outcome::accesses_asked), using(crate::proofs::Outcomes::answers, crate::proofs::Outcomes::refuses, crate::proofs::Outcomes::unchanged))]
     pub fn query(
         &self,
@@ -417,7 +438,7 @@ impl<A: Allocator + Copy + Send + Sync> System<A> {
         Ok(statuses_of(self.alloc, &self.machine, permit.pid, pages)?)
     }
 
-    /// How many pages moved, and how many entries failed, so far: `pgmigrate_success` and `pgmigrate_fail` of
+    /// How many pages have moved, and how many entries have failed: `pgmigrate_success` and `pgmigrate_fail` of
     /// `/proc/vmstat`. Each stays at 2^64 - 1 once it is there. Between two calls a system is sound.
     #[tactic(auto, unfolding(crate::specs::Outcome::refused, crate::specs::Outcome::ended))]
     pub fn vmstat(&self) -> Totals
@@ -429,12 +450,12 @@ impl<A: Allocator + Copy + Send + Sync> System<A> {
         self.machine.totals()
     }
 
-    /// The areas of a process as text, by address, a line for each, as `/proc/PID/numa_maps` in numa(7) and no more of
-    /// it than this: the address at which the area begins, as at least eight hexadecimal digits; its policy, with the
-    /// set that was kept, as `default`, `prefer:1`, `bind:0-1,3`, `interleave:0,2` or `local`; and where the process
-    /// sees pages in it, `anon=` and their number, `mapmax=` and the greatest number of processes that see one of them,
-    /// where that is over 1, `N0=`, `N1=` .. and the number on that node, where there are some, and
-    /// `kernelpagesize_kB=4`. The page of zeros does not count as a page. Refusal: ESRCH.
+    /// A process's areas as text, in address order, one line each, like `/proc/PID/numa_maps` in numa(7), with only
+    /// these fields: the address at which the area begins, in at least eight hexadecimal digits; its policy, with the
+    /// nodes that it kept, as `default`, `prefer:1`, `bind:0-1,3`, `interleave:0,2` or `local`; and if the process sees
+    /// pages in it, `anon=` and their number, `mapmax=` and the greatest number of processes that see one of them, if
+    /// that is over 1, `N0=`, `N1=` and so on with the number on that node, if there are any, and
+    /// `kernelpagesize_kB=4`. The page of zeros does not count as a page. Error: ESRCH (no such process).
     #[tactic(auto, unfolding(crate::specs::Outcome::refused, crate::specs::Outcome::refused_at_once, crate::specs::Outcome::ended, crate::specs::Outcome::runs_asked, crate::specs::Outcome::start, crate::specs::Outcome::sets_policy, crate::specs::Outcome::accesses_asked), using(crate::proofs::Outcomes::answers, crate::proofs::Outcomes::refuses, crate::proofs::Outcomes::unchanged))]
     pub fn numa_maps(&self, pid: Pid) -> Result<Vec<String<A>, A>, CallError>
         ensures { Does (λ lines. Lines (lines_shown lines.items)) result self.now self.now (NumaMaps pid) }
@@ -444,7 +465,7 @@ impl<A: Allocator + Copy + Send + Sync> System<A> {
         Ok(areas_text(self.alloc, &self.machine, pid, areas.as_slice())?)
     }
 
-    /// The free frames of a node, the front first. Refusal: EINVAL (no such node).
+    /// The free frames of a node, front first. Error: EINVAL (no such node).
     #[tactic(auto, unfolding(crate::specs::Outcome::refused, crate::specs::Outcome::refused_at_once, crate::specs::Outcome::ended, crate::specs::Outcome::runs_asked, crate::specs::Outcome::start, crate::specs::Outcome::sets_policy, crate::specs::Outcome::accesses_asked), using(crate::proofs::Outcomes::answers, crate::proofs::Outcomes::refuses, crate::proofs::Outcomes::unchanged))]
     pub fn free_list(&self, node: NodeId) -> Result<Vec<FrameId, A>, CallError>
         ensures { Does (λ frames. Frames frames.items) result self.now self.now (FreeList node) }
@@ -452,7 +473,8 @@ impl<A: Allocator + Copy + Send + Sync> System<A> {
         Ok(self.machine.free_list(node)?)
     }
 
-    /// The entries of a process by address: the frame of each, or the page of zeros. Refusal: ESRCH.
+    /// The entries of a process, in address order, like `/proc/PID/pagemap`: the frame of each, or the page of zeros.
+    /// Error: ESRCH (no such process).
     #[tactic(auto, unfolding(crate::specs::Outcome::refused, crate::specs::Outcome::refused_at_once, crate::specs::Outcome::ended, crate::specs::Outcome::runs_asked, crate::specs::Outcome::start, crate::specs::Outcome::sets_policy, crate::specs::Outcome::accesses_asked), using(crate::proofs::Outcomes::answers, crate::proofs::Outcomes::refuses, crate::proofs::Outcomes::unchanged))]
     pub fn pagemap(&self, pid: Pid) -> Result<Vec<PagemapEntry, A>, CallError>
         ensures { Does (λ mapped. Entries (entries_mapped mapped.items)) result self.now self.now (Pagemap pid) }
@@ -461,8 +483,8 @@ impl<A: Allocator + Copy + Send + Sync> System<A> {
         Ok(mapped_of(self.alloc, entries.as_slice())?)
     }
 
-    /// Whether each frame is exactly once in its own node's free list, or the place of one page: true, since a system
-    /// is always sound. An error means that the host is out of memory.
+    /// Whether each frame is in exactly one place: once in its own node's free list, or the frame of one page. True,
+    /// since a system is always sound. An error means that the host is out of memory.
     pub fn audit(&self) -> Result<bool, AllocError>
         ensures told { IfOk result (λ b. b ≡ audited self.now.state) }
         ensures sound { IfOk result (λ b. b ≡ true) }

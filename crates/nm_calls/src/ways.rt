@@ -28,7 +28,7 @@ use std::thread::Threads;
 /// How pages move.
 #[derive(Drop)]
 pub(crate) enum Way<A: Allocator + Copy> {
-    /// All go to the first of these nodes that has a free frame: a pass for each node.
+    /// All go to the first of these nodes that has a free frame: one pass for each node.
     Passes {
         nodes: Vec<NodeId, A>,
         wanted: Vec<Wanted, A>,
@@ -37,14 +37,14 @@ pub(crate) enum Way<A: Allocator + Copy> {
     Turns(Vec<Request, A>),
 }
 
-/// What is wanted of a page, at the page number at which a process sees it.
+/// The request for a page, at the page number at which a process sees it.
 fn spot(pid: Pid, all: bool, vpn: Vpn) -> Wanted
     ensures { result ≡ At pid vpn all }
 {
     Wanted::At { pid, vpn, all }
 }
 
-/// Requests for pages at the page numbers at which a process sees them.
+/// Requests for pages, each at the page number at which a process sees it.
 fn spots<A: Allocator + Copy>(
     alloc: A,
     pid: Pid,
@@ -86,7 +86,7 @@ fn sent_to(pid: Pid, all: bool, page: &Sent) -> Request
     }
 }
 
-/// Requests for page numbers with their nodes.
+/// Requests for page numbers, each with its node.
 fn each_to<A: Allocator + Copy>(
     alloc: A,
     pid: Pid,
@@ -116,7 +116,7 @@ fn turns<A: Allocator + Copy>(
     each_to(alloc, pid, all, targets.as_slice())
 }
 
-/// The nodes of a set that are online, by their distance from a node.
+/// The online nodes of a set, by their distance from a node.
 fn by_distance<A: Allocator + Copy + Send + Sync>(
     alloc: A,
     machine: &Machine<A>,
@@ -133,8 +133,8 @@ fn by_distance<A: Allocator + Copy + Send + Sync>(
     Ok(order)
 }
 
-/// The nodes that a policy tries one after another for all pages: that of MPOL_PREFERRED, and those of MPOL_BIND by their
-/// distance from a process's home node.
+/// The nodes that a policy tries one after another for all pages: that of MPOL_PREFERRED, and those of MPOL_BIND by
+/// their distance from a process's home node.
 fn nodes_tried<A: Allocator + Copy + Send + Sync>(
     alloc: A,
     machine: &Machine<A>,
@@ -168,6 +168,8 @@ pub(crate) fn way_of<A: Allocator + Copy + Send + Sync>(
 ) -> Result<Way<A>, AllocError>
     requires nodes { AllByRecursion (λ n. n < node_count (machine.now.layout)) (nodes_named binding.now.policy) }
     requires few { length pages.now ≤ 2 ^ 52 }
+
+    // On success
     ensures runs { IfOk result (λ way. (limit : ℕ) (m : Mapped) → runs_in limit (with_areas_of machine.now m) way
         ≡ runs_by limit (with_areas_of machine.now m) binding.now.policy home binding.now.pid all pages.now) }
     ensures can_go { IfOk result (CanGo (node_count (machine.now.layout))) }
@@ -182,8 +184,8 @@ pub(crate) fn way_of<A: Allocator + Copy + Send + Sync>(
     })
 }
 
-/// Makes the runs of `way`, one after another, none of more entries than the limit. That a page stays is no error. The
-/// only error is `HostMemory { runs, policy_set: true }`, since the policy is set before its pages move: the host was
+/// Makes the runs of `way`, one after another, each of at most `limit` entries. It is no error if a page stays. The
+/// only error is `HostMemory { runs, policy_set: true }`, since the policy is set before its pages move: the host ran
 /// out of memory before the last run was made, and the machine is as the first `runs` runs left it.
 pub(crate) fn make<R: Threads + Wait + Sync, A: Allocator + Copy + Send + Sync, G: Gate + Sync>(
     crew: &Crew<R, G>,

@@ -19,7 +19,7 @@ pub fn push_number<A: Allocator>(
     line.push_str(buffer.format(number))
 }
 
-/// Appends the address at which a page begins, as at least eight hexadecimal digits.
+/// Appends the address at which a page begins, in at least eight hexadecimal digits.
 #[tactic(auto, using(crate::proofs::Texts::padded_by_zeros))]
 pub fn push_address<A: Allocator>(line: &mut String<A>, vpn: Vpn) -> Result<(), AllocError>
     ensures { OnOk result (string_bytes line.new ≡ string_bytes line.old ++ address_text vpn) }

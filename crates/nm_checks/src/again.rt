@@ -1,7 +1,7 @@
-//! Every call, with each of its allocations refused in turn and then made again: a refusal loses nothing.
+//! Every call, with each of its allocations refused in turn and the call then made again: a refusal loses nothing.
 //!
-//! What comes of a trace is written down as in `trails`. A call that was refused memory and is made again, and all that follows it,
-//! must give what they give with memory; so the refusal left the system as it was.
+//! The results of a trace are written down as in `trails`. If a call that was refused memory is made again, it and all
+//! that follows must have the same results as with memory; so the refusal left the system as it was.
 
 use crate::traces::Heap;
 use crate::trails::{begin, make_first, make_rest, make_some, new_system};
@@ -14,11 +14,11 @@ use std::sync::Wait;
 use std::test::Fail;
 use std::thread::Threads;
 
-/// What a call reports that was refused memory before it changed anything.
+/// What a call reports if it was refused memory before it changed anything.
 const REFUSED: &str = "| HostMemory { runs: 0, policy_set: false } ";
 
-/// Makes the call of this number again if it was broken off before it changed anything. Puts a word if the system was not
-/// sound then.
+/// Makes the call with this number again if it was broken off before it changed anything. Appends a word if the system
+/// was not sound then.
 fn make_again<'a>(
     rt: &(impl Threads + Wait + Sync),
     system: &mut System<Heap<'a>>,
@@ -36,8 +36,9 @@ fn make_again<'a>(
     make_some(rt, system, calls, asked, 1, text)
 }
 
-/// Makes all calls on a new system. The call of one number is refused its allocation of another, and made again if it was
-/// broken off. Appends what comes of it and of those after it, and returns whether it came to that allocation.
+/// Makes all calls on a new system. One call, by its number, is refused one of its allocations, by that one's number,
+/// and made again if it was broken off. Appends its result and those of the calls after it, and returns whether it
+/// reached that allocation.
 fn make_all<'a>(
     rt: &(impl Threads + Wait + Sync),
     heap: Heap<'a>,
@@ -54,7 +55,7 @@ fn make_all<'a>(
     Ok(met)
 }
 
-/// Makes the calls of a trace so on a system of its own.
+/// Does so with the calls of a trace, on a system of its own.
 fn attempt<'a>(
     rt: &(impl Threads + Wait + Sync),
     heap: Heap<'a>,
@@ -68,8 +69,8 @@ fn attempt<'a>(
     make_all(rt, heap, &mut system, calls, asked, number, text)
 }
 
-/// Refuses each allocation of the call of this number in turn, until none is: what comes of the trace from there on is what
-/// comes of it with memory. Gives how many were refused.
+/// Refuses each allocation of the call with this number in turn, until none is left: the results from there on are the
+/// same as with memory. Returns how many allocations were refused.
 fn refuse_call<'a>(
     rt: &(impl Abort + Threads + Wait + Sync),
     heap: Heap<'a>,
@@ -92,7 +93,8 @@ fn refuse_call<'a>(
     Err(AllocError)
 }
 
-/// Refuses each allocation of each call of a trace in turn. Gives how many were refused, and puts what comes of the trace.
+/// Refuses each allocation of each call of a trace in turn. Returns how many were refused, and appends the results of
+/// the trace.
 fn refuse_all<'a>(
     rt: &(impl Abort + Threads + Wait + Sync),
     heap: Heap<'a>,
@@ -124,9 +126,9 @@ fn refuse(
     refuse_all(rt, &heap, &trace, whole, &mut text)
 }
 
-/// Every kind of call. Process 1 has pages A to C at 0x10000, of which it writes two and reads the third, and D at 0x20000,
-/// which process 2 sees as well. A is pinned while B moves to node 1, and follows it; D goes when node 0 does, and stays when
-/// process 1 exits.
+/// Every kind of call. Process 1 has pages A to C at 0x10000, of which it writes two and reads the third, and D at
+/// 0x20000, which process 2 also sees. A has a pin while B moves to node 1, and then follows it; D moves when node 0 is
+/// emptied, and stays when process 1 exits.
 const EVERY_CALL: &str =
     "{\"version\":1,\"machine\":{\"nodes\":[4,4],\"distance\":[[10,20],[20,10]]},\"steps\":[
 {\"op\":\"spawn\",\"pid\":1,\"uid\":100,\"home\":0,\"allowed\":[0,1]},
@@ -160,7 +162,7 @@ const EVERY_CALL: &str =
 const EVERY_CALL_TOLD: &str =
     "| | | | | | [0] | | | | [99] | 0 | | 1: [-16, 1, -14] | | 0 | 0: [1, 1, -14, 0, -14] | 00010000 default anon=1 N1=1 kernelpagesize_kB=4 00011000 prefer:1 anon=1 N1=1 kernelpagesize_kB=4 00012000 default 00020000 default anon=1 mapmax=2 N0=1 kernelpagesize_kB=4 | | | 5 4 zero 6 | | | [99] | 3 1 | 3 1 0 2 | 7 4 5 | 6 | true";
 
-/// Each allocation of each call is refused in turn, and the call made again: the trace gives what it gives with memory.
+/// Each allocation of each call is refused in turn, and the call made again: the results are the same as with memory.
 #[test]
 fn no_refusal_loses_anything(rt: HostRuntime) -> Result<(), Fail> {
     let mut whole = String::new(rt.alloc());

@@ -7,7 +7,7 @@ use std::test::Fail;
 
 type Heap<'a> = &'a Refusing<Global>;
 
-/// The calls that take memory.
+/// The calls that allocate.
 #[derive(Clone, Copy)]
 enum Call {
     Insert,
@@ -39,7 +39,7 @@ fn first_page(round: u16) -> Page {
 }
 
 /// Makes a call of one round. Process 1 gets three pages of a shared segment, process 2 the last two of them, the first
-/// gets a frame, the second a policy in process 1, and in the end process 1 lets go the first two.
+/// page gets a frame, the second a policy in process 1, and at the end process 1 unmaps the first two.
 fn perform<'a>(areas: &mut Areas<Heap<'a>>, call: Call, round: u16) -> Result<(), MachineError> {
     let one = Pid::new(1);
     let addr = u64::from(round) * 0x10000;
@@ -83,7 +83,7 @@ fn take_picture<'a>(areas: &Areas<Heap<'a>>, round: u16) -> Result<Picture<'a>, 
     })
 }
 
-/// Makes a call while its allocation of this number is refused. Tells whether it came to that allocation.
+/// Makes a call while its allocation with this number is refused. Returns whether it reached that allocation.
 fn attempt<'a>(
     heap: Heap<'a>,
     areas: &mut Areas<Heap<'a>>,
@@ -98,8 +98,8 @@ fn attempt<'a>(
     (met, answer)
 }
 
-/// Whether a call that met a refusal said so, and left the areas as they were. A call that lists may make do with less room,
-/// and succeed.
+/// Whether a call that met a refusal reported it, and left the areas as they were. A call that lists may manage with
+/// less room, and succeed.
 fn is_as_before<'a>(
     areas: &Areas<Heap<'a>>,
     call: Call,
@@ -115,7 +115,7 @@ fn is_as_before<'a>(
     Ok(told && now.is_same(before))
 }
 
-/// Makes a call, after each of its allocations was refused in turn. Gives how many refusals there were.
+/// Makes a call after each of its allocations was refused in turn. Returns how many refusals there were.
 fn refuse_each<'a>(
     rt: &impl Abort,
     heap: Heap<'a>,
@@ -136,7 +136,7 @@ fn refuse_each<'a>(
     Err(MachineError::HostMemory)
 }
 
-/// Makes a call in each round, after each of its allocations was refused in turn. Gives how many refusals there were.
+/// Makes a call in each round, after each of its allocations was refused in turn. Returns how many refusals there were.
 fn refuse_rounds<'a>(
     rt: &impl Abort,
     heap: Heap<'a>,
@@ -151,8 +151,8 @@ fn refuse_rounds<'a>(
     Ok(refused)
 }
 
-/// Makes all calls so. Gives whether each met a refusal, and whether in the end process 1 has one page of each segment, and
-/// the first page of segment 7, which no process has any more, no frame.
+/// Makes all calls like this. Returns whether each met a refusal, and whether at the end process 1 has one page of each
+/// segment, and the first page of segment 7, which no process has, has no frame.
 fn refuse_all(rt: &impl Abort, heap: Heap<'_>) -> Result<bool, MachineError> {
     let mut areas = Areas::new(heap);
     let mut all = true;
@@ -164,7 +164,7 @@ fn refuse_all(rt: &impl Abort, heap: Heap<'_>) -> Result<bool, MachineError> {
     Ok(all && last.first.len() == ROUNDS as usize && last.frame.is_none())
 }
 
-/// Each allocation of each call is refused in turn, and each call meets some.
+/// Each allocation of each call is refused in turn, and each call meets some refusals.
 #[test]
 fn refused_calls_leave_the_areas(rt: HostRuntime) -> Result<(), Fail> {
     let heap = Refusing::new(rt.alloc());

@@ -1,4 +1,4 @@
-//! What the workers of a machine pass: gates that see who comes, and how often.
+//! Gates that see which workers of a machine call them, and how often.
 
 ghost use Rattle.std.specs.Prelude.{◌<◌, ◌≤◌};
 
@@ -9,8 +9,8 @@ use std::sync::Wait;
 use std::sync::atomic::{AtomicBool, AtomicU64, Ordering};
 use std::thread::{Threads, yield_now};
 
-/// Three pages of one process, written on node 0, moved to node 1 in one run and read there. Meanwhile one of them is read,
-/// and a fourth page gets its first byte.
+/// Three pages of one process, written on node 0, moved to node 1 in one run and read there. Meanwhile one of them is
+/// read, and a fourth page gets its first byte.
 const TRACE: &str =
     "{\"version\":1,\"machine\":{\"nodes\":[4,4],\"distance\":[[10,20],[20,10]]},\"steps\":[
 {\"op\":\"spawn\",\"pid\":1,\"uid\":100,\"home\":0,\"allowed\":[0,1]},
@@ -40,7 +40,7 @@ const REPORT: &str = "0 spawn ok
 9 read 6200
 ";
 
-/// Lets each worker through at once, and lets others start from the first job on.
+/// Lets each worker through at once, and allows other workers from the first job on.
 #[derive(Drop)]
 pub(crate) struct Through;
 
@@ -48,10 +48,10 @@ impl Gate for Through {
     fn pass(&self, _worker: usize, _ticket: u64) {}
 }
 
-/// Holds each worker until workers 0 and 1 have both come, for at most 2^24 turns.
+/// Holds each worker until workers 0 and 1 have both called, for at most 2^24 turns.
 #[derive(Drop)]
 struct Meeting {
-    /// Who came, a bit for each worker.
+    /// Which workers called, one bit each.
     came: AtomicU64,
     missed: AtomicBool,
 }
@@ -64,7 +64,7 @@ impl Meeting {
         }
     }
 
-    /// Whether both came and none waited in vain.
+    /// Whether both workers called and neither waited in vain.
     fn met(&self) -> bool {
         self.came.load(Ordering::SeqCst) & 3 == 3 && !self.missed.load(Ordering::SeqCst)
     }
@@ -85,8 +85,8 @@ impl Gate for Meeting {
     }
 }
 
-/// Holds worker 1 at its first page until the caller has come to an access in flight, and the caller there until worker 1
-/// has come, each for at most 2^24 turns.
+/// Holds worker 1 at its first page until the caller has come to an access in flight, and the caller there until worker
+/// 1 has called, each for at most 2^24 turns.
 #[derive(Drop)]
 struct AccessMeeting(Meeting);
 
@@ -109,8 +109,8 @@ impl Gate for AccessMeeting {
     }
 }
 
-/// Counts the caller's passes, and is spoilt by any other worker's. Access 0 counts for 10,000 of them, access 1 for 20,000,
-/// and so on.
+/// Counts the caller's calls, and is spoilt by those of any other worker. Access 0 counts as 10,000 calls, access 1 as
+/// 20,000, and so on.
 #[derive(Drop)]
 struct Alone(AtomicU64);
 
@@ -148,23 +148,23 @@ fn reports_right<G: Gate + Sync>(
     played.is_ok() && written.get_ref().as_slice() == REPORT.as_bytes()
 }
 
-/// Two workers meet while a trace moves its pages, with accesses in flight: no machine that copies by itself gets both to
-/// the gate.
+/// Two workers meet while a trace moves its pages, with accesses in flight: a machine that copies on one thread never
+/// gets both to the gate.
 #[test]
 fn workers_meet_in_a_trace(rt: HostRuntime) {
     let gate = Meeting::new();
     assert!(rt; reports_right(&rt, rt.alloc(), 2, &gate) && gate.met());
 }
 
-/// A worker copies while the caller makes the accesses of a run: a machine that makes them before it starts the worker, or
-/// after it has joined it, never gets both to the gate.
+/// A worker copies while the caller makes the accesses of a run: a machine that makes them before it starts the worker,
+/// or after it has joined it, never gets both to the gate.
 #[test]
 fn accesses_are_made_while_a_worker_copies(rt: HostRuntime) {
     let gate = AccessMeeting(Meeting::new());
     assert!(rt; reports_right(&rt, rt.alloc(), 2, &gate) && gate.0.met());
 }
 
-/// With one worker the caller copies alone: three pages, three passes, and the accesses 0 and 1 before them.
+/// With one worker the caller copies alone: three pages, three calls of the gate, and accesses 0 and 1 before them.
 #[test]
 fn one_worker_is_alone(rt: HostRuntime) {
     let gate = Alone(AtomicU64::new(0));
@@ -172,7 +172,7 @@ fn one_worker_is_alone(rt: HostRuntime) {
     assert_eq!(rt; gate.0.load(Ordering::SeqCst), 30_003u64);
 }
 
-/// The report is the same whatever the number of workers, where others start from the first page on.
+/// The report is the same for any number of workers, with other workers allowed from the first page on.
 #[test]
 fn reports_are_the_same(rt: HostRuntime) {
     for workers in [1, 2, 3, 64] {

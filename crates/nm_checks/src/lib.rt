@@ -1,4 +1,4 @@
-//! Tests that cross crates, tests of what no trace can say, and tests in which each allocation is refused in turn.
+//! Tests across crates, tests of what no trace can express, and tests in which each allocation is refused in turn.
 #![tactic(auto)]
 
 #[cfg(test)]

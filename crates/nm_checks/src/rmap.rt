@@ -8,14 +8,14 @@ use std::test::Fail;
 
 type Heap<'a> = &'a Refusing<Global>;
 
-/// The frame that is named in these tests, of eight.
+/// The frame used in these tests, of eight.
 fn fifth() -> FrameId
     ensures { result ≡ 4 }
 {
     FrameId::new(4)
 }
 
-/// Whether each allocation of a new map, refused in turn, makes it fail. The last try, which none is refused, gives one.
+/// Whether a new map fails with each of its allocations refused in turn, and succeeds when none is.
 fn refuse_maps(heap: Heap<'_>) -> bool {
     for number in 1..100u64 {
         heap.refuse(number);
@@ -38,7 +38,7 @@ fn has(map: &ReverseMap<Heap<'_>>, mappers: &[(Pid, Vpn)]) -> Result<bool, Alloc
     Ok(now.as_slice() == mappers)
 }
 
-/// Whether the mappers of the fifth frame are told, and are these.
+/// Whether the mappers of the fifth frame are returned, and are these.
 fn is_same(map: &ReverseMap<Heap<'_>>, mappers: &[(Pid, Vpn)]) -> bool
     requires { length map.now.mappings ≡ 8 }
 {
@@ -48,7 +48,7 @@ fn is_same(map: &ReverseMap<Heap<'_>>, mappers: &[(Pid, Vpn)]) -> bool
     }
 }
 
-/// Adds a mapper to the fifth frame. Tells whether there was memory for it.
+/// Adds a mapper to the fifth frame. Returns whether there was memory for it.
 fn try_add(map: &mut ReverseMap<Heap<'_>>, pid: Pid, vpn: Vpn) -> bool
     requires { length map.old.mappings ≡ 8 }
     ensures { length map.new.mappings ≡ 8 }
@@ -59,8 +59,8 @@ fn try_add(map: &mut ReverseMap<Heap<'_>>, pid: Pid, vpn: Vpn) -> bool
     }
 }
 
-/// Adds a mapper to the fifth frame, after each allocation of that was refused in turn: it says so, and the mappers
-/// are as they were. Gives how many refusals there were.
+/// Adds a mapper to the fifth frame, after each of its allocations was refused in turn: each refusal is reported, and
+/// leaves the mappers as they were. Returns how many refusals there were.
 fn refuse_add<'a>(
     heap: Heap<'a>,
     map: &mut ReverseMap<Heap<'a>>,
@@ -86,7 +86,7 @@ fn refuse_add<'a>(
     Err(AllocError)
 }
 
-/// Adds 40 mappers, of two processes in turn. Gives how many refusals there were.
+/// Adds 40 mappers, of two processes in turn. Returns how many refusals there were.
 fn refuse_adds<'a>(heap: Heap<'a>, map: &mut ReverseMap<Heap<'a>>) -> Result<u64, AllocError>
     requires { length map.old.mappings ≡ 8 }
     ensures { length map.new.mappings ≡ 8 }
@@ -100,8 +100,8 @@ fn refuse_adds<'a>(heap: Heap<'a>, map: &mut ReverseMap<Heap<'a>>) -> Result<u64
     Ok(refused)
 }
 
-/// Whether the fifth frame's mappers are these or are not given, when each allocation of that is refused in turn, and
-/// in the end are given.
+/// Whether the fifth frame's mappers are these, or are not returned, with each allocation refused in turn, and are
+/// returned at the end.
 fn refuse_mappers(heap: Heap<'_>, map: &ReverseMap<Heap<'_>>, mappers: &[(Pid, Vpn)]) -> bool
     requires { length map.now.mappings ≡ 8 }
 {
@@ -126,7 +126,7 @@ fn refuse_mappers(heap: Heap<'_>, map: &ReverseMap<Heap<'_>>, mappers: &[(Pid, V
     false
 }
 
-/// Whether the fifth frame has 40 mappers, of two processes, that are told, or none where an allocation is refused.
+/// Whether 40 mappers of two processes are returned for the fifth frame, or none if an allocation is refused.
 fn tells_all(heap: Heap<'_>, map: &ReverseMap<Heap<'_>>) -> Result<bool, AllocError>
     requires { length map.now.mappings ≡ 8 }
 {

@@ -12,7 +12,7 @@ fn has(table: &PageTable<Heap<'_>>, entries: &[(Vpn, Entry)]) -> Result<bool, Al
     Ok(now.as_slice() == entries)
 }
 
-/// Whether the entries of a table are told, and are these.
+/// Whether the entries of a table are returned, and are these.
 fn is_same(table: &PageTable<Heap<'_>>, entries: &[(Vpn, Entry)]) -> bool {
     match has(table, entries) {
         Ok(same) => same,
@@ -20,8 +20,8 @@ fn is_same(table: &PageTable<Heap<'_>>, entries: &[(Vpn, Entry)]) -> bool {
     }
 }
 
-/// Puts an entry into a table, after each allocation of that was refused in turn: it says so, and the table is as it
-/// was. Gives how many refusals there were.
+/// Sets an entry of a table, after each of its allocations was refused in turn: each refusal is reported, and leaves
+/// the table as it was. Returns how many refusals there were.
 fn refuse_set<'a>(
     heap: Heap<'a>,
     table: &mut PageTable<Heap<'a>>,
@@ -43,7 +43,8 @@ fn refuse_set<'a>(
     Err(AllocError)
 }
 
-/// Puts 40 entries into a table, downwards and each into a block of its own. Gives how many refusals there were.
+/// Sets 40 entries of a table, in descending order and each in a block of its own. Returns how many refusals there
+/// were.
 fn refuse_sets<'a>(heap: Heap<'a>, table: &mut PageTable<Heap<'a>>) -> Result<u64, AllocError> {
     let mut refused = 0u64;
     for page in 0..40u64 {
@@ -53,8 +54,7 @@ fn refuse_sets<'a>(heap: Heap<'a>, table: &mut PageTable<Heap<'a>>) -> Result<u6
     Ok(refused)
 }
 
-/// Whether a table gives these entries or none, when each allocation of that is refused in turn, and in the end gives
-/// them.
+/// Whether a table returns these entries or none, with each allocation refused in turn, and returns them at the end.
 fn refuse_entries(heap: Heap<'_>, table: &PageTable<Heap<'_>>, entries: &[(Vpn, Entry)]) -> bool {
     for number in 1..100u64 {
         heap.refuse(number);
@@ -77,14 +77,14 @@ fn refuse_entries(heap: Heap<'_>, table: &PageTable<Heap<'_>>, entries: &[(Vpn, 
     false
 }
 
-/// Whether the 40 entries of a table are told, or none where an allocation is refused.
+/// Whether the 40 entries of a table are returned, or none if an allocation is refused.
 fn tells_all(heap: Heap<'_>, table: &PageTable<Heap<'_>>) -> Result<bool, AllocError> {
     let all = table.entries()?;
     Ok(all.len() == 40 && refuse_entries(heap, table, all.as_slice()))
 }
 
-/// Refuses each allocation of a table that gets 40 entries and tells them. Gives how many refusals of `set` there were, and
-/// 0 if the entries were not told.
+/// Refuses each allocation of a table that gets 40 entries and returns them. Returns how many refusals of `set` there
+/// were, or 0 if the entries were not returned.
 fn refuse_table(heap: Heap<'_>) -> Result<u64, AllocError> {
     let mut table = PageTable::new(heap);
     let refused = refuse_sets(heap, &mut table)?;
@@ -92,9 +92,9 @@ fn refuse_table(heap: Heap<'_>) -> Result<u64, AllocError> {
     Ok(if told { refused } else { 0 })
 }
 
-/// Each allocation of `set` and of `entries` is refused in turn. The blocks lie in 16 of the lowest inner nodes, the highest
-/// of which has one block. Each of the other 15 takes memory for its second block, and so does the node above them for its
-/// second part.
+/// Each allocation of `set` and of `entries` is refused in turn. The blocks are in 16 of the lowest inner nodes, the
+/// highest of which has one block. Each of the other 15 allocates for its second block, and so does the node above them
+/// for its second part.
 #[test]
 fn refused_tables(rt: HostRuntime) -> Result<(), Fail> {
     let heap = Refusing::new(rt.alloc());
@@ -103,7 +103,7 @@ fn refused_tables(rt: HostRuntime) -> Result<(), Fail> {
     Ok(())
 }
 
-/// Whether an entry can be set in the first block, and in no other, where the next allocation is refused.
+/// Whether an entry can be set in the first block, and in no other, if the next allocation is refused.
 fn sets_in_first_block<'a>(heap: Heap<'a>, table: &mut PageTable<Heap<'a>>) -> bool {
     heap.refuse(1);
     let within = table.set(Vpn::new(511), Entry::Zero).is_ok();
@@ -113,7 +113,7 @@ fn sets_in_first_block<'a>(heap: Heap<'a>, table: &mut PageTable<Heap<'a>>) -> b
     within && asked == 0 && !beyond
 }
 
-/// Whether a table with an entry in its first block takes another one there, and none elsewhere.
+/// Whether a table with an entry in its first block accepts another one there, and none elsewhere.
 fn has_room_in_first_block(heap: Heap<'_>) -> Result<bool, AllocError> {
     let mut table = PageTable::new(heap);
     table.set(Vpn::new(0), Entry::Zero)?;
@@ -121,7 +121,7 @@ fn has_room_in_first_block(heap: Heap<'_>) -> Result<bool, AllocError> {
     Ok(sets_in_first_block(heap, &mut table) && is_same(&table, both.as_slice()))
 }
 
-/// Where the next allocation is refused, an entry can be set in a block that has one, and in no other block.
+/// If the next allocation is refused, an entry can be set in a block that has one, and in no other block.
 #[test]
 fn block_with_an_entry(rt: HostRuntime) -> Result<(), Fail> {
     let heap = Refusing::new(rt.alloc());

@@ -1,4 +1,4 @@
-//! Traces whose memory is refused, and a trace that a program makes itself.
+//! Traces whose memory is refused, and a trace made by a program.
 
 ghost use Rattle.std.specs.Prelude.{◌≡◌};
 
@@ -48,8 +48,8 @@ fn is_front(written: &[u8], lines: usize) -> bool {
         && (written.is_empty() || written.ends_with(b"\n"))
 }
 
-/// Whether a play that met a refusal wrote the lines of the steps that it tells of; a step that only looks may have made
-/// do with less memory, and then the report is whole.
+/// Whether a play that met a refusal wrote the lines of the steps that it reports. A step that only looks may have
+/// managed with less memory, and then the report is whole.
 fn is_fine(played: Result<Summary, TraceError>, written: &[u8]) -> bool {
     match played {
         Ok(_) => written == REPORT.as_bytes(),
@@ -58,8 +58,8 @@ fn is_fine(played: Result<Summary, TraceError>, written: &[u8]) -> bool {
     }
 }
 
-/// Runs the trace while the allocation of this number is refused. Gives whether it came to that allocation, and whether
-/// what it answered and wrote is fine.
+/// Runs the trace while the allocation with this number is refused. Returns whether it reached that allocation, and
+/// whether its answer and output are right.
 fn run_refused(
     rt: &(impl Threads + Wait + Sync),
     heap: Heap<'_>,
@@ -82,7 +82,7 @@ fn run_refused(
     (met, is_fine(played, written.get_ref().as_slice()))
 }
 
-/// Each allocation of a run that passes through the lent allocator is refused in turn.
+/// Each allocation of a run that goes through the borrowed allocator is refused in turn.
 #[test]
 fn refused_runs_write_a_front(rt: HostRuntime) -> Result<(), Fail> {
     let heap = Refusing::new(rt.alloc());
@@ -109,8 +109,8 @@ fn layout(heap: Heap<'_>) -> Result<Geometry<Heap<'_>>, AllocError> {
     }
 }
 
-/// Plays a trace on a new system while the allocation of this number is refused. Gives whether it came to that allocation, and
-/// whether what it answered and wrote is fine and the system sound.
+/// Plays a trace on a new system while the allocation with this number is refused. Returns whether it reached that
+/// allocation, and whether its answer and output are right and the system is sound.
 fn play_refused<'a>(
     rt: &(impl Threads + Wait + Sync),
     heap: Heap<'a>,
@@ -131,7 +131,7 @@ fn play_refused<'a>(
     Ok((met, sound && fine))
 }
 
-/// Plays a trace so on a system of its own.
+/// Does so with a trace, on a system of its own.
 fn play_anew<'a>(
     rt: &(impl Threads + Wait + Sync),
     heap: Heap<'a>,
@@ -143,7 +143,7 @@ fn play_anew<'a>(
     play_refused(rt, heap, global, &mut system, trace, number)
 }
 
-/// The exit of a process that is not there, and a look at the totals, as a trace that no bytes were read for.
+/// The exit of a process that does not exist, and a look at the totals, as a trace that was not read from bytes.
 fn own_trace(heap: Heap<'_>) -> Result<Trace<Heap<'_>>, AllocError> {
     let geometry = layout(heap)?;
     let exit = Call::Exit { pid: Pid::new(2) };
@@ -193,7 +193,7 @@ fn own_report(
     report_anew(rt, heap, global, &trace)
 }
 
-/// A program plays calls of its own as it plays those of a trace that was read.
+/// A program plays calls of its own just as it plays those of a trace that was read.
 #[test]
 fn own_calls_are_played(rt: HostRuntime) -> Result<(), Fail> {
     let heap = Refusing::new(rt.alloc());
@@ -203,7 +203,7 @@ fn own_calls_are_played(rt: HostRuntime) -> Result<(), Fail> {
     Ok(())
 }
 
-/// Refuses each allocation of a play in turn, until none is. Gives how many were refused.
+/// Refuses each allocation of a play in turn, until none is left. Returns how many were refused.
 fn refuse_plays<'a>(
     rt: &(impl Abort + Threads + Wait + Sync),
     heap: Heap<'a>,

@@ -1,9 +1,9 @@
-//! Calls that move pages, and whose memory is refused: each says how many runs it made and whether it set its policy, the
-//! state is the one after these, and the same call with memory does the rest.
+//! Calls that move pages while their memory is refused: each reports how many runs it made and whether it set its
+//! policy, the state is the one after these, and the same call with memory does the rest.
 //!
-//! What is to come of a call is a text of a line, or of two where it was broken off and made again: what the call answered,
-//! what the steps after it answered, and whether the system is sound. Of an entry and of a free frame its number stands there.
-//! The first text is that of a call with memory.
+//! The expected result of a call is a text of one line, or of two if it was broken off and made again: the answer of
+//! the call, the answers of the steps after it, and whether the system is sound. An entry and a free frame are shown by
+//! their numbers. The first text is that of a call with memory.
 
 ghost use Rattle.std.specs.Prelude.{◌≡◌, IfOk};
 
@@ -19,7 +19,7 @@ use std::sync::Wait;
 use std::test::Fail;
 use std::thread::Threads;
 
-/// Puts the frames of entries.
+/// Appends the frames of entries.
 fn put_entries(text: &mut String, entries: &[PagemapEntry]) -> Result<(), AllocError> {
     for entry in entries {
         match entry.frame {
@@ -30,7 +30,7 @@ fn put_entries(text: &mut String, entries: &[PagemapEntry]) -> Result<(), AllocE
     Ok(())
 }
 
-/// Puts free frames.
+/// Appends free frames.
 fn put_frames(text: &mut String, frames: &[FrameId]) -> Result<(), AllocError> {
     for frame in frames {
         write!(text, "{} ", frame.number())?;
@@ -38,7 +38,7 @@ fn put_frames(text: &mut String, frames: &[FrameId]) -> Result<(), AllocError> {
     Ok(())
 }
 
-/// Puts lines.
+/// Appends lines.
 fn put_lines(text: &mut String, lines: &[String<Heap<'_>>]) -> Result<(), AllocError> {
     for line in lines {
         write!(text, "{} ", line.as_str())?;
@@ -46,7 +46,7 @@ fn put_lines(text: &mut String, lines: &[String<Heap<'_>>]) -> Result<(), AllocE
     Ok(())
 }
 
-/// Puts bytes.
+/// Appends bytes.
 fn put_bytes(text: &mut String, bytes: &[u8]) -> Result<(), AllocError> {
     write!(text, "{bytes:?} ")
 }
@@ -75,7 +75,7 @@ fn put_moved(text: &mut String, moved: &Moved<Heap<'_>>) -> Result<(), AllocErro
     put_accesses(text, moved.answers.as_slice())
 }
 
-/// Puts a number.
+/// Appends a number.
 fn put_number(text: &mut String, number: u64) -> Result<(), AllocError> {
     write!(text, "{number} ")
 }
@@ -111,7 +111,7 @@ fn make<'a>(
     }
 }
 
-/// Makes `count` calls, from the one at `from` on.
+/// Makes `count` calls, from the one with number `from` on.
 pub(crate) fn make_some<'a>(
     rt: &(impl Threads + Wait + Sync),
     system: &mut System<Heap<'a>>,
@@ -126,7 +126,7 @@ pub(crate) fn make_some<'a>(
     Ok(())
 }
 
-/// Makes the calls from this number on, and puts whether the system is sound.
+/// Makes the calls from this number on, and appends whether the system is sound.
 pub(crate) fn make_rest<'a>(
     rt: &(impl Threads + Wait + Sync),
     system: &mut System<Heap<'a>>,
@@ -139,7 +139,7 @@ pub(crate) fn make_rest<'a>(
     write!(text, "| {sound}")
 }
 
-/// A system as a trace wants it, on which no call was made.
+/// A system as a trace asks for it, on which no call has been made.
 pub(crate) fn new_system<'a>(
     heap: Heap<'a>,
     trace: &Trace<Heap<'a>>,
@@ -150,7 +150,7 @@ pub(crate) fn new_system<'a>(
     System::with_run_limit(heap, geometry, 2, trace.run_limit)
 }
 
-/// Makes the calls in front of this number. The text is empty then.
+/// Makes the calls before this number, and empties the text.
 pub(crate) fn begin<'a>(
     rt: &(impl Threads + Wait + Sync),
     system: &mut System<Heap<'a>>,
@@ -163,8 +163,8 @@ pub(crate) fn begin<'a>(
     Ok(())
 }
 
-/// Makes the call of one number while its allocation of another is refused, where 0 stands for none. Tells whether it came to
-/// that allocation.
+/// Makes one call, by its number, while one of its allocations is refused, by that one's number; 0 refuses none.
+/// Returns whether it reached that allocation.
 pub(crate) fn make_first<'a>(
     rt: &(impl Threads + Wait + Sync),
     heap: Heap<'a>,
@@ -182,7 +182,7 @@ pub(crate) fn make_first<'a>(
     Ok(met)
 }
 
-/// Makes the call of this number again if it was broken off, and the rest.
+/// Makes the call with this number again if it was broken off, and the rest.
 fn make_again<'a>(
     rt: &(impl Threads + Wait + Sync),
     system: &mut System<Heap<'a>>,
@@ -197,8 +197,8 @@ fn make_again<'a>(
     Ok(())
 }
 
-/// Makes all calls on a new system: the call of one number is refused its allocation of another, and made again if it was
-/// broken off. Appends what came of it, and returns whether it came to that allocation.
+/// Makes all calls on a new system: one call, by its number, is refused one of its allocations, by that one's number,
+/// and made again if it was broken off. Appends its result, and returns whether it reached that allocation.
 fn make_all<'a>(
     rt: &(impl Threads + Wait + Sync),
     heap: Heap<'a>,
@@ -215,7 +215,7 @@ fn make_all<'a>(
     Ok(met)
 }
 
-/// Makes the calls of a trace so on a system of its own.
+/// Does so with the calls of a trace, on a system of its own.
 fn attempt<'a>(
     rt: &(impl Threads + Wait + Sync),
     heap: Heap<'a>,
@@ -229,7 +229,7 @@ fn attempt<'a>(
     make_all(rt, heap, &mut system, calls, asked, number, text)
 }
 
-/// The bit for a text: 1 for the first, and twice as much for each further one. 0 where it is none of them.
+/// The bit of a text: 1 for the first of these texts, and twice as much for each further one. 0 if it is none of them.
 fn bit_of(texts: &[&str], text: &str) -> u32 {
     let mut bit = 1u32;
     for one in texts {
@@ -241,8 +241,8 @@ fn bit_of(texts: &[&str], text: &str) -> u32 {
     0
 }
 
-/// Refuses each allocation of the call of this number in turn, until none is: what comes of it is one of these texts each
-/// time, and the first where none was refused. Gives the bits of those that came.
+/// Refuses each allocation of the call with this number in turn, until none is left: the result is one of these texts
+/// each time, and the first if none was refused. Returns the bits of those that occurred.
 fn refuse_each<'a>(
     rt: &(impl Abort + Threads + Wait + Sync),
     heap: Heap<'a>,
@@ -264,7 +264,7 @@ fn refuse_each<'a>(
     Err(AllocError)
 }
 
-/// Reads a trace, and refuses each allocation of its call of this number in turn.
+/// Reads a trace, and refuses each allocation of its call with this number in turn.
 fn refuse(
     rt: &(impl Abort + Threads + Wait + Sync),
     alloc: Global,
@@ -303,7 +303,7 @@ const THREE_TOLD: [&str; 2] = [
 | 0: [1, 1, 1] | 4 5 6 | 3 0 1 2 | 7 | 3 0 | [97] | [98, 0] | [99] | true",
 ];
 
-/// A call of one run is refused before it.
+/// A call of one run is refused before the run.
 #[test]
 fn refused_runs_begin_again(rt: HostRuntime) -> Result<(), Fail> {
     let seen = refuse(&rt, rt.alloc(), THREE, 5, THREE_TOLD.as_slice())?;
@@ -311,7 +311,7 @@ fn refused_runs_begin_again(rt: HostRuntime) -> Result<(), Fail> {
     Ok(())
 }
 
-/// A page that two processes see, and which one of them moves: it stays.
+/// A page that two processes see, and that one of them asks to move: it stays.
 const SHARED: &str =
     "{\"version\":1,\"machine\":{\"nodes\":[4,4],\"distance\":[[10,20],[20,10]]},\"steps\":[
 {\"op\":\"spawn\",\"pid\":1,\"uid\":100,\"home\":0,\"allowed\":[0,1]},
@@ -335,7 +335,7 @@ const SHARED_TOLD: [&str; 2] = [
 | 0: [-13] | 0 | 1 2 3 | 4 5 6 7 | 0 0 | 0 | [97] | true",
 ];
 
-/// A call that moves nothing takes memory as well.
+/// A call that moves nothing also allocates.
 #[test]
 fn refused_pages_stay(rt: HostRuntime) -> Result<(), Fail> {
     let seen = refuse(&rt, rt.alloc(), SHARED, 7, SHARED_TOLD.as_slice())?;
@@ -343,7 +343,7 @@ fn refused_pages_stay(rt: HostRuntime) -> Result<(), Fail> {
     Ok(())
 }
 
-/// That page, which a third process may move.
+/// The same page, which a third process may move.
 const SHARED_BY_ALL: &str =
     "{\"version\":1,\"machine\":{\"nodes\":[4,4],\"distance\":[[10,20],[20,10]]},\"steps\":[
 {\"op\":\"spawn\",\"pid\":1,\"uid\":100,\"home\":0,\"allowed\":[0,1]},
@@ -404,7 +404,7 @@ const THERE_AND_BACK_TOLD: [&str; 3] = [
 | 0: [1, 0] | 3 1 2 | 0 | 5 6 7 4 | 2 0 | [97] | true",
 ];
 
-/// A call of two runs is refused before the first or between them.
+/// A call of two runs is refused before the first or between the two.
 #[test]
 fn refused_batches_go_on(rt: HostRuntime) -> Result<(), Fail> {
     let seen = refuse(
@@ -418,8 +418,8 @@ fn refused_batches_go_on(rt: HostRuntime) -> Result<(), Fail> {
     Ok(())
 }
 
-/// Two pages of the nodes 0 and 1, which go to the nodes 1 and 2: the second goes first, and the first takes the node
-/// that it left.
+/// Two pages, on nodes 0 and 1, go to nodes 1 and 2: the second goes first, and the first then moves to the node that
+/// it left.
 const FROM_NODES: &str =
     "{\"version\":1,\"machine\":{\"nodes\":[4,4,4],\"distance\":[[10,20,20],[20,10,20],[20,20,10]]},\"steps\":[
 {\"op\":\"spawn\",\"pid\":1,\"uid\":100,\"home\":0,\"allowed\":[0,1,2]},
@@ -444,7 +444,7 @@ const FROM_NODES_TOLD: [&str; 3] = [
 | 0 | 5 8 | 2 3 1 0 | 6 7 4 | 9 10 11 | 3 0 | [97] | [98] | true",
 ];
 
-/// A move of two runs from nodes to nodes is refused before the first or between them.
+/// A move of two runs from nodes to nodes is refused before the first or between the two.
 #[test]
 fn refused_migrations_go_on(rt: HostRuntime) -> Result<(), Fail> {
     let seen = refuse(&rt, rt.alloc(), FROM_NODES, 5, FROM_NODES_TOLD.as_slice())?;
@@ -452,7 +452,7 @@ fn refused_migrations_go_on(rt: HostRuntime) -> Result<(), Fail> {
     Ok(())
 }
 
-/// Two pages that are bound to the nodes 1 and 2, of which the first has one frame.
+/// Two pages that are bound to nodes 1 and 2, the first of which has one frame.
 const BOUND: &str =
     "{\"version\":1,\"machine\":{\"nodes\":[4,1,4],\"distance\":[[10,20,20],[20,10,20],[20,20,10]]},\"steps\":[
 {\"op\":\"spawn\",\"pid\":1,\"uid\":100,\"home\":0,\"allowed\":[0,1,2]},
@@ -479,7 +479,8 @@ const BOUND_TOLD: [&str; 4] = [
 | 0 | 4 5 | 2 3 0 1 | | 6 7 8 | 2 2 | 00010000 bind:1-2 anon=2 N1=1 N2=1 kernelpagesize_kB=4 | [97] | [98] | true",
 ];
 
-/// A call that sets a policy and makes two runs is refused before it is set, before the first run, or between the two.
+/// A call that sets a policy and makes two runs is refused before the policy is set, before the first run, or between
+/// the two.
 #[test]
 fn refused_bindings_go_on(rt: HostRuntime) -> Result<(), Fail> {
     let seen = refuse(&rt, rt.alloc(), BOUND, 4, BOUND_TOLD.as_slice())?;
@@ -487,8 +488,8 @@ fn refused_bindings_go_on(rt: HostRuntime) -> Result<(), Fail> {
     Ok(())
 }
 
-/// Three pages on a node that goes offline, to a node of one frame and then another. The second is pinned, and so the
-/// node stays online: a batch may name it.
+/// Three pages on a node that is to go offline go to a node of one frame and then to another. The second page has a
+/// pin, so the node stays online, and a batch may name it.
 const EMPTIED: &str =
     "{\"version\":1,\"machine\":{\"nodes\":[4,1,4],\"distance\":[[10,20,20],[20,10,20],[20,20,10]]},\"steps\":[
 {\"op\":\"spawn\",\"pid\":1,\"uid\":100,\"home\":0,\"allowed\":[0,1,2]},
@@ -515,7 +516,7 @@ const EMPTIED_TOLD: [&str; 3] = [
 | Refused(Ebusy) | 4 1 5 | 3 0 2 | | 6 7 8 | 2 4 | [97] | [99] | 0: [0] | true",
 ];
 
-/// A node that goes offline is online where a run was refused, and a page that was tried before fails again.
+/// The node is online if a run was refused, and a page that was tried before fails again.
 #[test]
 fn refused_nodes_stay_online(rt: HostRuntime) -> Result<(), Fail> {
     let seen = refuse(&rt, rt.alloc(), EMPTIED, 6, EMPTIED_TOLD.as_slice())?;
@@ -523,7 +524,7 @@ fn refused_nodes_stay_online(rt: HostRuntime) -> Result<(), Fail> {
     Ok(())
 }
 
-/// The same pages, and none is pinned: the node goes offline, and a batch may not name it then.
+/// The same pages without a pin: the node goes offline, and a batch may not name it then.
 const GONE: &str =
     "{\"version\":1,\"machine\":{\"nodes\":[4,1,4],\"distance\":[[10,20,20],[20,10,20],[20,20,10]]},\"steps\":[
 {\"op\":\"spawn\",\"pid\":1,\"uid\":100,\"home\":0,\"allowed\":[0,1,2]},
@@ -548,7 +549,7 @@ const GONE_TOLD: [&str; 3] = [
 | | 4 5 6 | 3 0 1 2 | | 7 8 | 3 4 | [98] | Refused(Enodev) | true",
 ];
 
-/// A node that is to go offline is online where a run was refused, and offline once the others are made.
+/// The node is online if a run was refused, and offline after the others are made.
 #[test]
 fn refused_nodes_go_later(rt: HostRuntime) -> Result<(), Fail> {
     let seen = refuse(&rt, rt.alloc(), GONE, 5, GONE_TOLD.as_slice())?;
@@ -556,8 +557,8 @@ fn refused_nodes_go_later(rt: HostRuntime) -> Result<(), Fail> {
     Ok(())
 }
 
-/// A page that goes to node 1, and meanwhile a read of it, a read of the second page and a write to the fifth, which has
-/// no frame yet.
+/// A page goes to node 1, and meanwhile it is read, the second page is read, and the fifth, which has no frame yet, is
+/// written.
 const IN_FLIGHT: &str =
     "{\"version\":1,\"machine\":{\"nodes\":[4,4],\"distance\":[[10,20],[20,10]]},\"steps\":[
 {\"op\":\"spawn\",\"pid\":1,\"uid\":100,\"home\":0,\"allowed\":[0,1]},
@@ -583,7 +584,7 @@ const IN_FLIGHT_TOLD: [&str; 2] = [
 | 0: [1] held [98] done | 4 1 2 3 5 | 0 | 6 7 | 1 0 | [97] | [98] | true",
 ];
 
-/// The page that an access was to fill has no frame where the run was refused, and no free frame is lost or out of its
+/// The page that an access was to fill has no frame if the run was refused, and no free frame is lost or out of its
 /// place.
 #[test]
 fn refused_accesses_leave_no_trace(rt: HostRuntime) -> Result<(), Fail> {
@@ -592,7 +593,7 @@ fn refused_accesses_leave_no_trace(rt: HostRuntime) -> Result<(), Fail> {
     Ok(())
 }
 
-/// A page that goes to node 1, and meanwhile a read of it through an area that does not show it yet.
+/// A page goes to node 1, and meanwhile it is read through an area that does not show it yet.
 const HELD: &str =
     "{\"version\":1,\"machine\":{\"nodes\":[4,4],\"distance\":[[10,20],[20,10]]},\"steps\":[
 {\"op\":\"spawn\",\"pid\":1,\"uid\":100,\"home\":0,\"allowed\":[0,1]},
@@ -613,7 +614,7 @@ const HELD_TOLD: [&str; 2] = [
 | 0: [1] held | 4 | 1 2 3 0 | 5 6 7 | 1 0 | [97] | true",
 ];
 
-/// The area through which a page was read has no entry for it where the run was refused.
+/// The area through which the page was read has no entry for it if the run was refused.
 #[test]
 fn refused_areas_stay(rt: HostRuntime) -> Result<(), Fail> {
     let seen = refuse(&rt, rt.alloc(), HELD, 4, HELD_TOLD.as_slice())?;
@@ -621,7 +622,7 @@ fn refused_areas_stay(rt: HostRuntime) -> Result<(), Fail> {
     Ok(())
 }
 
-/// Two pages that go to node 1, each in a run of its own, and in the second a write to the fifth page.
+/// Two pages go to node 1, each in a run of its own, and in the second run the fifth page is written.
 const IN_THE_SECOND: &str =
     "{\"version\":2,\"run_limit\":1,\"machine\":{\"nodes\":[4,4],\"distance\":[[10,20],[20,10]]},\"steps\":[
 {\"op\":\"spawn\",\"pid\":1,\"uid\":100,\"home\":0,\"allowed\":[0,1]},
@@ -647,7 +648,7 @@ const IN_THE_SECOND_TOLD: [&str; 3] = [
 | 0: [1, 1] done | 4 5 2 3 0 | 1 | 6 7 | 2 0 | [97] | [98] | true",
 ];
 
-/// An access of the second run is made with that run, also where the first was made before.
+/// An access of the second run is made with that run, even if the first was made before.
 #[test]
 fn refused_accesses_go_on(rt: HostRuntime) -> Result<(), Fail> {
     let seen = refuse(

@@ -1,5 +1,5 @@
-//! The first program to read: a machine, a process, pages that move, and a look at where they are. It plays a trace step by
-//! step, as its own text, and prints what each call answers.
+//! The first program to read: a machine, a process, pages that move, and a look at where they are. It plays a trace
+//! step by step, from its own text, and prints the answer of each call.
 #![tactic(auto)]
 
 use nm_crew::OpenGate;
@@ -7,11 +7,11 @@ use nm_trace::Session;
 use std::io::Write;
 use std::process::ExitCode;
 
-/// Two nodes of four frames, 10 to itself and 20 to the other.
+/// Two nodes of four frames each, at distance 10 to themselves and 20 to each other.
 const MACHINE: &str =
     "{\"version\":1,\"machine\":{\"nodes\":[4,4],\"distance\":[[10,20],[20,10]]}}";
 
-/// A process at home on node 0 writes two pages, moves them to node 1 as move_pages(2) does, and looks.
+/// A process whose home is node 0 writes two pages, moves them to node 1 as move_pages(2) does, and looks at them.
 const STEPS: [&str; 6] = [
     "{\"op\":\"spawn\",\"pid\":1,\"uid\":100,\"home\":0,\"allowed\":[0,1]}",
     "{\"op\":\"map\",\"pid\":1,\"addr\":65536,\"pages\":2}",

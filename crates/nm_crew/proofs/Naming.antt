@@ -1,4 +1,4 @@
--- Boards of one name are one.
+-- Boards with the same name are the same.
 use Rattle.std.proofs.Common.{◌≡◌, List, [], ◌∷◌, map, sym, refl, ap, ◌∙◌}
 use Rattle.nm_frames.specs.declared.job.CopyJob.{CopyJob}
 use Rattle.nm_board.specs.Shown.{Laying}

@@ -20,11 +20,11 @@ use std::sync::Wait;
 use std::thread;
 use std::thread::{Scope, Threads};
 
-/// Copies the jobs with `workers` workers, 1 to 64, and calls `work` meanwhile. The jobs' tickets count up from 0 in
-/// the list's order. The caller is worker 0: it starts the others, calls `work` once, copies with them, and returns
-/// when their threads have ended. With fewer bytes to copy than `gate.worth_from()`, it copies alone. Returns every job,
-/// copied, in the order of its ticket, and what `work` returned; if the host is out of memory or starts no thread, the
-/// workers that there are do all the copying.
+/// Copies the jobs with `workers` workers, 1 to 64, and calls `work` meanwhile. The jobs' tickets must count up from 0
+/// in the list's order. The caller is worker 0: it starts the others, calls `work` once, copies with them, and returns
+/// when their threads have ended. If there are fewer bytes to copy than `gate.worth_from()`, it copies alone. Returns
+/// every job, copied, in the order of its ticket, and what `work` returned. If the host is out of memory or starts no
+/// thread, the remaining workers do all the copying.
 pub fn copy_while<
     A: Allocator + Copy + Send + Sync,
     R: Threads + Wait + Sync,
@@ -48,7 +48,7 @@ pub fn copy_while<
     copy_with(rt, alloc, jobs, workers, &Plainly, gate, work)
 }
 
-/// The same, with threads that are started as `starts` says.
+/// Does the same with threads that `starts` configures.
 pub(crate) fn copy_with<
     A: Allocator + Copy + Send + Sync,
     R: Threads + Wait + Sync,
@@ -83,8 +83,8 @@ pub(crate) fn copy_with<
     }
 }
 
-/// How many workers there are besides the caller: none where the gate says that it is not worth it, and never more than
-/// jobs.
+/// How many workers to use besides the caller: none if the gate says that it is not worth it, and never more than there
+/// are jobs.
 fn others<A: Allocator + Copy, G: Gate>(gate: &G, jobs: &[CopyJob<A>], workers: usize) -> usize
     requires { 0 < workers }
     ensures workers { result < workers }
@@ -106,7 +106,7 @@ fn size_of<A: Allocator + Copy>(jobs: &[CopyJob<A>]) -> usize {
     size
 }
 
-/// Calls `work` and copies the jobs, all by the caller.
+/// Calls `work` and copies the jobs, all on the calling thread.
 fn copy_alone<A: Allocator + Copy, G: Gate, T, W: FnOnce() -> T>(
     mut jobs: Vec<CopyJob<A>, A>,
     gate: &G,
@@ -131,7 +131,7 @@ fn copy_each<A: Allocator + Copy, G: Gate>(jobs: &mut [CopyJob<A>], gate: &G)
     }
 }
 
-/// Copies the jobs of a board with up to `others` workers besides the caller.
+/// Copies a board's jobs with up to `others` workers besides the caller.
 fn copy_by<
     A: Allocator + Copy + Send + Sync,
     B: Room + Send + Sync,
@@ -166,7 +166,7 @@ fn copy_by<
     }
 }
 
-/// As many workers as were asked for, each with one share of the hand, or none if there is no memory for their list.
+/// Makes `others` workers, each with one share of the hand, or none if there is no memory for their list.
 fn hire<A: Allocator + Copy, B: Room>(
     alloc: A,
     board: &Board<A>,
@@ -190,7 +190,7 @@ fn hire<A: Allocator + Copy, B: Room>(
     workers
 }
 
-/// A worker with one share of the hand.
+/// Makes a worker with one share of the hand.
 fn hired<A: Allocator + Copy, B: Room>(board: &Board<A>, own: &mut Hand<A>) -> Worker<A, B>
     requires room { named board.now ≡ B.board }
     requires ready { IsReady board.now own.old }
@@ -204,7 +204,7 @@ fn hired<A: Allocator + Copy, B: Room>(board: &Board<A>, own: &mut Hand<A>) -> W
     }
 }
 
-/// Lends each worker to a thread of its own, calls `work`, works as worker 0, and waits for them.
+/// Lends each worker to a thread of its own, calls `work`, works as worker 0, and waits for the threads.
 fn work_beside<
     'x,
     A: Allocator + Copy + Send + Sync,
@@ -246,7 +246,7 @@ fn work_beside<
     (own, answer, workers)
 }
 
-/// Starts a thread for each worker. If the host starts none, the others do what that worker would have done.
+/// Starts a thread for each worker. If the host does not start one, the others do its work.
 fn start_each<'s, E, A: Allocator + Copy + Send + Sync, B: Room + Send + Sync, G: Gate + Sync>(
     scope: &Scope<'s, E>,
     workers: &'s mut [Worker<A, B>],

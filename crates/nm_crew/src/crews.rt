@@ -1,4 +1,4 @@
-//! Crews: who copies the pages of a run.
+//! Crews: the workers that copy the pages of a run.
 
 ghost use Rattle.std.specs.Prelude.{◌≡◌, ◌<◌, ◌≤◌, map};
 ghost use Rattle.nm_frames.specs.Job.{copied};
@@ -12,7 +12,8 @@ use std::marker::Model;
 use std::sync::Wait;
 use std::thread::Threads;
 
-/// The caller and threads of a runtime, 1 to 64 workers together, which pass a gate. Contracts see how many they are.
+/// The caller and threads of a runtime, 1 to 64 workers in total, and the gate that they pass. Contracts see the number
+/// of workers.
 #[derive(Drop)]
 pub struct Crew<'a, R: Threads + Wait + Sync, G: Gate + Sync> {
     rt: &'a R,
@@ -31,7 +32,7 @@ impl<'a, R: Threads + Wait + Sync, G: Gate + Sync> Model for Crew<'a, R, G> {
 }
 
 impl<'a, R: Threads + Wait + Sync, G: Gate + Sync> Crew<'a, R, G> {
-    /// A crew of so many workers, 1 to 64, of which the caller is the first.
+    /// Makes a crew of `workers` workers, 1 to 64, the first of which is the caller.
     pub fn new(rt: &'a R, workers: usize, gate: &'a G) -> Self
         requires { (0 < workers) × (workers ≤ 64) }
         ensures { result ≡ workers }
@@ -39,8 +40,8 @@ impl<'a, R: Threads + Wait + Sync, G: Gate + Sync> Crew<'a, R, G> {
         Crew { rt, workers, gate }
     }
 
-    /// Copies the jobs, and calls `work` meanwhile. The jobs' tickets count up from 0 in the list's order. Returns every
-    /// job, copied, in the order of its ticket, and what `work` returned.
+    /// Copies the jobs, and calls `work` meanwhile. The jobs' tickets must count up from 0 in the list's order. Returns
+    /// every job, copied, in the order of its ticket, and what `work` returned.
     pub fn copy_while<A: Allocator + Copy + Send + Sync, T, W: FnOnce() -> T>(
         &self,
         alloc: A,
@@ -55,7 +56,7 @@ impl<'a, R: Threads + Wait + Sync, G: Gate + Sync> Crew<'a, R, G> {
         copy_while(self.rt, alloc, jobs, self.workers, self.gate, work)
     }
 
-    /// The runtime of its threads; none where the caller is alone.
+    /// The runtime for more threads. None if the caller is the only worker.
     pub fn runtime(&self) -> Option<&'a R> {
         if self.workers > 1 {
             Some(self.rt)

@@ -1,28 +1,28 @@
-//! What each worker passes before it copies, and the caller before an access in flight.
+//! Gates: called by each worker before it copies, and by the caller before an access in flight.
 
-/// From how many bytes on an open gate lets a second worker start: those of 1,024 whole pages.
+/// The fewest bytes for which an open gate lets a second worker start: those of 1,024 whole pages.
 const OPEN_FROM: usize = 4_194_304;
 
-/// Is passed by each worker between its draw of a job and the copying of it, and by the caller before each access in
-/// flight. What a gate does changes no job.
+/// Called by each worker between drawing a job and copying it, and by the caller before each access in flight. Whatever
+/// a gate does, it changes no job.
 pub trait Gate {
-    /// The worker of this number drew the job of this ticket. It copies when this returns. Worker 0 is the caller, and
-    /// tickets count from 0.
+    /// The worker with this number has drawn the job with this ticket. It copies once this returns. Worker 0 is the
+    /// caller, and tickets count from 0.
     fn pass(&self, worker: usize, ticket: u64);
 
-    /// How many bytes all jobs together must have to copy for a second worker to be worth its start. With fewer, the caller
-    /// copies alone.
+    /// How many bytes all jobs together must have to copy for a second worker to be worth starting. With fewer, the
+    /// caller copies alone.
     fn worth_from(&self) -> usize {
         0
     }
 
-    /// The caller, whose `work` runs beside the workers, comes to the access in flight of this number, counted from 0 in
-    /// each run. It is made when this returns.
+    /// The caller, whose `work` runs beside the workers, has come to the access in flight with this number, counted
+    /// from 0 in each run. The access is made once this returns.
     fn access(&self, _number: usize) {}
 }
 
-/// Lets each worker through at once. A second worker starts from 4 MiB on: the start and the end of a thread take as long
-/// as the copying of some hundred whole pages.
+/// Lets each worker through at once. A second worker starts from 4 MiB on: starting and ending a thread takes as long
+/// as copying some hundred whole pages.
 pub struct OpenGate;
 
 impl Gate for OpenGate {

@@ -1,4 +1,4 @@
-//! Workers that copy jobs while the caller works. Each draws the next job from a board, so whoever is quick copies more,
+//! Workers that copy jobs while the caller works. Each draws the next job from a board, so a faster worker copies more,
 //! and every job comes back copied, in order, however many workers there are.
 #![tactic(auto)]
 

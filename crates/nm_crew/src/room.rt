@@ -1,4 +1,4 @@
-//! A name for one board, which the workers' type has.
+//! A name for one board, as a parameter of its workers' type.
 
 use std::marker::Brand;
 

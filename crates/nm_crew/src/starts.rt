@@ -1,14 +1,14 @@
-//! How the threads of workers are started.
+//! How the workers' threads are started.
 
 use std::thread::Builder;
 
-/// Says how the thread of a worker is started.
+/// Configures the threads of workers.
 pub(crate) trait Starts {
-    /// How to start the thread of the worker of this number.
+    /// The settings for the thread of the worker with this number.
     fn builder(&self, worker: usize) -> Builder;
 }
 
-/// Starts each thread with the settings that the host has by default.
+/// Starts each thread with the host's default settings.
 pub(crate) struct Plainly;
 
 impl Starts for Plainly {

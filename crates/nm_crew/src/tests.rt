@@ -13,7 +13,7 @@ use std::sync::atomic::{AtomicBool, AtomicU64, Ordering};
 use std::test::Fail;
 use std::thread::{Builder, Threads, yield_now};
 
-/// A job whose source begins with a byte.
+/// A job whose source begins with this byte.
 fn job<A: Allocator + Copy>(alloc: A, ticket: u64, byte: u8) -> Result<CopyJob<A>, AllocError>
     ensures { IfOk result (λ job. job.ticket ≡ ticket) }
 {
@@ -60,7 +60,7 @@ fn are_copied<A: Allocator + Copy>(jobs: &[CopyJob<A>], count: usize) -> bool {
     jobs.len() == count
 }
 
-/// Whether so many jobs come back copied, and the answer of the work beside them.
+/// Whether this many jobs come back copied, with the answer of the work beside them.
 fn copies<G: Gate + Sync>(
     rt: &(impl Threads + Wait + Sync),
     alloc: Global,
@@ -74,7 +74,7 @@ fn copies<G: Gate + Sync>(
     Ok(answer == 7 && are_copied(jobs.as_slice(), count as usize))
 }
 
-/// Lets each worker through at once, and lets others start from the first job on.
+/// Lets each worker through at once, and allows other workers from the first job on.
 #[derive(Drop)]
 struct Through;
 
@@ -82,7 +82,7 @@ impl Gate for Through {
     fn pass(&self, _worker: usize, _ticket: u64) {}
 }
 
-/// How often workers 0 and 1 came to a gate, and whether one of them waited there in vain.
+/// How often workers 0 and 1 called a gate, and whether one of them waited there in vain.
 #[derive(Drop)]
 struct Calls {
     zero: AtomicU64,
@@ -99,7 +99,7 @@ impl Calls {
         }
     }
 
-    /// Counts a call of a worker, and says how many it made before.
+    /// Counts a worker's call, and returns how many it made before.
     fn count(&self, worker: usize) -> u64 {
         if worker == 0 {
             self.zero.fetch_add(1, Ordering::SeqCst)
@@ -108,7 +108,7 @@ impl Calls {
         }
     }
 
-    /// Waits until `least` calls were counted, for at most 2^24 turns.
+    /// Waits for at most 2^24 turns until `least` calls were counted.
     fn hold(&self, calls: &AtomicU64, least: u64) {
         for _ in 0..1u64 << 24 {
             if calls.load(Ordering::SeqCst) >= least {
@@ -119,7 +119,7 @@ impl Calls {
         self.missed.store(true, Ordering::SeqCst);
     }
 
-    /// Whether both came and none waited in vain.
+    /// Whether both workers called and neither waited in vain.
     fn met(&self) -> bool {
         self.zero.load(Ordering::SeqCst) > 0
             && self.one.load(Ordering::SeqCst) > 0
@@ -139,7 +139,7 @@ impl Gate for Meeting {
     }
 }
 
-/// Two workers meet at the gate: no body that copies on one thread gets both there.
+/// Two workers meet at the gate: code that copies on one thread never gets both there.
 #[test]
 fn two_workers_meet(rt: HostRuntime) -> Result<(), Fail> {
     let gate = Meeting(Calls::new());
@@ -147,7 +147,7 @@ fn two_workers_meet(rt: HostRuntime) -> Result<(), Fail> {
     Ok(())
 }
 
-/// Holds worker 1's first call until `work` came, which counts as worker 0.
+/// Holds worker 1's first call until `work`, which counts as worker 0, has called.
 #[derive(Drop)]
 struct BesideWork(Calls);
 
@@ -159,8 +159,8 @@ impl Gate for BesideWork {
     }
 }
 
-/// `work` and worker 1 hold for each other: no body that runs `work` before the starts or after the joins gets them
-/// together.
+/// `work` and worker 1 wait for each other: code that runs `work` before starting or after joining the threads never
+/// lets them meet.
 #[test]
 fn work_runs_beside_the_workers(rt: HostRuntime) -> Result<(), Fail> {
     let gate = BesideWork(Calls::new());
@@ -173,7 +173,7 @@ fn work_runs_beside_the_workers(rt: HostRuntime) -> Result<(), Fail> {
     Ok(())
 }
 
-/// Holds worker 0's first call until worker 1 has called it, and worker 1's first until worker 0 has called it three
+/// Holds worker 0's first call until worker 1 has called, and worker 1's first call until worker 0 has called three
 /// times.
 #[derive(Drop)]
 struct Uneven(Calls);
@@ -191,7 +191,7 @@ impl Gate for Uneven {
     }
 }
 
-/// Of four jobs one worker copies three while the other holds one: fixed shares never meet so.
+/// One worker copies three of four jobs while the other holds one: with fixed shares that cannot happen.
 #[test]
 fn shares_are_not_fixed(rt: HostRuntime) -> Result<(), Fail> {
     let gate = Uneven(Calls::new());
@@ -200,7 +200,7 @@ fn shares_are_not_fixed(rt: HostRuntime) -> Result<(), Fail> {
     Ok(())
 }
 
-/// Three jobs with 64 workers, and none.
+/// Three jobs with 64 workers, and no jobs.
 #[test]
 fn more_workers_than_jobs(rt: HostRuntime) -> Result<(), Fail> {
     assert!(rt; copies(&rt, rt.alloc(), 3, 64, &Through)?);
@@ -209,7 +209,7 @@ fn more_workers_than_jobs(rt: HostRuntime) -> Result<(), Fail> {
     Ok(())
 }
 
-/// The lists are the same whatever the number of workers, where others start from the first job on.
+/// The lists are the same for any number of workers, with other workers allowed from the first job on.
 #[test]
 fn a_hundred_jobs(rt: HostRuntime) -> Result<(), Fail> {
     for workers in [1, 2, 3, 64] {
@@ -235,7 +235,7 @@ fn worth_its_start(rt: HostRuntime) {
     assert!(rt; [OpenGate.worth_from(), Through.worth_from()] == [4_194_304, 0]);
 }
 
-/// Has the host refuse the thread of one worker, or of all where it is worker 0.
+/// Has the host refuse the thread of one worker, or all threads if that is worker 0.
 #[derive(Drop)]
 struct Refused(usize);
 
@@ -249,7 +249,7 @@ impl Starts for Refused {
     }
 }
 
-/// Notes which workers came, a bit for each.
+/// Notes which workers called, one bit each.
 #[derive(Drop)]
 struct Seen(AtomicU64);
 
@@ -261,7 +261,7 @@ impl Gate for Seen {
     }
 }
 
-/// Where a thread is not started, each in turn and then all of them, the others copy its jobs.
+/// If threads are not started, each in turn and then all, the others copy the jobs.
 #[test]
 fn refused_threads(rt: HostRuntime) -> Result<(), Fail> {
     for refused in [1, 2, 3, 0] {
@@ -293,8 +293,8 @@ fn refused_threads(rt: HostRuntime) -> Result<(), Fail> {
     Ok(())
 }
 
-/// What came of copying three jobs where the host refuses an allocation: whether all were copied, whether it was refused,
-/// and which workers came.
+/// The result of copying three jobs while the host refuses one allocation: whether all were copied, whether the
+/// allocation was refused, and which workers copied.
 fn copied_without(
     rt: &(impl Threads + Wait + Sync),
     heap: &Refusing<Global>,
@@ -310,8 +310,8 @@ fn copied_without(
     Ok((copied, met, gate.0.load(Ordering::SeqCst)))
 }
 
-/// Where memory is refused, each allocation in turn until none is, all jobs come back copied: the board's memory, and then
-/// that of the list of hands. The caller copies them alone.
+/// If memory is refused, each allocation in turn until none is left, all jobs come back copied: first the board's
+/// memory is refused, then that of the list of hands. The caller copies alone.
 #[test]
 fn refused_memory(rt: HostRuntime) -> Result<(), Fail> {
     let heap = Refusing::new(rt.alloc());
@@ -331,7 +331,7 @@ fn refused_memory(rt: HostRuntime) -> Result<(), Fail> {
     Ok(())
 }
 
-/// Whether two jobs are copied without memory where the gate is open.
+/// Whether two jobs are copied without memory when the gate is open.
 fn copied_without_memory(
     rt: &(impl Threads + Wait + Sync),
     heap: &Refusing<Global>,
@@ -342,7 +342,7 @@ fn copied_without_memory(
     Ok(heap.asked_since(1) == 0 && answer == 7 && are_copied(jobs.as_slice(), 2))
 }
 
-/// Two jobs are not worth a second worker's start where the gate is open: they are copied without memory.
+/// Two jobs are not worth starting a second worker for when the gate is open: they are copied without allocating.
 #[test]
 fn no_memory_for_two_jobs(rt: HostRuntime) -> Result<(), Fail> {
     let heap = Refusing::new(rt.alloc());

@@ -10,8 +10,8 @@ use nm_board::{Board, Hand};
 use std::alloc::Allocator;
 use std::marker::PhantomData;
 
-/// A hand of one share of the board that `B` names, which has given back all that it drew. It is lent to a thread and
-/// stays the caller's.
+/// A hand with one share of the board that `B` names, which has given back all that it drew. It is lent to a thread and
+/// remains the caller's.
 #[derive(Drop)]
 pub(crate) struct Worker<A: Allocator + Copy, B: Room> {
     pub(crate) hand: Hand<A>,

@@ -1,4 +1,4 @@
--- The address spaces of all processes: what processes see, the areas, and the frames and pins of pages.
+-- The address spaces of all processes: what each sees, its areas, and the frames and pins of pages.
 use Rattle.std.specs.Prelude.{ℕ, Bool, ◌==◌, [], if◌then◌else◌, length}
 use Rattle.std.specs.Option.{unwrap_or}
 use Rattle.std.specs.Ordering.{nat_cmp}
@@ -22,9 +22,9 @@ pub record SpacesView : Type 0 where
   -- by pid and first page number
   pub areas : Map (ℕ × ℕ) Area
   pub segments : Map ℕ Segment
-  -- the number of the next segment
+  -- the number that the next segment gets
   pub next : ℕ
-  -- of each page that has a frame: the frame, and how often it is pinned
+  -- of each page that has a frame: the frame, and its number of pins
   pub place : Map Page ℕ
   pub pins : Map Page ℕ
   -- how many frames there are
@@ -42,7 +42,7 @@ mapped_of y = record { areas = y.areas; segments = y.segments; next = y.next; pl
 abbrev pub pins_in : Mappers → Map Page ℕ → Map Page ℕ
 pins_in r place = with_values (λ page frame. frame_pins r frame) place
 
--- page tables, areas and the reverse map together
+-- page tables, areas and the reverse map, as one view
 abbrev pub spaces_view : Map ℕ Task → Mapped → Mappers → SpacesView
 spaces_view tasks m r =
     record {
@@ -55,33 +55,33 @@ spaces_view tasks m r =
       frames = length r.mappings;
     }
 
--- `frames` frames and nothing else
+-- `frames` frames, and nothing else
 abbrev pub no_spaces : ℕ → SpacesView
 no_spaces frames =
     record { processes = []; areas = []; segments = []; next = 0; place = []; pins = []; frames = frames }
 
--- the areas and segments may change
+-- the areas, the segments and their number may change
 abbrev pub with_mapped : SpacesView → Mapped → SpacesView
 with_mapped y m = record y { areas = m.areas; segments = m.segments; next = m.next }
 
--- a process sees this at a page number from now on
+-- a process sees this at a page number
 abbrev pub with_seen : SpacesView → ℕ → Process → ℕ → Sight → SpacesView
 with_seen y pid p v sight = record y { processes = replace nat_cmp y.processes pid (seeing p v sight) }
 
--- a process sees nothing at a page number from now on
+-- a process sees nothing at a page number
 abbrev pub without_seen : SpacesView → ℕ → Process → ℕ → SpacesView
 without_seen y pid p v = record y { processes = replace nat_cmp y.processes pid (blind_at p v) }
 
--- a process sees the page of zeros at a page number from now on, or nothing
+-- a process sees the page of zeros at a page number, or nothing
 abbrev pub with_before : SpacesView → ℕ → Process → ℕ → Bool → SpacesView
 with_before y pid p v zero = record y { processes = replace nat_cmp y.processes pid (seeing_before p v zero) }
 
--- a page has no frame and no pins any more
+-- a page loses its frame and its pins
 abbrev pub without_page : SpacesView → Page → SpacesView
 without_page y page =
     record y { place = without page_cmp y.place page; pins = without page_cmp y.pins page }
 
--- a page gets a frame, and a process sees it
+-- a page gets a frame, and a process sees the page
 abbrev pub with_new_page : SpacesView → ℕ → Process → ℕ → Page → ℕ → SpacesView
 with_new_page y pid p v page frame =
     record (with_seen y pid p v (Sees page)) {
@@ -89,20 +89,20 @@ with_new_page y pid p v page frame =
       pins = set page_cmp y.pins page 0;
     }
 
--- a page has another frame
+-- a page's frame is replaced
 abbrev pub with_moved : SpacesView → Page → ℕ → SpacesView
 with_moved y page frame = record y { place = set page_cmp y.place page frame }
 
--- how often a page is pinned
+-- the number of pins of a page
 abbrev pub pins_here : SpacesView → Page → ℕ
 pins_here y page = unwrap_or (get page_cmp y.pins page) 0
 
--- a page has another number of pins
+-- the number of pins of a page is set
 abbrev pub with_pins_of : SpacesView → Page → ℕ → SpacesView
 with_pins_of y page pins = record y { pins = replace page_cmp y.pins page pins }
 
--- a process no longer sees what it saw from one page number up to another, its areas' parts there are gone, and so are
--- the frames and pins of pages that no area covers any more
+-- a process loses what it sees from one page number up to another and the parts of its areas there, and pages that no
+-- area covers lose their frames and pins
 abbrev pub without_range : SpacesView → ℕ → ℕ → ℕ → SpacesView
 without_range y pid first end =
     let areas = areas_left y.areas pid first end in

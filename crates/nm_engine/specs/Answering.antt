@@ -1,4 +1,4 @@
--- Accesses, their answers and what is left to do, as contracts see those of the code.
+-- Accesses, their answers and what is left to do for them, as contracts see the values of the code.
 use Rattle.std.specs.Prelude.{◌≡◌, ◌≤◌, ℕ, vec_capacity, List, [], slice_get, Option, Some, None}
 use Rattle.nm_types.specs.declared.access.Access.{Access as Asked}
 use Rattle.nm_types.specs.declared.access.Access.TheVariants as asked

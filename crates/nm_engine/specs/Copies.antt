@@ -6,7 +6,7 @@ use Rattle.nm_frames.specs.Populated.{IsPopulated}
 use Rattle.nm_model.specs.definitions.Frames.{Store, IsHome, IsOut, bytes_of}
 use Rattle.nm_types.specs.declared.taken.Taken.{Taken}
 
--- a page is copied to the frame that it takes
+-- a page's bytes are copied to the frame that it takes
 abbrev pub with_copy : Store → Taken → Store
 with_copy store t = slice_set store t.to (Some (bytes_of store t.from))
 
@@ -14,7 +14,7 @@ with_copy store t = slice_set store t.to (Some (bytes_of store t.from))
 abbrev pub with_copies : Store → List Taken → Store
 with_copies store taken = fold with_copy store taken
 
--- the store without the bytes of both frames
+-- the store with the bytes of both frames out
 abbrev pub without_both : Store → Taken → Store
 without_both store t = slice_set (slice_set store t.from None) t.to None
 
@@ -27,11 +27,11 @@ CanCopy store (t ∷ taken) = IsHome store t.from × IsHome store t.to × (t.fro
 abbrev pub HasBoth : Store → Taken → Type 0
 HasBoth store t = IsPopulated store t.from × IsPopulated store t.to
 
--- the store while the bytes of these moves are out
+-- the store while the bytes of all these moves are out
 abbrev pub emptied : Store → List Taken → Store
 emptied store taken = fold without_both store taken
 
--- a frame's bytes are back home
+-- a frame's bytes are put back home
 abbrev pub with_buf : Store → ℕ × List ℕ → Store
 with_buf store buf = slice_set store buf.0 (Some buf.1)
 
@@ -43,16 +43,16 @@ module _ {A : Type 0} where
       record { source = (t.from, bytes_of store t.from); target = (t.to, bytes_of store t.to); ticket = k }
       ∷ jobs_of (k + 1) (without_both store t) taken
 
-  -- a job's bytes are back home
+  -- both frames' bytes of a job are put back home
   abbrev pub with_job : Store → CopyJob A → Store
   with_job store job = with_buf (with_buf store job.source) job.target
 
-  -- the bytes of jobs are back home, those of the last job first
+  -- the bytes of all these jobs are put back home, the last job's first
   abbrev pub refilled : Store → List (CopyJob A) → Store
   refilled store [] = store
   refilled store (job ∷ jobs) = with_job (refilled store jobs) job
 
-  -- the frames of jobs are out, and none is named twice
+  -- the frames of these jobs are out, and none is named twice
   abbrev pub CanRefill : Store → List (CopyJob A) → Type 0
   CanRefill store [] = Unit {0}
   CanRefill store (job ∷ jobs) =

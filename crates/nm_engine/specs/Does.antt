@@ -1,4 +1,4 @@
--- How a contract says that the answer and the effect of a call are those of its definition.
+-- How a contract states that a call's answer and effect are those of its definition.
 use Rattle.std.specs.Prelude.{◌≡◌, Result, Ok, Err}
 use Rattle.nm_types.specs.declared.errno.Errno.{Errno}
 use Rattle.nm_types.specs.State.{State}
@@ -7,14 +7,13 @@ use Rattle.nm_types.specs.declared.machine_error.MachineError.TheVariants as err
 pub use Rattle.nm_types.specs.Does.{Makes, AsksLast, Alters, Tells}
 use Rattle.nm_model.specs.definitions.Touch.{AccessAnswer, Answered, Refused}
 
--- a read or a write: its answer and the state after it are as defined, or it finds no memory on the host and changes
--- nothing
+-- a read or a write: its answer and the state after it are as defined, or the host is out of memory and nothing changes
 abbrev pub Accesses : {T : Type 0} → Result T MachineError → (T → AccessAnswer) → State → State → Answered → Type 0
 Accesses (Ok value) shown old new a = (a.answer ≡ shown value) × (new ≡ a.state)
 Accesses (Err (error.Refused e)) shown old new a = (a.answer ≡ Refused e) × (new ≡ old)
 Accesses (Err error.HostMemory) shown old new a = new ≡ old
 
--- a touch: what it makes of the state is defined, or it is refused or finds no memory on the host and changes nothing
+-- a touch: the state after it is as defined, or it is refused or the host is out of memory, and nothing changes
 abbrev pub Touches : {T : Type 0} → Result T MachineError → State → State → Result State Errno → Type 0
 Touches (Ok value) old new found = found ≡ Ok new
 Touches (Err (error.Refused e)) old new found = (found ≡ Err e) × (new ≡ old)

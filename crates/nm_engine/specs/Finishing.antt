@@ -1,4 +1,4 @@
--- What is left to do for accesses, done on the bytes of frames.
+-- What is left to do for accesses, carried out on the bytes of frames.
 use Rattle.std.specs.Prelude.{◌≡◌, ℕ, ◌+◌, ◌≤◌, List, [], ◌∷◌, length, slice_set, Some}
 use Rattle.std.specs.Option.{unwrap_or}
 use Rattle.nm_types.specs.declared.page.Page.{Page}
@@ -13,14 +13,14 @@ use Rattle.nm_model.specs.definitions.Early.{Due, Known, ToRead, ToWrite}
 abbrev pub frame_at : Map Page ℕ → Page → ℕ
 frame_at place page = unwrap_or (get page_cmp place page) 0
 
--- the bytes of frames once it is done
+-- the bytes of frames after it is done
 abbrev pub done_in : Map Page ℕ → Store → Due → Store
 done_in place store (Known answer) = store
 done_in place store (ToRead page at len) = store
 done_in place store (ToWrite page at new) =
     let f = frame_at place page in slice_set store f (Some (overwrite (bytes_of store f) at new))
 
--- the answer
+-- the answer of what is left to do
 abbrev pub told_in : Map Page ℕ → Store → Due → AccessAnswer
 told_in place store (Known answer) = answer
 told_in place store (ToRead page at len) = Bytes (stretch_of (bytes_of store (frame_at place page)) at len)
@@ -37,7 +37,7 @@ all_done place store (d ∷ dues) =
     let rest = all_done place (done_in place store d) dues in
     record { store = rest.store; answers = told_in place store d ∷ rest.answers }
 
--- the page is in this frame, whose bytes are home and in memory, and `len` of them from `at` on are inside it
+-- the page is in this frame, whose bytes are home and in memory, and `len` bytes from index `at` on are inside it
 pub record IsIn (place : Map Page ℕ) (store : Store) (page : Page) (at len : ℕ) : Type 0 where
   pub frame : ℕ
   pub placed : get page_cmp place page ≡ Some frame
@@ -45,7 +45,7 @@ pub record IsIn (place : Map Page ℕ) (store : Store) (page : Page) (at len : �
   pub populated : IsPopulated store frame
   pub inside : at + len ≤ 4096
 
--- it can be done
+-- what is left can be done
 abbrev pub CanDo : Map Page ℕ → Store → Due → Type 0
 CanDo place store (Known answer) = Unit {0}
 CanDo place store (ToRead page at len) = IsIn place store page at len

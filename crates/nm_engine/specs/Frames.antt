@@ -1,4 +1,4 @@
--- The frames of a machine: which pages they hold, which are free, and what bytes are in them.
+-- The frames of a machine: the pages in them, the free ones, and their bytes.
 use Rattle.std.specs.Prelude.{◌≡◌, ℕ, ◌+◌, ◌<◌, false, sum, List, [], ◌∷◌, ◌++◌, length, slice_index_or}
 use Rattle.std.specs.List.{fold}
 use Rattle.nm_types.specs.declared.page.Page.{Page}
@@ -8,18 +8,18 @@ use Rattle.nm_types.specs.Nodes.{is_in}
 use Rattle.nm_model.specs.definitions.Frames.{Store, IsHome, Pool, bytes_of, list_of, appended}
 use Rattle.nm_frames.specs.Populated.{IsPopulated}
 
--- frames by themselves
+-- frames without their pages
 pub record FramesView : Type 0 where
   pub layout : Layout
-  -- by frame its bytes
+  -- the bytes of each frame
   pub frames : Store
-  -- for each node its free frames, the front first
+  -- each node's free frames, front first
   pub free : List (List ℕ)
-  -- the frames that the pages of a run have left, and how many there may be
+  -- the frames that a run's pages have left, and how many there is room for
   pub vacated : List ℕ
   pub room : ℕ
 
--- a list for each node, and as many buffers as frames, all of them home
+-- each node has a list, and each frame a buffer, and all buffers are home
 pub record HasAllFrames (k : FramesView) : Type 0 where
   pub lists : length k.free ≡ node_count k.layout
   pub buffers : length k.frames ≡ frame_count k.layout
@@ -39,36 +39,36 @@ free_on k node = slice_index_or k.free node []
 abbrev pub pool_of : FramesView → Pool
 pool_of k = record { sizes = k.layout.sizes; lists = k.free }
 
--- frames, the pages that are in them, and how often each page is pinned
+-- frames, the pages in them, and each page's number of pins
 pub record PagedFrames : Type 0 where
   pub layout : Layout
   pub place : Map Page ℕ
   pub pins : Map Page ℕ
-  -- by frame its bytes
+  -- the bytes of each frame
   pub frames : Store
-  -- for each node its free frames, the front first
+  -- each node's free frames, front first
   pub free : List (List ℕ)
-  -- the frames that the pages of a run have left, and how many there may be
+  -- the frames that a run's pages have left, and how many there is room for
   pub vacated : List ℕ
   pub room : ℕ
 
--- one frame after another goes to the end of its own node's list
+-- one frame after another is appended to its own node's list
 abbrev pub with_freed : Pool → List ℕ → Pool
 with_freed p frames = fold appended p frames
 
--- each of these frames, in their order, is one of the nodes' and not free before it is freed
+-- each of these frames, in order, belongs to a node and is not free before it is freed
 abbrev pub CanFree : Pool → List ℕ → Type 0
 CanFree p [] = Unit {0}
 CanFree p (frame ∷ frames) =
     (frame < sum p.sizes) × (is_in (list_of p (owner p.sizes frame)) frame ≡ false) × CanFree (appended p frame) frames
 
--- each of these frames, from the last to the first, is this node's and not free before it goes to the front of its list
+-- each of these frames, from last to first, is this node's and not free before it goes to the front of its list
 abbrev pub CanReturn : Pool → ℕ → List ℕ → Type 0
 CanReturn p node [] = Unit {0}
 CanReturn p node (frame ∷ frames) =
     (frame < sum p.sizes) × (owner p.sizes frame ≡ node) × (is_in (frames ++ list_of p node) frame ≡ false)
     × CanReturn p node frames
 
--- the vacated frames are free
+-- the frames that were left become free
 abbrev pub all_freed : FramesView → FramesView
 all_freed k = record k { free = (with_freed (pool_of k) k.vacated).lists; vacated = [] }

@@ -1,4 +1,4 @@
--- What the parts of a machine are together, also while a run has not ended.
+-- The parts of a machine together, also during a run.
 use Rattle.std.specs.Prelude.{◌≡◌, ℕ, List, Some}
 use Rattle.std.specs.Ordering.{nat_cmp}
 use Rattle.nm_types.specs.Map.{get}
@@ -9,22 +9,22 @@ use Rattle.nm_model.specs.definitions.Touch.{Spot}
 use Rattle.nm_model.specs.definitions.Sound.{IsSoundMidRun}
 use Rattle.nm_types.specs.Layout.{frame_count}
 
--- a state, the frames that the pages of a run have left, and how many of these there is room for
+-- a state, the frames that a run's pages have left, and how many there is room for
 pub record MidRun : Type 0 where
   pub state : State
   pub left : List ℕ
   pub room : ℕ
 
--- sound, and the reverse map has as many frames as the nodes
+-- the state is sound, and the reverse map has as many frames as the nodes
 pub record IsKept (s : State) (left : List ℕ) (frames : ℕ) : Type 0 where
   pub sound : IsSoundMidRun s left
   pub as_many : frames ≡ frame_count s.layout
 
--- a touch of this process under this area
+-- the place of a touch by this process in this area
 abbrev pub spot_at : Resolved → Process → Placed → Spot
 spot_at t process area = record { pid = t.pid; process = process; area = area; vpn = t.vpn }
 
--- the process is there, and the area, which shows the page
+-- the process exists, and so does the area, which shows the page
 pub record IsResolved (s : State) (t : Resolved) (process : Process) (area : Placed) : Type 0 where
   pub known : get nat_cmp s.processes t.pid ≡ Some process
   pub info : info_of process ≡ t.info
@@ -32,6 +32,6 @@ pub record IsResolved (s : State) (t : Resolved) (process : Process) (area : Pla
   pub policy : area.1.policy ≡ t.policy
   pub page : page_of area t.vpn ≡ t.page
 
--- the state alone may change
+-- only the state may change
 abbrev pub with_state : MidRun → State → MidRun
 with_state x s = record x { state = s }

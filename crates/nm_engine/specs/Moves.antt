@@ -6,11 +6,11 @@ use Rattle.nm_types.specs.Map.{get, page_cmp}
 use Rattle.nm_types.specs.declared.taken.Taken.{Taken}
 use Rattle.nm_engine.specs.AddressSpaces.{SpacesView, with_moved}
 
--- one page after another has another frame
+-- one page after another gets its new frame
 abbrev pub all_moved : SpacesView → List Taken → SpacesView
 all_moved y taken = fold (λ z t. with_moved z t.page t.to) y taken
 
--- each of these pages, in its turn, leaves the frame in which it stands and takes one that no page has
+-- each of these pages in turn leaves its frame and takes one that no page has
 abbrev pub CanRemap : SpacesView → List Taken → Type 0
 CanRemap y [] = Unit {0}
 CanRemap y (t ∷ taken) =

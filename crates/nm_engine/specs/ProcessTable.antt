@@ -9,7 +9,7 @@ use Rattle.nm_types.specs.declared.entry.Entry.TheVariants.{Zero, Frame, Held}
 use Rattle.nm_types.specs.declared.process.ProcessInfo.{ProcessInfo}
 use Rattle.nm_model.specs.definitions.PageTables.{Task, entry_at}
 
--- the processes by pid, in whatever order they stand
+-- the processes in order of pid, from a list in any order
 abbrev pub by_pid : List (ℕ × Task) → Map ℕ Task
 by_pid [] = []
 by_pid (e ∷ es) = set nat_cmp (by_pid es) e.0 e.1
@@ -18,15 +18,15 @@ by_pid (e ∷ es) = set nat_cmp (by_pid es) e.0 e.1
 abbrev pub new_task : ProcessInfo → Task
 new_task info = record { info = info; table = [] }
 
--- what `spawn` fixed of it
+-- what `spawn` fixes of a process
 abbrev pub task_info : Task → ProcessInfo
 task_info t = t.info
 
--- its page table
+-- a process's page table
 abbrev pub task_table : Task → Map ℕ Entry
 task_table t = t.table
 
--- the page table of a process, and an empty one where it is not there
+-- the page table of a process, or an empty one if there is no such process
 abbrev pub entries_in : Map ℕ Task → ℕ → Map ℕ Entry
 entries_in tasks pid = unwrap_or (option_map task_table (get nat_cmp tasks pid)) []
 
@@ -37,7 +37,7 @@ names f (Some Zero) = false
 names f (Some (Frame g)) = g == f
 names f (Some (Held g)) = g == f
 
--- whether something stands at a page number of a process
+-- whether a process has an entry at a page number
 abbrev pub IsThere : Map ℕ Task → ℕ × ℕ → Type 0
 IsThere tasks spot = IsSome (entry_at tasks spot.0 spot.1)
 
@@ -45,11 +45,11 @@ IsThere tasks spot = IsSome (entry_at tasks spot.0 spot.1)
 abbrev pub with_other_entry : Task → ℕ → Entry → Task
 with_other_entry t v e = record t { table = replace nat_cmp t.table v e }
 
--- a table without an entry at a page number
+-- a table without the entry at a page number
 abbrev pub without_entry : Task → ℕ → Task
 without_entry t v = record t { table = without nat_cmp t.table v }
 
--- another entry of a process, if it is there
+-- another entry of a process, if it exists
 abbrev pub replaced_in : Map ℕ Task → Option Task → ℕ → ℕ → Entry → Map ℕ Task
 replaced_in tasks None pid v e = tasks
 replaced_in tasks (Some t) pid v e = replace nat_cmp tasks pid (with_other_entry t v e)
@@ -66,6 +66,6 @@ remapped tasks mappings frame = fold (λ ts spot. replaced ts (Frame frame) spot
 abbrev pub cleared_between : ℕ → ℕ → Task → Task
 cleared_between first end t = record t { table = filter (λ e. nat_lt e.0 first || nat_le end e.0) t.table }
 
--- a process has nothing any more from one page number up to another
+-- a process has no entries from one page number up to another
 abbrev pub cleared : Map ℕ Task → ℕ → ℕ → ℕ → Map ℕ Task
 cleared tasks pid first end = with_values (λ q t. if q == pid then cleared_between first end t else t) tasks

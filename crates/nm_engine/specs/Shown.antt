@@ -1,4 +1,4 @@
--- What the parts of a machine show together.
+-- The state that the parts of a machine show together.
 use Rattle.std.specs.Prelude.{ℕ, List}
 use Rattle.nm_types.specs.declared.page.Page.{Page}
 use Rattle.nm_types.specs.Map.{Map, with_values}
@@ -12,7 +12,7 @@ use Rattle.nm_engine.specs.Frames.{FramesView, PagedFrames}
 abbrev pub bytes_in : Store → Map Page ℕ → Map Page (List ℕ)
 bytes_in frames place = with_values (λ page frame. bytes_of frames frame) place
 
--- processes, areas and frames, the nodes that are online, and the totals are a state
+-- the state of these processes, areas, frames, online nodes and totals
 abbrev pub shown : Map ℕ Process → Table → PagedFrames → List ℕ → ℕ → ℕ → State
 shown processes areas paged online moved failed =
     record {
@@ -30,7 +30,7 @@ shown processes areas paged online moved failed =
       failed = failed;
     }
 
--- the frames, with the pages that are in them
+-- the frames with the pages in them
 abbrev pub paged_frames : SpacesView → FramesView → PagedFrames
 paged_frames y k =
     record {
@@ -43,6 +43,6 @@ paged_frames y k =
       room = k.room;
     }
 
--- the address spaces and the frames are a state
+-- the state of these address spaces and frames
 abbrev pub shown_by : SpacesView → FramesView → List ℕ → ℕ → ℕ → State
 shown_by y k online moved failed = shown y.processes (table_of y) (paged_frames y k) online moved failed

@@ -1,4 +1,4 @@
--- What ties page tables, areas and the reverse map to one another.
+-- The relations between page tables, areas and the reverse map.
 use Rattle.std.specs.Prelude.{◌≡◌, ℕ, ◌<◌, ◌==◌, nat_lt, nat_le, Bool, true, not, ◌&&◌, List, length, Option, Some}
 use Rattle.std.specs.BTreeMap.{is_at}
 use Rattle.std.specs.List.{AllByRecursion, list_any}
@@ -25,9 +25,9 @@ pub record IsTied (tasks : Map ℕ Task) (m : Mapped) (r : Mappers) : Type 0 whe
   pub pids : IsStrictlySortedBy nat_cmp (keys_of tasks)
   pub tables : AllByRecursion (λ e. IsStrictlySortedBy nat_cmp (keys_of e.1.table)) tasks
   pub places : IsStrictlySortedBy page_cmp (keys_of m.place)
-  -- the mappers of a frame are exactly the entries that name it
+  -- a frame's mappers are exactly the entries that name it
   pub mappers : (f pid v : ℕ) → has_spot (mappers_of r f) (pid, v) ≡ names f (entry_at tasks pid v)
-  -- an entry names the frame of the page that is shown there
+  -- an entry names the frame of the page shown there
   pub shows :
       (f pid v : ℕ) → names f (entry_at tasks pid v) ≡ true →
       (p : Page) × (page_at m.areas pid v ≡ Some p) × (get page_cmp m.place p ≡ Some f)
@@ -37,14 +37,14 @@ pub record IsTied (tasks : Map ℕ Task) (m : Mapped) (r : Mappers) : Type 0 whe
   pub pinned : (f : ℕ) → ((p : Page) → get page_cmp m.place p ≡ Some f → ⊥) → frame_pins r f ≡ 0
   pub in_range : (p : Page) (f : ℕ) → get page_cmp m.place p ≡ Some f → f < length r.mappings
   pub as_many : length r.pins ≡ length r.mappings
-  -- no page is on its way
+  -- no page is on its way to another frame
   pub settled : (f pid v : ℕ) → entry_at tasks pid v ≡ Some (Held f) → ⊥
 
--- whether a page number of a process is in a range of one
+-- whether a page number of a process is in this range of a process
 abbrev pub is_between : ℕ → ℕ → ℕ → ℕ × ℕ → Bool
 is_between pid first end spot = (spot.0 == pid) && (nat_le first spot.1 && nat_lt spot.1 end)
 
--- the mappers that were entries of a process in a range are none any more, and the pins stay
+-- mappers that were entries of the process in the range are removed, and pins do not change
 pub record IsCleared (r t : Mappers) (pid first end : ℕ) (tasks : Map ℕ Task) : Type 0 where
   pub mappings :
       (f : ℕ) (spot : ℕ × ℕ) →
@@ -53,13 +53,13 @@ pub record IsCleared (r t : Mappers) (pid first end : ℕ) (tasks : Map ℕ Task
   pub frames : length t.mappings ≡ length r.mappings
   pub pins : t.pins ≡ r.pins
 
--- a mapper of a frame goes, if the entry names one
+-- a mapper of a frame is removed, if the entry names a frame
 abbrev pub IsLess : Mappers → Mappers → ℕ × ℕ → Option Entry → Type 0
 IsLess r t spot o =
     (g : ℕ) (s : ℕ × ℕ) →
     has_spot (mappers_of t g) s ≡ (has_spot (mappers_of r g) s && not (is_at (spot_cmp s) spot && names g o))
 
--- the mappers without the one that an entry was
+-- the mappers without the one that this entry was
 pub record IsWithout (r t : Mappers) (spot : ℕ × ℕ) (o : Option Entry) : Type 0 where
   pub less : IsLess r t spot o
   pub frames : length t.mappings ≡ length r.mappings

@@ -1,4 +1,4 @@
-//! The address spaces of all processes: page tables, areas, and who names each frame.
+//! The address spaces of all processes: page tables, areas, and the mappers of each frame.
 
 ghost use Rattle.std.specs.Prelude.{◌≡◌, ◌<◌, ◌≤◌, ◌+◌, ◌-◌, ◌^◌, length, Some, None, IsSome, IfSome, IfOk, IfErr, OnOk, OnErr};
 ghost use Rattle.std.specs.Option.{option_map};
@@ -35,7 +35,7 @@ use std::collections::BTreeSet;
 use std::marker::Model;
 
 /// The page tables of all processes, the areas with the frames of pages, and for each frame the entries that name it
-/// and its pins. Contracts see what processes see, page by page.
+/// and its pins. Contracts see what each process sees, page by page.
 #[derive(Drop)]
 pub(crate) struct AddressSpaces<A: Allocator + Copy> {
     pub(crate) tasks: ProcessTable<A>,
@@ -55,7 +55,7 @@ impl<A: Allocator + Copy> Model for AddressSpaces<A> {
 }
 
 impl<A: Allocator + Copy> AddressSpaces<A> {
-    /// No process, and `frames` frames without a page.
+    /// Makes address spaces without processes, and `frames` frames without pages.
     pub(crate) fn new(alloc: A, frames: usize) -> Result<Self, AllocError>
         ensures { IfOk result (λ spaces. spaces ≡ no_spaces frames) }
     {
@@ -73,14 +73,14 @@ impl<A: Allocator + Copy> AddressSpaces<A> {
         self.tasks.len()
     }
 
-    /// What `spawn` fixed of a process, or None if there is none of this pid.
+    /// What `spawn` fixed of a process. None if there is no process with this pid.
     pub(crate) fn info(&self, pid: Pid) -> Option<ProcessInfo>
         ensures { result ≡ option_map info_of (get nat_cmp self.now.processes pid) }
     {
         self.tasks.info(pid)
     }
 
-    /// The area of a process over a page number, with its first page number.
+    /// The area of a process that covers a page number, with its first page number.
     pub(crate) fn over(&self, pid: Pid, vpn: Vpn) -> Option<(Vpn, Area)>
         ensures over { option_map {U = Placed} (λ found. ((pid, found.0), found.1)) result ≡ area_over self.now.areas pid vpn }
         ensures first { IfSome result (λ a. a.0 ≤ vpn) }
@@ -89,7 +89,7 @@ impl<A: Allocator + Copy> AddressSpaces<A> {
         self.areas.find(pid, vpn)
     }
 
-    /// The page that an area of a process shows at a page number.
+    /// The page that an area of a process shows at a page number. None if there is no area.
     pub(crate) fn page_at(&self, pid: Pid, vpn: Vpn) -> Option<Page>
         ensures { result ≡ page_at self.now.areas pid vpn }
     {
@@ -113,7 +113,7 @@ impl<A: Allocator + Copy> AddressSpaces<A> {
         }
     }
 
-    /// What stands in the page table of a process, in ascending order, or None if there is no such process.
+    /// The entries of a process's page table, in ascending order. None if there is no such process.
     pub(crate) fn entries(&self, pid: Pid) -> Result<Option<Vec<(Vpn, Entry), A>>, AllocError>
         ensures entries { IfOk result (λ all. option_map (λ entries. entries.items) all ≡ option_map (λ (p : Process). with_values (λ v sight. entry_of self.now.place sight) p.sees) (get nat_cmp self.now.processes pid)) }
         ensures memory { OnErr result (IsSome (get nat_cmp self.now.processes pid)) }
@@ -121,7 +121,7 @@ impl<A: Allocator + Copy> AddressSpaces<A> {
         self.tasks.entries(pid)
     }
 
-    /// The frame in which a page stands.
+    /// The frame of a page. None if it has none.
     pub(crate) fn place(&self, page: Page) -> Option<FrameId>
         ensures place { result ≡ get page_cmp self.now.place page }
         ensures known { IfSome result (λ frame. frame < self.now.frames) }
@@ -129,21 +129,21 @@ impl<A: Allocator + Copy> AddressSpaces<A> {
         self.areas.page_frame(page)
     }
 
-    /// The frames of the pages that have one, in the order of the pages.
+    /// The frames of all pages that have one, in page order.
     pub(crate) fn places(&self) -> Result<Vec<FrameId, A>, AllocError>
         ensures { IfOk result (λ frames. frames.items ≡ values_of self.now.place) }
     {
         self.areas.frames()
     }
 
-    /// Whether a segment is shared. One that is not there is not.
+    /// Whether a segment is shared. False if there is no such segment.
     pub(crate) fn is_shared(&self, segment: u32) -> bool
         ensures { result ≡ is_shared self.now.segments segment }
     {
         self.areas.is_shared(segment)
     }
 
-    /// What is seen at a page number of a process. The area over it is looked up once.
+    /// What a process sees at a page number. Looks up the area over it once.
     pub(crate) fn look(&self, pid: Pid, vpn: Vpn) -> Seen
         ensures look { result ≡ look_in self.now.processes self.now.areas self.now.place self.now.pins pid vpn }
         ensures known { HasFrameBelow self.now.frames result }
@@ -161,7 +161,7 @@ impl<A: Allocator + Copy> AddressSpaces<A> {
         }
     }
 
-    /// What is seen of a page, whoever sees it.
+    /// What is to be seen of a page, whoever sees it.
     pub(crate) fn look_at_page(&self, page: Page) -> Seen
         ensures look { result ≡ look_at_place self.now.processes self.now.pins page (get page_cmp self.now.place page) }
         ensures known { HasFrameBelow self.now.frames result }
@@ -172,7 +172,7 @@ impl<A: Allocator + Copy> AddressSpaces<A> {
         }
     }
 
-    /// What is seen of a page that has a frame.
+    /// What is to be seen of a page that has this frame.
     fn look_at(&self, page: Page, frame: FrameId) -> Seen
         requires { get page_cmp self.now.place page ≡ Some frame }
         ensures look { result ≡ look_at_place self.now.processes self.now.pins page (Some frame) }
@@ -195,17 +195,21 @@ impl<A: Allocator + Copy> AddressSpaces<A> {
         self.tasks.add(pid, info)
     }
 
-    /// A process sees the page of zeros at a page number from now on.
+    /// Makes a process see the page of zeros at a page number.
     pub(crate) fn see_zero(&mut self, pid: Pid, vpn: Vpn) -> Result<(), AllocError>
         requires known { IsSome (get nat_cmp self.old.processes pid) }
         requires unseen { (q : Page) → sight_in (get nat_cmp self.old.processes pid) vpn ≡ Some (Sees q) → ⊥ }
+
+        // On success
         ensures ok { OnOk result ((p : Process) → get nat_cmp self.old.processes pid ≡ Some p → self.new ≡ with_seen self.old pid p vpn ZeroPage) }
+
+        // Without memory
         ensures err { OnErr result (self.new ≡ self.old) }
     {
         self.tasks.set(pid, vpn, Entry::Zero)
     }
 
-    /// A process sees a page that has a frame at a page number from now on.
+    /// Makes a process see a page that has a frame, at a page number.
     pub(crate) fn see(
         &mut self,
         pid: Pid,
@@ -217,7 +221,11 @@ impl<A: Allocator + Copy> AddressSpaces<A> {
         requires unseen { (q : Page) → sight_in (get nat_cmp self.old.processes pid) vpn ≡ Some (Sees q) → ⊥ }
         requires shown { page_at self.old.areas pid vpn ≡ Some page }
         requires placed { get page_cmp self.old.place page ≡ Some frame }
+
+        // On success
         ensures ok { OnOk result ((p : Process) → get nat_cmp self.old.processes pid ≡ Some p → self.new ≡ with_seen self.old pid p vpn (Sees page)) }
+
+        // Without memory
         ensures err { OnErr result (self.new ≡ self.old) }
     {
         self.rmap.add(frame, pid, vpn)?;
@@ -228,7 +236,7 @@ impl<A: Allocator + Copy> AddressSpaces<A> {
         Ok(())
     }
 
-    /// A page gets a frame that no page has, and a process sees it at a page number.
+    /// Gives a page a frame that no page has, and makes a process see the page at a page number.
     pub(crate) fn allocate(
         &mut self,
         pid: Pid,
@@ -242,7 +250,11 @@ impl<A: Allocator + Copy> AddressSpaces<A> {
         requires unplaced { get page_cmp self.old.place page ≡ None }
         requires frame { frame < self.old.frames }
         requires spare { (q : Page) → get page_cmp self.old.place q ≡ Some frame → ⊥ }
+
+        // On success
         ensures ok { OnOk result ((p : Process) → get nat_cmp self.old.processes pid ≡ Some p → self.new ≡ with_new_page self.old pid p vpn page frame) }
+
+        // Without memory
         ensures err { OnErr result (self.new ≡ self.old) }
     {
         self.areas.set_frame(page, frame)?;
@@ -258,8 +270,8 @@ impl<A: Allocator + Copy> AddressSpaces<A> {
         Ok(())
     }
 
-    /// A page goes from a frame to one that no page has: every entry that named the one names the other, which has the
-    /// pins. It takes no memory.
+    /// Moves a page to a frame that no page has: every entry that named the old frame names the new one, which gets the
+    /// pins. Does not allocate.
     fn move_page(&mut self, page: Page, from: FrameId, to: FrameId)
         requires placed { get page_cmp self.old.place page ≡ Some from }
         requires frame { to < self.old.frames }
@@ -271,7 +283,7 @@ impl<A: Allocator + Copy> AddressSpaces<A> {
         self.areas.move_page(page, to);
     }
 
-    /// Pages go from frames to others, one after another.
+    /// Moves pages from their frames to others, one after another.
     pub(crate) fn move_pages(&mut self, moves: &[Taken])
         requires { CanRemap self.old moves.now }
         ensures { self.new ≡ all_moved self.old moves.now }
@@ -281,22 +293,30 @@ impl<A: Allocator + Copy> AddressSpaces<A> {
         }
     }
 
-    /// Pins a page that has a frame once more. EBUSY if it has 65,535 pins, and then nothing has changed.
+    /// Adds a pin to a page that has a frame. EBUSY, with nothing changed, if it has 65,535 pins.
     pub(crate) fn pin(&mut self, page: Page, frame: FrameId) -> Result<(), Errno>
         requires { get page_cmp self.old.place page ≡ Some frame }
+
+        // On success
         ensures room { OnOk result (pins_here self.old page < 65535) }
         ensures ok { OnOk result (self.new ≡ with_pins_of self.old page (pins_here self.old page + 1)) }
+
+        // On refusal
         ensures full { IfErr result (λ error. (error ≡ Ebusy) × (65535 ≤ pins_here self.old page)) }
         ensures err { OnErr result (self.new ≡ self.old) }
     {
         self.rmap.pin(frame)
     }
 
-    /// Takes one pin off a page that has a frame. EINVAL if it has none, and then nothing has changed.
+    /// Removes a pin from a page that has a frame. EINVAL, with nothing changed, if it has none.
     pub(crate) fn unpin(&mut self, page: Page, frame: FrameId) -> Result<(), Errno>
         requires { get page_cmp self.old.place page ≡ Some frame }
+
+        // On success
         ensures pinned { OnOk result (0 < pins_here self.old page) }
         ensures ok { OnOk result (self.new ≡ with_pins_of self.old page (pins_here self.old page - 1)) }
+
+        // On refusal
         ensures none { IfErr result (λ error. (error ≡ Einval) × (pins_here self.old page ≡ 0)) }
         ensures err { OnErr result (self.new ≡ self.old) }
     {
@@ -321,7 +341,7 @@ impl<A: Allocator + Copy> PageView for AddressSpaces<A> {
     }
 }
 
-/// Each of these entries names this frame from now on.
+/// Makes each of these entries name this frame.
 fn remap<A: Allocator + Copy>(
     tasks: &mut ProcessTable<A>,
     mappings: &BTreeSet<(Pid, Vpn), A>,

@@ -1,4 +1,4 @@
-//! The answers to accesses in flight, and those of runs.
+//! The answers to accesses in flight, and the results of runs.
 
 use nm_types::Errno;
 use std::alloc::Allocator;
@@ -10,16 +10,17 @@ pub enum AccessAnswer<A: Allocator + Copy> {
     Bytes(Vec<u8, A>),
     /// The bytes were written.
     Done,
-    /// The page moves in this run: nothing was read, written or filled.
+    /// The page moves in this run: nothing was read or written, and no frame was taken.
     Held,
-    /// Refused, as it would be outside a run.
+    /// Refused with this error, as outside a run.
     Refused(Errno),
 }
 
-/// The answer of a run.
+/// The result of a run.
 #[derive(Debug, Drop)]
 pub struct Flown<A: Allocator + Copy> {
-    /// The status of each request: the node where its page is, or an error's number with a minus sign.
+    /// The status of each request, in order: the number of the node where its page is (0 to 63), or an error's number
+    /// with a minus sign.
     pub statuses: Vec<i32, A>,
     /// The answer to each access, in the order of the accesses.
     pub answers: Vec<AccessAnswer<A>, A>,

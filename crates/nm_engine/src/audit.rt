@@ -1,4 +1,4 @@
-//! A look at all frames.
+//! Auditing all frames.
 
 ghost use Rattle.std.specs.Prelude.{◌≡◌, ◌<◌, ◌≤◌, ◌==◌, ℕ, ◌++◌, length, map, nat_lt, IfOk, OnOk, slice_index_or};
 ghost use Rattle.std.specs.List.{list_all};
@@ -10,7 +10,7 @@ use nm_nodes::NodePool;
 use nm_types::{FrameId, Geometry, NodeId};
 use std::alloc::{AllocError, Allocator};
 
-/// Whether each frame is the machine's, and owned by the node that it is paired with.
+/// Whether each frame belongs to the machine, and to the node that it is paired with.
 fn are_own<A: Allocator + Copy>(geometry: &Geometry<A>, free: &[(NodeId, FrameId)]) -> bool
     ensures { result ≡ list_all (is_own geometry.now) free.now }
 {
@@ -30,7 +30,7 @@ fn are_below(count: usize, frames: &[FrameId]) -> bool
     frames.iter().all(|frame| frame.index() < count)
 }
 
-/// How often each number below a count stands among frames.
+/// How many times each number below a count is among the frames.
 fn tally<A: Allocator + Copy>(
     alloc: A,
     count: usize,
@@ -55,7 +55,7 @@ fn are_ones(counts: &[u64]) -> bool
     counts.iter().all(|count| *count == 1)
 }
 
-/// Free frames, followed by those that are places.
+/// The free frames, followed by the frames of pages.
 fn all_of<A: Allocator + Copy>(
     alloc: A,
     free: &[(NodeId, FrameId)],
@@ -71,8 +71,8 @@ fn all_of<A: Allocator + Copy>(
     Ok(frames)
 }
 
-/// Whether each frame of the machine stands exactly once among free frames, each paired with its own node, and frames
-/// that are places, and no other frame does.
+/// Whether each frame of the machine is exactly once among the free frames, each paired with its own node, and the
+/// frames of pages, and no other frame is there.
 pub(crate) fn is_each_once<A: Allocator + Copy>(
     alloc: A,
     geometry: &Geometry<A>,
@@ -93,7 +93,7 @@ pub(crate) fn is_each_once<A: Allocator + Copy>(
     Ok(are_ones(counts.as_slice()))
 }
 
-/// Appends the free frames of a node to a list, each paired with the node.
+/// Appends the free frames of a node, each paired with the node, to a list.
 fn push_list<A: Allocator + Copy>(
     nodes: &NodePool<A>,
     node: NodeId,

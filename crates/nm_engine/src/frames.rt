@@ -1,4 +1,4 @@
-//! The machine's frames: which are free, and what they hold.
+//! The machine's frames: their bytes, and the free ones.
 
 ghost use Rattle.std.specs.Prelude.{◌≡◌, ℕ, false, ◌+◌, ◌<◌, ◌≤◌, [], ◌∷◌, ◌++◌, map, length, vec_capacity, vec_len, Some, IfOk, OnOk, replicate, take, drop, slice_get, slice_set};
 ghost use Rattle.nm_types.specs.Layout.{node_count, frame_count, node_of};
@@ -36,8 +36,8 @@ use std::mem;
 use std::sync::Wait;
 use std::thread::Threads;
 
-/// The frames of all nodes with their bytes, the free ones by node, and those that a run's pages left and that become
-/// free at its end.
+/// The frames of all nodes with their bytes, each node's free frames, and the frames that a run's pages have left and
+/// that become free when it ends.
 #[derive(Drop)]
 pub(crate) struct Frames<A: Allocator + Copy> {
     geometry: Geometry<A>,
@@ -73,8 +73,9 @@ impl<A: Allocator + Copy> Model for Frames<A> {
 }
 
 impl<A: Allocator + Copy> Frames<A> {
-    /// The frames of these nodes, all free.
+    /// Makes the frames of these nodes, all free.
     pub(crate) fn new(alloc: A, geometry: Geometry<A>) -> Result<Self, AllocError>
+        // On success
         ensures layout { IfOk result (λ s. s.layout ≡ geometry) }
         ensures free { IfOk result (λ s. s.free ≡ all_frames 0 geometry.sizes) }
         ensures vacated { IfOk result (λ s. s.vacated ≡ []) }
@@ -116,7 +117,7 @@ impl<A: Allocator + Copy> Frames<A> {
         self.geometry.node_of(frame)
     }
 
-    /// How many free frames a node has: 0 if there is no such node.
+    /// How many free frames a node has. 0 if there is no such node.
     pub(crate) fn free_count(&self, node: NodeId) -> usize
         ensures { result ≡ length (free_on self.now node) }
     {
@@ -148,7 +149,7 @@ impl<A: Allocator + Copy> Frames<A> {
         nodes
     }
 
-    /// The free frames of a node, the front first.
+    /// The free frames of a node, front first.
     pub(crate) fn free_list(&self, alloc: A, node: NodeId) -> Result<Vec<FrameId, A>, AllocError>
         requires { node < node_count self.now.layout }
         ensures { IfOk result (λ frames. frames.items ≡ free_on self.now node) }
@@ -170,7 +171,7 @@ impl<A: Allocator + Copy> Frames<A> {
         front_of(alloc, &self.nodes, node, count)
     }
 
-    /// The front of a node's free frames.
+    /// The front of a node's free list. None if the list is empty.
     pub(crate) fn front(&self, node: NodeId) -> Option<FrameId>
         requires { node < node_count self.now.layout }
         ensures front { result ≡ slice_get (free_on self.now node) 0 }
@@ -179,7 +180,7 @@ impl<A: Allocator + Copy> Frames<A> {
         self.nodes.nth(node, 0)
     }
 
-    /// Takes the front of a node's free frames.
+    /// Takes the front of a node's free list. None if the list is empty.
     pub(crate) fn take_front(&mut self, node: NodeId) -> Option<FrameId>
         requires { node < node_count self.old.layout }
         ensures front { result ≡ slice_get (free_on self.old node) 0 }
@@ -189,7 +190,7 @@ impl<A: Allocator + Copy> Frames<A> {
         self.nodes.take_front(node)
     }
 
-    /// Appends `len` bytes of a frame, from `at` on, to a list that has room for them.
+    /// Appends `len` bytes of a frame, from index `at` on, to a list that has room for them.
     pub(crate) fn read(&self, frame: FrameId, at: usize, len: usize, bytes: &mut Vec<u8, A>)
         requires frame { frame < frame_count self.now.layout }
         requires inside { at + len ≤ 4096 }
@@ -222,7 +223,7 @@ impl<A: Allocator + Copy> Frames<A> {
         populate_each(&mut self.frames, alloc, moves)
     }
 
-    /// Puts bytes in place of those of a frame from `at` on.
+    /// Overwrites the bytes of a frame from index `at` on.
     pub(crate) fn write(&mut self, frame: FrameId, at: usize, bytes: &[u8])
         requires frame { frame < frame_count self.old.layout }
         requires populated { IsPopulated self.old.frames frame }
@@ -233,7 +234,7 @@ impl<A: Allocator + Copy> Frames<A> {
         self.frames.write(frame, at, bytes);
     }
 
-    /// Puts zeros in place of all bytes of a frame.
+    /// Sets all bytes of a frame to zero.
     pub(crate) fn zero(&mut self, frame: FrameId)
         requires frame { frame < frame_count self.old.layout }
         requires populated { IsPopulated self.old.frames frame }
@@ -242,7 +243,7 @@ impl<A: Allocator + Copy> Frames<A> {
         self.frames.zero(frame);
     }
 
-    /// Makes room for `count` moves of a run.
+    /// Reserves room for `count` moves of a run.
     pub(crate) fn reserve(&mut self, count: usize) -> Result<(), AllocError>
         ensures room { OnOk result (length self.new.vacated + count ≤ self.new.room) }
         ensures same { self.new ≡ record (self.old) { room = self.new.room } }
@@ -258,8 +259,8 @@ impl<A: Allocator + Copy> Frames<A> {
         self.vacated.len()
     }
 
-    /// Takes the frames of these moves, which are the front ones of a node: they are the run's until its pages stand in
-    /// them.
+    /// Takes the frames of these moves, which are at the front of a node's list: they belong to the run until its pages
+    /// are in them.
     pub(crate) fn take_for(&mut self, node: NodeId, moves: &[Taken])
         requires node { node < node_count self.old.layout }
         requires room { length self.old.vacated + length moves.now ≤ self.old.room }
@@ -271,7 +272,7 @@ impl<A: Allocator + Copy> Frames<A> {
         push_tos(&mut self.vacated, moves);
     }
 
-    /// Puts the frames that were taken for these moves back at the front of the list of the node from which they came.
+    /// Puts the frames taken for these moves back at the front of the list of the node that they came from.
     pub(crate) fn give_back(&mut self, node: NodeId, moves: &[Taken])
         requires node { node < node_count self.old.layout }
         requires can { CanReturn (pool_of self.old) node (tos moves.now) }
@@ -282,7 +283,7 @@ impl<A: Allocator + Copy> Frames<A> {
         return_tos(&mut self.nodes, node, moves);
     }
 
-    /// The pages of these moves leave their frames, which become free at the run's end, for those that were taken for them.
+    /// Lets the pages of these moves leave their frames, which become free when the run ends, for those taken for them.
     pub(crate) fn vacate_each(&mut self, moves: &[Taken])
         requires room { length moves.now ≤ self.old.room }
         requires populated { AllByRecursion (IsPopulated self.old.frames) (left moves.now) }
@@ -294,9 +295,9 @@ impl<A: Allocator + Copy> Frames<A> {
         push_left(&mut self.vacated, moves);
     }
 
-    /// The frames that the pages of this run have left become free, in their order, each at the end of its own node's
-    /// list. This waits for the end of the run, since pages are copied from these frames meanwhile and no access in
-    /// flight may take one. Each list has room for all frames of its node, so it takes no memory.
+    /// Frees the frames that the pages of this run have left, in order, each at the end of its own node's list. This
+    /// waits for the end of the run, since pages are copied from these frames until then and no access in flight may
+    /// take one. Each list has room for all frames of its node, so this does not allocate.
     pub(crate) fn free_vacated(&mut self)
         requires { CanFree (pool_of self.old) self.old.vacated }
         ensures { self.new ≡ all_freed self.old }
@@ -305,7 +306,7 @@ impl<A: Allocator + Copy> Frames<A> {
         self.vacated.clear();
     }
 
-    /// A frame becomes free, at the end of its own node's list.
+    /// Frees a frame, at the end of its own node's list.
     pub(crate) fn free(&mut self, frame: FrameId)
         requires { CanFree (pool_of self.old) (frame ∷ []) }
         ensures { self.new ≡ record (self.old) { free = (appended (pool_of self.old) frame).lists } }
@@ -313,7 +314,7 @@ impl<A: Allocator + Copy> Frames<A> {
         self.nodes.append(frame);
     }
 
-    /// A frame becomes free, at the front of its own node's list. It takes no memory.
+    /// Frees a frame, at the front of its own node's list. Does not allocate.
     pub(crate) fn free_first(&mut self, frame: FrameId)
         requires { CanFree (pool_of self.old) (frame ∷ []) }
         ensures { self.new ≡ record (self.old) { free = (prepended (pool_of self.old) frame).lists } }
@@ -321,7 +322,7 @@ impl<A: Allocator + Copy> Frames<A> {
         self.nodes.prepend(frame);
     }
 
-    /// Whether each frame stands once, in its own node's list or among the places of pages.
+    /// Whether each frame is in exactly one place: its own node's list, or the places of pages.
     pub(crate) fn audit(&self, alloc: A, places: &[FrameId]) -> Result<bool, AllocError>
         ensures { IfOk result (λ b. b ≡ is_audited self.now.layout (numbered 0 self.now.free) places.now) }
     {
@@ -331,8 +332,8 @@ impl<A: Allocator + Copy> Frames<A> {
 }
 
 impl<A: Allocator + Copy + Send + Sync> Frames<A> {
-    /// Copies the pages of moves to the frames that they take, by a crew, and does meanwhile what is left
-    /// to do for accesses to other pages. The answers go into a list that has room for them.
+    /// Has a crew copy the pages of these moves to their new frames, and meanwhile does what is left to do for accesses
+    /// to other pages. The answers go into a list that has room for them.
     pub(crate) fn copy_pages<R: Threads + Wait + Sync, G: Gate + Sync>(
         &mut self,
         crew: &Crew<R, G>,
@@ -343,13 +344,20 @@ impl<A: Allocator + Copy + Send + Sync> Frames<A> {
         dues: Vec<Due<A>, A>,
         answers: Vec<AccessAnswer<A>, A>,
     ) -> Vec<AccessAnswer<A>, A>
+        // The moves
         requires can { CanCopy self.old.frames moves.now }
         requires populated { AllByRecursion (HasBoth self.old.frames) moves.now }
         requires few { length moves.now ≤ self.old.room }
+
+        // What is left to do
         requires due { AllByRecursion (CanDo spaces.now.place (emptied self.old.frames moves.now)) (map (due_shown accesses.now) dues.items) }
         requires room { AllByRecursion HasRoom dues.items }
+
+        // The list for the answers
         requires unanswered { answers.items ≡ [] }
         requires space { vec_len dues ≤ vec_capacity answers }
+
+        // Afterwards
         ensures frames { self.new ≡ record (self.old) { frames = (all_done spaces.now.place (with_copies self.old.frames moves.now) (map (due_shown accesses.now) dues.items)).store; room = self.new.room } }
         ensures answers { map answer_shown result.items ≡ (all_done spaces.now.place (with_copies self.old.frames moves.now) (map (due_shown accesses.now) dues.items)).answers }
     {
@@ -410,7 +418,7 @@ fn take_fronts<A: Allocator + Copy>(nodes: &mut NodePool<A>, node: NodeId, count
     }
 }
 
-/// Puts the frames that the pages of moves were to take back at the front of the node's list.
+/// Puts the frames taken for these moves back at the front of the node's list.
 fn return_tos<A: Allocator + Copy>(nodes: &mut NodePool<A>, node: NodeId, moves: &[Taken])
     requires node { node < length nodes.old.lists }
     requires can { CanReturn nodes.old node (tos moves.now) }
@@ -423,7 +431,7 @@ fn return_tos<A: Allocator + Copy>(nodes: &mut NodePool<A>, node: NodeId, moves:
     }
 }
 
-/// Appends the frames that the pages of moves take to a list that has room for them.
+/// Appends the frames that the pages of these moves take to a list that has room for them.
 fn push_tos<A: Allocator + Copy>(taken: &mut Vec<FrameId, A>, moves: &[Taken])
     requires { vec_len taken.old + length moves.now ≤ vec_capacity taken.old }
     ensures items { taken.new.items ≡ taken.old.items ++ tos moves.now }
@@ -434,7 +442,7 @@ fn push_tos<A: Allocator + Copy>(taken: &mut Vec<FrameId, A>, moves: &[Taken])
     }
 }
 
-/// Appends the frames that the pages of moves leave to a list that has room for them.
+/// Appends the frames that the pages of these moves leave to a list that has room for them.
 fn push_left<A: Allocator + Copy>(vacated: &mut Vec<FrameId, A>, moves: &[Taken])
     requires { vec_len vacated.old + length moves.now ≤ vec_capacity vacated.old }
     ensures items { vacated.new.items ≡ vacated.old.items ++ left moves.now }
@@ -445,7 +453,7 @@ fn push_left<A: Allocator + Copy>(vacated: &mut Vec<FrameId, A>, moves: &[Taken]
     }
 }
 
-/// Puts frames at the end of their own nodes' lists, one after another.
+/// Appends frames to their own nodes' lists, one after another.
 fn free_frames<A: Allocator + Copy>(nodes: &mut NodePool<A>, frames: &[FrameId])
     requires { CanFree nodes.old frames.now }
     ensures { nodes.new ≡ with_freed nodes.old frames.now }
@@ -455,7 +463,7 @@ fn free_frames<A: Allocator + Copy>(nodes: &mut NodePool<A>, frames: &[FrameId])
     }
 }
 
-/// The first `count` free frames of a node, which has that many.
+/// The first `count` free frames of a node, which has at least as many.
 fn front_of<A: Allocator + Copy>(
     alloc: A,
     nodes: &NodePool<A>,
@@ -476,7 +484,7 @@ fn front_of<A: Allocator + Copy>(
     Ok(frames)
 }
 
-/// Appends `len` bytes of a frame, from `at` on, to a list that has room for them.
+/// Appends `len` bytes of a frame, from index `at` on, to a list that has room for them.
 fn copy_bytes<A: Allocator + Copy>(
     frames: &FrameStore<A>,
     frame: FrameId,

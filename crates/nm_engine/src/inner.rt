@@ -52,7 +52,7 @@ impl<A: Allocator + Copy> Model for Inner<A> {
 }
 
 impl<A: Allocator + Copy> Inner<A> {
-    /// The parts of a machine of these nodes, all online, with every frame free and no process.
+    /// Makes the parts of a machine with these nodes, all online, with every frame free and no process.
     pub(crate) fn new(alloc: A, geometry: Geometry<A>) -> Result<Self, AllocError>
         ensures state { IfOk result (λ inner. inner.state ≡ new_machine geometry) }
         ensures left { IfOk result (λ inner. inner.left ≡ []) }

@@ -1,4 +1,4 @@
-//! Laws over the definitions alone, and worked examples.
+//! Laws of the definitions alone, and worked examples. Each function does nothing, and its contract is the law.
 
 ghost use Rattle.nm_engine.specs.Examples.Undoing.{TouchesAreTakenBack, SharedPageKeepsItsFrame};
 
@@ -12,7 +12,7 @@ pub use nm_laws::laws::{
     sound_is_audited, soundness_stays, touches_come_first, writes_are_exact,
 };
 
-/// Worked examples of touches that are taken back.
+/// Worked examples of undoing touches.
 pub fn touches_are_taken_back()
     ensures touches_are_taken_back { TouchesAreTakenBack }
     ensures shared_page_keeps_its_frame { SharedPageKeepsItsFrame }

@@ -1,4 +1,4 @@
-//! The machine: processes, areas and pages over nodes of frames, and the moving of pages from one node to another.
+//! The machine: processes, areas and pages over nodes of frames, and moving pages from one node to another.
 #![tactic(auto)]
 
 mod address_spaces;

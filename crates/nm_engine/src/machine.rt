@@ -40,17 +40,17 @@ use std::marker::Model;
 use std::sync::Wait;
 use std::thread::Threads;
 
-/// How many pages moved, and how many requests failed for a pin or for lack of a free frame. Each stays at 2^64 - 1
-/// once it is there.
+/// How many pages have moved, and how many requests have failed because of a pin or for lack of a free frame. Each
+/// total stays at 2^64 - 1 once it is there.
 #[derive(Clone, Copy, Debug, PartialEq, Eq)]
 pub struct Totals {
-    /// `pgmigrate_success` of `/proc/vmstat`.
+    /// Pages moved: `pgmigrate_success` of `/proc/vmstat`.
     pub moved: u64,
-    /// `pgmigrate_fail` of `/proc/vmstat`.
+    /// Requests failed: `pgmigrate_fail` of `/proc/vmstat`.
     pub failed: u64,
 }
 
-/// Processes, areas and pages over nodes of frames. Contracts see it as a `State` of the definitions, which is sound.
+/// Processes, areas and pages over nodes of frames. Contracts see it as a sound `State` of the definitions.
 #[derive(Drop)]
 pub struct Machine<A: Allocator + Copy + Send + Sync> {
     inner: Inner<A>,
@@ -69,8 +69,8 @@ impl<A: Allocator + Copy + Send + Sync> Model for Machine<A> {
 }
 
 impl<A: Allocator + Copy + Send + Sync> Machine<A> {
-    /// A machine of these nodes, all online, with every frame free and no process. Each node's free frames are listed
-    /// in ascending order. An error means that the host is out of memory.
+    /// Makes a machine with these nodes, all online, with every frame free and no process. Each node's free list is in
+    /// ascending order. An error means that the host is out of memory.
     pub fn new(alloc: A, geometry: Geometry<A>) -> Result<Self, AllocError>
         ensures { IfOk result (λ machine. machine ≡ new_machine geometry) }
     {
@@ -89,7 +89,7 @@ impl<A: Allocator + Copy + Send + Sync> Machine<A> {
         self.inner.node_count()
     }
 
-    /// The nodes, and the frames that each owns.
+    /// The nodes, their frames, and the distances between nodes (numa(7)).
     pub fn geometry(&self) -> &Geometry<A>
         ensures geometry { result.now ≡ self.now.layout }
         ensures sound { IsSound self.now }
@@ -118,8 +118,8 @@ impl<A: Allocator + Copy + Send + Sync> Machine<A> {
         self.inner.names_missing_node(nodes)
     }
 
-    /// Takes a node of the machine online or offline, whether it was so before or not: pages stay where they are, and
-    /// so do free frames. It takes no memory.
+    /// Puts a node of the machine online or takes it offline, whatever it was before. Pages stay where they are, and so
+    /// do free frames. Does not allocate.
     pub fn set_online(&mut self, node: NodeId, online: bool)
         requires { node < node_count self.old.layout }
         ensures { self.new ≡ set_online self.old node online }
@@ -127,8 +127,8 @@ impl<A: Allocator + Copy + Send + Sync> Machine<A> {
         self.inner.set_online(node, online);
     }
 
-    /// The pages on a node, by segment and index: at most 16,384, and none where there is no such node. An error means
-    /// that the host is out of memory.
+    /// The pages on a node, by segment and index: at most 16,384. Empty if there is no such node. An error means that
+    /// the host is out of memory.
     pub fn pages_on(&self, node: NodeId) -> Result<Vec<Page, A>, AllocError>
         ensures list { IfOk result (λ pages. pages.items ≡ placed_on self.now node) }
         ensures few { IfOk result (λ pages. length pages.items ≤ 16384) }
@@ -136,14 +136,15 @@ impl<A: Allocator + Copy + Send + Sync> Machine<A> {
         self.inner.pages_on(node)
     }
 
-    /// What `spawn` fixed of a process, or None if there is none of this pid.
+    /// What `spawn` fixed of a process. None if there is no process with this pid.
     pub fn process(&self, pid: Pid) -> Option<ProcessInfo>
         ensures { result ≡ option_map info_of (get nat_cmp self.now.processes pid) }
     {
         self.inner.process(pid)
     }
 
-    /// How many pages moved and how many requests failed so far. Between two calls a machine is sound.
+    /// How many pages have moved and how many requests have failed, as in `/proc/vmstat`. Between two calls a machine
+    /// is sound.
     pub fn totals(&self) -> Totals
         ensures moved { result.moved ≡ self.now.moved }
         ensures failed { result.failed ≡ self.now.failed }
@@ -152,9 +153,11 @@ impl<A: Allocator + Copy + Send + Sync> Machine<A> {
         self.inner.totals()
     }
 
-    /// Adds a process. EINVAL for a pid that is 0 or alive, a home that is not a node of the machine, or a set of
-    /// allowed nodes that is empty or has a node beyond the machine; then ENOMEM if 1,024 processes are alive. The home
-    /// need be neither allowed nor online.
+    /// Adds a process, with the credentials and the cpuset of credentials(7), capabilities(7) and cpuset(7). The home
+    /// node need be neither allowed nor online.
+    ///
+    /// Errors, in order: EINVAL if the pid is 0 or alive, the home is not a node of the machine, or the allowed set is
+    /// empty or has a node that the machine does not have; ENOMEM if 1,024 processes are alive.
     pub fn spawn(
         &mut self,
         pid: Pid,
@@ -175,10 +178,12 @@ impl<A: Allocator + Copy + Send + Sync> Machine<A> {
         self.inner.spawn(pid, info)
     }
 
-    /// Makes a segment of `pages` pages, private or shared, and an area of the process over all of it, with the default
-    /// policy. Returns the segment's number, which is not given again. ESRCH without such a process; EINVAL for an
-    /// address that is not a multiple of 4,096, no page, an end beyond 2^47, or an area of the process in the way; then
-    /// ENOMEM if 65,536 segments were made. A refused call uses up no number.
+    /// Makes a segment of `pages` pages, private or shared, and an area of the process over all of it from address
+    /// `addr` on, with the default policy (mmap(2)). Returns the segment's number, which no other segment ever gets.
+    ///
+    /// Errors, in order: ESRCH if there is no such process; EINVAL if the address is not a multiple of 4,096, `pages`
+    /// is 0, the end is past 2^47, or an area of the process is in the way; ENOMEM if 65,536 segments have been made. A
+    /// refused call uses up no number.
     pub fn map(
         &mut self,
         pid: Pid,
@@ -193,9 +198,11 @@ impl<A: Allocator + Copy + Send + Sync> Machine<A> {
         self.inner.map(pid, addr, pages, shared)
     }
 
-    /// Makes an area of the process over `pages` pages of a shared segment, from an offset on that is counted in pages,
-    /// with the default policy. ESRCH without such a process; EINVAL as for `map`, and for a segment that is not there,
-    /// is private or ends before the area would.
+    /// Makes an area of the process from address `addr` on, over `pages` pages of a shared segment from `offset` on, in
+    /// pages, with the default policy (mmap(2), MAP_SHARED).
+    ///
+    /// Errors, in order: ESRCH if there is no such process; EINVAL as for `map`, or if the segment does not exist, is
+    /// private, or ends before the area would.
     pub fn attach(
         &mut self,
         pid: Pid,
@@ -210,27 +217,31 @@ impl<A: Allocator + Copy + Send + Sync> Machine<A> {
         self.inner.attach(pid, addr, segment, offset, pages)
     }
 
-    /// Pins the page that a process sees at an address once more: it does not move until it is unpinned as often. ESRCH
-    /// without such a process; EFAULT without an area there, and for the page of zeros; ENOENT if nothing was touched;
-    /// EBUSY if the page has 65,535 pins. It takes no memory.
+    /// Adds a pin to the page that a process sees at an address: it does not move while it has one.
+    ///
+    /// Errors, in order: ESRCH if there is no such process; EFAULT if there is no area, or only the page of zeros;
+    /// ENOENT if nothing was touched there; EBUSY if the page has 65,535 pins. Does not allocate.
     pub fn pin(&mut self, pid: Pid, addr: u64) -> Result<(), Errno>
         ensures { Alters result self.old self.new (pin_refusal self.old pid addr) (pin self.old pid addr) }
     {
         self.inner.pin(pid, addr)
     }
 
-    /// Takes one pin off the page that a process sees at an address, whoever pinned it. ESRCH, EFAULT and ENOENT as for
-    /// `pin`; EINVAL if the page has no pin. It takes no memory.
+    /// Removes a pin from the page that a process sees at an address, whoever added it.
+    ///
+    /// Errors, in order: ESRCH, EFAULT and ENOENT as for `pin`; EINVAL if the page has no pin. Does not allocate.
     pub fn unpin(&mut self, pid: Pid, addr: u64) -> Result<(), Errno>
         ensures { Alters result self.old self.new (unpin_refusal self.old pid addr) (unpin self.old pid addr) }
     {
         self.inner.unpin(pid, addr)
     }
 
-    /// Unmaps `pages` pages of a process from an address on, among which there may be holes: it loses what it sees
-    /// there, and its areas' parts there. A page that no area of any process covers any more loses its frame, which
-    /// becomes free, by ascending address, a page at its lowest. ESRCH without such a process; EINVAL for an address
-    /// that is not a multiple of 4,096, no page, or an end beyond 2^47; EBUSY if an area shows a pinned page there.
+    /// Unmaps `pages` pages of a process from address `addr` on; the range may have holes (munmap(2)). The process
+    /// loses what it sees there, and the parts of its areas there. Pages that no area of any process covers lose their
+    /// frames, which become free in address order, each page at its lowest address.
+    ///
+    /// Errors, in order: ESRCH if there is no such process; EINVAL if the address is not a multiple of 4,096, `pages`
+    /// is 0, or the end is past 2^47; EBUSY if an area of the process shows a page with a pin there.
     pub fn unmap(&mut self, pid: Pid, addr: u64, pages: u64) -> Result<(), MachineError>
         ensures done { Makes result self.old self.new (unmap_refusal self.old pid addr pages) (unmap self.old pid addr pages) }
         ensures memory { AsksLast result (unmap_refusal self.old pid addr pages) }
@@ -238,8 +249,9 @@ impl<A: Allocator + Copy + Send + Sync> Machine<A> {
         self.inner.unmap(pid, addr, pages)
     }
 
-    /// Ends a process: it loses all that it has, as by one `unmap`. Its pid may be used again. ESRCH without such a
-    /// process; EBUSY if one of its areas shows a pinned page.
+    /// Ends a process: it loses all that it has, as by one `unmap`, and its pid may be used again.
+    ///
+    /// Errors, in order: ESRCH if there is no such process; EBUSY if one of its areas shows a page with a pin.
     pub fn exit(&mut self, pid: Pid) -> Result<(), MachineError>
         ensures done { Makes result self.old self.new (exit_refusal self.old pid) (exit self.old pid) }
         ensures memory { AsksLast result (exit_refusal self.old pid) }
@@ -247,18 +259,19 @@ impl<A: Allocator + Copy + Send + Sync> Machine<A> {
         self.inner.exit(pid)
     }
 
-    /// Whether `set_policy` would set a policy: returns ESRCH, EINVAL and EFAULT as it does. It takes no memory.
+    /// Whether `set_policy` would set a policy. If not, returns the same ESRCH, EINVAL or EFAULT. Does not allocate.
     pub fn check_policy(&self, pid: Pid, addr: u64, len: u64) -> Result<(), Errno>
         ensures { Checks result (policy_refusal self.now pid addr len) }
     {
         self.inner.check_policy(pid, addr, len)
     }
 
-    /// Sets where the new pages of `len` bytes from an address on are placed, rounded up to whole pages, as `mbind(2)`
-    /// does. The areas of the process are split at both ends of the range, and never merged; no page moves. ESRCH
-    /// without such a process; EINVAL for an address that is not a multiple of 4,096, or a range that ends past
-    /// 2^64 - 1; then a `len` of 0 changes nothing; EFAULT if a page of the range has no area. An error means that the
-    /// machine is as it was.
+    /// Sets where new pages are placed in the `len` bytes from address `addr` on, rounded up to whole pages, as
+    /// mbind(2) does. The process's areas are split at both ends of the range, and never merged; no page moves.
+    ///
+    /// Errors, in order: ESRCH if there is no such process; EINVAL if the address is not a multiple of 4,096, or the
+    /// range ends past 2^64 - 1; EFAULT if a page of the range has no area. A `len` of 0 that is not refused changes
+    /// nothing. An error, also for lack of host memory, changes nothing.
     pub fn set_policy(
         &mut self,
         pid: Pid,
@@ -272,9 +285,11 @@ impl<A: Allocator + Copy + Send + Sync> Machine<A> {
         self.inner.set_policy(pid, addr, len, policy)
     }
 
-    /// Reads 1 to 4,096 bytes inside one page. Memory that was never written reads as zeros. ESRCH without such a
-    /// process; EINVAL for no byte, or bytes past the page's end; EFAULT without an area there; ENOMEM if shared memory
-    /// needs a frame and no node that may give one has any.
+    /// Reads 1 to 4,096 bytes inside one page. Memory never written reads as zeros. The first touch of shared memory
+    /// takes a frame as its area's policy says (numa(7)).
+    ///
+    /// Errors, in order: ESRCH if there is no such process; EINVAL if there is no byte, or the bytes go past the page's
+    /// end; EFAULT if there is no area; ENOMEM if shared memory needs a frame and no node that may give one has any.
     pub fn read(&mut self, pid: Pid, addr: u64, len: u64) -> Result<Vec<u8, A>, MachineError>
         ensures answer { Accesses result (λ bytes. Bytes bytes.items) self.old self.new (read self.old pid addr len) }
         ensures memory { AsksLast result (spot_refusal self.old pid addr len) }
@@ -282,8 +297,11 @@ impl<A: Allocator + Copy + Send + Sync> Machine<A> {
         self.inner.read(pid, addr, len)
     }
 
-    /// Writes 1 to 4,096 bytes inside one page. ESRCH, EINVAL and EFAULT as for `read`; ENOMEM if the page has no frame
-    /// yet and no node that may give one has any. A refused write changes nothing.
+    /// Writes 1 to 4,096 bytes inside one page. The first write to a page takes a frame as its area's policy says
+    /// (numa(7)).
+    ///
+    /// Errors, in order: ESRCH, EINVAL and EFAULT as for `read`; ENOMEM if the page needs a frame and no node that may
+    /// give one has any. A refused write changes nothing.
     pub fn write(&mut self, pid: Pid, addr: u64, bytes: &[u8]) -> Result<(), MachineError>
         ensures answer { Accesses result (λ done. Done) self.old self.new (write self.old pid addr bytes.now) }
         ensures memory { AsksLast result (spot_refusal self.old pid addr (length bytes.now)) }
@@ -291,22 +309,24 @@ impl<A: Allocator + Copy + Send + Sync> Machine<A> {
         self.inner.write(pid, addr, bytes)
     }
 
-    /// Decides the requests of a run one after another, and returns a status for each: the target's number where the
-    /// page is there now, or an error's number with a minus sign. -14 (EFAULT) without an area, or for the page of
-    /// zeros; -2 (ENOENT) where nothing was touched; -13 (EACCES) where another process sees the page and the request
-    /// does not ask for all; -16 (EBUSY) for a pinned page; -12 (ENOMEM) where the target has no free frame. A page
-    /// takes the front of the target's free frames. The frames that pages leave become free at the run's end, in the
-    /// order of the moves. The totals count the moves, and the requests with -16 or -12. The requests are all by
-    /// address, with one `all`, or all by page: then their classes at the run's start are those that they have one
-    /// after another. An error means that the host is out of memory, and that the machine is as it was.
+    /// Decides the requests of a run one after another, and returns a status for each, as in move_pages(2): the
+    /// target's number if the page is there afterwards, or an error's number with a minus sign. The first case that
+    /// holds: -14 (EFAULT) if there is no area; -2 (ENOENT) if nothing was touched; -14 for the page of zeros; the
+    /// target's number if the page is there already; -13 (EACCES) if another process sees the page and the request does
+    /// not ask for all; -16 (EBUSY) if the page has a pin; -12 (ENOMEM) if the target has no free frame. A page that
+    /// moves takes the front of the target's free list. The frames that pages leave become free when the run ends, in
+    /// the order of the moves. The totals count the moves, and the requests with -16 or -12. The requests must all be
+    /// by address, with one `all`, or all by page: their classes at the run's start are then those that they have one
+    /// after another. An error means that the host is out of memory, and that nothing has changed.
     ///
     /// While the pages are copied, processes make accesses, one after another. Each is answered as it would be outside
-    /// a run, except that one to a page that moves in this run is held: it does nothing, even if the process has not
-    /// touched the page. ESRCH, EINVAL and EFAULT come before that. To an access, the frames that the run took are no
-    /// longer free, and those that its pages left are not free yet.
+    /// a run, except that an access to a page that moves in this run is held, as it has to wait in the kernel's
+    /// Documentation/mm/page_migration.rst: it does nothing, even if the process has not touched the page. ESRCH,
+    /// EINVAL and EFAULT come before that. For an access, the frames that the run took are not free, and those that its
+    /// pages left are not free yet.
     ///
-    /// The crew copies the pages: each of its workers passes the gate before each copy. How many they are, and whether the
-    /// host starts them, makes no difference to any of this. It waits for their threads to end.
+    /// The crew copies the pages, and each worker calls the gate before each copy. Neither the number of workers nor
+    /// whether the host starts them makes a difference to any of this. Waits for their threads to end.
     pub fn run_flight<R: Threads + Wait + Sync, G: Gate + Sync>(
         &mut self,
         crew: &Crew<R, G>,
@@ -315,9 +335,13 @@ impl<A: Allocator + Copy + Send + Sync> Machine<A> {
     ) -> Result<Flown<A>, AllocError>
         requires target { requests.now.target < node_count self.old.layout }
         requires alike { HasOneAll requests.now.wanted.items }
+
+        // On success
         ensures statuses { IfOk result (λ flown. flown.statuses.items ≡ (run self.old requests.now.target requests.now.wanted.items (map access_shown accesses.now)).statuses) }
         ensures answers { IfOk result (λ flown. map answer_shown flown.answers.items ∷ [] ≡ (run self.old requests.now.target requests.now.wanted.items (map access_shown accesses.now)).answers) }
         ensures state { OnOk result (self.new ≡ (run self.old requests.now.target requests.now.wanted.items (map access_shown accesses.now)).state) }
+
+        // Without memory
         ensures err { OnErr result (self.new ≡ self.old) }
     {
         let plan = self.inner.plan(crew, requests)?;
@@ -335,21 +359,22 @@ impl<A: Allocator + Copy + Send + Sync> Machine<A> {
         })
     }
 
-    /// Counts so many requests as failed, and does nothing else: what a run does whose requests all find no free frame.
+    /// Counts this many requests as failed, and does nothing else: what a run does if none of its requests finds a free
+    /// frame.
     pub fn count_failures(&mut self, requests: usize)
         ensures { self.new ≡ counted self.old 0 requests }
     {
         self.inner.count(0, requests);
     }
 
-    /// Whether a node has a free frame: none has where there is no such node. It takes no memory.
+    /// Whether a node has a free frame. False if there is no such node. Does not allocate.
     pub fn has_free(&self, node: NodeId) -> bool
         ensures { result ≡ has_free self.now.free node }
     {
         self.inner.has_free(node)
     }
 
-    /// The free frames of a node, the front first. EINVAL if there is no such node.
+    /// The free frames of a node, front first. EINVAL if there is no such node.
     pub fn free_list(&self, node: NodeId) -> Result<Vec<FrameId, A>, MachineError>
         ensures told { Tells result (list_refusal self.now node) (λ frames. frames.items ≡ free_list self.now node) }
         ensures memory { AsksLast result (list_refusal self.now node) }
@@ -357,7 +382,8 @@ impl<A: Allocator + Copy + Send + Sync> Machine<A> {
         self.inner.free_list(node)
     }
 
-    /// What the process has at the page numbers that it has touched, in ascending order. ESRCH without such a process.
+    /// What a process has at the page numbers that it has touched, in ascending order, as in `/proc/PID/pagemap`. ESRCH
+    /// if there is no such process.
     pub fn entries(&self, pid: Pid) -> Result<Vec<(Vpn, Entry), A>, MachineError>
         ensures told { Tells result (entries_refusal self.now pid) (λ entries. entries.items ≡ entries_of self.now pid) }
         ensures memory { AsksLast result (entries_refusal self.now pid) }
@@ -365,7 +391,8 @@ impl<A: Allocator + Copy + Send + Sync> Machine<A> {
         self.inner.entries(pid)
     }
 
-    /// The areas of a process, by address. ESRCH without such a process.
+    /// The areas of a process, in address order, as in `/proc/PID/numa_maps` (numa(7)). ESRCH if there is no such
+    /// process.
     pub fn lines(&self, pid: Pid) -> Result<Vec<Line, A>, MachineError>
         ensures told { Tells result (entries_refusal self.now pid) (λ lines. lines.items ≡ lines_of self.now.segments self.now.areas pid) }
         ensures memory { AsksLast result (entries_refusal self.now pid) }
@@ -373,34 +400,40 @@ impl<A: Allocator + Copy + Send + Sync> Machine<A> {
         self.inner.lines(pid)
     }
 
-    /// The first page that a process sees at a page number from `first` up to, and without, `end`, with its node: no
-    /// page of zeros, and none where there is no such process. Asking again from the next page number on gives all such
-    /// pages, by page number, whatever the length of the range. It takes no memory.
+    /// The first page that a process sees at a page number from `first` up to but not including `end`, with its node.
+    /// The page of zeros does not count. None if there is no such page or process. Asking again from the next page
+    /// number on gives all such pages in order, however long the range is. Does not allocate.
     pub fn page_from(&self, pid: Pid, first: Vpn, end: Vpn) -> Option<Located>
+        // If there is one
         ensures some { IfSome result (λ e. located_between self.now pid first end ≡ e ∷ located_between self.now pid (e.vpn + 1) end) }
+
+        // If there is none
         ensures none { IfNone result (located_between self.now pid first end ≡ []) }
+
+        // Its page number and node
         ensures range { IfSome result (λ e. (first ≤ e.vpn) × (e.vpn < end)) }
         ensures node { IfSome result (λ e. e.node < node_count self.now.layout) }
     {
         self.inner.page_from(pid, first, end)
     }
 
-    /// The node where a page is, or None if it has no frame. It takes no memory.
+    /// The node that a page is on. None if it has no frame. Does not allocate.
     pub fn node_of_page(&self, page: Page) -> Option<NodeId>
         ensures { result ≡ option_map (node_of self.now.layout) (get page_cmp self.now.place page) }
     {
         self.inner.node_of_page(page)
     }
 
-    /// The pages that a process sees at page numbers from `first` up to, and without, `end`, by page number, with their
-    /// frames and nodes: no page of zeros, and none where there is no such process. It walks once over what the process has
-    /// there, whatever the length of the range. An error means that the host is out of memory.
+    /// The pages that a process sees at page numbers from `first` up to but not including `end`, in order of page
+    /// number, with their frames and nodes. The page of zeros does not count. Empty if there is no such process. Walks
+    /// once over what the process has there, however long the range is. An error means that the host is out of memory.
     pub fn pages_between(
         &self,
         pid: Pid,
         first: Vpn,
         end: Vpn,
     ) -> Result<Vec<Located, A>, AllocError>
+        // On success
         ensures pages { IfOk result (λ pages. pages.items ≡ located_between self.now pid first end) }
         ensures placed { IfOk result (λ pages. All (λ e. get page_cmp self.now.place e.page ≡ Some e.frame) pages.items) }
         ensures nodes { IfOk result (λ pages. All (λ e. e.node < node_count self.now.layout) pages.items) }
@@ -409,7 +442,7 @@ impl<A: Allocator + Copy + Send + Sync> Machine<A> {
         self.inner.pages_between(pid, first, end)
     }
 
-    /// How many processes see the page in a frame. Two addresses of a process count once. It takes no memory.
+    /// How many processes see the page in a frame. Two addresses of one process count once. Does not allocate.
     pub fn users_in(&self, frame: FrameId) -> usize
         requires placed { (page : Page) × (get page_cmp self.now.place page ≡ Some frame) }
         ensures users { (page : Page) → get page_cmp self.now.place page ≡ Some frame → result ≡ length (users self.now page) }
@@ -417,16 +450,17 @@ impl<A: Allocator + Copy + Send + Sync> Machine<A> {
         self.inner.users_in(frame)
     }
 
-    /// Where the page is that a process sees at a page number: its node's number, or an error's number with a minus sign:
-    /// -14 (EFAULT) without an area, or for the page of zeros; -2 (ENOENT) where nothing was touched.
+    /// Where the page is that a process sees at a page number, as move_pages(2) without nodes reports it: its node's
+    /// number, or an error's number with a minus sign: -14 (EFAULT) if there is no area, or only the page of zeros; -2
+    /// (ENOENT) if nothing was touched.
     pub fn node_status(&self, pid: Pid, vpn: Vpn) -> i32
         ensures { result ≡ node_status self.now pid vpn }
     {
         self.inner.node_status(pid, vpn)
     }
 
-    /// Whether each frame of the machine stands exactly once in its own node's list of free frames, or is the place of
-    /// exactly one page, and not both: true, since a machine is sound. An error means that the host is out of memory.
+    /// Whether each frame of the machine is in exactly one place: once in its own node's free list, or the frame of one
+    /// page. True, since a machine is sound. An error means that the host is out of memory.
     pub fn audit(&self) -> Result<bool, AllocError>
         ensures told { IfOk result (λ b. b ≡ audited self.now) }
         ensures sound { IfOk result (λ b. b ≡ true) }

@@ -19,7 +19,7 @@ use std::alloc::{AllocError, Allocator};
 use std::hash::{BuildHasherDefault, FoldHasher};
 use std::marker::Model;
 
-/// The processes by pid, in no order, each with its page table.
+/// The processes by pid, in any order, each with its page table.
 #[derive(Drop)]
 pub(crate) struct ProcessTable<A: Allocator + Copy> {
     tasks: IndexMap<Pid, process::Task<A>, BuildHasherDefault<FoldHasher>, A>,
@@ -38,7 +38,7 @@ impl<A: Allocator + Copy> Model for ProcessTable<A> {
 }
 
 impl<A: Allocator + Copy> ProcessTable<A> {
-    /// No process.
+    /// Makes a table without processes. Does not allocate.
     pub(crate) fn new(alloc: A) -> Self
         ensures { result ≡ [] }
     {
@@ -56,21 +56,21 @@ impl<A: Allocator + Copy> ProcessTable<A> {
         self.tasks.len()
     }
 
-    /// What `spawn` fixed of a process, or None if there is none of this pid.
+    /// What `spawn` fixed of a process. None if there is no process with this pid.
     pub(crate) fn info(&self, pid: Pid) -> Option<ProcessInfo>
         ensures { result ≡ option_map task_info (get nat_cmp self.now pid) }
     {
         self.tasks.get(&pid).map(|task| task.info)
     }
 
-    /// What stands in the table of a process at a page number.
+    /// The entry of a process at a page number. None if it is absent, or there is no such process.
     pub(crate) fn entry(&self, pid: Pid, vpn: Vpn) -> Option<Entry>
         ensures { result ≡ entry_at self.now pid vpn }
     {
         self.tasks.get(&pid)?.table.get(vpn)
     }
 
-    /// All that stands in the table of a process, by page number.
+    /// All entries of a process, in order of page number. None if there is no such process.
     pub(crate) fn entries(&self, pid: Pid) -> Result<Option<Vec<(Vpn, Entry), A>>, AllocError>
         ensures entries { IfOk result (λ all. option_map (λ entries. entries.items) all ≡ option_map task_table (get nat_cmp self.now pid)) }
         ensures memory { OnErr result (IsSome (get nat_cmp self.now pid)) }
@@ -81,7 +81,7 @@ impl<A: Allocator + Copy> ProcessTable<A> {
         }
     }
 
-    /// The first entry of a process at a page number or past it.
+    /// The first entry of a process at or after a page number.
     pub(crate) fn first_from(&self, pid: Pid, at: Vpn) -> Option<(Vpn, Entry)>
         ensures some { IfSome result (λ e. (at ≤ e.0) × (entry_at self.now pid e.0 ≡ Some e.1)) }
         ensures first { IfSome result (λ e. (v : ℕ) → at ≤ v → v < e.0 → entry_at self.now pid v ≡ None) }
@@ -90,8 +90,7 @@ impl<A: Allocator + Copy> ProcessTable<A> {
         self.tasks.get(&pid)?.table.first_from(at)
     }
 
-    /// What stands in the table of a process from one page number up to another, by page number. Nothing where there is
-    /// no such process.
+    /// The entries of a process from one page number up to another, in order. Empty if there is no such process.
     pub(crate) fn entries_between(
         &self,
         pid: Pid,
@@ -111,8 +110,14 @@ impl<A: Allocator + Copy> ProcessTable<A> {
     /// Adds a process that has touched nothing.
     pub(crate) fn add(&mut self, pid: Pid, info: ProcessInfo) -> Result<(), AllocError>
         requires { get nat_cmp self.old pid ≡ None }
+
+        // On success
         ensures ok { OnOk result (self.new ≡ set nat_cmp self.old pid (new_task info)) }
+
+        // Without memory
         ensures err { OnErr result (self.new ≡ self.old) }
+
+        // In any case
         ensures ordered { IsStrictlySortedBy nat_cmp (keys_of self.new) }
     {
         let task = process::Task {
@@ -123,7 +128,7 @@ impl<A: Allocator + Copy> ProcessTable<A> {
         Ok(())
     }
 
-    /// Puts an entry at a page number of a process.
+    /// Sets the entry at a page number of a process.
     pub(crate) fn set(&mut self, pid: Pid, vpn: Vpn, entry: Entry) -> Result<(), AllocError>
         requires { IsSome (get nat_cmp self.old pid) }
         ensures ok { OnOk result ((t : Task) → get nat_cmp self.old pid ≡ Some t → self.new ≡ replace nat_cmp self.old pid (with_entry t vpn entry)) }
@@ -135,7 +140,7 @@ impl<A: Allocator + Copy> ProcessTable<A> {
         task.table.set(vpn, entry)
     }
 
-    /// Puts another entry at a page number of a process that has one. It takes no memory.
+    /// Replaces the entry at a page number of a process that has one. Does not allocate.
     pub(crate) fn replace(&mut self, pid: Pid, vpn: Vpn, entry: Entry)
         requires { IsThere self.old (pid, vpn) }
         ensures { self.new ≡ replaced self.old entry (pid, vpn) }
@@ -146,7 +151,7 @@ impl<A: Allocator + Copy> ProcessTable<A> {
         task.table.replace(vpn, entry);
     }
 
-    /// Removes the entry at a page number of a process. It takes no memory.
+    /// Removes the entry at a page number of a process. Does not allocate.
     pub(crate) fn clear(&mut self, pid: Pid, vpn: Vpn)
         requires { IsSome (get nat_cmp self.old pid) }
         ensures { (t : Task) → get nat_cmp self.old pid ≡ Some t → self.new ≡ replace nat_cmp self.old pid (without_entry t vpn) }
@@ -157,7 +162,7 @@ impl<A: Allocator + Copy> ProcessTable<A> {
         task.table.clear(vpn);
     }
 
-    /// Removes a process with its table. It takes no memory.
+    /// Removes a process with its table. Does not allocate.
     pub(crate) fn remove(&mut self, pid: Pid)
         ensures gone { self.new ≡ without nat_cmp self.old pid }
         ensures ordered { IsStrictlySortedBy nat_cmp (keys_of self.new) }

@@ -13,6 +13,6 @@ zeros_are n at i le = grind (arith, places)
 pub as_many : (n : ℕ) → length {A = ℕ} (replicate n 0) ≡ n
 as_many n = grind (arith, places)
 
--- the front of another list over one, where both are zero behind it, makes it that list
+-- the front of another list over one, where both are zero after it, makes it that list
 pub fronted : (bytes other : List ℕ) (at : ℕ) → IsZeroFrom bytes at → IsZeroFrom other at → at ≤ length bytes → length bytes ≡ length other → overwrite bytes 0 (take at other) ≡ other
 fronted bytes other at zero zeros le same = same_number_lists _ _ (grind (arith, places)) (λ k h. grind (arith, places, zero k, zeros k))

@@ -1,6 +1,6 @@
--- A copying that is done.
+-- A finished copy job.
 use Rattle.nm_frames.specs.declared.job.CopyJob.{CopyJob}
 
--- the same frames, source bytes and ticket; the target's bytes are the source's
+-- the job after its copy: the frames, source bytes and ticket are the same, and the target's bytes are the source's
 abbrev pub copied : {A : Type 0} → CopyJob A → CopyJob A
 copied j = record { source = j.source; target = (j.target.0, j.source.1); ticket = j.ticket }

@@ -1,4 +1,4 @@
-//! A frame's bytes on their own.
+//! A frame's bytes, on their own.
 
 ghost use Rattle.std.specs.Prelude.{◌≡◌, ◌≤◌, length};
 ghost use Rattle.nm_frames.specs.Written.{IsZeroFrom};
@@ -8,7 +8,8 @@ use nm_types::FrameId;
 use std::alloc::Allocator;
 use std::marker::Model;
 
-/// A frame's 4,096 bytes, owned, with the frame's number. Contracts see the pair of the number and the list of the bytes.
+/// The 4,096 bytes of a frame, owned, with the frame's number. Contracts see the pair of the number and the list of
+/// bytes.
 #[derive(Debug, Drop)]
 pub struct FrameBuf<A: Allocator + Copy> {
     pub(crate) frame: FrameId,
@@ -26,7 +27,7 @@ impl<A: Allocator + Copy> Model for FrameBuf<A> {
 }
 
 impl<A: Allocator + Copy> FrameBuf<A> {
-    /// The frame whose bytes these are.
+    /// The number of the frame whose bytes these are.
     pub fn frame(&self) -> FrameId
         ensures { result ≡ self.now.0 }
     {
@@ -41,7 +42,7 @@ impl<A: Allocator + Copy> FrameBuf<A> {
         self.bytes.as_slice()
     }
 
-    /// The end of what was written: from this place on all bytes are zero.
+    /// The end of the written bytes: all bytes from this index on are zero.
     pub(crate) fn written(&self) -> usize
         ensures zeros { IsZeroFrom self.now.1 result }
         ensures fits { result ≤ 4096 }
@@ -49,7 +50,7 @@ impl<A: Allocator + Copy> FrameBuf<A> {
         self.bytes.written()
     }
 
-    /// Makes the bytes those of another frame.
+    /// Overwrites all bytes with another frame's.
     pub(crate) fn copy_from(&mut self, other: &Self)
         ensures { self.new ≡ (self.old.0, other.now.1) }
     {

@@ -8,15 +8,15 @@ use nm_types::limits::PAGE_BYTES;
 use std::alloc::{AllocError, Allocator};
 use std::marker::Model;
 
-/// What clears a frame.
+/// What a frame is cleared with.
 const ZEROS: [u8; PAGE_BYTES] = [0; PAGE_BYTES];
 
-/// The 4,096 bytes of a frame, owned. Contracts see the list of them. Most pages hold little, and all is zero that was
-/// never written: the end of what was written is kept, and no call copies or clears what lies behind it.
+/// The 4,096 bytes of a frame, owned. Contracts see the list of them. Most pages hold little, and bytes never written
+/// are zero: the end of the written bytes is kept, and no call copies or clears what lies past it.
 #[derive(Debug, Drop)]
 pub struct Bytes<A: Allocator + Copy> {
     bytes: Box<[u8; PAGE_BYTES], A>,
-    /// From this place on each byte is zero.
+    /// Every byte from this index on is zero.
     written: usize,
 }
 
@@ -32,7 +32,7 @@ impl<A: Allocator + Copy> Model for Bytes<A> {
 }
 
 impl<A: Allocator + Copy> Bytes<A> {
-    /// Zeros.
+    /// Allocates 4,096 zeros.
     pub fn zeros(alloc: A) -> Result<Self, AllocError>
         ensures { IfOk result (λ b. b ≡ replicate 4096 0) }
     {
@@ -40,7 +40,7 @@ impl<A: Allocator + Copy> Bytes<A> {
         Ok(Bytes { bytes, written: 0 })
     }
 
-    /// All of them.
+    /// All 4,096 bytes.
     pub fn as_slice(&self) -> &[u8]
         ensures value { result.now ≡ self.now }
         ensures whole { length self.now ≡ 4096 }
@@ -48,7 +48,7 @@ impl<A: Allocator + Copy> Bytes<A> {
         self.bytes.as_slice()
     }
 
-    /// The end of what was written: from this place on all of them are zero.
+    /// The end of the written bytes: all bytes from this index on are zero.
     pub(crate) fn written(&self) -> usize
         ensures zeros { IsZeroFrom self.now result }
         ensures fits { result ≤ 4096 }
@@ -56,7 +56,7 @@ impl<A: Allocator + Copy> Bytes<A> {
         self.written
     }
 
-    /// Makes them zeros.
+    /// Sets all bytes to zero.
     pub fn clear(&mut self)
         ensures { self.new ≡ replicate 4096 0 }
     {
@@ -65,7 +65,7 @@ impl<A: Allocator + Copy> Bytes<A> {
         self.written = 0;
     }
 
-    /// Puts bytes in place of those from `at` on.
+    /// Overwrites the bytes from index `at` on. They must end within the frame.
     pub fn write(&mut self, at: usize, bytes: &[u8])
         requires { at + length bytes.now ≤ 4096 }
         ensures { self.new ≡ overwrite self.old at bytes.now }
@@ -75,7 +75,7 @@ impl<A: Allocator + Copy> Bytes<A> {
         self.written = self.written.max(end);
     }
 
-    /// Makes them those of another frame.
+    /// Overwrites all bytes with another frame's.
     pub fn copy_from(&mut self, other: &Self)
         ensures { self.new ≡ other.now }
     {

@@ -1,4 +1,4 @@
-//! One copying to be done.
+//! The copy of one frame's bytes to another frame.
 
 use crate::buf::FrameBuf;
 use std::alloc::Allocator;
@@ -6,11 +6,11 @@ use std::alloc::Allocator;
 /// A frame whose bytes are to be copied to another frame.
 #[derive(Debug, Drop)]
 pub struct CopyJob<A: Allocator + Copy> {
-    /// The frame that is copied.
+    /// The frame to copy from.
     pub source: FrameBuf<A>,
-    /// The frame that gets the bytes.
+    /// The frame to copy to.
     pub target: FrameBuf<A>,
-    /// The job's place among the jobs of its run, from 0.
+    /// The job's index among the jobs of its run, from 0.
     pub ticket: u64,
 }
 
@@ -19,7 +19,7 @@ impl<A: Allocator + Copy> CopyJob<A> {
     ghost use Rattle.nm_frames.specs.Job.{copied};
     ghost use Rattle.nm_frames.specs.Written.{IsZeroFrom};
 
-    /// How many bytes `copy` moves, from the first on: behind these both pages are zero.
+    /// How many bytes `copy` copies, from the first on: both frames are zero from there on.
     pub fn size(&self) -> usize
         ensures source { IsZeroFrom self.now.source.1 result }
         ensures target { IsZeroFrom self.now.target.1 result }
@@ -28,7 +28,7 @@ impl<A: Allocator + Copy> CopyJob<A> {
         self.source.written().max(self.target.written())
     }
 
-    /// Copies the source's bytes to the target. Nothing else of the job changes.
+    /// Copies the source's bytes to the target, and changes nothing else.
     pub fn copy(&mut self)
         ensures { self.new ≡ copied self.old }
     {

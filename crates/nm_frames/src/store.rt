@@ -11,9 +11,9 @@ use nm_types::FrameId;
 use std::alloc::{AllocError, Allocator};
 use std::marker::Model;
 
-/// The bytes of each frame, or none where they are out as a `FrameBuf`. Contracts see a list by frame, with the list
-/// of the bytes for a frame that is home and None for one that is out. A frame has no bytes in memory, and its list is
-/// empty, until it is populated.
+/// The bytes of each frame, or none while they are out as a `FrameBuf`. Contracts see a list by frame: the list of a
+/// frame's bytes if it is home, and None if it is out. Until a frame is populated it has no bytes in memory, and its list
+/// is empty.
 #[derive(Debug, Drop)]
 pub struct FrameStore<A: Allocator + Copy> {
     frames: Vec<Slot<A>, A>,
@@ -28,7 +28,7 @@ impl<A: Allocator + Copy> Model for FrameStore<A> {
 }
 
 impl<A: Allocator + Copy> FrameStore<A> {
-    /// A store of `frames` frames, all home, none of them populated.
+    /// Makes a store of `frames` frames, all home and none of them populated.
     pub fn new(alloc: A, frames: usize) -> Result<Self, AllocError>
         ensures { IfOk result (λ store. store ≡ replicate frames (Some [])) }
     {
@@ -39,7 +39,7 @@ impl<A: Allocator + Copy> FrameStore<A> {
         Ok(FrameStore { frames: store })
     }
 
-    /// No frames. Does not allocate.
+    /// A store without frames. Does not allocate.
     pub fn none(alloc: A) -> Self
         ensures { result ≡ [] }
     {
@@ -48,14 +48,14 @@ impl<A: Allocator + Copy> FrameStore<A> {
         }
     }
 
-    /// How many frames there are, home or out.
+    /// How many frames there are, home and out.
     pub fn frame_count(&self) -> usize
         ensures { result ≡ length self.now }
     {
         self.frames.len()
     }
 
-    /// The byte of a home frame at a place below 4,096, which is 0 where the frame is not populated.
+    /// The byte at an index below 4,096 of a home frame: 0 if the frame is not populated.
     pub fn byte(&self, frame: FrameId, at: usize) -> u8
         requires home { IsHome self.now frame }
         requires inside { at < 4096 }
@@ -86,7 +86,7 @@ impl<A: Allocator + Copy> FrameStore<A> {
         Ok(())
     }
 
-    /// Puts bytes in place of those of a populated frame from `at` on. They end at its 4,096 bytes' end at the latest.
+    /// Overwrites the bytes of a populated frame from index `at` on. They must end within its 4,096 bytes.
     pub fn write(&mut self, frame: FrameId, at: usize, bytes: &[u8])
         requires home { IsHome self.old frame }
         requires populated { IsPopulated self.old frame }
@@ -98,7 +98,7 @@ impl<A: Allocator + Copy> FrameStore<A> {
         self.put_back(buf);
     }
 
-    /// Makes the bytes of a populated frame zeros.
+    /// Sets all bytes of a populated frame to zero.
     pub fn zero(&mut self, frame: FrameId)
         requires home { IsHome self.old frame }
         requires populated { IsPopulated self.old frame }
@@ -109,7 +109,7 @@ impl<A: Allocator + Copy> FrameStore<A> {
         self.put_back(buf);
     }
 
-    /// Takes the bytes of a populated frame out. No byte is copied.
+    /// Takes the bytes of a populated frame out, without copying them.
     pub fn take_out(&mut self, frame: FrameId) -> FrameBuf<A>
         requires home { IsHome self.old frame }
         requires populated { IsPopulated self.old frame }
@@ -120,7 +120,7 @@ impl<A: Allocator + Copy> FrameStore<A> {
         FrameBuf { frame, bytes }
     }
 
-    /// Puts the bytes of a frame that is out back home. No byte is copied.
+    /// Puts the bytes of a frame that is out back home, without copying them.
     pub fn put_back(&mut self, buf: FrameBuf<A>)
         requires { IsOut self.old buf.0 }
         ensures { self.new ≡ slice_set self.old buf.0 (Some buf.1) }

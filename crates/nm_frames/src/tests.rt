@@ -3,7 +3,7 @@ use nm_types::FrameId;
 use std::alloc::{AllocError, Global};
 use std::test::Fail;
 
-/// Whether the first of eight frames is copied to the fifth, and the fourth stays as it was.
+/// Whether the first of eight frames is copied to the fifth, and the fourth keeps its bytes.
 fn first_to_fifth(alloc: Global) -> Result<bool, AllocError> {
     let first = FrameId::new(0);
     let fourth = FrameId::new(3);
@@ -41,15 +41,15 @@ fn first_to_fifth(alloc: Global) -> Result<bool, AllocError> {
     Ok(is_first && copied == [61, 62, 0, 0] && others == [62, 64, 0])
 }
 
-/// Of eight frames the first and the fifth are taken out, one is copied to the other, and both are put back: the fifth
-/// has the bytes of the first, though it held more, and the frame between them its old ones.
+/// The first and the fifth of eight frames are taken out, one is copied to the other, and both are put back: the fifth
+/// has the bytes of the first, though it held more, and the frame between them has its old ones.
 #[test]
 fn a_copied_frame(rt: HostRuntime) -> Result<(), Fail> {
     assert!(rt; first_to_fifth(rt.alloc())?);
     Ok(())
 }
 
-/// The last byte of a new frame, the one before it once it is written, and both once the frame is cleared.
+/// The last byte of a new frame, the one before it after a write, and both after the frame is cleared.
 fn ends_of_a_frame(alloc: Global) -> Result<[u8; 4], AllocError> {
     let mut store = FrameStore::new(alloc, 2)?;
     let frame = FrameId::new(1);

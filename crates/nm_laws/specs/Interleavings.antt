@@ -1,4 +1,4 @@
--- What holds of every interleaving of a run's events.
+-- What holds for every interleaving of a run's events.
 use Rattle.std.specs.Prelude.{◌≡◌, ◌↔◌, ℕ, ◌<◌, Bool, List, [], ◌∷◌, length, Some, IsTrue}
 use Rattle.std.specs.List.{AllByRecursion}
 use Rattle.nm_types.specs.declared.page.Page.{Page}
@@ -15,7 +15,7 @@ use Rattle.nm_laws.specs.Laws.{moves_all}
 use Rattle.nm_model.specs.definitions.RunMachine.{RunMachine, Ready, Ended, state_of}
 use Rattle.nm_model.specs.definitions.Events.{Event, Begin, after, accesses_in, hands}
 
--- no page is on its way: every buffer is home, and every entry names the frame of the page that is shown there
+-- no page is on its way: every buffer is home, and every entry names the frame of the page shown there
 pub record IsSettled (m : RunMachine) : Type 0 where
   pub idle : m.jobs ≡ []
   pub buffers : length m.buf ≡ frame_count m.layout
@@ -28,11 +28,11 @@ pub record IsAtRest (m : RunMachine) : Type 0 where
   pub unanswered : m.answers ≡ []
   pub settled : IsSettled m
 
--- each sound state is that of a machine at rest
+-- each sound state is the state of a machine at rest
 abbrev pub EverySoundStateIsRead : Type 0
 EverySoundStateIsRead = (s : State) → IsSound s → (m : RunMachine) × IsAtRest m × (state_of m ≡ s)
 
--- a run of requests that all move what other processes see, or all do not, and events from its beginning on
+-- a run of requests that all move pages which other processes see, or none do, and events from its beginning on
 pub record Unfolds (m : RunMachine) (target : ℕ) (wanted : List Wanted) (events : List Event) (n : RunMachine) : Type 0 where
   pub rest : IsAtRest m
   pub sound : IsSound (state_of m)
@@ -40,33 +40,33 @@ pub record Unfolds (m : RunMachine) (target : ℕ) (wanted : List Wanted) (event
   pub alike : AllByRecursion (λ w. moves_all w ≡ all) wanted
   pub leads : after m (Begin target wanted ∷ events) ≡ Some n
 
--- whatever accesses come meanwhile, a run can end
+-- whatever accesses are made meanwhile, a run can end
 abbrev pub EveryRunCanEnd : Type 0
 EveryRunCanEnd =
     (m : RunMachine) (target : ℕ) (wanted : List Wanted) (all : Bool) (accesses : List Access) →
     IsAtRest m → IsSound (state_of m) → AllByRecursion (λ w. moves_all w ≡ all) wanted →
     (events : List Event) × (n : RunMachine) × Unfolds m target wanted events n × (n.phase ≡ Ended) × (accesses_in events ≡ accesses)
 
--- what a run is, said of a machine
+-- the run that a machine is in
 pub record IsRun (n : RunMachine) (r : Ran) : Type 0 where
   pub state : state_of n ≡ r.state
   pub statuses : n.statuses ≡ r.statuses
   pub answers : n.answers ∷ [] ≡ r.answers
   pub settled : IsSettled n
 
--- whatever order its events take, a run that has ended is one request after another, and then one access after another
+-- whatever order its events take, a run that has ended is one request after another, then one access after another
 abbrev pub EveryOrderIsTheRun : Type 0
 EveryOrderIsTheRun =
     (m : RunMachine) (target : ℕ) (wanted : List Wanted) (events : List Event) (n : RunMachine) →
     Unfolds m target wanted events n → n.phase ≡ Ended → IsRun n (run (state_of m) target wanted (accesses_in events))
 
--- and after each event the buffer of each frame is in one place
+-- after each event, each frame's buffer is in exactly one place
 abbrev pub EveryBufferIsInOneHand : Type 0
 EveryBufferIsInOneHand =
     (m : RunMachine) (target : ℕ) (wanted : List Wanted) (events : List Event) (n : RunMachine) →
     Unfolds m target wanted events n → (f : ℕ) → f < frame_count m.layout → length (hands n f) ≡ 1
 
--- an access of a run is held exactly if it is not refused where it comes to and the page there moves
+-- an access of a run is held exactly if it is not refused first and the page there moves
 abbrev pub HeldIsExact : Type 0
 HeldIsExact =
     (s : State) (moved : List Page) (a : Access) →

@@ -10,14 +10,14 @@ use Rattle.nm_model.specs.definitions.Status.{status_or_move}
 use Rattle.nm_model.specs.definitions.Run.{each}
 use Rattle.nm_laws.specs.Laws.{Agrees, with_move}
 
--- each of these pages, in its turn, leaves the frame in which it stands, on another node, for the front frame of the target
+-- each of these pages in turn leaves its frame, which is on another node, for the front frame of the target
 abbrev pub CanMove : State → ℕ → List Taken → Type 0
 CanMove s target [] = Unit {0}
 CanMove s target (t ∷ taken) =
     (get page_cmp s.place t.page ≡ Some t.from) × (slice_get (free_list s target) 0 ≡ Some t.to)
     × (node_of s.layout t.from ≢ target) × CanMove (with_move target s t) target taken
 
--- the plan for requests by their classes at the start, which says what becomes of them one after another
+-- the plan of requests from their classes at the start, which gives what deciding them one after another does
 pub record IsPlanOf (s : State) (target : ℕ) (ws : List Wanted) (p : Planned) : Type 0 where
   pub planned : p ≡ planned (map (status_or_move s target) ws) (free_list s target) target
   pub agrees : Agrees s target (each s target ws) (record { statuses = p.statuses; taken = p.taken })

@@ -1,4 +1,4 @@
--- What holds of accesses in flight whose touches are all made before a page moves.
+-- What holds for accesses in flight whose touches are all made before a page moves.
 use Rattle.std.specs.Prelude.{◌≡◌, ℕ, ◌<◌, List, map, length}
 use Rattle.std.specs.List.{AllByRecursion}
 use Rattle.nm_types.specs.declared.page.Page.{Page}
@@ -10,14 +10,14 @@ use Rattle.nm_laws.specs.Moves.{CanMove}
 use Rattle.nm_model.specs.definitions.Sound.{IsSound, IsSoundMidRun}
 use Rattle.nm_model.specs.definitions.Early.{all_early, all_made, without_fronts, with_fronts, tos, IsDue}
 
--- to touch all pages and then come to the bytes is to make one access after another
+-- touching all pages and then reading and writing the bytes is the same as making one access after another
 abbrev pub TouchesComeFirst : Type 0
 TouchesComeFirst =
     (s : State) (left : List ℕ) (moved : List Page) (accesses : List Access) →
     IsSoundMidRun s left →
     let early = all_early s moved accesses in all_in_flight s moved accesses ≡ all_made early.state early.dues
 
--- and the touches may come before the moves, once the frames of the run are taken: what is left to do is done inside pages
+-- the touches may also come before the moves, once the run's frames are taken: all that is left to do is inside pages
 -- that have a frame and do not move
 abbrev pub MovesComeLater : Type 0
 MovesComeLater =

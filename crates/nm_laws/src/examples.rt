@@ -8,7 +8,7 @@ ghost use Rattle.nm_model.specs.examples.Letting.{OnlyTheMovingPageIsHeld, EachH
 ghost use Rattle.nm_model.specs.examples.Setting.{MiddlePageIsSplitOff, NewPagesFollowThePolicy, LengthsRoundUp, AreasAreNotMerged, OthersKeepTheirAreas, RangesAreRefused};
 ghost use Rattle.nm_model.specs.examples.Deciding.{NodesAreOrderedByDistance, PolicyOrdersTheNodes, PlanResolvesRepeats, PlanWithoutFrames, PlanWithoutRequests};
 
-/// The states from which the worked examples start are sound.
+/// The states that the worked examples start from are sound.
 pub fn examples_start_sound()
     ensures { StartsAreSound }
 {}
@@ -25,7 +25,7 @@ pub fn batches_move_pages()
     ensures page_goes_and_comes_home { PageGoesAndComesHome }
 {}
 
-/// Worked examples of pages that have several addresses, or that several processes see.
+/// Worked examples of pages with several addresses, or that several processes see.
 pub fn sharing_counts_processes()
     ensures two_addresses_are_one_process { TwoAddressesAreOneProcess }
     ensures shared_page_stays { SharedPageStays }
@@ -38,7 +38,7 @@ pub fn moving_pages_are_held()
     ensures { OnlyTheMovingPageIsHeld }
 {}
 
-/// Worked examples of pins, and of areas and processes that go.
+/// Worked examples of pins, of unmapping areas and of processes that exit.
 pub fn pages_live_while_covered()
     ensures each_has_its_status { EachHasItsStatus }
     ensures pinned_page_keeps_its_area { PinnedPageKeepsItsArea }
@@ -46,7 +46,7 @@ pub fn pages_live_while_covered()
     ensures last_area_frees_the_page { LastAreaFreesThePage }
 {}
 
-/// Worked examples of policies that are set for a range of addresses.
+/// Worked examples of setting the policy of a range of addresses.
 pub fn policies_split_areas()
     ensures middle_page_is_split_off { MiddlePageIsSplitOff }
     ensures new_pages_follow_the_policy { NewPagesFollowThePolicy }

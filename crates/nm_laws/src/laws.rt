@@ -1,12 +1,12 @@
-//! Laws over the definitions alone.
+//! Laws of the definitions alone. Each function does nothing, and its contract is the law.
 
 ghost use Rattle.nm_laws.specs.Laws.{DecidingKeepsMemory, FreeingKeepsMemory, BatchKeepsMemory, RunKeepsMemory, RunsKeepMemory, ReadingKeepsMemory, WritingIsExact, PolicyKeepsMemory, LooksSuffice, LooksAreBounded, SoundIsAudited, PlanIsOneByOne, AccessIsSound, RunIsSound, BatchIsSound, NewIsSound, SpawnIsSound, MapIsSound, AttachIsSound, PinIsSound, UnpinIsSound, PolicyIsSound, UnmapIsSound, ExitIsSound};
 ghost use Rattle.nm_laws.specs.Interleavings.{EverySoundStateIsRead, EveryRunCanEnd, EveryOrderIsTheRun, EveryBufferIsInOneHand, HeldIsExact};
 ghost use Rattle.nm_laws.specs.Phases.{TouchesComeFirst, MovesComeLater};
 ghost use Rattle.nm_model.specs.examples.Early.{PagesAreReadyFirst};
 
-/// No move changes a byte that a process reads: not one, and not a batch; and no read and no policy does. Where accesses are
-/// made while pages move, each byte is that of the last write which was done there, or else what it was before.
+/// No move changes a byte that a process reads: neither a single move nor a batch. Nor does a read or a policy. Where
+/// accesses are made while pages move, each byte is that of the last write made there, or else the same as before.
 pub fn mem_stays()
     ensures decided { DecidingKeepsMemory }
     ensures freed { FreeingKeepsMemory }
@@ -17,24 +17,24 @@ pub fn mem_stays()
     ensures policies { PolicyKeepsMemory }
 {}
 
-/// A write gives its own bytes to everyone who has the page, and changes no other byte that any process has.
+/// A write gives its bytes to everyone who has the page, and changes no other byte of any process.
 pub fn writes_are_exact()
     ensures { WritingIsExact }
 {}
 
-/// A look at a page number of a process, which counts the processes that see the page, is enough to decide what is to
-/// be done with a request, and the count is at most the number of processes that may be alive.
+/// A look at a page number of a process, which counts the processes that see the page, is enough to decide what to do
+/// with a request. The count is at most the number of processes that can be alive.
 pub fn looks_suffice()
     ensures told { LooksSuffice }
     ensures bounded { LooksAreBounded }
 {}
 
-/// To class the requests of a run at its start and then decide them gives the same as to decide one after another.
+/// Classing the requests of a run at its start and then deciding them gives the same as deciding one after another.
 pub fn plan_is_one_by_one()
     ensures { PlanIsOneByOne }
 {}
 
-/// An audit of a sound machine finds each frame in one place.
+/// An audit of a sound machine finds each frame in exactly one place.
 pub fn sound_is_audited()
     ensures { SoundIsAudited }
 {}
@@ -59,8 +59,8 @@ pub fn calls_keep_soundness()
     ensures exit { ExitIsSound }
 {}
 
-/// Whatever order the events of a run take, between its beginning and its end, the run is one request after another, the
-/// accesses one after another, and then the frames that were left become free; and each buffer is in one place all along.
+/// Whatever order a run's events take between its beginning and its end, the run is one request after another, the
+/// accesses one after another, and then the frames left become free. Each buffer is in one place throughout.
 pub fn interleavings()
     ensures states { EverySoundStateIsRead }
     ensures ends { EveryRunCanEnd }
@@ -69,9 +69,9 @@ pub fn interleavings()
     ensures held { HeldIsExact }
 {}
 
-/// Accesses in flight may be made in two steps: all that they come to is touched before a page moves, in their order, and
-/// then the bytes of pages that do not move are read and written. It is as if they were made one after another while the
-/// pages of the run move.
+/// Accesses in flight may be made in two steps: first everything that they come to is touched before a page moves, in
+/// their order, and then the bytes of pages that do not move are read and written. That is the same as making them one
+/// after another while the pages of the run move.
 pub fn touches_come_first()
     ensures first { TouchesComeFirst }
     ensures later { MovesComeLater }

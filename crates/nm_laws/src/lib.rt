@@ -1,4 +1,5 @@
-//! What holds of the definitions of nm_model, whatever code does: laws of every state, run and request, and worked examples.
+//! What holds of nm_model's definitions, whatever any code does: laws of every state, run and request, and worked
+//! examples.
 #![tactic(auto)]
 
 pub mod examples;

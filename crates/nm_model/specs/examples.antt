@@ -17,41 +17,41 @@ use Rattle.nm_model.specs.definitions.Seen.{frame_seen}
 use Rattle.nm_model.specs.definitions.Run.{Ran, batch, answer_of}
 use Rattle.nm_model.specs.definitions.Effect.{new_machine, spawn, map_new, attach}
 
--- five addresses, a page apart
+-- five addresses, one page apart
 abbrev pub A : ℕ
 A = 0x10000
 
--- the second
+-- the second address
 abbrev pub B : ℕ
 B = 0x11000
 
--- the third
+-- the third address
 abbrev pub C : ℕ
 C = 0x12000
 
--- the fourth
+-- the fourth address
 abbrev pub D : ℕ
 D = 0x13000
 
--- the fifth
+-- the fifth address
 abbrev pub E : ℕ
 E = 0x14000
 
--- nodes 0 and 1, of the frames 0 to 3 and 4 to 7
+-- node 0 with frames 0 to 3, and node 1 with frames 4 to 7
 abbrev pub two_nodes : Layout
 two_nodes = record { sizes = 4 ∷ 4 ∷ []; distances = (10 ∷ 20 ∷ []) ∷ (20 ∷ 10 ∷ []) ∷ [] }
 
--- three nodes of four frames, each as far from the others
+-- three nodes of four frames each, all equally far apart
 abbrev pub three_nodes : Layout
 three_nodes =
     let distances : List (List ℕ) = (10 ∷ 20 ∷ 20 ∷ []) ∷ (20 ∷ 10 ∷ 20 ∷ []) ∷ (20 ∷ 20 ∷ 10 ∷ []) ∷ [] in
     record { sizes = 4 ∷ 4 ∷ 4 ∷ []; distances = distances }
 
--- process 1, at home on node 0, is alone on two nodes
+-- process 1, with node 0 as its home, is the only one on two nodes
 abbrev pub one_process : State
 one_process = spawn (new_machine two_nodes) 1 100 0 (0 ∷ 1 ∷ []) false
 
--- process 2, at home on node 1
+-- process 2, with node 1 as its home
 abbrev pub with_second : State → State
 with_second s = spawn s 2 200 1 (0 ∷ 1 ∷ []) false
 
@@ -59,7 +59,7 @@ with_second s = spawn s 2 200 1 (0 ∷ 1 ∷ []) false
 abbrev pub wrote : State → ℕ → ℕ → ℕ → State
 wrote s pid address byte = (write s pid address (byte ∷ [])).state
 
--- three private pages with a byte each, in the frames 0, 1 and 2
+-- three private pages with a byte each, in frames 0, 1 and 2
 abbrev pub three_pages : State
 three_pages = wrote (wrote (wrote (map_new one_process 1 A 3 false) 1 A 0x61) 1 B 0x62) 1 C 0x63
 
@@ -75,25 +75,25 @@ six_pages =
     let four = wrote (wrote (wrote (wrote (map_new one_process 1 A 4 false) 1 A 0x61) 1 B 0x62) 1 C 0x63) 1 D 0x64 in
     wrote (wrote (map_new (with_second four) 2 A 2 false) 2 A 0x65) 2 B 0x66
 
--- seven pages of process 1: four on node 0, and by fallback three on node 1
+-- seven pages of process 1: four on node 0, and three on node 1 by fallback
 abbrev pub seven_pages : State
 seven_pages =
     let four = wrote (wrote (wrote (wrote (map_new one_process 1 A 7 false) 1 A 0x61) 1 B 0x62) 1 C 0x63) 1 D 0x64 in
     wrote (wrote (wrote four 1 E 0x65) 1 0x15000 0x66) 1 0x16000 0x67
 
--- a shared page that process 1 wrote
+-- a shared page that process 1 has written
 abbrev pub shared_page : State
 shared_page = wrote (map_new one_process 1 0x20000 1 true) 1 0x20000 0x61
 
--- the same, and process 2 may touch it
+-- the same, attached by process 2 as well
 abbrev pub attached_by_two : State
 attached_by_two = attach (with_second shared_page) 2 0x20000 0 0 1
 
--- the same, and process 2 has read it
+-- the same, after process 2 has read it
 abbrev pub seen_by_two : State
 seen_by_two = (read attached_by_two 2 0x20000 1).state
 
--- five pages, four of them written
+-- five pages, four of which are written
 abbrev pub four_of_five : State
 four_of_five = wrote (wrote (wrote (wrote (map_new one_process 1 A 5 false) 1 A 0x61) 1 B 0x62) 1 C 0x63) 1 D 0x64
 
@@ -102,11 +102,11 @@ abbrev pub requests : Bool → List ℕ → ℕ → List Request
 requests all addresses target =
     map (λ address. record { target = target; wanted = Spot 1 (address / 4096) all }) addresses
 
--- requests that leave alone what other processes see
+-- requests that leave pages which other processes see where they are
 abbrev pub to : List ℕ → ℕ → List Request
 to addresses target = requests false addresses target
 
--- a page on node 0 of three, and one on node 1
+-- of three nodes, node 0 has a page, and so has node 1
 abbrev pub on_two_of_three : State
 on_two_of_three =
     let one = spawn (new_machine three_nodes) 1 100 0 (0 ∷ 1 ∷ 2 ∷ []) false in
@@ -116,7 +116,7 @@ on_two_of_three =
 abbrev pub frame_at : State → ℕ → ℕ → Option ℕ
 frame_at s pid address = frame_seen s pid (address / 4096)
 
--- what is shown of a batch: the answer and the statuses, then of the state the free lists and the totals
+-- what an example shows of a batch: the answer and the statuses, then the free lists and totals of the state
 pub record Told : Type 0 where
   pub answer : ℕ
   pub statuses : List ℤ
@@ -124,7 +124,7 @@ pub record Told : Type 0 where
   pub moved : ℕ
   pub failed : ℕ
 
--- what is shown of this one
+-- what is shown of this batch
 abbrev pub told : Ran → Told
 told r =
     record {

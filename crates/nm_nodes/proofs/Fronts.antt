@@ -10,7 +10,7 @@ module _ {X : Type 0} (xs : List X) (k : ℕ) where
       let parts : get_or xs k x ∷ drop (k + 1) xs ≡ x ∷ rest = sym (drop_more xs k x within) ∙ e in
       (take_more xs k x within ∙ ap (λ (y : X). take k xs ++ y ∷ []) (ap (λ (l : List X). get_or l 0 x) parts), ap (λ (l : List X). drop 1 l) parts)
 
-  -- nothing is left: as many as asked for is all that there was
+  -- nothing is left: the first n are all that there were
   pub none_left : (n : ℕ) → drop k xs ≡ [] → k ≤ n → (take k xs ≡ take n xs) × (drop n xs ≡ [])
   none_left n e within =
       let few : length xs ≤ k = omega (arith, ap (λ (l : List X). length l) e, length-drop k xs) in

@@ -50,7 +50,7 @@ IsPool-without_front p node is within =
     let ns = list_of p node in
     IsPool-with_list p node (drop 1 ns) is within (λ q h. is.in_machine node q (is_in-drop ns q h)) (λ q h. is.own node q (is_in-drop ns q h)) (distinct-drop ns (is.distinct node))
 
--- the same of as many as one likes
+-- the same of any number of them
 is_in-drop_many : (n : ℕ) (ns : List ℕ) (q : ℕ) → is_in (drop n ns) q ≡ true → is_in ns q ≡ true
 is_in-drop_many zero ns q h = h
 is_in-drop_many (suc n) [] q h = h
@@ -86,12 +86,12 @@ IsPool-appended p frame is within apart =
     (λ q h. ⊎_elim (λ old. is.own node q old) (λ e. ap (owner p.sizes) (sym e)) (is_in-push ns frame q h))
     (IsDistinct-push nat_eq_equiv ns frame (is.distinct node) (sym (is_in-flipped ns frame) ∙ apart))
 
--- a frame that a list lacks differs from each of it
+-- a frame that a list lacks differs from each of its frames
 apart_from : (n : ℕ) (ns : List ℕ) → is_in ns n ≡ false → AllByRecursion (λ m. eqb n m ≡ false) ns
 apart_from n [] h = tt
 apart_from n (m ∷ ns) h = let parts = or_parts (eqb m n) (is_in ns n) h in (nat_eq_equiv.symm n m ∙ parts.0, apart_from n ns parts.1)
 
--- a frame more at the front
+-- one more frame at the front
 pub IsPool-prepended : (p : Pool) (frame : ℕ) → IsPool p → frame < sum p.sizes → is_in (list_of p (owner p.sizes frame)) frame ≡ false → IsPool (prepended p frame)
 IsPool-prepended p frame is within apart =
     let node : ℕ = owner p.sizes frame in

@@ -14,7 +14,7 @@ pub length-up_from : (n k : ℕ) → length (up_from n k) ≡ k
 length-up_from n zero = refl
 length-up_from n (suc k) = ap suc (length-up_from (n + 1) k)
 
--- one number more
+-- one more number
 pub up_from_more : (n k : ℕ) → up_from n (k + 1) ≡ up_from n k ++ (n + k) ∷ []
 up_from_more n zero = let e : n ≡ n + 0 = omega arith in ap (λ (m : ℕ). m ∷ []) e
 up_from_more n (suc k) =
@@ -72,7 +72,7 @@ owner_first size sizes frame lt = ap (λ b. cond b 0 (suc (owner sizes (frame - 
 pub owner_later : (size : ℕ) (sizes : List ℕ) (frame : ℕ) → size ≤ frame → owner (size ∷ sizes) frame ≡ suc (owner sizes (frame - size))
 owner_later size sizes frame le = ap (λ b. cond b 0 (suc (owner sizes (frame - size)))) (le-ltb frame size le)
 
--- a frame stands in the stretch of its owner
+-- a frame is in the stretch of its owner
 pub owner_has : (first : ℕ) (sizes : List ℕ) (frame : ℕ) → frame < sum sizes → is_in (get_or (all_frames first sizes) (owner sizes frame) []) (first + frame) ≡ true
 owner_has first [] frame lt = absurd (omega arith)
 owner_has first (size ∷ sizes) frame lt =

@@ -1,4 +1,4 @@
--- The pool of a row of lists, each with the number of frames that its node owns.
+-- The pool of a list of free lists, each with the number of frames that its node owns.
 use Rattle.std.specs.Prelude.{ℕ, List, map}
 use Rattle.nm_model.specs.definitions.Frames.{Pool}
 

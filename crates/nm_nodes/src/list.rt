@@ -9,7 +9,7 @@ use std::alloc::{AllocError, Allocator};
 use std::collections::VecDeque;
 use std::marker::Model;
 
-/// Free frames of one node, the front first, with room for all frames that the node owns. Contracts see the pair of
+/// The free frames of one node, front first, with room for all frames that the node owns. Contracts see the pair of
 /// that number and the list.
 #[derive(Debug, Drop)]
 pub struct FreeList<A: Allocator + Copy> {
@@ -29,8 +29,8 @@ impl<A: Allocator + Copy> Model for FreeList<A> {
 }
 
 impl<A: Allocator + Copy> FreeList<A> {
-    /// All frames of a node that owns `size` frames from `first` on, in ascending order. The last is 65,535 at most, as a
-    /// frame's number has 16 bits.
+    /// Makes the list of all frames of a node that owns `size` frames from `first` on, in ascending order. The last
+    /// must be at most 65,535, as a frame's number has 16 bits.
     pub fn upwards(alloc: A, first: u32, size: u32) -> Result<Self, AllocError>
         requires { first + size ≤ 2 ^ 16 }
         ensures { IfOk result (λ l. l ≡ (size, up_from first size)) }
@@ -56,14 +56,14 @@ impl<A: Allocator + Copy> FreeList<A> {
         self.frames.len()
     }
 
-    /// The free frame at a place, counted from the front and from 0.
+    /// The k-th free frame, counted from 0 at the front. None past the end.
     pub fn nth(&self, k: usize) -> Option<FrameId>
         ensures { result ≡ slice_get self.now.1 k }
     {
         self.frames.get(k).copied()
     }
 
-    /// Takes the front.
+    /// Takes the front frame. None if the list is empty.
     pub fn take_front(&mut self) -> Option<FrameId>
         ensures front { result ≡ slice_get self.old.1 0 }
         ensures rest { self.new ≡ (self.old.0, drop 1 self.old.1) }
@@ -71,8 +71,8 @@ impl<A: Allocator + Copy> FreeList<A> {
         self.frames.pop_front()
     }
 
-    /// Takes `count` frames from the front, or all if there are fewer, and appends them in their order to a list that
-    /// has room for them.
+    /// Takes `count` frames from the front, or all if there are fewer, and appends them in order to a list that has
+    /// room for them.
     pub fn take_many(&mut self, count: usize, taken: &mut Vec<FrameId, A>)
         requires { vec_len taken.old + count ≤ vec_capacity taken.old }
         ensures taken { taken.new.items ≡ taken.old.items ++ take count self.old.1 }
@@ -82,7 +82,7 @@ impl<A: Allocator + Copy> FreeList<A> {
         take_front(&mut self.frames, count, taken);
     }
 
-    /// Puts a frame after the others, if there is room.
+    /// Puts a frame at the end. There must be room.
     pub fn append(&mut self, frame: FrameId)
         requires { length self.old.1 < self.old.0 }
         ensures { self.new ≡ (self.old.0, self.old.1 ++ frame ∷ []) }
@@ -90,7 +90,7 @@ impl<A: Allocator + Copy> FreeList<A> {
         self.frames.push_back_reserved(frame);
     }
 
-    /// Puts a frame before the others, if there is room.
+    /// Puts a frame at the front. There must be room.
     pub fn prepend(&mut self, frame: FrameId)
         requires { length self.old.1 < self.old.0 }
         ensures { self.new ≡ (self.old.0, frame ∷ self.old.1) }
@@ -99,16 +99,20 @@ impl<A: Allocator + Copy> FreeList<A> {
     }
 }
 
-/// Takes `count` frames from the front of a queue, or all if there are fewer, and appends them to a list that has room
-/// for them.
+/// Takes `count` frames from the front of a queue, or all if there are fewer, and appends them in order to a list that
+/// has room for them.
 fn take_front<A: Allocator + Copy>(
     frames: &mut VecDeque<FrameId, A>,
     count: usize,
     taken: &mut Vec<FrameId, A>,
 )
     requires { vec_len taken.old + count ≤ vec_capacity taken.old }
+
+    // Frames move from the queue to the list
     ensures taken { taken.new.items ≡ taken.old.items ++ take count frames.old.items }
     ensures rest { frames.new.items ≡ drop count frames.old.items }
+
+    // Both keep their capacity
     ensures capacity { deque_capacity frames.new ≡ deque_capacity frames.old }
     ensures room { vec_capacity taken.new ≡ vec_capacity taken.old }
 {

@@ -11,7 +11,7 @@ use nm_types::{FrameId, Geometry, NodeId};
 use std::alloc::{AllocError, Allocator};
 use std::marker::Model;
 
-/// For each node its free frames, the front first. Contracts see how many frames each node owns, and the lists.
+/// Each node's free frames, front first. Contracts see how many frames each node owns, and the lists.
 #[derive(Debug, Drop)]
 pub struct NodePool<A: Allocator + Copy> {
     lists: Vec<FreeList<A>, A>,
@@ -29,8 +29,8 @@ impl<A: Allocator + Copy> Model for NodePool<A> {
 }
 
 impl<A: Allocator + Copy> NodePool<A> {
-    /// The pool of a new machine: every frame is free, and each node's list has the node's frames in ascending order.
-    /// It takes room for every frame, and no other call takes memory.
+    /// Makes the pool of a new machine: every frame is free, and each node's list has its frames in ascending order.
+    /// Allocates room for every frame; no other call allocates.
     pub fn new(alloc: A, geometry: &Geometry<A>) -> Result<Self, AllocError>
         ensures { IfOk result (λ pool. pool ≡ new_pool geometry.now.sizes) }
     {
@@ -54,7 +54,7 @@ impl<A: Allocator + Copy> NodePool<A> {
         self.lists[node.index()].len()
     }
 
-    /// The free frame of a node of the machine at a place, counted from the front and from 0. None past the end.
+    /// The k-th free frame of a node of the machine, counted from 0 at the front. None past the end.
     pub fn nth(&self, node: NodeId, k: usize) -> Option<FrameId>
         requires { node < length self.now.lists }
         ensures { result ≡ slice_get (list_of self.now node) k }
@@ -62,7 +62,7 @@ impl<A: Allocator + Copy> NodePool<A> {
         self.lists[node.index()].nth(k)
     }
 
-    /// Takes the front of the list of a node of the machine. None if the list is empty. It takes no memory.
+    /// Takes the front frame of a node of the machine. None if its list is empty. Does not allocate.
     pub fn take_front(&mut self, node: NodeId) -> Option<FrameId>
         requires { node < length self.old.lists }
         ensures front { result ≡ slice_get (list_of self.old node) 0 }
@@ -72,18 +72,22 @@ impl<A: Allocator + Copy> NodePool<A> {
     }
 
     /// Takes `count` frames from the front of the list of a node of the machine, or all if there are fewer, and appends
-    /// them in their order to a list that has room for them. It takes no memory.
+    /// them in order to a list that has room for them. Does not allocate.
     pub fn take_many(&mut self, node: NodeId, count: usize, taken: &mut Vec<FrameId, A>)
         requires node { node < length self.old.lists }
         requires room { vec_len taken.old + count ≤ vec_capacity taken.old }
+
+        // Frames move from the node to the list
         ensures taken { taken.new.items ≡ taken.old.items ++ take count (list_of self.old node) }
         ensures rest { self.new ≡ with_list self.old node (drop count (list_of self.old node)) }
+
+        // The list keeps its capacity
         ensures room { vec_capacity taken.new ≡ vec_capacity taken.old }
     {
         self.lists[node.index()].take_many(count, taken);
     }
 
-    /// Puts a frame of the machine that is not free at the end of its own node's list. It takes no memory.
+    /// Puts a frame of the machine that is not free at the end of its own node's list. Does not allocate.
     pub fn append(&mut self, frame: FrameId)
         requires in_machine { frame < sum self.old.sizes }
         requires taken { is_in (list_of self.old (owner self.old.sizes frame)) frame ≡ false }
@@ -93,7 +97,7 @@ impl<A: Allocator + Copy> NodePool<A> {
         self.lists[node].append(frame);
     }
 
-    /// Puts a frame of the machine that is not free at the front of its own node's list. It takes no memory.
+    /// Puts a frame of the machine that is not free at the front of its own node's list. Does not allocate.
     pub fn prepend(&mut self, frame: FrameId)
         requires in_machine { frame < sum self.old.sizes }
         requires taken { is_in (list_of self.old (owner self.old.sizes frame)) frame ≡ false }
@@ -104,7 +108,7 @@ impl<A: Allocator + Copy> NodePool<A> {
     }
 }
 
-/// The node that owns a frame, by the lists of the nodes.
+/// The node that owns a frame, found by the sizes of the lists.
 fn owner_of<A: Allocator + Copy>(lists: &[FreeList<A>], frame: FrameId) -> usize
     requires { frame < sum (sizes_of lists.now) }
     ensures node { result ≡ owner (sizes_of lists.now) frame }

@@ -6,7 +6,7 @@ use nm_types::{FrameId, Geometry, NodeId};
 use std::alloc::Global;
 use std::test::Fail;
 
-/// The frames of a machine whose first node has two and whose second has three.
+/// The free frames of a machine whose first node has two frames and whose second has three.
 fn two_nodes(alloc: Global) -> Result<NodePool<Global>, Fail>
     ensures { IfOk result (λ pool. pool ≡ new_pool (2 ∷ 3 ∷ [])) }
 {
@@ -15,7 +15,7 @@ fn two_nodes(alloc: Global) -> Result<NodePool<Global>, Fail>
     Ok(NodePool::new(alloc, &geometry)?)
 }
 
-/// The frames of a machine of one node, which has four.
+/// The free frames of a machine of one node with four frames.
 fn one_node(alloc: Global) -> Result<NodePool<Global>, Fail>
     ensures { IfOk result (λ pool. pool ≡ new_pool (4 ∷ [])) }
 {
@@ -26,7 +26,7 @@ fn one_node(alloc: Global) -> Result<NodePool<Global>, Fail>
     Ok(NodePool::new(alloc, &geometry)?)
 }
 
-/// Frames leave a list at its front and come back at its end.
+/// Frames leave a list at its front and return at its end.
 #[test]
 fn frames_go_and_come(rt: HostRuntime) -> Result<(), Fail> {
     let mut pool = two_nodes(rt.alloc())?;
@@ -64,7 +64,7 @@ fn frames_go_and_come(rt: HostRuntime) -> Result<(), Fail> {
     Ok(())
 }
 
-/// As many frames as asked for leave the front in their order, or all where there are fewer.
+/// As many frames as asked for leave the front in order, or all if there are fewer.
 #[test]
 fn fronts_are_taken_in_order(rt: HostRuntime) -> Result<(), Fail> {
     let mut pool = one_node(rt.alloc())?;
@@ -82,7 +82,7 @@ fn fronts_are_taken_in_order(rt: HostRuntime) -> Result<(), Fail> {
     Ok(())
 }
 
-/// A frame that is put back at the front is the next that is taken.
+/// A frame put back at the front is the next one taken.
 #[test]
 fn a_frame_is_put_back_at_the_front(rt: HostRuntime) -> Result<(), Fail> {
     let mut pool = two_nodes(rt.alloc())?;

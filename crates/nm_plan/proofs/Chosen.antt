@@ -18,7 +18,7 @@ use Rattle.nm_model.specs.definitions.Decide.{Choice, Decisions, Planned, choose
 abbrev pub choice : ℤ → List Taken → List ℕ → Choice
 choice status taken front = record { status = status; taken = taken; front = front }
 
--- what a look has told
+-- what a look has shown
 pub known_moved : (ts shown : List Taken) (page : Page) (found b : Bool) → shown ≡ ts → found ≡ has_moved shown page → found ≡ b → has_moved ts page ≡ b
 known_moved ts shown page found b is e h = ap (λ (us : List Taken). has_moved us page) (sym is) ∙ sym e ∙ h
 

@@ -34,7 +34,7 @@ no_frames : (es : List (Page × ℕ)) → zip {X = ℕ} es [] ≡ []
 no_frames [] = refl
 no_frames (e ∷ es) = refl
 
--- a request more, where this is whether its page has moved
+-- one more request, where this is whether its page has moved
 after_one : Bool → Page → ℕ → List Class → List Taken → List ℕ → ℕ → Decisions
 after_one b page from classes moved front target =
     let now : Choice = if b then record { status = pos target; taken = []; front = front } else take_front page from front target in

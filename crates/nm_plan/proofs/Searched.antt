@@ -34,7 +34,7 @@ found_by_halves (t ∷ ts) p (Err i) up l h =
     same_back p (get_or (t ∷ ts) k t).page
     ∙ ⊎_elim (λ low. ap is_eq (parted.0 k t (omega arith) low)) (λ high. ap is_eq (parted.1 k t high w)) (cases_lt k i))))
 
--- a page below another stands no higher against any page
+-- a page below another compares no higher with any page
 reversed : (x y : Page) (o : Ordering) → page_cmp x y ≡ o → page_cmp y x ≡ ordering_reverse o
 reversed x y o e = page_cmp_total.antisymm y x ∙ ap ordering_reverse e
 
@@ -48,7 +48,7 @@ rises x y p Greater low e = high (page_cmp x p)
     high Equal = omega arith
     high Greater = omega arith
 
--- one move more, whose page is past the last
+-- one more move, whose page is past the last
 pub ascends_on : (ts : List Taken) (t : Taken) → Ascends ts → IsPast ts t.page → Ascends (ts ++ t ∷ [])
 ascends_on ts t up past p = IsNonDecreasingBy-push (λ u. ordering_index (page_cmp u.page p)) ts t (up p) (λ d some. rises (get_or ts (length ts - 1) d).page t.page p (page_cmp t.page p) (past d some) refl)
 
@@ -64,7 +64,7 @@ first_few ts n e =
     ⊎_elim (λ few. ap (λ k. take k ts) (e ∙ min-eq_left (omega arith)) ∙ take_all (length ts) ts (omega arith) ∙ sym (take_all 8 ts (omega arith)))
     (λ many. ap (λ k. take k ts) (e ∙ min-eq_right many)) (cases_lt (length ts) 8)
 
--- what stands past the few after the first n moves
+-- the moves past the few after the first n
 abbrev past_few : ℕ → List Taken → List Taken
 past_few n ts = drop 8 (drop n ts)
 
@@ -75,7 +75,7 @@ module _ {A : Type 0} (s : Search A) (ts : List Taken) (t : Taken) (h : Finds s 
   longer : length (ts ++ t ∷ []) ≡ length ts + 1
   longer = length-append ts (t ∷ [])
 
-  -- one move more, which ascends
+  -- one more move, which ascends
   pub one_ascends : s.ascending ≡ length ts → IsPast ts t.page → Finds {A = A} (record { ascending = s.ascending + 1; later = s.later }) (ts ++ t ∷ [])
   one_ascends all past =
       let whole = take_all s.ascending ts (omega (arith, all)) in
@@ -103,7 +103,7 @@ module _ {A : Type 0} (s : Search A) (ts : List Taken) (t : Taken) (h : Finds s 
   cond_or false true = refl
   cond_or false false = refl
 
-  -- one past them, whose page the set has now
+  -- one past them, whose page the set then has
   pub one_past_few : (new : BTreeSet Page) → s.ascending + 8 ≤ length ts → Updates page_cmp s.later new t.page true → Finds {A = A} (record { ascending = s.ascending; later = new }) (ts ++ t ∷ [])
   one_past_few new many updates =
       let behind = λ (p : Page).

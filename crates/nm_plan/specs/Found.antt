@@ -1,4 +1,4 @@
--- How the pages that have moved are found.
+-- How a page is found among those that have moved.
 use Rattle.std.specs.Prelude.{◌≡◌, ◌-◌, ◌≤◌, ◌<◌, List, length, take, drop, get_or}
 use Rattle.std.specs.declared.cmp.Ordering.TheVariants.{Less}
 use Rattle.std.specs.BTreeSet.{contains}
@@ -10,15 +10,15 @@ use Rattle.nm_types.specs.declared.taken.Taken.{Taken}
 use Rattle.nm_plan.specs.declared.search.Search.{Search}
 use Rattle.nm_model.specs.definitions.Decide.{has_moved}
 
--- the pages ascend: against any page, none stands higher than those after it
+-- the pages ascend: compared with any page, no page ranks above those after it
 abbrev pub Ascends : List Taken → Type 0
 Ascends taken = (p : Page) → IsNonDecreasingBy (λ t. ordering_index (page_cmp t.page p)) taken
 
--- the page comes after that of the last move
+-- the page comes after the page of the last move
 abbrev pub IsPast : List Taken → Page → Type 0
 IsPast taken page = (d : Taken) → 0 < length taken → page_cmp (get_or taken (length taken - 1) d).page page ≡ Less
 
--- the first moves ascend, and the set has the pages of those past the eight after them, and no other
+-- the first `ascending` moves ascend, and the set has exactly the pages of those more than eight places after them
 pub record Finds {A : Type 0} (s : Search A) (taken : List Taken) : Type 0 where
   pub within : s.ascending ≤ length taken
   pub ascends : Ascends (take s.ascending taken)

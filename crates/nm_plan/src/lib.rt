@@ -1,4 +1,4 @@
-//! What becomes of the requests of a run, decided from their classes and the free frames of the target.
+//! Decides the requests of a run, from their classes and the free frames of the target.
 #![tactic(auto)]
 
 pub mod laws;

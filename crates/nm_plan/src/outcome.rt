@@ -1,4 +1,4 @@
-//! What a plan says.
+//! The plan of a run.
 
 ghost use Rattle.std.specs.Prelude.{◌≡◌};
 
@@ -6,7 +6,7 @@ use crate::Taken;
 use std::alloc::Allocator;
 use std::marker::Model;
 
-/// Which page of a run takes which frame, and the status of each request. Contracts see both lists, and the place of
+/// Which page of a run takes which frame, and the status of each request. Contracts see both lists, and the index of
 /// the first request that found no free frame.
 #[derive(Debug, Drop)]
 pub struct Plan<A: Allocator + Copy> {
@@ -24,7 +24,7 @@ impl<A: Allocator + Copy> Model for Plan<A> {
 }
 
 impl<A: Allocator + Copy> Plan<A> {
-    /// The pages that move, in order, each once, with the frame that each leaves and the frame that it takes.
+    /// The pages that move, in order, each once, with the frame that it leaves and the frame that it takes.
     pub fn moves(&self) -> &[Taken]
         ensures { result.now ≡ self.now.taken }
     {
@@ -38,7 +38,7 @@ impl<A: Allocator + Copy> Plan<A> {
         self.statuses.as_slice()
     }
 
-    /// The place, from 0, of the first request whose page found no free frame, or None if each page found one.
+    /// The index, from 0, of the first request whose page found no free frame. None if every page found one.
     pub fn shortage(&self) -> Option<usize>
         ensures { result ≡ self.now.shortage }
     {

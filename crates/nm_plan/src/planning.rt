@@ -13,8 +13,8 @@ use nm_types::{Errno, FrameId, NodeId};
 use std::alloc::{AllocError, Allocator};
 
 /// Decides one request after these moves: a page that moves takes the first frame that none of them has taken. The
-/// number of moves so far is the place of that frame in `free_front`, so no free list changes before the whole plan
-/// stands.
+/// number of moves so far is the index of that frame in `free_front`, so no free list changes before the plan is
+/// complete.
 fn choose<A: Allocator + Copy>(
     class: Class,
     free_front: &[FrameId],
@@ -25,6 +25,8 @@ fn choose<A: Allocator + Copy>(
     requires target { target < 2 ^ 31 }
     requires found { Finds search.old moves.old.items }
     requires room { vec_len moves.old < vec_capacity moves.old }
+
+    // On success
     ensures status { IfOk result (λ status. status ≡ (choose class moves.old.items (drop (length moves.old.items) free_front.now) target).status) }
     ensures moves { OnOk result (moves.new.items ≡ moves.old.items ++ (choose class moves.old.items (drop (length moves.old.items) free_front.now) target).taken) }
     ensures front { OnOk result (drop (length moves.new.items) free_front.now ≡ (choose class moves.old.items (drop (length moves.old.items) free_front.now) target).front) }
@@ -62,7 +64,7 @@ fn is_short(class: Class, status: i32) -> bool
     }
 }
 
-/// The place of the first request whose page found no free frame.
+/// The index of the first request whose page found no free frame.
 fn shortage_of(classes: &[Class], statuses: &[i32]) -> Option<usize>
     ensures { result ≡ position is_short (zip classes.now statuses.now) }
 {
@@ -72,10 +74,10 @@ fn shortage_of(classes: &[Class], statuses: &[i32]) -> Option<usize>
         .position(|(class, status)| is_short(*class, *status))
 }
 
-/// The plan for a run with these classes, where the target has these free frames, the front first. The requests are
-/// decided one after another, since what becomes of one depends on those before it: a page that is to move takes the
-/// first frame that no page has taken yet, or gets -12 (ENOMEM) if there is none; a page that is named again stays
-/// where it went. An error means that the host refused memory.
+/// The plan of a run with these classes, where the target has these free frames, front first. The requests are decided
+/// one after another, since each depends on those before it: a page that is to move takes the first frame that no page
+/// has taken yet, or gets -12 (ENOMEM) if there is none; a page that is named again stays where it went. An error means
+/// that the host is out of memory.
 pub fn plan<A: Allocator + Copy>(
     alloc: A,
     classes: &[Class],

@@ -1,4 +1,4 @@
-//! Finding a page among those that move.
+//! Finding a page among the moves of a run.
 
 ghost use Rattle.std.specs.Prelude.{◌≡◌, ◌∷◌, ◌++◌, [], OnOk};
 ghost use Rattle.std.specs.Bool.{OnTrue};
@@ -10,18 +10,17 @@ use nm_types::Page;
 use std::alloc::{AllocError, Allocator};
 use std::collections::BTreeSet;
 
-/// How many moves after those in ascending order are looked through one by one, so that a short run takes no memory for
-/// a set.
+/// How many moves after the ascending ones are searched one by one, so that a short run allocates no set.
 const FEW: usize = 8;
 
-/// Whether one of these moves is of the page.
+/// Whether one of these moves is the page's.
 fn is_among(moves: &[Taken], page: Page) -> bool
     ensures { result ≡ has_moved moves.now page }
 {
     moves.iter().any(|taken| page.cmp(&taken.page).is_eq())
 }
 
-/// Whether one of these moves, whose pages ascend, is of the page.
+/// Whether one of these moves, whose pages ascend, is the page's.
 fn is_among_ascending(moves: &[Taken], page: Page) -> bool
     requires { Ascends moves.now }
     ensures { result ≡ has_moved moves.now page }
@@ -31,15 +30,16 @@ fn is_among_ascending(moves: &[Taken], page: Page) -> bool
         .is_ok()
 }
 
-/// Whether a page comes after the last of these moves, or there is none.
+/// Whether a page comes after that of the last of these moves, or there are none.
 fn is_past(moves: &[Taken], page: Page) -> bool
     ensures { OnTrue result (IsPast moves.now page) }
 {
     moves.last().is_none_or(|last| last.page.cmp(&page).is_lt())
 }
 
-/// How the moves of a run are searched. The pages of the first of them ascend and are searched by halves, as most runs
-/// name their pages in that order; the next few are looked at one by one; the pages of all others stand in a set.
+/// How the moves of a run are searched. The pages of the first moves ascend and are found by binary search, as most
+/// runs name their pages in that order; the next few moves are searched one by one; the pages of all others are in a
+/// set.
 #[derive(Drop)]
 pub(crate) struct Search<A: Allocator + Copy> {
     ascending: usize,
@@ -47,7 +47,7 @@ pub(crate) struct Search<A: Allocator + Copy> {
 }
 
 impl<A: Allocator + Copy> Search<A> {
-    /// No move.
+    /// Makes a search over no moves. Does not allocate.
     pub(crate) fn new(alloc: A) -> Self
         ensures { Finds result [] }
     {
@@ -57,7 +57,7 @@ impl<A: Allocator + Copy> Search<A> {
         }
     }
 
-    /// Whether one of these moves is of the page.
+    /// Whether one of these moves is the page's.
     pub(crate) fn has(&self, moves: &[Taken], page: Page) -> bool
         requires { Finds self.now moves.now }
         ensures { result ≡ has_moved moves.now page }
@@ -69,7 +69,7 @@ impl<A: Allocator + Copy> Search<A> {
             || self.later.contains(&page)
     }
 
-    /// Takes note of a page that moves after these.
+    /// Notes a page that moves after these. An error means that the host is out of memory.
     pub(crate) fn add(&mut self, moves: &[Taken], page: Page) -> Result<(), AllocError>
         requires { Finds self.old moves.now }
         ensures { OnOk result ((taken : Taken) → taken.page ≡ page → Finds self.new (moves.now ++ taken ∷ [])) }

@@ -9,7 +9,7 @@ fn page(index: u64) -> Page {
     Page { segment: 0, index }
 }
 
-/// A request for a page of the first segment that is to leave a frame.
+/// A request for a page of the first segment, in this frame.
 fn leaves(index: u64, from: u16) -> Class {
     Class::Move {
         page: page(index),
@@ -17,7 +17,7 @@ fn leaves(index: u64, from: u16) -> Class {
     }
 }
 
-/// A page of the first segment that goes from a frame to another.
+/// A page of the first segment that moves from one frame to another.
 fn goes(index: u64, from: u16, to: u16) -> Taken {
     Taken {
         page: page(index),
@@ -35,7 +35,7 @@ fn to_second_node(
     plan(alloc, classes, front, NodeId::new(1))
 }
 
-/// Two free frames for three pages, of which one is named twice before and one twice after the frames are used up.
+/// Two free frames for three pages, one of them named twice before and one twice after the frames are used up.
 #[test]
 fn pages_take_frames_in_order(rt: HostRuntime) -> Result<(), Fail> {
     let alloc = rt.alloc();

@@ -1,24 +1,24 @@
--- Worked pairs of nodes.
+-- Worked examples of pairs of nodes.
 use Rattle.std.specs.Prelude.{◌≡◌, ℕ, List, [], ◌∷◌, map}
 use Rattle.nm_policy.specs.Pairs.{pairs}
 
--- the pairs as couples of numbers
+-- the pairs as tuples of node numbers
 abbrev pub couples : List ℕ → List ℕ → List (ℕ × ℕ)
 couples old new = map {B = ℕ × ℕ} (λ p. (p.from, p.to)) (pairs old new)
 
 pub record PairRows : Type 0 where
-  -- nodes 3, 4 and 5 keep their pages and are never left, so the last comes first
+  -- nodes 3, 4 and 5 keep their pages and are never emptied, so the last pair comes first
   pub eight_to_three : couples (0 ∷ 1 ∷ 2 ∷ 3 ∷ 4 ∷ 5 ∷ 6 ∷ 7 ∷ []) (3 ∷ 4 ∷ 5 ∷ [])
       ≡ (7, 4) ∷ (6, 3) ∷ (2, 5) ∷ (1, 4) ∷ (0, 3) ∷ []
-  -- node 1 is left before pages come to it
+  -- node 1 is emptied before pages arrive on it
   pub two_in_a_chain : couples (0 ∷ 1 ∷ []) (1 ∷ 2 ∷ []) ≡ (1, 2) ∷ (0, 1) ∷ []
   pub three_in_a_chain : couples (0 ∷ 1 ∷ 2 ∷ []) (1 ∷ 2 ∷ 3 ∷ []) ≡ (2, 3) ∷ (1, 2) ∷ (0, 1) ∷ []
   pub to_itself : couples (0 ∷ 1 ∷ []) (0 ∷ 1 ∷ []) ≡ []
-  -- nobody waits for another, so the first comes first; the third takes the first turn again
+  -- no pair waits for another, so the first comes first; the third pair takes the first turn again
   pub apart : couples (0 ∷ 1 ∷ 2 ∷ []) (4 ∷ 5 ∷ []) ≡ (0, 4) ∷ (1, 5) ∷ (2, 4) ∷ []
-  -- sets of one size: node 1 moves though it is in both
+  -- sets of equal size: node 1's pages move although it is in both
   pub one_in_both : couples (1 ∷ 3 ∷ []) (0 ∷ 1 ∷ []) ≡ (1, 0) ∷ (3, 1) ∷ []
-  -- sets of two sizes: it stays
+  -- sets of different sizes: node 1's pages stay
   pub one_stays : couples (1 ∷ 3 ∷ []) (1 ∷ []) ≡ (3, 1) ∷ []
   pub from_none : couples [] (0 ∷ []) ≡ []
   pub to_none : couples (0 ∷ 1 ∷ []) [] ≡ []

@@ -1,4 +1,4 @@
--- Which nodes pages leave for which, and in which order.
+-- Which nodes' pages go to which nodes, and in which order.
 use Rattle.std.specs.Prelude.{◌≡◌, ◌≢◌, ℕ, suc, zero, ◌+◌, ◌==◌, nat_eq, Bool, true, not, ◌&&◌, ◌||◌, List, [], ◌∷◌, map, length, find, Option, Some, None, if◌then◌else◌, IsPermutation}
 use Rattle.std.specs.List.{AllByRecursion, IsDistinct, filter, last_or}
 use Rattle.std.specs.List.Sorted.{IsStrictlyIncreasing}
@@ -7,7 +7,7 @@ use Rattle.nm_types.specs.Nodes.{is_in, without_node}
 use Rattle.nm_policy.specs.declared.pairing.Pair.{Pair}
 use Rattle.nm_model.specs.definitions.Order.{turn}
 
--- each node of `old` with the node of `new` whose turn it is, from a turn on
+-- each node of `old` with the node of `new` whose turn it is, from a given turn on
 abbrev pub dealt : ℕ → List ℕ → List ℕ → List Pair
 dealt k [] new = []
 dealt k (n ∷ old) new = record { from = n; to = turn new k } ∷ dealt (k + 1) old new
@@ -16,19 +16,19 @@ dealt k (n ∷ old) new = record { from = n; to = turn new k } ∷ dealt (k + 1)
 abbrev pub stays : List ℕ → List ℕ → Pair → Bool
 stays old new pair = (pair.from == pair.to) || (not (length old == length new) && is_in new pair.from)
 
--- the pairs whose pages move, by the node that they leave: none where `new` has no node
+-- the pairs whose pages move, by the node that they leave; none if `new` is empty
 abbrev pub moving : List ℕ → List ℕ → List Pair
 moving old new = if length new == 0 then [] else filter (λ p. not (stays old new p)) (dealt 0 old new)
 
--- the first whose target is not still to be left, else the last
+-- the first pair whose target is not still to be emptied, or else the last pair
 abbrev pub next_pair : List ℕ → List Pair → Option Pair
 next_pair remaining pairs = option_or (find (λ p. not (is_in remaining p.to)) pairs) (last_or None pairs)
 
--- the pairs but those that leave a node
+-- the pairs that do not leave this node
 abbrev pub without_source : List Pair → ℕ → List Pair
 without_source pairs node = filter (λ p. not (p.from == node)) pairs
 
--- at most `n` pairs, one after another; each time its node is left
+-- at most `n` pairs, one after another; each empties the node that it leaves
 abbrev pub pairs_after : ℕ → List ℕ → List Pair → List Pair
 pairs_after zero remaining left = []
 pairs_after (suc n) remaining left =
@@ -37,11 +37,12 @@ pairs_after (suc n) remaining left =
       | Some pair ↦ pair ∷ pairs_after n (without_node remaining pair.from) (without_source left pair.from)
     ]
 
--- which node's pages go where, in order: every node of `old` is still to be left at first, also one that keeps its pages
+-- which node's pages go where, in order; at first every node of `old` is still to be emptied, even one that keeps its
+-- pages
 abbrev pub pairs : List ℕ → List ℕ → List Pair
 pairs old new = pairs_after (length (moving old new)) old (moving old new)
 
--- where the target of a pair is still to be left, so is that of every pair after it: a chain of nodes is emptied from
+-- if the target of a pair is still to be emptied, so is that of every pair after it: a chain of nodes is emptied from
 -- its end
 abbrev pub EmptiesFromTheEnd : List ℕ → List Pair → Type 0
 EmptiesFromTheEnd remaining [] = Unit {0}
@@ -49,8 +50,8 @@ EmptiesFromTheEnd remaining (p ∷ ps) =
     (is_in remaining p.to ≡ true → AllByRecursion (λ q. is_in remaining q.to ≡ true) ps)
     × EmptiesFromTheEnd (without_node remaining p.from) ps
 
--- no node moves to itself, each goes to one of `new`, none is left twice, each that moves is left once, and chains are
--- emptied from their ends
+-- no node's pages go to the node itself, every target is in `new`, no node is emptied twice, each whose pages move is
+-- emptied once, and chains are emptied from their ends
 pub record PairsAreInOrder (old new : List ℕ) : Type 0 where
   pub away : AllByRecursion (λ p. p.from ≢ p.to) (pairs old new)
   pub inside : AllByRecursion (λ p. is_in new p.to ≡ true) (pairs old new)

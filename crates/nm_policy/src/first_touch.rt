@@ -10,7 +10,7 @@ use crate::zones::{distance, zonelist};
 use nm_types::{Geometry, NodeId, NodeMask, Policy};
 use std::alloc::{AllocError, Allocator};
 
-/// The node of a set whose turn it is at an index: the nodes take turns upwards. Node 0 where the set is empty.
+/// The node of a set whose turn it is at an index: the nodes take turns in ascending order. Node 0 if the set is empty.
 pub(crate) fn turn(nodes: NodeMask, index: u64) -> NodeId
     ensures { result ≡ turn nodes index }
 {
@@ -24,7 +24,8 @@ pub(crate) fn turn(nodes: NodeMask, index: u64) -> NodeId
     }
 }
 
-/// The node from which distances count, and the nodes that may be taken: those of the policy, or else of the process.
+/// The node from which distances are measured, and the nodes that may be used: those of the policy, or else those of
+/// the process.
 fn way(home: NodeId, allowed: NodeMask, policy: Policy, index: u64) -> (NodeId, NodeMask)
     ensures { (layout : Layout) (online : List ℕ) → filter (is_in result.1) (zonelist layout online result.0) ≡ first_touch_order layout online home allowed policy index }
 {
@@ -37,12 +38,12 @@ fn way(home: NodeId, allowed: NodeMask, policy: Policy, index: u64) -> (NodeId, 
     }
 }
 
-/// The nodes that a new page may take a frame from, first choice first. `index` is the page's place in its segment,
+/// The nodes that a new page may take a frame from, first choice first. `index` is the page's index in its segment,
 /// `home` and `allowed` are the touching process's, and the policy is that of its area. DEFAULT and LOCAL go by
-/// distance from home, PREFERRED by distance from its node, and INTERLEAVE by distance from the node whose turn it is,
-/// number (`index` mod how many they are) of its set, all three over the allowed nodes. BIND goes over its own nodes
-/// alone, by distance from home. As set_mempolicy(2) and mbind(2) have it; the orders are this project's own. An error
-/// means that the host is out of memory.
+/// distance from home, PREFERRED by distance from its node, and INTERLEAVE by distance from the node of its set whose
+/// turn it is, number (`index` mod the size of the set), counted from 0; all three use the allowed nodes only. BIND
+/// uses its own nodes only, by distance from home. This follows set_mempolicy(2) and mbind(2); the orders are this
+/// project's own. An error means that the host is out of memory.
 pub fn first_touch_order<A: Allocator + Copy>(
     alloc: A,
     geometry: &Geometry<A>,
@@ -60,7 +61,8 @@ pub fn first_touch_order<A: Allocator + Copy>(
     Ok(order)
 }
 
-/// The nearer of a node that was found, if any was, and one more, if it is in both sets: the first of two that are as near.
+/// The nearer of the node found so far, if any, and another node, if that is in both sets. The former if both are
+/// equally near.
 fn nearer_of<A: Allocator + Copy>(
     geometry: &Geometry<A>,
     from: NodeId,
@@ -86,8 +88,8 @@ fn nearer_of<A: Allocator + Copy>(
     }
 }
 
-/// The node that a new page takes a frame from: the first in the order of `first_touch_order` that is in a set, of
-/// those with a free frame. None if none is. It takes no memory, and looks at each online node once.
+/// The node that a new page takes a frame from: the first in the order of `first_touch_order` that is in `free`, the
+/// nodes with a free frame. None if there is none. Does not allocate, and looks at each online node once.
 pub fn first_touch_node<A: Allocator + Copy>(
     geometry: &Geometry<A>,
     online: NodeMask,
@@ -103,7 +105,7 @@ pub fn first_touch_node<A: Allocator + Copy>(
     nearest(geometry, online, from, kept, free)
 }
 
-/// The nearest node of two sets that is online, by distance from a node, and the least of those that are as near.
+/// The nearest online node, by distance from a node, that is in both sets. The lowest of those equally near.
 fn nearest<A: Allocator + Copy>(
     geometry: &Geometry<A>,
     online: NodeMask,
@@ -122,7 +124,7 @@ fn nearest<A: Allocator + Copy>(
 }
 
 /// Whether a page on this node is where the policy wants it. BIND and INTERLEAVE want their nodes, PREFERRED its node,
-/// and DEFAULT and LOCAL any.
+/// and DEFAULT and LOCAL any node.
 pub fn follows(policy: Policy, node: NodeId) -> bool
     ensures { result ≡ follows policy node }
 {

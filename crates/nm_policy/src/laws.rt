@@ -7,7 +7,7 @@ ghost use Rattle.nm_policy.specs.PairRows.{PairRows};
 ghost use Rattle.nm_policy.specs.Turns.{AllPagesTakeTurns, OneNodeTakesAll};
 ghost use Rattle.nm_policy.specs.TurnRows.{TurnRows};
 
-/// Each set of nodes has one order by distance, ties by number, and it is the one that `zonelist` gives.
+/// Each set of nodes has exactly one order by distance, ties by number, and `zonelist` returns it.
 pub fn each_set_has_one_order()
     ensures { EachSetHasOneOrder }
 {}
@@ -22,8 +22,8 @@ pub fn first_touch_rows()
     ensures { FirstTouchRows }
 {}
 
-/// Whatever sets of nodes pages move between: no node moves to itself, each that moves is left once, and where the
-/// target of a pair is still to be left, so is that of every pair after it.
+/// Between any two sets of nodes: no node's pages go to the node itself, each node whose pages move is emptied once,
+/// and if the target of a pair is still to be emptied, so is that of every pair after it.
 pub fn each_set_is_paired_in_order()
     ensures { EachSetIsPairedInOrder }
 {}
@@ -33,18 +33,18 @@ pub fn pair_rows()
     ensures { PairRows }
 {}
 
-/// Where pages that are listed by address take turns on the nodes of a set that is not empty, each of them goes once, and
-/// they go by node and then by address.
+/// If pages listed in address order take turns on the nodes of a set that is not empty, each page goes once, in the
+/// order of nodes and then of addresses.
 pub fn all_pages_take_turns()
     ensures { AllPagesTakeTurns }
 {}
 
-/// One node takes all pages, in the order of the list.
+/// A single node takes all pages, in the order of the list.
 pub fn one_node_takes_all()
     ensures { OneNodeTakesAll }
 {}
 
-/// Worked lists of pages that take turns.
+/// Worked lists of pages that go to nodes by turns.
 pub fn turn_rows()
     ensures { TurnRows }
 {}

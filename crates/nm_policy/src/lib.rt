@@ -1,4 +1,4 @@
-//! Which nodes are tried, and in which order: by distance, and by the policy of an area.
+//! Which nodes are tried, in which order: by distance, and by an area's policy.
 #![tactic(auto)]
 
 mod first_touch;

@@ -1,4 +1,4 @@
-//! Which nodes pages leave for which.
+//! Which nodes' pages go to which nodes.
 
 ghost use Rattle.std.specs.Prelude.{◌≡◌, IfOk, OnOk};
 ghost use Rattle.nm_policy.specs.Pairs.{stays, moving, next_pair, pairs, PairsAreInOrder};
@@ -7,12 +7,12 @@ use crate::first_touch::turn;
 use nm_types::{NodeId, NodeMask};
 use std::alloc::{AllocError, Allocator};
 
-/// A node that pages leave, and the node to which they go.
+/// A node that pages leave, and the node that they go to.
 #[derive(Clone, Copy, Debug, PartialEq, Eq)]
 pub struct Pair {
-    /// The node that they leave.
+    /// The number of the node that they leave: below 64.
     pub from: NodeId,
-    /// The node to which they go.
+    /// The number of the node that they go to: below 64.
     pub to: NodeId,
 }
 
@@ -23,7 +23,7 @@ fn stays(old: NodeMask, new: NodeMask, from: NodeId, to: NodeId) -> bool
     from == to || (old.len() != new.len() && new.contains(from))
 }
 
-/// The pairs whose pages move, by the node that they leave.
+/// The pairs whose pages move, by the node that they leave. An error means that the host is out of memory.
 fn moving<A: Allocator + Copy>(
     alloc: A,
     old: NodeMask,
@@ -47,7 +47,7 @@ fn moving<A: Allocator + Copy>(
     Ok(pairs)
 }
 
-/// The first of some pairs whose target is not still to be left, else the last of them. None if there is no pair.
+/// The first pair whose target is not still to be emptied, or else the last pair. None if there is no pair.
 fn next_pair(pairs: &[Pair], remaining: NodeMask) -> Option<Pair>
     ensures { result ≡ next_pair remaining pairs.now }
 {
@@ -59,14 +59,14 @@ fn next_pair(pairs: &[Pair], remaining: NodeMask) -> Option<Pair>
     pairs.last().copied()
 }
 
-/// Which nodes' pages go where when pages move from the nodes of `old` to those of `new`, in the order in which they go,
-/// as in `migrate_pages(2)`. Each node of `old` is paired with one of `new`, which take turns upwards. A node keeps its
-/// pages, and has no pair, if it is its own target, or if the sets differ in size and it is in `new`.
+/// Which nodes' pages go where when pages move from the nodes of `old` to those of `new`, in the order in which they
+/// go, as in migrate_pages(2). Each node of `old` is paired with one of `new`, which take turns in ascending order. A
+/// node keeps its pages, and has no pair, if it is its own target, or if the sets differ in size and it is in `new`.
 ///
-/// At first every node of `old` is still to be left, also one that keeps its pages. Of the pairs that remain, by source
-/// upwards, the first whose target is not still to be left comes next, or the last pair if there is none; then its
-/// source is left. So a chain of nodes is emptied from its end. There is no pair where one of the sets is empty. An
-/// error means that the host is out of memory.
+/// At first every node of `old` is still to be emptied, even one that keeps its pages. Of the pairs left, in ascending
+/// order of source, the next is the first whose target is not still to be emptied, or the last pair if there is none;
+/// its source is then emptied. So a chain of nodes is emptied from its end. There are no pairs if either set is empty.
+/// An error means that the host is out of memory.
 pub fn pairs<A: Allocator + Copy>(
     alloc: A,
     old: NodeMask,

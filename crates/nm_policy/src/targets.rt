@@ -1,4 +1,4 @@
-//! Where the pages of one pass of `mbind(2)` go.
+//! Where the pages of one pass of mbind(2) go.
 
 ghost use Rattle.std.specs.Prelude.{◌≡◌, ◌<◌, ◌==◌, ◌++◌, map, length, IfOk, OnOk};
 ghost use Rattle.nm_policy.specs.Turns.{sent, sent_to, by_turns};
@@ -9,7 +9,7 @@ use std::alloc::{AllocError, Allocator};
 /// A page that is not where a policy wants it.
 #[derive(Clone, Copy, Debug, PartialEq, Eq)]
 pub struct Stray {
-    /// A page number at which a process sees it.
+    /// A page number at which a process sees it: below 2^35.
     pub vpn: Vpn,
     /// The page.
     pub page: Page,
@@ -18,13 +18,13 @@ pub struct Stray {
 /// A page that is to go to a node.
 #[derive(Clone, Copy, Debug, PartialEq, Eq)]
 pub struct Sent {
-    /// A page number at which a process sees it.
+    /// A page number at which a process sees it: below 2^35.
     pub vpn: Vpn,
-    /// The node.
+    /// The number of the node: below 64.
     pub to: NodeId,
 }
 
-/// The nodes of a set, in ascending order.
+/// The nodes of a set, in ascending order. An error means that the host is out of memory.
 fn nodes_of<A: Allocator + Copy>(alloc: A, set: NodeMask) -> Result<Vec<NodeId, A>, AllocError>
     ensures { IfOk result (λ nodes. nodes.items ≡ set) }
 {
@@ -36,7 +36,7 @@ fn nodes_of<A: Allocator + Copy>(alloc: A, set: NodeMask) -> Result<Vec<NodeId, 
     Ok(nodes)
 }
 
-/// The pages of a list, in its order, each with the node whose turn it is.
+/// Each page of a list with the node whose turn it is, in the order of the list.
 fn dealt<A: Allocator + Copy>(
     alloc: A,
     nodes: &[NodeId],
@@ -57,7 +57,7 @@ fn dealt<A: Allocator + Copy>(
     Ok(dealt)
 }
 
-/// Appends what goes to a node to a list.
+/// Appends the pages that go to a node to a list.
 fn append_for<A: Allocator + Copy>(
     node: NodeId,
     dealt: &[Sent],
@@ -73,10 +73,10 @@ fn append_for<A: Allocator + Copy>(
     Ok(())
 }
 
-/// To which node of a set each page of a list goes, and in which order they go: the nodes take turns upwards by the
-/// page's index in its segment, as MPOL_INTERLEAVE wants it, and the pages go by node and then in the order of the
-/// list. A set of one node takes all pages in the order of the list, as MPOL_PREFERRED and each pass of MPOL_BIND want
-/// it. No page goes anywhere where the set is empty. An error means that the host is out of memory.
+/// Which node of a set each page of a list goes to, and the order in which they go: the nodes take turns in ascending
+/// order by the page's index in its segment, as MPOL_INTERLEAVE wants, and the pages go in the order of nodes and then
+/// of the list. A set of one node takes all pages in the order of the list, as MPOL_PREFERRED and each pass of
+/// MPOL_BIND want. If the set is empty, no page goes anywhere. An error means that the host is out of memory.
 pub fn mbind_targets<A: Allocator + Copy>(
     alloc: A,
     nodes: NodeMask,

@@ -16,7 +16,7 @@ fn set_of(rt: &impl Abort, numbers: &[u32]) -> NodeMask {
     set
 }
 
-/// Three nodes of one frame, of which the last is nearest to both others.
+/// Three nodes of one frame each, the last of which is nearest to both others.
 fn three(alloc: Global) -> Result<Geometry<Global>, Fail> {
     let distances = vec![in alloc;
         vec![in alloc; 10u8, 30, 20]?,
@@ -26,7 +26,7 @@ fn three(alloc: Global) -> Result<Geometry<Global>, Fail> {
     Ok(Geometry::new(vec![in alloc; 1u32, 1, 1]?, distances)?)
 }
 
-/// Whether a list has the nodes of these numbers in order.
+/// Whether a list has the nodes of these numbers, in order.
 fn are(nodes: &[NodeId], numbers: &[u32]) -> bool {
     nodes
         .iter()
@@ -34,7 +34,7 @@ fn are(nodes: &[NodeId], numbers: &[u32]) -> bool {
         .eq(numbers.iter().copied())
 }
 
-/// Whether the zonelist from a node has these nodes in order.
+/// Whether the zonelist of a node has these nodes, in order.
 fn is_zonelist(
     geometry: &Geometry<Global>,
     alloc: Global,
@@ -67,7 +67,7 @@ fn zonelists(rt: HostRuntime) -> Result<(), Fail> {
     Ok(())
 }
 
-/// Whether these nodes in order are those for a page's first touch by a process at home on node 0.
+/// Whether these nodes, in order, are those of a first touch by a process whose home is node 0.
 fn is_order(
     geometry: &Geometry<Global>,
     alloc: Global,
@@ -116,7 +116,7 @@ fn first_touches(rt: HostRuntime) -> Result<(), Fail> {
     Ok(())
 }
 
-/// A page goes to the first node of its order that has a free frame.
+/// A page goes to the first node of its order with a free frame.
 #[test]
 fn first_touches_with_full_nodes(rt: HostRuntime) -> Result<(), Fail> {
     let alloc = rt.alloc();
@@ -172,7 +172,7 @@ fn pages_follow(rt: HostRuntime) {
     }
 }
 
-/// Whether the nodes of one set are paired with those of another so, by numbers.
+/// Whether the nodes of two sets are paired like this, by numbers.
 fn are_paired(
     rt: &impl Abort,
     alloc: Global,
@@ -212,7 +212,7 @@ fn pairs_in_order(rt: HostRuntime) -> Result<(), Fail> {
     Ok(())
 }
 
-/// The pages of a segment from page number 16 on.
+/// Four pages of a segment, at page numbers from 16 on.
 fn four_pages(alloc: Global) -> Result<Vec<Stray>, AllocError> {
     (0..4u64)
         .map(|index| Stray {
@@ -222,7 +222,7 @@ fn four_pages(alloc: Global) -> Result<Vec<Stray>, AllocError> {
         .collect(alloc)
 }
 
-/// Whether four pages are sent to nodes so, by page number.
+/// Whether four pages go to these nodes, by page number.
 fn are_sent(alloc: Global, nodes: NodeMask, want: &[(u64, u32)]) -> Result<bool, AllocError> {
     let pages = four_pages(alloc)?;
     let targets = mbind_targets(alloc, nodes, pages.as_slice())?;

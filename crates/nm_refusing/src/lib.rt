@@ -1,20 +1,20 @@
-//! An allocator for tests of what happens where memory runs out: it passes each call on to another allocator, and
-//! refuses one allocation, whose number it is given.
+//! An allocator for tests of running out of memory: it passes each call on to another allocator, and refuses one
+//! allocation, given by its number.
 #![tactic(auto)]
 
 use std::alloc::{AllocError, Allocator};
 use std::sync::atomic::{AtomicU64, Ordering};
 
-/// An allocator that refuses one allocation and passes every other call on. To share it, take a `&Refusing`, which is
-/// an allocator too and can be copied.
+/// An allocator that refuses one allocation and passes every other call on. To share it, use a `&Refusing`, which is
+/// also an allocator and can be copied.
 pub struct Refusing<B: Allocator> {
     inner: B,
-    // the number, from now on, of the allocation that is refused; it counts down past 0, which refuses none
+    // the number, counted from the next one, of the allocation to refuse; it counts down past 0, which refuses none
     left: AtomicU64,
 }
 
 impl<B: Allocator> Refusing<B> {
-    /// An allocator over another one, which refuses nothing yet.
+    /// Makes an allocator over another one, which refuses nothing until `refuse` is called.
     pub fn new(inner: B) -> Refusing<B> {
         Refusing {
             inner,
@@ -22,13 +22,12 @@ impl<B: Allocator> Refusing<B> {
         }
     }
 
-    /// Refuses the allocation of this number from now on, once. The next allocation is number 1, and at 0 none is
-    /// refused.
+    /// Refuses the allocation with this number, once. The next allocation is number 1; 0 refuses none.
     pub fn refuse(&self, number: u64) {
         self.left.store(number, Ordering::SeqCst);
     }
 
-    /// How many allocations were asked for since `refuse(number)`, the refused one included. If this is at least
+    /// How many allocations were asked for since `refuse(number)`, including the refused one. If this is at least
     /// `number`, and `number` is not 0, that one was refused.
     pub fn asked_since(&self, number: u64) -> u64 {
         number.wrapping_sub(self.left.load(Ordering::SeqCst))
@@ -41,7 +40,7 @@ impl<B: Allocator> Drop for Refusing<B> {
     }
 }
 
-/// Counts one allocation, and says whether it is the one to be refused.
+/// Counts one allocation, and returns whether it is the one to refuse.
 fn refuses(left: &AtomicU64) -> bool {
     left.fetch_sub(1, Ordering::SeqCst) == 1
 }

@@ -168,7 +168,7 @@ not_among pid q (y ∷ rest) lt h =
     let below : pid < y.0 = omega (arith, h.0) in
     ap (λ b. b || has_process rest pid) (ne_eqb pid y.0 (λ e. omega (arith, e, below))) ∙ not_among pid q rest lt h.1
 
--- a spot of the process is not in front of its first
+-- a spot of the process is not before its first
 at_least_zero : (n : ℕ) → (is_le (nat_cmp 0 n) && true) ≡ true
 at_least_zero zero = refl
 at_least_zero (suc n) = ap (λ r. is_le r && true) (sym (nat_cmp_is 0 (suc n) Less (omega arith)))

@@ -27,7 +27,7 @@ module _ (mappings : List (List Mapper)) (pins : List ℕ) (m : Mappers) (is : b
     pub same_pins : both mappings (set pins i now) ≡ m
     same_pins = ap (λ (k : ℕ). both mappings (set pins i k)) value ∙ ap (both mappings) (set-get_or pins i now) ∙ is
 
-    -- where the new number of pins is told of the old one
+    -- where the new number of pins is stated by the old one
     pub writes_pins : (f : ℕ → ℕ) → both mappings (set pins i (f now)) ≡ with_pins m frame (f (frame_pins m frame))
     writes_pins f =
         ap (λ (k : ℕ). both mappings (set pins k (f now))) at ∙ ap (λ (n : Mappers). with_pins n frame (f now)) is ∙ ap (λ (k : ℕ). with_pins m frame (f k)) (sym reads_pins)

@@ -1,12 +1,12 @@
--- A worked example: three mappers of a frame go to another.
+-- A worked example: the three mappers of one frame are carried over to another.
 use Rattle.std.specs.Prelude.{◌≡◌, List, [], ◌∷◌}
 use Rattle.nm_rmap.specs.Mappers.{Mappers, Mapper, new_map, mappers_of, with_mapper, carried, process_count}
 
--- of eight frames the first has two page numbers of process 1 and one of process 2
+-- of eight frames the first is mapped by two page numbers of process 1 and one of process 2
 abbrev pub three_mappers : Mappers
 three_mappers = with_mapper (with_mapper (with_mapper (new_map 8) 0 (2, 64)) 0 (1, 32)) 0 (1, 16)
 
--- by pid and then by page number
+-- by pid, then by page number
 abbrev pub in_order : List Mapper
 in_order = (1, 16) ∷ (1, 32) ∷ (2, 64) ∷ []
 

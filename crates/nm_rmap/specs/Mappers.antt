@@ -1,4 +1,4 @@
--- Who names each frame, and the pins of each frame.
+-- The page numbers that map each frame, and each frame's pins.
 use Rattle.std.specs.Prelude.{◌≡◌, ℕ, nat_eq, nat_lt, Bool, List, [], map, replicate, slice_index_or, slice_set}
 use Rattle.std.specs.List.{list_any, count_by}
 use Rattle.std.specs.BTreeMap.{is_at}
@@ -6,53 +6,53 @@ use Rattle.std.specs.BTreeSet.{insert_key}
 use Rattle.std.specs.Set.{remove_key, distinct_count, is_member}
 use Rattle.nm_types.specs.Map.{spot_cmp}
 
--- a process and a page number of it
+-- a process and one of its page numbers
 abbrev pub Mapper : Type 0
 Mapper = ℕ × ℕ
 
--- the mappings with one more, at its place in the order; one that is there stays
+-- the mappers with another one at its place in order; no change if it is there already
 abbrev pub with_spot : List Mapper → Mapper → List Mapper
 with_spot mappings spot = insert_key spot_cmp mappings spot
 
--- the mappings without one
+-- the mappers without one
 abbrev pub without_spot : List Mapper → Mapper → List Mapper
 without_spot mappings spot = remove_key (is_at (spot_cmp spot)) mappings
 
--- the processes of the mappings
+-- the pids of the mappers, one for each
 abbrev pub pids : List Mapper → List ℕ
 pids mappings = map (λ spot. spot.0) mappings
 
--- whether a process has one of the mappings
+-- whether a process has one of the mappers
 abbrev pub has_process : List Mapper → ℕ → Bool
 has_process mappings pid = is_member nat_eq (pids mappings) pid
 
--- how many processes have a page number among the mappings
+-- how many processes have one of the mappers
 abbrev pub process_count : List Mapper → ℕ
 process_count mappings = distinct_count nat_eq (pids mappings)
 
 pub record Mappers : Type 0 where
-  -- for each frame the page numbers that name it, by pid and then by page number
+  -- the page numbers that map each frame, by pid, then by page number
   pub mappings : List (List Mapper)
-  -- how often each frame is pinned
+  -- the number of pins of each frame
   pub pins : List ℕ
 
--- `frames` frames that nobody names or pins
+-- `frames` frames without mappers and pins
 abbrev pub new_map : ℕ → Mappers
 new_map frames = record { mappings = replicate frames []; pins = replicate frames 0 }
 
--- the page numbers that name a frame
+-- the page numbers that map a frame
 abbrev pub mappers_of : Mappers → ℕ → List Mapper
 mappers_of m frame = slice_index_or m.mappings frame []
 
--- how often a frame is pinned
+-- the number of pins of a frame
 abbrev pub frame_pins : Mappers → ℕ → ℕ
 frame_pins m frame = slice_index_or m.pins frame 0
 
--- how many of these numbers of pins are of pinned frames
+-- how many of these numbers of pins are above 0
 abbrev pub pinned_count : List ℕ → ℕ
 pinned_count pins = count_by (λ n. nat_lt 0 n) pins
 
--- whether any frame is pinned
+-- whether any frame has a pin
 abbrev pub is_any_pinned : Mappers → Bool
 is_any_pinned m = list_any (λ n. nat_lt 0 n) m.pins
 
@@ -72,11 +72,11 @@ without_mapper m frame spot = with_mappers m frame (without_spot (mappers_of m f
 abbrev pub with_pins : Mappers → ℕ → ℕ → Mappers
 with_pins m frame pins = record { mappings = m.mappings; pins = slice_set m.pins frame pins }
 
--- what names and pins one frame names and pins another in its place
+-- the mappers and pins of one frame go to another, which had none
 abbrev pub carried : Mappers → ℕ → ℕ → Mappers
 carried m from to = with_pins (with_mappers (with_pins (with_mappers m to (mappers_of m from)) to (frame_pins m from)) from []) from 0
 
--- nobody names or pins the frame
+-- the frame has no mappers and no pins
 pub record IsUnused (m : Mappers) (frame : ℕ) : Type 0 where
   pub mappers : mappers_of m frame ≡ []
   pub pins : frame_pins m frame ≡ 0

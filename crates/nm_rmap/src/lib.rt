@@ -1,4 +1,5 @@
-//! The reverse map of a machine: which page numbers of which processes name each frame, and how often it is pinned.
+//! The reverse map of a machine: which page numbers of which processes map each frame, and how many pins each frame
+//! has.
 #![tactic(auto)]
 
 pub mod laws;

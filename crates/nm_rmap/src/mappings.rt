@@ -1,4 +1,4 @@
-//! The page numbers that name one frame.
+//! The page numbers that map one frame.
 
 ghost use Rattle.std.specs.Prelude.{◌≡◌, [], IfOk, OnOk, OnErr};
 ghost use Rattle.std.specs.List.Sorted.{IsStrictlySortedBy};
@@ -10,8 +10,8 @@ use std::alloc::{AllocError, Allocator};
 use std::collections::BTreeSet;
 use std::marker::Model;
 
-/// Page numbers of processes, with the number of these processes. Contracts see the list of them, by pid and then by
-/// page number.
+/// Page numbers of processes, with the number of these processes. Contracts see their list, by pid and then by page
+/// number.
 #[derive(Drop)]
 pub(crate) struct Mappings<A: Allocator + Copy> {
     processes: usize,
@@ -32,7 +32,7 @@ impl<A: Allocator + Copy> Model for Mappings<A> {
 }
 
 impl<A: Allocator + Copy> Mappings<A> {
-    /// None.
+    /// Makes an empty set. Does not allocate.
     pub(crate) fn new(alloc: A) -> Self
         ensures { result ≡ [] }
     {
@@ -42,7 +42,7 @@ impl<A: Allocator + Copy> Mappings<A> {
         }
     }
 
-    /// Adds one, unless it is there. An error means that nothing has changed.
+    /// Adds a page number of a process, unless it is there. An error means that nothing has changed.
     pub(crate) fn insert(&mut self, pid: Pid, vpn: Vpn) -> Result<(), AllocError>
         ensures ok { OnOk result (self.new ≡ with_spot self.old (pid, vpn)) }
         ensures err { OnErr result (self.new ≡ self.old) }
@@ -57,7 +57,7 @@ impl<A: Allocator + Copy> Mappings<A> {
         Ok(())
     }
 
-    /// Removes one, if it is there.
+    /// Removes a page number of a process, if it is there.
     pub(crate) fn remove(&mut self, pid: Pid, vpn: Vpn)
         ensures without_mapper { self.new ≡ without_spot self.old (pid, vpn) }
         ensures ordered { IsStrictlySortedBy spot_cmp self.old }
@@ -69,7 +69,7 @@ impl<A: Allocator + Copy> Mappings<A> {
         }
     }
 
-    /// A list of them, in order.
+    /// A list of them, in order. An error means that the host is out of memory.
     pub(crate) fn list(&self, alloc: A) -> Result<Vec<(Pid, Vpn), A>, AllocError>
         ensures all { IfOk result (λ mappings. mappings.items ≡ self.now) }
         ensures ordered { IsStrictlySortedBy spot_cmp self.now }
@@ -77,7 +77,7 @@ impl<A: Allocator + Copy> Mappings<A> {
         self.tree.iter().copied().collect(alloc)
     }
 
-    /// The set of them, in order. It takes no memory.
+    /// The set of them, in order. Does not allocate.
     pub(crate) fn tree(&self) -> &BTreeSet<(Pid, Vpn), A>
         ensures all { result.now.keys ≡ self.now }
         ensures ordered { IsStrictlySortedBy spot_cmp self.now }
@@ -85,7 +85,7 @@ impl<A: Allocator + Copy> Mappings<A> {
         &self.tree
     }
 
-    /// How many processes have a page number among them.
+    /// How many processes have a page number in the set.
     pub(crate) fn process_count(&self) -> usize
         ensures { result ≡ process_count self.now }
     {

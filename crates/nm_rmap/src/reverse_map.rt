@@ -1,4 +1,4 @@
-//! The mappers and the pins of all frames.
+//! The mappers and pins of all frames.
 
 ghost use Rattle.std.specs.Prelude.{◌≡◌, ◌<◌, ◌≤◌, ◌+◌, ◌-◌, length, IfOk, OnOk, OnErr, IfErr};
 ghost use Rattle.std.specs.List.Sorted.{IsStrictlySortedBy};
@@ -13,8 +13,8 @@ use std::alloc::{AllocError, Allocator};
 use std::collections::BTreeSet;
 use std::marker::Model;
 
-/// For each frame the page numbers of processes that name it, its mappers, and how often it is pinned. Contracts see
-/// the list by frame of the lists of mappers, each by pid and then by page number, and the list by frame of the pins.
+/// For each frame the page numbers of processes that map it, its mappers, and its number of pins. Contracts see the
+/// mappers as lists by frame, each in order of pid and then page number, and the numbers of pins as a list by frame.
 #[derive(Drop)]
 pub struct ReverseMap<A: Allocator + Copy> {
     alloc: A,
@@ -36,7 +36,7 @@ impl<A: Allocator + Copy> Model for ReverseMap<A> {
 }
 
 impl<A: Allocator + Copy> ReverseMap<A> {
-    /// A map of `frames` frames, which nobody names and nobody pins. An error means that the host is out of memory.
+    /// Makes a map of `frames` frames without mappers and pins. An error means that the host is out of memory.
     pub fn new(alloc: A, frames: usize) -> Result<Self, AllocError>
         ensures { IfOk result (λ map. map ≡ new_map frames) }
     {
@@ -54,8 +54,8 @@ impl<A: Allocator + Copy> ReverseMap<A> {
         })
     }
 
-    /// Makes a page number of a process a mapper of a frame. One that is a mapper of it stays so. An error means that
-    /// the host is out of memory, and that nothing has changed.
+    /// Makes a page number of a process a mapper of a frame, unless it is one. An error means that the host is out of
+    /// memory, and that nothing has changed.
     pub fn add(&mut self, frame: FrameId, pid: Pid, vpn: Vpn) -> Result<(), AllocError>
         requires { frame < length self.old.mappings }
         ensures ok { OnOk result (self.new ≡ with_mapper self.old frame (pid, vpn)) }
@@ -64,7 +64,7 @@ impl<A: Allocator + Copy> ReverseMap<A> {
         self.mappings[frame.index()].insert(pid, vpn)
     }
 
-    /// Makes a page number of a process no mapper of a frame, if it is one. It takes no memory.
+    /// Removes a page number of a process from a frame's mappers, if it is one. Does not allocate.
     pub fn drop_one(&mut self, frame: FrameId, pid: Pid, vpn: Vpn)
         requires { frame < length self.old.mappings }
         ensures dropped { self.new ≡ without_mapper self.old frame (pid, vpn) }
@@ -82,7 +82,7 @@ impl<A: Allocator + Copy> ReverseMap<A> {
         self.mappings[frame.index()].list(self.alloc)
     }
 
-    /// The mappers of a frame, by pid and then by page number, as they stand. It takes no memory.
+    /// The mappers of a frame, by pid and then by page number, borrowed. Does not allocate.
     pub fn mappings(&self, frame: FrameId) -> &BTreeSet<(Pid, Vpn), A>
         requires { frame < length self.now.mappings }
         ensures all { result.now.keys ≡ mappers_of self.now frame }
@@ -91,8 +91,7 @@ impl<A: Allocator + Copy> ReverseMap<A> {
         self.mappings[frame.index()].tree()
     }
 
-    /// How many processes have a page number that names a frame. Two page numbers of a process count once. It takes no
-    /// memory.
+    /// How many processes map a frame. Two page numbers of one process count once. Does not allocate.
     pub fn processes(&self, frame: FrameId) -> usize
         requires { frame < length self.now.mappings }
         ensures { result ≡ process_count (mappers_of self.now frame) }
@@ -100,7 +99,7 @@ impl<A: Allocator + Copy> ReverseMap<A> {
         self.mappings[frame.index()].process_count()
     }
 
-    /// Gives the mappers and the pins of one frame to another, which has neither. It takes no memory.
+    /// Moves the mappers and pins of one frame to another, which must have neither. Does not allocate.
     pub fn carry(&mut self, from: FrameId, to: FrameId)
         requires from_in_range { from < length self.old.mappings }
         requires to_in_range { to < length self.old.mappings }
@@ -112,11 +111,15 @@ impl<A: Allocator + Copy> ReverseMap<A> {
         self.pins.swap(from.index(), to.index());
     }
 
-    /// Pins a frame once more. EBUSY if it has 65,535 pins, and then nothing has changed. It takes no memory.
+    /// Adds a pin to a frame. EBUSY, with nothing changed, if it has 65,535 pins. Does not allocate.
     pub fn pin(&mut self, frame: FrameId) -> Result<(), Errno>
         requires { frame < length self.old.mappings }
+
+        // On success
         ensures room { OnOk result (frame_pins self.old frame < 65535) }
         ensures ok { OnOk result (self.new ≡ with_pins self.old frame (frame_pins self.old frame + 1)) }
+
+        // On refusal
         ensures full { IfErr result (λ error. (error ≡ Ebusy) × (65535 ≤ frame_pins self.old frame)) }
         ensures err { OnErr result (self.new ≡ self.old) }
     {
@@ -132,11 +135,15 @@ impl<A: Allocator + Copy> ReverseMap<A> {
         Ok(())
     }
 
-    /// Takes one pin off a frame. EINVAL if it has none, and then nothing has changed. It takes no memory.
+    /// Removes a pin from a frame. EINVAL, with nothing changed, if it has none. Does not allocate.
     pub fn unpin(&mut self, frame: FrameId) -> Result<(), Errno>
         requires { frame < length self.old.mappings }
+
+        // On success
         ensures pinned { OnOk result (0 < frame_pins self.old frame) }
         ensures ok { OnOk result (self.new ≡ with_pins self.old frame (frame_pins self.old frame - 1)) }
+
+        // On refusal
         ensures none { IfErr result (λ error. (error ≡ Einval) × (frame_pins self.old frame ≡ 0)) }
         ensures err { OnErr result (self.new ≡ self.old) }
     {
@@ -152,7 +159,7 @@ impl<A: Allocator + Copy> ReverseMap<A> {
         Ok(())
     }
 
-    /// How often a frame is pinned. It takes no memory.
+    /// How many pins a frame has: at most 65,535. Does not allocate.
     pub fn pins(&self, frame: FrameId) -> u32
         requires { frame < length self.now.mappings }
         ensures pins { result ≡ frame_pins self.now frame }
@@ -161,14 +168,14 @@ impl<A: Allocator + Copy> ReverseMap<A> {
         self.pins[frame.index()]
     }
 
-    /// How often each frame is pinned, by frame. It takes no memory.
+    /// How many pins each frame has, by frame. Does not allocate.
     pub fn pin_counts(&self) -> &[u32]
         ensures { result.now ≡ self.now.pins }
     {
         self.pins.as_slice()
     }
 
-    /// Whether any frame is pinned. It takes no memory.
+    /// Whether any frame has a pin. Does not allocate.
     pub fn has_pins(&self) -> bool
         ensures { result ≡ is_any_pinned self.now }
     {

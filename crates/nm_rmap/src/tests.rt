@@ -19,7 +19,7 @@ fn add_to_first<A: Allocator + Copy>(
     map.add(FrameId::new(0), Pid::new(pid), Vpn::new(vpn))
 }
 
-/// Eight frames. Frame 0 has two page numbers of process 1 and one of process 2, put in out of order.
+/// Eight frames. Two page numbers of process 1 and one of process 2 map frame 0, added out of order.
 fn three_mappers<A: Allocator + Copy>(alloc: A) -> Result<ReverseMap<A>, AllocError>
     ensures { IfOk result (λ map. map ≡ three_mappers) }
 {
@@ -30,7 +30,7 @@ fn three_mappers<A: Allocator + Copy>(alloc: A) -> Result<ReverseMap<A>, AllocEr
     Ok(map)
 }
 
-/// Whether the mappers of a frame are those three, in order.
+/// Whether the mappers of a frame are these three, in order.
 fn has_three<A: Allocator + Copy>(map: &ReverseMap<A>, frame: FrameId) -> Result<bool, AllocError>
     requires { frame < length map.now.mappings }
 {
@@ -42,7 +42,7 @@ fn has_three<A: Allocator + Copy>(map: &ReverseMap<A>, frame: FrameId) -> Result
     Ok(map.mappers(frame)?.as_slice() == three.as_slice())
 }
 
-/// The page numbers of the mappers of a frame as they come, two digits each.
+/// The page numbers of a frame's mappers in order, two digits each.
 fn digits_of_spots<A: Allocator + Copy>(map: &ReverseMap<A>, frame: FrameId) -> u64
     requires { frame < length map.now.mappings }
 {
@@ -53,8 +53,8 @@ fn digits_of_spots<A: Allocator + Copy>(map: &ReverseMap<A>, frame: FrameId) -> 
     sum
 }
 
-/// Whether the three mappers count as two processes in a frame until they are carried, and as one in the other frame once
-/// that of process 2 goes.
+/// Whether the three mappers count as two processes on one frame and, once carried over, as one process on the other
+/// frame after that of process 2 is removed.
 fn counts_and_carries(alloc: Global) -> Result<bool, AllocError> {
     let here = FrameId::new(0);
     let there = FrameId::new(4);
@@ -68,7 +68,7 @@ fn counts_and_carries(alloc: Global) -> Result<bool, AllocError> {
     Ok(has_all && carried && [before, after, map.processes(there)] == [2, 0, 1])
 }
 
-/// Two page numbers of a process count once, and all mappers and pins go along.
+/// Two page numbers of a process count once, and all mappers and pins are carried over.
 #[test]
 fn mappers_are_counted_and_carried(rt: HostRuntime) -> Result<(), Fail> {
     assert!(rt; counts_and_carries(rt.alloc())?);
@@ -88,7 +88,7 @@ fn pin_often<A: Allocator + Copy>(map: &mut ReverseMap<A>, frame: FrameId, times
     true
 }
 
-/// Whether a frame cannot be unpinned before it is pinned, and not be pinned once too often.
+/// Whether unpinning a frame without pins and pinning one with 65,535 pins are refused.
 fn pins_between_ends(alloc: Global) -> Result<bool, AllocError> {
     let frame = FrameId::new(7);
     let mut map = ReverseMap::new(alloc, 8)?;
@@ -100,7 +100,7 @@ fn pins_between_ends(alloc: Global) -> Result<bool, AllocError> {
     Ok(ends && pinned && map.pins(frame) == 65534)
 }
 
-/// A frame is pinned 65,535 times at most, and unpinned as often.
+/// A frame may have 65,535 pins and no more, and as many can be removed.
 #[test]
 fn pins_have_ends(rt: HostRuntime) -> Result<(), Fail> {
     assert!(rt; pins_between_ends(rt.alloc())?);

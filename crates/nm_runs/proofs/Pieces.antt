@@ -63,7 +63,7 @@ cut_within_other limit t ws es some has short apart =
     ap (flat_map (within limit)) (cut_other t ws es has apart)
     ∙ ap (λ l. l ++ cut_within limit es) (within_short limit (record { target = t; wanted = ws }) some has short)
 
--- requests as many as the limit are a run in front, whatever follows
+-- as many requests as the limit are a run at the front, whatever follows
 cut_within_full : (limit t : ℕ) (ws : List Wanted) (es : List Request) → 0 < limit → length ws ≡ limit → cut_within limit (all_to t ws ++ es) ≡ record { target = t; wanted = ws } ∷ cut_within limit es
 cut_within_full limit t ws es some full = by_first (cut es) refl
   where
@@ -321,7 +321,7 @@ in_room limit xs room is =
     ⊎_elim (λ less. let more : length xs ≤ room = omega (arith, is, less) in take_all room xs more ∙ sym (take_all limit xs (omega (arith, less))))
     (λ more. let same : room ≡ limit = omega (arith, is, more) in ap (λ n. take n xs) same) (cases_lt (length xs) limit)
 
--- one more run is made, of what stands at the front of the rest
+-- one more run is made, of the requests at the front of the rest
 pub one_more : {A : Type 0} (limit : ℕ) (made : List (Run A)) (run : Run A) (es rest : List Request) (at room : ℕ) → 0 < limit → rest ≡ drop at es → room ≡ min (length rest) limit → 0 < length run.wanted.items → length run.wanted.items ≤ length (take room rest) → IsFirst (take room rest) run.target run.wanted.items
     → stretches_of made ++ cut_within limit (drop at es) ≡ cut_within limit es → stretches_of (made ++ run ∷ []) ++ cut_within limit (drop (at + length run.wanted.items) es) ≡ cut_within limit es
 one_more limit made run es rest at room some is front has inside first so_far =

@@ -3,7 +3,7 @@ use Rattle.std.specs.Prelude.{ℕ, ◌==◌, true, false, if◌then◌else◌}
 use Rattle.nm_types.specs.declared.seen.Seen.{Seen}
 use Rattle.nm_types.specs.declared.seen.Seen.TheVariants.{NoArea, Absent, Zero, At}
 
--- the page of zeros, then a page number that nobody touched, then a pinned page, and after them a page without a pin
+-- the page of zeros, then an untouched page number, then a pinned page, then a page without a pin
 abbrev pub row_seen : ℕ → Seen
 row_seen v =
     if v == 16 then Zero

@@ -5,7 +5,7 @@ ghost use Rattle.nm_runs.specs.Targets.{node_refusal, first_refusal, Checks};
 
 use nm_types::{Errno, NodeId, NodeMask};
 
-/// Whether a page may go to a node.
+/// Whether a page may go to a node: ENODEV or EACCES if not.
 fn check_node(count: usize, online: NodeMask, allowed: NodeMask, node: NodeId) -> Result<(), Errno>
     ensures node { OnOk result (node < count) }
     ensures exact { Checks result (node_refusal count online allowed node) }
@@ -19,9 +19,9 @@ fn check_node(count: usize, online: NodeMask, allowed: NodeMask, node: NodeId) -
     Ok(())
 }
 
-/// Whether pages of a process that may use the allowed nodes may go to these nodes, on a machine of `count` nodes of
-/// which `online` are online, as move_pages(2) checks it. The first entry that is refused gives the error: ENODEV if
-/// there is no such node or it is offline, and then EACCES if it is not allowed.
+/// Whether the pages of a process that may use the allowed nodes may go to these nodes, on a machine of `count` nodes
+/// of which `online` are online, as in move_pages(2). The first entry that is refused gives the error: ENODEV if its
+/// node does not exist or is offline, or else EACCES if it is not allowed. Does not allocate.
 pub fn check_batch(
     count: usize,
     online: NodeMask,

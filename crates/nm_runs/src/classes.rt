@@ -1,4 +1,4 @@
-//! What is to be done with each request of a run, by a look at what it names.
+//! What to do with each request of a run, from a look at what it names.
 
 ghost use Rattle.std.specs.Prelude.{◌≡◌, ◌<◌, ◌^◌, map, IfOk};
 ghost use Rattle.nm_types.specs.Layout.{frame_count};
@@ -11,11 +11,10 @@ use rayon::prelude::*;
 use std::alloc::{AllocError, Allocator};
 use std::thread::Threads;
 
-/// A thread looks at no fewer requests than this: a shorter run is not worth a thread's start.
+/// The fewest requests that a thread looks at: a shorter run is not worth starting a thread for.
 const PIECE: usize = 4096;
 
-/// What is to be done with a request for what is seen so, where a page that several processes see moves only if all are
-/// asked for.
+/// What to do with a request for what is seen here. A page that several processes see moves only if `all` is set.
 fn class_of_look<A: Allocator + Copy>(
     geometry: &Geometry<A>,
     target: NodeId,
@@ -49,7 +48,7 @@ fn class_of_look<A: Allocator + Copy>(
     }
 }
 
-/// What is to be done with a request, by a look at what it names.
+/// What to do with a request, from a look at what it names.
 fn class_of<A: Allocator + Copy, V: PageView>(
     geometry: &Geometry<A>,
     view: &V,
@@ -66,9 +65,9 @@ fn class_of<A: Allocator + Copy, V: PageView>(
     }
 }
 
-/// What is to be done with each request of a run, in its order, by a look at what it names; the view shows frames of
-/// the machine alone. It looks on the calling thread. An error means that the host refused memory. The target is a status
-/// as well, so its number is below 2^31.
+/// What to do with each request of a run, in order, from a look at what it names. The view must show frames of this
+/// machine only. Looks on the calling thread. An error means that the host is out of memory. The target's number is
+/// also used as a status, so it must be below 2^31.
 pub fn classify_here<A: Allocator + Copy, V: PageView>(
     alloc: A,
     geometry: &Geometry<A>,
@@ -86,9 +85,9 @@ pub fn classify_here<A: Allocator + Copy, V: PageView>(
     Ok(classes)
 }
 
-/// What is to be done with each request of a run, in its order, by a look at what it names; the view shows frames of
-/// the machine alone. Several threads look from 8,192 requests on, at 4,096 each at least. An error means that the host
-/// refused memory. The target is a status as well, so its number is below 2^31.
+/// What to do with each request of a run, in order, from a look at what it names. The view must show frames of this
+/// machine only. From 8,192 requests on, several threads look, each at 4,096 or more. An error means that the host is
+/// out of memory. The target's number is also used as a status, so it must be below 2^31.
 pub fn classify<R: Threads + Sync, A: Allocator + Copy + Send + Sync, V: PageView + Sync>(
     rt: &R,
     alloc: A,

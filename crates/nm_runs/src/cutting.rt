@@ -1,4 +1,4 @@
-//! A batch of requests as the runs that it is cut into.
+//! Cutting a batch of requests into runs.
 
 ghost use Rattle.std.specs.Prelude.{◌≡◌, ◌<◌, ◌≤◌, ◌==◌, IfOk, length, slice_index};
 ghost use Rattle.std.specs.List.{take_while};
@@ -9,7 +9,7 @@ ghost use Rattle.nm_model.specs.definitions.Cut.{cut_within, run_count};
 use crate::{Request, Run, Wanted};
 use std::alloc::{AllocError, Allocator};
 
-/// How many requests at the front name the node of the first one.
+/// How many requests at the front are for the same node as the first.
 fn same_front(requests: &[Request]) -> usize
     requires { 0 < length requests.now }
     ensures front { result ≡ same_front requests.now }
@@ -23,7 +23,7 @@ fn same_front(requests: &[Request]) -> usize
         .count()
 }
 
-/// What requests ask to move.
+/// What requests ask to move. An error means that the host is out of memory.
 fn wanted_of<A: Allocator + Copy>(
     alloc: A,
     requests: &[Request],
@@ -33,9 +33,11 @@ fn wanted_of<A: Allocator + Copy>(
     requests.iter().map(|request| request.wanted).collect(alloc)
 }
 
-/// The run at the front of a batch: its longest stretch of one target.
+/// The run at the front of a batch: its longest stretch for one target.
 fn first_run<A: Allocator + Copy>(alloc: A, requests: &[Request]) -> Result<Run<A>, AllocError>
     requires { 0 < length requests.now }
+
+    // On success
     ensures some { IfOk result (λ run. 0 < length run.wanted.items) }
     ensures within { IfOk result (λ run. length run.wanted.items ≤ length requests.now) }
     ensures first { IfOk result (λ run. IsFirst requests.now run.target run.wanted.items) }
@@ -47,10 +49,10 @@ fn first_run<A: Allocator + Copy>(alloc: A, requests: &[Request]) -> Result<Run<
     })
 }
 
-/// The runs of a batch, in their order: its longest stretches of requests for one node. Without requests there is no
-/// run. The caller has all runs before it starts the first one, so memory for the list of a later one cannot be refused
-/// after pages have moved. It cuts with a limit as long as the batch, which shortens no stretch. An error means that
-/// the host refused memory.
+/// The runs of a batch, in order: its longest stretches of requests for one node. A batch without requests has no runs.
+/// The caller has all runs before it starts the first, so memory for the list of a later run cannot be refused after
+/// pages have moved. Cuts with a limit as long as the batch, which shortens no stretch. An error means that the host is
+/// out of memory.
 pub fn cut<A: Allocator + Copy>(
     alloc: A,
     requests: &[Request],
@@ -61,9 +63,9 @@ pub fn cut<A: Allocator + Copy>(
     cut_within(alloc, requests, whole)
 }
 
-/// The runs of a batch under a limit of at least 1, in their order: its longest stretches of requests for one node,
-/// each cut from its front into runs of at most `limit` requests. Without requests there is no run. An error means that
-/// the host refused memory.
+/// The runs of a batch under a limit of at least 1, in order: its longest stretches of requests for one node, each cut
+/// from its front into runs of at most `limit` requests. A batch without requests has no runs. An error means that the
+/// host is out of memory.
 pub fn cut_within<A: Allocator + Copy>(
     alloc: A,
     requests: &[Request],
@@ -84,7 +86,7 @@ pub fn cut_within<A: Allocator + Copy>(
     Ok(runs)
 }
 
-/// How many nodes at the front are the same as the first one.
+/// How many nodes at the front are the same as the first.
 fn same_nodes(nodes: &[u32]) -> usize
     requires { 0 < length nodes.now }
     ensures front { result ≡ length (take_while (λ node. node == slice_index nodes.now 0) nodes.now) }
@@ -95,7 +97,7 @@ fn same_nodes(nodes: &[u32]) -> usize
     nodes.iter().take_while(|node| **node == first).count()
 }
 
-/// How many runs a batch of requests for these nodes has under a limit of at least 1. It takes no memory.
+/// How many runs a batch of requests for these nodes has under a limit of at least 1. Does not allocate.
 pub fn run_count(nodes: &[u32], limit: usize) -> usize
     requires { 0 < limit }
     ensures count { result ≡ run_count limit nodes.now }

@@ -4,24 +4,24 @@ ghost use Rattle.nm_model.specs.definitions.Cut.{EachBatchHasOneCut};
 ghost use Rattle.nm_model.specs.definitions.Cut.{CutIsOldCut, EachLimitCuts, RunCountCountsRuns};
 ghost use Rattle.nm_runs.specs.LimitRows.{CutRows};
 
-/// The stretches that `cut` gives are the batch when they are joined, neighbours go to different nodes, and none is
-/// empty. No other list of stretches is so.
+/// The stretches that `cut` returns are the batch when joined, neighbours go to different nodes, and none is empty. No
+/// other list of stretches has these properties.
 pub fn each_batch_has_one_cut()
     ensures { EachBatchHasOneCut }
 {}
 
-/// With the greatest limit a batch is cut as without one.
+/// Under the greatest limit a batch is cut as without one.
 pub fn cut_is_old_cut()
     ensures { CutIsOldCut }
 {}
 
-/// Under each limit the runs are the batch when they are joined, none is empty or longer than the limit, and one that is
-/// followed by another for its node is as long as the limit. No other list of runs is so.
+/// Under each limit the runs are the batch when joined, none is empty or longer than the limit, and a run followed by
+/// another for the same node is as long as the limit. No other list of runs has these properties.
 pub fn each_limit_cuts()
     ensures { EachLimitCuts }
 {}
 
-/// The number of runs goes by the nodes alone, and not by what is wanted.
+/// The number of runs depends on the nodes alone, not on what the requests are for.
 pub fn run_count_counts_runs()
     ensures { RunCountCountsRuns }
 {}

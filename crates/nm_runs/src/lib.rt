@@ -1,4 +1,4 @@
-//! What a batch of requests asks for, run by run, and what is to be done with each request.
+//! What a batch of requests asks for, run by run, and what to do with each request.
 #![tactic(auto)]
 
 mod check;
@@ -15,12 +15,12 @@ use nm_types::NodeId;
 pub use nm_types::{Class, Request, Wanted};
 use std::alloc::Allocator;
 
-/// Consecutive requests for one target node. They are decided one after another, and the frames that their pages
-/// leave become free at the run's end.
+/// Consecutive requests for one target node. They are decided one after another, and the frames that their pages leave
+/// become free when the run ends.
 #[derive(Debug, Drop)]
 pub struct Run<A: Allocator + Copy> {
-    /// The node to which the pages are to go.
+    /// The number of the node that the pages are to go to: below the machine's number of nodes.
     pub target: NodeId,
-    /// The requests, in their order.
+    /// What each request asks to move, in order: at least one, and in a run of a trace at most 16,384.
     pub wanted: Vec<Wanted, A>,
 }

@@ -18,7 +18,7 @@ fn set_of(rt: &impl Abort, numbers: &[u32]) -> NodeMask {
     set
 }
 
-/// The pages of a segment from its first on, and for each a node.
+/// Requests for the first pages of a segment, one page for each of these nodes.
 fn requests(alloc: Global, targets: &[u32]) -> Result<Vec<Request>, AllocError> {
     let mut requests = Vec::new(alloc);
     for (target, index) in targets.iter().zip(0u64..) {
@@ -30,7 +30,7 @@ fn requests(alloc: Global, targets: &[u32]) -> Result<Vec<Request>, AllocError> 
     Ok(requests)
 }
 
-/// The node of each run, and how many requests it has.
+/// The node of each run, and its number of requests.
 fn told(alloc: Global, runs: &[Run<Global>]) -> Result<Vec<(u32, usize)>, AllocError> {
     runs.iter()
         .map(|run| (run.target.number(), run.wanted.len()))
@@ -50,7 +50,7 @@ fn runs_within(
     told(alloc, runs.as_slice())
 }
 
-/// Whether a batch for these nodes has these runs, each a node and how many requests.
+/// Whether a batch for these nodes has these runs, each given as a node and a number of requests.
 fn are_runs(alloc: Global, targets: &[u32], want: &[(u32, usize)]) -> Result<bool, AllocError> {
     let runs = cut(alloc, requests(alloc, targets)?.as_slice())?;
     Ok(told(alloc, runs.as_slice())?.as_slice() == want)
@@ -110,7 +110,7 @@ fn laws_are_called() {
     laws::cut_rows();
 }
 
-/// Whether the requests of the runs of a batch are those of the batch in order.
+/// Whether the runs of a batch, joined, have the requests of the batch in order.
 fn keep_their_order(alloc: Global, targets: &[u32]) -> Result<bool, AllocError> {
     let asked = requests(alloc, targets)?;
     let runs = cut(alloc, asked.as_slice())?;
@@ -149,7 +149,7 @@ fn checks(rt: HostRuntime) -> Result<(), Fail> {
     Ok(())
 }
 
-/// Four page numbers that every process sees alike, and no page by name.
+/// Four page numbers that every process sees alike, and no pages by name.
 struct Row;
 
 impl PageView for Row {
@@ -191,7 +191,7 @@ impl PageView for Row {
     }
 }
 
-/// Requests for the second node, of a process at these page numbers.
+/// Requests for the second node, for these page numbers of a process.
 fn run_at(alloc: Global, numbers: &[u64]) -> Result<Run<Global>, AllocError>
     ensures { IfOk result (λ run. run.target ≡ 1) }
 {
@@ -217,7 +217,7 @@ fn two_nodes(alloc: Global) -> Result<Geometry<Global>, Fail>
     Ok(Geometry::new(vec![in alloc; 4u32, 4]?, distances)?)
 }
 
-/// Whether requests for the second node, of a process at these page numbers, have these classes.
+/// Whether requests for the second node, for these page numbers of a process, have these classes.
 fn are_classes(
     rt: &(impl Threads + Sync),
     geometry: &Geometry<Global>,

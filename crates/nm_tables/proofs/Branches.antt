@@ -35,14 +35,14 @@ module _ {P : Type 0} where
       let here : get nat_cmp parts q ≡ Some x = ap (λ ps. get nat_cmp ps q) one ∙ get-here (n, x) [] q (sym e) in
       some_none (sym here ∙ none)
 
-  -- a part of a lower number stands before it, and one of a higher number behind it
+  -- a part with a lower number comes before it, and one with a higher number after it
   pub set_behind : (n q : ℕ) (x y : P) → n < q → (n, x) ∷ (q, y) ∷ [] ≡ set nat_cmp ((n, x) ∷ []) q y
   set_behind n q x y l = set-between ((n, x) ∷ []) 1 q y (omega arith, (l, tt), tt)
 
   pub set_before : (n q : ℕ) (x y : P) → q < n → (q, y) ∷ (n, x) ∷ [] ≡ set nat_cmp ((n, x) ∷ []) q y
   set_before n q x y l = set-between ((n, x) ∷ []) 0 q y (omega arith, tt, (l, tt))
 
--- a part by itself is not nothing
+-- a single part is not empty
 pub one_some : {X : Type 0} (parts : List X) (x : X) → parts ≡ x ∷ [] → parts ≡ [] → ⊥
 one_some parts x one none = cc
 

@@ -149,7 +149,7 @@ module _ {V : Type 0} (number : ℕ → ℕ) (upwards : (a b : ℕ) → a ≤ b 
         (λ q z. get-without (joined parts) v q sorted ∙ ap (cond (is_eq (nat_cmp v q)) None) (at_part parts (number v) part q are found z) ∙ sym (get-without part v q is.0))
         (λ q apart. get-without (joined parts) v q sorted ∙ at_other v q None (get nat_cmp (joined parts) q) (λ z. apart (sym z)))
 
-    -- where the part is not there, nothing goes
+    -- if the part is not there, nothing is removed
     pub without-nothing : get nat_cmp parts (number v) ≡ None → without nat_cmp (joined parts) v ≡ joined parts
     without-nothing none =
         let sorted = sorted-joined number upwards parts are in
@@ -161,7 +161,7 @@ module _ {V : Type 0} (number : ℕ → ℕ) (upwards : (a b : ℕ) → a ≤ b 
           | Greater ↦ λ r. get-without (joined parts) v q sorted ∙ ap (λ r. cond (is_eq r) None (get nat_cmp (joined parts) q)) r
         ] refl)
 
-    -- a part that has nothing else goes
+    -- a part that has nothing else is removed
     pub joined-gone : (part : Map ℕ V) → get nat_cmp parts (number v) ≡ Some part → without nat_cmp part v ≡ [] → joined (without nat_cmp parts (number v)) ≡ without nat_cmp (joined parts) v
     joined-gone part found only =
         let i = number v in

@@ -65,7 +65,7 @@ module _ {P V : Type 0} (entries : P → Map ℕ V) (number : ℕ → ℕ) (whol
   pub node-more : (i : ℕ) (y : P) → whole y → is_in y i → IsNode whole is_in (set nat_cmp parts i y)
   node-more i y w n = (sorted-set nat_cmp nat_cmp_total parts i y is.0, all-put (λ i x. whole x × is_in x i) parts i y is.1 (w, n))
 
-  -- a part that has nothing else goes
+  -- a part that has nothing else is removed
   pub node-gone : (v : ℕ) (x : P) → get nat_cmp parts (number v) ≡ Some x → without nat_cmp (entries x) v ≡ []
       → joined (shown entries (without nat_cmp parts (number v))) ≡ without nat_cmp (joined (shown entries parts)) v
   node-gone v x h only =

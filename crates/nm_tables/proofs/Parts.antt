@@ -43,7 +43,7 @@ module _ {P : Type 0} where
   later_key a (e ∷ m) zero d h l = ranked a e.0 Less (sym h.0)
   later_key a (e ∷ m) (suc i) d h l = later_key a m i d h.1 (omega (arith, l))
 
-  -- what stands at a place is found by its key
+  -- the part at a place is found by its key
   pub get-at : (m : Map ℕ P) (i : ℕ) (d : ℕ × P) → IsStrictlySortedBy nat_cmp (keys_of m) → i < length m → get nat_cmp m (get_or m i d).0 ≡ Some (get_or m i d).1
   unfolding IsStrictlySortedBy
   get-at [] i d s l = absurd (omega (arith, l))
@@ -60,7 +60,7 @@ module _ {P : Type 0} where
         | Greater ↦ λ r. refl
       ] refl
 
-  -- to write at a place is to replace what its key has
+  -- writing at a place replaces the value of its key
   pub replace-at : (m : Map ℕ P) (i : ℕ) (d : ℕ × P) (y : P) → IsStrictlySortedBy nat_cmp (keys_of m) → i < length m
       → put m i ((get_or m i d).0, y) ≡ replace nat_cmp m (get_or m i d).0 y
   unfolding IsStrictlySortedBy
@@ -78,7 +78,7 @@ module _ {P : Type 0} where
         | Greater ↦ λ r. refl
       ] refl
 
-  -- to remove what stands at a place is to take its key away
+  -- removing the part at a place removes its key
   remove-at : (m : Map ℕ P) (i : ℕ) (d : ℕ × P) → IsStrictlySortedBy nat_cmp (keys_of m) → i < length m → remove m i ≡ without nat_cmp m (get_or m i d).0
   unfolding IsStrictlySortedBy
   remove-at [] i d s l = absurd (omega (arith, l))
@@ -102,18 +102,18 @@ module _ {P : Type 0} where
       let low = later_key e.0 m i d s.0 rest in
       (omega (arith, low, h), below_it m i d n s.1 rest h)
 
-  -- what stands before a place with a lower key, and at it, has lower keys
+  -- the parts before a place with a lower key, and the one at it, have lower keys
   pub below_at : (m : Map ℕ P) (i : ℕ) (d : ℕ × P) (n : ℕ) → IsStrictlySortedBy nat_cmp (keys_of m) → i < length m → (get_or m i d).0 < n → AllByRecursion (λ k. k < n) (keys_of (take (i + 1) m))
   below_at m i d n s l h = subst (λ j. AllByRecursion (λ k. k < n) (keys_of (take j m))) (sym (add-one i)) (below_it m i d n s l h)
 
-  -- what stands from a place with a higher key on has higher keys
+  -- the parts from a place with a higher key on have higher keys
   pub above_at : (m : Map ℕ P) (i : ℕ) (d : ℕ × P) (n : ℕ) → IsStrictlySortedBy nat_cmp (keys_of m) → i < length m → n < (get_or m i d).0 → AllByRecursion (λ k. n < k) (keys_of (drop i m))
   unfolding IsStrictlySortedBy
   above_at [] i d n s l h = absurd (omega (arith, l))
   above_at (e ∷ m) zero d n s l h = (h, all_above n e.0 (keys_of m) h s.0)
   above_at (e ∷ m) (suc i) d n s l h = above_at m i d n s.1 (omega (arith, l)) h
 
-  -- a number that would stand at a place is not there
+  -- a number that belongs at a place is not there
   pub get-between : (m : Map ℕ P) (i : ℕ) (n : ℕ) → FitsAt m n i → get nat_cmp m n ≡ None
   get-between m zero n fits = get-absent (λ k. n < k) m n fits.2 (itself n)
   get-between [] (suc i) n fits = refl
@@ -121,7 +121,7 @@ module _ {P : Type 0} where
       let le = fits.0 in
       get-later e m n (λ z. let l : e.0 < n = fits.1.0 in absurd (omega (arith, l, z))) ∙ get-between m i n (omega (arith, le), fits.1.1, fits.2)
 
-  -- to put it there is to set it
+  -- putting it there sets it
   pub set-between : (m : Map ℕ P) (i : ℕ) (n : ℕ) (y : P) → FitsAt m n i → insert m i (n, y) ≡ set nat_cmp m n y
   set-between [] zero n y fits = refl
   set-between (e ∷ m) zero n y fits =
@@ -135,21 +135,21 @@ module _ {P : Type 0} where
       ∙ ap (λ r. match_ordering r ((n, y) ∷ e ∷ m) ((e.0, y) ∷ m) (e ∷ set nat_cmp m n y)) (sym greater)
 
 module _ {P : Type 0} where
-  -- what stands before a place has keys below its key
+  -- the parts before a place have keys below its key
   pub before_at : (m : Map ℕ P) (i : ℕ) (d : ℕ × P) → IsStrictlySortedBy nat_cmp (keys_of m) → i < length m → AllByRecursion (λ k. k < (get_or m i d).0) (keys_of (take i m))
   unfolding IsStrictlySortedBy
   before_at [] i d s l = absurd (omega (arith, l))
   before_at (e ∷ m) zero d s l = tt
   before_at (e ∷ m) (suc i) d s l = let rest : i < length m = omega (arith, l) in (later_key e.0 m i d s.0 rest, before_at m i d s.1 rest)
 
-  -- what stands from a place on has its key or higher ones
+  -- the parts from a place on have its key or higher ones
   pub from_at : (m : Map ℕ P) (i : ℕ) (d : ℕ × P) → IsStrictlySortedBy nat_cmp (keys_of m) → i < length m → AllByRecursion (λ k. (get_or m i d).0 ≤ k) (keys_of (drop i m))
   unfolding IsStrictlySortedBy
   from_at [] i d s l = absurd (omega (arith, l))
   from_at (e ∷ m) zero d s l = (omega arith, no_lower e.0 (keys_of m) s.0)
   from_at (e ∷ m) (suc i) d s l = from_at m i d s.1 (omega (arith, l))
 
-  -- where a part stands, or would stand, what has its number or a higher one begins
+  -- where a part is, or belongs, those with its number or a higher one begin
   pub begins_there : (m : Map ℕ P) (n i : ℕ) → IsStrictlySortedBy nat_cmp (keys_of m) → StandsAt m n i → BeginsAt m n i
   begins_there [] n i s stands = let l = stands.0 in absurd (omega (arith, l))
   begins_there (e ∷ m) n i s stands =
@@ -165,7 +165,7 @@ module _ {P : Type 0} where
       ap (λ b. cond b (e ∷ entries_between nat_cmp (Included n) Unbounded m) (entries_between nat_cmp (Included n) Unbounded m)) (passes n e.0 h.0)
       ∙ ap (λ l. e ∷ l) (all_pass n m h.1)
 
-  -- what stands from a place on is what has this number or a higher one
+  -- the parts from a place on are those with this number or a higher one
   pub between_is : (m : Map ℕ P) (i : ℕ) (n : ℕ) → BeginsAt m n i → entries_between nat_cmp (Included n) Unbounded m ≡ drop i m
   between_is m zero n begins = all_pass n m begins.2
   between_is [] (suc i) n begins = refl
@@ -198,10 +198,10 @@ module _ {P : Type 0} (m seen : Map ℕ P) (number n i : ℕ) (shows : seen ≡ 
   fits_here : FitsAt seen n i → FitsAt m number i
   fits_here fits = subst (λ q. FitsAt m q i) named (subst (λ s. FitsAt s n i) shows fits)
 
-  -- a part that would be there is not there yet
+  -- a part that belongs there is not there yet
   pub absent_at : FitsAt seen n i → get nat_cmp m number ≡ None
   absent_at fits = get-between m i number (fits_here fits)
 
-  -- a part that is put there is the part of the number
+  -- a part that is put there is the part with the number
   pub inserted_at : FitsAt seen n i → (y : P) → insert m i (n, y) ≡ set nat_cmp m number y
   inserted_at fits y = ap (λ q. insert m i (q, y)) named ∙ set-between m i number y (fits_here fits)

@@ -1,4 +1,4 @@
--- The blocks of a page table after one of them goes with its leaf, whose number the last leaf takes.
+-- The blocks of a page table after one of them is removed with its leaf, whose number the last leaf gets.
 use Rattle.std.proofs.Common.{◌≡◌, ℕ, zero, suc, ◌+◌, ◌-◌, ◌/◌, ◌≤◌, ◌<◌, List, Option, [], ◌∷◌, length, get_or, take, refl, sym, ap, subst, ◌∙◌, arith}
 use Rattle.std.specs.Prelude.{Some, None, IsSome, slice_get, set as put, swap_remove}
 use Rattle.std.specs.Option.{option_map}
@@ -22,7 +22,7 @@ use Rattle.nm_tables.proofs.Joined.{one_or_other, alike}
 use Rattle.nm_tables.proofs.Slots.{within, blocks-found, get-written, get-written_other}
 use Rattle.nm_tables.proofs.Kept.{replaced_here, replaced_other, taken_here, taken_other}
 
--- the first of a list, and what stands there
+-- the first of a list, and the item there
 get-taken : (leaves : List Places) (m j : ℕ) → j < m → slice_get (take m leaves) j ≡ slice_get leaves j
 get-taken [] zero j l = refl
 get-taken [] (suc m) j l = refl
@@ -150,7 +150,7 @@ module _ (leaves : List Places) (index : Map ℕ Slot) (is : AreBlocks leaves in
   named_other : (i : ℕ) (leaf : Places) → slice_get leaves i ≡ Some leaf → (i ≡ n → ⊥) → leaf.block ≡ v / 512 → ⊥
   named_other i leaf at apart z = apart (leaf_is i n (some_is (sym (named i leaf at) ∙ ap (get nat_cmp index) z ∙ there)))
 
-  -- the last leaf itself goes
+  -- the last leaf itself is removed
   module _ (last : n + 1 ≡ length leaves) where
     last_match : (k : ℕ) → Matches leaves (swap_remove leaves n x) k (get nat_cmp (without nat_cmp index (v / 512)) k) (get nat_cmp (without nat_cmp index (v / 512)) k)
     last_match k = at_other_block k (λ j apart of. let low = within leaves j k of in let differs = other k j apart of in not_last j low differs)

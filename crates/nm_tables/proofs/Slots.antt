@@ -45,7 +45,7 @@ within [] i block is = absurd is
 within (leaf ∷ leaves) zero block is = omega arith
 within (leaf ∷ leaves) (suc i) block is = let rest = within leaves i block is in omega (arith, rest)
 
--- what stands at its place is the leaf
+-- the leaf is at its place
 pub leaf_found : (leaves : List Places) (i block : ℕ) (d : Places) → IsLeafOf (slice_get leaves i) block → slice_get leaves i ≡ Some (get_or leaves i d)
 leaf_found [] i block d is = absurd is
 leaf_found (leaf ∷ leaves) zero block d is = refl
@@ -64,7 +64,7 @@ get-written_other (leaf ∷ leaves) zero (suc j) q apart = refl
 get-written_other (leaf ∷ leaves) (suc i) zero q apart = refl
 get-written_other (leaf ∷ leaves) (suc i) (suc j) q apart = get-written_other leaves i j q (λ e. apart (ap suc e))
 
--- a leaf comes behind the others
+-- a leaf is added after the others
 pub get-behind : (leaves : List Places) (q : Places) → slice_get (leaves ++ q ∷ []) (length leaves) ≡ Some q
 get-behind [] q = refl
 get-behind (leaf ∷ leaves) q = get-behind leaves q
@@ -165,7 +165,7 @@ module _ (leaves : List Places) (index : Map ℕ Slot) (is : AreBlocks leaves in
   pub blocks-new : (v : ℕ) (e : Entry) → get nat_cmp index (v / 512) ≡ None → entries_by leaves (set nat_cmp index (v / 512) (Lone v e)) ≡ set nat_cmp (entries_by leaves index) v e
   blocks-new v e h = node.node-new (slot_entries leaves) block_number IsSlot (IsSlotOf leaves) (slot_part leaves) blocks_upwards index is v (Lone v e) e h refl
 
-  -- the block of v goes, which has no other entry
+  -- the block of v, which has no other entry, is removed
   pub blocks-gone : (v : ℕ) (slot : Slot) → get nat_cmp index (v / 512) ≡ Some slot → without nat_cmp (slot_entries leaves slot) v ≡ []
       → entries_by leaves (without nat_cmp index (v / 512)) ≡ without nat_cmp (entries_by leaves index) v
   blocks-gone v slot h only = node.node-gone (slot_entries leaves) block_number IsSlot (IsSlotOf leaves) (slot_part leaves) blocks_upwards index is v slot h only
@@ -237,7 +237,7 @@ module _ (leaves : List Places) (index : Map ℕ Slot) (is : AreBlocks leaves in
         ∙ joined-without block_number blocks_upwards (shown (slot_entries leaves) index) (are_parts (slot_entries leaves) block_number IsSlot (IsSlotOf leaves) (slot_part leaves) index is) v (leaf_entries p)
         (at_shown (v / 512) (Leaf i) h ∙ ap (λ o. Some (entries_there o)) at)
 
-  -- a leaf comes behind the others
+  -- a leaf is added after the others
   module _ (q : Places) where
     behind_there : (j k : ℕ) → IsLeafOf (slice_get leaves j) k → slice_get (leaves ++ q ∷ []) j ≡ slice_get leaves j
     behind_there j k of = get-before leaves q j (within leaves j k of)

@@ -116,7 +116,7 @@ module _ {V : Type 0} where
     from_at a b q high first second (no l) (yes k) = get_in a z m q (omega (arith, l)) high ∙ first (omega (arith, l)) k ∙ sym (get_below b z m q k)
     from_at a b q high first second (no l) (no k) = get_in a z m q (omega (arith, l)) high ∙ sym (get_in b z m q (omega (arith, k)) high)
 
-    -- from another key on, where nothing stands between the two
+    -- from another key on, if nothing is between the two
     pub within_from : (a b : ℕ) → ((q : ℕ) → a ≤ q → q < b → get nat_cmp m q ≡ None) → ((q : ℕ) → b ≤ q → q < a → get nat_cmp m q ≡ None) → within a z m ≡ within b z m
     within_from a b first second = within_alike a b z m m sorted sorted (λ q high. from_at a b q high (first q) (second q) (dec_lt q a) (dec_lt q b))
 
@@ -125,12 +125,12 @@ module _ {V : Type 0} where
     none_at a q none (no l) (yes h) = get_beyond a z m q h
     none_at a q none (no l) (no h) = get_in a z m q (omega (arith, l)) (omega (arith, h)) ∙ none q (omega (arith, l)) (omega (arith, h))
 
-    -- nothing, where nothing stands there
+    -- nothing, if nothing is there
     pub within_none : (a : ℕ) → ((k : ℕ) → a ≤ k → k ≤ z → get nat_cmp m k ≡ None) → within a z m ≡ []
     unfolding IsStrictlySortedBy
     within_none a none = alike (within a z m) [] (in_order a z m sorted) tt (λ q. none_at a q none (dec_lt q a) (dec_lt z q))
 
-    -- all, where nothing stands before or after
+    -- all, if nothing is before or after
     all_at : (a q : ℕ) → ((k : ℕ) → k < a → get nat_cmp m k ≡ None) → ((k : ℕ) → z < k → get nat_cmp m k ≡ None) → Dec (q < a) → Dec (z < q) → get nat_cmp (within a z m) q ≡ get nat_cmp m q
     all_at a q first second (yes l) d = get_below a z m q l ∙ sym (first q l)
     all_at a q first second (no l) (yes h) = get_beyond a z m q h ∙ sym (second q h)
@@ -152,7 +152,7 @@ module _ {V : Type 0} where
           let up = above q b n apart in
           get_in a z m q (omega (arith, up, low)) (omega (arith, far)) ∙ sym (get_in (b + 1) z m q up (omega (arith, far)))
 
-      -- the first that stands from there on, and what comes behind it
+      -- the first from there on, and what comes after it
       pub within_next : within a z m ≡ (b, x) ∷ within (b + 1) z m
       within_next =
           alike (within a z m) ((b, x) ∷ within (b + 1) z m) (in_order a z m sorted) later_sorted (λ q.

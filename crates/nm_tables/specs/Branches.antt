@@ -1,4 +1,4 @@
--- The parts that stand under the number of an inner node.
+-- The parts of an inner node of an index.
 use Rattle.std.specs.Prelude.{ℕ, [], ◌∷◌}
 use Rattle.nm_types.specs.Map.{Map}
 use Rattle.nm_tables.specs.declared.branch.Branch.{Branch}
@@ -10,7 +10,7 @@ module _ {P A : Type 0} where
   parts_of (One number part) = (number, part) ∷ []
   parts_of (Many node) = node.parts.items
 
-  -- one part by itself
+  -- the branch has a single part
   abbrev pub IsOne : Branch P A → Type 0
   IsOne (One number part) = Unit {0}
   IsOne (Many node) = ⊥

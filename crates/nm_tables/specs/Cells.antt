@@ -1,4 +1,4 @@
--- A block by itself: one number, and its slot.
+-- A block on its own: one number with its slot.
 use Rattle.std.proofs.Common.{◌≡◌, ℕ, [], ◌∷◌}
 use Rattle.std.specs.List.Sorted.{IsStrictlySortedBy}
 use Rattle.std.specs.Map.{keys_of}
@@ -12,11 +12,11 @@ module _ {V : Type 0} where
   unfolding IsStrictlySortedBy
   cell_ordered block slot = (tt, tt)
 
-  -- and is not nothing
+  -- a cell is not empty
   pub cell_filled : (block : ℕ) (slot : V) → ◌≡◌ {A = Map ℕ V} ((block, slot) ∷ []) [] → ⊥
   cell_filled block slot e = cc
 
-  -- and has its own number
+  -- a cell has its own number
   pub cell_part : (block : ℕ) (slot : V) (i : ℕ) → block ≡ i → IsPart (λ v. v) i ((block, slot) ∷ [])
   unfolding IsStrictlySortedBy
   cell_part block slot i e = ((tt, tt), (e, tt))

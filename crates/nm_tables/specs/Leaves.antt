@@ -1,4 +1,4 @@
--- A leaf: what stands at each of its 512 places.
+-- A leaf: the entries at its 512 places.
 use Rattle.std.proofs.Common.{◌≡◌, ℕ, zero, suc, ◌+◌, ◌*◌, ◌/◌, ◌%◌, ◌≤◌, ◌<◌, Bool, true, false, Option, sym, subst, arith}
 use Rattle.std.specs.Prelude.{Some, None, slice_index_or}
 use Rattle.std.specs.List.{AllByRecursion}
@@ -14,14 +14,14 @@ use Rattle.nm_tables.specs.declared.places.Places.{Places}
 use Rattle.nm_types.specs.declared.entry.Entry.{Entry}
 use Rattle.nm_types.specs.declared.entry.Entry.TheVariants.{Zero, Frame, Held}
 
--- what stands at a place that names a frame or none, with a mark or without
+-- the entry at a place that names a frame or not, with a mark or without
 abbrev pub entry_of : Bool → Bool → ℕ → Option Entry
 entry_of false false frame = None
 entry_of false true frame = Some Zero
 entry_of true false frame = Some (Frame frame)
 entry_of true true frame = Some (Held frame)
 
--- what stands at a place
+-- the entry at a place
 abbrev pub stands_at : Places → ℕ → Option Entry
 stands_at places i = entry_of (is_marked places.named.words i) (is_marked places.marked.words i) (slice_index_or places.frames i 0)
 
@@ -41,7 +41,7 @@ module _ {V : Type 0} where
           | Some x ↦ (h s (omega arith) (omega arith), later)
         ]
 
-    -- what is listed is in ascending order
+    -- listed entries are in ascending order
     pub sorted-listed : (s n : ℕ) → IsStrictlySortedBy nat_cmp (keys_of (listed f s n))
     unfolding IsStrictlySortedBy
     sorted-listed s zero = tt
@@ -51,12 +51,12 @@ module _ {V : Type 0} where
           | Some x ↦ (keys_from (λ k. nat_cmp s k ≡ Less) (suc s) n (λ k l u. sym (nat_cmp_is s k Less l)), sorted-listed (suc s) n)
         ]
 
-    -- what is listed of a block has its number
+    -- the entries listed of a block have its number
     pub block_part : (block : ℕ) → IsPart (λ v. v / 512) block (listed f (block * 512) 512)
     block_part block =
         (sorted-listed (block * 512) 512, keys_from (λ k. k / 512 ≡ block) (block * 512) 512 (λ k l u. omega (arith, l, u)))
 
--- a greater page number is in no smaller block
+-- a greater page number is in the same block or a later one
 pub blocks_upwards : (a b : ℕ) → a ≤ b → a / 512 ≤ b / 512
 blocks_upwards a b l = omega (arith, l)
 

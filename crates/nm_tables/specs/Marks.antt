@@ -1,4 +1,4 @@
--- Marks at places: a bit for each, 64 in a word.
+-- Marks at places: one bit each, 64 to a word.
 use Rattle.std.specs.Prelude.{ℕ, ◌/◌, ◌%◌, Bool, List, ◌==◌, slice_index_or}
 use Rattle.std.specs.Int.{bit_at}
 

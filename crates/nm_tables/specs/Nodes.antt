@@ -10,11 +10,11 @@ use Rattle.nm_tables.specs.Tree.{joined, IsPart, AreParts}
 use Rattle.nm_tables.specs.Orders.{sorted-joined, all-append}
 
 module _ {P : Type 0} where
-  -- parts in order, each whole and of its own number
+  -- the parts are in order, each valid and with its own number
   abbrev pub IsNode : (P → Type 0) → (P → ℕ → Type 0) → Map ℕ P → Type 0
   IsNode whole is_in parts = IsStrictlySortedBy nat_cmp (keys_of parts) × AllByRecursion (λ e. whole e.1 × is_in e.1 e.0) parts
 
-  -- the same of parts that there are
+  -- the same, and there is at least one part
   abbrev pub IsFilledNode : (P → Type 0) → (P → ℕ → Type 0) → Map ℕ P → Type 0
   IsFilledNode whole is_in parts = IsNode whole is_in parts × (parts ≡ [] → ⊥)
 
@@ -30,7 +30,7 @@ module _ {P V : Type 0} (entries : P → Map ℕ V) (number : ℕ → ℕ) (whol
   shown_parts [] h = tt
   shown_parts (e ∷ parts) h = (part e.1 e.0 h.0.0 h.0.1, shown_parts parts h.1)
 
-  -- what is shown of a node are parts
+  -- the entries shown of a node are parts
   pub are_parts : (parts : Map ℕ P) → IsNode whole is_in parts → AreParts number (shown entries parts)
   are_parts parts is = (subst (IsStrictlySortedBy nat_cmp) (sym (keys-values (λ i x. entries x) parts)) is.0, shown_parts parts is.1)
 
@@ -43,7 +43,7 @@ module _ {P V : Type 0} (entries : P → Map ℕ V) (number : ℕ → ℕ) (whol
   above i k [] h e = tt
   above i k (q ∷ ks) h e = (ap (λ n. n / 512) h.0 ∙ e, above i k ks h.1 e)
 
-  -- the numbers of the parts say that of the node
+  -- the numbers of a node's parts determine the node's own
   node_keys : (parts : Map ℕ P) (i : ℕ) → AllByRecursion (λ e. whole e.1 × is_in e.1 e.0) parts
       → AllByRecursion (λ k. k / 512 ≡ i) (keys_of parts)
       → AllByRecursion (λ k. number k / 512 ≡ i) (keys_of (joined (shown entries parts)))
@@ -64,12 +64,12 @@ module _ {P V : Type 0} (entries : P → Map ℕ V) (whole : P → Type 0) (is_i
   front_filled [] b e some = some refl
   front_filled (x ∷ a) b e some = cc
 
-  -- where no part is without entries, the node is not
+  -- a node whose parts all have entries has entries
   pub node_filled : (parts : Map ℕ P) → IsFilledNode whole is_in parts → joined (shown entries parts) ≡ [] → ⊥
   node_filled [] is e = is.1 refl
   node_filled (x ∷ parts) is e = front_filled (entries x.1) (joined (shown entries parts)) e (filled x.1 is.0.1.0.0)
 
 module _ (number : ℕ → ℕ) where
-  -- numbers that never go down, and theirs
+  -- if numbers never decrease, neither do their quotients by 512
   pub upwards_again : ((a b : ℕ) → a ≤ b → number a ≤ number b) → (a b : ℕ) → a ≤ b → number a / 512 ≤ number b / 512
   upwards_again up a b l = let h = up a b l in omega (arith, h)

@@ -1,4 +1,4 @@
--- Parts that are joined stand in order.
+-- Parts in order are joined in order.
 use Rattle.std.proofs.Common.{◌≡◌, ℕ, ◌≤◌, ◌<◌, List, [], ◌∷◌, ◌++◌, sym, subst, arith}
 use Rattle.std.specs.List.{AllByRecursion}
 use Rattle.std.specs.List.Sorted.{IsStrictlySortedBy}
@@ -10,7 +10,7 @@ use Rattle.std.proofs.Math.Decide.{dec_lt}
 use Rattle.nm_types.specs.Map.{Map}
 use Rattle.nm_tables.specs.Tree.{joined, IsPart, AreParts}
 
--- what holds of the keys of two maps holds of those of both
+-- what holds of the keys of two maps holds of the keys of both together
 pub all-append : {V : Type 0} (P : ℕ → Type 0) (a b : Map ℕ V)
     → AllByRecursion P (keys_of a) → AllByRecursion P (keys_of b) → AllByRecursion P (keys_of (a ++ b))
 all-append P [] b h k = k
@@ -52,7 +52,7 @@ module _ {V : Type 0} (number : ℕ → ℕ) (upwards : (a b : ℕ) → a ≤ b 
         sorted-append i a b (is.0.1, is.1.1) s above,
       )
 
-  -- parts in order are joined in order
+  -- the entries of parts in order are in order
   pub sorted-joined : (parts : Map ℕ (Map ℕ V)) → AreParts number parts → IsStrictlySortedBy nat_cmp (keys_of (joined parts))
   unfolding IsStrictlySortedBy
   sorted-joined [] are = tt

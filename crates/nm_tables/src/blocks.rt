@@ -1,4 +1,4 @@
-//! The blocks of a page table, and where the entries of each stand.
+//! The blocks of a page table, and where each block's entries are stored.
 
 ghost use Rattle.std.specs.Prelude.{◌≡◌, ◌≤◌, ◌<◌, ◌/◌, ◌^◌, ℕ, [], ◌++◌, None, Some, IsSome, IfSome, IfNone, OnOk, OnErr};
 ghost use Rattle.std.specs.List.Sorted.{IsStrictlySortedBy};
@@ -19,20 +19,20 @@ use crate::slot::Slot;
 use nm_types::Vpn;
 use std::alloc::{AllocError, Allocator};
 
-/// The entries of a page table, by blocks of 512 page numbers. A block has a leaf from its second entry on, until its last
-/// one goes and the block with it. Room for the leaf is set aside with the first, and costs no memory until it is written
-/// to.
+/// The entries of a page table, in blocks of 512 page numbers. A block gets a leaf with its second entry and keeps it
+/// until its last entry goes, and the block with it. Room for the leaf is reserved with the first entry; it takes no
+/// physical memory until it is written to.
 #[derive(Drop)]
 pub(crate) struct Blocks<A: Allocator + Copy> {
-    /// What each block has that has an entry.
+    /// The slot of each block that has an entry.
     index: Index<A>,
-    /// One for each block with a leaf, in any order.
+    /// One for each block that has a leaf, in any order.
     leaves: Vec<Places, A>,
-    /// How many blocks have no leaf. There is room for as many more.
+    /// How many blocks have no leaf. There is room for as many more leaves.
     without: usize,
 }
 
-/// The number of the block that has a page number: all but its last nine bits.
+/// The number of the block that a page number is in: all but its last nine bits.
 fn block_of(vpn: Vpn) -> u64
     ensures number { result ≡ vpn / 512 }
     ensures fits { result < 2 ^ 55 }
@@ -41,7 +41,7 @@ fn block_of(vpn: Vpn) -> u64
 }
 
 impl<A: Allocator + Copy> Blocks<A> {
-    /// No block has an entry. It takes no memory.
+    /// Makes blocks without entries. Does not allocate.
     pub(crate) fn new(alloc: A) -> Self
         ensures none { block_entries result ≡ [] }
         ensures kept { IsBlocks result }
@@ -64,12 +64,16 @@ impl<A: Allocator + Copy> Blocks<A> {
         }
     }
 
-    /// The first entry at a page number or past it. It stands in one of the first two blocks from that of the number on,
-    /// as each block has an entry, and the first may have entries before the number alone.
+    /// The first entry at or after a page number. It is in one of the first two blocks from that number's on: each
+    /// block has an entry, and only the first may have all of its entries before the number.
     pub(crate) fn first_from(&self, at: Vpn) -> Option<(Vpn, Entry)>
         requires { IsBlocks self.now }
+
+        // If there is one
         ensures some { IfSome result (λ e. (at ≤ e.0) × (get nat_cmp (block_entries self.now) e.0 ≡ Some e.1)) }
         ensures first { IfSome result (λ e. (v : ℕ) → at ≤ v → v < e.0 → get nat_cmp (block_entries self.now) v ≡ None) }
+
+        // If there is none
         ensures none { IfNone result ((v : ℕ) → at ≤ v → get nat_cmp (block_entries self.now) v ≡ None) }
     {
         let mut from = block_of(at);
@@ -82,22 +86,30 @@ impl<A: Allocator + Copy> Blocks<A> {
         None
     }
 
-    /// The first block from a number on that has an entry, with its slot.
+    /// The first block at or after a block number that has an entry, with its slot.
     fn block_from(&self, from: u64) -> Option<(u64, Slot)>
         requires { IsBlocks self.now }
+
+        // If there is one
         ensures some { IfSome result (λ e. (from ≤ e.0) × (get nat_cmp self.now.index e.0 ≡ Some e.1)) }
         ensures slot { IfSome result (λ e. IsSlotOf self.now.leaves.items e.1 e.0) }
         ensures first { IfSome result (λ e. (k : ℕ) → from ≤ k → k < e.0 → get nat_cmp self.now.index k ≡ None) }
+
+        // If there is none
         ensures none { IfNone result ((k : ℕ) → from ≤ k → get nat_cmp self.now.index k ≡ None) }
     {
         self.index.first_from(from)
     }
 
-    /// The first entry of a block with this slot at a page number or past it.
+    /// The first entry of a block with this slot at or after a page number.
     fn first_of(&self, slot: Slot, at: Vpn) -> Option<(Vpn, Entry)>
         requires { (block : ℕ) × IsSlotOf self.now.leaves.items slot block }
+
+        // If there is one
         ensures some { IfSome result (λ e. (at ≤ e.0) × (get nat_cmp (slot_entries self.now.leaves.items slot) e.0 ≡ Some e.1)) }
         ensures first { IfSome result (λ e. (v : ℕ) → at ≤ v → v < e.0 → get nat_cmp (slot_entries self.now.leaves.items slot) v ≡ None) }
+
+        // If there is none
         ensures none { IfNone result ((v : ℕ) → at ≤ v → get nat_cmp (slot_entries self.now.leaves.items slot) v ≡ None) }
     {
         match slot {
@@ -106,13 +118,19 @@ impl<A: Allocator + Copy> Blocks<A> {
         }
     }
 
-    /// Puts an entry at a page number. An error means that the host is out of memory, that the block has no entry, and that
-    /// nothing has changed but the room for leaves.
+    /// Sets the entry at a page number. An error means that the host is out of memory, that the block has no entry, and
+    /// that nothing has changed except the room for leaves.
     pub(crate) fn set(&mut self, vpn: Vpn, entry: Entry) -> Result<(), AllocError>
         requires { IsBlocks self.old }
+
+        // On success
         ensures ok { OnOk result (block_entries self.new ≡ set nat_cmp (block_entries self.old) vpn entry) }
+
+        // Without memory
         ensures err { OnErr result (block_entries self.new ≡ block_entries self.old) }
         ensures empty { OnErr result (get nat_cmp self.old.index (vpn / 512) ≡ None) }
+
+        // In any case
         ensures kept { IsBlocks self.new }
     {
         match self.index.get(block_of(vpn)) {
@@ -124,12 +142,18 @@ impl<A: Allocator + Copy> Blocks<A> {
         }
     }
 
-    /// Puts the first entry into a block, and sets room aside for its leaf.
+    /// Sets the first entry of a block, and reserves room for its leaf.
     fn begin(&mut self, vpn: Vpn, entry: Entry) -> Result<(), AllocError>
         requires kept { IsBlocks self.old }
         requires empty { get nat_cmp self.old.index (vpn / 512) ≡ None }
+
+        // On success
         ensures ok { OnOk result (block_entries self.new ≡ set nat_cmp (block_entries self.old) vpn entry) }
+
+        // Without memory
         ensures err { OnErr result (block_entries self.new ≡ block_entries self.old) }
+
+        // In any case
         ensures kept { IsBlocks self.new }
     {
         self.leaves.reserve(self.without + 1)?;
@@ -138,7 +162,7 @@ impl<A: Allocator + Copy> Blocks<A> {
         Ok(())
     }
 
-    /// Puts an entry into a block that has this slot. It takes no memory.
+    /// Sets an entry of a block that has this slot. Does not allocate.
     fn put(&mut self, slot: Slot, vpn: Vpn, entry: Entry)
         requires kept { IsBlocks self.old }
         requires there { get nat_cmp self.old.index (vpn / 512) ≡ Some slot }
@@ -157,7 +181,7 @@ impl<A: Allocator + Copy> Blocks<A> {
         }
     }
 
-    /// Puts a second entry into a block, which gets its leaf. It takes no memory.
+    /// Sets the second entry of a block, which gets its leaf. Does not allocate.
     fn add_leaf(&mut self, own: Vpn, first: Entry, vpn: Vpn, entry: Entry)
         requires kept { IsBlocks self.old }
         requires there { get nat_cmp self.old.index (vpn / 512) ≡ Some (Lone own first) }
@@ -174,7 +198,7 @@ impl<A: Allocator + Copy> Blocks<A> {
         self.without -= 1;
     }
 
-    /// Puts another entry at a page number that has one. It takes no memory.
+    /// Replaces the entry at a page number that has one. Does not allocate.
     pub(crate) fn replace(&mut self, vpn: Vpn, entry: Entry)
         requires kept { IsBlocks self.old }
         requires there { IsSome (get nat_cmp (block_entries self.old) vpn) }
@@ -187,7 +211,7 @@ impl<A: Allocator + Copy> Blocks<A> {
         self.put(slot, vpn, entry);
     }
 
-    /// Makes a page number absent. It takes no memory.
+    /// Makes a page number absent. Does not allocate.
     pub(crate) fn clear(&mut self, vpn: Vpn)
         requires { IsBlocks self.old }
         ensures entries { block_entries self.new ≡ without nat_cmp (block_entries self.old) vpn }
@@ -214,8 +238,8 @@ impl<A: Allocator + Copy> Blocks<A> {
         }
     }
 
-    /// Takes away a leaf that has no entry but at this page number, and its block. The last leaf takes its number. It
-    /// takes no memory.
+    /// Removes a leaf that has no entry except at this page number, and its block. The last leaf gets its number. Does
+    /// not allocate.
     fn remove_leaf(&mut self, number: usize, vpn: Vpn)
         requires kept { IsBlocks self.old }
         requires there { get nat_cmp self.old.index (vpn / 512) ≡ Some (Leaf number) }
@@ -254,7 +278,7 @@ impl<A: Allocator + Copy> Blocks<A> {
         Ok(())
     }
 
-    /// The same of the entries of a block with this slot.
+    /// Does the same for the entries of a block with this slot.
     fn list_slot(
         &self,
         slot: Slot,

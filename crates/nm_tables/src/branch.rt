@@ -15,26 +15,32 @@ use crate::subtree::Subtree;
 use std::alloc::{AllocError, Allocator};
 use std::mem;
 
-/// An inner node of an index: parts by their numbers, the last nine bits of which are their places. One part by itself
-/// stands here and takes no memory but its own, since most parts are the only ones of their node, and three nodes lie
-/// above each block.
+/// An inner node of an index: parts by their numbers, the last nine bits of which are their places. A single part is
+/// stored in place and needs no memory but its own, since most parts are the only ones of their node, and three nodes
+/// lie above each block.
 #[derive(Drop)]
 pub(crate) enum Branch<T: Drop, A: Allocator + Copy> {
-    /// One part, behind its number.
+    /// A single part, after its number.
     One(u64, T),
     /// Several parts.
     Many(Node<T, A>),
 }
 
 impl<T: Subtree<A>, A: Allocator + Copy> Branch<T, A> {
-    /// Puts a block into a new part beside the one that is there, which has another number. An error means that the host
-    /// is out of memory, and that nothing has changed.
+    /// Adds a block in a new part beside the only one, which has another number. An error means that the host is out of
+    /// memory, and that nothing has changed.
     fn set_beside(&mut self, alloc: A, block: u64, slot: Slot) -> Result<(), AllocError>
         requires one { IsOne self.old }
         requires kept { IsFilledNode T.whole T.is_in (parts_of self.old) }
         requires apart { get nat_cmp (parts_of self.old) (T.number block) ≡ None }
+
+        // On success
         ensures ok { OnOk result (joined (shown T.slots (parts_of self.new)) ≡ set nat_cmp (joined (shown T.slots (parts_of self.old))) block slot) }
+
+        // Without memory
         ensures err { OnErr result (joined (shown T.slots (parts_of self.new)) ≡ joined (shown T.slots (parts_of self.old))) }
+
+        // In any case
         ensures kept { IsFilledNode T.whole T.is_in (parts_of self.new) }
         ensures inside { (i : ℕ) → AllByRecursion (λ k. k / 512 ≡ i) (keys_of (parts_of self.old)) → T.number block / 512 ≡ i → AllByRecursion (λ k. k / 512 ≡ i) (keys_of (parts_of self.new)) }
     {

@@ -1,11 +1,11 @@
-//! A table beside a plain list in order, through calls that are drawn.
+//! A table beside a plain sorted list, through drawn calls.
 
 use crate::{Entry, PageTable};
 use nm_types::{FrameId, Vpn};
 use std::alloc::{AllocError, Allocator, Global};
 use std::test::Fail;
 
-/// Numbers that look drawn, by a linear congruence.
+/// Pseudo-random numbers, from a linear congruential generator.
 #[derive(Drop)]
 struct Draws {
     state: u64,
@@ -21,7 +21,7 @@ impl Draws {
         self.state >> 33
     }
 
-    /// A page number near where words of marks, leaves, nodes, areas and the tree itself end, or past them.
+    /// A page number near an end of a word of marks, a leaf, a node, the areas or the tree itself, or past it.
     fn vpn(&mut self) -> Vpn {
         let near = match self.next() % 8 {
             0 => 0u64,
@@ -36,7 +36,7 @@ impl Draws {
         Vpn::new(near + self.next() % 24)
     }
 
-    /// An entry of each kind.
+    /// An entry of a drawn kind and frame.
     fn entry(&mut self) -> Entry {
         let frame = FrameId::new((self.next() % 20_000) as u16);
         match self.next() % 3 {
@@ -69,7 +69,7 @@ fn find(plain: &[(Vpn, Entry)], vpn: Vpn) -> Option<Entry> {
     found
 }
 
-/// The first entry of a list in order at a page number or past it.
+/// The first entry of a sorted list at or after a page number.
 fn find_from(plain: &[(Vpn, Entry)], at: Vpn) -> Option<(Vpn, Entry)> {
     let mut first = None;
     for (number, entry) in plain {
@@ -80,7 +80,7 @@ fn find_from(plain: &[(Vpn, Entry)], at: Vpn) -> Option<(Vpn, Entry)> {
     first
 }
 
-/// Takes a page number out of a list in order.
+/// Removes a page number from a sorted list.
 fn take_out<A: Allocator + Copy>(plain: &mut Vec<(Vpn, Entry), A>, vpn: &Vpn) {
     let at = count_below(plain.as_slice(), vpn);
     if at < plain.len() && plain[at].0 == *vpn {
@@ -88,7 +88,7 @@ fn take_out<A: Allocator + Copy>(plain: &mut Vec<(Vpn, Entry), A>, vpn: &Vpn) {
     }
 }
 
-/// Puts an entry into a list in order, in place of one that is there.
+/// Sets an entry of a sorted list, in place of any that is there.
 fn put<A: Allocator + Copy>(
     plain: &mut Vec<(Vpn, Entry), A>,
     vpn: &Vpn,
@@ -102,7 +102,7 @@ fn put<A: Allocator + Copy>(
     Ok(())
 }
 
-/// Puts an entry into a table and into a list.
+/// Sets an entry of a table and of a list.
 fn set_both<A: Allocator + Copy>(
     table: &mut PageTable<A>,
     plain: &mut Vec<(Vpn, Entry), A>,
@@ -113,7 +113,7 @@ fn set_both<A: Allocator + Copy>(
     put(plain, vpn, entry)
 }
 
-/// Puts another entry where there is one.
+/// Replaces the entry at a page number, where there is one.
 fn replace_both<A: Allocator + Copy>(
     table: &mut PageTable<A>,
     plain: &mut Vec<(Vpn, Entry), A>,
@@ -128,7 +128,7 @@ fn replace_both<A: Allocator + Copy>(
     put(plain, vpn, entry)
 }
 
-/// Takes an entry out of a table and out of a list.
+/// Removes an entry from a table and from a list.
 fn clear_both<A: Allocator + Copy>(
     table: &mut PageTable<A>,
     plain: &mut Vec<(Vpn, Entry), A>,
@@ -156,13 +156,12 @@ fn change<A: Allocator + Copy>(
     }
 }
 
-/// Whether a table returns at a page number what a list does.
+/// Whether a table and a list return the same at a page number.
 fn agrees<A: Allocator + Copy>(table: &PageTable<A>, plain: &[(Vpn, Entry)], vpn: Vpn) -> bool {
     table.get(vpn) == find(plain, vpn) && table.first_from(vpn) == find_from(plain, vpn)
 }
 
-/// Makes 4,000 drawn changes to a table and to a list. Returns whether after each of them the table returned what the list
-/// did.
+/// Makes 4,000 drawn changes to a table and to a list. Returns whether after each of them both returned the same.
 fn change_often<A: Allocator + Copy>(
     draws: &mut Draws,
     table: &mut PageTable<A>,
@@ -178,7 +177,7 @@ fn change_often<A: Allocator + Copy>(
     Ok(true)
 }
 
-/// After each of 4,000 drawn changes the table returns what the list does, and in the end its entries are the list's.
+/// After each of 4,000 drawn changes the table returns what the list does, and at the end both have the same entries.
 fn stays_beside(alloc: Global) -> Result<bool, AllocError> {
     let mut draws = Draws { state: 27 };
     let mut table = PageTable::new(alloc);

@@ -13,10 +13,10 @@ use crate::subtree::Subtree;
 use std::alloc::{AllocError, Allocator};
 use std::marker::Model;
 
-/// Three levels of inner nodes, over the blocks.
+/// Three levels of inner nodes over the blocks.
 type Root<A> = Branch<Branch<Branch<Cell, A>, A>, A>;
 
-/// The slots of blocks, by the blocks' numbers. Contracts see the map from number to slot.
+/// The slots of blocks, by block number. Contracts see the map from number to slot.
 #[derive(Drop)]
 pub(crate) struct Index<A: Allocator + Copy> {
     alloc: A,
@@ -39,7 +39,7 @@ impl<A: Allocator + Copy> Model for Index<A> {
 }
 
 impl<A: Allocator + Copy> Index<A> {
-    /// No block. It takes no memory; `set` takes its from `alloc`.
+    /// Makes an index without blocks. Does not allocate; `set` allocates from `alloc`.
     pub(crate) fn new(alloc: A) -> Self
         ensures { result ≡ [] }
     {
@@ -57,11 +57,16 @@ impl<A: Allocator + Copy> Index<A> {
         }
     }
 
-    /// The first block from a number on that has a slot, with it.
+    /// The first block at or after a number that has a slot, and its slot.
     pub(crate) fn first_from(&self, at: u64) -> Option<(u64, Slot)>
+        // If there is one
         ensures some { IfSome result (λ e. (at ≤ e.0) × (get nat_cmp self.now e.0 ≡ Some e.1)) }
         ensures first { IfSome result (λ e. (v : ℕ) → at ≤ v → v < e.0 → get nat_cmp self.now v ≡ None) }
+
+        // If there is none
         ensures none { IfNone result ((v : ℕ) → at ≤ v → get nat_cmp self.now v ≡ None) }
+
+        // In any case
         ensures ordered { IsStrictlySortedBy nat_cmp (keys_of self.now) }
     {
         match &self.root {
@@ -70,7 +75,7 @@ impl<A: Allocator + Copy> Index<A> {
         }
     }
 
-    /// Gives a block a slot. An error means that the host is out of memory, and that the index is as it was.
+    /// Sets the slot of a block. An error means that the host is out of memory, and that nothing has changed.
     pub(crate) fn set(&mut self, block: u64, slot: Slot) -> Result<(), AllocError>
         ensures ok { OnOk result (self.new ≡ set nat_cmp self.old block slot) }
         ensures err { OnErr result (self.new ≡ self.old) }
@@ -85,7 +90,7 @@ impl<A: Allocator + Copy> Index<A> {
         }
     }
 
-    /// Gives a block that has a slot another one. It takes no memory.
+    /// Replaces the slot of a block that has one. Does not allocate.
     pub(crate) fn replace(&mut self, block: u64, slot: Slot)
         requires { IsSome (get nat_cmp self.old block) }
         ensures slot { self.new ≡ replace nat_cmp self.old block slot }
@@ -97,7 +102,7 @@ impl<A: Allocator + Copy> Index<A> {
         }
     }
 
-    /// Takes away a block that has a slot. It takes no memory.
+    /// Removes a block that has a slot. Does not allocate.
     pub(crate) fn remove(&mut self, block: u64)
         requires { IsSome (get nat_cmp self.old block) }
         ensures slot { self.new ≡ without nat_cmp self.old block }

@@ -1,9 +1,8 @@
-//! Worked examples over the definitions alone.
+//! Worked examples of the definitions alone. Each function does nothing, and its contract is the law.
 
 ghost use Rattle.nm_tables.specs.Examples.{EntriesStandUpwards, ClearedEntryIsGone};
 
-/// Of two pages that were set, one after another, each has its last entry, in ascending order; one that is cleared is
-/// gone.
+/// Two pages set one after another have their last entries, in ascending order; a page that is cleared is gone.
 pub fn entries_come_and_go()
     ensures both { EntriesStandUpwards }
     ensures cleared { ClearedEntryIsGone }

@@ -1,4 +1,4 @@
-//! A leaf of a page table, by page numbers.
+//! A leaf of a page table, by page number.
 
 ghost use Rattle.std.specs.Prelude.{◌≡◌, ◌≤◌, ◌<◌, ◌+◌, ◌*◌, ◌/◌, ◌%◌, ◌^◌, ◌++◌, ℕ, [], true, false, None, Some, IfSome, IfNone, OnOk};
 ghost use Rattle.std.specs.Ordering.{nat_cmp};
@@ -20,7 +20,7 @@ fn place_of(vpn: Vpn) -> usize
     (vpn.number() % 512) as usize
 }
 
-/// The first place of a block whose page number is this one or past it. 512 if all are before it.
+/// The first place of a block whose page number is this one or greater. 512 if all are smaller.
 fn place_from(block: u64, at: Vpn) -> usize
     ensures fits { result ≤ 512 }
     ensures reached { (i : ℕ) → i < 512 → at ≤ block * 512 + i → result ≤ i }
@@ -44,7 +44,7 @@ pub(crate) fn entry_in(leaf: &Places, vpn: Vpn) -> Option<Entry>
     leaf.get(place_of(vpn))
 }
 
-/// Puts an entry at a page number of the leaf's block.
+/// Sets the entry at a page number of the leaf's block.
 pub(crate) fn set_in(leaf: &mut Places, vpn: Vpn, entry: Entry)
     requires { leaf.old.block ≡ vpn / 512 }
     ensures entries { leaf_entries leaf.new ≡ set nat_cmp (leaf_entries leaf.old) vpn entry }
@@ -62,7 +62,7 @@ pub(crate) fn clear_in(leaf: &mut Places, vpn: Vpn)
     leaf.clear(place_of(vpn));
 }
 
-/// Whether a leaf has no entry but at this page number of its block.
+/// Whether a leaf has no entry except at this page number of its block.
 pub(crate) fn has_no_other(leaf: &Places, vpn: Vpn) -> bool
     requires { leaf.now.block ≡ vpn / 512 }
     ensures none { result ≡ true → without nat_cmp (leaf_entries leaf.now) vpn ≡ [] }
@@ -71,11 +71,15 @@ pub(crate) fn has_no_other(leaf: &Places, vpn: Vpn) -> bool
     leaf.has_no_other(place_of(vpn))
 }
 
-/// The first entry of a leaf at a page number or past it.
+/// The first entry of a leaf at or after a page number.
 pub(crate) fn first_in(leaf: &Places, at: Vpn) -> Option<(Vpn, Entry)>
     requires { leaf.now.block < 2 ^ 55 }
+
+    // If there is one
     ensures some { IfSome result (λ e. (at ≤ e.0) × (get nat_cmp (leaf_entries leaf.now) e.0 ≡ Some e.1)) }
     ensures first { IfSome result (λ e. (v : ℕ) → at ≤ v → v < e.0 → get nat_cmp (leaf_entries leaf.now) v ≡ None) }
+
+    // If there is none
     ensures none { IfNone result ((v : ℕ) → at ≤ v → get nat_cmp (leaf_entries leaf.now) v ≡ None) }
 {
     let block = leaf.block;

@@ -1,4 +1,4 @@
-//! The page table of a process: what stands at each page number that is not absent.
+//! The page table of a process: the entry at each page number that is not absent.
 #![tactic(auto)]
 
 mod blocks;

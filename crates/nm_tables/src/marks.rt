@@ -4,14 +4,14 @@ ghost use Rattle.std.specs.Prelude.{◌≡◌, ◌<◌, ◌+◌, ◌%◌, ◌==�
 ghost use Rattle.std.specs.Int.{bit_at};
 ghost use Rattle.nm_tables.specs.Marks.{is_marked};
 
-/// Which of the 512 places of a leaf are marked: a bit for each.
+/// Which of a leaf's 512 places are marked: one bit each.
 #[derive(Drop)]
 pub(crate) struct Marks {
     words: [u64; 8],
 }
 
 impl Marks {
-    /// No place is marked.
+    /// Makes marks with no place marked.
     pub(crate) fn new() -> Self
         ensures { (i : ℕ) → is_marked result.words i ≡ false }
     {
@@ -26,7 +26,7 @@ impl Marks {
         (self.words[place / 64] >> (place % 64)) & 1 == 1
     }
 
-    /// The marks from a place to the end of its word, its own in the lowest bit.
+    /// The marks from a place to the end of its word; the place's own is the lowest bit.
     pub(crate) fn rest_of_word(&self, place: usize) -> u64
         requires { place < 512 }
         ensures { (j : ℕ) → place % 64 + j < 64 → is_marked self.now.words (place + j) ≡ (bit_at result j == 1) }
@@ -34,7 +34,7 @@ impl Marks {
         self.words[place / 64] >> (place % 64)
     }
 
-    /// Marks a place, or removes its mark.
+    /// Sets the mark of a place, or clears it.
     pub(crate) fn put(&mut self, place: usize, marked: bool)
         requires { place < 512 }
         ensures { (i : ℕ) → is_marked self.new.words i ≡ (if i == place then marked else is_marked self.old.words i) }

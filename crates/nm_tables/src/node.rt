@@ -10,15 +10,15 @@ use crate::slot::Slot;
 use crate::subtree::Subtree;
 use std::alloc::{AllocError, Allocator};
 
-/// The parts of an inner node that has several: those at its 512 places that are taken, by their numbers, in ascending
-/// order. A part's place is the last nine bits of its number.
+/// The parts of an inner node that has several, by their numbers, in ascending order; the node has 512 places for them.
+/// A part's place is the last nine bits of its number.
 #[derive(Drop)]
 pub(crate) struct Node<T: Drop, A: Allocator + Copy> {
     pub(crate) parts: Vec<(u64, T), A>,
 }
 
 impl<T: Subtree<A>, A: Allocator + Copy> Node<T, A> {
-    /// A node of which no place is taken. It takes no memory.
+    /// Makes a node without parts. Does not allocate.
     pub(crate) fn new(alloc: A) -> Self
         ensures { result.parts.items ≡ [] }
     {
@@ -28,7 +28,7 @@ impl<T: Subtree<A>, A: Allocator + Copy> Node<T, A> {
     }
 }
 
-/// The place of the part with this number, or the place where it would stand.
+/// The index of the part with this number, or the index where it would be inserted.
 fn place_of<T: Drop>(parts: &[(u64, T)], number: u64) -> Result<usize, usize>
     requires ordered { IsStrictlySortedBy nat_cmp (keys_of parts.now) }
     ensures found { IfOk result (StandsAt parts.now number) }
@@ -51,7 +51,7 @@ fn place_of<T: Drop>(parts: &[(u64, T)], number: u64) -> Result<usize, usize>
     Err(low)
 }
 
-/// The place of the first part with this number or a higher one. The number of parts if there is none.
+/// The index of the first part with this number or a higher one. The number of parts if there is none.
 fn place_from<T: Drop>(parts: &[(u64, T)], number: u64) -> usize
     requires ordered { IsStrictlySortedBy nat_cmp (keys_of parts.now) }
     ensures { BeginsAt parts.now number result }

@@ -7,9 +7,9 @@ use crate::Entry;
 use crate::marks::Marks;
 use nm_types::FrameId;
 
-/// The places of an aligned block of 512 page numbers. A place that names a frame has a page there, or with a mark one
-/// on its way to it. A place without a frame is absent, or with a mark the page of zeros. That is 1,160 bytes: 16 bits
-/// for the frame and two marks.
+/// The entries of an aligned block of 512 page numbers. A place that names a frame has a page there, or if marked one
+/// on its way to it. A place without a frame is absent, or if marked the page of zeros. That takes 1,160 bytes: 16 bits
+/// for each frame and two marks.
 #[derive(Drop)]
 pub(crate) struct Places {
     pub(crate) block: u64,
@@ -19,7 +19,7 @@ pub(crate) struct Places {
 }
 
 impl Places {
-    /// The places of a block, all absent.
+    /// Makes the places of a block, all absent.
     pub(crate) fn new(block: u64) -> Self
         ensures block { result.block ≡ block }
         ensures absent { (i : ℕ) → stands_at result i ≡ None }
@@ -32,7 +32,7 @@ impl Places {
         }
     }
 
-    /// What stands at a place.
+    /// The entry at a place.
     pub(crate) fn get(&self, place: usize) -> Option<Entry>
         requires { place < 512 }
         ensures { result ≡ stands_at self.now place }
@@ -52,10 +52,14 @@ impl Places {
         }
     }
 
-    /// Puts an entry at a place.
+    /// Sets the entry at a place.
     pub(crate) fn put(&mut self, place: usize, entry: Entry)
         requires { place < 512 }
+
+        // At this place
         ensures here { stands_at self.new place ≡ Some entry }
+
+        // Elsewhere
         ensures others { (i : ℕ) → (i ≡ place → ⊥) → stands_at self.new i ≡ stands_at self.old i }
         ensures block { self.new.block ≡ self.old.block }
     {
@@ -69,17 +73,25 @@ impl Places {
     /// Makes a place absent.
     pub(crate) fn clear(&mut self, place: usize)
         requires { place < 512 }
+
+        // At this place
         ensures here { stands_at self.new place ≡ None }
+
+        // Elsewhere
         ensures others { (i : ℕ) → (i ≡ place → ⊥) → stands_at self.new i ≡ stands_at self.old i }
         ensures block { self.new.block ≡ self.old.block }
     {
         self.write(place, false, false, 0);
     }
 
-    /// Puts the parts of an entry at a place.
+    /// Sets the parts of the entry at a place.
     fn write(&mut self, place: usize, named: bool, marked: bool, frame: u16)
         requires { place < 512 }
+
+        // At this place
         ensures here { stands_at self.new place ≡ entry_of named marked frame }
+
+        // Elsewhere
         ensures others { (i : ℕ) → (i ≡ place → ⊥) → stands_at self.new i ≡ stands_at self.old i }
         ensures block { self.new.block ≡ self.old.block }
     {
@@ -91,8 +103,12 @@ impl Places {
     /// The first entry at or after a place, with its place.
     pub(crate) fn first_from(&self, from: usize) -> Option<(usize, Entry)>
         requires { from ≤ 512 }
+
+        // If there is one
         ensures some { IfSome result (λ e. (from ≤ e.0) × (e.0 < 512) × (stands_at self.now e.0 ≡ Some e.1)) }
         ensures first { IfSome result (λ e. (i : ℕ) → from ≤ i → i < e.0 → stands_at self.now i ≡ None) }
+
+        // If there is none
         ensures none { IfNone result ((i : ℕ) → from ≤ i → i < 512 → stands_at self.now i ≡ None) }
     {
         let mut place = from;
@@ -110,7 +126,7 @@ impl Places {
         None
     }
 
-    /// Whether no other place than this one has an entry.
+    /// Whether no place except this one has an entry.
     pub(crate) fn has_no_other(&self, place: usize) -> bool
         requires { place < 512 }
         ensures none { result ≡ true → (i : ℕ) → i < 512 → (i ≡ place → ⊥) → stands_at self.now i ≡ None }

@@ -11,29 +11,29 @@ ghost use Rattle.nm_tables.specs.declared.slot.Slot.{Slot};
 use crate::slot::Slot;
 use std::alloc::{AllocError, Allocator};
 
-/// A part of an index: blocks whose numbers begin with the same bits, more of them the higher it stands. Its number is
-/// these bits. It has at least one block. A method that takes no memory returns no error.
+/// A part of an index: blocks whose numbers begin with the same bits, and the more blocks the higher the part is in the
+/// tree. Its number is these bits. It has at least one block. A method that does not allocate returns no error.
 pub(crate) trait Subtree<A: Allocator + Copy>: Drop {
     /// The slots of its blocks, by their numbers.
     ghost slots: { Self → Map ℕ Slot };
 
-    /// The number of the part of this height that has a block.
+    /// The number of the part of this height that a block is in.
     ghost number: { ℕ → ℕ };
 
-    /// What holds of a part at any time.
+    /// What always holds of a part.
     ghost whole: { Self → Type 0 };
 
-    /// It is the part of this number.
+    /// It is the part with this number.
     ghost is_in: { Self → ℕ → Type 0 };
 
-    /// It may be asked for this block.
+    /// It may be asked about this block.
     ghost takes: { Self → ℕ → Type 0 };
 
-    /// The number of the part of this height that has a block.
+    /// The number of the part of this height that a block is in.
     fn number_of(block: u64) -> u64
         ensures { result ≡ number block };
 
-    /// A part with one block.
+    /// Makes a part with one block.
     fn holding(alloc: A, block: u64, slot: Slot) -> Result<Self, AllocError>
         ensures one { IfOk result (λ part. slots part ≡ (block, slot) ∷ []) }
         ensures kept { IfOk result whole }
@@ -45,23 +45,33 @@ pub(crate) trait Subtree<A: Allocator + Copy>: Drop {
         requires inside { takes self.now block }
         ensures { result ≡ get nat_cmp (slots self.now) block };
 
-    /// The first block from a number on, with its slot.
+    /// The first block at or after a number, with its slot.
     fn first_from(&self, at: u64) -> Option<(u64, Slot)>
         requires kept { whole self.now }
+
+        // If there is one
         ensures some { IfSome result (λ e. (at ≤ e.0) × (get nat_cmp (slots self.now) e.0 ≡ Some e.1)) }
         ensures first { IfSome result (λ e. (v : ℕ) → at ≤ v → v < e.0 → get nat_cmp (slots self.now) v ≡ None) }
+
+        // If there is none
         ensures none { IfNone result ((v : ℕ) → at ≤ v → get nat_cmp (slots self.now) v ≡ None) };
 
-    /// Gives a block of this part a slot.
+    /// Sets the slot of a block of this part.
     fn set(&mut self, alloc: A, block: u64, slot: Slot) -> Result<(), AllocError>
         requires kept { whole self.old }
         requires inside { takes self.old block }
+
+        // On success
         ensures ok { OnOk result (slots self.new ≡ set nat_cmp (slots self.old) block slot) }
+
+        // Without memory
         ensures err { OnErr result (slots self.new ≡ slots self.old) }
+
+        // In any case
         ensures kept { whole self.new }
         ensures inside { (i : ℕ) → is_in self.old i → number block ≡ i → is_in self.new i };
 
-    /// Gives a block that has a slot another one.
+    /// Replaces the slot of a block that has one.
     fn replace(&mut self, block: u64, slot: Slot)
         requires kept { whole self.old }
         requires inside { takes self.old block }
@@ -70,28 +80,35 @@ pub(crate) trait Subtree<A: Allocator + Copy>: Drop {
         ensures kept { whole self.new }
         ensures inside { (i : ℕ) → is_in self.old i → is_in self.new i };
 
-    /// Takes away a block that has a slot. Returns whether it was the last: then the part is to go, whatever it has.
+    /// Removes a block that has a slot. Returns whether it was the last: the part is then to be dropped, whatever it
+    /// has.
     fn remove(&mut self, block: u64) -> bool
         requires kept { whole self.old }
         requires inside { takes self.old block }
         requires there { IsSome (get nat_cmp (slots self.old) block) }
+
+        // If it was the last
         ensures last { result ≡ true → without nat_cmp (slots self.old) block ≡ [] }
+
+        // If blocks are left
         ensures left { result ≡ false → slots self.new ≡ without nat_cmp (slots self.old) block }
         ensures kept { result ≡ false → whole self.new }
+
+        // In any case
         ensures inside { (i : ℕ) → is_in self.old i → is_in self.new i };
 
     /// The blocks are in ascending order.
     ghost ordered: { (x : Self) → whole x → IsStrictlySortedBy nat_cmp (keys_of (slots x)) };
 
-    /// No part is without blocks.
+    /// A part has at least one block.
     ghost filled: { (x : Self) → whole x → slots x ≡ [] → ⊥ };
 
     /// All blocks of a part have its number.
     ghost parted: { (x : Self) (i : ℕ) → whole x → is_in x i → IsPart number i (slots x) };
 
-    /// A part may be asked for each block that has its number.
+    /// A part may be asked about each block that has its number.
     ghost takes_own: { (x : Self) (v : ℕ) → is_in x (number v) → takes x v };
 
-    /// A greater block has no smaller number.
+    /// A greater block has an equal or greater number.
     ghost upwards: { (v w : ℕ) → v ≤ w → number v ≤ number w };
 }

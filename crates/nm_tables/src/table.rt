@@ -15,7 +15,7 @@ use nm_types::Vpn;
 use std::alloc::{AllocError, Allocator};
 use std::marker::Model;
 
-/// What a process has at its page numbers. A number without an entry is absent. Contracts see the map from page number
+/// A process's entries by page number. A page number without an entry is absent. Contracts see the map from page number
 /// to entry.
 #[derive(Drop)]
 pub struct PageTable<A: Allocator + Copy> {
@@ -38,7 +38,8 @@ impl<A: Allocator + Copy> Model for PageTable<A> {
 }
 
 impl<A: Allocator + Copy> PageTable<A> {
-    /// A table in which every page number is absent. It takes no memory; `set` and `entries` take theirs from `alloc`.
+    /// Makes a table in which every page number is absent. Does not allocate; `set` and `entries` allocate from
+    /// `alloc`.
     pub fn new(alloc: A) -> Self
         ensures { result ≡ [] }
     {
@@ -56,30 +57,40 @@ impl<A: Allocator + Copy> PageTable<A> {
         self.blocks.get(vpn)
     }
 
-    /// The first entry at or after a page number, with its page number. None if all of these are absent. It takes no
-    /// memory.
+    /// The first entry at or after a page number, with its page number. None if there is no such entry. Does not
+    /// allocate.
     pub fn first_from(&self, at: Vpn) -> Option<(Vpn, Entry)>
+        // If there is one
         ensures some { IfSome result (λ e. (at ≤ e.0) × (get nat_cmp self.now e.0 ≡ Some e.1)) }
         ensures first { IfSome result (λ e. (v : ℕ) → at ≤ v → v < e.0 → get nat_cmp self.now v ≡ None) }
+
+        // If there is none
         ensures none { IfNone result ((v : ℕ) → at ≤ v → get nat_cmp self.now v ≡ None) }
+
+        // In any case
         ensures ordered { IsStrictlySortedBy nat_cmp (keys_of self.now) }
     {
         self.blocks.first_from(at)
     }
 
-    /// Puts an entry at a page number, in place of one that is there. Any number is accepted, even one past the areas.
-    /// An error means that the host is out of memory, and that the table is as it was. It comes only if no entry stands
-    /// yet in the aligned block of 512 page numbers that has this one.
+    /// Sets the entry at a page number, in place of any that is there. Any page number is accepted, even past those
+    /// inside areas. An error means that the host is out of memory, and that nothing has changed. That happens only if
+    /// the aligned block of 512 page numbers around this one has no entry yet.
     pub fn set(&mut self, vpn: Vpn, entry: Entry) -> Result<(), AllocError>
+        // On success
         ensures ok { OnOk result (self.new ≡ set nat_cmp self.old vpn entry) }
+
+        // Without memory
         ensures err { OnErr result (self.new ≡ self.old) }
         ensures empty { OnErr result ((v : ℕ) → v / 512 ≡ vpn / 512 → get nat_cmp self.old v ≡ None) }
+
+        // In any case
         ensures ordered { IsStrictlySortedBy nat_cmp (keys_of self.old) }
     {
         self.blocks.set(vpn, entry)
     }
 
-    /// Puts another entry at a page number that is not absent. It takes no memory.
+    /// Replaces the entry at a page number that is not absent. Does not allocate.
     pub fn replace(&mut self, vpn: Vpn, entry: Entry)
         requires { IsSome (get nat_cmp self.old vpn) }
         ensures entry { self.new ≡ replace nat_cmp self.old vpn entry }
@@ -88,7 +99,7 @@ impl<A: Allocator + Copy> PageTable<A> {
         self.blocks.replace(vpn, entry);
     }
 
-    /// Makes a page number absent. One that is absent stays so. It takes no memory.
+    /// Makes a page number absent, whether or not it has an entry. Does not allocate.
     pub fn clear(&mut self, vpn: Vpn)
         ensures entry { self.new ≡ without nat_cmp self.old vpn }
         ensures ordered { IsStrictlySortedBy nat_cmp (keys_of self.old) }
@@ -96,9 +107,9 @@ impl<A: Allocator + Copy> PageTable<A> {
         self.blocks.clear(vpn);
     }
 
-    /// Appends the entries at page numbers from `first` up to `end`, which is left out, to a list, in ascending order. It
-    /// takes time for the blocks and entries that it lists, and memory for the list alone. An error means that the host is
-    /// out of memory, and that some of the entries may be missing: what stood in the list before is there.
+    /// Appends the entries at page numbers from `first` up to but not including `end` to a list, in ascending order.
+    /// Takes time for the blocks and entries in that range, and allocates for the list alone. An error means that the
+    /// host is out of memory, and that some of these entries may be missing: the list keeps what it had before.
     pub fn list_between(
         &self,
         first: Vpn,

@@ -8,7 +8,7 @@ use std::test::Fail;
 /// The last page number that lies inside areas.
 const LAST: u64 = 34_359_738_367;
 
-/// Page numbers on both sides of where leaves and nodes end, downwards.
+/// Page numbers on both sides of the ends of leaves and nodes, descending.
 const ENDS: [u64; 8] = [
     LAST,
     134_217_728,
@@ -20,7 +20,7 @@ const ENDS: [u64; 8] = [
     0,
 ];
 
-/// The same upwards.
+/// The same page numbers, ascending.
 const UPWARDS: [u64; 8] = [
     0,
     511,
@@ -32,21 +32,21 @@ const UPWARDS: [u64; 8] = [
     LAST,
 ];
 
-/// The same upwards but for 511.
+/// The same, ascending, without 511.
 const LEFT: [u64; 7] = [0, 512, 262_143, 262_144, 134_217_727, 134_217_728, LAST];
 
-/// Numbers from which entries at the ends are listed, and those before which each of these lists ends.
+/// Page numbers from which entries at the ends are listed, and those before which each of these lists ends.
 const FIRSTS: [u64; 5] = [511, 0, 512, 134_217_727, LAST];
 
 const BEFORE: [u64; 5] = [262_144, 0, 512, LAST, u64::MAX];
 
-/// What they have together.
+/// What these lists have together.
 const BETWEEN: [u64; 6] = [511, 512, 262_143, 134_217_727, 134_217_728, LAST];
 
-/// What is left of the blocks that come and go.
+/// The page numbers left of the blocks that come and go.
 const STAYED: [u64; 6] = [2_567, 3_071, 204_295, 204_799, 409_095, 409_599];
 
-/// A table of two pages, the first of which was zero and is on its way to frame 2.
+/// A table of two pages, the first of which was the page of zeros and is on its way to frame 2.
 fn two_pages(alloc: Global) -> Result<PageTable<Global>, AllocError> {
     let mut table = PageTable::new(alloc);
     table.set(Vpn::new(16), Entry::Zero)?;
@@ -55,13 +55,13 @@ fn two_pages(alloc: Global) -> Result<PageTable<Global>, AllocError> {
     Ok(table)
 }
 
-/// What a table returns at a page number: the entry there, and the first from there on.
+/// What a table returns at a page number: the entry there, and the first entry from there on.
 fn from(table: &PageTable<Global>, number: u64) -> (Option<Entry>, Option<(Vpn, Entry)>) {
     let vpn = Vpn::new(number);
     (table.get(vpn), table.first_from(vpn))
 }
 
-/// Whether entries come upwards from the first of them, from between the two and from past the last.
+/// Whether the right entry comes first from the first of them on, from between the two on, and from past the last on.
 fn come_upwards(alloc: Global) -> Result<bool, AllocError> {
     let table = two_pages(alloc)?;
     let held = Some(Entry::Held(FrameId::new(2)));
@@ -80,12 +80,12 @@ fn entries_come_upwards(rt: HostRuntime) -> Result<(), Fail> {
     Ok(())
 }
 
-/// Whether these are the entries of a table, listed upwards.
+/// Whether these are all entries of a table, in ascending order.
 fn lists(table: &PageTable<Global>, entries: &[(Vpn, Entry)]) -> Result<bool, AllocError> {
     Ok(table.entries()?.as_slice() == entries)
 }
 
-/// Whether the entries are both listed, and only the second once the first is cleared.
+/// Whether both entries are listed, and only the second after the first is cleared.
 fn comes_no_more(alloc: Global) -> Result<bool, AllocError> {
     let mut table = two_pages(alloc)?;
     let entries = [
@@ -104,7 +104,7 @@ fn a_cleared_entry_comes_no_more(rt: HostRuntime) -> Result<(), Fail> {
     Ok(())
 }
 
-/// A table with an entry at each of the ends, in their order.
+/// A table with an entry at each of the ends, set in their order.
 fn with_ends(alloc: Global) -> Result<PageTable<Global>, AllocError> {
     let mut table = PageTable::new(alloc);
     for number in ENDS {
@@ -113,7 +113,7 @@ fn with_ends(alloc: Global) -> Result<PageTable<Global>, AllocError> {
     Ok(table)
 }
 
-/// Whether a list has zero pages at these page numbers, in their order.
+/// Whether a list has the page of zeros at these page numbers, in this order, and nothing else.
 fn are_zeros(told: &[(Vpn, Entry)], numbers: &[u64]) -> bool {
     let mut same = told.len() == numbers.len();
     for ((vpn, entry), number) in told.iter().zip(numbers.iter()) {
@@ -122,13 +122,13 @@ fn are_zeros(told: &[(Vpn, Entry)], numbers: &[u64]) -> bool {
     same
 }
 
-/// Whether a table has zero pages at these page numbers and nowhere else, listed upwards.
+/// Whether a table has the page of zeros at these page numbers and nothing elsewhere, listed in ascending order.
 fn has_zeros(table: &PageTable<Global>, numbers: &[u64]) -> Result<bool, AllocError> {
     let entries = table.entries()?;
     Ok(are_zeros(entries.as_slice(), numbers))
 }
 
-/// What was set downwards, on both sides of where leaves and nodes end, comes upwards.
+/// Entries set in descending order, on both sides of the ends of leaves and nodes, are listed in ascending order.
 #[test]
 fn ends_of_leaves_and_nodes(rt: HostRuntime) -> Result<(), Fail> {
     let table = with_ends(rt.alloc())?;
@@ -136,7 +136,7 @@ fn ends_of_leaves_and_nodes(rt: HostRuntime) -> Result<(), Fail> {
     Ok(())
 }
 
-/// Whether, with the last entry of a leaf cleared, the first of the next leaf comes after those before it.
+/// Whether, with the last entry of a leaf cleared, the first of the next leaf follows those before it.
 fn goes_on(alloc: Global) -> Result<bool, AllocError> {
     let mut table = with_ends(alloc)?;
     table.clear(Vpn::new(511));
@@ -154,7 +154,7 @@ fn the_end_of_a_leaf_is_cleared(rt: HostRuntime) -> Result<(), Fail> {
     Ok(())
 }
 
-/// Whether of the entries at the ends those from a number up to another are listed, behind what was listed before.
+/// Whether the entries from one page number up to another are listed, after what the list had before.
 fn lists_between(alloc: Global) -> Result<bool, AllocError> {
     let table = with_ends(alloc)?;
     let mut list = Vec::new(alloc);
@@ -170,7 +170,7 @@ fn ranges_are_listed(rt: HostRuntime) -> Result<(), Fail> {
     Ok(())
 }
 
-/// Puts two zero pages into a block.
+/// Sets two zero pages in a block.
 fn come(table: &mut PageTable<Global>, block: u64) -> Result<(), AllocError>
     requires { block < 1000 }
 {
@@ -178,7 +178,7 @@ fn come(table: &mut PageTable<Global>, block: u64) -> Result<(), AllocError>
     table.set(Vpn::new(block * 512 + 511), Entry::Zero)
 }
 
-/// Takes them away.
+/// Removes them.
 fn go(table: &mut PageTable<Global>, block: u64)
     requires { block < 1000 }
 {
@@ -199,7 +199,7 @@ fn come_and_go(table: &mut PageTable<Global>) -> Result<(), AllocError> {
     come(table, 5)
 }
 
-/// Whether of many blocks that come and go those are listed that are there in the end.
+/// Whether, of many blocks that come and go, those are listed that are there at the end.
 fn some_stay(alloc: Global) -> Result<bool, AllocError> {
     let mut table = PageTable::new(alloc);
     come_and_go(&mut table)?;

@@ -30,7 +30,7 @@ reads_kept before now gave (Err ReadFault) kept unread = absurd (unread refl)
 reads_kept before now gave (Err WriteFault) kept unread = kept
 reads_kept before now gave (Err (HostMemory k)) kept unread = kept
 
--- an error that is handed on tells what it told
+-- an error that is handed on says what it said
 pub reads_of_err : {X : Type 0} (before now : Bool) (gave : ℕ → Type 0) (e : TraceError) (result : Result X TraceError) → result ≡ Err e → ReadTold before now gave e → TellsReads before now gave result
 reads_of_err before now gave e result is h = subst (TellsReads before now gave) (sym is) h
 

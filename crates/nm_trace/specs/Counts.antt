@@ -3,7 +3,7 @@ use Rattle.std.proofs.Common.{◌≡◌, ℕ, ◌+◌, ◌-◌, ◌^◌, min, ar
 use Rattle.std.specs.Prelude.{◌&&◌, ◌==◌, Bool, true, not, List, length, Result, Ok, Err}
 use Rattle.std.specs.Io.Iter.{u64_saturate}
 
--- a write failed: with an error, or it took no byte of some
+-- a write failed: with an error, or it took no byte although there was one
 abbrev pub is_failed_write : {E : Type 0} → Result ℕ E → List ℕ → Bool
 is_failed_write (Ok n) bytes = n == 0 && not (length bytes == 0)
 is_failed_write (Err e) bytes = true

@@ -1,4 +1,4 @@
--- Worked examples of accesses in flight: which are read, and what is reported of them.
+-- Worked examples of accesses in flight: which are accepted, and what is reported of them.
 use Rattle.std.specs.Prelude.{◌≡◌, ℕ, List, [], ◌∷◌, ◌++◌, Some, None, codes, false}
 use Rattle.serde_json.specs.Data.{unsigned, Data, null, number, string, array, object, no_items, item, Members, no_members, member}
 use Rattle.nm_types.specs.declared.errno.Errno.TheVariants.{Enomem}
@@ -9,7 +9,7 @@ use Rattle.nm_trace.specs.Faults.{Plan}
 use Rattle.nm_trace.specs.Report.{access_line, access_lines}
 use Rattle.nm_trace.specs.Played.{report_of}
 
--- an object of these members
+-- an object with these members
 abbrev pub members_of : List (List ℕ × Data) → Members
 members_of [] = no_members
 members_of (m ∷ ms) = member m.0 m.1 (members_of ms)
@@ -17,21 +17,21 @@ members_of (m ∷ ms) = member m.0 m.1 (members_of ms)
 abbrev pub object_of : List (List ℕ × Data) → Data
 object_of ms = object (members_of ms)
 
--- a member that is a number, and one that is a text
+-- a member with a number, and one with a text
 abbrev pub key : List ℕ → ℕ → List ℕ × Data
 key name n = (name, number (unsigned n))
 
 abbrev pub word : List ℕ → List ℕ → List ℕ × Data
 word name text = (name, string text)
 
--- the keys of a read and of a write, as their steps have them
+-- the keys of a read and of a write, as in their steps
 abbrev pub a_read : List (List ℕ × Data)
 a_read = word (codes "op") (codes "read") ∷ key (codes "pid") 1 ∷ key (codes "addr") 4096 ∷ key (codes "len") 2 ∷ []
 
 abbrev pub a_write : List (List ℕ × Data)
 a_write = word (codes "op") (codes "write") ∷ key (codes "pid") 1 ∷ key (codes "addr") 4096 ∷ word (codes "data") (codes "6A") ∷ []
 
--- an access of this run
+-- an access with this run
 abbrev pub in_run : ℕ → List (List ℕ × Data) → Data
 in_run run keys = object_of (key (codes "run") run ∷ keys)
 
@@ -40,7 +40,7 @@ pub record FlightRows : Type 0 where
   pub read : in_flight 1 (in_run 0 a_read) ≡ Some (0, Read 1 4096 2)
   pub write : in_flight 2 (in_run 1 a_write) ≡ Some (1, Write 1 4096 (106 ∷ []))
   pub no_second_run : in_flight 1 (in_run 1 a_read) ≡ None
-  -- a batch without entries has no run
+  -- a batch without entries has no runs
   pub no_run_at_all : in_flight 0 (in_run 0 a_read) ≡ None
   pub run_missing : in_flight 1 (object_of a_read) ≡ None
   pub key_missing : in_flight 1 (in_run 0 (word (codes "op") (codes "read") ∷ key (codes "pid") 1 ∷ [])) ≡ None
@@ -62,11 +62,11 @@ pub record AccessLineRows : Type 0 where
   pub in_the_order_asked :
       access_lines 6 0 ((1, Read 1 65536 1) ∷ (0, Write 1 65536 (101 ∷ [])) ∷ []) (Bytes (97 ∷ []) ∷ Held ∷ [])
       ≡ codes "6.0 read 61\n6.1 write held\n"
-  -- a call that was refused gives no answers
+  -- a call that is refused has no answers
   pub none_of_a_refused_call : access_lines 6 0 ((0, Read 1 65536 1) ∷ []) [] ≡ []
 
 -- process 1 has five pages, and has written four, which fill node 0. The first moves to node 1. Meanwhile it is read,
--- which is held, so is the second, which stays, and the fifth is written: its frame is the one after that which the
+-- which is held; the second, which stays, is read; and the fifth is written: its frame is the one after that which the
 -- move took
 abbrev pub read_while_it_moves : Plan
 read_while_it_moves = record {
@@ -86,7 +86,7 @@ read_while_it_moves = record {
       ∷ [];
 }
 
--- the report on them
+-- the report on this trace
 abbrev pub ReadWhileItMoves : Type 0
 ReadWhileItMoves =
     report_of read_while_it_moves ≡

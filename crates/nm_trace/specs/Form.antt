@@ -21,7 +21,7 @@ o >>= f = option_and_then f o
 
 -- ---- values
 
--- a number that is below a limit
+-- a number below a limit
 abbrev pub below : ℕ → ℕ → Option ℕ
 below limit n = if nat_lt n limit then Some n else None
 
@@ -33,7 +33,7 @@ number_of d = option_and_then as_u64 (as_number d)
 abbrev pub number_below : ℕ → Data → Option ℕ
 number_below limit d = option_and_then (below limit) (number_of d)
 
--- what f reads in each item, where it reads all of them
+-- what f reads from each item, if it can read all of them
 abbrev pub each : {A : Type 0} → (Data → Option A) → Items → Option (List A)
 each f no_items = Some []
 each f (item d ds) = do
@@ -41,35 +41,35 @@ each f (item d ds) = do
   xs ← each f ds
   Some (x ∷ xs)
 
--- the set with more numbers; a set is the list of its numbers in ascending order
+-- a set with more numbers added; a set is the list of its numbers in ascending order
 abbrev pub set_from : List ℕ → List ℕ → List ℕ
 set_from set [] = set
 set_from set (n ∷ ns) = set_from (insert_key nat_cmp set n) ns
 
--- a set of numbers below 64, whatever their order and repeats
+-- a set of numbers below 64, in any order and with repetitions
 abbrev pub set_of : Items → Option (List ℕ)
 set_of ds = do
   ns ← each (number_below 64) ds
   Some (set_from [] ns)
 
--- the bytes that a text of hexadecimal digits of either case spells
+-- the bytes that a text of hexadecimal digits spells, in either case
 abbrev pub bytes_of : List ℕ → Option (List ℕ)
 bytes_of text = result_ok (decode_of text)
 
 -- ---- values of keys
 
--- the number of a key
+-- the number at a key
 abbrev pub number_at : List ℕ → Data → Option ℕ
 number_at key d = option_and_then number_of (get key d)
 
--- the number of a key, below 2^32
+-- the number at a key, below 2^32
 abbrev pub small_at : List ℕ → Data → Option ℕ
 small_at key d = option_and_then (below (2 ^ 32)) (number_at key d)
 
 abbrev pub text_at : List ℕ → Data → Option (List ℕ)
 text_at key d = option_and_then as_str (get key d)
 
--- true or false, and false where the key is missing
+-- true or false; false if the key is missing
 abbrev pub flag_or_false : Option Data → Option Bool
 flag_or_false None = Some false
 flag_or_false (Some d) = as_bool d
@@ -83,7 +83,7 @@ items_at key d = option_and_then as_array (get key d)
 abbrev pub numbers_at : List ℕ → Data → Option (List ℕ)
 numbers_at key d = option_and_then (each number_of) (items_at key d)
 
--- the numbers of a key, each below 2^32
+-- the numbers at a key, each below 2^32
 abbrev pub smalls_at : List ℕ → Data → Option (List ℕ)
 smalls_at key d = option_and_then (each (number_below (2 ^ 32))) (items_at key d)
 
@@ -99,7 +99,7 @@ hex_at key d = option_and_then bytes_of (text_at key d)
 abbrev pub row_of : Data → Option (List ℕ)
 row_of d = option_and_then (each (number_below (2 ^ 8))) (as_array d)
 
--- the layout, where there is no fault
+-- the layout, if it has no fault
 abbrev pub unless_refused : Option GeometryError → Layout → Option Layout
 unless_refused None g = Some g
 unless_refused (Some e) g = None
@@ -118,7 +118,8 @@ machine_of d = do
 abbrev pub as_limit : ℕ → Option ℕ
 as_limit n = if nat_le 1 n && nat_le n default_limit then Some n else None
 
--- how many entries a run has at most: version 1 has the greatest limit, whatever it says, and version 2 must say one
+-- the most entries that a run may have: in version 1 the greatest limit, whatever the trace says; version 2 must give
+-- one
 abbrev pub limit_in : ℕ → Data → Option ℕ
 limit_in version d =
     if version == 1 then Some default_limit
@@ -131,7 +132,7 @@ limit_of d = do
 
 -- ---- reads and writes
 
--- what the keys of a read say
+-- the read that these keys describe
 unfoldable pub read_access : Data → Option Access
 read_access d = do
   pid ← small_at (codes "pid") d
@@ -139,7 +140,7 @@ read_access d = do
   len ← number_at (codes "len") d
   Some (Read pid addr len)
 
--- what the keys of a write say
+-- the write that these keys describe
 unfoldable pub write_access : Data → Option Access
 write_access d = do
   pid ← small_at (codes "pid") d
@@ -147,14 +148,14 @@ write_access d = do
   bytes ← hex_at (codes "data") d
   Some (Write pid addr bytes)
 
--- the access of this name
+-- the access with this name
 unfoldable pub access_named : List ℕ → Data → Option Access
 access_named op d =
     if bytes_eq op (codes "read") then read_access d
     else (if bytes_eq op (codes "write") then write_access d
     else None)
 
--- an access in flight, and the number of its run, which is below the number of runs
+-- an access in flight and the number of its run, which is below the number of runs
 unfoldable pub in_flight : ℕ → Data → Option (ℕ × Access)
 in_flight runs d = do
   run ← option_and_then (below runs) (number_at (codes "run") d)
@@ -162,12 +163,12 @@ in_flight runs d = do
   access ← access_named op d
   Some (run, access)
 
--- a list of accesses in flight, and an empty one where the key is missing
+-- a list of accesses in flight; empty if the key is missing
 abbrev pub flights_or_none : ℕ → Option Data → Option (List (ℕ × Access))
 flights_or_none runs None = Some []
 flights_or_none runs (Some d) = option_and_then (each (in_flight runs)) (as_array d)
 
--- the accesses in flight of a step that has `runs` runs
+-- the accesses in flight of a step with this many runs
 abbrev pub during_at : ℕ → Data → Option (List (ℕ × Access))
 during_at runs d = flights_or_none runs (get (codes "during") d)
 
@@ -228,14 +229,14 @@ abbrev pub access_step : Access → Call
 access_step (Read pid addr len) = ReadBytes pid addr len
 access_step (Write pid addr bytes) = WriteBytes pid addr bytes
 
--- the step of a read, and that of a write
+-- the step of a read, and the step of a write
 abbrev pub read_of : Data → Option Call
 read_of d = option_map access_step (read_access d)
 
 abbrev pub write_of : Data → Option Call
 write_of d = option_map access_step (write_access d)
 
--- pages and a node for each: as many nodes as pages, and at most 16,384
+-- pages with a node for each: equally many, and at most 16,384
 unfoldable pub batch_of : Data → Option (List ℕ × List ℕ)
 batch_of d = do
   pages ← numbers_at (codes "pages") d
@@ -307,7 +308,7 @@ numa_maps_of d = do
   pid ← small_at (codes "pid") d
   Some (NumaMaps pid)
 
--- the step of this name, where a run has at most `limit` entries
+-- the step with this name, where a run has at most `limit` entries
 unfoldable pub named : ℕ → List ℕ → Data → Option Call
 named limit op d =
     if bytes_eq op (codes "spawn") then spawn_of d

@@ -1,4 +1,4 @@
--- The headline: what a trace comes to that is played to its end on a new machine.
+-- The headline: the result of playing a trace to its end on a new machine.
 use Rattle.std.specs.Prelude.{◌≡◌, ℕ, ◌+◌, false, List, length, take, slice_get, Option, Some, Result, Ok, Err}
 use Rattle.std.specs.Io.KnownBytes.{Appends}
 use Rattle.nm_model.specs.definitions.Memory.{mem}
@@ -13,20 +13,20 @@ use Rattle.nm_trace.specs.Report.{state_after}
 use Rattle.nm_trace.specs.declared.playing.Summary.{Summary}
 use Rattle.nm_trace.specs.declared.trace_error.TraceError.{TraceError}
 
--- what a run from bytes tells, but for the system that it leaves
+-- the result of a run from bytes, without the system that it leaves
 abbrev pub summary_of : {P : Type 0} → (P → Summary) → Result P TraceError → Result Summary TraceError
 summary_of summary (Ok played) = Ok (summary played)
 summary_of summary (Err e) = Err e
 
--- No call but a write, and those by which areas come or go, changes a byte that a process has at an address: it is that of the
--- last write in flight which is done there, or else what it was before the call.
+-- no call except a write, and those that add or remove areas, changes a byte that a process has at an address: it is
+-- that of the last write in flight made there, or else the same as before the call
 abbrev pub KeepMemory : SystemState → List Call → Type 0
 KeepMemory s calls =
     (k : ℕ) (call : Call) (q at : ℕ) → slice_get calls k ≡ Some call → writes_or_maps call ≡ false →
     let before = state_after s (take k calls) in
     mem (state_after s (take (k + 1) calls)).state q at ≡ byte_after before call (runs_of before call) q at
 
--- A trace was played to its end on a new machine.
+-- a trace was played to its end on a new machine
 pub record IsPlayed (plan : Plan) (steps : ℕ) (system : SystemState) (old new : Option (List ℕ)) : Type 0 where
   -- each of its steps was made
   pub whole : steps ≡ length plan.calls
@@ -36,5 +36,5 @@ pub record IsPlayed (plan : Plan) (steps : ℕ) (system : SystemState) (old new 
   pub state : system ≡ state_after (system_with plan.layout plan.run_limit) plan.calls
   -- the machine is sound
   pub sound : IsSound system.state
-  -- and no move changed a byte that a process reads
+  -- no move changed a byte that a process reads
   pub memory : KeepMemory (system_with plan.layout plan.run_limit) plan.calls

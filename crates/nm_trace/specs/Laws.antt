@@ -6,20 +6,20 @@ use Rattle.nm_trace.specs.Form.{each, step_of}
 use Rattle.nm_trace.specs.Faults.{Plan, first_bad}
 use Rattle.nm_trace.specs.Played.{report_of}
 
--- the item at a place
+-- the item at an index
 abbrev pub item_at : Items → ℕ → Option Data
 item_at no_items k = None
 item_at (item d ds) zero = Some d
 item_at (item d ds) (suc k) = item_at ds k
 
--- where not every item is a step, the one that is reported is none, and each before it is one
+-- if not every item is a step, the one that is reported is not, and all before it are
 abbrev pub FirstBadIsLeast : Type 0
 FirstBadIsLeast =
     (limit : ℕ) (ds : Items) → each (step_of limit) ds ≡ None →
     ((d : Data) × (item_at ds (first_bad limit ds) ≡ Some d) × (step_of limit d ≡ None))
     × ((k : ℕ) → k < first_bad limit ds → (d : Data) × (item_at ds k ≡ Some d) × IsSome (step_of limit d))
 
--- three pages of one process, written on node 0, moved to node 1 and read there
+-- three pages of a process, written on node 0, moved to node 1 and read there
 abbrev pub three_pages : Plan
 three_pages = record {
   layout = record { sizes = 4 ∷ 4 ∷ []; distances = (10 ∷ 20 ∷ []) ∷ (20 ∷ 10 ∷ []) ∷ [] };
@@ -38,7 +38,7 @@ three_pages = record {
       ∷ [];
 }
 
--- the report on them
+-- the report on this trace
 abbrev pub ThreePagesReport : Type 0
 ThreePagesReport =
     report_of three_pages ≡

@@ -1,4 +1,4 @@
--- What a trace in memory asks.
+-- What a trace in memory asks for.
 use Rattle.std.specs.Prelude.{map}
 use Rattle.nm_calls.specs.Views.{call_of}
 use Rattle.nm_trace.specs.declared.trace.Trace.{Trace}

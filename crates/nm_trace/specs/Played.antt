@@ -1,4 +1,4 @@
--- What a play makes and leaves written, and what a run from bytes does.
+-- What a play makes and writes, and what a run from bytes does.
 use Rattle.std.specs.Prelude.{◌≡◌, ◌⊎◌, ℕ, ◌<◌, ◌≤◌, Bool, List, [], ◌++◌, length, take, slice_get, Option, Some, Result, Ok, Err}
 use Rattle.std.specs.Io.KnownBytes.{Appends}
 use Rattle.nm_calls.specs.Systems.{SystemState, system_with}
@@ -11,37 +11,37 @@ use Rattle.nm_trace.specs.declared.trace_error.TraceError.TheVariants.{NotJson, 
 use Rattle.nm_trace.specs.Faults.{Plan}
 use Rattle.nm_trace.specs.Report.{text_of, report_from, state_after}
 
--- known bytes grow by a front of the text
+-- the written bytes, if known, grow by a prefix of the text
 abbrev pub AppendsFront : Option (List ℕ) → Option (List ℕ) → List ℕ → Type 0
 AppendsFront old new text = (front : List ℕ) × (rest : List ℕ) × (front ++ rest ≡ text) × Appends old new front
 
--- known bytes grow by a front of the text that is not all of it
+-- the written bytes, if known, grow by a prefix of the text that is not all of it
 abbrev pub BreaksOff : Option (List ℕ) → Option (List ℕ) → List ℕ → Type 0
 BreaksOff old new text = (front : List ℕ) × (rest : List ℕ) × (front ++ rest ≡ text) × (0 < length rest) × Appends old new front
 
--- known bytes grow by a front of what waits, and the rest goes on waiting
+-- the written bytes, if known, grow by a prefix of what waits, and the rest still waits
 abbrev pub HandsOn : Option (List ℕ) → Option (List ℕ) → List ℕ → List ℕ → Type 0
 HandsOn old new before after = (text : List ℕ) × (text ++ after ≡ before) × Appends old new text
 
--- a call that finds no memory on the host has made some first ones of its runs
+-- a call that runs out of host memory has made some of its first runs
 abbrev pub StopsIn : SystemState → Call → SystemState → Type 0
 StopsIn s call t = (runs : ℕ) × (policy_set : Bool) × HostLeaves s call runs policy_set t
 
--- a call is made and its lines are after those that waited; or it stopped, or was made and its lines found no memory
+-- a call is made, and its lines follow those that wait; or it stopped, or was made without memory for its lines
 abbrev pub Tells : {E : Type 0} → ℕ → Result (Unit {0}) E → SystemState → SystemState → Call → List ℕ → List ℕ → Type 0
 Tells k (Ok done) old new call before after =
     (after ≡ before ++ text_of k call (outcome old call).answer) × (new ≡ (outcome old call).system)
 Tells k (Err e) old new call before after = (StopsIn old call new ⊎ (new ≡ (outcome old call).system)) × (after ≡ before)
 
--- after the first k calls the next one is not reported: it stopped, or was made and its lines found no memory
+-- after the first k calls, the next one is not reported: it stopped, or was made without memory for its lines
 abbrev pub StopsAt : SystemState → List Call → ℕ → SystemState → Type 0
 StopsAt s calls k t =
     (call : Call) × (slice_get calls k ≡ Some call)
     × (StopsIn (state_after s (take k calls)) call t ⊎ (t ≡ (outcome (state_after s (take k calls)) call).system))
 
--- A play makes every call and writes the report on them. Where the writer fails, some first calls were made, and the report
--- on them breaks off. Where the host has no memory for step k, the report on the steps before it stands, and step k may have
--- been made in part, or whole without its lines.
+-- a play makes every call and writes the report on them; if the writer fails, some first calls were made, and the
+-- report on them breaks off; if the host has no memory for step k, the report on the steps before it is written, and
+-- step k may have been made in part, or whole without its lines
 abbrev pub Plays : SystemState → List Call → SystemState → Option (List ℕ) → Option (List ℕ) → Result Summary TraceError → Type 0
 Plays s calls t old new (Ok summary) =
     (summary.steps ≡ length calls) × (t ≡ state_after s calls) × Appends old new (report_from 0 s calls)
@@ -62,7 +62,7 @@ report_of plan = report_from 0 (system_with plan.layout plan.run_limit) plan.cal
 abbrev pub PlaysNew : Plan → Option (List ℕ) → Option (List ℕ) → Result Summary TraceError → Type 0
 PlaysNew plan old new result = (t : SystemState) × Plays (system_with plan.layout plan.run_limit) plan.calls t old new result
 
--- what a run from a trace's bytes does: its fault is the first of the bytes, or it plays the trace
+-- a run from a trace's bytes: it returns their first fault, or plays the trace
 abbrev pub Runs : Result Plan TraceError → Option (List ℕ) → Option (List ℕ) → Result Summary TraceError → Type 0
 Runs trace old new (Ok summary) = (plan : Plan) × (trace ≡ Ok plan) × PlaysNew plan old new (Ok summary)
 Runs trace old new (Err NotJson) = trace ≡ Err NotJson
@@ -73,7 +73,7 @@ Runs trace old new (Err WriteFault) = (plan : Plan) × (trace ≡ Ok plan) × Pl
 Runs trace old new (Err (HostMemory k)) =
     (k ≡ 0) ⊎ ((plan : Plan) × (trace ≡ Ok plan) × PlaysNew plan old new (Err (HostMemory k)))
 
--- a fault before the first step, where nothing is written
+-- if a fault comes before the first step, nothing was written
 abbrev pub IsSilent : TraceError → Option (List ℕ) → Option (List ℕ) → Type 0
 IsSilent NotJson old new = Appends old new []
 IsSilent BadMachine old new = Appends old new []
@@ -82,7 +82,7 @@ IsSilent ReadFault old new = Appends old new []
 IsSilent WriteFault old new = Unit {0}
 IsSilent (HostMemory k) old new = k ≡ 0 → Appends old new []
 
--- what was written is a front of the report, and nothing where there is none
+-- a prefix of the report was written; nothing if there is no report
 abbrev pub WritesFront : Result Plan TraceError → Option (List ℕ) → Option (List ℕ) → Type 0
 WritesFront (Ok plan) old new = AppendsFront old new (report_of plan)
 WritesFront (Err e) old new = Appends old new []

@@ -10,7 +10,7 @@ use Rattle.nm_calls.specs.Systems.{SystemState}
 use Rattle.nm_calls.specs.Calls.{Call, Spawn, MapPages, Attach, Unmap, Exit, Pin, Unpin, ReadBytes, WriteBytes, MovePages, MigratePages, Query, FreeList, Pagemap, Vmstat, NumaMaps, Mbind, Offline, Online, Answer, Refusal, Done, Held, NewSegment, TheBytes, Statuses, Failed, Frames, Entries, TheTotals, Lines}
 use Rattle.nm_calls.specs.Outcome.{Outcome, accesses_asked, outcome, shown}
 
--- the word of a call
+-- the word for a call
 abbrev pub word_of : Call → List ℕ
 word_of (Spawn pid uid home allowed privileged) = codes "spawn"
 word_of (MapPages pid addr pages shared) = codes "map"
@@ -47,7 +47,7 @@ frame_text (Some frame) = decimal frame
 abbrev pub entry_text : ℕ × Option ℕ → List ℕ
 entry_text e = codes " " ++ address_text e.0 ++ codes "=" ++ frame_text e.1
 
--- the two totals by their names in /proc/vmstat
+-- the two totals, with their names in /proc/vmstat
 abbrev pub totals_text : ℕ → ℕ → List ℕ
 totals_text moved failed =
     (codes "pgmigrate_success " ++ decimal moved) ++ (codes " pgmigrate_fail " ++ decimal failed)
@@ -56,7 +56,7 @@ totals_text moved failed =
 abbrev pub lines_behind : List (List ℕ) → List ℕ
 lines_behind lines = flat_map (λ line. 10 ∷ line) lines
 
--- an answer in words
+-- an answer as text
 unfoldable pub answer_text : Answer → List ℕ
 answer_text (Refusal errno) = codes "error " ++ name_of errno
 answer_text Done = codes "ok"
@@ -70,7 +70,7 @@ answer_text (Entries entries) = decimal (length entries) ++ codes ":" ++ flat_ma
 answer_text (TheTotals moved failed) = totals_text moved failed
 answer_text (Lines lines) = decimal (length lines) ++ lines_behind lines
 
--- the word of an access
+-- the word for an access
 abbrev pub access_word : Access → List ℕ
 access_word (Read pid addr len) = codes "read"
 access_word (Write pid addr bytes) = codes "write"
@@ -80,7 +80,7 @@ unfoldable pub access_line : ℕ → ℕ → Access → AccessAnswer → List �
 access_line k j access answer =
     decimal k ++ codes "." ++ decimal j ++ codes " " ++ access_word access ++ codes " " ++ answer_text (shown answer) ++ codes "\n"
 
--- the lines of the accesses of step k, each with the answer at its place, with numbers from j on. Where each access names a
+-- the lines of the accesses of step k, each with the answer at its index, numbered from j on; if each access names a
 -- run that is made, there are as many answers as accesses
 abbrev pub access_lines : ℕ → ℕ → List (ℕ × Access) → List AccessAnswer → List ℕ
 access_lines k j during [] = []
@@ -88,12 +88,12 @@ access_lines k j [] (answer ∷ answers) = []
 access_lines k j (flight ∷ during) (answer ∷ answers) =
     access_line k j flight.1 answer ++ access_lines k (j + 1) during answers
 
--- the answers to accesses in flight; a call that is refused has none
+-- the answers to accesses in flight; none if the call is refused
 abbrev pub answers_in : Answer → List AccessAnswer
 answers_in (Statuses failed statuses answers) = answers
 answers_in answer = []
 
--- the line of step k; those of an answer of several lines come after it
+-- the line of step k, followed by those of an answer of several lines
 unfoldable pub line_of : ℕ → Call → Answer → List ℕ
 line_of k call answer = decimal k ++ codes " " ++ word_of call ++ codes " " ++ answer_text answer ++ codes "\n"
 
@@ -101,7 +101,7 @@ line_of k call answer = decimal k ++ codes " " ++ word_of call ++ codes " " ++ a
 unfoldable pub text_of : ℕ → Call → Answer → List ℕ
 text_of k call answer = line_of k call answer ++ access_lines k 0 (accesses_asked call) (answers_in answer)
 
--- the report on calls that are made one after another from a state on: the lines of each, with numbers from k on
+-- the report on calls made one after another from this state: the lines of each, numbered from k on
 abbrev pub report_from : ℕ → SystemState → List Call → List ℕ
 report_from k s [] = []
 report_from k s (call ∷ calls) =

@@ -1,4 +1,4 @@
--- A trace that is played as its steps come.
+-- A trace that is played as its steps arrive.
 use Rattle.std.specs.Prelude.{◌≡◌, ◌⊎◌, ℕ, ◌+◌, List, [], ◌∷◌, ◌++◌, Option, Some, None, Result, Ok, Err}
 use Rattle.std.specs.Option.{ok_or}
 use Rattle.serde_json.specs.Data.{Data}
@@ -19,26 +19,26 @@ pub record SessionState : Type 0 where
   pub system : SystemState
   pub steps : ℕ
 
--- the session that a trace's top begins, whatever its steps
+-- the session that the top of a trace begins, whatever its steps
 unfoldable pub begun : Data → Result SessionState TraceError
 begun d = do
   layout ← ok_or (form.machine_of d) BadMachine
   limit ← ok_or (form.limit_of d) BadMachine
   Ok (record { system = system_with layout limit; steps = 0 })
 
--- the session that bytes begin, or their first fault
+-- the session that these bytes begin, or their first fault
 unfoldable pub opened : List ℕ → Result SessionState TraceError
 opened bytes = do
   d ← ok_or (value_of bytes) NotJson
   begun d
 
--- the call that bytes are as the next step, or their fault
+-- the call that these bytes are as the next step, or their fault
 unfoldable pub asked : SessionState → List ℕ → Result Call TraceError
 asked s bytes = do
   d ← ok_or (value_of bytes) NotJson
   ok_or (form.step_of s.system.run_limit d) (BadStep s.steps)
 
--- what a value is as the step of this number: the call, seen as such, or a fault
+-- a value as the step with this number: its call, as contracts see it, or its fault
 abbrev pub IsCall : {A : Type 0} → ℕ → Result (Made A) TraceError → Option Call → Type 0
 IsCall step (Ok call) found = found ≡ Some (call_of call)
 IsCall step (Err NotJson) found = ⊥
@@ -48,15 +48,16 @@ IsCall step (Err ReadFault) found = ⊥
 IsCall step (Err WriteFault) found = ⊥
 IsCall step (Err (HostMemory k)) found = k ≡ step
 
--- the lines of a call that is made as the next step
+-- the lines of a call made as the next step
 abbrev pub next_lines : SessionState → Call → List ℕ
 next_lines s call = text_of s.steps call (outcome s.system call).answer
 
--- the session after it
+-- the session after a call
 abbrev pub next : SessionState → Call → SessionState
 next s call = record { system = (outcome s.system call).system; steps = s.steps + 1 }
 
--- a call stopped for lack of memory, or was made and its lines found none, and counts as no step; or none was made
+-- a call stopped for lack of memory, or was made without memory for its lines, and counts as no step; or no call was
+-- made
 abbrev pub StopsShort : SessionState → List ℕ → SessionState → Type 0
 StopsShort old bytes new =
     (new.steps ≡ old.steps)
@@ -64,8 +65,8 @@ StopsShort old bytes new =
     ⊎ ((call : Call) × (asked old bytes ≡ Ok call)
     × (StopsIn old.system call new.system ⊎ (new.system ≡ (outcome old.system call).system))))
 
--- A step: the call that its bytes are is made, and its lines are given, seen by view. A fault of the bytes leaves the session
--- as it was.
+-- a step: the call in these bytes is made, and its lines, mapped by `view`, are returned; a fault of the bytes changes
+-- nothing
 abbrev pub Steps : {V : Type 0} → (V → List ℕ) → SessionState → SessionState → List ℕ → Result V TraceError → Type 0
 Steps view old new bytes (Ok v) =
     (call : Call) × (asked old bytes ≡ Ok call) × (view v ≡ next_lines old call) × (new ≡ next old call)
@@ -76,17 +77,17 @@ Steps view old new bytes (Err ReadFault) = ⊥
 Steps view old new bytes (Err WriteFault) = ⊥
 Steps view old new bytes (Err (HostMemory k)) = (k ≡ old.steps) × StopsShort old bytes new
 
--- the lines of calls that are made one after another, each as the next step
+-- the lines of calls made one after another, each as the next step
 abbrev pub all_lines : SessionState → List Call → List ℕ
 all_lines s [] = []
 all_lines s (call ∷ calls) = next_lines s call ++ all_lines (next s call) calls
 
--- the session after them
+-- the session after these calls
 abbrev pub after_all : SessionState → List Call → SessionState
 after_all s [] = s
 after_all s (call ∷ calls) = after_all (next s call) calls
 
--- a session that is fed calls one by one gives the report on them, and its system is in the state after them
+-- a session that is given calls one by one returns the report on them, and its system is in the state after them
 pub record IsFed (s : SessionState) (calls : List Call) : Type 0 where
   pub lines : all_lines s calls ≡ report_from s.steps s.system calls
   pub system : (after_all s calls).system ≡ state_after s.system calls
@@ -94,7 +95,7 @@ pub record IsFed (s : SessionState) (calls : List Call) : Type 0 where
 abbrev pub SessionsReport : Type 0
 SessionsReport = (s : SessionState) (calls : List Call) → IsFed s calls
 
--- .. so one that is fed the steps of a trace gives the report on it
+-- a session that is given the steps of a trace returns the report on it
 abbrev pub SessionsAreTraces : Type 0
 SessionsAreTraces =
     (plan : Plan) → let s : SessionState = record { system = system_with plan.layout plan.run_limit; steps = 0 } in

@@ -1,4 +1,4 @@
--- The data that a tree of borrowed text stands for.
+-- The data of a tree of borrowed text.
 use Rattle.std.specs.Prelude.{List, map, Option, Some, None}
 use Rattle.std.specs.declared.alloc.Global.{Global}
 use Rattle.json.specs.Json as json
@@ -8,12 +8,12 @@ use Rattle.serde_json.specs.Data.{Num, Data, null, boolean, number, string, arra
 use Rattle.serde_json.specs.Read.{number_of}
 use Rattle.serde_json.specs.View.{items_of}
 
--- a number; one that is out of range counts as null
+-- a number; null if it is out of range
 abbrev pub number_or_null : Option Num → Data
 number_or_null None = null
 number_or_null (Some n) = number n
 
--- what a tree shows, number by number; of a key that stands twice the last value
+-- the data of a tree, number by number; of a key that occurs twice, the last value
 abbrev mutual
   pub shown : json.Json → Data
   shown json.null = null

@@ -1,4 +1,4 @@
--- What a clause reads of a reader or writer that is watched.
+-- What contracts read of a watched reader or writer.
 use Rattle.std.specs.Prelude.{ℕ, Bool}
 use Rattle.nm_trace.specs.declared.watched.Watched.{Watched}
 

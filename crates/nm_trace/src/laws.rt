@@ -4,7 +4,7 @@ ghost use Rattle.nm_trace.specs.Laws.{FirstBadIsLeast, ThreePagesReport};
 ghost use Rattle.nm_trace.specs.Session.{SessionsReport, SessionsAreTraces};
 ghost use Rattle.nm_trace.specs.Flights.{AccessLineRows, FlightRows, ReadWhileItMoves};
 
-/// The fault that is reported for a list of steps is that of the first faulty one.
+/// The fault reported for a list of steps is that of the first faulty step.
 pub fn first_bad_is_least()
     ensures { FirstBadIsLeast }
 {}
@@ -14,7 +14,7 @@ pub fn three_pages_report()
     ensures { ThreePagesReport }
 {}
 
-/// Worked accesses in flight: which are read, and which are of another form.
+/// Worked accesses in flight: which are accepted, and which have another form.
 pub fn flight_rows()
     ensures { FlightRows }
 {}
@@ -29,8 +29,8 @@ pub fn read_while_it_moves()
     ensures { ReadWhileItMoves }
 {}
 
-/// A session that is fed the steps of a trace one by one gives the trace's report, and its system is in the state of the
-/// trace's calls.
+/// A session that is given the steps of a trace one by one returns the trace's report, and its system is in the state
+/// of the trace's calls.
 pub fn sessions_report()
     ensures fed { SessionsReport }
     ensures traces { SessionsAreTraces }

@@ -1,4 +1,4 @@
-//! Traces: bytes to the calls that their steps ask for, and the calls to the report on them.
+//! Traces: from bytes to the calls that their steps ask for, and from these calls to the report.
 #![tactic(auto)]
 
 pub mod laws;

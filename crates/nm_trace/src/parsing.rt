@@ -1,4 +1,4 @@
-//! Steps as JSON has them: the call that each asks for.
+//! Steps in JSON: the call that each asks for.
 
 ghost use Rattle.std.specs.Prelude.{◌≡◌, ◌<◌, ◌++◌, ◌∷◌, [], OnOk, IfErr};
 ghost use Rattle.nm_trace.specs.Tree.{view, items_view};
@@ -20,7 +20,7 @@ use nm_types::limits::MAX_BATCH;
 use nm_types::{NodeId, Pid};
 use std::alloc::Allocator;
 
-/// What the keys of a read say.
+/// The read that these keys describe.
 #[tactic(auto, unfolding(crate::specs::Form::read_access))]
 fn read_access<A: Allocator + Copy + Send + Sync>(value: &Value<'_>) -> Result<Access<A>, StepError>
     ensures { Gives access_shown result (form.read_access (view value.now)) }
@@ -32,7 +32,7 @@ fn read_access<A: Allocator + Copy + Send + Sync>(value: &Value<'_>) -> Result<A
     })
 }
 
-/// What the keys of a write say.
+/// The write that these keys describe.
 #[tactic(auto, unfolding(crate::specs::Form::write_access))]
 fn write_access<A: Allocator + Copy + Send + Sync>(
     alloc: A,
@@ -47,7 +47,7 @@ fn write_access<A: Allocator + Copy + Send + Sync>(
     })
 }
 
-/// The access of this name.
+/// The access with this name.
 #[tactic(auto, unfolding(crate::specs::Form::access_named))]
 fn access_named<A: Allocator + Copy + Send + Sync>(
     alloc: A,
@@ -83,7 +83,7 @@ fn in_flight<A: Allocator + Copy + Send + Sync>(
     })
 }
 
-/// Puts an access at the end of a list.
+/// Appends an access to a list.
 fn put<A: Allocator + Copy + Send + Sync>(
     flights: &mut Vec<InFlight<A>, A>,
     flight: InFlight<A>,
@@ -113,7 +113,7 @@ fn flights_of<A: Allocator + Copy + Send + Sync>(
     Ok(flights)
 }
 
-/// The accesses in flight of a step that has `runs` runs, and none if the key is missing.
+/// The accesses in flight of a step with this many runs. Empty if the key is missing.
 fn flights_at<A: Allocator + Copy + Send + Sync>(
     alloc: A,
     value: &Value<'_>,
@@ -233,7 +233,7 @@ fn write<A: Allocator + Copy + Send + Sync>(
     Ok(access_step(write_access(alloc, value)?))
 }
 
-/// Pages and a node for each.
+/// Pages with a node for each.
 #[tactic(auto, unfolding(crate::specs::Form::batch_of))]
 fn batch_of<A: Allocator + Copy + Send + Sync>(
     alloc: A,

@@ -1,4 +1,4 @@
-//! Plays a trace and writes its report.
+//! Playing a trace and writing its report.
 
 ghost use Rattle.std.specs.Prelude.{◌≡◌, ◌||◌, OnOk, OnErr, IfErr, is_err, map};
 ghost use Rattle.std.specs.Io.KnownBytes.{Appends};
@@ -16,22 +16,27 @@ use std::alloc::{AllocError, Allocator};
 use std::sync::Wait;
 use std::thread::Threads;
 
-/// Lines are collected until there are this many bytes of them: a write to the system for each line would take longer
-/// than the line.
+/// Lines are collected up to this many bytes: writing each line to the system by itself would take longer than making
+/// it.
 const BLOCK_BYTES: usize = 65_536;
 
 /// How many steps were made.
 #[derive(Clone, Copy, Debug, PartialEq, Eq)]
 pub struct Summary {
-    /// Their number.
+    /// The number of steps.
     pub steps: usize,
 }
 
-/// Writes lines whole, or a prefix of them and a fault: the writer failed, or took no byte.
+/// Writes all of these lines, or a prefix of them and a fault: the writer failed, or took no byte.
 fn write_lines<W: TellingWriter>(writer: &mut W, lines: &[u8]) -> Result<(), TraceError>
+    // On success
     ensures whole { OnOk result (Appends (W.contents writer.old) (W.contents writer.new) lines.now) }
+
+    // On a fault
     ensures broken { OnErr result (BreaksOff (W.contents writer.old) (W.contents writer.new) lines.now) }
     ensures fault { IfErr result (λ e. e ≡ TraceError.WriteFault) }
+
+    // In any case
     ensures told { W.has_failed writer.new ≡ (is_err result || W.has_failed writer.old) }
 {
     let mut at = 0;
@@ -46,14 +51,19 @@ fn write_lines<W: TellingWriter>(writer: &mut W, lines: &[u8]) -> Result<(), Tra
     Ok(())
 }
 
-/// Writes the lines that wait, once they come to `BLOCK_BYTES` bytes, and then empties their list.
+/// Writes the lines that wait once they reach `BLOCK_BYTES` bytes, and then empties their list.
 fn write_blocks<W: TellingWriter, A: Allocator + Copy>(
     writer: &mut W,
     waiting: &mut Vec<u8, A>,
 ) -> Result<(), TraceError>
+    // On success
     ensures handed { OnOk result (HandsOn (W.contents writer.old) (W.contents writer.new) waiting.old.items waiting.new.items) }
+
+    // On a fault
     ensures broken { OnErr result (BreaksOff (W.contents writer.old) (W.contents writer.new) waiting.old.items) }
     ensures fault { IfErr result (λ e. e ≡ TraceError.WriteFault) }
+
+    // In any case
     ensures told { W.has_failed writer.new ≡ (is_err result || W.has_failed writer.old) }
 {
     if waiting.len() < BLOCK_BYTES {
@@ -65,8 +75,8 @@ fn write_blocks<W: TellingWriter, A: Allocator + Copy>(
 }
 
 /// Makes the call of step k, and appends its lines to those that wait, even if it is refused. An error means that the
-/// host was out of memory for the call or for its lines: then none of its lines is there. What `text` holds before does
-/// not matter: the lines are put together there, so that each step uses the memory of the one before.
+/// host was out of memory for the call or for its lines: then none of its lines is appended. What `text` holds before
+/// does not matter: the lines are put together there, so that each step uses the memory of the one before.
 pub(crate) fn make_step<
     R: Threads + Wait + Sync,
     A: Allocator + Copy + Send + Sync,
@@ -92,7 +102,7 @@ pub(crate) fn make_step<
     waiting.extend_from_slice(text.as_bytes())
 }
 
-/// Makes calls, from step 0 on, and writes their lines, a block at a time.
+/// Makes calls, from step 0 on, and writes their lines a block at a time.
 pub(crate) fn play_calls<
     R: Threads + Wait + Sync,
     A: Allocator + Copy + Send + Sync,
@@ -128,12 +138,12 @@ pub(crate) fn play_calls<
     Ok(Summary { steps: calls.len() })
 }
 
-/// Makes the calls of a trace on a system that has the trace's limit on runs, and writes the report on them, some 64
-/// KiB at a time. Returns how many steps there were.
+/// Makes the calls of a trace on a system with the trace's limit on runs, and writes the report on them, some 64 KiB at
+/// a time. Returns the number of steps.
 ///
-/// `WriteFault` where the writer failed or took no byte: some first steps were made, and the report on them breaks off.
-/// `HostMemory(k)` if the host refused memory in step k: the lines of the steps before it were written, and step k was
-/// made as far as its call says, or whole and without its lines. The workers of the system pass the gate.
+/// `WriteFault` if the writer failed or took no byte: some first steps were made, and the report on them breaks off.
+/// `HostMemory(k)` if the host was out of memory in step k: the lines of the steps before it were written, and step k
+/// was made as far as its call says, or whole and without its lines. The workers of the system call the gate.
 pub fn play<
     R: Threads + Wait + Sync,
     A: Allocator + Copy + Send + Sync,

@@ -1,4 +1,4 @@
-//! Bytes to a trace.
+//! Reading a trace from bytes.
 
 ghost use Rattle.std.specs.Prelude.{map, ◌≡◌, ◌<◌, ◌≤◌, ◌^◌, [], ◌∷◌, ◌++◌, IfOk, OnOk, IfErr, codes};
 ghost use Rattle.nm_calls.specs.Systems.{default_limit};
@@ -25,7 +25,7 @@ use nm_types::limits::MAX_BATCH;
 use std::alloc::{Allocator, Global};
 use std::str::from_utf8;
 
-/// A distance, which is below 256.
+/// A distance: below 256.
 fn distance_value(value: &Value<'_>) -> Result<u8, StepError>
     ensures value { of_step.Gives (λ n. n) result (form.number_below (2 ^ 8) (view value.now)) }
     ensures bad { IfErr result (λ e. e ≡ Bad) }
@@ -72,7 +72,7 @@ fn rows_of<A: Allocator + Copy>(
     Ok(rows)
 }
 
-/// The machine of a trace's top.
+/// The machine at the top of a trace.
 #[tactic(auto, unfolding(crate::specs::Form::machine_of))]
 fn machine_of<A: Allocator + Copy>(alloc: A, value: &Value<'_>) -> Result<Geometry<A>, StepError>
     ensures { of_step.Gives (λ g. g) result (form.machine_of (view value.now)) }
@@ -86,11 +86,16 @@ fn machine_of<A: Allocator + Copy>(alloc: A, value: &Value<'_>) -> Result<Geomet
     }
 }
 
-/// How many entries a run has at most: 16,384 in version 1, whatever it says of it, and what version 2 says.
+/// The most entries that a run may have: 16,384 in version 1, whatever the trace says, and what version 2 says.
 #[tactic(auto, unfolding(crate::specs::Form::limit_of))]
 fn limit_of(value: &Value<'_>) -> Result<usize, StepError>
+    // In any case
     ensures limit { of_step.Gives (λ n. n) result (form.limit_of (view value.now)) }
+
+    // On a fault
     ensures bad { IfErr result (λ e. e ≡ Bad) }
+
+    // On success
     ensures some { IfOk result (λ n. 0 < n) }
     ensures within { IfOk result (λ n. n ≤ default_limit) }
 {
@@ -109,7 +114,7 @@ fn limit_of(value: &Value<'_>) -> Result<usize, StepError>
     }
 }
 
-/// Puts a call at the end of a list.
+/// Appends a call to a list.
 fn put<A: Allocator + Copy + Send + Sync>(
     calls: &mut Vec<Call<A>, A>,
     call: Call<A>,
@@ -144,7 +149,7 @@ fn calls_of<A: Allocator + Copy + Send + Sync>(
     Ok(calls)
 }
 
-/// A fault of the machine.
+/// The fault of a trace's machine.
 fn bad_machine(error: StepError) -> TraceError
     ensures { result ≡ faults.bad_machine error }
 {
@@ -166,8 +171,13 @@ pub(crate) fn geometry_of<A: Allocator + Copy>(
 
 /// The limit on runs of a trace, or its fault.
 pub(crate) fn run_limit_of(value: &Value<'_>) -> Result<usize, TraceError>
+    // In any case
     ensures limit { Gives (λ n. n) result (ok_or (form.limit_of (view value.now)) BadMachine) }
+
+    // On a fault
     ensures bad { IfErr result (λ e. e ≡ BadMachine) }
+
+    // On success
     ensures some { IfOk result (λ n. 0 < n) }
     ensures within { IfOk result (λ n. n ≤ default_limit) }
 {
@@ -177,7 +187,7 @@ pub(crate) fn run_limit_of(value: &Value<'_>) -> Result<usize, TraceError>
     }
 }
 
-/// The values of the steps of a trace, or the fault of a top that has none.
+/// The values of the steps of a trace, or a fault if its top has none.
 fn values_of<'v, 'a>(value: &'v Value<'a>) -> Result<&'v Vec<Value<'a>>, TraceError>
     ensures values { Gives (λ v. items_view v.now.items) result (ok_or (form.items_at (codes "steps") (view value.now)) BadMachine) }
     ensures bad { IfErr result (λ e. e ≡ BadMachine) }
@@ -185,7 +195,7 @@ fn values_of<'v, 'a>(value: &'v Value<'a>) -> Result<&'v Vec<Value<'a>>, TraceEr
     list(value, "steps").map_err(bad_machine)
 }
 
-/// The trace that a value is, or the first fault.
+/// The trace in a value, or its first fault.
 #[tactic(auto, unfolding(crate::specs::Faults::plan_of))]
 fn trace_of<A: Allocator + Copy + Send + Sync>(
     alloc: A,
@@ -204,7 +214,7 @@ fn trace_of<A: Allocator + Copy + Send + Sync>(
     })
 }
 
-/// The tree that bytes are as JSON. Strings with escapes are written to `scratch`.
+/// The JSON tree of these bytes. Strings with escapes are written to `scratch`.
 pub(crate) fn value_of<'a>(
     heap: Global,
     bytes: &'a [u8],
@@ -222,11 +232,11 @@ pub(crate) fn value_of<'a>(
     }
 }
 
-/// The trace that bytes are, or the first fault: `NotJson`, then `BadMachine`, then `BadStep` of the first bad step.
-/// Every step is checked before one is made. The trace stands in the memory of `alloc`, and the JSON tree, until this
-/// call returns, in that of `heap`.
+/// Reads a trace from bytes, or returns their first fault: `NotJson`, then `BadMachine`, then `BadStep` of the first
+/// bad step. Every step is checked before any is made. The trace is in the memory of `alloc`, and the JSON tree, until
+/// this call returns, in that of `heap`.
 ///
-/// `HostMemory(0)` comes where one of the two was refused memory.
+/// `HostMemory(0)` if either is out of memory.
 #[tactic(auto, unfolding(crate::specs::Faults::trace_of))]
 pub fn read_trace<A: Allocator + Copy + Send + Sync>(
     alloc: A,

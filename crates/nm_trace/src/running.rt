@@ -17,17 +17,22 @@ use std::alloc::{Allocator, Global};
 use std::sync::Wait;
 use std::thread::Threads;
 
-/// The most bytes that a trace has.
+/// The most bytes that a trace may have.
 pub const TRACE_LIMIT: usize = 16_777_216;
 
-/// All bytes of a reader, where they are no more than a trace may have.
+/// All bytes of a reader, if they are no more than a trace may have.
 fn read_all<A: Allocator + Copy, R: TellingReader>(
     alloc: A,
     reader: &mut R,
 ) -> Result<Vec<u8, A>, TraceError>
+    // On success
     ensures bytes { IfOk result (λ v. IfSome (R.remaining reader.old) (λ xs. v.items ≡ xs)) }
     ensures within { IfOk result (λ v. length v.items ≤ trace_limit) }
+
+    // On a fault
     ensures fault { IfErr result (λ e. (e ≡ TraceError.ReadFault) ⊎ (e ≡ TraceError.HostMemory 0)) }
+
+    // In any case
     ensures told { TellsReads (R.has_failed reader.old) (R.has_failed reader.new) (R.gave reader.old reader.new) result }
 {
     let mut bytes = Vec::new(alloc);
@@ -51,13 +56,13 @@ fn read_all<A: Allocator + Copy, R: TellingReader>(
 /// A trace that was played to its end.
 #[derive(Drop)]
 pub struct Played<A: Allocator + Copy + Send + Sync> {
-    /// How many steps were made.
+    /// The number of steps made.
     pub summary: Summary,
-    /// The system that they left.
+    /// The system that the steps left.
     pub system: System<A>,
 }
 
-/// Checks the bytes of a trace whole, and then plays it on a new system with `workers` workers.
+/// Checks all bytes of a trace, and then plays it on a new system with `workers` workers.
 fn run_bytes<
     R: Threads + Wait + Sync,
     A: Allocator + Copy + Send + Sync,
@@ -73,10 +78,18 @@ fn run_bytes<
     gate: &G,
 ) -> Result<Played<A>, TraceError>
     requires { (0 < workers) × (workers ≤ 64) }
+
+    // On success
     ensures played { IfOk result (λ p. (plan : Plan) × (trace_of bytes.now ≡ Ok plan) × IsPlayed plan p.summary.steps p.system (W.contents writer.old) (W.contents writer.new)) }
+
+    // In any case
     ensures runs { Runs (trace_of bytes.now) (W.contents writer.old) (W.contents writer.new) (summary_of (λ p. p.summary) result) }
+
+    // On a fault
     ensures silent { IfErr result (λ e. IsSilent e (W.contents writer.old) (W.contents writer.new)) }
     ensures unread { IfErr result (λ e. e ≢ TraceError.ReadFault) }
+
+    // The writer
     ensures writes { W.has_failed writer.new ≡ (is_write_fault result || W.has_failed writer.old) }
 {
     let trace = read_trace(alloc, heap, bytes)?;
@@ -92,16 +105,16 @@ fn run_bytes<
     Ok(Played { summary, system })
 }
 
-/// Reads a trace to its end, checks it whole, plays it on a new system and writes the report, with 1 to 64 workers that
-/// pass the gate. Returns the system as well, for whoever wants to look at it or to go on.
+/// Reads a trace to its end, checks all of it, plays it on a new system and writes the report, with 1 to 64 workers
+/// that call the gate. Also returns the system, for callers that want to look at it or to go on.
 ///
-/// Where it returns no fault, the report on the trace was written: on its calls, made one after another, each as one request
-/// after another, with the frames that a run leaves free at its end; the system is in the state of these calls, and its
-/// machine is sound; and no call but a write, and those by which areas come or go, changed a byte that a process reads, but
-/// by its own writes in flight. How many the workers are makes no difference to any of this. The system, the bytes and the
-/// lines stand in the memory of `alloc`, and the JSON tree in that of `heap`.
+/// If it returns no fault, the report on the trace was written: on its calls, made one after another, each as one
+/// request after another, with the frames that a run leaves free at its end; the system is in the state of these calls,
+/// and its machine is sound; and no call except a write, and those that add or remove areas, changed a byte that a
+/// process reads, except by its own writes in flight. The number of workers makes no difference to any of this. The
+/// system, the bytes and the lines are in the memory of `alloc`, and the JSON tree in that of `heap`.
 ///
-/// Faults in order: `ReadFault` where the reader failed or gave more than 16,777,216 bytes; those of `read_trace`; those
+/// Faults, in order: `ReadFault` if the reader failed or gave more than 16,777,216 bytes; those of `read_trace`; those
 /// of `play`. Nothing is written before the whole trace is checked.
 pub fn run_on<
     T: Threads + Wait + Sync,
@@ -119,11 +132,19 @@ pub fn run_on<
     gate: &G,
 ) -> Result<Played<A>, TraceError>
     requires { (0 < workers) × (workers ≤ 64) }
+
+    // On success
     ensures played { OfSomeBytes (R.remaining reader.old) (λ trace. IfOk result (λ p. (plan : Plan) × (trace ≡ Ok plan)
         × IsPlayed plan p.summary.steps p.system (W.contents writer.old) (W.contents writer.new))) }
+
+    // In any case
     ensures runs { OfSomeBytes (R.remaining reader.old) (λ trace. Runs trace (W.contents writer.old) (W.contents writer.new) (summary_of (λ p. p.summary) result)
         × WritesFront trace (W.contents writer.old) (W.contents writer.new)) }
+
+    // On a fault
     ensures silent { IfErr result (λ e. IsSilent e (W.contents writer.old) (W.contents writer.new)) }
+
+    // The reader and the writer
     ensures reads { TellsReads (R.has_failed reader.old) (R.has_failed reader.new) (R.gave reader.old reader.new) result }
     ensures writes { W.has_failed writer.new ≡ (is_write_fault result || W.has_failed writer.old) }
 {
@@ -131,7 +152,7 @@ pub fn run_on<
     run_bytes(rt, alloc, heap, bytes.as_slice(), writer, workers, gate)
 }
 
-/// `run_on`, without the system: only the report and how many steps it is on.
+/// Does what `run_on` does, and returns only the number of steps, without the system.
 pub fn run_trace<
     T: Threads + Wait + Sync,
     A: Allocator + Copy + Send + Sync,
@@ -148,9 +169,15 @@ pub fn run_trace<
     gate: &G,
 ) -> Result<Summary, TraceError>
     requires { (0 < workers) × (workers ≤ 64) }
+
+    // In any case
     ensures runs { OfSomeBytes (R.remaining reader.old) (λ trace. Runs trace (W.contents writer.old) (W.contents writer.new) result
         × WritesFront trace (W.contents writer.old) (W.contents writer.new)) }
+
+    // On a fault
     ensures silent { IfErr result (λ e. IsSilent e (W.contents writer.old) (W.contents writer.new)) }
+
+    // The reader and the writer
     ensures reads { TellsReads (R.has_failed reader.old) (R.has_failed reader.new) (R.gave reader.old reader.new) result }
     ensures writes { W.has_failed writer.new ≡ (is_write_fault result || W.has_failed writer.old) }
 {

@@ -1,4 +1,4 @@
-//! Traces that are played as their steps come.
+//! Playing traces as their steps arrive.
 
 ghost use Rattle.std.specs.Prelude.{◌≡◌, ◌<◌, ◌≤◌};
 ghost use Rattle.nm_trace.specs.Session.{opened, IsCall, Steps};
@@ -19,8 +19,8 @@ use std::marker::Model;
 use std::sync::Wait;
 use std::thread::Threads;
 
-/// A system that plays a trace step by step, each as its bytes come. Contracts see the system, and how many steps were
-/// made.
+/// A system that plays a trace step by step, as the bytes of each step arrive. Contracts see the system, and how many
+/// steps were made.
 #[derive(Drop)]
 pub struct Session<A: Allocator + Copy + Send + Sync> {
     system: System<A>,
@@ -40,7 +40,7 @@ impl<A: Allocator + Copy + Send + Sync> Model for Session<A> {
     ghost invariant = { λ s. (0 < s.run_limit) × (s.system.run_limit ≡ s.run_limit) };
 }
 
-/// The call that a value is as a step of this number, or its fault.
+/// The call of a value as the step with this number, or its fault.
 fn call_of<A: Allocator + Copy + Send + Sync>(
     alloc: A,
     value: &Value<'_>,
@@ -58,9 +58,9 @@ fn call_of<A: Allocator + Copy + Send + Sync>(
 }
 
 impl<A: Allocator + Copy + Send + Sync> Session<A> {
-    /// Begins a session with the machine and the limit on runs that a trace's top names, with 1 to 64 workers: as
-    /// `read_trace` reads it, but `steps` is not looked at, and may be missing. `NotJson`, then `BadMachine`;
-    /// `HostMemory(0)` where the host refused memory.
+    /// Begins a session with the machine and the limit on runs at the top of a trace, with 1 to 64 workers. Reads the
+    /// top as `read_trace` does, except that `steps` is not looked at, and may be missing. Faults, in order: `NotJson`,
+    /// `BadMachine`; `HostMemory(0)` if the host is out of memory.
     #[tactic(auto, unfolding(crate::specs::Session::opened, crate::specs::Session::begun))]
     pub fn open(alloc: A, heap: Global, bytes: &[u8], workers: usize) -> Result<Self, TraceError>
         requires { (0 < workers) × (workers ≤ 64) }
@@ -81,10 +81,10 @@ impl<A: Allocator + Copy + Send + Sync> Session<A> {
         })
     }
 
-    /// Makes the next step, which the bytes are as JSON, and returns its lines, numbered by the steps before it. A refused
-    /// call is a step with its line. `NotJson`, or `BadStep` with the step's number, where the bytes are no step: the session
-    /// is as it was. `HostMemory` with the step's number where the host refused memory: the step is not counted, but its call
-    /// may have been made in part, as the call says, or whole and without its lines. The workers pass the gate.
+    /// Makes the next step, given as JSON, and returns its lines, numbered by the steps before it. A refused call is a
+    /// step with its line. `NotJson`, or `BadStep` with the step's number, if the bytes are no step: nothing has
+    /// changed. `HostMemory` with the step's number if the host is out of memory: the step is not counted, but its call
+    /// may have been made in part, as the call says, or whole and without its lines. The workers call the gate.
     #[tactic(auto, unfolding(crate::specs::Session::asked))]
     pub fn step<R: Threads + Wait + Sync, G: Gate + Sync>(
         &mut self,

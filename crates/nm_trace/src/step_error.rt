@@ -10,7 +10,7 @@ use std::alloc::{AllocError, AllocFailed};
 pub enum StepError {
     /// The value does not have the form of a step.
     Bad,
-    /// The host refused memory.
+    /// The host is out of memory.
     Memory,
 }
 

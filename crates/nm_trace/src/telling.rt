@@ -1,4 +1,4 @@
-//! Readers and writers that tell whether they have failed.
+//! Readers and writers that report whether they have failed.
 
 ghost use Rattle.std.specs.Prelude.{◌≡◌, ◌||◌, ◌+◌, ℕ, Bool, false, length, is_err, MatchResult, refl};
 ghost use Rattle.std.specs.Io.{ReadsAtMost, WritesAtMost};
@@ -11,34 +11,37 @@ use std::collections::VecDeque;
 use std::io;
 use std::io::{AsBytes, Cursor, Empty, Read, Sink, Write};
 
-/// A reader that tells whether it has failed, and how many bytes it gave.
+/// A reader that reports whether it has failed, and how many bytes it gave.
 pub trait TellingReader: Read {
     /// A read has failed.
     ghost has_failed: { Self → Bool };
 
-    /// From one moment to a later one it gave so many bytes.
+    /// It gave this many bytes between an earlier moment and a later one.
     ghost gave: { Self → Self → ℕ → Type 0 };
 
-    /// `read`, which tells.
+    /// Does what `read` does, and keeps the report.
     fn read_telling(&mut self, buf: &mut [u8]) -> io::Result<usize>
+        // What `read` does
         ensures bound { ReadsAtMost result buf.new }
         ensures bytes { ReadConsumes (Self.remaining self.old) (Self.remaining self.new) result buf.new }
+
+        // What is reported
         ensures failed { has_failed self.new ≡ (is_err result || has_failed self.old) }
         ensures given { MatchResult result (gave self.old self.new) (λ _. gave self.old self.new 0) };
 
-    /// In no time it gave none.
+    /// Between a moment and itself it gave none.
     ghost gave_none: { (r : Self) → gave r r 0 };
 
-    /// What it gave adds up.
+    /// The numbers of bytes that it gave add up.
     ghost gave_more: { (r s t : Self) (m n : ℕ) → gave r s m → gave s t n → gave r t (m + n) };
 }
 
-/// A writer that tells whether it has failed.
+/// A writer that reports whether it has failed.
 pub trait TellingWriter: Write {
-    /// A write has failed: with an error, or it took no byte of some.
+    /// A write has failed: with an error, or it took no byte although there was one.
     ghost has_failed: { Self → Bool };
 
-    /// `write`, which tells.
+    /// Does what `write` does, and keeps the report.
     fn write_telling(&mut self, buf: &[u8]) -> io::Result<usize>
         ensures bound { WritesAtMost result buf.now }
         ensures bytes { WriteAppends (Self.contents self.old) (Self.contents self.new) result buf.now }

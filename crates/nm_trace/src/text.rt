@@ -16,7 +16,7 @@ use nm_calls::{
 use nm_types::{Errno, FrameId};
 use std::alloc::{AllocError, Allocator};
 
-/// The word that names a call.
+/// The word for a call.
 fn word<A: Allocator + Copy + Send + Sync>(call: &Call<A>) -> &'static str
     ensures { result.now ≡ word_of (call_of call.now) }
 {
@@ -166,7 +166,7 @@ fn push_answer<A: Allocator + Copy + Send + Sync>(
     }
 }
 
-/// Appends the front of a step's line: its number and its word, each followed by a space.
+/// Appends the beginning of a step's line: its number and its word, each followed by a space.
 fn push_front<A: Allocator + Copy + Send + Sync>(
     line: &mut String<A>,
     k: usize,
@@ -182,7 +182,7 @@ fn push_front<A: Allocator + Copy + Send + Sync>(
     line.push_str(" ")
 }
 
-/// Appends the line of step k, whose call was not refused, and then those of an answer of several lines.
+/// Appends the line of step k, whose call was not refused, followed by those of an answer of several lines.
 #[tactic(auto, unfolding(crate::specs::Report::line_of))]
 fn push_line<A: Allocator + Copy + Send + Sync>(
     alloc: A,
@@ -199,7 +199,7 @@ fn push_line<A: Allocator + Copy + Send + Sync>(
     text.push_str("\n")
 }
 
-/// The word that names an access.
+/// The word for an access.
 fn access_word<A: Allocator + Copy>(access: &Access<A>) -> &'static str
     ensures { result.now ≡ access_word (access_shown access.now) }
 {
@@ -231,7 +231,8 @@ fn push_access_answer<A: Allocator + Copy>(
     }
 }
 
-/// Appends the front of the line of access j of a step: both numbers and the word of the access, followed by a space.
+/// Appends the beginning of the line of access j of a step: both numbers and the word of the access, followed by a
+/// space.
 fn push_access_front<A: Allocator + Copy>(
     line: &mut String<A>,
     step: usize,
@@ -268,7 +269,7 @@ fn push_access<A: Allocator + Copy>(
     text.push_str("\n")
 }
 
-/// Appends the lines of the accesses of step k, one after another, each with the answer at its place.
+/// Appends the lines of the accesses of step k, one after another, each with the answer at its index.
 fn push_accesses<A: Allocator + Copy + Send + Sync>(
     alloc: A,
     text: &mut String<A>,
@@ -288,7 +289,7 @@ fn push_accesses<A: Allocator + Copy + Send + Sync>(
     Ok(())
 }
 
-/// Appends the lines of the accesses of step k that were made while pages moved.
+/// Appends the lines of the accesses of step k made while pages moved.
 #[tactic(auto, unfolding(nm_calls::specs::Outcome::accesses_asked))]
 fn push_flights<A: Allocator + Copy + Send + Sync>(
     alloc: A,
@@ -315,8 +316,8 @@ fn push_flights<A: Allocator + Copy + Send + Sync>(
     }
 }
 
-/// Appends the lines of step k, whose call was not refused: its own, and those of the accesses that were made while
-/// pages moved. If the host refuses memory, some of them may be there.
+/// Appends the lines of step k, whose call was not refused: its own, and those of the accesses made while pages moved.
+/// If the host is out of memory, some of them may have been appended.
 #[tactic(auto, unfolding(crate::specs::Report::text_of))]
 pub(crate) fn push_text<A: Allocator + Copy + Send + Sync>(
     alloc: A,
@@ -332,7 +333,7 @@ pub(crate) fn push_text<A: Allocator + Copy + Send + Sync>(
     push_flights(alloc, text, k, call, answer)
 }
 
-/// Appends the line of step k, whose call was refused. If the host refuses memory, some of it may be there.
+/// Appends the line of step k, whose call was refused. If the host is out of memory, part of it may have been appended.
 #[tactic(auto, unfolding(crate::specs::Report::text_of, crate::specs::Report::line_of, crate::specs::Report::answer_text))]
 pub(crate) fn push_refusal<A: Allocator + Copy + Send + Sync>(
     text: &mut String<A>,

@@ -2,8 +2,8 @@
 
 use thiserror::Error;
 
-/// Why there is no report, or no whole one. `ReadFault` comes first, then `NotJson`, `BadMachine` and `BadStep`, all before
-/// any step is made.
+/// Why there is no report, or no whole one. `ReadFault` comes first, then `NotJson`, `BadMachine` and `BadStep`, all
+/// before any step is made.
 #[derive(Clone, Copy, Debug, PartialEq, Eq, Error)]
 pub enum TraceError {
     /// The bytes are not JSON text in UTF-8.
@@ -13,7 +13,7 @@ pub enum TraceError {
     /// of steps.
     #[error("bad machine")]
     BadMachine,
-    /// The step of this number has another form. Steps are numbered from 0, and this is the first such one.
+    /// The step with this number has another form. Steps are numbered from 0, and this is the first such step.
     #[error("bad step {0}")]
     BadStep(usize),
     /// The reader failed, or gave more than 16,777,216 bytes.
@@ -22,7 +22,7 @@ pub enum TraceError {
     /// The writer failed, or took no byte.
     #[error("write fault")]
     WriteFault,
-    /// The host refused memory after this many steps: 0 if it did so for the words, the trace or the machine.
+    /// The host was out of memory after this many steps: 0 if for the words, the trace or the machine.
     #[error("host memory refused after {0} steps")]
     HostMemory(usize),
 }

@@ -1,4 +1,5 @@
-//! A JSON text as a tree, which borrows its strings and leaves its numbers as they are written, and what stands at its keys.
+//! A JSON text as a tree that borrows its strings and keeps its numbers as they are written, and the values at its
+//! keys.
 
 ghost use Rattle.std.specs.Prelude.{◌≡◌, ◌<◌, ◌==◌, ◌^◌, length, slice_index, true, false, Some, is_some, option_map, option_and_then, IsTrue, IfOk, IfErr};
 ghost use Rattle.fast_float.specs.Text.{minus};
@@ -23,7 +24,7 @@ use std::alloc::{Allocator, Global};
 /// How deep lists and objects may nest.
 const MAX_DEPTH: usize = 127;
 
-/// The tree of what a reader reads, to its end. `Bad` if that is not one value.
+/// The tree of all that a reader reads. `Bad` if that is not one value.
 fn next_tree<'a>(heap: Global, reader: &mut Reader<'a>) -> Result<Value<'a>, StepError>
     ensures { Gives value_view result (option_and_then (λ p. grammar.if_last p.0 p.1) (grammar.value 127 reader.old)) }
 {
@@ -40,8 +41,8 @@ fn next_tree<'a>(heap: Global, reader: &mut Reader<'a>) -> Result<Value<'a>, Ste
     }
 }
 
-/// The tree of a text. `Bad` if the text is no JSON: lists and objects nest at most 127 deep, and each number is in the
-/// range of a double. Strings with escapes are written to `scratch`.
+/// The tree of a text. `Bad` if the text is not JSON: lists and objects may nest at most 127 deep, and each number must
+/// be in the range of a double. Strings with escapes are written to `scratch`.
 pub(crate) fn read<'a>(
     heap: Global,
     text: &'a str,
@@ -58,7 +59,7 @@ pub(crate) fn read<'a>(
     }
 }
 
-/// The value of a key, the last one if the key stands twice. None if the key is missing, or this is not an object.
+/// The value at a key, the last one if the key occurs twice. None if the key is missing, or this is not an object.
 pub(crate) fn get<'v, 'a>(value: &'v Value<'a>, key: &str) -> Option<&'v Value<'a>>
     ensures { option_map (λ v. view v.now) result ≡ get key.now (view value.now) }
 {
@@ -99,7 +100,7 @@ pub(crate) fn as_u64(value: &Value<'_>) -> Option<u64>
     }
 }
 
-/// Whether a JSON number begins with a minus.
+/// Whether a JSON number begins with a minus sign.
 fn is_negative(number: &str) -> bool
     ensures value { result ≡ (slice_index number.now 0 == minus) }
     ensures some { IsTrue result → 0 < length number.now }
@@ -108,7 +109,7 @@ fn is_negative(number: &str) -> bool
     !bytes.is_empty() && bytes[0] == b'-'
 }
 
-/// The whole number below 2^64 that a JSON number writes, without point and exponent.
+/// The whole number below 2^64 that a JSON number gives, without point and exponent.
 fn whole_of(number: &str) -> Option<u64>
     ensures { result ≡ option_and_then as_u64 (number_of number.now) }
 {
@@ -119,14 +120,14 @@ fn whole_of(number: &str) -> Option<u64>
     }
 }
 
-/// The whole number below 2^64 that digits without a sign write.
+/// The whole number below 2^64 that digits without a sign give.
 fn whole_from(numeral: &Numeral<'_>) -> Option<u64>
     ensures { result ≡ option_and_then as_u64 (number_from false numeral.now) }
 {
     numeral.to_u64()
 }
 
-/// Whether what stands after a minus is in range.
+/// Whether a number after a minus sign is in range.
 fn is_in_range_below_zero(numeral: &Numeral<'_>) -> bool
     ensures { result ≡ is_some (number_from true numeral.now) }
 {
@@ -138,7 +139,7 @@ fn is_in_range_below_zero(numeral: &Numeral<'_>) -> bool
     numeral.to_float::<f64>(true).is_finite()
 }
 
-/// Whether what stands without a sign is in range.
+/// Whether a number without a sign is in range.
 fn is_in_range_above_zero(numeral: &Numeral<'_>) -> bool
     ensures { result ≡ is_some (number_from false numeral.now) }
 {
@@ -196,7 +197,7 @@ fn members_in_range<'a>(members: &Vec<(&'a str, Value<'a>)>) -> bool
     true
 }
 
-/// A number of 64 bits.
+/// The number at a key, of 64 bits.
 pub(crate) fn number(value: &Value<'_>, key: &str) -> Result<u64, StepError>
     ensures value { Gives (λ n. n) result (number_at key.now (view value.now)) }
     ensures bad { IfErr result (λ e. e ≡ Bad) }
@@ -204,7 +205,7 @@ pub(crate) fn number(value: &Value<'_>, key: &str) -> Result<u64, StepError>
     get(value, key).and_then(as_u64).ok_or(StepError::Bad)
 }
 
-/// A number below 2^32.
+/// The number at a key, below 2^32.
 pub(crate) fn small(value: &Value<'_>, key: &str) -> Result<u32, StepError>
     ensures value { Gives (λ n. n) result (small_at key.now (view value.now)) }
     ensures bad { IfErr result (λ e. e ≡ Bad) }
@@ -212,7 +213,7 @@ pub(crate) fn small(value: &Value<'_>, key: &str) -> Result<u32, StepError>
     u32::try_from(number(value, key)?).map_err(|_| StepError::Bad)
 }
 
-/// A text.
+/// The text at a key.
 pub(crate) fn text<'a>(value: &Value<'a>, key: &str) -> Result<&'a str, StepError>
     ensures value { Gives (λ s. s.now) result (text_at key.now (view value.now)) }
     ensures bad { IfErr result (λ e. e ≡ Bad) }
@@ -220,7 +221,7 @@ pub(crate) fn text<'a>(value: &Value<'a>, key: &str) -> Result<&'a str, StepErro
     get(value, key).and_then(as_str).ok_or(StepError::Bad)
 }
 
-/// True or false, and false where the key is missing.
+/// True or false at a key. False if the key is missing.
 pub(crate) fn flag(value: &Value<'_>, key: &str) -> Result<bool, StepError>
     ensures value { Gives (λ b. b) result (flag_at key.now (view value.now)) }
     ensures bad { IfErr result (λ e. e ≡ Bad) }
@@ -231,7 +232,7 @@ pub(crate) fn flag(value: &Value<'_>, key: &str) -> Result<bool, StepError>
     }
 }
 
-/// A list.
+/// The list at a key.
 pub(crate) fn list<'v, 'a>(value: &'v Value<'a>, key: &str) -> Result<&'v Vec<Value<'a>>, StepError>
     ensures value { Gives (λ v. items_view v.now.items) result (form.items_at key.now (view value.now)) }
     ensures bad { IfErr result (λ e. e ≡ Bad) }
@@ -239,7 +240,7 @@ pub(crate) fn list<'v, 'a>(value: &'v Value<'a>, key: &str) -> Result<&'v Vec<Va
     get(value, key).and_then(as_array).ok_or(StepError::Bad)
 }
 
-/// A number of 64 bits, in a list.
+/// A number of 64 bits, as an item of a list.
 fn number_value(value: &Value<'_>) -> Result<u64, StepError>
     ensures value { Gives (λ n. n) result (form.number_of (view value.now)) }
     ensures bad { IfErr result (λ e. e ≡ Bad) }
@@ -259,7 +260,7 @@ fn numbers_of<A: Allocator + Copy>(alloc: A, values: &[Value<'_>]) -> Result<Vec
     Ok(numbers)
 }
 
-/// The numbers of a key's list, each of 64 bits.
+/// The numbers of the list at a key, each of 64 bits.
 pub(crate) fn numbers<A: Allocator + Copy>(
     alloc: A,
     value: &Value<'_>,
@@ -270,7 +271,7 @@ pub(crate) fn numbers<A: Allocator + Copy>(
     numbers_of(alloc, list(value, key)?.as_slice())
 }
 
-/// A number below 2^32, in a list.
+/// A number below 2^32, as an item of a list.
 fn small_value(value: &Value<'_>) -> Result<u32, StepError>
     ensures value { Gives (λ n. n) result (form.number_below (2 ^ 32) (view value.now)) }
     ensures bad { IfErr result (λ e. e ≡ Bad) }
@@ -290,7 +291,7 @@ fn smalls_of<A: Allocator + Copy>(alloc: A, values: &[Value<'_>]) -> Result<Vec<
     Ok(numbers)
 }
 
-/// The numbers of a key's list, each below 2^32.
+/// The numbers of the list at a key, each below 2^32.
 pub(crate) fn smalls<A: Allocator + Copy>(
     alloc: A,
     value: &Value<'_>,
@@ -301,7 +302,7 @@ pub(crate) fn smalls<A: Allocator + Copy>(
     smalls_of(alloc, list(value, key)?.as_slice())
 }
 
-/// A number of a set, which is below 64.
+/// A node's number, below 64, as an item of a list.
 fn node_value(value: &Value<'_>) -> Result<NodeId, StepError>
     ensures value { Gives (λ n. n) result (form.number_below 64 (view value.now)) }
     ensures bad { IfErr result (λ e. e ≡ Bad) }
@@ -328,7 +329,7 @@ fn set_of(values: &[Value<'_>]) -> Result<NodeMask, StepError>
     Ok(mask)
 }
 
-/// The set of a key's numbers, each below 64.
+/// The set of the numbers at a key, each below 64.
 pub(crate) fn set(value: &Value<'_>, key: &str) -> Result<NodeMask, StepError>
     ensures value { Gives (λ s. s) result (set_at key.now (view value.now)) }
     ensures bad { IfErr result (λ e. e ≡ Bad) }
@@ -347,7 +348,7 @@ fn bytes<A: Allocator + Copy>(alloc: A, text: &str) -> Result<Vec<u8, A>, StepEr
     }
 }
 
-/// The bytes of a key, as hexadecimal digits.
+/// The bytes at a key, given as hexadecimal digits.
 pub(crate) fn hex<A: Allocator + Copy>(
     alloc: A,
     value: &Value<'_>,

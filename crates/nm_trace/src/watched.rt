@@ -1,4 +1,4 @@
-//! A flag beside a reader or a writer.
+//! A flag and a count beside a reader or a writer.
 
 ghost use Rattle.std.specs.Prelude.{◌≡◌, ◌||◌, ◌+◌, ◌∷◌, [], ℕ, false, is_err, IfOk, OnErr};
 ghost use Rattle.std.specs.Io.{ReadsAtMost, WritesAtMost};
@@ -11,8 +11,7 @@ use crate::telling::{TellingReader, TellingWriter};
 use std::io;
 use std::io::{Read, Write};
 
-/// A reader or a writer of any kind, with a flag that is set once a read or write has failed, and a count of the bytes
-/// that were read.
+/// A reader or a writer of any kind, with a flag that is set when a read or write fails, and a count of the bytes read.
 #[derive(Drop)]
 pub struct Watched<T> {
     inner: T,
@@ -21,7 +20,7 @@ pub struct Watched<T> {
 }
 
 impl<T> Watched<T> {
-    /// Watches a reader or a writer from here on.
+    /// Watches a reader or a writer, from this call on.
     pub fn new(inner: T) -> Watched<T>
         ensures inner { watched_inner result ≡ inner }
         ensures failed { watched_failed result ≡ false }
@@ -34,7 +33,7 @@ impl<T> Watched<T> {
         }
     }
 
-    /// Whether a read or a write has failed. A write fails with an error, or where it takes no byte of some.
+    /// Whether a read or a write has failed. A write fails with an error, or if it takes no byte although there is one.
     pub fn has_failed(&self) -> bool
         ensures { result ≡ watched_failed self.now }
     {
@@ -48,14 +47,14 @@ impl<T> Watched<T> {
         self.given
     }
 
-    /// What is watched.
+    /// The watched reader or writer.
     pub fn get_ref(&self) -> &T
         ensures { result.now ≡ watched_inner self.now }
     {
         &self.inner
     }
 
-    /// What was watched.
+    /// The reader or writer that was watched.
     pub fn into_inner(self) -> T
         ensures { result ≡ watched_inner self }
     {
@@ -67,10 +66,15 @@ impl<R: Read> Read for Watched<R> {
     ghost remaining = { λ w. R.remaining (watched_inner w) };
 
     fn read(&mut self, buf: &mut [u8]) -> io::Result<usize>
+        // In any case
         ensures bound { ReadsAtMost result buf.new }
         ensures bytes { ReadConsumes (R.remaining (watched_inner self.old)) (R.remaining (watched_inner self.new)) result buf.new }
         ensures failed { watched_failed self.new ≡ (is_err result || watched_failed self.old) }
+
+        // On success
         ensures given { IfOk result (λ n. watched_given self.new ≡ u64_saturate (watched_given self.old + n)) }
+
+        // On an error
         ensures none { OnErr result (watched_given self.new ≡ watched_given self.old) }
     {
         match self.inner.read(buf) {

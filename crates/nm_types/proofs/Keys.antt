@@ -94,8 +94,7 @@ module _ {K V : Type 0} (R : K → K → Ordering) where
         | false ↦ (all_without (λ y. R e.0 y ≡ Less) m k s.0, sorted-without m k s.1)
       ]
 
--- two maps of the same keys
--- how many entries there are after a change
+-- how many entries a map has after a change
 module _ {K V : Type 0} (R : K → K → Ordering) where
   pub as_many-replace : (m : Map K V) (k : K) (v : V) → length (replace R m k v) ≡ length m
   as_many-replace [] k v = refl

@@ -20,7 +20,7 @@ alike a b n (suc k) h =
     ap (λ x. if x == 1 then n ∷ members_from a (n + 1) k else members_from a (n + 1) k) (h n (omega arith) (omega arith))
     ∙ ap (λ rest. if bit_at b n == 1 then n ∷ rest else rest) (alike a b (n + 1) k (λ i le lt. h i (omega arith) (omega arith)))
 
--- the lowest member stands first, and the others are those of the mask without it
+-- the lowest member comes first, and the others are those of the mask without it
 lowest : (a b n k t : ℕ) → n ≤ t → t < n + k → bit_at b t ≡ 1 → ((i : ℕ) → i < t → bit_at b i ≡ 0) → bit_at a t ≡ 0
     → ((i : ℕ) → i < n + k → i ≢ t → bit_at a i ≡ bit_at b i) → members_from b n k ≡ t ∷ members_from a n k
 lowest a b n zero t le lt one none gone others = absurd (omega arith)
@@ -51,7 +51,7 @@ members-without_first bits some small =
     lowest (bit_and bits (bit_not w64 (1 * 2 ^ t % 2 ^ 64))) bits 0 64 t (omega arith) (omega (arith, is.0)) is.1 is.2 (bit_at_clear_same w64 bits t is.0)
     (λ i lt ne. bit_at_clear_other w64 bits t is.0 i (omega arith) ne)
 
--- members are at most as many as the places
+-- there are at most as many members as places
 few : (bits n k : ℕ) → length (members_from bits n k) ≤ k
 few bits n zero = omega arith
 few bits n (suc k) =

@@ -190,7 +190,7 @@ module _ {K V : Type 0} {R : K → K → Ordering} (o : IsTotalOrder R) (exact :
         | Greater ↦ λ r c. ap (λ es. e ∷ es) (replace_is_set m k v (sorted_tail R e.0 (keys_of m) s) c)
       ] refl h
 
-  -- a new key that goes again leaves the map as it was
+  -- a new key that is removed again leaves the map as it was
   pub without-set : (m : Map K V) (k : K) (v : V) → IsStrictlySortedBy R (keys_of m) → get R m k ≡ None → without R (set R m k v) k ≡ m
   without-set [] k v s h = ap (λ r. cond (is_eq r) [] ((k, v) ∷ [])) (tied_itself o k)
   without-set (e ∷ m) k v s h =

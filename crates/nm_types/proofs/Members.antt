@@ -90,7 +90,7 @@ same more bits n (suc k) h =
     ap (λ x. if x == 1 then n ∷ members_from more (n + 1) k else members_from more (n + 1) k) (h n (omega arith))
     ∙ ap (λ rest. if bit_at bits n == 1 then n ∷ rest else rest) (same more bits (n + 1) k (λ i le. h i (omega (arith, le))))
 
--- one bit more is one member more
+-- one more bit is one more member
 one_more : (more bits n k j : ℕ) → n ≤ j → j < n + k → bit_at more j ≡ 1 → ((i : ℕ) → i ≢ j → bit_at more i ≡ bit_at bits i) → members_from more n k ≡ insert_key nat_cmp (members_from bits n k) j
 one_more more bits n zero j h l is others = absurd (omega arith)
 one_more more bits n (suc k) j h l is others =

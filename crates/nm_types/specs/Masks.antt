@@ -8,11 +8,11 @@ use Rattle.std.proofs.lemmas.Bool.{eqb-true, eqb-false}
 use Rattle.nm_types.specs.Nodes.{members_from, members, mask_of}
 use Rattle.nm_types.specs.declared.mask.NodeMask.TheInside.{Inside}
 
--- one bit more of a number
+-- the low n + 1 bits of a number are bit n and the low n bits
 mod-more : (bits n : ℕ) → bits % 2 ^ (n + 1) ≡ bit_at bits n * 2 ^ n + bits % 2 ^ n
 mod-more bits n = let e : n + 1 ≡ 1 + n = omega arith in ap (λ k. bits % 2 ^ k) e ∙ mod-pow-add bits 1 n
 
--- the `k` bits from n on, and those below
+-- the mask of the `k` bits from n on, plus the low n bits, is the low n + k bits
 mask_of-members_from : (bits n k : ℕ) → mask_of (members_from bits n k) + bits % 2 ^ n ≡ bits % 2 ^ (n + k)
 mask_of-members_from bits n zero =
     let e : n + 0 ≡ n = omega arith in

@@ -1,9 +1,9 @@
--- The numbers and names of refusals, as errno(3) has them.
+-- The numbers and names of errors, as in errno(3).
 use Rattle.std.specs.Prelude.{ℕ, List, codes}
 use Rattle.nm_types.specs.declared.errno.Errno.{Errno}
 use Rattle.nm_types.specs.declared.errno.Errno.TheVariants.{Eperm, Enoent, Esrch, Eio, Enomem, Eacces, Efault, Ebusy, Enodev, Einval}
 
--- the number of a refusal on Linux
+-- an error's number on Linux
 abbrev pub number_of : Errno → ℕ
 number_of Eperm = 1
 number_of Enoent = 2
@@ -16,7 +16,7 @@ number_of Ebusy = 16
 number_of Enodev = 19
 number_of Einval = 22
 
--- the name of a refusal
+-- an error's name
 abbrev pub name_of : Errno → List ℕ
 name_of Eperm = codes "EPERM"
 name_of Enoent = codes "ENOENT"

@@ -1,4 +1,4 @@
--- Which layouts are machines, and otherwise the first fault.
+-- Which layouts are machines, and for the others the first fault.
 use Rattle.std.specs.Prelude.{◌≡◌, nat_lt, ◌==◌, Option, Some, None, Result, Ok, Err, if◌then◌else◌}
 use Rattle.std.specs.List.{list_any}
 use Rattle.nm_types.specs.Layout.{Layout, node_count, frame_count, is_square}
@@ -14,7 +14,7 @@ refusal g =
     else (if nat_lt 16384 (frame_count g) then Some TooManyFrames
     else (if is_square g then None else Some BadDistance))))
 
--- a layout opens as the machine that it describes, or is refused for its first fault
+-- a layout is accepted as the machine that it describes, or refused with its first fault
 abbrev pub Opens : Layout → Result Layout GeometryError → Type 0
 Opens g (Ok machine) = (machine ≡ g) × (refusal g ≡ None)
 Opens g (Err fault) = refusal g ≡ Some fault

@@ -1,4 +1,4 @@
--- The machine as finite maps and lists.
+-- The state of a machine, as finite maps and lists.
 use Rattle.std.specs.Prelude.{ℕ, ◌+◌, ◌-◌, nat_lt, nat_le, ◌==◌, Bool, ◌&&◌, List, [], ◌∷◌, slice_index_or, Option, Some, None, if◌then◌else◌}
 use Rattle.nm_types.specs.declared.page.Page.{Page}
 use Rattle.nm_types.specs.declared.area.Area.{Area}
@@ -24,14 +24,14 @@ pub record State : Type 0 where
   pub areas : Map (ℕ × ℕ) Area
   pub segments : Map ℕ Segment
   pub next_segment : ℕ
-  -- of each page that has a frame: the frame, its bytes, and how often it is pinned
+  -- of each page that has a frame: the frame, its bytes, and its number of pins
   pub place : Map Page ℕ
   pub bytes : Map Page (List ℕ)
   pub pins : Map Page ℕ
-  -- for each node its free frames, the front first
+  -- each node's free frames, front first
   pub free : List (List ℕ)
   pub online : List ℕ
-  -- how many pages moved, and how many requests failed
+  -- how many pages have moved, and how many requests have failed
   pub moved : ℕ
   pub failed : ℕ
 
@@ -39,16 +39,16 @@ pub record State : Type 0 where
 abbrev pub Placed : Type 0
 Placed = (ℕ × ℕ) × Area
 
--- whether an area of the process is over a page number
+-- whether an area of the process covers a page number
 abbrev pub covers : Placed → ℕ → ℕ → Bool
 covers a pid v = (a.0.0 == pid) && (nat_le a.0.1 v && nat_lt v (a.0.1 + a.1.pages))
 
--- the area of a process over a page number
+-- the process's area over a page number, if any
 abbrev pub area_over : Map (ℕ × ℕ) Area → ℕ → ℕ → Option Placed
 area_over [] pid v = None
 area_over (a ∷ areas) pid v = if covers a pid v then Some a else area_over areas pid v
 
--- the page that an area shows at a page number
+-- the page that an area shows at a page number that it covers
 abbrev pub page_of : Placed → ℕ → Page
 page_of a v = record { segment = a.1.page.segment; index = a.1.page.index + (v - a.0.1) }
 
@@ -56,7 +56,7 @@ abbrev pub page_shown : Option Placed → ℕ → Option Page
 page_shown None v = None
 page_shown (Some a) v = Some (page_of a v)
 
--- the page that the area of the process shows there
+-- the page that the process's area shows at a page number, if any
 abbrev pub page_at : Map (ℕ × ℕ) Area → ℕ → ℕ → Option Page
 page_at areas pid v = page_shown (area_over areas pid v) v
 

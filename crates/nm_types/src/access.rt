@@ -1,4 +1,4 @@
-//! Reads and writes.
+//! Reads and writes in a process's memory.
 
 use crate::numbers::Pid;
 use std::alloc::Allocator;
@@ -10,18 +10,18 @@ pub enum Access<A: Allocator + Copy> {
     Read {
         /// The process.
         pid: Pid,
-        /// The first byte's address.
+        /// The address of the first byte, in bytes: below 2^47 inside areas.
         addr: u64,
-        /// How many bytes.
+        /// How many bytes to read: 1 to 4,096, and at most as many as the page has from `addr` on.
         len: u64,
     },
     /// Writes bytes from an address on.
     Write {
         /// The process.
         pid: Pid,
-        /// The first byte's address.
+        /// The address of the first byte, in bytes: below 2^47 inside areas.
         addr: u64,
-        /// What is written.
+        /// The bytes to write: 1 to 4,096 of them, and at most as many as the page has from `addr` on.
         bytes: Vec<u8, A>,
     },
 }

@@ -1,4 +1,4 @@
-//! Refusals, by the names and numbers of `errno(3)`.
+//! Errors, by the names and numbers of errno(3).
 
 ghost use Rattle.std.specs.Prelude.{◌≡◌, pos};
 ghost use Rattle.std.specs.Fmt.{WritesOnOk};
@@ -11,19 +11,19 @@ use std::fmt;
 pub enum Errno {
     /// EPERM: the caller lacks the right.
     Eperm,
-    /// ENOENT: nothing has been touched there.
+    /// ENOENT: the process has touched nothing there.
     Enoent,
     /// ESRCH: no such process.
     Esrch,
     /// EIO: a page does not follow the policy that `mbind` sets.
     Eio,
-    /// ENOMEM: no frame is free where the page may go, or a limit of the machine is reached.
+    /// ENOMEM: no frame is free where the page may go, or the machine is at one of its limits.
     Enomem,
     /// EACCES: the node is not allowed.
     Eacces,
     /// EFAULT: no area there, or only the page of zeros.
     Efault,
-    /// EBUSY: a page is pinned, or pinned as often as it can be, or a node cannot go offline.
+    /// EBUSY: a page is pinned, or has as many pins as it can have, or a node cannot go offline.
     Ebusy,
     /// ENODEV: no such node, or it is offline.
     Enodev,
@@ -32,7 +32,7 @@ pub enum Errno {
 }
 
 impl Errno {
-    /// Its number on Linux. A status of a page is this number with a minus sign.
+    /// Its number on Linux. The status of a page that failed is this number with a minus sign.
     pub fn number(self) -> i32
         ensures { result ≡ pos (number_of self) }
     {

@@ -1,4 +1,4 @@
-//! The flags of `move_pages(2)` and `mbind(2)`.
+//! The flags of move_pages(2) and mbind(2).
 
 ghost use Rattle.std.specs.Prelude.{◌≡◌, ℕ, ◌<◌, ◌↔◌, ◌/◌, ◌%◌, IsTrue};
 ghost use Rattle.std.specs.Option.{SomeIff};
@@ -23,10 +23,10 @@ impl MoveFlags {
     /// MPOL_MF_STRICT: a page that does not follow the policy is an error.
     pub const STRICT: u32 = 1;
 
-    /// MPOL_MF_MOVE: pages that no other process sees are moved.
+    /// MPOL_MF_MOVE: pages that no other process sees move.
     pub const MOVE: u32 = 2;
 
-    /// MPOL_MF_MOVE_ALL: pages are moved whoever sees them.
+    /// MPOL_MF_MOVE_ALL: pages move whoever sees them.
     pub const MOVE_ALL: u32 = 4;
 
     /// The flags of these bits, or None if a bit beyond the three is set.

@@ -1,4 +1,4 @@
-//! The nodes of a machine.
+//! A machine's nodes, their frames and distances.
 
 ghost use Rattle.std.specs.Prelude.{◌≡◌, ◌<◌, ◌≤◌, ◌≢◌, map, slice_index, sum};
 ghost use Rattle.std.specs.Option.{SomeIff};
@@ -11,7 +11,7 @@ use std::alloc::{AllocError, Allocator};
 use std::marker::Model;
 use thiserror::Error;
 
-/// Why sizes and distances do not make a machine.
+/// Why sizes and distances do not describe a machine. If several apply, the first in this order is reported.
 #[derive(Clone, Copy, Debug, PartialEq, Eq, Error)]
 pub enum GeometryError {
     /// There is no node.
@@ -23,17 +23,17 @@ pub enum GeometryError {
     /// A node has no frame.
     #[error("a node without frames")]
     EmptyNode,
-    /// The nodes have more than 16,384 frames together.
+    /// The nodes own more than 16,384 frames in total.
     #[error("more than 16384 frames")]
     TooManyFrames,
-    /// The distances do not have a row for each node with a distance to each node, or a node's distance to itself is
-    /// not 10, or one to another node is below 11.
+    /// The distances are not a row for each node with a distance to each node, or a node's distance to itself is not
+    /// 10, or a distance to another node is below 11.
     #[error("bad distances")]
     BadDistance,
 }
 
-/// How many frames each node owns, and the distances between nodes as a firmware's SLIT gives them. Contracts see it
-/// as a layout.
+/// How many frames each node owns, and the distances between nodes as in a firmware's SLIT. Contracts see it as a
+/// layout.
 #[derive(Debug, Drop)]
 pub struct Geometry<A: Allocator + Copy> {
     sizes: Vec<u32, A>,
@@ -51,7 +51,7 @@ impl<A: Allocator + Copy> Model for Geometry<A> {
     ghost invariant = { λ g. IsMachine (record { sizes = g.sizes.items; distances = map (λ row. row.items) g.distances.items }) };
 }
 
-/// A clone is the same layout in memory of its own; it fails only if the host is out of memory.
+/// Returns the same layout in memory of its own. Fails only if the host is out of memory.
 impl<A: Allocator + Copy> Clone for Geometry<A> {
     ghost is_clone = { λ g h. h ≡ g };
 
@@ -63,7 +63,7 @@ impl<A: Allocator + Copy> Clone for Geometry<A> {
     }
 }
 
-/// Whether a distance is one of a node to another: 10 to itself, at least 11 otherwise.
+/// Whether a distance from one node to another is valid: 10 to itself, at least 11 otherwise.
 fn is_distance(own: usize, to: usize, distance: u8) -> bool
     ensures { result ≡ is_distance own to distance }
 {
@@ -74,7 +74,7 @@ fn is_distance(own: usize, to: usize, distance: u8) -> bool
     }
 }
 
-/// Whether a node's row has a distance to each of the `count` nodes.
+/// Whether a node's row has a valid distance to each of the `count` nodes.
 fn is_row(count: usize, own: usize, row: &[u8]) -> bool
     ensures { result ≡ is_row count own row.now }
 {
@@ -89,7 +89,7 @@ fn is_row(count: usize, own: usize, row: &[u8]) -> bool
     true
 }
 
-/// Whether the rows are those of the nodes, from node 0 on.
+/// Whether these are valid rows of the nodes, from node 0 on.
 fn are_rows<A: Allocator + Copy>(count: usize, rows: &[Vec<u8, A>]) -> bool
     ensures { result ≡ are_rows count 0 (map (λ row. row.items) rows.now) }
 {
@@ -101,7 +101,7 @@ fn are_rows<A: Allocator + Copy>(count: usize, rows: &[Vec<u8, A>]) -> bool
     true
 }
 
-/// How many frames the nodes own together, unless they are more than a machine may have.
+/// How many frames the nodes own in total, or None if that is more than a machine may have.
 fn few_frames(sizes: &[u32]) -> Option<u64>
     ensures { SomeIff result (sum sizes.now ≤ 16384) (sum sizes.now) }
 {
@@ -115,7 +115,7 @@ fn few_frames(sizes: &[u32]) -> Option<u64>
     Some(frames)
 }
 
-/// The first fault of sizes and distances, in the order of the errors.
+/// The first fault of sizes and distances, in the order of `GeometryError`.
 fn fault_of<A: Allocator + Copy>(sizes: &[u32], distances: &[Vec<u8, A>]) -> Option<GeometryError>
     ensures { result ≡ refusal (record { sizes = sizes.now; distances = map (λ row. row.items) distances.now }) }
 {
@@ -135,8 +135,8 @@ fn fault_of<A: Allocator + Copy>(sizes: &[u32], distances: &[Vec<u8, A>]) -> Opt
 }
 
 impl<A: Allocator + Copy> Geometry<A> {
-    /// A machine of nodes that own these numbers of frames, with a row of distances for each node. It takes both lists
-    /// as they are, and no memory. If several errors apply, it returns the one that the enum lists first.
+    /// Makes a geometry of nodes that own these numbers of frames, with a row of distances for each node. Takes over
+    /// both lists, and does not allocate. If several errors apply, it returns the one that `GeometryError` lists first.
     pub fn new(sizes: Vec<u32, A>, distances: Vec<Vec<u8, A>, A>) -> Result<Self, GeometryError>
         ensures { Opens (record { sizes = sizes.items; distances = map (λ row. row.items) distances.items }) result }
     {
@@ -154,7 +154,7 @@ impl<A: Allocator + Copy> Geometry<A> {
         self.sizes.len()
     }
 
-    /// How many frames the nodes own together: at most 16,384.
+    /// How many frames the nodes own in total: at most 16,384.
     pub fn frame_count(&self) -> usize
         ensures { result ≡ frame_count self.now }
     {
@@ -194,8 +194,14 @@ impl<A: Allocator + Copy> Geometry<A> {
     pub fn distance(&self, from: NodeId, to: NodeId) -> u8
         requires from { from < node_count self.now }
         requires to { to < node_count self.now }
+
+        // In any case
         ensures distance { result ≡ distance self.now from to }
+
+        // To itself
         ensures own { from ≡ to → result ≡ 10 }
+
+        // To another node
         ensures other { from ≢ to → 11 ≤ result }
     {
         self.distances[from.index()][to.index()]

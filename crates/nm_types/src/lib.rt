@@ -1,4 +1,4 @@
-//! The types that the whole model speaks in: nodes, frames, pages, processes' numbers, refusals, and the geometry of a machine.
+//! The types that all crates of the model share: nodes, frames, pages, pids, errors, and the geometry of a machine.
 #![tactic(auto)]
 
 mod access;

@@ -5,12 +5,12 @@ use crate::{FrameId, NodeId, Page, Vpn};
 /// A page that a process sees, and where it is.
 #[derive(Clone, Copy, Debug, PartialEq, Eq)]
 pub struct Located {
-    /// The page number at which the process sees it.
+    /// The page number at which the process sees it: below 2^35.
     pub vpn: Vpn,
     /// The page.
     pub page: Page,
-    /// Its frame.
+    /// The number of the page's frame: below 16,384.
     pub frame: FrameId,
-    /// The node of its frame.
+    /// The number of the node that owns the frame: below 64.
     pub node: NodeId,
 }

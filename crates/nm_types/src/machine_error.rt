@@ -1,4 +1,4 @@
-//! Why a call did nothing.
+//! Why a call changed nothing.
 
 ghost use Rattle.std.specs.Prelude.{◌≡◌};
 ghost use Rattle.nm_types.specs.declared.machine_error.MachineError.TheVariants.{Refused, HostMemory};
@@ -7,7 +7,7 @@ use crate::errno::Errno;
 use std::alloc::{AllocError, AllocFailed};
 use thiserror::Error;
 
-/// Why a call did nothing.
+/// Why a call changed nothing.
 #[derive(Clone, Copy, Debug, PartialEq, Eq, Error)]
 pub enum MachineError {
     /// The call is refused by a rule of the machine.

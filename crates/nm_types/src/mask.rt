@@ -9,7 +9,7 @@ ghost use Rattle.nm_types.specs.Nodes.{is_in, without_node, IsNodeSet};
 use crate::numbers::NodeId;
 use std::marker::Model;
 
-/// A set of nodes below 64. Contracts see the list of its nodes, in ascending order.
+/// A set of nodes below 64. Contracts see the list of its node numbers, in ascending order.
 #[derive(Clone, Copy, Debug, PartialEq, Eq)]
 pub struct NodeMask {
     bits: u64,
@@ -33,21 +33,21 @@ impl Model for NodeMask {
 }
 
 impl NodeMask {
-    /// The set without nodes.
+    /// The empty set.
     pub const fn new() -> Self
         ensures { result ≡ [] }
     {
         NodeMask { bits: 0 }
     }
 
-    /// Whether it has no node.
+    /// Whether the set is empty.
     pub fn is_empty(self) -> bool
         ensures { IsTrue result ↔ (self ≡ []) }
     {
         self.bits == 0
     }
 
-    /// Whether the node is in it.
+    /// Whether the node is in the set.
     pub fn contains(self, node: NodeId) -> bool
         ensures { result ≡ is_in self node }
     {
@@ -63,14 +63,14 @@ impl NodeMask {
         }
     }
 
-    /// Whether each of its nodes is in another set.
+    /// Whether each of its nodes is also in `other`.
     pub fn is_subset(self, other: Self) -> bool
         ensures { result ≡ list_all (is_in other) self }
     {
         self.intersection(other) == self
     }
 
-    /// Adds a node below 64.
+    /// Adds a node, which must be below 64.
     pub fn insert(&mut self, node: NodeId)
         requires { node < 64 }
         ensures { self.new ≡ insert_key nat_cmp self.old node }

@@ -1,4 +1,4 @@
-//! Numbers that may not be taken for one another.
+//! Numbers of different kinds, each a type of its own so that none is taken for another.
 
 mod frames;
 mod nodes;

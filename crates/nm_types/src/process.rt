@@ -1,16 +1,16 @@
-//! What is known of a process from its start.
+//! What `spawn` fixes of a process.
 
 use crate::{NodeId, NodeMask};
 
-/// What `spawn` fixed of a process.
+/// What `spawn` fixes of a process.
 #[derive(Clone, Copy, Debug, PartialEq, Eq)]
 pub struct ProcessInfo {
-    /// Its user.
+    /// Its user's number.
     pub uid: u32,
-    /// Whether it may act on the processes of other users, as with CAP_SYS_NICE.
+    /// Whether it may act on other users' processes, as with CAP_SYS_NICE.
     pub privileged: bool,
-    /// The node from which its first touches look for frames.
+    /// The number of the node that its new pages are placed near: below the number of nodes.
     pub home: NodeId,
-    /// The nodes that it may use: its cpuset.
+    /// The nodes that it may use, as its cpuset would say. Not empty.
     pub allowed: NodeMask,
 }

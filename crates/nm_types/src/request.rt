@@ -1,4 +1,4 @@
-//! Requests to move pages, and what is to be done with each.
+//! Requests to move pages, and what to do with each.
 
 use crate::{FrameId, NodeId, Page, Pid, Vpn};
 
@@ -7,11 +7,11 @@ use crate::{FrameId, NodeId, Page, Pid, Vpn};
 pub enum Wanted {
     /// The page that a process sees at a page number.
     At {
-        /// The process.
+        /// The process's number.
         pid: Pid,
-        /// The page number.
+        /// The page number: below 2^52 for any address.
         vpn: Vpn,
-        /// Whether the page moves though other processes see it, as with MPOL_MF_MOVE_ALL.
+        /// Whether the page moves even if other processes see it, as with MPOL_MF_MOVE_ALL.
         all: bool,
     },
     /// A page by name, whoever sees it.
@@ -21,22 +21,22 @@ pub enum Wanted {
 /// A request of a batch.
 #[derive(Clone, Copy, Debug, PartialEq, Eq)]
 pub struct Request {
-    /// The node to which its page is to go.
+    /// The number of the node that the page is to go to.
     pub target: NodeId,
     /// What it asks to move.
     pub wanted: Wanted,
 }
 
-/// What is to be done with a request.
+/// What to do with a request.
 #[derive(Clone, Copy, Debug, PartialEq, Eq)]
 pub enum Class {
     /// Nothing moves. The status is a node's number, or an error's number with a minus sign.
     Status(i32),
-    /// The page is to move, if the target has a free frame.
+    /// The page is to move, if its target has a free frame.
     Move {
         /// The page.
         page: Page,
-        /// The frame that it is to leave.
+        /// The frame that it leaves.
         from: FrameId,
     },
 }

@@ -3,7 +3,7 @@
 use crate::numbers::{FrameId, Pid, Vpn};
 use crate::page::Page;
 
-/// What is seen at a page number of a process.
+/// What a process sees at a page number.
 #[derive(Clone, Copy, Debug, PartialEq, Eq)]
 pub enum Seen {
     /// No area of the process is there.
@@ -12,36 +12,36 @@ pub enum Seen {
     Absent,
     /// The page of zeros, which a read of private memory shows.
     Zero,
-    /// A page with a frame.
+    /// A page that has a frame.
     At {
         /// The page.
         page: Page,
-        /// The frame in which it stands.
+        /// The number of the page's frame: below 16,384.
         frame: FrameId,
-        /// How many processes see the page. Two addresses of one process count once.
+        /// How many processes see the page: at most 1,024. Two addresses of one process count once.
         processes: usize,
         /// Whether the page has a pin.
         pinned: bool,
     },
 }
 
-/// What can be looked at, page number by page number and page by page. A look changes nothing and takes no memory.
+/// What can be looked at, by page number and by page. A look changes nothing and does not allocate.
 pub trait PageView {
     ghost use Rattle.std.specs.Prelude.{◌≡◌, ℕ};
     ghost use Rattle.nm_types.specs.declared.page.Page.{Page};
     ghost use Rattle.nm_types.specs.declared.seen.Seen.{Seen};
 
-    /// What is seen at each page number of each process.
+    /// What each process sees at each page number.
     ghost seen_at: { Self → ℕ → ℕ → Seen };
 
-    /// What is seen of each page, whoever sees it.
+    /// What is to be seen of each page, whoever sees it.
     ghost placed_at: { Self → Page → Seen };
 
-    /// What is seen at a page number of a process.
+    /// What a process sees at a page number.
     fn seen(&self, pid: Pid, vpn: Vpn) -> Seen
         ensures { result ≡ seen_at self.now pid vpn };
 
-    /// What is seen of a page, whoever sees it. Absent where it has no frame.
+    /// What is to be seen of a page, whoever sees it. Absent if it has no frame.
     fn placed(&self, page: Page) -> Seen
         ensures { result ≡ placed_at self.now page };
 }

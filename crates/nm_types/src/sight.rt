@@ -1,4 +1,4 @@
-//! What a process has touched.
+//! What a process sees where it has touched memory.
 
 use crate::page::Page;
 

@@ -7,8 +7,8 @@ use crate::{FrameId, Page};
 pub struct Taken {
     /// The page.
     pub page: Page,
-    /// The frame that it leaves.
+    /// The frame that it leaves: a number below 16,384.
     pub from: FrameId,
-    /// The frame that it takes.
+    /// The frame that it takes: a number below 16,384.
     pub to: FrameId,
 }

@@ -38,7 +38,7 @@ fn nodes_own_stretches(rt: HostRuntime) -> Result<(), Fail> {
     Ok(())
 }
 
-/// What a geometry of these sizes is refused for.
+/// Why a geometry with these sizes is refused.
 fn refusal(alloc: Global, sizes: &[u32]) -> Result<Option<GeometryError>, AllocError> {
     Ok(flat(alloc, sizes)?.err())
 }
@@ -64,19 +64,19 @@ fn refusals_in_order(rt: HostRuntime) -> Result<(), Fail> {
     Ok(())
 }
 
-/// What a geometry of one node with this row of distances is refused for.
+/// Why a geometry of one node with this row of distances is refused.
 fn one(alloc: Global, row: &[u8]) -> Result<Option<GeometryError>, AllocError> {
     let rows = vec![in alloc; Vec::from_slice(alloc, row)?]?;
     Ok(Geometry::new(vec![in alloc; 4]?, rows).err())
 }
 
-/// What a geometry of two nodes with these distances between them is refused for.
+/// Why a geometry of two nodes with these distances between them is refused.
 fn two(alloc: Global, there: u8, back: u8) -> Result<Option<GeometryError>, AllocError> {
     let rows = vec![in alloc; vec![in alloc; 10, there]?, vec![in alloc; back, 10]?]?;
     Ok(Geometry::new(vec![in alloc; 4, 4]?, rows).err())
 }
 
-/// What a geometry of two nodes of which only the first has a row of distances is refused for.
+/// Why a geometry of two nodes is refused if only the first has a row of distances.
 fn missing(alloc: Global) -> Result<Option<GeometryError>, AllocError> {
     let rows = vec![in alloc; vec![in alloc; 10u8, 20u8]?]?;
     Ok(Geometry::new(vec![in alloc; 4, 4]?, rows).err())

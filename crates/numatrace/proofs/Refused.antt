@@ -1,4 +1,4 @@
--- Words that are taken, and words that are refused.
+-- Words that are accepted, and words that are refused.
 use Rattle.std.proofs.Common.{◌≡◌, ℕ, ◌<◌, ◌≤◌, List, [], ◌&&◌, Bool, true, false, Option, Some, None, Result, Ok, Err, refl, sym, ap, ap₂, subst, ◌∙◌, inl, inr, arith}
 use Rattle.std.specs.Prelude.{if◌then◌else◌, nat_le, codes}
 use Rattle.std.proofs.lemmas.Bool.{le-leb, leb-true}
@@ -37,7 +37,7 @@ pub value_of : (a : App) (ws : List Text) (m : ArgMatches) → a ≡ program →
 value_of a ws m is h =
     one_text-rows (found_of m) (codes "workers") ∙ ap (one_of (codes "workers")) ((h (ap is_simple is ∙ program_simple)).0 ∙ ap (λ (b : App). matches_of b ws) is)
 
--- status 2 tells that words are refused
+-- status 2 means that words are refused
 pub refused_two : (e : Error) (kinds : Kinds) (status : ℕ) → status ≡ refused_status (kind_of e) → HasKind kinds e → status ≡ 2 → kinds ≡ [] → ⊥
 refused_two e kinds status is (inl memory) two none =
     let bad : 3 ≡ 2 = sym (is ∙ ap refused_status memory) ∙ two in

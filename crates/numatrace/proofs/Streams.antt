@@ -13,7 +13,7 @@ neither status other (inr three) is not_two not_three = not_three (sym three ∙
 no_stream : (k status : ℕ) → (k ≡ 4 → ⊥) → status ≡ k → status ≡ 4 → ⊥
 no_stream k status not_four is four = not_four (sym is ∙ four)
 
--- status 4 tells that a stream failed
+-- status 4 means that a stream failed
 pub stream_cause : (before now : Bool) (gave : ℕ → Type 0) (wrote writes : Bool) (e : TraceError) (status : ℕ) → ReadTold before now gave e → writes ≡ (is_of_writer e || wrote)
     → status ≡ status_of e → status ≡ 4 → HasStreamCause now gave writes
 stream_cause before now gave wrote writes NotJson status r w is four = absurd (no_stream 2 status (λ h. omega (arith, h)) is four)

@@ -21,7 +21,7 @@ status_of (HostMemory k) = 3
 status_of ReadFault = 4
 status_of WriteFault = 4
 
--- the exit status where the program's words could not be had
+-- the exit status if the program's words could not be read
 abbrev pub words_status : ErrorKind → ℕ
 words_status OutOfMemory = 3
 words_status kind = 2
@@ -31,11 +31,11 @@ abbrev pub refused_status : ParseKind → ℕ
 refused_status parse.OutOfMemory = 3
 refused_status kind = 2
 
--- 0 after a whole report, 2 for bad input, 3 for a refusal of the host, 4 for a fault of a stream
+-- 0 after a whole report, 2 for bad input, 3 if the host is out of memory, 4 for a fault of a stream
 abbrev pub IsStatus : ℕ → Type 0
 IsStatus status = (status ≡ 0) ⊎ ((status ≡ 2) ⊎ ((status ≡ 3) ⊎ (status ≡ 4)))
 
--- there is a trace, and the report on it is written
+-- there is a trace, and the report on it was written
 abbrev pub ReportsWhole : Result Plan TraceError → Option (List ℕ) → Option (List ℕ) → Type 0
 ReportsWhole trace old new = (plan : Plan) × (trace ≡ Ok plan) × Appends old new (report_of plan)
 
@@ -43,16 +43,16 @@ ReportsWhole trace old new = (plan : Plan) × (trace ≡ Ok plan) × Appends old
 abbrev pub IsBad : Result Plan TraceError → Type 0
 IsBad trace = (trace ≡ Err NotJson) ⊎ ((trace ≡ Err BadMachine) ⊎ ((k : ℕ) × (trace ≡ Err (BadStep k))))
 
--- What was written is a front of the report, and after status 0 all of it; status 2 comes of words that are refused, or of bytes
--- that are no trace.
+-- a prefix of the report was written, and after status 0 all of it; status 2 means that the words are refused, or the
+-- bytes are no trace
 abbrev pub Leaves : ℕ → Kinds → Result Plan TraceError → Option (List ℕ) → Option (List ℕ) → Type 0
 Leaves status refusals trace old new =
     (status ≡ 0 → ReportsWhole trace old new) × (status ≡ 2 → (refusals ≢ []) ⊎ IsBad trace) × WritesFront trace old new
 
--- words that are refused end in status 2, or in 3 for want of memory
+-- refused words end in status 2, or in 3 for lack of memory
 abbrev pub Refuses : Kinds → ℕ → Type 0
 Refuses refusals status = (refusals ≡ []) ⊎ ((status ≡ 2) ⊎ (status ≡ 3))
 
--- the reader has failed by now or gave more bytes than a trace has, or the writer has failed
+-- the reader has failed or gave more bytes than a trace may have, or the writer has failed
 abbrev pub HasStreamCause : Bool → (ℕ → Type 0) → Bool → Type 0
 HasStreamCause reader gave writer = HasReadCause reader gave ⊎ (writer ≡ true)

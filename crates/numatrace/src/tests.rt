@@ -1,4 +1,4 @@
-//! What no script can ask of the built program. `tests/hostile.py` asks the rest.
+//! What no script can check of the built program. `tests/hostile.py` checks the rest.
 
 use crate::words::{run_words, run_words_through, unread_words};
 use nm_crew::Gate;
@@ -38,8 +38,8 @@ const REPORT: &str = "0 spawn ok
 9 read 6200
 ";
 
-/// A writer that takes one byte a call, and fails or takes none once it has taken so many. It knows whether they were the
-/// first ones of the report, and counts lines.
+/// A writer that takes one byte in each call, and fails or takes none after this many. It records whether the bytes
+/// were a prefix of the report, and counts lines.
 #[derive(Drop)]
 struct Narrow {
     taken: usize,
@@ -73,7 +73,7 @@ impl Write for Narrow {
     }
 }
 
-/// The program's words, which stand in a text with blanks between them.
+/// The program's words, which are separated by blanks in a text.
 fn words_of(alloc: Global, text: &str) -> Result<Vec<String>, AllocError> {
     let mut words = Vec::new(alloc);
     for word in text.split(' ') {
@@ -82,7 +82,7 @@ fn words_of(alloc: Global, text: &str) -> Result<Vec<String>, AllocError> {
     Ok(words)
 }
 
-/// Runs the program without words on the trace. Gives its status, and what it wrote to standard error.
+/// Runs the program without words on the trace. Returns its status, and what it wrote to standard error.
 fn run<A: Allocator + Copy + Send + Sync>(
     rt: &(impl Threads + Wait + Sync),
     alloc: A,
@@ -105,7 +105,7 @@ fn run<A: Allocator + Copy + Send + Sync>(
     Ok((status, err))
 }
 
-/// Only a lack of memory is reported as one; `tests/hostile.py` has a word that is not UTF-8.
+/// Only a lack of memory is reported as such; `tests/hostile.py` has a word that is not UTF-8.
 #[test]
 fn tells_why_words_are_unread(rt: HostRuntime) -> Result<(), Fail> {
     let mut err = Vec::new(rt.alloc());
@@ -117,7 +117,7 @@ fn tells_why_words_are_unread(rt: HostRuntime) -> Result<(), Fail> {
     Ok(())
 }
 
-/// Whether a writer that fails, or takes none, after so many bytes is reported, and got the first ones of the report.
+/// Whether a writer that fails, or takes no byte, after this many bytes is reported, and got a prefix of the report.
 fn is_write_fault(
     rt: &(impl Threads + Wait + Sync),
     global: Global,
@@ -146,10 +146,10 @@ fn fails_with_its_writer(rt: HostRuntime) -> Result<(), Fail> {
     Ok(())
 }
 
-/// Holds each worker until all that are expected have come, for at most 2^24 turns.
+/// Holds each worker until all that are expected have called, for at most 2^24 turns.
 #[derive(Drop)]
 struct Comers {
-    /// Who came, and who is expected: a bit for each worker.
+    /// Which workers called, and which are expected: one bit each.
     came: AtomicU64,
     all: u64,
 }
@@ -168,14 +168,14 @@ impl Gate for Comers {
     }
 }
 
-/// Words, and the workers that are to come, a bit for each: as many as the words ask for. There are three pages to copy.
+/// Words, and the workers expected, one bit each: as many as the words ask for. There are three pages to copy.
 const ASKED: [(&str, u64); 3] = [
     ("numatrace --workers 1", 1),
     ("numatrace --workers=2", 3),
     ("numatrace --workers 3", 7),
 ];
 
-/// Whether these workers came by the words, and no other.
+/// Whether with these words these workers copy, and no others.
 fn come(
     rt: &(impl Threads + Wait + Sync),
     global: Global,
@@ -208,8 +208,8 @@ fn as_many_workers_as_asked(rt: HostRuntime) -> Result<(), Fail> {
     Ok(())
 }
 
-/// Whether a run that may have met a refusal reported it, after the lines of as many steps; a step that only looks may have
-/// made do with less memory, and then the report is whole.
+/// Whether a run that may have met a refusal reported it, after the lines of as many steps. A step that only looks may
+/// have managed with less memory, and then the report is whole.
 fn is_told(status: u8, err: &[u8], out: &Narrow) -> bool {
     let mut text = *b"numatrace: host memory refused after 0 steps\n";
     text[37] = text[37].wrapping_add(out.lines); // the 0 before "steps"
@@ -218,8 +218,8 @@ fn is_told(status: u8, err: &[u8], out: &Narrow) -> bool {
     out.is_front && (told || whole)
 }
 
-/// Runs the program on the trace, while the allocation of this number is refused. Gives whether it came to that allocation,
-/// and whether it told what it should.
+/// Runs the program on the trace while the allocation with this number is refused. Returns whether it reached that
+/// allocation, and whether it reported what it should.
 fn run_refused(
     rt: &(impl Threads + Wait + Sync),
     global: Global,

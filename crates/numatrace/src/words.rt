@@ -1,4 +1,4 @@
-//! The program over any words, reader and writers.
+//! The program, for any words, reader and writers.
 
 ghost use Rattle.std.specs.Prelude.{◌≡◌, ◌⊎◌, ◌<◌, ◌≤◌, [], IfOk, map, string_bytes};
 ghost use Rattle.std.specs.Io.KnownBytes.{Appends};
@@ -21,16 +21,16 @@ use std::thread::Threads;
 /// The status after a whole report.
 const DONE: u8 = 0;
 
-/// The status of a bad trace, and of words that are refused.
+/// The status for a bad trace, and for words that are refused.
 const BAD_INPUT: u8 = 2;
 
-/// The status if the host refused memory.
+/// The status if the host is out of memory.
 const HOST_REFUSAL: u8 = 3;
 
-/// The status where a reader or a writer failed.
+/// The status if a reader or a writer failed.
 const STREAM_FAULT: u8 = 4;
 
-/// How many workers copy where the words do not say.
+/// How many workers copy if the words do not say.
 const WORKERS: usize = 4;
 
 /// What `--version` prints after the program's name.
@@ -44,7 +44,7 @@ const ABOUT: &str =
 const STATUSES: &str =
     "Exit status: 0 after a whole report, 2 for a bad trace or bad words, 3 where the host refused memory, 4 where reading or writing failed.\nThe man page docs/numatrace.1 has the steps of a trace and what they answer.";
 
-/// How many workers the words ask for: 1 to 64 by `--workers`, and 4 if it is not given. Any other word is refused.
+/// How many workers the words ask for: 1 to 64 with `--workers`, and 4 if it is not given. Any other word is refused.
 pub(crate) fn read_words(heap: Global, words: &[String]) -> Result<usize, Error>
     ensures within { IfOk result (λ workers. (0 < workers) × (workers ≤ 64)) }
     ensures asked { IfOk result (λ workers. workers ≡ workers_asked (map string_bytes words.now)) }
@@ -66,7 +66,7 @@ pub(crate) fn read_words(heap: Global, words: &[String]) -> Result<usize, Error>
     Ok(workers_of(matches.get_one::<usize>("workers")))
 }
 
-/// How many workers copy where this number was read of the words: 4 where it is not from 1 to 64, or none was read.
+/// How many workers copy if this number was read from the words: 4 if it is not from 1 to 64, or none was read.
 fn workers_of(count: Option<usize>) -> usize
     ensures within { (0 < result) × (result ≤ 64) }
     ensures number { result ≡ workers_of count }
@@ -88,8 +88,8 @@ fn status_of(fault: TraceError) -> u8
     }
 }
 
-/// The exit status of words that clap refuses: 3 if the host refused memory, and 2 for any other cause, which may be that they
-/// ask for help or the version.
+/// The exit status for words that clap refuses: 3 if the host is out of memory, and 2 for any other cause, which may be
+/// that they ask for help or the version.
 fn refused_words(kind: ErrorKind) -> u8
     ensures status { result ≡ refused_status kind }
     ensures either { (result ≡ 2) ⊎ (result ≡ 3) }
@@ -109,8 +109,8 @@ fn tell_refusal<E: Write>(error: &Error, err: &mut E) {
     }
 }
 
-/// Reports why the program's words could not be read, and returns the exit status: 3 if the host refused memory, and 2
-/// for any other cause, such as a word that is not UTF-8.
+/// Reports why the program's words could not be read, and returns the exit status: 3 if the host is out of memory, and
+/// 2 for any other cause, such as a word that is not UTF-8.
 pub(crate) fn unread_words<E: Write>(kind: io::ErrorKind, err: &mut E) -> u8
     ensures { result ≡ words_status kind }
 {
@@ -123,11 +123,11 @@ pub(crate) fn unread_words<E: Write>(kind: io::ErrorKind, err: &mut E) -> u8
 }
 
 /// Runs the program: reads the words, then the trace from the reader, and writes the report to `out`. `--workers N`
-/// says how many workers copy, 1 to 64, and 4 if it is not given; it changes no byte of the report. Returns the exit
+/// sets how many workers copy, 1 to 64, and 4 if it is not given; it changes no byte of the report. Returns the exit
 /// status: 0 after a whole report; 2 for a bad trace, for words that are refused, and for `--help` and `--version`; 3
-/// if the host refused memory; 4 for a read or write fault. A fault is reported on `err`, in one line or in clap's own
-/// text, and a fault of `err` does not change the status. The words are read in the memory of `heap`, as is the JSON
-/// value; everything else stands in that of `alloc`.
+/// if the host is out of memory; 4 for a read or write fault. A fault is reported on `err`, in one line or in clap's
+/// own text, and a fault of `err` does not change the status. The words and the JSON tree are in the memory of `heap`;
+/// everything else is in that of `alloc`.
 pub fn run_words<
     T: Threads + Wait + Sync,
     A: Allocator + Copy + Send + Sync,
@@ -135,17 +135,24 @@ pub fn run_words<
     W: TellingWriter,
     E: Write,
 >(rt: &T, alloc: A, heap: Global, words: &[String], reader: &mut R, out: &mut W, err: &mut E) -> u8
+    // In any case
     ensures status { IsStatus result }
     ensures reports { OfSomeBytes (R.remaining reader.old) (λ trace.
         Leaves result (refusals_of (map string_bytes words.now)) trace (W.contents out.old) (W.contents out.new)) }
+
+    // If words are refused
     ensures refused { Refuses (refusals_of (map string_bytes words.now)) result }
+
+    // After status 4
     ensures streams { result ≡ 4 → HasStreamCause (R.has_failed reader.new) (R.gave reader.old reader.new) (W.has_failed out.new) }
+
+    // After status 2
     ensures bad { result ≡ 2 → Appends (W.contents out.old) (W.contents out.new) [] }
 {
     run_words_through(rt, alloc, heap, words, reader, out, err, &OpenGate)
 }
 
-/// The same, with workers that pass a gate.
+/// Does the same, with workers that call a gate.
 pub(crate) fn run_words_through<
     T: Threads + Wait + Sync,
     A: Allocator + Copy + Send + Sync,
@@ -163,11 +170,18 @@ pub(crate) fn run_words_through<
     err: &mut E,
     gate: &G,
 ) -> u8
+    // In any case
     ensures status { IsStatus result }
     ensures reports { OfSomeBytes (R.remaining reader.old) (λ trace.
         Leaves result (refusals_of (map string_bytes words.now)) trace (W.contents out.old) (W.contents out.new)) }
+
+    // If words are refused
     ensures refused { Refuses (refusals_of (map string_bytes words.now)) result }
+
+    // After status 4
     ensures streams { result ≡ 4 → HasStreamCause (R.has_failed reader.new) (R.gave reader.old reader.new) (W.has_failed out.new) }
+
+    // After status 2
     ensures bad { result ≡ 2 → Appends (W.contents out.old) (W.contents out.new) [] }
 {
     let workers = match read_words(heap, words) {

@@ -120,14 +120,14 @@ none_more : (a b c : ℕ) (t : Bool) → a + b + c ≡ cond t 1 0 → 1 ≤ a �
 none_more a b c true e h = omega (arith, e, h)
 none_more a b c false e h = omega (arith, e, h)
 
--- a frame that is a page's is none that a run has left or taken
+-- a page's frame is not one that a run has left or taken
 placed_apart : (s : State) (l : List ℕ) (p : Page) (f : ℕ) → IsSoundMidRun s l → get page_cmp s.place p ≡ Some f → times f l ≡ 0
 placed_apart s l p f h placed = none_more (times f (values_of s.place)) (sum_by (times f) s.free) (times f l) (nat_lt f (frame_count s.layout)) (h.frames.once f) (counted_place s.place p f placed)
 
 -- ---- all at once
 
 module _ (y : SpacesView) (k : FramesView) (online : List ℕ) (moved failed target : ℕ) (taken : List Taken) (dues : List Due) where
-  -- the frames as if those that are taken were a node's still
+  -- the frames as if those that are taken were still a node's
   abbrev pub given : FramesView
   given = record k { free = slice_set k.free target (tos taken ++ free_on k target); vacated = [] }
 

@@ -1,4 +1,4 @@
--- Frames of a run that does not begin go back.
+-- The frames of a run that does not begin are put back.
 use Rattle.std.proofs.Common.{◌≡◌, ℕ, suc, zero, ◌+◌, ◌-◌, ◌<◌, ◌≤◌, List, [], ◌∷◌, ◌++◌, Bool, true, false, cond, length, drop, refl, ap, subst, ◌∙◌, arith, length-set, eq-eqb}
 use Rattle.std.specs.Prelude.{nat_lt, sum, slice_index_or, slice_set}
 use Rattle.std.specs.List.{AllByRecursion, sum_by}
@@ -19,7 +19,7 @@ use Rattle.nm_engine.specs.Frames.{CanReturn}
 one_here : (f : ℕ) → here f f ≡ 1
 one_here f = ap (λ b. cond b 1 0) (eq-eqb f f refl)
 
--- frames of a node, of which none stands twice
+-- frames of a node, none of them twice
 pub can_return : (frames : List ℕ) (p : Pool) (node : ℕ) → ((f : ℕ) → times f (frames ++ list_of p node) ≤ 1) → AllByRecursion (λ f. (f < sum p.sizes) × (owner p.sizes f ≡ node)) frames → CanReturn p node frames
 can_return [] p node few own = tt
 can_return (frame ∷ frames) p node few own =
@@ -90,7 +90,7 @@ sound_returns s node frames inside h =
     (let more = part f in let front = times_front f frames l in omega (arith, some, more, front)))
     (front_part frames l s.layout node (subst (AllByRecursion (λ f. node_of s.layout f ≡ node)) there (h.frames.own node))))
 
--- those that are left begin with the one that goes back now
+-- those that are left begin with the one that is put back next
 pub left_from : (moves : List Taken) (left : ℕ) (d : Taken) → 0 < left → left ≤ length moves → drop (left - 1) (tos moves) ≡ (slice_index_or moves (left - 1) d).to ∷ drop left (tos moves)
 left_from moves left d some few =
     let n = left - 1 in

@@ -99,7 +99,7 @@ classes_by_view s target (w ∷ ws) order =
     ap (λ c. c ∷ map (class_shown s.layout (λ pid v. look_in s.processes s.areas s.place s.pins pid v) (λ p. look_at_place s.processes s.pins p (get page_cmp s.place p)) target) ws) (class_by_view s target w order)
     ∙ ap (λ cs. status_or_move s target w ∷ cs) (classes_by_view s target ws order)
 
--- a sound machine's pages stand in its frames, and no others are seen
+-- a sound machine's pages are in its frames, and no others are seen
 placed_below : (s : State) (l : List ℕ) (p : Page) (f : ℕ) → FramesAreOnce s.layout s.place s.free l → get page_cmp s.place p ≡ Some f → f < frame_count s.layout
 placed_below s l p f h e =
     counted_below (times f (values_of s.place)) (sum_by (times f) s.free) (times f l) f (frame_count s.layout) (h.once f) (let some = counted_place s.place p f e in omega (arith, some))
@@ -121,7 +121,7 @@ shows_its_frames s l h = record {
   placed = λ p. look_below s l p (get page_cmp s.place p) h refl;
 }
 
--- the plan by the classes that a view gives, with as many free frames as requests at most
+-- the plan by the classes of a view, with at most as many free frames as requests
 pub planned_is : (s : State) (target n : ℕ) (classes : List Class) (front : List ℕ) (ws : List Wanted) → classes ≡ map (status_or_move s target) ws → front ≡ take n (free_list s target) → length classes ≤ n
     → planned classes front target ≡ planned (map (status_or_move s target) ws) (free_list s target) target
 planned_is s target n classes front ws by at enough =

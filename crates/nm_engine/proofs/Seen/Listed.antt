@@ -89,7 +89,7 @@ module _ (g : Layout) (place : Map Page ℕ) where
   in_place v ZeroPage = tt
   in_place v (Sees p) = in_its_frame v p (get page_cmp place p) refl
 
-  -- each page has the frame that is told of it
+  -- each page has the frame that is listed for it
   pub all_in_place : (sees : Map ℕ Sight) → AllByRecursion (λ e. get page_cmp place e.page ≡ Some e.frame) (located_in g place sees)
   all_in_place [] = tt
   all_in_place (e ∷ sees) =

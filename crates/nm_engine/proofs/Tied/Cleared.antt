@@ -1,4 +1,4 @@
--- Page tables and the reverse map when entries or whole processes go.
+-- Page tables and the reverse map when entries or whole processes are removed.
 use Rattle.std.proofs.Common.{◌≡◌, ℕ, ◌+◌, ◌-◌, ◌≤◌, ◌<◌, List, [], ◌∷◌, Bool, true, false, not, ◌&&◌, ◌||◌, cond, refl, sym, ap, subst, ◌∙◌, arith, length-set, eq-eqb}
 use Rattle.std.specs.Prelude.{Option, Some, None, IsSome, length, ◌==◌, nat_lt, nat_le, if◌then◌else◌}
 use Rattle.std.specs.Option.{option_map}
@@ -85,7 +85,7 @@ module _ (y : SpacesView) (tasks : Map ℕ Task) (m : Mapped) (r : Mappers) (pid
 
 -- ---- entries in a range go
 
--- whether a page number is in front of a range or after it
+-- whether a page number is before a range or after it
 abbrev pub out : ℕ → ℕ → ℕ → Bool
 out a b w = nat_lt w a || nat_le b w
 
@@ -152,7 +152,7 @@ module _ {V : Type 0} where
   keys-values F [] = refl
   keys-values F (e ∷ m) = ap (λ ks. e.0 ∷ ks) (keys-values F m)
 
--- one entry less, where none is before it
+-- one entry fewer, with none before it
 table_step : (m : Map ℕ Entry) (a at v : ℕ) → IsStrictlySortedBy nat_cmp (keys_of m) → a ≤ at → at ≤ v
     → ((w : ℕ) → at ≤ w → w < v → get nat_cmp (filter (λ e. out a at e.0) m) w ≡ None) → without nat_cmp (filter (λ e. out a at e.0) m) v ≡ filter (λ e. out a (v + 1) e.0) m
 table_step m a at v s low high none =
@@ -249,7 +249,7 @@ entry_in_cleared pid a b q w (Some t) =
       | false ↦ refl
     ]
 
--- what is found after the entries in a range went
+-- what is found after the entries in a range were removed
 pub entry_cleared : (ts : Map ℕ Task) (pid a b q w : ℕ) → entry_at (cleared ts pid a b) q w ≡ cond (is_between pid a b (q, w)) None (entry_at ts q w)
 entry_cleared ts pid a b q w = ap (λ o. entry_in o w) (get-values exact_unsigned (one_cleared pid a b) ts q) ∙ entry_in_cleared pid a b q w (get nat_cmp ts q)
 
@@ -283,7 +283,7 @@ module _ (ts now : Map ℕ Task) (pid a at : ℕ) (s : IsStrictlySortedBy nat_cm
   table_now : (t : Task) (w : ℕ) → get nat_cmp ts pid ≡ Some t → entry_at now pid w ≡ None → get nat_cmp (filter (λ e. out a at e.0) t.table) w ≡ None
   table_now t w h none = ap (λ o. entry_in o w) (sym (get_cleared ts pid a at t h)) ∙ ap (λ ts. entry_at ts pid w) (sym is) ∙ none
 
-  -- the entry goes
+  -- the entry is removed
   pub tasks_step : (v : ℕ) (e : Entry) (new : Map ℕ Task) → at ≤ v → entry_at now pid v ≡ Some e → ((w : ℕ) → at ≤ w → w < v → entry_at now pid w ≡ None)
       → ((t : Task) → get nat_cmp now pid ≡ Some t → new ≡ replace nat_cmp now pid (without_entry t v)) → new ≡ cleared ts pid a (v + 1)
   tasks_step v e new high found none gone =
@@ -324,7 +324,7 @@ pub and_true : (b : Bool) → b ≡ (b && true)
 and_true true = refl
 and_true false = refl
 
--- one place less
+-- one place fewer
 has-remove : (l : List (ℕ × ℕ)) (s q : ℕ × ℕ) → IsStrictlySortedBy spot_cmp l → has_spot (remove_key (is_at (spot_cmp s)) l) q ≡ (has_spot l q && not (same_spot q s))
 has-remove [] s q h = refl
 has-remove (x ∷ l) s q h =
@@ -423,7 +423,7 @@ between_step ts pid a at v g s low high none other =
       ] refl
     ] refl
 
--- the mapper that an entry was goes
+-- the mapper that an entry was is removed
 pub mappers_step : (r t u : Mappers) (pid a at v : ℕ) (ts : Map ℕ Task) (o : Option Entry) → IsCleared r t pid a at ts → a ≤ at → at ≤ v → ((w : ℕ) → at ≤ w → w < v → entry_at ts pid w ≡ None)
     → entry_at ts pid v ≡ o → IsLess t u (pid, v) o → length u.mappings ≡ length t.mappings → u.pins ≡ t.pins → IsCleared r u pid a (v + 1) ts
 mappers_step r t u pid a at v ts o h low high none found less frames pins = record {
@@ -476,7 +476,7 @@ mappers_end r t pid a at end ts h up none = record {
   pins = h.pins;
 }
 
--- entries and mappers, when those of a range are gone up to a page number
+-- entries and mappers, when those of a range are removed up to a page number
 pub record IsClearing (ts now : Map ℕ Task) (r t : Mappers) (pid a at end : ℕ) : Type 0 where
   pub pids : IsStrictlySortedBy nat_cmp (keys_of ts)
   pub tables : AllByRecursion (λ e. TableInOrder e.1) ts
@@ -495,7 +495,7 @@ module _ (ts now : Map ℕ Task) (r t : Mappers) (pid a at end : ℕ) (k : IsCle
   was : (v : ℕ) (o : Option Entry) → at ≤ v → entry_at now pid v ≡ o → entry_at ts pid v ≡ o
   was = entry_was ts now pid a at k.pids k.tables k.tasks k.from
 
-  -- where none is left, all are gone
+  -- where none is left, all are removed
   pub cleared_all : ((w : ℕ) → at ≤ w → w < end → entry_at now pid w ≡ None) → (now ≡ cleared ts pid a end) × IsCleared r t pid a end ts
   cleared_all none = (
     tasks_end ts now pid a at k.pids k.tables k.tasks k.from end k.up none,
@@ -506,7 +506,7 @@ module _ (ts now : Map ℕ Task) (r t : Mappers) (pid a at end : ℕ) (k : IsCle
   pub names_below : (v f : ℕ) (e : Entry) → ((f v : ℕ) → names f (entry_at ts pid v) ≡ true → f < length r.mappings) → at ≤ v → entry_at now pid v ≡ Some e → names f (Some e) ≡ true → f < length t.mappings
   names_below v f e frames low found name = subst (λ n. f < n) (sym k.rmap.frames) (frames f v (ap (names f) (was v (Some e) low found) ∙ name))
 
-  -- one entry goes, and the mapper that it was
+  -- one entry is removed, and the mapper that it was
   pub cleared_one : (v : ℕ) (e : Entry) (new : Map ℕ Task) (u : Mappers) → at ≤ v → entry_at now pid v ≡ Some e → ((w : ℕ) → at ≤ w → w < v → entry_at now pid w ≡ None)
       → ((t : Task) → get nat_cmp now pid ≡ Some t → new ≡ replace nat_cmp now pid (without_entry t v)) → IsWithout t u (pid, v) (Some e)
       → (new ≡ cleared ts pid a (v + 1)) × IsCleared r u pid a (v + 1) ts

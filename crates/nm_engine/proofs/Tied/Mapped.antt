@@ -1,4 +1,4 @@
--- Page tables, areas and the reverse map when areas change and every page that was shown is shown still.
+-- Page tables, areas and the reverse map when areas change and every page that was shown is still shown.
 use Rattle.std.proofs.Common.{◌≡◌, ℕ, ◌/◌, ◌+◌, List, [], ◌∷◌, Bool, true, false, not, ◌&&◌, cond, refl, sym, ap, subst, ◌∙◌, eq-eqb}
 use Rattle.std.specs.Prelude.{Option, Some, None, Result, Ok, Err, OnOk, nat_le, ◌==◌, length}
 use Rattle.std.specs.Option.{unwrap_or}
@@ -38,7 +38,7 @@ use Rattle.nm_types.proofs.Keys.{All-get}
 use Rattle.nm_engine.proofs.Tied.Remapped.{TableInOrder}
 use Rattle.nm_model.proofs.areas.Apart.{NoneOverlaps, apart_from_new, all_from_none, one_more}
 
--- every page that was shown is shown there still, and frames stay
+-- every page that was shown is still shown there, and frames stay
 pub record IsShownStill (m n : Mapped) : Type 0 where
   pub place : n.place ≡ m.place
   pub pages : (pid v : ℕ) (p : Page) → page_at m.areas pid v ≡ Some p → page_at n.areas pid v ≡ Some p
@@ -115,7 +115,7 @@ not_over_new pid first new (a ∷ areas) q v p h at =
       | false ↦ λ b k. not_over_new pid first new areas q v p h.1 k
     ] refl at
 
--- one area more where there was room
+-- one more area where there was room
 pub still_with_new : (m n : Mapped) (pid address : ℕ) (new : Area) → is_room m.areas pid address new.pages ≡ true → n.place ≡ m.place
     → ((q v : ℕ) → area_over n.areas q v ≡ over_with m.areas ((pid, address / 4096), new) q v) → IsShownStill m n
 still_with_new m n pid address new room place over =
@@ -135,7 +135,7 @@ attach_room m pid address segment offset pages h =
     let fits = is_room m.areas pid address pages && is_stretch (get nat_cmp m.segments segment) offset pages in
     (and_parts (is_room m.areas pid address pages) _ (not_false fits (no_error (not fits) Einval [] h))).0
 
--- what holds if a call does what it is to, and if it changes nothing, holds
+-- what holds if a call does what it should, and if it changes nothing, holds in any case
 pub from_makes : {T P F : Type 0} (result : Result T MachineError) (old new after : Mapped) (refusal : Option Errno) → (refusal ≡ None → new ≡ after → F → P) → (new ≡ old → P)
     → Makes result old new refusal after → OnOk result F → P
 from_makes (Ok x) old new after refusal f g h k = f h.0 h.1 k

@@ -36,7 +36,7 @@ names_one f g (Some Zero) h k = cc
 names_one f g (Some (Frame n)) h k = sym (eqb-true n f h) ∙ eqb-true n g k
 names_one f g (Some (Held n)) h k = sym (eqb-true n f h) ∙ eqb-true n g k
 
--- where a page stands after one of them got a frame
+-- the frame of a page after one of the pages got a frame
 pub place_after : (m : Map Page ℕ) (p q : Page) (to f : ℕ) → get page_cmp (set page_cmp m p to) q ≡ Some f → ((q ≡ p) × (f ≡ to)) ⊎ ((q ≡ p → ⊥) × (get page_cmp m q ≡ Some f))
 place_after m p q to f h =
     elim (is_eq (page_cmp q p)) as (λ b. is_eq (page_cmp q p) ≡ b → cond b (Some to) (get page_cmp m q) ≡ Some f → ((q ≡ p) × (f ≡ to)) ⊎ ((q ≡ p → ⊥) × (get page_cmp m q ≡ Some f))) [

@@ -1,4 +1,4 @@
--- Page tables, areas and the reverse map at the beginning, with one process more, and as they are listed.
+-- Page tables, areas and the reverse map at the beginning, with one more process, and as they are listed.
 use Rattle.std.proofs.Common.{◌≡◌, ℕ, List, [], ◌∷◌, suc, zero, eq-eqb, true, false, cond, refl, sym, ap, ◌∙◌}
 use Rattle.std.specs.Prelude.{Option, Some, None, replicate, slice_index_or}
 use Rattle.std.specs.Option.{option_map, unwrap_or}

@@ -1,4 +1,4 @@
--- Entries that name another frame from now on.
+-- Entries that are changed to name another frame.
 use Rattle.std.proofs.Common.{◌≡◌, ℕ, List, [], ◌∷◌, Bool, true, false, cond, refl, sym, ap, subst, ◌∙◌}
 use Rattle.std.specs.Prelude.{Option, Some, None, IsSome, ◌||◌, ◌&&◌}
 use Rattle.std.specs.BTreeMap.{is_at}

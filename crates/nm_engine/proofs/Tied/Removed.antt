@@ -1,4 +1,4 @@
--- Page tables, areas and the reverse map when a process lets go a range of page numbers.
+-- Page tables, areas and the reverse map when a process unmaps a range of page numbers.
 use Rattle.std.proofs.Common.{◌≡◌, ℕ, ◌<◌, List, [], ◌∷◌, ◌++◌, Bool, true, false, not, ◌&&◌, ◌||◌, cond, refl, sym, ap, subst, ◌∙◌, arith, inl, inr}
 use Rattle.std.specs.Prelude.{Some, None, length, ◌==◌, ◌⊎◌, nat_lt, nat_le, if◌then◌else◌}
 use Rattle.std.specs.Option.{option_map, unwrap_or}
@@ -147,7 +147,7 @@ none_gone test pid first end (a ∷ areas) p h m =
       | false ↦ λ k m. none_gone test pid first end areas p parts.1 m
     ] parts.0 m
 
--- a page that is let go has no pins
+-- a page that is unmapped has no pins
 pub unpinned_pages : (y : SpacesView) (tasks : Map ℕ Task) (m : Mapped) (r : Mappers) (pid first end : ℕ) → spaces_view tasks m r ≡ y → shows_pinned y.areas y.pins pid first end ≡ false
     → (p : Page) (f : ℕ) → Listed p (pages_gone m.areas pid first end) → get page_cmp m.place p ≡ Some f → frame_pins r f ≡ 0
 unpinned_pages y tasks m r pid first end is h p f listed found =

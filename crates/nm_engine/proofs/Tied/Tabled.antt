@@ -82,14 +82,14 @@ by_pid_length (e ∷ es) d =
 by_look_ups : (es : List (ℕ × Task)) (m : Map ℕ Task) → IsStrictlySortedBy nat_cmp (keys_of m) → ((q : ℕ) → lookup (nat_eq q) es ≡ get nat_cmp m q) → by_pid es ≡ m
 by_look_ups es m s h = same_tables (by_pid es) m (by_pid_sorted es) s (λ q. sym (by_pid_get es q) ∙ h q)
 
--- a process that comes
+-- a process that is added
 pub added : (es now : List (ℕ × Task)) (k : ℕ) (v : Task) → ((q : ℕ) → lookup (nat_eq q) now ≡ cond (nat_eq k q) (Some v) (lookup (nat_eq q) es)) → by_pid now ≡ set nat_cmp (by_pid es) k v
 added es now k v h =
     by_look_ups now (set nat_cmp (by_pid es) k v) (sorted-set nat_cmp nat_cmp_total (by_pid es) k v (by_pid_sorted es)) (λ q.
     h q ∙ ap (λ o. cond (nat_eq k q) (Some v) o) (by_pid_get es q) ∙ ap (λ b. cond b (Some v) (get nat_cmp (by_pid es) q)) (nat_eq_equiv.symm k q ∙ unsigned_ties q k)
     ∙ sym (get-set nat_cmp_total (by_pid es) k v q))
 
--- a process that goes
+-- a process that is removed
 pub removed : (es now : List (ℕ × Task)) (k : ℕ) → ((q : ℕ) → lookup (nat_eq q) now ≡ cond (nat_eq k q) None (lookup (nat_eq q) es)) → by_pid now ≡ without nat_cmp (by_pid es) k
 removed es now k h =
     by_look_ups now (without nat_cmp (by_pid es) k) (sorted-without nat_cmp (by_pid es) k (by_pid_sorted es)) (λ q.
@@ -132,7 +132,7 @@ found_value es now k x same found = sym (found ∙ looked es now k same)
 pub none_found : (es : List (ℕ × Task)) (now : Map ℕ Task) (k : ℕ) → by_pid es ≡ now → None ≡ lookup (nat_eq k) es → get nat_cmp now k ≡ None
 none_found es now k same found = sym (found ∙ looked es now k same)
 
--- what a process becomes, told of the one that is found
+-- what a process becomes, stated for the one that is found
 pub becomes : (F : Task → Task) (es after : List (ℕ × Task)) (now : Map ℕ Task) (k : ℕ) (x w t : Task) → by_pid es ≡ now → Some x ≡ lookup (nat_eq k) es → after ≡ set_value (nat_eq k) es w → w ≡ F x
     → get nat_cmp now k ≡ Some t → by_pid after ≡ replace nat_cmp now k (F t)
 becomes F es after now k x w t same found is to there =

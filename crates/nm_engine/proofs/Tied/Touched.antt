@@ -72,7 +72,7 @@ mapped_names f (Some Zero) h = refl
 mapped_names f (Some (Frame g)) h = cc
 mapped_names f (Some (Held g)) h = cc
 
--- one place more
+-- one more place
 has-insert : (l : List (ℕ × ℕ)) (s q : ℕ × ℕ) → has_spot (insert_key spot_cmp l s) q ≡ (same_spot q s || has_spot l q)
 has-insert [] s q = refl
 has-insert (x ∷ l) s q =
@@ -92,7 +92,7 @@ has-insert (x ∷ l) s q =
           ]
     ] refl
 
--- a place that was not there goes again
+-- a place that was not there is removed again
 remove-insert : (l : List (ℕ × ℕ)) (s : ℕ × ℕ) → has_spot l s ≡ false → remove_key (is_at (spot_cmp s)) (insert_key spot_cmp l s) ≡ l
 remove-insert [] s h = ap (λ r. cond (is_eq r) [] (s ∷ [])) (tied_itself spot_cmp_total s)
 remove-insert (x ∷ l) s h =
@@ -102,7 +102,7 @@ remove-insert (x ∷ l) s h =
       | Greater ↦ λ r k. ap (λ r. cond (is_eq r) (insert_key spot_cmp l s) (x ∷ remove_key (is_at (spot_cmp s)) (insert_key spot_cmp l s))) r ∙ ap (λ l. x ∷ l) (remove-insert l s k)
     ] refl h
 
--- a mapper that was with_mapper goes again
+-- a mapper that was added is removed again
 pub dropped_again : (r : Mappers) (f : ℕ) (s : ℕ × ℕ) → f < length r.mappings → has_spot (mappers_of r f) s ≡ false → without_mapper (with_mapper r f s) f s ≡ r
 dropped_again r f s below none =
     let more = with_spot (mappers_of r f) s in
@@ -283,7 +283,7 @@ module _ (tasks : Map ℕ Task) (m : Mapped) (r : Mappers) (p : Page) (f : ℕ) 
       ap (λ pins. record (spaces_view tasks m r) { place = set page_cmp m.place p f; pins = pins })
       (with_values-set exact_page (λ q g. frame_pins r g) m.place p f ∙ ap (set page_cmp (pins_in r m.place) p) (h.pinned f spare.place))
 
--- a mapper that was with_mapper where no page was seen goes again
+-- a mapper that was added where no page was seen is removed again
 pub mapper_undone : (y : SpacesView) (tasks : Map ℕ Task) (m : Mapped) (r : Mappers) (pid v f : ℕ) → spaces_view tasks m r ≡ y → IsTied tasks m r → IsSome (get nat_cmp y.processes pid)
     → ((q : Page) → sight_in (get nat_cmp y.processes pid) v ≡ Some (Sees q) → ⊥) → f < length r.mappings → without_mapper (with_mapper r f (pid, v)) f (pid, v) ≡ r
 mapper_undone y tasks m r pid v f is h known unseen below =

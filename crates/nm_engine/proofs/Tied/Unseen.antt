@@ -1,4 +1,4 @@
--- Page tables, areas and the reverse map when what was seen goes again.
+-- Page tables, areas and the reverse map when what a process sees is removed again.
 use Rattle.std.proofs.Common.{◌≡◌, ℕ, ◌<◌, Bool, true, false, not, ◌&&◌, cond, refl, sym, ap, subst, ◌∙◌}
 use Rattle.std.specs.Prelude.{Option, Some, None, IsSome, length, ◌==◌}
 use Rattle.std.specs.Option.{option_map, unwrap_or}
@@ -40,7 +40,7 @@ not_both : (b : Bool) → (b && not (true && b)) ≡ false
 not_both true = refl
 not_both false = refl
 
--- nothing is a mapper where nothing stands
+-- nothing is a mapper where there is no entry
 pub without_none : (r : Mappers) (spot : ℕ × ℕ) (o : Option Entry) → o ≡ None → IsWithout r r spot o
 without_none r spot o is =
     subst (λ o. IsWithout r r spot o) (sym is)
@@ -50,7 +50,7 @@ without_none r spot o is =
       pins = refl;
     })
 
--- what stands at a page number names no frame any more, and is no mapper
+-- the entry at a page number is changed to name no frame, and is no mapper
 module _ (tasks now : Map ℕ Task) (m : Mapped) (r u : Mappers) (pid v : ℕ) (o : Option Entry) (h : IsTied tasks m r) (less : IsWithout r u (pid, v) (entry_at tasks pid v))
     (after : (q w : ℕ) → entry_at now q w ≡ cond (same_spot (q, w) (pid, v)) o (entry_at tasks q w)) (bare : (f : ℕ) → names f o ≡ false) where
   mappers_bare : (f q w : ℕ) → has_spot (mappers_of u f) (q, w) ≡ names f (entry_at now q w)
@@ -110,7 +110,7 @@ module _ (tasks : Map ℕ Task) (m : Mapped) (r u : Mappers) (pid v : ℕ) (t : 
     frames = less.frames i;
   }
 
-  -- its entry goes
+  -- its entry is removed
   entry_at-clear : (q w : ℕ) → entry_at (replace nat_cmp tasks pid (without_entry t v)) q w ≡ cond (same_spot (q, w) (pid, v)) None (entry_at tasks q w)
   entry_at-clear q w =
       let new : Task = without_entry t v in
@@ -156,7 +156,7 @@ module _ (tasks : Map ℕ Task) (m : Mapped) (r u : Mappers) (pid v : ℕ) (t : 
       ∙ other_rmap (replace nat_cmp tasks pid (with_entry t v Zero))
       ∙ ap (λ ps. record (spaces_view tasks m r) { processes = ps }) (set_entry_shows m.areas tasks pid t v Zero)
 
--- where something is seen, something stands
+-- where something is seen, there is an entry
 some_mapped : {V W : Type 0} (f : V → W) (o : Option V) → IsSome (option_map f o) → IsSome o
 some_mapped f None h = cc
 some_mapped f (Some x) h = refl

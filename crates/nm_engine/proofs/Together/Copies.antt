@@ -29,7 +29,7 @@ still_out (x ∷ store) zero (suc q) out = out
 still_out (x ∷ store) (suc f) zero out = out
 still_out (x ∷ store) (suc f) (suc q) out = still_out store f q out
 
--- a frame that is out is none that is home
+-- a frame that is out is not home
 not_home : (store : Store) (f q : ℕ) → at store f ≡ None → IsHome store q → q ≢ f
 not_home store f q out home e = none_some (sym (ap (at store) e ∙ out) ∙ home_bytes store q home)
   where
@@ -167,7 +167,7 @@ can_refill A (t ∷ taken) k store can =
       }),
     )
 
--- the jobs stand in the order of their tickets
+-- the jobs are in the order of their tickets
 pub tickets_from : (A : Type 0) (taken : List Taken) (k : ℕ) (store : Store) (t : ℕ) (job : CopyJob A) → slice_get (jobs_of {A = A} k store taken) t ≡ Some job → job.ticket ≡ k + t
 tickets_from A [] k store t job at = absurd (cc)
 tickets_from A (x ∷ taken) k store zero job at =

@@ -36,12 +36,12 @@ module _ (areas : Map (ℕ × ℕ) Area) (pid v : ℕ) (h : AllByRecursion HasIn
       let within : v - a.0 < a.1.pages = omega (arith, among.1, among.2) in
       omega (arith, among.0, within)
 
-  -- it is over the page number
+  -- it covers the page number
   pub found_here : (o : Option (ℕ × Area)) → option_map {U = Placed} (λ found. ((pid, found.0), found.1)) o ≡ area_over areas pid v → IfSome o (λ a. (a.0 ≤ v) × (v < a.0 + a.1.pages))
   found_here None e = tt
   found_here (Some a) e = let among = over_among areas pid v ((pid, a.0), a.1) h (sym e) in (among.1, among.2)
 
-  -- it is over each of its page numbers, and its pages have indices
+  -- it covers each of its page numbers, and its pages have indices
   pub found_over : (o : Option (ℕ × Area)) → option_map {U = Placed} (λ found. ((pid, found.0), found.1)) o ≡ area_over areas pid v
       → IfSome o (λ a. (w : ℕ) → a.0 ≤ w → w < a.0 + a.1.pages → area_over areas pid w ≡ Some ((pid, a.0), a.1)) → IfSome o (IsOver areas pid)
   found_over None e over = tt

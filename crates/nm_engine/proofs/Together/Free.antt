@@ -60,7 +60,7 @@ new_shelf g frames free vacated room n count f l =
       home = λ k lt. subst (λ fs. IsHome fs k) (sym f) (all_home n k [] (omega (arith, lt, count)));
     }
 
--- as many lists after frames were freed
+-- the number of lists is the same after frames were freed
 pub lists_stay : (p : pool.Pool) (frames : List ℕ) → length (with_freed p frames).lists ≡ length p.lists
 lists_stay p [] = refl
 lists_stay p (frame ∷ frames) = lists_stay (pool.appended p frame) frames ∙ length-set p.lists (owner p.sizes frame) (slice_index_or p.lists (owner p.sizes frame) [] ++ frame ∷ [])

@@ -33,7 +33,7 @@ pub one_fewer : (s : State) (l : List ℕ) (page : Page) → IsSoundMidRun s l �
 one_fewer s l page sound (Ok done) = let few = few_pins s l page sound in omega (arith, few)
 one_fewer s l page sound (Err e) = tt
 
--- one pin more
+-- one more pin
 pub one_more : (n : ℕ) (r : Result (Unit {0}) Errno) → OnOk r (n < 65535) → OnOk r (n + 1 ≤ 65535)
 one_more n (Ok done) room = omega (arith, room)
 one_more n (Err e) room = tt
@@ -46,7 +46,7 @@ pub err_then : {P Q : Type 0} (r : Result (Unit {0}) Errno) → (P → Q) → On
 err_then (Ok done) f p = tt
 err_then (Err e) f p = f p
 
--- a page that a process sees at an address, told of the value and shown by the fields
+-- a page that a process sees at an address, stated for the value and shown by the fields
 module _ (s : State) (l : List ℕ) (room : ℕ) (x : MidRun) (is : record { state = s; left = l; room = room } ≡ x) (pid address : ℕ) (page : Page) (frame : ℕ) (sound : IsSoundMidRun s l)
     (known : is_unknown x.state pid ≡ false) (seen : sight_at x.state pid (address / 4096) ≡ Some (Sees page)) (placed : get page_cmp x.state.place page ≡ Some frame) where
   seen_inside : sight_at s pid (address / 4096) ≡ Some (Sees page)

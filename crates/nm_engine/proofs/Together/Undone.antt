@@ -1,4 +1,4 @@
--- Touches that are taken back leave what was there.
+-- Undoing touches restores what was there.
 use Rattle.std.proofs.Common.{◌≡◌, ℕ, ◌<◌, List, [], ◌∷◌, ◌++◌, Bool, true, false, cond, length, refl, sym, ap, subst, ◌∙◌, arith}
 use Rattle.std.specs.Prelude.{Option, Some, None, IsSome, Result, Ok, Err, drop, replicate, slice_index, slice_index_or, slice_set, if◌then◌else◌}
 use Rattle.std.specs.Option.{unwrap_or}
@@ -65,7 +65,7 @@ pub can_pop : (s : State) (l : List ℕ) (us : List Undo) (u : Undo) → CanUndo
 can_pop s l [] u h = (h.1, tt)
 can_pop s l (x ∷ us) u h = let rest = can_pop s l us u h.0 in (rest.0, (rest.1, subst (λ t. IsUndoable t l x) (all_undone-push s us u) h.1))
 
--- taken back, a touch leaves the state as it was
+-- undoing a touch restores the state
 pub IsTakenBack : State → List ℕ → State → Option Undo → Type 0
 IsTakenBack s l new None = new ≡ s
 IsTakenBack s l new (Some u) = IsUndoable new l u × (undone new u ≡ s)

@@ -1,4 +1,4 @@
-//! Areas of address spaces that come, split and go.
+//! Adding, splitting and removing areas of address spaces.
 
 ghost use Rattle.std.specs.Prelude.{ℕ, true, false, ◌≡◌, ◌<◌, ◌≤◌, ◌+◌, ◌/◌, [], length, None, Some, Err, IfOk, OnOk, OnErr, IfErr};
 ghost use Rattle.std.specs.List.{AllByRecursion};
@@ -25,7 +25,7 @@ use nm_types::{Errno, FrameId, MachineError, Page, Pid, Policy, Vpn};
 use std::alloc::Allocator;
 
 impl<A: Allocator + Copy> AddressSpaces<A> {
-    /// Makes the next segment and an area of the process over all of it. Returns the segment's number.
+    /// Makes the next segment, and an area of the process over all of it. Returns the segment's number.
     pub(crate) fn map(
         &mut self,
         pid: Pid,
@@ -33,15 +33,18 @@ impl<A: Allocator + Copy> AddressSpaces<A> {
         pages: u64,
         shared: bool,
     ) -> Result<u32, MachineError>
+        // The result and the areas
         ensures done { Makes result (mapped_of self.old) (mapped_of self.new) (insert_refusal (mapped_of self.old) pid addr pages) (inserted (mapped_of self.old) pid addr pages shared) }
         ensures memory { result ≡ Err MachineError.HostMemory → insert_refusal (mapped_of self.old) pid addr pages ≡ None }
         ensures number { IfOk result (λ number. number ≡ self.old.next) }
+
+        // Nothing else changes
         ensures same { self.new ≡ with_mapped self.old (mapped_of self.new) }
     {
         self.areas.insert(pid, addr, pages, shared)
     }
 
-    /// Makes an area of the process over a stretch of a shared segment.
+    /// Makes an area of the process over a range of a shared segment.
     pub(crate) fn attach(
         &mut self,
         pid: Pid,
@@ -57,7 +60,7 @@ impl<A: Allocator + Copy> AddressSpaces<A> {
         self.areas.attach(pid, addr, segment, offset, pages)
     }
 
-    /// Whether the policy of a range of a process may be set, as far as areas go.
+    /// Whether the areas allow setting the policy of a range of a process: EINVAL or EFAULT if not.
     pub(crate) fn check_policy(&self, pid: Pid, addr: u64, len: u64) -> Result<(), Errno>
         ensures ok { OnOk result (range_refusal (mapped_of self.now) pid addr len ≡ None) }
         ensures err { IfErr result (λ e. range_refusal (mapped_of self.now) pid addr len ≡ Some e) }
@@ -80,8 +83,8 @@ impl<A: Allocator + Copy> AddressSpaces<A> {
         self.areas.split_policy(pid, addr, len, policy)
     }
 
-    /// Whether an area of a process shows a pinned page from one page number up to another. It walks once over the areas and
-    /// the pages with a frame there, as far as the first pin, and not at all where no page is pinned.
+    /// Whether an area of a process shows a page with a pin from one page number up to another. Walks once over the
+    /// areas and the pages with a frame there, up to the first pin, and not at all if no page has a pin.
     pub(crate) fn has_pinned(&self, pid: Pid, first: Vpn, end: Vpn) -> bool
         requires { first ≤ end }
         ensures { result ≡ shows_pinned self.now.areas self.now.pins pid first end }
@@ -93,9 +96,9 @@ impl<A: Allocator + Copy> AddressSpaces<A> {
             .shows_counted(pid, first, end, self.rmap.pin_counts())
     }
 
-    /// Unmaps `pages` pages of a process from an address on, of which none is pinned: it loses what it sees there, and
-    /// its areas' parts there. Returns the pages that no area covers any more, with the frames that they had, by
-    /// ascending address.
+    /// Unmaps `pages` pages of a process from an address on, none of which may have a pin: the process loses what it
+    /// sees there, and the parts of its areas there. Returns the pages that no area covers, with the frames that they
+    /// had, in address order.
     pub(crate) fn remove(
         &mut self,
         pid: Pid,
@@ -103,9 +106,15 @@ impl<A: Allocator + Copy> AddressSpaces<A> {
         pages: u64,
     ) -> Result<Vec<(Page, FrameId), A>, MachineError>
         requires unpinned { shows_pinned self.old.areas self.old.pins pid (addr / 4096) (addr / 4096 + pages) ≡ false }
+
+        // In any case
         ensures done { Makes result (mapped_of self.old) (mapped_of self.new) (remove_refusal addr pages) (removed (mapped_of self.old) pid (addr / 4096) (addr / 4096 + pages)) }
+
+        // On success
         ensures ok { OnOk result (self.new ≡ without_range self.old pid (addr / 4096) (addr / 4096 + pages)) }
         ensures freed { IfOk result (λ freed. freed.items ≡ frames_lost (mapped_of self.old) pid (addr / 4096) (addr / 4096 + pages)) }
+
+        // On an error
         ensures err { OnErr result (self.new ≡ self.old) }
     {
         let freed = self.areas.remove(pid, addr, pages)?;
@@ -124,7 +133,7 @@ impl<A: Allocator + Copy> AddressSpaces<A> {
     }
 }
 
-/// Removes the entries of a process from one page number up to another, and with them the mappers that they are.
+/// Removes the entries of a process from one page number up to another, and the mappers that they were.
 fn clear_between<A: Allocator + Copy>(
     tasks: &mut ProcessTable<A>,
     rmap: &mut ReverseMap<A>,

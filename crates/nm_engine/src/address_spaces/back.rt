@@ -1,4 +1,4 @@
-//! What processes saw before is what they see again.
+//! Making processes see what they saw before a touch.
 
 ghost use Rattle.std.specs.Prelude.{ℕ, true, ◌≡◌, ◌<◌, length, Some, IsSome};
 ghost use Rattle.std.specs.Ordering.{nat_cmp};
@@ -19,7 +19,7 @@ use nm_types::{Page, Pid, Vpn};
 use std::alloc::Allocator;
 
 impl<A: Allocator + Copy> AddressSpaces<A> {
-    /// A process sees nothing at a page number from now on. It takes no memory.
+    /// Makes a process see nothing at a page number. Does not allocate.
     fn unsee(&mut self, pid: Pid, vpn: Vpn)
         requires { IsSome (get nat_cmp self.old.processes pid) }
         ensures { (p : Process) → get nat_cmp self.old.processes pid ≡ Some p → self.new ≡ without_seen self.old pid p vpn }
@@ -28,7 +28,7 @@ impl<A: Allocator + Copy> AddressSpaces<A> {
         self.tasks.clear(pid, vpn);
     }
 
-    /// A process sees the page of zeros from now on where it sees something. It takes no memory.
+    /// Makes a process see the page of zeros at a page number where it sees something. Does not allocate.
     fn see_zero_again(&mut self, pid: Pid, vpn: Vpn)
         requires known { IsSome (get nat_cmp self.old.processes pid) }
         requires seen { IsSome (sight_in (get nat_cmp self.old.processes pid) vpn) }
@@ -38,7 +38,7 @@ impl<A: Allocator + Copy> AddressSpaces<A> {
         self.tasks.replace(pid, vpn, Entry::Zero);
     }
 
-    /// A process sees the page of zeros from now on, or nothing, where it sees something. It takes no memory.
+    /// Makes a process see the page of zeros, or nothing, at a page number where it sees something. Does not allocate.
     pub(crate) fn see_before(&mut self, pid: Pid, vpn: Vpn, zero: bool)
         requires known { IsSome (get nat_cmp self.old.processes pid) }
         requires seen { IsSome (sight_in (get nat_cmp self.old.processes pid) vpn) }
@@ -51,7 +51,7 @@ impl<A: Allocator + Copy> AddressSpaces<A> {
         }
     }
 
-    /// A page that nobody sees and that is not pinned has no frame from now on. It takes no memory.
+    /// Removes the frame of a page that nobody sees and that has no pin. Does not allocate.
     pub(crate) fn unplace(&mut self, page: Page)
         requires placed { IsSome (get page_cmp self.old.place page) }
         requires unpinned { pins_here self.old page ≡ 0 }
@@ -62,7 +62,7 @@ impl<A: Allocator + Copy> AddressSpaces<A> {
     }
 }
 
-/// What stands at a page number of a process is no mapper of a frame any more.
+/// Removes the entry at a page number of a process from the mappers of the frame that it names, if any.
 fn drop_mapper<A: Allocator + Copy>(
     tasks: &ProcessTable<A>,
     rmap: &mut ReverseMap<A>,

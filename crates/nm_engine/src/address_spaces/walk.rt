@@ -1,4 +1,4 @@
-//! Walks over what processes have, one after another.
+//! Walks over what processes have.
 
 ghost use Rattle.std.specs.Ordering.{nat_cmp};
 ghost use Rattle.std.specs.Prelude.{All, IfNone, IfOk, IfSome, Some, true, [], length, option_map, ◌+◌, ◌-◌, ◌<◌, ◌^◌, ◌∷◌, ◌≡◌, ◌≤◌};
@@ -20,21 +20,21 @@ use nm_types::{Area, FrameId, Geometry, Page, Pid, Sight, Vpn};
 use std::alloc::{AllocError, Allocator};
 
 impl<A: Allocator + Copy> AddressSpaces<A> {
-    /// The areas of a process, by address.
+    /// The areas of a process, in address order.
     pub(crate) fn lines(&self, pid: Pid) -> Result<Vec<Line, A>, AllocError>
         ensures { IfOk result (λ lines. lines.items ≡ lines_of self.now.segments self.now.areas pid) }
     {
         self.areas.lines(pid)
     }
 
-    /// The pages that have a frame, by segment and index, each with its frame.
+    /// The pages that have a frame, each with its frame, by segment and index.
     pub(crate) fn placed(&self) -> Result<Vec<(Page, FrameId), A>, AllocError>
         ensures { IfOk result (λ placed. placed.items ≡ self.now.place) }
     {
         self.areas.placed()
     }
 
-    /// What a process sees first from one page number up to another, with its page number.
+    /// The first thing that a process sees from one page number up to another, with its page number.
     pub(crate) fn sight_from(&self, pid: Pid, first: Vpn, end: Vpn) -> Option<(Vpn, Sight)>
         ensures some { IfSome result (λ e. between first end (sights_in (get nat_cmp self.now.processes pid))
             ≡ (e.0, e.1) ∷ between (e.0 + 1) end (sights_in (get nat_cmp self.now.processes pid))) }
@@ -52,8 +52,8 @@ impl<A: Allocator + Copy> AddressSpaces<A> {
         }
     }
 
-    /// The pages that a process sees from one page number up to another, by page number, with their frames and nodes. It
-    /// walks once over the entries that the process has there, and looks once for each area.
+    /// The pages that a process sees from one page number up to another, in order of page number, with their frames and
+    /// nodes. Walks once over the process's entries there, and looks up each area once.
     pub(crate) fn pages_between(
         &self,
         alloc: A,
@@ -63,6 +63,8 @@ impl<A: Allocator + Copy> AddressSpaces<A> {
         end: Vpn,
     ) -> Result<Vec<Located, A>, AllocError>
         requires { self.now.frames ≡ frame_count geometry.now }
+
+        // On success
         ensures pages { IfOk result (λ pages. pages.items ≡ located_in geometry.now self.now.place (between first end (sights_in (get nat_cmp self.now.processes pid)))) }
         ensures placed { IfOk result (λ pages. All (λ e. get page_cmp self.now.place e.page ≡ Some e.frame) pages.items) }
         ensures nodes { IfOk result (λ pages. All (λ e. e.node < node_count geometry.now) pages.items) }
@@ -87,8 +89,8 @@ impl<A: Allocator + Copy> AddressSpaces<A> {
         Ok(pages)
     }
 
-    /// The page that a process sees in a frame at a page number, with its node. `last` is an area of the process, from page
-    /// to page the one over the last page number.
+    /// The page that a process sees in a frame at a page number, with its node. `last` is the area found last: from one
+    /// page to the next it becomes the area over the page number.
     fn seen_in(
         &self,
         geometry: &Geometry<A>,
@@ -100,8 +102,12 @@ impl<A: Allocator + Copy> AddressSpaces<A> {
         requires known { frame < frame_count geometry.now }
         requires last { IfSome last.old (IsOver self.now.areas pid) }
         requires seen { (p : Page) × (page_at self.now.areas pid vpn ≡ Some p) × (get page_cmp self.now.place p ≡ Some frame) }
+
+        // The page
         ensures page { in_frame geometry.now vpn (page_here self.now.areas pid vpn) (Some frame) ≡ result ∷ [] }
         ensures node { result.node < node_count geometry.now }
+
+        // The area found last
         ensures last { IfSome last.new (IsOver self.now.areas pid) }
     {
         let near = self.area_near(pid, vpn, last);
@@ -127,10 +133,14 @@ impl<A: Allocator + Copy> AddressSpaces<A> {
         self.rmap.processes(frame)
     }
 
-    /// The area of a process over a page number: the one that was found last, where it is over this number too.
+    /// The area of a process over a page number: the one found last, if it covers this number too.
     fn area_near(&self, pid: Pid, vpn: Vpn, last: &Option<(Vpn, Area)>) -> Option<(Vpn, Area)>
         requires { IfSome last.now (IsOver self.now.areas pid) }
+
+        // In any case
         ensures found { option_map {U = Placed} (λ found. ((pid, found.0), found.1)) result ≡ area_over self.now.areas pid vpn }
+
+        // If there is one
         ensures here { IfSome result (λ a. (a.0 ≤ vpn) × (vpn < a.0 + a.1.pages)) }
         ensures over { IfSome result (IsOver self.now.areas pid) }
     {
@@ -147,14 +157,14 @@ impl<A: Allocator + Copy> AddressSpaces<A> {
     }
 }
 
-/// Whether an area from a page number on is over another page number.
+/// Whether an area that begins at a page number covers another one.
 fn is_over(first: Vpn, area: Area, vpn: Vpn) -> bool
     ensures { result ≡ true → (first ≤ vpn) × (vpn < first + area.pages) }
 {
     vpn.number() >= first.number() && vpn.number() - first.number() < area.pages
 }
 
-/// The page that an area from a page number on shows at a page number that it is over.
+/// The page that an area, which begins at a page number, shows at another one that it covers.
 fn page_in(first: Vpn, area: &Area, vpn: Vpn) -> Page
     requires over { first ≤ vpn }
     requires index { area.now.page.index + (vpn - first) < 2 ^ 64 }

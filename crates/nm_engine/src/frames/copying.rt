@@ -1,4 +1,4 @@
-//! Copying the pages of a run, and the accesses that are made meanwhile.
+//! Copying the pages of a run, and the accesses made meanwhile.
 
 ghost use Rattle.std.specs.Prelude.{◌≡◌, ◌+◌, ◌<◌, ◌≤◌, ◌++◌, [], map, length, slice_get, IsSome, vec_len, vec_capacity};
 ghost use Rattle.std.specs.List.{AllByRecursion};
@@ -20,9 +20,9 @@ use std::mem;
 use std::sync::Wait;
 use std::thread::Threads;
 
-/// Copies the page of each move to the frame that it takes, by a crew, and does meanwhile what is left to
-/// do for accesses to other pages. All pages that move go into a list of jobs, which has room for them and comes back
-/// empty. The answers go into a list that has room for them.
+/// Has a crew copy the page of each move to its new frame, and meanwhile does what is left to do for accesses to other
+/// pages. All pages that move go into a list of jobs, which has room for them and comes back empty. The answers go into
+/// a list that has room for them.
 pub(super) fn copy_pages<
     R: Threads + Wait + Sync,
     A: Allocator + Copy + Send + Sync,
@@ -38,14 +38,21 @@ pub(super) fn copy_pages<
     dues: Vec<Due<A>, A>,
     answers: Vec<AccessAnswer<A>, A>,
 ) -> (Vec<CopyJob<A>, A>, Vec<AccessAnswer<A>, A>)
+    // The moves
     requires can { CanCopy frames.old moves.now }
     requires populated { AllByRecursion (HasBoth frames.old) moves.now }
     requires empty { jobs.items ≡ [] }
     requires few { length moves.now ≤ vec_capacity jobs }
+
+    // What is left to do
     requires due { AllByRecursion (CanDo spaces.now.place (emptied frames.old moves.now)) (map (due_shown accesses.now) dues.items) }
     requires room { AllByRecursion HasRoom dues.items }
+
+    // The list for the answers
     requires unanswered { answers.items ≡ [] }
     requires space { vec_len dues ≤ vec_capacity answers }
+
+    // Afterwards
     ensures frames { frames.new ≡ (all_done spaces.now.place (with_copies frames.old moves.now) (map (due_shown accesses.now) dues.items)).store }
     ensures answers { map answer_shown result.1.items ≡ (all_done spaces.now.place (with_copies frames.old moves.now) (map (due_shown accesses.now) dues.items)).answers }
     ensures empty { result.0.items ≡ [] }
@@ -70,7 +77,7 @@ pub(super) fn copy_pages<
     (copied, answers)
 }
 
-/// Takes the bytes of both frames of each move out, as a job at the end of a list that has room for it.
+/// Takes out the bytes of both frames of each move, as a job at the end of a list that has room for it.
 fn take_out_each<A: Allocator + Copy>(
     frames: &mut FrameStore<A>,
     moves: &[Taken],
@@ -108,8 +115,8 @@ fn put_back_each<A: Allocator + Copy>(frames: &mut FrameStore<A>, jobs: &mut Vec
     }
 }
 
-/// Does what is left to do for accesses, in their order, on the bytes of the frames that are home. The answers go into a
-/// list that has room for them. Each access passes the gate first.
+/// Does what is left to do for accesses, in order, on the bytes of the frames that are home. The answers go into a list
+/// that has room for them. The gate is called before each access.
 fn finish<A: Allocator + Copy, G: Gate>(
     mut store: FrameStore<A>,
     spaces: &AddressSpaces<A>,
@@ -118,10 +125,15 @@ fn finish<A: Allocator + Copy, G: Gate>(
     mut answers: Vec<AccessAnswer<A>, A>,
     gate: &G,
 ) -> (FrameStore<A>, Vec<AccessAnswer<A>, A>)
+    // What is left to do
     requires due { AllByRecursion (CanDo spaces.now.place store) (map (due_shown accesses.now) dues.items) }
     requires room { AllByRecursion HasRoom dues.items }
+
+    // The list for the answers
     requires unanswered { answers.items ≡ [] }
     requires space { vec_len dues ≤ vec_capacity answers }
+
+    // Afterwards
     ensures store { result.0 ≡ (all_done spaces.now.place store (map (due_shown accesses.now) dues.items)).store }
     ensures answers { map answer_shown result.1.items ≡ (all_done spaces.now.place store (map (due_shown accesses.now) dues.items)).answers }
 {
@@ -163,7 +175,7 @@ fn finish_one<A: Allocator + Copy>(
     }
 }
 
-/// The bytes that the access of this number writes.
+/// The bytes that the access with this number writes. Empty if it is a read.
 fn written_by<A: Allocator + Copy>(accesses: &[Access<A>], number: usize) -> &[u8]
     ensures { result.now ≡ written_by (slice_get accesses.now number) }
 {

@@ -1,4 +1,4 @@
-//! Areas that come, split and go.
+//! Adding, splitting and removing areas.
 
 ghost use Rattle.nm_engine.specs.Does.{AsksLast, Makes};
 ghost use Rattle.nm_model.specs.definitions.Effect.{attach, dropped, map_new, unmap};
@@ -18,7 +18,7 @@ use nm_types::{Errno, FrameId, MachineError, Page, Pid, Policy, Vpn};
 use std::alloc::Allocator;
 
 impl<A: Allocator + Copy> Inner<A> {
-    /// Makes a segment and an area of the process over all of it.
+    /// Makes a segment, and an area of the process over all of it.
     pub(crate) fn map(
         &mut self,
         pid: Pid,
@@ -27,9 +27,13 @@ impl<A: Allocator + Copy> Inner<A> {
         shared: bool,
     ) -> Result<u32, MachineError>
         requires { self.old.left ≡ [] }
+
+        // The result and the state
         ensures done { Makes result self.old.state self.new.state (map_refusal self.old.state pid addr pages) (map_new self.old.state pid addr pages shared) }
         ensures memory { AsksLast result (map_refusal self.old.state pid addr pages) }
         ensures number { IfOk result (λ number. number ≡ self.old.state.next_segment) }
+
+        // Nothing else changes
         ensures same { self.new ≡ with_state self.old self.new.state }
     {
         if self.spaces.info(pid).is_none() {
@@ -38,7 +42,7 @@ impl<A: Allocator + Copy> Inner<A> {
         Ok(self.spaces.map(pid, addr, pages, shared)?)
     }
 
-    /// Makes an area of the process over a stretch of a shared segment.
+    /// Makes an area of the process over a range of a shared segment.
     pub(crate) fn attach(
         &mut self,
         pid: Pid,
@@ -48,8 +52,12 @@ impl<A: Allocator + Copy> Inner<A> {
         pages: u64,
     ) -> Result<(), MachineError>
         requires { self.old.left ≡ [] }
+
+        // The result and the state
         ensures done { Makes result self.old.state self.new.state (attach_refusal self.old.state pid addr segment offset pages) (attach self.old.state pid addr segment offset pages) }
         ensures memory { AsksLast result (attach_refusal self.old.state pid addr segment offset pages) }
+
+        // Nothing else changes
         ensures same { self.new ≡ with_state self.old self.new.state }
     {
         if self.spaces.info(pid).is_none() {
@@ -58,7 +66,7 @@ impl<A: Allocator + Copy> Inner<A> {
         Ok(self.spaces.attach(pid, addr, segment, offset, pages)?)
     }
 
-    /// Whether the policy of a range of a process may be set.
+    /// Whether the policy of a range of a process may be set: ESRCH, EINVAL or EFAULT if not.
     pub(crate) fn check_policy(&self, pid: Pid, addr: u64, len: u64) -> Result<(), Errno>
         ensures { Checks result (policy_refusal self.now.state pid addr len) }
     {
@@ -68,7 +76,7 @@ impl<A: Allocator + Copy> Inner<A> {
         self.spaces.check_policy(pid, addr, len)
     }
 
-    /// Sets the policy of the whole pages of a range of addresses of a process, and of no others.
+    /// Sets the policy of the whole pages of a range of a process's addresses, and of no others.
     pub(crate) fn set_policy(
         &mut self,
         pid: Pid,
@@ -77,8 +85,12 @@ impl<A: Allocator + Copy> Inner<A> {
         policy: Policy,
     ) -> Result<(), MachineError>
         requires { self.old.left ≡ [] }
+
+        // The result and the state
         ensures done { Makes result self.old.state self.new.state (policy_refusal self.old.state pid addr len) (set_policy self.old.state pid addr len policy) }
         ensures memory { AsksLast result (policy_refusal self.old.state pid addr len) }
+
+        // Nothing else changes
         ensures same { self.new ≡ with_state self.old self.new.state }
     {
         if self.spaces.info(pid).is_none() {
@@ -90,8 +102,12 @@ impl<A: Allocator + Copy> Inner<A> {
     /// Unmaps `pages` pages of a process from an address on.
     pub(crate) fn unmap(&mut self, pid: Pid, addr: u64, pages: u64) -> Result<(), MachineError>
         requires { self.old.left ≡ [] }
+
+        // The result and the state
         ensures done { Makes result self.old.state self.new.state (unmap_refusal self.old.state pid addr pages) (unmap self.old.state pid addr pages) }
         ensures memory { AsksLast result (unmap_refusal self.old.state pid addr pages) }
+
+        // Nothing else changes
         ensures same { self.new ≡ with_state self.old self.new.state }
     {
         if self.spaces.info(pid).is_none() {
@@ -109,14 +125,18 @@ impl<A: Allocator + Copy> Inner<A> {
         self.let_go(pid, addr, pages)
     }
 
-    /// Unmaps `pages` pages of a process from an address on, of which none is pinned. The frames of pages that no area
-    /// covers any more become free, by ascending address.
+    /// Unmaps `pages` pages of a process from an address on, none of which may have a pin. The frames of pages that no
+    /// area covers become free, in address order.
     pub(crate) fn let_go(&mut self, pid: Pid, addr: u64, pages: u64) -> Result<(), MachineError>
         requires left { self.old.left ≡ [] }
         requires known { is_unknown self.old.state pid ≡ false }
         requires range { is_range addr pages ≡ true }
         requires unpinned { shows_pinned self.old.state.areas self.old.state.pins pid (addr / 4096) (addr / 4096 + pages) ≡ false }
+
+        // The result and the state
         ensures done { Makes result self.old.state self.new.state None (dropped self.old.state pid (addr / 4096) (addr / 4096 + pages)) }
+
+        // Nothing else changes
         ensures same { self.new ≡ with_state self.old self.new.state }
     {
         let freed = self.spaces.remove(pid, addr, pages)?;
@@ -125,7 +145,7 @@ impl<A: Allocator + Copy> Inner<A> {
     }
 }
 
-/// The frames of pages become free, in their order, each at the end of its own node's list.
+/// Frees the frames of pages, in order, each at the end of its own node's list.
 fn free_each<A: Allocator + Copy>(frames: &mut Frames<A>, freed: &[(Page, FrameId)])
     requires { CanFree (pool_of frames.old) (map (λ f. f.1) freed.now) }
     ensures { frames.new ≡ record (frames.old) { free = (with_freed (pool_of frames.old) (map (λ f. f.1) freed.now)).lists } }

@@ -1,22 +1,22 @@
-//! What is left to do for an access in flight once its page is there.
+//! What is left to do for an access in flight after its touch.
 
 use crate::answered::AccessAnswer;
 use nm_types::Page;
 use std::alloc::Allocator;
 
-/// What is left to do for an access once its page is there. None of it asks for memory.
+/// What is left to do for an access after its touch. None of it allocates.
 #[derive(Drop)]
 pub(crate) enum Due<A: Allocator + Copy> {
     /// Nothing: its answer is known.
     Known(AccessAnswer<A>),
-    /// `len` bytes of a page, from `at` on, are to be read into a list that has room for them.
+    /// Reading `len` bytes of a page, from index `at` on, into a list that has room for them.
     Read {
         page: Page,
         at: usize,
         len: usize,
         bytes: Vec<u8, A>,
     },
-    /// The bytes of the access of this number are to be written to a page, from `at` on.
+    /// Writing the bytes of the access with this number to a page, from index `at` on.
     Write {
         page: Page,
         at: usize,

@@ -1,4 +1,5 @@
-//! Accesses that processes make while the pages of a run move: whatever may have to grow for them grows before that.
+//! Accesses that processes make while the pages of a run move: whatever has to be allocated for them is allocated
+//! before.
 
 ghost use Rattle.std.specs.Prelude.{◌≡◌, ◌≤◌, ◌<◌, List, [], Some, map, length, slice_get, vec_len, IfOk, OnOk, OnErr};
 ghost use Rattle.std.specs.List.{AllByRecursion, list_any};
@@ -25,9 +26,9 @@ use std::alloc::{AllocError, Allocator};
 use std::collections::BTreeSet;
 
 impl<A: Allocator + Copy> Inner<A> {
-    /// Takes the frames of moves to a node, and makes ready what accesses come to while the pages are on their way.
-    /// Returns what is then left to do for each access, none of which asks for memory. An error means that the host is
-    /// out of memory, and that all is as it was.
+    /// Takes the frames of moves to a node, and makes all touches of the accesses that come while the pages are on
+    /// their way. Returns what is then left to do for each access, none of which allocates. An error means that the
+    /// host is out of memory, and that nothing has changed.
     pub(crate) fn begin(
         &mut self,
         target: NodeId,
@@ -38,13 +39,19 @@ impl<A: Allocator + Copy> Inner<A> {
         requires room { length moves.now ≤ self.old.room }
         requires none { self.old.left ≡ [] }
         requires moves { CanMove self.old.state target moves.now }
+
+        // On success
         ensures state { OnOk result (self.new.state ≡ (all_early (without_fronts self.old.state target (length moves.now)) (map (λ t. t.page) moves.now) (map access_shown accesses.now)).state) }
         ensures dues { IfOk result (λ dues. map (due_shown accesses.now) dues.items ≡ (all_early (without_fronts self.old.state target (length moves.now)) (map (λ t. t.page) moves.now) (map access_shown accesses.now)).dues) }
         ensures ready { IfOk result (λ dues. AllByRecursion HasRoom dues.items) }
         ensures len { IfOk result (λ dues. vec_len dues ≡ length accesses.now) }
         ensures left { OnOk result (self.new.left ≡ tos moves.now) }
         ensures room { OnOk result (self.new.room ≡ self.old.room) }
+
+        // In any case
         ensures sound { IsSound self.old.state }
+
+        // Without memory
         ensures err { OnErr result (self.new ≡ self.old) }
     {
         self.take_frames(target, moves)?;
@@ -57,18 +64,23 @@ impl<A: Allocator + Copy> Inner<A> {
         }
     }
 
-    /// Takes the frames of moves to a node: they no longer belong to a node's list, but to the run, until its pages
-    /// are in them. Each gets its bytes in memory. An error means that the host is out of memory, and that all is as it
-    /// was.
+    /// Takes the frames of moves to a node: they leave the node's list and belong to the run until its pages are in
+    /// them. Each gets its bytes in memory. An error means that the host is out of memory, and that nothing has changed.
     fn take_frames(&mut self, target: NodeId, moves: &[Taken]) -> Result<(), AllocError>
         requires target { target < node_count self.old.state.layout }
         requires room { length moves.now ≤ self.old.room }
         requires none { self.old.left ≡ [] }
         requires moves { CanMove self.old.state target moves.now }
+
+        // On success
         ensures state { OnOk result (self.new.state ≡ without_fronts self.old.state target (length moves.now)) }
         ensures left { OnOk result (self.new.left ≡ tos moves.now) }
         ensures room { OnOk result (self.new.room ≡ self.old.room) }
+
+        // In any case
         ensures sound { IsSound self.old.state }
+
+        // Without memory
         ensures err { OnErr result (self.new ≡ self.old) }
     {
         self.frames.populate_each(self.alloc, moves)?;
@@ -76,18 +88,23 @@ impl<A: Allocator + Copy> Inner<A> {
         Ok(())
     }
 
-    /// Makes ready what accesses come to while the pages of these moves are on their way. An error means that the host
-    /// is out of memory, and that all is as it was.
+    /// Makes the touches of the accesses that come while the pages of these moves are on their way. An error means that
+    /// the host is out of memory, and that nothing has changed.
     fn prepare(
         &mut self,
         moves: &[Taken],
         accesses: &[Access<A>],
     ) -> Result<Vec<Due<A>, A>, AllocError>
+        // On success
         ensures state { OnOk result (self.new.state ≡ (all_early self.old.state (map (λ t. t.page) moves.now) (map access_shown accesses.now)).state) }
         ensures dues { IfOk result (λ dues. map (due_shown accesses.now) dues.items ≡ (all_early self.old.state (map (λ t. t.page) moves.now) (map access_shown accesses.now)).dues) }
         ensures room { IfOk result (λ dues. AllByRecursion HasRoom dues.items) }
         ensures len { IfOk result (λ dues. vec_len dues ≡ length accesses.now) }
+
+        // Nothing else changes
         ensures same { self.new ≡ with_state self.old (self.new.state) }
+
+        // Without memory
         ensures err { OnErr result (self.new ≡ self.old) }
     {
         let mut dues = Vec::with_capacity(self.alloc, accesses.len())?;
@@ -108,7 +125,7 @@ impl<A: Allocator + Copy> Inner<A> {
         Ok(dues)
     }
 
-    /// Gives back the frames that were taken for moves to a node, whose pages have not moved.
+    /// Puts back the frames taken for moves to a node, if the pages have not moved.
     fn give_back(&mut self, target: NodeId, moves: &[Taken])
         requires taken { self.old.left ≡ tos moves.now }
         requires sound { IsSound (with_fronts (self.old.state) target (tos moves.now)) }
@@ -120,7 +137,7 @@ impl<A: Allocator + Copy> Inner<A> {
         self.frames.give_back(target, moves);
     }
 
-    /// Makes ready what an access comes to, which has this number among those of the run.
+    /// Makes the touch of an access, which has this number among those of the run.
     fn touch_early(
         &mut self,
         moving: &BTreeSet<Page, A>,
@@ -128,11 +145,18 @@ impl<A: Allocator + Copy> Inner<A> {
         number: usize,
         undos: &mut Vec<Undo, A>,
     ) -> Result<Due<A>, AllocError>
+        // On success
         ensures state { OnOk result (self.new.state ≡ (early self.old.state moving.now.keys (access_shown access.now)).state) }
         ensures due { IfOk result (λ due. (accesses : List (Asked _)) → slice_get accesses number ≡ Some access.now → due_shown accesses due ≡ (early self.old.state moving.now.keys (access_shown access.now)).due) }
         ensures room { IfOk result (λ due. HasRoom due) }
+
+        // Nothing else changes
         ensures same { self.new ≡ with_state self.old (self.new.state) }
+
+        // Without memory
         ensures err { OnErr result (self.new ≡ self.old) }
+
+        // The touches to undo
         ensures back { IsStillUndone self.old.left self.old.state undos.old.items self.new.state undos.new.items }
     {
         match access {
@@ -143,7 +167,7 @@ impl<A: Allocator + Copy> Inner<A> {
         }
     }
 
-    /// Makes ready what a read comes to.
+    /// Makes the touch of a read.
     fn read_early(
         &mut self,
         moving: &BTreeSet<Page, A>,
@@ -152,11 +176,18 @@ impl<A: Allocator + Copy> Inner<A> {
         len: u64,
         undos: &mut Vec<Undo, A>,
     ) -> Result<Due<A>, AllocError>
+        // On success
         ensures state { OnOk result (self.new.state ≡ (early self.old.state moving.now.keys (Read pid addr len)).state) }
         ensures due { IfOk result (λ due. (accesses : List (Asked _)) → due_shown accesses due ≡ (early self.old.state moving.now.keys (Read pid addr len)).due) }
         ensures room { IfOk result (λ due. HasRoom due) }
+
+        // Nothing else changes
         ensures same { self.new ≡ with_state self.old (self.new.state) }
+
+        // Without memory
         ensures err { OnErr result (self.new ≡ self.old) }
+
+        // The touches to undo
         ensures back { IsStillUndone self.old.left self.old.state undos.old.items self.new.state undos.new.items }
     {
         let resolved = match self.resolve(pid, addr, len) {
@@ -184,7 +215,7 @@ impl<A: Allocator + Copy> Inner<A> {
         }
     }
 
-    /// Makes ready what a write comes to, which is the access of this number.
+    /// Makes the touch of a write, which is the access with this number.
     fn write_early(
         &mut self,
         moving: &BTreeSet<Page, A>,
@@ -194,11 +225,18 @@ impl<A: Allocator + Copy> Inner<A> {
         number: usize,
         undos: &mut Vec<Undo, A>,
     ) -> Result<Due<A>, AllocError>
+        // On success
         ensures state { OnOk result (self.new.state ≡ (early self.old.state moving.now.keys (Write pid addr bytes.now)).state) }
         ensures due { IfOk result (λ due. (accesses : List (Asked _)) → written_by (slice_get accesses number) ≡ bytes.now → due_shown accesses due ≡ (early self.old.state moving.now.keys (Write pid addr bytes.now)).due) }
         ensures room { IfOk result (λ due. HasRoom due) }
+
+        // Nothing else changes
         ensures same { self.new ≡ with_state self.old (self.new.state) }
+
+        // Without memory
         ensures err { OnErr result (self.new ≡ self.old) }
+
+        // The touches to undo
         ensures back { IsStillUndone self.old.left self.old.state undos.old.items self.new.state undos.new.items }
     {
         let resolved = match self.resolve(pid, addr, bytes.len() as u64) {

@@ -17,7 +17,7 @@ use nm_types::{Errno, FrameId, MachineError, NodeId, Page, Pid, Sight, Vpn};
 use std::alloc::{AllocError, Allocator};
 
 impl<A: Allocator + Copy> Inner<A> {
-    /// The areas of a process, by address.
+    /// The areas of a process, in address order.
     pub(crate) fn lines(&self, pid: Pid) -> Result<Vec<Line, A>, MachineError>
         ensures told { Tells result (entries_refusal self.now.state pid) (λ lines. lines.items ≡ lines_of self.now.state.segments self.now.state.areas pid) }
         ensures memory { AsksLast result (entries_refusal self.now.state pid) }
@@ -43,6 +43,7 @@ impl<A: Allocator + Copy> Inner<A> {
         first: Vpn,
         end: Vpn,
     ) -> Result<Vec<Located, A>, AllocError>
+        // On success
         ensures pages { IfOk result (λ pages. pages.items ≡ located_between self.now.state pid first end) }
         ensures placed { IfOk result (λ pages. All (λ e. get page_cmp self.now.state.place e.page ≡ Some e.frame) pages.items) }
         ensures nodes { IfOk result (λ pages. All (λ e. e.node < node_count self.now.state.layout) pages.items) }
@@ -54,8 +55,13 @@ impl<A: Allocator + Copy> Inner<A> {
 
     /// The first page that a process sees from one page number up to another, with its node.
     pub(crate) fn page_from(&self, pid: Pid, first: Vpn, end: Vpn) -> Option<Located>
+        // If there is one
         ensures some { IfSome result (λ e. located_between self.now.state pid first end ≡ e ∷ located_between self.now.state pid (e.vpn + 1) end) }
+
+        // If there is none
         ensures none { IfNone result (located_between self.now.state pid first end ≡ []) }
+
+        // Its page number and node
         ensures range { IfSome result (λ e. (first ≤ e.vpn) × (e.vpn < end)) }
         ensures node { IfSome result (λ e. e.node < node_count self.now.state.layout) }
     {
@@ -69,7 +75,7 @@ impl<A: Allocator + Copy> Inner<A> {
         None
     }
 
-    /// The node where a page is, or None if it has no frame.
+    /// The node that a page is on. None if it has no frame.
     pub(crate) fn node_of_page(&self, page: Page) -> Option<NodeId>
         ensures { result ≡ option_map (node_of self.now.state.layout) (get page_cmp self.now.state.place page) }
     {
@@ -77,11 +83,16 @@ impl<A: Allocator + Copy> Inner<A> {
         Some(self.frames.geometry().node_of(frame))
     }
 
-    /// The page of what is seen at a page number, with its node.
+    /// The page among what is seen at a page number, with its node.
     fn locate(&self, vpn: Vpn, sight: Sight) -> Option<Located>
+        // If there is one
         ensures some { IfSome result (λ e. located self.now.state.layout self.now.state.place vpn sight ≡ e ∷ []) }
         ensures vpn { IfSome result (λ e. e.vpn ≡ vpn) }
+
+        // If there is none
         ensures none { IfNone result (located self.now.state.layout self.now.state.place vpn sight ≡ []) }
+
+        // Its node
         ensures node { IfSome result (λ e. e.node < node_count self.now.state.layout) }
     {
         let Sight::Sees(page) = sight else {

@@ -1,4 +1,4 @@
-//! Nodes that go online and offline, and the pages on them.
+//! Putting nodes online and taking them offline, and the pages on them.
 
 ghost use Rattle.std.specs.BTreeSet.{insert_key};
 ghost use Rattle.std.specs.List.{filter};
@@ -16,7 +16,7 @@ use nm_types::{FrameId, Geometry, NodeId, NodeMask, Page};
 use std::alloc::{AllocError, Allocator};
 
 impl<A: Allocator + Copy> Inner<A> {
-    /// A node goes online, or offline.
+    /// Puts a node online, or takes it offline.
     pub(crate) fn set_online(&mut self, node: NodeId, online: bool)
         requires { node < node_count self.old.state.layout }
         ensures state { self.new.state ≡ set_online self.old.state node online }
@@ -39,7 +39,7 @@ impl<A: Allocator + Copy> Inner<A> {
     }
 }
 
-/// A set of nodes with one in it, or without it.
+/// A set with this node, or without it.
 fn changed(nodes: NodeMask, node: NodeId, is_in: bool) -> NodeMask
     requires { node < 64 }
     ensures nodes { result ≡ (if is_in then insert_key nat_cmp nodes node else without_node nodes node) }
@@ -55,7 +55,7 @@ fn changed(nodes: NodeMask, node: NodeId, is_in: bool) -> NodeMask
     changed
 }
 
-/// The pages, among these with their frames, that are on a node.
+/// The pages on a node, from a list of pages with their frames.
 fn pages_among<A: Allocator + Copy>(
     alloc: A,
     geometry: &Geometry<A>,

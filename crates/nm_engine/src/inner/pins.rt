@@ -16,11 +16,15 @@ use nm_types::{Errno, FrameId, Page, Pid, Seen, Vpn};
 use std::alloc::Allocator;
 
 impl<A: Allocator + Copy> Inner<A> {
-    /// The page with a frame that a process sees at an address, and the frame, or the refusal that pins have in common.
+    /// The page with a frame that a process sees at an address, and its frame; or the refusal that `pin` and `unpin`
+    /// have in common.
     fn page_seen(&self, pid: Pid, addr: u64) -> Result<(Page, FrameId), Errno>
+        // On success
         ensures known { IfOk result (λ r. is_unknown self.now.state pid ≡ false) }
         ensures seen { IfOk result (λ r. sight_at self.now.state pid (addr / 4096) ≡ Some (Sees r.0)) }
         ensures placed { IfOk result (λ r. get page_cmp self.now.state.place r.0 ≡ Some r.1) }
+
+        // On refusal
         ensures err { IfErr result (λ e. (is_bad : ℕ → Bool) (bad : Errno) → (if is_unknown self.now.state pid then Some Esrch else pins_refusal self.now.state is_bad bad (look self.now.state pid (addr / 4096))) ≡ Some e) }
     {
         if self.spaces.info(pid).is_none() {
@@ -33,7 +37,7 @@ impl<A: Allocator + Copy> Inner<A> {
         }
     }
 
-    /// Pins the page that a process sees at an address once more.
+    /// Adds a pin to the page that a process sees at an address.
     pub(crate) fn pin(&mut self, pid: Pid, addr: u64) -> Result<(), Errno>
         ensures done { Alters result self.old.state self.new.state (pin_refusal self.old.state pid addr) (pin self.old.state pid addr) }
         ensures same { self.new ≡ with_state self.old self.new.state }
@@ -42,7 +46,7 @@ impl<A: Allocator + Copy> Inner<A> {
         self.spaces.pin(page, frame)
     }
 
-    /// Takes one pin off the page that a process sees at an address.
+    /// Removes a pin from the page that a process sees at an address.
     pub(crate) fn unpin(&mut self, pid: Pid, addr: u64) -> Result<(), Errno>
         ensures done { Alters result self.old.state self.new.state (unpin_refusal self.old.state pid addr) (unpin self.old.state pid addr) }
         ensures same { self.new ≡ with_state self.old self.new.state }

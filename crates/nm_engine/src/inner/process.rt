@@ -1,4 +1,4 @@
-//! Processes that come and go.
+//! Adding and removing processes.
 
 ghost use Rattle.nm_engine.specs.Does.{AsksLast, Makes};
 ghost use Rattle.nm_model.specs.definitions.Effect.{exit, spawn};
@@ -16,7 +16,7 @@ use nm_types::limits::{MAX_PROCESSES, PAGE_NUMBERS};
 use nm_types::{Errno, MachineError, NodeMask, Pid, Vpn};
 use std::alloc::Allocator;
 
-/// Whether a node of a set is not below a count.
+/// Whether a set has a node that is not below a count.
 fn has_beyond(nodes: NodeMask, count: usize) -> bool
     requires { count ≤ 64 }
     ensures { result ≡ list_any (nat_le count) nodes }
@@ -41,8 +41,12 @@ impl<A: Allocator + Copy> Inner<A> {
     /// Adds a process.
     pub(crate) fn spawn(&mut self, pid: Pid, info: ProcessInfo) -> Result<(), MachineError>
         requires { self.old.left ≡ [] }
+
+        // The result and the state
         ensures done { Makes result self.old.state self.new.state (spawn_refusal self.old.state pid info.home info.allowed) (spawn self.old.state pid info.uid info.home info.allowed info.privileged) }
         ensures memory { AsksLast result (spawn_refusal self.old.state pid info.home info.allowed) }
+
+        // Nothing else changes
         ensures same { self.new ≡ with_state self.old self.new.state }
     {
         let count = self.frames.node_count();
@@ -64,8 +68,12 @@ impl<A: Allocator + Copy> Inner<A> {
     /// Unmaps all that a process has, and removes it.
     pub(crate) fn exit(&mut self, pid: Pid) -> Result<(), MachineError>
         requires { self.old.left ≡ [] }
+
+        // The result and the state
         ensures done { Makes result self.old.state self.new.state (exit_refusal self.old.state pid) (exit self.old.state pid) }
         ensures memory { AsksLast result (exit_refusal self.old.state pid) }
+
+        // Nothing else changes
         ensures same { self.new ≡ with_state self.old self.new.state }
     {
         if self.spaces.info(pid).is_none() {

@@ -1,4 +1,4 @@
-//! What there is, and where the page is that a process sees.
+//! What a machine has, and where the pages are that processes see.
 
 ghost use Rattle.nm_model.specs.definitions.Status.{node_status};
 ghost use Rattle.nm_model.specs.definitions.Sound.{audited};
@@ -40,7 +40,7 @@ impl<A: Allocator + Copy> Inner<A> {
         self.online.contains(node)
     }
 
-    /// What `spawn` fixed of a process.
+    /// What `spawn` fixed of a process. None if there is no process with this pid.
     pub(crate) fn process(&self, pid: Pid) -> Option<ProcessInfo>
         ensures { result ≡ option_map info_of (get nat_cmp self.now.state.processes pid) }
     {
@@ -56,7 +56,7 @@ impl<A: Allocator + Copy> Inner<A> {
         self.totals
     }
 
-    /// The free frames of a node, the front first.
+    /// The free frames of a node, front first.
     pub(crate) fn free_list(&self, node: NodeId) -> Result<Vec<FrameId, A>, MachineError>
         ensures told { Tells result (list_refusal self.now.state node) (λ frames. frames.items ≡ free_list self.now.state node) }
         ensures memory { AsksLast result (list_refusal self.now.state node) }
@@ -67,7 +67,7 @@ impl<A: Allocator + Copy> Inner<A> {
         Ok(self.frames.free_list(self.alloc, node)?)
     }
 
-    /// What the process has at the page numbers that it has touched, in ascending order.
+    /// What a process has at the page numbers that it has touched, in ascending order.
     pub(crate) fn entries(&self, pid: Pid) -> Result<Vec<(Vpn, Entry), A>, MachineError>
         ensures told { Tells result (entries_refusal self.now.state pid) (λ entries. entries.items ≡ entries_of self.now.state pid) }
         ensures memory { AsksLast result (entries_refusal self.now.state pid) }
@@ -78,7 +78,7 @@ impl<A: Allocator + Copy> Inner<A> {
         }
     }
 
-    /// The node of the page that a process sees at a page number, or an error's number with a minus sign.
+    /// The number of the node of the page that a process sees at a page number, or an error's number with a minus sign.
     pub(crate) fn node_status(&self, pid: Pid, vpn: Vpn) -> i32
         ensures { result ≡ node_status self.now.state pid vpn }
     {
@@ -90,7 +90,7 @@ impl<A: Allocator + Copy> Inner<A> {
         }
     }
 
-    /// Whether each frame stands once, in its own node's list or as the place of a page.
+    /// Whether each frame is in exactly one place: its own node's free list, or a page's.
     pub(crate) fn audit(&self) -> Result<bool, AllocError>
         ensures told { IfOk result (λ b. b ≡ audited self.now.state) }
         ensures sound { self.now.left ≡ [] → IfOk result (λ b. b ≡ true) }

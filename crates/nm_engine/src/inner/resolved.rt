@@ -1,9 +1,9 @@
-//! Where bytes of a process stand.
+//! Where an access finds its bytes.
 
 use crate::ProcessInfo;
 use nm_types::{Page, Pid, Policy, Vpn};
 
-/// Where bytes of a process stand: a process, one of its page numbers, and the page that the area over it shows there,
+/// Where an access finds its bytes: a process, one of its page numbers, and the page that the area over it shows there,
 /// with the area's policy.
 #[derive(Clone, Copy)]
 pub(crate) struct Resolved {

@@ -24,7 +24,7 @@ use std::sync::Wait;
 use std::thread::Threads;
 
 impl<A: Allocator + Copy + Send + Sync> Inner<A> {
-    /// Makes room for `count` frames that a run's pages may leave.
+    /// Reserves room for `count` frames that a run's pages may leave.
     pub(crate) fn reserve(&mut self, count: usize) -> Result<(), AllocError>
         ensures room { OnOk result (length self.new.left + count ≤ self.new.room) }
         ensures same { self.new ≡ record (self.old) { room = self.new.room } }
@@ -32,7 +32,7 @@ impl<A: Allocator + Copy + Send + Sync> Inner<A> {
         self.frames.reserve(count)
     }
 
-    /// The plan of a run, by the classes that its requests have now.
+    /// The plan of a run, from the classes of its requests at its start.
     pub(crate) fn plan<R: Threads + Wait + Sync, G: Gate + Sync>(
         &self,
         crew: &Crew<R, G>,
@@ -55,9 +55,9 @@ impl<A: Allocator + Copy + Send + Sync> Inner<A> {
         plan(self.alloc, classes.as_slice(), front.as_slice(), target)
     }
 
-    /// Makes moves to a node, whose frames are taken: every entry that named a frame that a page leaves names the
-    /// other, and all pages are copied by the crew. What is left to do for accesses to other pages is done
-    /// meanwhile; the answers go into a list that has room for them.
+    /// Makes moves to a node, whose frames are taken already: every entry that named a frame that a page leaves names
+    /// the new one, and the crew copies all pages. What is left to do for accesses to other pages is done meanwhile;
+    /// the answers go into a list that has room for them.
     pub(crate) fn carry_out<R: Threads + Wait + Sync, G: Gate + Sync>(
         &mut self,
         crew: &Crew<R, G>,
@@ -67,15 +67,22 @@ impl<A: Allocator + Copy + Send + Sync> Inner<A> {
         dues: Vec<Due<A>, A>,
         answers: Vec<AccessAnswer<A>, A>,
     ) -> Vec<AccessAnswer<A>, A>
+        // The moves
         requires target { target < node_count self.old.state.layout }
         requires few { length moves.now ≤ self.old.room }
         requires taken { self.old.left ≡ tos moves.now }
         requires sound { IsSound (with_fronts (self.old.state) target (tos moves.now)) }
         requires moves { CanMove (with_fronts (self.old.state) target (tos moves.now)) target moves.now }
+
+        // What is left to do
         requires due { AllByRecursion (IsDue (map (λ t. t.page) moves.now) self.old.state) (map (due_shown accesses.now) dues.items) }
         requires room { AllByRecursion HasRoom dues.items }
+
+        // The list for the answers
         requires unanswered { answers.items ≡ [] }
         requires space { vec_len dues ≤ vec_capacity answers }
+
+        // Afterwards
         ensures state { self.new.state ≡ (all_made (with_moves (with_fronts (self.old.state) target (tos moves.now)) target moves.now) (map (due_shown accesses.now) dues.items)).state }
         ensures answers { map answer_shown result.items ≡ (all_made (with_moves (with_fronts (self.old.state) target (tos moves.now)) target moves.now) (map (due_shown accesses.now) dues.items)).answers }
         ensures left { self.new.left ≡ left moves.now }
@@ -93,7 +100,7 @@ impl<A: Allocator + Copy + Send + Sync> Inner<A> {
         )
     }
 
-    /// The run ends: its moves and failures are counted, and the frames that its pages left become free.
+    /// Ends a run: its moves and failures are counted, and the frames that its pages left become free.
     pub(crate) fn end_run(&mut self, statuses: &[i32])
         ensures state { self.new.state ≡ counted (with_all_free self.old.state self.old.left) (length self.old.left) (failures statuses.now) }
         ensures left { self.new.left ≡ [] }
@@ -127,8 +134,8 @@ impl<A: Allocator + Copy + Send + Sync> Inner<A> {
     }
 }
 
-/// What is to be done with each request of a run, in its order, by a look at what it names. With one worker the caller
-/// looks alone; otherwise several threads look if the run is long.
+/// What to do with each request of a run, in order, from a look at what it names. A crew of one worker looks on the
+/// calling thread; otherwise several threads look if the run is long.
 fn classes<
     R: Threads + Wait + Sync,
     A: Allocator + Copy + Send + Sync,
@@ -151,8 +158,8 @@ fn classes<
     }
 }
 
-/// How many of these statuses are those of a failed request: its page is pinned (EBUSY), or its target has no free
-/// frame (ENOMEM). This is how `pgmigrate_fail` of `/proc/vmstat` counts.
+/// How many of these statuses are of failed requests: the page has a pin (EBUSY), or the target has no free frame
+/// (ENOMEM). This is what `pgmigrate_fail` of `/proc/vmstat` counts.
 pub fn failures(statuses: &[i32]) -> usize
     ensures { result ≡ failures statuses.now }
 {

@@ -52,12 +52,15 @@ impl<A: Allocator + Copy> Inner<A> {
         Ok(())
     }
 
-    /// Where `len` bytes of a process from `addr` on stand, or the first refusal.
+    /// Where `len` bytes of a process from `addr` on are, or the first refusal.
     pub(crate) fn resolve(&self, pid: Pid, addr: u64, len: u64) -> Result<Resolved, Errno>
+        // On success
         ensures ok { IfOk result (λ t. (p : Process) × (a : Placed) × (spot self.now.state pid addr len ≡ Ok (spot_at t p a)) × IsResolved self.now.state t p a) }
         ensures pid { IfOk result (λ t. t.pid ≡ pid) }
         ensures page { IfOk result (λ t. t.vpn ≡ addr / 4096) }
         ensures inside { IfOk result (λ t. addr % 4096 + len ≤ 4096) }
+
+        // On refusal
         ensures err { IfErr result (λ errno. spot self.now.state pid addr len ≡ Err errno) }
     {
         let Some(info) = self.spaces.info(pid) else {
@@ -84,18 +87,24 @@ impl<A: Allocator + Copy> Inner<A> {
         })
     }
 
-    /// What a read or a write does before it comes to the bytes. Returns the frame of the page that the process then
-    /// sees, or None if it sees the page of zeros.
+    /// What a read or a write does before it reaches the bytes. Returns the frame of the page that the process then
+    /// sees, or None if that is the page of zeros.
     pub(crate) fn touch(
         &mut self,
         t: Resolved,
         writes: bool,
     ) -> Result<Option<FrameId>, MachineError>
         requires { (p : Process) × (a : Placed) × IsResolved self.old.state t p a }
+
+        // In any case
         ensures touches { (p : Process) (a : Placed) → IsResolved self.old.state t p a → Touches result self.old.state self.new.state (touched_entry self.old.state (spot_at t p a) writes (get nat_cmp p.sees t.vpn)) }
+
+        // On success
         ensures frame { IfOk result (λ frame. frame ≡ frame_seen self.new.state t.pid t.vpn) }
         ensures some { IfOk result (λ frame. writes ≡ true → IsSome frame) }
         ensures zeros { IfOk result (λ frame. IfNone frame (sight_at self.new.state t.pid t.vpn ≡ Some ZeroPage)) }
+
+        // Nothing else changes
         ensures same { self.new ≡ with_state self.old self.new.state }
     {
         match self.spaces.sight(t.pid, t.vpn, t.page) {
@@ -120,12 +129,18 @@ impl<A: Allocator + Copy> Inner<A> {
         }
     }
 
-    /// The process sees the page that is there, or gets one.
+    /// Makes the process see the page shown there, which gets a frame if it has none.
     fn join(&mut self, t: Resolved) -> Result<FrameId, MachineError>
         requires touched { (p : Process) × (a : Placed) × IsResolved self.old.state t p a }
         requires unseen { sight_at self.old.state t.pid t.vpn ≡ None }
+
+        // In any case
         ensures touches { (p : Process) (a : Placed) → IsResolved self.old.state t p a → Touches result self.old.state self.new.state (joined self.old.state (spot_at t p a) (get page_cmp self.old.state.place t.page)) }
+
+        // On success
         ensures frame { IfOk result (λ frame. frame_seen self.new.state t.pid t.vpn ≡ Some frame) }
+
+        // Nothing else changes
         ensures same { self.new ≡ with_state self.old self.new.state }
     {
         let page = t.page;
@@ -136,13 +151,19 @@ impl<A: Allocator + Copy> Inner<A> {
         Ok(frame)
     }
 
-    /// The page takes the front frame of the first node in order that has one, and the process sees it.
+    /// Gives the page the front frame of the first node in order that has one, and makes the process see it.
     fn fill(&mut self, t: Resolved) -> Result<FrameId, MachineError>
         requires touched { (p : Process) × (a : Placed) × IsResolved self.old.state t p a }
         requires unplaced { get page_cmp self.old.state.place t.page ≡ None }
         requires unseen { (page : Page) → sight_at self.old.state t.pid t.vpn ≡ Some (Sees page) → ⊥ }
+
+        // In any case
         ensures touches { (p : Process) (a : Placed) → IsResolved self.old.state t p a → Touches result self.old.state self.new.state (filled self.old.state (spot_at t p a)) }
+
+        // On success
         ensures frame { IfOk result (λ frame. frame_seen self.new.state t.pid t.vpn ≡ Some frame) }
+
+        // Nothing else changes
         ensures same { self.new ≡ with_state self.old self.new.state }
     {
         let page = t.page;
@@ -159,7 +180,7 @@ impl<A: Allocator + Copy> Inner<A> {
         Ok(frame)
     }
 
-    /// The first node in the order for a new page that has a free frame.
+    /// The first node, in the order for a new page, that has a free frame.
     fn first_node(&self, info: ProcessInfo, policy: Policy, index: u64) -> Option<NodeId>
         ensures { result ≡ first_free self.now.state.free (first_touch_order self.now.state.layout self.now.state.online info.home info.allowed policy index) }
     {

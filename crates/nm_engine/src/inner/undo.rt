@@ -1,4 +1,4 @@
-//! Touches that can be taken back.
+//! Undoing touches.
 
 ghost use Rattle.std.specs.Prelude.{◌≡◌, ◌+◌, ◌≤◌, [], true, vec_len, vec_capacity, Some, None, IfOk, IfNone, IsSome, OnErr, OnOk};
 ghost use Rattle.std.specs.Ordering.{nat_cmp};
@@ -18,18 +18,18 @@ use crate::inner::resolved::Resolved;
 use nm_types::{FrameId, MachineError, Page, Pid, Sight, Vpn};
 use std::alloc::Allocator;
 
-/// How a touch of a process at a page number is taken back.
+/// How to undo a touch of a process at a page number.
 #[derive(Clone, Copy)]
 pub(crate) struct Undo {
     pub(crate) pid: Pid,
     pub(crate) vpn: Vpn,
-    /// Whether the process saw the page of zeros there, and not nothing.
+    /// Whether the process saw the page of zeros there, rather than nothing.
     pub(crate) zero: bool,
-    /// The page that got a frame, and the frame.
+    /// The page that got a frame in this touch, and the frame.
     pub(crate) given: Option<(Page, FrameId)>,
 }
 
-/// What is there before a touch: what the process sees there, and the frame of the page that is shown there.
+/// What a touch finds: what the process sees there, and the frame of the page shown there.
 #[derive(Clone, Copy)]
 struct Before {
     pid: Pid,
@@ -40,8 +40,8 @@ struct Before {
 }
 
 impl<A: Allocator + Copy> Inner<A> {
-    /// What a read or a write does before it comes to the bytes, noted after what was noted so far. If it is refused or
-    /// the host is out of memory, nothing is noted.
+    /// What a read or a write does before it reaches the bytes, with a note of how to undo it appended to `undos`. If
+    /// it is refused, or the host is out of memory, nothing is noted.
     pub(crate) fn touch_noted(
         &mut self,
         t: Resolved,
@@ -49,11 +49,15 @@ impl<A: Allocator + Copy> Inner<A> {
         undos: &mut Vec<Undo, A>,
     ) -> Result<Option<FrameId>, MachineError>
         requires { (p : Process) × (a : Placed) × IsResolved self.old.state t p a }
+
+        // The touch
         ensures touches { (p : Process) (a : Placed) → IsResolved self.old.state t p a → Touches result self.old.state self.new.state (touched_entry self.old.state (spot_at t p a) writes (get nat_cmp p.sees t.vpn)) }
         ensures frame { IfOk result (λ frame. frame ≡ frame_seen self.new.state t.pid t.vpn) }
         ensures some { IfOk result (λ frame. writes ≡ true → IsSome frame) }
         ensures zeros { IfOk result (λ frame. IfNone frame (sight_at self.new.state t.pid t.vpn ≡ Some ZeroPage)) }
         ensures same { self.new ≡ with_state self.old self.new.state }
+
+        // The notes
         ensures noted { IfOk result (λ frame. undos.new.items ≡ with_undo undos.old.items (noted t.pid t.vpn t.page (sight_at self.old.state t.pid t.vpn) (get page_cmp self.old.state.place t.page) frame)) }
         ensures err { OnErr result (undos.new.items ≡ undos.old.items) }
         ensures sound { OnOk result (IsSoundMidRun self.old.state self.old.left) }
@@ -66,7 +70,7 @@ impl<A: Allocator + Copy> Inner<A> {
         Ok(frame)
     }
 
-    /// What is there before a touch.
+    /// What a touch finds.
     fn before(&self, t: &Resolved) -> Before
         requires { page_at self.now.state.areas t.now.pid t.now.vpn ≡ Some t.now.page }
         ensures is { result ≡ record { pid = t.now.pid; vpn = t.now.vpn; page = t.now.page; seen = sight_at self.now.state t.now.pid t.now.vpn; place = get page_cmp self.now.state.place t.now.page } }
@@ -81,7 +85,7 @@ impl<A: Allocator + Copy> Inner<A> {
         }
     }
 
-    /// Touches are taken back, the last one first. It takes no memory.
+    /// Undoes touches, the last first. Does not allocate.
     pub(crate) fn take_back(&mut self, undos: &mut Vec<Undo, A>)
         requires { CanUndo self.old.state self.old.left undos.old.items }
         ensures back { self.new ≡ with_state self.old (all_undone self.old.state undos.old.items) }
@@ -93,7 +97,7 @@ impl<A: Allocator + Copy> Inner<A> {
         }
     }
 
-    /// A touch is taken back. It takes no memory.
+    /// Undoes a touch. Does not allocate.
     fn undo(&mut self, undo: Undo)
         requires { IsUndoable self.old.state self.old.left undo }
         ensures { self.new ≡ with_state self.old (undone self.old.state undo) }
@@ -113,7 +117,7 @@ impl<A: Allocator + Copy> Inner<A> {
     }
 }
 
-/// Notes how a touch that gave this frame is taken back, where there is anything to take back.
+/// Notes how to undo a touch that returned this frame, if there is anything to undo.
 fn note<A: Allocator + Copy>(undos: &mut Vec<Undo, A>, before: Before, frame: &Option<FrameId>)
     requires { vec_len undos.old + 1 ≤ vec_capacity undos.old }
     ensures { undos.new.items ≡ with_undo undos.old.items (noted before.pid before.vpn before.page before.seen before.place frame.now) }
@@ -123,7 +127,7 @@ fn note<A: Allocator + Copy>(undos: &mut Vec<Undo, A>, before: Before, frame: &O
     }
 }
 
-/// How a touch that gave this frame is taken back, where there is anything to take back.
+/// How to undo a touch that returned this frame. None if there is nothing to undo.
 fn noted(before: Before, frame: Option<FrameId>) -> Option<Undo>
     ensures { result ≡ noted before.pid before.vpn before.page before.seen before.place frame }
 {

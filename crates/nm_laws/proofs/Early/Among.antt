@@ -13,7 +13,7 @@ use Rattle.nm_types.proofs.Maps.{exact_page}
 use Rattle.nm_model.specs.definitions.Touch.{Spot, shown_at, Access, is_held, spot_of_access}
 use Rattle.nm_model.specs.definitions.Early.{Due, Early, held_early, access_early, early, AllEarly, all_early}
 
--- one page more
+-- one more page
 pub one_more : (l : List Page) (p q : Page) → list_any (same_page q) (insert_key page_cmp l p) ≡ (same_page q p || list_any (same_page q) l)
 one_more [] p q = refl
 one_more (x ∷ l) p q =

@@ -122,7 +122,8 @@ module _ (places : Map Page ℕ → Map Page ℕ) (bytes : Map Page (List ℕ) �
   abbrev then_all : List Page → List Access → Early → AllEarly
   then_all moved accesses e = due_first e.due (all_early e.state moved accesses)
 
-  -- one access after another, where something that stays so keeps the pages that change apart from those that are touched
+  -- one access after another, if something that is preserved keeps the pages that change apart from those that are
+  -- touched
   pub all_early_too : (Apart : State → Type 0) (moved : List Page)
       → ((s : State) (a : Access) → Apart s → is_held moved (spot_of_access s a) ≡ false → (at : Spot) → spot_of_access s a ≡ Ok at → IsSpot s at × Spares s at)
       → ((s : State) (a : Access) → Apart s → Apart (early s moved a).state)

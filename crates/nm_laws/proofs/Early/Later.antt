@@ -1,4 +1,4 @@
--- To touch all pages first and come to the bytes later is to make one access after another.
+-- Touching all pages first and reaching the bytes later is the same as making one access after another.
 use Rattle.std.proofs.Common.{◌≡◌, ℕ, ◌/◌, ◌%◌, ◌+◌, ◌≤◌, List, [], ◌∷◌, true, false, refl, sym, ap, subst, ◌∙◌, length}
 use Rattle.std.specs.Prelude.{Option, Some, None, Result, Ok, Err, IsSome, replicate, slice_index, if◌then◌else◌}
 use Rattle.std.specs.Option.{unwrap_or}
@@ -179,7 +179,7 @@ module _ (q : Page) (g : List ℕ → List ℕ) (o : Option ℕ) (b : Option (Li
       all_early_too (λ m. m) (with_values (at_page q g)) (IsPlaced q o b l) moved
       (λ s a k held at e. let i = found s a at e in (i, spares s at k i)) (λ s a k. early_stays q o b l moved s a k) accesses s h
 
--- later touches meet what was made, and leave what is to be told
+-- later touches find what was made, and leave the answers as they are
 made_beside : (s : State) (l : List ℕ) (moved : List Page) (accesses : List Access) (d : Due) → IsSoundMidRun s l → Touches s d
     → all_early (made s d) moved accesses ≡ (let e = all_early s moved accesses in record e { state = made e.state d })
 made_beside s l moved accesses (Known answer) h on = refl

@@ -1,4 +1,5 @@
--- A run with accesses in flight, phase by phase: its frames are taken, all touches are made, its pages move, and what was left to do is done.
+-- A run with accesses in flight, phase by phase: its frames are taken, all touches are made, its pages move, and what
+-- was left to do is done.
 use Rattle.std.proofs.Common.{◌≡◌, ℕ, ◌<◌, List, [], ◌∷◌, ◌++◌, true, false, cond, map, length, take, drop, refl, sym, ap, subst, ◌∙◌, arith, length-set, append_assoc, suc}
 use Rattle.std.specs.Prelude.{Some, slice_get, slice_set, slice_index_or}
 use Rattle.std.specs.List.{AllByRecursion}
@@ -48,7 +49,7 @@ tos_are (t ∷ taken) s target inside can =
     ∙ ap (λ (l : List ℕ). take (length taken) l) (get_or-set_same s.free target (drop 1 list) [] inside))
     ∙ sym (ap (λ (l : List ℕ). take (suc (length taken)) l) front)
 
--- moves can be made where the pages stand as they stood, and the frames are in front
+-- moves can be made if the pages are where they were, and the frames are in front
 abbrev Stands : State → State → Type 0
 Stands s t = (p : Page) (f : ℕ) → get page_cmp s.place p ≡ Some f → get page_cmp t.place p ≡ Some f
 

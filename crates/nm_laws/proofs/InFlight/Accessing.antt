@@ -18,7 +18,7 @@ use Rattle.nm_laws.proofs.InFlight.Steps.{Made}
 use Rattle.nm_laws.proofs.InFlight.Meeting.{ComesTo, comes_to, Both, held_alike, touched_both}
 use Rattle.nm_laws.proofs.InFlight.Bytes.{reads_alike, writes_alike, written_midway}
 
--- one answer more changes nothing else
+-- one more answer changes nothing else
 answered_midway : (m : RunMachine) (moved : List Page) (answer : AccessAnswer) → IsMidway m moved → IsMidway (answered m answer) moved
 answered_midway m moved answer h =
     record { moving = h.moving; sound = h.sound; entries = h.entries; pages = h.pages; copies = h.copies; copied = h.copied; buffers = h.buffers; once = h.once }

@@ -1,4 +1,4 @@
--- Deciding requests one after another, told by the jobs of the moves.
+-- Deciding requests one after another, stated by the jobs of the moves.
 use Rattle.std.proofs.Common.{◌≡◌, ℕ, suc, ◌+◌, ◌≤◌, List, [], ◌∷◌, ◌++◌, true, false, ◌||◌, cond, map, length, drop, refl, sym, ap, subst, ◌∙◌, arith, eq-eqb}
 use Rattle.std.specs.Prelude.{Option, Some, None, ℤ, pos, ◌==◌, slice_set}
 use Rattle.std.specs.Option.{is_some, unwrap_or, option_map}
@@ -105,7 +105,7 @@ module _ (s : State) (target : ℕ) (buf : Store) (ws : List Wanted) where
     own : AllByRecursion (λ f. node_of s.layout f ≡ target) (frame ∷ rest)
     own = subst (AllByRecursion (λ f. node_of s.layout f ≡ target)) front (h.frames.own target)
 
-    -- another page stands elsewhere
+    -- another page is elsewhere
     apart : (q : Page) (x : ℕ) → get page_cmp s.place q ≡ Some x → is_eq (page_cmp q p) ≡ false → (from == x) ≡ false
     apart q x there other =
         elim (from == x) as (λ b. (from == x) ≡ b → b ≡ false) [

@@ -197,7 +197,7 @@ module _ (m : RunMachine) (moved : List Page) (h : IsMidway m moved) where
   pub in_order : IsStrictlySortedBy page_cmp (keys_of m.place)
   in_order = subst (IsStrictlySortedBy page_cmp) (keys-values (λ (q : Page) g. goes_to m.jobs g) m.place) h.sound.order.place
 
-  -- no page stands in a target yet
+  -- no page is in a target yet
   no_target : (p : Page) (f : ℕ) → get page_cmp m.place p ≡ Some f → is_some (job_from m.jobs f) ≡ false → (es : List (ℕ × ℕ)) → AllByRecursion (CopiesPage m m.jobs) es → times f (map (λ (e : ℕ × ℕ). e.0) es) ≡ 0 → times f (map (λ (e : ℕ × ℕ). e.1) es) ≡ 0
   no_target p f placed none [] all nil = refl
   no_target p f placed none (e ∷ es) all nil =

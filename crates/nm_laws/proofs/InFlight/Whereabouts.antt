@@ -152,7 +152,7 @@ module _ (m : RunMachine) (moved : List Page) (h : IsMidway m moved) where
     no_front_place : (p : Page) → get page_cmp (state_of m).place p ≡ Some front → ⊥
     no_front_place p e = let one = front_times in let two = counted_place (state_of m).place p front e in let most = at_most front in omega (arith, one, two, most)
 
-    -- no page stands there
+    -- no page is there
     pub front_unplaced : (p : Page) → get page_cmp m.place p ≡ Some front → ⊥
     front_unplaced p e = no_front_place p (goes_now m moved h p front e ∙ ap Some (goes_nowhere m.jobs front front_stays))
 

@@ -1,4 +1,4 @@
--- A look that counts the processes tells whether another one sees the page.
+-- A look that counts the processes shows whether another one sees the page.
 use Rattle.std.proofs.Common.{◌≡◌, ◌≤◌, ℕ, suc, List, [], ◌∷◌, Bool, true, false, not, ◌&&◌, ◌||◌, cond, length, refl, sym, ap, subst, ◌∙◌, eq-eqb, lt-ltb, arith}
 use Rattle.std.specs.Prelude.{Option, Some, None, pos, nat_lt, ◌==◌, if◌then◌else◌}
 use Rattle.std.specs.List.{list_any, filter, AllByRecursion}

@@ -56,11 +56,11 @@ on_target : (s : State) (target : ℕ) (all : Bool) (p : Page) (frame : ℕ) →
 on_target s target all p frame own =
     ap (λ b. if b then Status (pos target) else (if nat_lt 1 (length (users s p)) && not all then Status (code Eacces) else (if is_pinned s p then Status (code Ebusy) else Move p frame))) (eq-eqb _ _ own)
 
--- where a page stands now, and where it stood at the start
+-- where a page is, and where it was at the start
 abbrev Stands : State → ℕ → Bool → Option ℕ → Option ℕ → Type 0
 Stands s target moved now before = MatchBool moved ((frame : ℕ) × (now ≡ Some frame) × (node_of s.layout frame ≡ target)) (now ≡ before)
 
--- midway, a page has moved to the target or stands where it stood, and only pages move whose class says so
+-- midway, a page has moved to the target or is where it was, and only pages move whose class says so
 record Midway (s : State) (target : ℕ) (all : Bool) (m : Map Page ℕ) (f : List (List ℕ)) (moved : List Taken) : Type 0 where
   places : (q : Page) → Stands s target (has_moved moved q) (get page_cmp m q) (get page_cmp s.place q)
   classes : (q : Page) → has_moved moved q ≡ true → (from : ℕ) × (page_class s target all q (get page_cmp s.place q) ≡ Move q from)
@@ -193,7 +193,7 @@ then_decide now classes moved target =
     let rest = decide classes (moved ++ now.taken) now.front target in
     record { statuses = now.status ∷ rest.statuses; taken = now.taken ++ rest.taken }
 
--- what holds of the requests that are left, wherever the run stands
+-- what holds of the requests that are left, at any point of the run
 abbrev Rest : State → ℕ → Bool → List Wanted → Type 0
 Rest s target all ws =
     (m : Map Page ℕ) (f : List (List ℕ)) (moved : List Taken) → Midway s target all m f moved →

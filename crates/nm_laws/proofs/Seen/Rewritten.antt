@@ -1,4 +1,4 @@
--- Where accesses are made while pages move, each byte is that of the last write which was done there, or else what it was.
+-- Where accesses are made while pages move, each byte is that of the last write made there, or else the same as before.
 use Rattle.std.proofs.Common.{◌≡◌, ℕ, ◌+◌, ◌/◌, ◌%◌, List, [], ◌∷◌, true, false, refl, ap, ◌∙◌, length, map}
 use Rattle.std.specs.Prelude.{Option, Some, None, Result, Ok, Err, if◌then◌else◌}
 use Rattle.nm_types.specs.declared.errno.Errno.{Errno}

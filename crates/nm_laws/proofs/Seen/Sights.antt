@@ -62,7 +62,7 @@ sight_here s at x i =
     ∙ ap (λ r. cond (is_eq r && is_eq (nat_cmp at.vpn at.vpn)) (Some x) (sight_at s at.pid at.vpn)) (tied_itself nat_cmp_total at.pid)
     ∙ ap (λ r. cond (is_eq r) (Some x) (sight_at s at.pid at.vpn)) (tied_itself nat_cmp_total at.vpn)
 
--- what was seen elsewhere is seen still
+-- what was seen elsewhere is still seen
 pub sight_stays : (s : State) (at : Spot) (x y : Sight) (q w : ℕ) → IsSpot s at → (sight_at s at.pid at.vpn ≡ Some y → ⊥) → sight_at s q w ≡ Some y → sight_at (with_sight s at x) q w ≡ Some y
 sight_stays s at x y q w i other h =
     sight_at-with_sight s at x q w i

@@ -23,14 +23,14 @@ map_end : (F : ℕ → ℕ × ℕ) (xs : List ℕ) (x : ℕ) → map F (xs ++ x 
 map_end F [] x = refl
 map_end F (y ∷ xs) x = ap (λ t. F y ∷ t) (map_end F xs x)
 
--- one frame more of a node
+-- one more frame of a node
 pub pushed_more : (node : ℕ) (xs : List ℕ) (i x : ℕ) (front old now : List (ℕ × ℕ)) → slice_get xs i ≡ Some x → old ≡ front ++ map (beside node) (take i xs) → now ≡ old ++ (node, x) ∷ []
     → now ≡ front ++ map (beside node) (take (i + 1) xs)
 pushed_more node xs i x front old now h was e =
     e ∙ ap (λ o. o ++ (node, x) ∷ []) was ∙ append_assoc front (map (beside node) (take i xs)) ((node, x) ∷ [])
     ∙ ap (λ t. front ++ t) (sym (ap (map (beside node)) (take_found xs i x h) ∙ map_end (beside node) (take i xs) x))
 
--- one node more
+-- one more node
 pub listed_more : (lists : List (List ℕ)) (n : ℕ) (old now all : List (ℕ × ℕ)) → n < length lists → old ++ numbered n (drop n lists) ≡ all → now ≡ old ++ map (beside n) (get_or lists n [])
     → now ++ numbered (n + 1) (drop (n + 1) lists) ≡ all
 listed_more lists n old now all lt was e =
@@ -67,7 +67,7 @@ pub passed_over : (cs xs : List ℕ) (n i x : ℕ) → i < length xs → x ≡ g
 passed_over cs xs n i x li at past h k below =
     h k below ∙ sym (count_by_more_no (λ f. f == k) xs i x li (ap (λ f. f == k) (sym at) ∙ false_from_ne_true _ (λ b. let same = eqb-true x k b in absurd (omega (arith, same, past, below)))))
 
--- each number below a count stands once, where its count is 1
+-- each number below a count is there once if its count is 1
 pub once_all : (cs : List ℕ) (a : ℕ) (F : ℕ → ℕ) → ((k : ℕ) → k < length cs → get_or cs k 0 ≡ F (a + k)) → list_all (λ c. c == 1) cs ≡ list_all (λ f. F f == 1) (up_from a (length cs))
 once_all [] a F h = refl
 once_all (c ∷ cs) a F h =
@@ -75,7 +75,7 @@ once_all (c ∷ cs) a F h =
     ap (λ t. (t == 1) && list_all (λ x. x == 1) cs) first
     ∙ ap (λ t. (F a == 1) && t) (once_all cs (a + 1) F (λ k lt. let next : a + suc k ≡ a + 1 + k = omega arith in h (suc k) (omega (arith, lt)) ∙ ap F next))
 
--- the counts tell whether each frame is in one place
+-- the counts show whether each frame is in one place
 pub audit_ones : (g : Layout) (free : List (ℕ × ℕ)) (placed frames counts : List ℕ) → list_all (is_own g) free ≡ true → list_all (is_frame g) placed ≡ true → frames ≡ map (λ (f : ℕ × ℕ). f.1) free ++ placed
     → length counts ≡ frame_count g → Tallies counts (frame_count g) frames → list_all (λ n. n == 1) counts ≡ is_audited g free placed
 audit_ones g free placed frames counts own below e len h =

@@ -1,4 +1,4 @@
--- How often a frame stands in lists of free frames.
+-- How often a frame is in lists of free frames.
 use Rattle.std.proofs.Common.{◌≡◌, ℕ, suc, zero, ◌+◌, ◌<◌, ◌≤◌, Bool, true, false, cond, List, [], ◌∷◌, refl, ap, ◌∙◌, arith, eq-eqb, ◌||◌}
 use Rattle.std.specs.Prelude.{Some, nat_lt, ◌==◌, drop, slice_get, slice_index, slice_index_or}
 use Rattle.std.specs.List.{sum_by}
@@ -17,7 +17,7 @@ pub index_front : (xs : List ℕ) (f : ℕ) → slice_get xs 0 ≡ Some f → sl
 index_front [] f e = cc
 index_front (x ∷ xs) f e = cc
 
--- a frame that stands somewhere is one of the machine's
+-- a frame that is in one of them is one of the machine's
 pub counted_below : (a b c f n : ℕ) → a + b + c ≡ cond (nat_lt f n) 1 0 → 1 ≤ a + b + c → f < n
 counted_below a b c f n e some =
     elim (nat_lt f n) as (λ t. nat_lt f n ≡ t → a + b + c ≡ cond t 1 0 → f < n) [

@@ -1,4 +1,4 @@
--- A process lets go a range of page numbers, or all that it has.
+-- A process unmaps a range of page numbers, or all that it has.
 use Rattle.std.proofs.Common.{◌≡◌, ℕ, suc, zero, ◌+◌, ◌-◌, ◌/◌, ◌^◌, ◌≤◌, ◌<◌, List, [], ◌∷◌, ◌++◌, Bool, true, false, not, ◌&&◌, ◌||◌, cond, refl, sym, ap, subst, ◌∙◌, arith, inl, inr, eq-eqb}
 use Rattle.std.specs.Prelude.{Option, Some, None, IsSome, nat_lt, nat_le, ◌==◌, ◌⊎◌, if◌then◌else◌, min, max}
 use Rattle.std.specs.List.{AllByRecursion, list_any, filter, flat_map, fold}
@@ -181,7 +181,7 @@ module _ (s : State) (l : List ℕ) (h : IsSoundMidRun s l) (pid first end : ℕ
   pages : List Page
   pages = flat_map (pages_between first end) (filter (λ a. a.0.0 == pid) s.areas)
 
-  -- a page that was covered is covered, or is let go
+  -- a page that was covered is covered, or is unmapped
   covered_or_listed : (p : Page) → is_covered s.areas p ≡ true → (is_covered areas p ≡ true) ⊎ Listed p pages
   unfolding pages
   covered_or_listed p c =
@@ -489,7 +489,7 @@ module _ (s : State) (h : IsSound s) (pid : ℕ) where
       (whole.0, whole.1, still_there a m, whole.3)))
       (let fewer = few-without nat_cmp rest.processes pid in let few = rest_sound.few in omega (arith, fewer, few))
 
-  -- it sees nothing before it is no more
+  -- it sees nothing before it is removed
   pub sees_none : (w : ℕ) → sight_at (dropped s pid 0 (2 ^ 35)) pid w ≡ None
   unfolding rest
   sees_none = nothing_seen

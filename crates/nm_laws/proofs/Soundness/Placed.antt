@@ -67,7 +67,7 @@ different_are_few (suc n) xs once below =
     omega (arith, split, first, one, rest)
 
 module _ (s : State) (l : List ℕ) (h : FramesAreOnce s.layout s.place s.free l) where
-  -- how often a frame stands elsewhere
+  -- how often a frame is elsewhere
   abbrev free_of : ℕ → ℕ
   free_of f = sum_by (times f) s.free
 

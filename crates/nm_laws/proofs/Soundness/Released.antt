@@ -1,4 +1,4 @@
--- Pages that no area covers any more lose their frames.
+-- Pages that no area covers lose their frames.
 use Rattle.std.proofs.Common.{◌≡◌, ℕ, ◌+◌, ◌≤◌, ◌<◌, List, [], ◌∷◌, ◌++◌, Bool, true, false, cond, refl, sym, ap, subst, ◌∙◌, arith, inl, inr, length, length-set}
 use Rattle.std.specs.Prelude.{Option, Some, None, IsSome, nat_lt, ◌⊎◌, if◌then◌else◌}
 use Rattle.std.specs.List.{AllByRecursion, sum_by, fold}

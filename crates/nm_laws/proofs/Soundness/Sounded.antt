@@ -18,7 +18,7 @@ all_true : {X : Type 0} (test : X → Bool) (xs : List X) → AllByRecursion (λ
 all_true test [] h = refl
 all_true test (x ∷ xs) h = and_from _ _ h.0 (all_true test xs h.1)
 
--- what holds of all that stand in a list
+-- what holds of all items of a list
 pub all_counted : (P : ℕ → Type 0) (xs : List ℕ) → ((f : ℕ) → 1 ≤ times f xs → P f) → AllByRecursion P xs
 all_counted P [] h = tt
 all_counted P (x ∷ xs) h =
@@ -46,7 +46,7 @@ numbered_own g n (xs ∷ free) h =
     let next : n + suc k ≡ n + 1 + k = omega arith in
     subst (λ m. AllByRecursion (λ f. is_own g (m, f) ≡ true) (slice_index_or free k [])) next (h (suc k))))
 
--- each frame stands as often beside nodes as in their lists
+-- each frame is as often beside nodes as in their lists
 times_beside : (f node : ℕ) (xs : List ℕ) (rest : List (ℕ × ℕ)) → times f (map (λ (e : ℕ × ℕ). e.1) (map {B = ℕ × ℕ} (λ (x : ℕ). (node, x)) xs ++ rest)) ≡ times f xs + times f (map (λ (e : ℕ × ℕ). e.1) rest)
 times_beside f node [] rest = omega arith
 times_beside f node (x ∷ xs) rest =

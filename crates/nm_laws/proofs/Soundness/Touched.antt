@@ -157,7 +157,7 @@ unfolding StaysSound
 read_sound s l pid address len (Err e) h k = h
 read_sound s l pid address len (Ok t) h k = k.0
 
--- as many bytes in the place of others
+-- overwriting bytes leaves their number as it is
 length-overwrite : (old : List ℕ) (i : ℕ) (new : List ℕ) → length old ≡ 4096 → i + length new ≤ 4096 → length (overwrite old i new) ≡ 4096
 length-overwrite old i new whole fits = simp (length-append, length-take, length-drop) (omega arith)
 

@@ -27,7 +27,7 @@ covers_parts a pid v h =
 pub covers_from : (a : Placed) (pid v : ℕ) → a.0.0 ≡ pid → a.0.1 ≤ v → v < behind_last a → covers a pid v ≡ true
 covers_from a pid v e low high = and_from _ _ (eq-eqb a.0.0 pid e) (and_from _ _ (le-leb a.0.1 v low) (lt-ltb v (behind_last a) high))
 
--- two areas that are over one page number overlap
+-- two areas that cover one page number overlap
 covered_twice : (a : Placed) (pid first end q v : ℕ) → overlaps pid first end a ≡ false → covers a q v ≡ true → q ≡ pid → first ≤ v → v < end → ⊥
 covered_twice a pid first end q v h c e low high =
     let parts = covers_parts a q v c in

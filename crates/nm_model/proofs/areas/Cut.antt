@@ -105,7 +105,7 @@ cut_mid pid at a own low high =
     ∙ ap (λ x. x ∷ rest_of at a ∷ []) (same_placed (front_of at a) (a.0, shorter at a) refl refl (omega (arith, high)) refl refl refl)
     ∙ ap (λ x. (a.0, shorter at a) ∷ x ∷ []) (same_placed (rest_of at a) ((a.0.0, at), later at a) refl (omega (arith, low)) (omega (arith, low)) refl refl (omega (arith, low)))
 
--- an area that is not over the page number, or begins there, stays as it is
+-- an area that does not cover the page number, or begins there, stays as it is
 pub cut_not : (pid at : ℕ) (a : Placed) → 0 < a.1.pages → (a.0.0 ≡ pid → a.0.1 < at → at < behind_last a → ⊥) → parts_outside pid at at a ≡ a ∷ []
 cut_not pid at a some h =
     elim (nat_lt a.0.1 at) as (λ b. nat_lt a.0.1 at ≡ b → parts_outside pid at at a ≡ a ∷ []) [
@@ -144,7 +144,7 @@ module _ (pid at : ℕ) (a : Placed) (own : a.0.0 ≡ pid) (low : a.0.1 < at) (h
         )
       ])
 
-  -- one more in front of all
+  -- one more before all others
   set_front : (xs : Map (ℕ × ℕ) Area) (new : Area) → AllByRecursion (λ y. spot_cmp (pid, at) y.0 ≡ Less) xs → set spot_cmp xs (pid, at) new ≡ ((pid, at), new) ∷ xs
   set_front [] new h = refl
   set_front (y ∷ xs) new h = ap (λ r. match_ordering r (((pid, at), new) ∷ y ∷ xs) ((y.0, new) ∷ xs) (y ∷ set spot_cmp xs (pid, at) new)) h.0
@@ -181,7 +181,7 @@ module _ (pid at : ℕ) (a : Placed) (own : a.0.0 ≡ pid) (low : a.0.1 < at) (h
         ∙ ap (λ r. replace spot_cmp ((a.0, shorter at a) ∷ cond (is_eq r) xs (((pid, at), later at a) ∷ without spot_cmp xs (pid, at))) a.0 a.1) (tied_itself spot_cmp_total (pid, at))
         ∙ ap (λ r. cond (is_eq r) ((a.0, a.1) ∷ xs) ((a.0, shorter at a) ∷ replace spot_cmp xs a.0 a.1)) (tied_itself spot_cmp_total a.0)
 
-  -- an area in front of it
+  -- an area before it
   module _ (x : Placed) (some : 0 < x.1.pages) (apart : (q v : ℕ) → covers x q v ≡ true → covers a q v ≡ false) (less : spot_cmp x.0 a.0 ≡ Less) where
     front_stays : parts_outside pid at at x ≡ x ∷ []
     front_stays = cut_not pid at x some (λ of from to. true_false (sym at_it ∙ apart pid at (covers_from x pid at of (omega (arith, from)) to)))

@@ -18,7 +18,7 @@ use Rattle.nm_model.specs.definitions.Areas.{before, behind, parts_outside, Area
 use Rattle.nm_model.proofs.areas.Apart.{behind_last, covers_parts, covers_from}
 use Rattle.nm_model.proofs.areas.Parted.{Among, All-among, all_from_among, among_either, among_flat, IsPart, before_part, behind_part, part_of, part_covers}
 
--- never both over one page number
+-- never both cover one page number
 abbrev Apart : Placed → Placed → Type 0
 Apart b c = (q v : ℕ) → covers b q v ≡ true → covers c q v ≡ false
 
@@ -32,7 +32,7 @@ append_apart (x ∷ xs) ys h k cross = (
   append_apart xs ys h.1 k (λ b c m n. cross b c (inr m) n),
 )
 
--- one in front of the range, and one after it
+-- one before the range, and one after it
 two_apart : (b c : Placed) (first end : ℕ) → behind_last b ≤ first → first ≤ end → end ≤ c.0.1 → Apart b c
 two_apart b c first end low mid high = λ q v k. false_from_ne_true _ (λ j.
     let front = covers_parts b q v k in
@@ -154,7 +154,7 @@ module _ (pid first end : ℕ) (range : first ≤ end) where
         | false ↦ λ t. alone_sorted a
       ] refl
 
-  -- of two areas of a process the first ends in front of the second
+  -- of two areas of a process the first ends before the second
   in_front : (a y b c : Placed) → Apart a y → 0 < y.1.pages → IsPart pid first end a b → IsPart pid first end y c → a.0.0 ≡ y.0.0 → a.0.1 < y.0.1 → b.0.1 < c.0.1
   in_front a y b c h some p r same less =
       elim (nat_lt y.0.1 (behind_last a)) as (λ t. nat_lt y.0.1 (behind_last a) ≡ t → b.0.1 < c.0.1) [

@@ -154,7 +154,7 @@ part_page pid first end a b q w p c =
     let same : b.1.page.index + (w - b.0.1) ≡ a.1.page.index + (w - a.0.1) = omega (arith, p.index, p.low, parts.1) in
     λ i. record { segment = p.segment i; index = same i }
 
--- outside the range a part is there still
+-- outside the range a part is still there
 pub part_there : (pid first end : ℕ) (a : Placed) (q w : ℕ) → covers a q w ≡ true → (q ≡ pid → (w < first) ⊎ (end ≤ w)) → (b : Placed) × Among b (parts_outside pid first end a) × (covers b q w ≡ true)
 part_there pid first end a q w c out =
     let parts = covers_parts a q w c in

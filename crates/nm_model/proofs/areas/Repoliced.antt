@@ -54,7 +54,7 @@ mapped_step areas pid (suc n) r at h =
     ∙ mapped_step areas pid n r (at + 1) (λ v low high. h v (omega (arith, low)) (omega (arith, high)))
     ∙ ap (λ k. is_mapped areas pid k r) there
 
--- after an area that is over a page number
+-- after an area that covers a page number
 mapped_on : (areas : Map (ℕ × ℕ) Area) (pid at end start to : ℕ) (area : Area) → AreasAreApart areas → Some ((pid, start), area) ≡ area_over areas pid at → to ≡ start + area.pages → at < end
     → is_mapped areas pid at (end - at) ≡ is_mapped areas pid to (end - to)
 mapped_on areas pid at end start to area apart over is more =
@@ -81,7 +81,7 @@ pub mapped_next : (areas : Map (ℕ × ℕ) Area) (pid at end start n : ℕ) (ar
     → is_mapped areas pid at (end - at) ≡ is_mapped areas pid (n + area.pages) (end - (n + area.pages))
 mapped_next areas pid at end start n area apart over is more = mapped_on areas pid at end start (n + area.pages) area apart over (ap (λ (k : ℕ). k + area.pages) is) more
 
--- an area that is over all of them
+-- an area that covers all of them
 pub mapped_whole : (areas : Map (ℕ × ℕ) Area) (pid at count start : ℕ) (area : Area) → AreasAreApart areas → Some ((pid, start), area) ≡ area_over areas pid at → at + count ≤ start + area.pages → is_mapped areas pid at count ≡ true
 mapped_whole areas pid at count start area apart over long =
     let a : Placed = ((pid, start), area) in
@@ -139,7 +139,7 @@ module _ (pid first end : ℕ) (policy : Policy) (range : first < end) where
   whole : (a : Placed) → parts_outside pid first first a ≡ a ∷ [] → parts_outside pid end end a ≡ a ∷ [] → both a ≡ (a.0, paint a.0 a.1) ∷ []
   whole a e f = ap (λ l. with_values paint (flat_map (parts_outside pid end end) l)) e ∙ ap (λ l. with_values paint (l ++ [])) f
 
-  -- in front of the range
+  -- before the range
   in_front : (a : Placed) → 0 < a.1.pages → a.0.0 ≡ pid → behind_last a ≤ first → both a ≡ repoliced pid first end policy a
   in_front a some own low =
       whole a (cut_low pid first a some low) (cut_low pid end a some (omega (arith, low, range)))

@@ -21,7 +21,7 @@ use Rattle.nm_model.proofs.areas.Repoliced.{split_some, split_apart, all_repolic
 -- ---- without a range
 
 module _ (pid first end : ℕ) (range : first ≤ end) (areas : Map (ℕ × ℕ) Area) (some : AllByRecursion IsSomePages areas) (apart : AreasAreApart areas) where
-  -- what is not between is shown still
+  -- what is not between is still shown
   pub left_outside : (q w : ℕ) → (q ≡ pid → (w < first) ⊎ (end ≤ w)) → page_at (areas_left areas pid first end) q w ≡ page_at areas q w
   left_outside q w out =
       elim (area_over areas q w) as (λ o. area_over areas q w ≡ o → page_at (areas_left areas pid first end) q w ≡ page_shown o w) [

@@ -1,4 +1,4 @@
--- Reads and writes on page tables and buffers.
+-- Reads and writes, on page tables and buffers.
 use Rattle.std.specs.Prelude.{ℕ, ◌/◌, ◌%◌, Bool, true, false, List, [], ◌∷◌, ◌++◌, length, drop, replicate, slice_index, slice_index_or}
 use Rattle.std.specs.Prelude.{slice_set, Option, Some, None, Result, Ok, Err, if◌then◌else◌}
 use Rattle.std.specs.Ordering.{nat_cmp}
@@ -22,33 +22,33 @@ abbrev pub is_out : Option (List ℕ) → Bool
 is_out None = true
 is_out (Some bytes) = false
 
--- whether a page in this frame, if it has one, is on its way
+-- whether a page with this frame, if it has one, is on its way to another
 abbrev pub is_leaving : Store → Option ℕ → Bool
 is_leaving buf None = false
 is_leaving buf (Some f) = is_out (slice_index_or buf f None)
 
--- an access is held by the entry there, and where none is, by the page that the entry would show
+-- an access is held if the entry there is; if there is no entry, it is held if the page shown there is on its way
 abbrev pub is_held_by : RunMachine → Spot → Option Entry → Bool
 is_held_by m at (Some Zero) = false
 is_held_by m at (Some (Frame f)) = false
 is_held_by m at (Some (OnItsWay f)) = true
 is_held_by m at None = is_leaving m.buf (get page_cmp m.place (shown_at at))
 
--- where nothing is refused
+-- the same, unless the access is refused
 abbrev pub is_held_at : RunMachine → Result Spot Errno → Bool
 is_held_at m (Err e) = false
 is_held_at m (Ok at) = is_held_by m at (entry_at m.tasks at.pid at.vpn)
 
--- another entry in the table of a process
+-- a process's table with another entry
 abbrev pub set_in : Map ℕ Task → Option Task → ℕ → ℕ → Entry → Map ℕ Task
 set_in tasks None pid v e = tasks
 set_in tasks (Some t) pid v e = replace nat_cmp tasks pid (with_entry t v e)
 
--- this entry stands there from now on
+-- the process's entry at this page number is set
 abbrev pub with_entry_at : RunMachine → Spot → Entry → RunMachine
 with_entry_at m at e = record m { tasks = set_in m.tasks (get nat_cmp m.tasks at.pid) at.pid at.vpn e }
 
--- the page gets the front frame of a node, with zeros in its buffer
+-- a page gets the front frame of a node, and its buffer is cleared
 abbrev pub with_new_page : RunMachine → Page → ℕ → RunMachine
 with_new_page m page node =
     let frames = slice_index_or m.free node [] in
@@ -60,25 +60,25 @@ with_new_page m page node =
       free = slice_set m.free node (drop 1 frames);
     }
 
--- the page that is shown there gets the front frame of the node, and the entry names it
+-- the page shown there gets the front frame of the node, and the entry names it; ENOMEM if there is no node
 abbrev pub allocated : RunMachine → Spot → Option ℕ → Result RunMachine Errno
 allocated m at None = Err Enomem
 allocated m at (Some node) =
     Ok (with_entry_at (with_new_page m (shown_at at) node) at (Frame (slice_index (slice_index_or m.free node []) 0)))
 
--- of the first node in order that has one
+-- the same, with the first node in order that has a free frame
 abbrev pub filled : RunMachine → Spot → Result RunMachine Errno
 filled m at =
     let process = at.process in
     let order = first_touch_order m.layout m.online process.home process.allowed at.area.1.policy (shown_at at).index in
     allocated m at (first_free m.free order)
 
--- a page that others may show has a frame already, or gets one
+-- a page that others may show keeps its frame, or gets one
 abbrev pub joined : RunMachine → Spot → Option ℕ → Result RunMachine Errno
 joined m at (Some f) = Ok (with_entry_at m at (Frame f))
 joined m at None = filled m at
 
--- an entry that names a frame is used; the page of zeros serves reads of private pages
+-- a touch uses an entry that names a frame; the page of zeros serves reads of private pages
 abbrev pub touched_entry : RunMachine → Spot → Bool → Option Entry → Result RunMachine Errno
 touched_entry m at writes (Some (Frame f)) = Ok m
 touched_entry m at writes (Some (OnItsWay f)) = Ok m
@@ -87,36 +87,36 @@ touched_entry m at writes None =
     if is_shared m.segments (shown_at at).segment then joined m at (get page_cmp m.place (shown_at at))
     else (if writes then filled m at else Ok (with_entry_at m at Zero))
 
--- the entry there is touched, if nothing is refused
+-- the touch of an entry, unless the access is refused
 abbrev pub touched : RunMachine → Bool → Result Spot Errno → Result RunMachine Errno
 touched m writes (Err e) = Err e
 touched m writes (Ok at) = touched_entry m at writes (entry_at m.tasks at.pid at.vpn)
 
--- the bytes in the buffer of an entry's frame, and zeros where it names none
+-- the bytes in the buffer of an entry's frame; zeros if the entry names no frame
 abbrev pub bytes_at : Store → Option Entry → ℕ → ℕ → List ℕ
 bytes_at buf None i len = replicate len 0
 bytes_at buf (Some Zero) i len = replicate len 0
 bytes_at buf (Some (Frame f)) i len = stretch_of (bytes_of buf f) i len
 bytes_at buf (Some (OnItsWay f)) i len = stretch_of (bytes_of buf f) i len
 
--- the same buffers with these bytes from a place on in that of an entry's frame
+-- the buffers with these bytes written from an index on in that of an entry's frame
 abbrev pub written_at : Store → Option Entry → ℕ → List ℕ → Store
 written_at buf None i new = buf
 written_at buf (Some Zero) i new = buf
 written_at buf (Some (Frame f)) i new = slice_set buf f (Some (overwrite (bytes_of buf f) i new))
 written_at buf (Some (OnItsWay f)) i new = slice_set buf f (Some (overwrite (bytes_of buf f) i new))
 
--- one answer more
+-- the answer is added to those before it
 abbrev pub answered : RunMachine → AccessAnswer → RunMachine
 answered m answer = record m { answers = m.answers ++ answer ∷ [] }
 
--- the bytes after the touch, or its refusal
+-- the read after its touch, or its refusal
 abbrev pub read_after : RunMachine → ℕ → ℕ → ℕ → Result RunMachine Errno → RunMachine
 read_after m pid address len (Err e) = answered m (Refused e)
 read_after m pid address len (Ok t) =
     answered t (Bytes (bytes_at t.buf (entry_at t.tasks pid (address / 4096)) (address % 4096) len))
 
--- the new bytes after the touch, or its refusal
+-- the write after its touch, or its refusal
 abbrev pub write_after : RunMachine → ℕ → ℕ → List ℕ → Result RunMachine Errno → RunMachine
 write_after m pid address new (Err e) = answered m (Refused e)
 write_after m pid address new (Ok t) =
@@ -129,6 +129,6 @@ made m (Read pid address len) =
 made m (Write pid address new) =
     write_after m pid address new (touched m true (spot (state_of m) pid address (length new)))
 
--- a read or a write. Where it comes to and whether it is refused there depends on no entry and no buffer
+-- a read or a write. Where it goes and whether that is refused depends on no entry and no buffer
 abbrev pub accessed : RunMachine → Access → RunMachine
 accessed m a = if is_held_at m (spot_of_access (state_of m) a) then answered m Held else made m a

@@ -16,11 +16,11 @@ abbrev pub first_error : List (Bool × Errno) → Option Errno
 first_error [] = None
 first_error (e ∷ es) = if e.0 then Some e.1 else first_error es
 
--- whole pages, at least one, below 2^47
+-- a range of whole pages: at least one, ending at 2^47 or before
 abbrev pub is_range : ℕ → ℕ → Bool
 is_range address pages = (address % 4096 == 0) && nat_lt 0 pages && nat_le (address / 4096 + pages) (2 ^ 35)
 
--- whether an area of the process is over one of these page numbers
+-- whether an area of the process covers one of these page numbers
 abbrev pub overlaps : ℕ → ℕ → ℕ → Placed → Bool
 overlaps pid first end a = (a.0.0 == pid) && nat_lt a.0.1 end && nat_lt first (a.0.1 + a.1.pages)
 
@@ -29,24 +29,24 @@ abbrev pub is_room : Map (ℕ × ℕ) Area → ℕ → ℕ → ℕ → Bool
 is_room areas pid address pages =
     is_range address pages && not (list_any (overlaps pid (address / 4096) (address / 4096 + pages)) areas)
 
--- no room for the area; no segment number left
+-- EINVAL: no room for the area; ENOMEM: no segment number is left
 abbrev pub insert_refusal : Mapped → ℕ → ℕ → ℕ → Option Errno
 insert_refusal m pid address pages =
     let full = nat_le 65536 m.next in
     first_error ((not (is_room m.areas pid address pages), Einval) ∷ (full, Enomem) ∷ [])
 
--- whether the segment is there and shared, and has `pages` pages from `offset` on
+-- whether the segment exists, is shared, and has `pages` pages from `offset` on
 abbrev pub is_stretch : Option Segment → ℕ → ℕ → Bool
 is_stretch o offset pages =
     unwrap_or (option_map (λ segment. segment.shared && nat_le (offset + pages) segment.pages) o) false
 
--- no room for the area, or no such stretch of a shared segment
+-- EINVAL: no room for the area, or no such range of a shared segment
 abbrev pub stretch_refusal : Mapped → ℕ → ℕ → ℕ → ℕ → ℕ → Option Errno
 stretch_refusal m pid address segment offset pages =
     let fits = is_room m.areas pid address pages && is_stretch (get nat_cmp m.segments segment) offset pages in
     first_error ((not fits, Einval) ∷ [])
 
--- an address inside a page, or an end past 2^64 - 1; a page without an area
+-- EINVAL: an address inside a page, or an end past 2^64 - 1; EFAULT: a page without an area
 abbrev pub range_refusal : Mapped → ℕ → ℕ → ℕ → Option Errno
 range_refusal m pid address len =
     let pages = pages_of len in
@@ -54,6 +54,6 @@ range_refusal m pid address len =
     let hole = not (is_mapped m.areas pid (address / 4096) pages) in
     first_error ((bad, Einval) ∷ (hole, Efault) ∷ [])
 
--- no whole pages
+-- EINVAL: no range of whole pages
 abbrev pub remove_refusal : ℕ → ℕ → Option Errno
 remove_refusal address pages = first_error ((not (is_range address pages), Einval) ∷ [])

@@ -1,4 +1,4 @@
--- A batch as runs.
+-- A batch as a list of runs.
 use Rattle.std.specs.Prelude.{◌≡◌, ◌≢◌, ℕ, ◌<◌, ◌==◌, List, [], ◌∷◌, map, length, drop, if◌then◌else◌, zero, suc, ◌≤◌, ◌^◌, take}
 use Rattle.std.specs.List.{AllByRecursion, flat_map, take_while}
 use Rattle.nm_types.specs.declared.request.Wanted.{Wanted}
@@ -9,24 +9,24 @@ use Rattle.nm_types.specs.declared.request.Wanted.TheVariants.{Whole}
 abbrev pub Request : Type 0
 Request = declared.Request
 
--- the requests of a run
+-- the target and the requests of a run
 pub record Stretch : Type 0 where
   pub target : ℕ
   pub wanted : List Wanted
 
--- a request joins the run after it, or is one of its own
+-- a request joins the run after it, or is a run of its own
 abbrev pub in_front : Request → List Stretch → List Stretch
 in_front e [] = record { target = e.target; wanted = e.wanted ∷ [] } ∷ []
 in_front e (r ∷ rs) =
     if e.target == r.target then record { target = r.target; wanted = e.wanted ∷ r.wanted } ∷ rs
     else record { target = e.target; wanted = e.wanted ∷ [] } ∷ r ∷ rs
 
--- the longest stretches of one target
+-- the longest stretches for one target
 abbrev pub cut : List Request → List Stretch
 cut [] = []
 cut (e ∷ es) = in_front e (cut es)
 
--- what requests ask for, whatever their nodes
+-- what the requests ask for, without their nodes
 abbrev pub wanted_of : List Request → List Wanted
 wanted_of requests = map (λ e. e.wanted) requests
 
@@ -35,44 +35,44 @@ abbrev pub first_target : List Request → ℕ
 first_target [] = 0
 first_target (e ∷ es) = e.target
 
--- how many requests at the front name the node of the first one
+-- how many requests at the front name the same node as the first
 abbrev pub same_front : List Request → ℕ
 same_front requests = length (take_while (λ e. e.target == first_target requests) requests)
 
--- the first stretch of a batch: after it the rest is cut
+-- these are the target and requests of the first stretch of a batch, and the rest is cut after it
 abbrev pub IsFirst : List Request → ℕ → List Wanted → Type 0
 IsFirst requests target wanted =
     cut requests ≡ record { target = target; wanted = wanted } ∷ cut (drop (length wanted) requests)
 
--- what is wanted of one node, as requests
+-- requests for this node, one for each of these
 abbrev pub all_to : ℕ → List Wanted → List Request
 all_to node wanted = map (λ w. record { target = node; wanted = w }) wanted
 
--- the requests of runs, one after another
+-- the requests of all runs, one run after another
 abbrev pub joined : List Stretch → List Request
 joined runs = flat_map (λ r. all_to r.target r.wanted) runs
 
--- how many requests a run has
+-- the number of a run's requests
 abbrev pub size_of : Stretch → ℕ
 size_of r = length r.wanted
 
--- this holds of the first of a list, if there is one
+-- this holds of the first item, if there is one
 abbrev pub OfFirst : {X : Type 0} → (X → Type 0) → List X → Type 0
 OfFirst P [] = Unit {0}
 OfFirst P (x ∷ xs) = P x
 
--- this holds of each and the next one
+-- this holds of each item and the next
 abbrev pub AllNeighbours : {X : Type 0} → (X → X → Type 0) → List X → Type 0
 AllNeighbours R [] = Unit {0}
 AllNeighbours R (x ∷ xs) = OfFirst (R x) xs × AllNeighbours R xs
 
--- the longest stretches of a batch: joined they are the batch, none is empty, and neighbours name different nodes
+-- the longest stretches of a batch: joined they are the batch, none is empty, and neighbours have different targets
 pub record IsCut (requests : List Request) (runs : List Stretch) : Type 0 where
   pub same : joined runs ≡ requests
   pub some : AllByRecursion (λ r. 0 < size_of r) runs
   pub apart : AllNeighbours (λ r next. r.target ≢ next.target) runs
 
--- a batch has one such list of stretches, and `cut` gives it
+-- a batch has exactly one such list of stretches, and `cut` returns it
 pub record CutIsTheOne (requests : List Request) : Type 0 where
   pub is : IsCut requests (cut requests)
   pub only : (runs : List Stretch) → IsCut requests runs → runs ≡ cut requests
@@ -80,7 +80,7 @@ pub record CutIsTheOne (requests : List Request) : Type 0 where
 abbrev pub EachBatchHasOneCut : Type 0
 EachBatchHasOneCut = (requests : List Request) → CutIsTheOne requests
 
--- at most `n` pieces of a list, from its front on, each as long as the limit but for the last
+-- at most `n` pieces of a list, from its front on, each as long as the limit except the last
 abbrev pub pieces_in : {X : Type 0} → ℕ → List X → ℕ → List (List X)
 pieces_in limit [] n = []
 pieces_in limit (x ∷ xs) zero = []
@@ -90,31 +90,31 @@ pieces_in limit (x ∷ xs) (suc n) = take limit (x ∷ xs) ∷ pieces_in limit (
 abbrev pub pieces : {X : Type 0} → ℕ → List X → List (List X)
 pieces limit xs = pieces_in limit xs (length xs)
 
--- a stretch that is longer than the limit is cut from its front
+-- a stretch, cut from its front into runs no longer than the limit
 abbrev pub within : ℕ → Stretch → List Stretch
 within limit r = map (λ ws. record { target = r.target; wanted = ws }) (pieces limit r.wanted)
 
--- the runs of a batch: the longest stretches of one target, each cut from its front
+-- the runs of a batch: the longest stretches for one target, each cut from its front into runs no longer than the limit
 abbrev pub cut_within : ℕ → List Request → List Stretch
 cut_within limit requests = flat_map (within limit) (cut requests)
 
--- no batch is longer than the greatest limit, and under it each is cut as without one
+-- no batch is longer than the greatest limit, and under that limit each is cut as without one
 abbrev pub CutIsOldCut : Type 0
 CutIsOldCut = (requests : List Request) → length requests ≤ 2 ^ 14 → cut_within (2 ^ 14) requests ≡ cut requests
 
--- a run is as long as the limit where the next one has the same target
+-- a run is as long as the limit if the next has the same target
 abbrev pub IsFullBefore : ℕ → Stretch → Stretch → Type 0
 IsFullBefore limit r next = r.target ≡ next.target → size_of r ≡ limit
 
--- the runs of a batch under a limit: joined they are the batch, none is empty or longer than the limit, and one that is
--- followed by another for its node is as long as the limit
+-- the runs of a batch under a limit: joined they are the batch, none is empty or longer than the limit, and a run
+-- followed by another for the same node is as long as the limit
 pub record IsCutWithin (limit : ℕ) (requests : List Request) (runs : List Stretch) : Type 0 where
   pub same : joined runs ≡ requests
   pub some : AllByRecursion (λ r. 0 < size_of r) runs
   pub short : AllByRecursion (λ r. size_of r ≤ limit) runs
   pub full : AllNeighbours (IsFullBefore limit) runs
 
--- a batch has one such list of runs, and `cut_within` gives it
+-- a batch has exactly one such list of runs, and `cut_within` returns it
 pub record CutWithinIsTheOne (limit : ℕ) (requests : List Request) : Type 0 where
   pub is : IsCutWithin limit requests (cut_within limit requests)
   pub only : (runs : List Stretch) → IsCutWithin limit requests runs → runs ≡ cut_within limit requests
@@ -126,15 +126,15 @@ EachLimitCuts = (limit : ℕ) (requests : List Request) → 0 < limit → CutWit
 abbrev pub targets_of : List Request → List ℕ
 targets_of requests = map (λ e. e.target) requests
 
--- a request for each of these nodes, whatever it asks for
+-- requests for these nodes, whatever they ask for
 abbrev pub for_nodes : List ℕ → List Request
 for_nodes nodes = map (λ node. record { target = node; wanted = Whole (record { segment = 0; index = 0 }) }) nodes
 
--- how many runs a batch for these nodes has
+-- the number of runs of a batch for these nodes
 abbrev pub run_count : ℕ → List ℕ → ℕ
 run_count limit nodes = length (cut_within limit (for_nodes nodes))
 
--- whatever the requests ask for, it is how many runs they are cut into
+-- whatever the requests ask for, they are cut into this number of runs
 abbrev pub RunCountCountsRuns : Type 0
 RunCountCountsRuns =
     (limit : ℕ) (requests : List Request) → length (cut_within limit requests) ≡ run_count limit (targets_of requests)

@@ -1,4 +1,4 @@
--- A run decided from the classes of its requests and the free frames of its target.
+-- Deciding a run, from the classes of its requests and the free frames of its target.
 use Rattle.std.specs.Prelude.{ℕ, ℤ, pos, Bool, false, List, [], ◌∷◌, ◌++◌, map, Option, position, if◌then◌else◌}
 use Rattle.std.specs.List.{list_any, zip}
 use Rattle.std.specs.Ordering.{int_eq}
@@ -10,18 +10,18 @@ use Rattle.nm_types.specs.declared.request.Class.TheVariants.{Status, Move}
 use Rattle.nm_model.specs.definitions.Status.{code}
 use Rattle.nm_types.specs.declared.taken.Taken.{Taken}
 
--- what becomes of a request, and the free frames that are left to the next
+-- the decision on one request, and the free frames left for the next
 pub record Choice : Type 0 where
   pub status : ℤ
   pub taken : List Taken
   pub front : List ℕ
 
--- what becomes of the requests of a run
+-- the decisions on the requests of a run
 pub record Decisions : Type 0 where
   pub statuses : List ℤ
   pub taken : List Taken
 
--- whether one of these moves is of the page
+-- whether one of these moves is the page's
 abbrev pub has_moved : List Taken → Page → Bool
 has_moved taken page = list_any (λ t. same_page page t.page) taken
 
@@ -31,14 +31,14 @@ take_front page from [] target = record { status = code Enomem; taken = []; fron
 take_front page from (frame ∷ front) target =
     record { status = pos target; taken = record { page = page; from = from; to = frame } ∷ []; front = front }
 
--- a request, after these moves
+-- the decision on a request, after these moves
 abbrev pub choose : Class → List Taken → List ℕ → ℕ → Choice
 choose (Status status) moved front target = record { status = status; taken = []; front = front }
 choose (Move page from) moved front target =
     if has_moved moved page then record { status = pos target; taken = []; front = front }
     else take_front page from front target
 
--- one request after another, since what is left for one depends on those before it
+-- the decisions, one request after another, since each leaves less for the next
 abbrev pub decide : List Class → List Taken → List ℕ → ℕ → Decisions
 decide [] moved front target = record { statuses = []; taken = [] }
 decide (class ∷ classes) moved front target =
@@ -55,17 +55,17 @@ abbrev pub is_short : Class × ℤ → Bool
 is_short (Status other, status) = false
 is_short (Move page from, status) = int_eq status (code Enomem)
 
--- the place of the first page that found no free frame
+-- the index of the first request whose page found no free frame
 abbrev pub shortage : List Class → Decisions → Option ℕ
 shortage classes d = position is_short (zip classes d.statuses)
 
--- what a plan says: what becomes of the requests, and the place of the first page that found no free frame
+-- a plan: the decisions on the requests, and the index of the first one whose page found no free frame
 pub record Planned : Type 0 where
   pub statuses : List ℤ
   pub taken : List Taken
   pub shortage : Option ℕ
 
--- the plan for a run with these classes
+-- the plan of a run with these classes
 abbrev pub planned : List Class → List ℕ → ℕ → Planned
 planned classes front target =
     let d = decide classes [] front target in

@@ -1,4 +1,4 @@
--- The events of a run: when each is allowed, and what it does.
+-- The events of a run: when each is allowed, and its effect.
 use Rattle.std.specs.Prelude.{ℕ, zero, suc, ◌==◌, Bool, true, false, ◌&&◌, List, [], ◌∷◌, ◌++◌, map, length, drop, slice_index_or}
 use Rattle.std.specs.Prelude.{slice_set, Option, Some, None, if◌then◌else◌}
 use Rattle.std.specs.Option.{unwrap_or, option_map}
@@ -23,7 +23,7 @@ use Rattle.nm_model.specs.definitions.Accesses.{accessed}
 pub data Event : Type 0 where
   -- the run begins
   Begin : (target : ℕ) (wanted : List Wanted) → Event
-  -- a worker takes the next job
+  -- a worker draws the next job
   Draw : (worker : ℕ) → Event
   -- a worker gives a job back, copied
   Give : (worker ticket : ℕ) → Event
@@ -32,7 +32,7 @@ pub data Event : Type 0 where
   -- the run ends
   End : Event
 
--- what becomes of the requests, by the state before the run
+-- the decisions on the requests, from the state before the run
 abbrev pub plan : RunMachine → ℕ → List Wanted → Decisions
 plan m target wanted =
     let s = state_of m in decide (map (status_or_move s target) wanted) [] (free_list s target) target
@@ -41,15 +41,15 @@ plan m target wanted =
 abbrev pub laid_for : Store → Taken → Job
 laid_for buf t = record { source = (t.from, bytes_of buf t.from); target = (t.to, bytes_of buf t.to); stage = Laid }
 
--- both buffers of a job leave
+-- both buffers of a job are taken out
 abbrev pub without_both : Store → Job → Store
 without_both buf job = slice_set (slice_set buf job.source.0 None) job.target.0 None
 
--- both buffers of a job come back
+-- both buffers of a job are put back
 abbrev pub with_both : Store → Job → Store
 with_both buf job = slice_set (slice_set buf job.source.0 (Some job.source.1)) job.target.0 (Some job.target.1)
 
--- an entry that names the source of a job is held, and on its way to the target
+-- an entry that names a job's source becomes held, on its way to the job's target
 abbrev pub held_by : List Job → Entry → Entry
 held_by jobs Zero = Zero
 held_by jobs (Frame f) = unwrap_or (option_map (λ job. Held job.target.0) (job_from jobs f)) (Frame f)
@@ -61,11 +61,11 @@ arrived Zero = Zero
 arrived (Frame f) = Frame f
 arrived (Held f) = Frame f
 
--- each entry of a process changed
+-- each entry of a process, changed
 abbrev pub with_changed : (Entry → Entry) → Task → Task
 with_changed change t = record t { table = with_values (λ v e. change e) t.table }
 
--- and of each process
+-- each entry of each process, changed
 abbrev pub with_entries : (Entry → Entry) → Map ℕ Task → Map ℕ Task
 with_entries change tasks = with_values (λ pid. with_changed change) tasks
 
@@ -83,11 +83,11 @@ begun m target wanted =
       statuses = d.statuses;
     }
 
--- a frame goes to the end of its own node's free list
+-- a frame is appended to its own node's free list
 abbrev pub freed : Layout → List (List ℕ) → ℕ → List (List ℕ)
 freed g free f = slice_set free (node_of g f) (slice_index_or free (node_of g f) [] ++ f ∷ [])
 
--- the run ends: the buffers are back, the pages are where they went, and the frames that they left are free
+-- the run ends: the buffers are put back, the pages are in their new frames, and the frames that they left are free
 abbrev pub ended : RunMachine → RunMachine
 ended m =
     record m {
@@ -111,22 +111,22 @@ is_given Laid = false
 is_given (InHand w) = false
 is_given Given = true
 
--- whether this worker has it
+-- whether this worker has the job in hand
 abbrev pub is_with : ℕ → Stage → Bool
 is_with w Laid = false
 is_with w (InHand x) = x == w
 is_with w Given = false
 
--- the first job that lies goes to the worker
+-- the first job that lies on the board goes to the worker
 abbrev pub drawn : ℕ → List Job → List Job
 drawn w [] = []
 drawn w (job ∷ jobs) = if is_laid job.stage then record job { stage = InHand w } ∷ jobs else job ∷ drawn w jobs
 
--- the target's bytes are the source's
+-- the target has the source's bytes, and the job is given back
 abbrev pub copied : Job → Job
 copied job = record job { target = (job.target.0, job.source.1); stage = Given }
 
--- a job is given back, copied
+-- the job of this ticket is given back, copied
 abbrev pub given : ℕ → List Job → List Job
 given t [] = []
 given zero (job ∷ jobs) = copied job ∷ jobs
@@ -142,7 +142,7 @@ is_moving Ready = false
 is_moving Moving = true
 is_moving Ended = false
 
--- when an event is allowed
+-- whether an event is allowed
 abbrev pub is_allowed : RunMachine → Event → Bool
 is_allowed m (Begin target wanted) = is_ready m.phase
 is_allowed m (Draw w) = list_any (λ job. is_laid job.stage) m.jobs
@@ -150,7 +150,7 @@ is_allowed m (Give w t) = unwrap_or (option_map (λ job. is_with w job.stage) (s
 is_allowed m (Touch a) = is_moving m.phase
 is_allowed m End = is_moving m.phase && list_all (λ job. is_given job.stage) m.jobs
 
--- what it does
+-- an event's effect
 abbrev pub effect : RunMachine → Event → RunMachine
 effect m (Begin target wanted) = begun m target wanted
 effect m (Draw w) = record m { jobs = drawn w m.jobs }
@@ -158,12 +158,12 @@ effect m (Give w t) = record m { jobs = given t m.jobs }
 effect m (Touch a) = accessed m a
 effect m End = ended m
 
--- the machine after these events, if each is allowed when it comes
+-- the machine after these events, if each is allowed at its turn
 abbrev pub after : RunMachine → List Event → Option RunMachine
 after m [] = Some m
 after m (e ∷ events) = if is_allowed m e then after (effect m e) events else None
 
--- the accesses among events, in their order
+-- the access of an event, if it is one
 abbrev pub access_in : Event → List Access
 access_in (Begin target wanted) = []
 access_in (Draw w) = []
@@ -174,12 +174,12 @@ access_in End = []
 abbrev pub accesses_in : List Event → List Access
 accesses_in events = flat_map access_in events
 
--- where a buffer may be: at home, or in a job of some stage
+-- where a buffer may be: at home, or in a job at some stage
 pub data Hold : Type 0 where
   Home : Hold
   InJob : (stage : Stage) → Hold
 
--- the buffer of a frame, if it is at home
+-- a frame's buffer, if it is at home
 abbrev pub home_hold : Option (List ℕ) → List Hold
 home_hold None = []
 home_hold (Some bytes) = Home ∷ []

@@ -1,4 +1,4 @@
--- Frames: their bytes, and those of each node that are free.
+-- Frames: their bytes, and each node's free frames.
 use Rattle.std.specs.Prelude.{◌≡◌, ℕ, ◌+◌, ◌<◌, List, [], ◌++◌, length, take, drop, slice_index_or, Option, None, IsSome, unwrap_or}
 use Rattle.std.specs.Prelude.{◌==◌, true, ◌∷◌, sum, slice_set}
 use Rattle.std.specs.List.{IsDistinct}
@@ -12,16 +12,16 @@ Store = List (Option (List ℕ))
 abbrev pub bytes_of : Store → ℕ → List ℕ
 bytes_of store frame = unwrap_or (slice_index_or store frame None) []
 
--- the bytes with these in place of as many from a place on
+-- the bytes with some overwritten from an index on
 abbrev pub overwrite : List ℕ → ℕ → List ℕ → List ℕ
 overwrite old at new = take at old ++ new ++ drop (at + length new) old
 
--- there is such a frame, and its bytes are here
+-- the frame exists, and its bytes are in the store
 pub record IsHome (store : Store) (frame : ℕ) : Type 0 where
   pub in_range : frame < length store
   pub here : IsSome (slice_index_or store frame None)
 
--- there is such a frame, and its bytes are not here
+-- the frame exists, and its bytes are out of the store
 pub record IsOut (store : Store) (frame : ℕ) : Type 0 where
   pub in_range : frame < length store
   pub taken : slice_index_or store frame None ≡ None
@@ -33,14 +33,14 @@ AllWhole store = (frame : ℕ) → IsHome store frame → length (bytes_of store
 pub record Pool : Type 0 where
   -- how many frames each node owns
   pub sizes : List ℕ
-  -- for each node its free frames, the front first
+  -- each node's free frames, front first
   pub lists : List (List ℕ)
 
 -- the free frames of a node
 abbrev pub list_of : Pool → ℕ → List ℕ
 list_of p node = slice_index_or p.lists node []
 
--- the frames of each node upwards, where the first node's first frame is given
+-- each node's frames in ascending order, where the first node's first frame is given
 abbrev pub all_frames : ℕ → List ℕ → List (List ℕ)
 all_frames first [] = []
 all_frames first (size ∷ sizes) = up_from first size ∷ all_frames (first + size) sizes
@@ -49,7 +49,7 @@ all_frames first (size ∷ sizes) = up_from first size ∷ all_frames (first + s
 abbrev pub new_pool : List ℕ → Pool
 new_pool sizes = record { sizes = sizes; lists = all_frames 0 sizes }
 
--- the pool with another list of a node
+-- the pool with another list for a node
 abbrev pub with_list : Pool → ℕ → List ℕ → Pool
 with_list p node frames = record { sizes = p.sizes; lists = slice_set p.lists node frames }
 
@@ -57,15 +57,15 @@ with_list p node frames = record { sizes = p.sizes; lists = slice_set p.lists no
 abbrev pub without_front : Pool → ℕ → Pool
 without_front p node = with_list p node (drop 1 (list_of p node))
 
--- the pool with a frame more at the end of its own node's list
+-- the pool with another frame at the end of its own node's list
 abbrev pub appended : Pool → ℕ → Pool
 appended p frame = let node = owner p.sizes frame in with_list p node (list_of p node ++ frame ∷ [])
 
--- the pool with a frame more at the front of its own node's list
+-- the pool with another frame at the front of its own node's list
 abbrev pub prepended : Pool → ℕ → Pool
 prepended p frame = let node = owner p.sizes frame in with_list p node (frame ∷ list_of p node)
 
--- each node has a list, whose frames are its own, and none stands in it twice
+-- each node has a list, of its own frames only, without repetition
 pub record IsPool (p : Pool) : Type 0 where
   pub as_many : length p.lists ≡ length p.sizes
   pub in_machine : (node frame : ℕ) → is_in (list_of p node) frame ≡ true → frame < sum p.sizes

@@ -1,4 +1,4 @@
--- Page tables: a process with the entries of its page numbers, and what it sees by them.
+-- Page tables: a process with its entries by page number, and what it sees by them.
 use Rattle.std.specs.Prelude.{ℕ, List, [], Option, Some, None}
 use Rattle.std.specs.Option.{unwrap_or, option_map}
 use Rattle.std.specs.Ordering.{nat_cmp}
@@ -18,12 +18,12 @@ pub record Task : Type 0 where
   -- by page number
   pub table : Map ℕ Entry
 
--- the entry of a process at a page number, if it is there
+-- the entry of a process at a page number, if there is such a process and entry
 abbrev pub entry_in : Option Task → ℕ → Option Entry
 entry_in None v = None
 entry_in (Some t) v = get nat_cmp t.table v
 
--- what stands in the table of a process at a page number
+-- the entry at a page number in a process's table
 abbrev pub entry_at : Map ℕ Task → ℕ → ℕ → Option Entry
 entry_at tasks pid v = entry_in (get nat_cmp tasks pid) v
 
@@ -31,17 +31,17 @@ entry_at tasks pid v = entry_in (get nat_cmp tasks pid) v
 abbrev pub with_entry : Task → ℕ → Entry → Task
 with_entry t v e = record t { table = set nat_cmp t.table v e }
 
--- the page that an area of a process shows at a page number, and some page where no area is
+-- the page that an area of a process shows at a page number, or an arbitrary page if there is no area
 abbrev pub page_here : Map (ℕ × ℕ) Area → ℕ → ℕ → Page
 page_here areas pid v = unwrap_or (page_at areas pid v) (record { segment = 0; index = 0 })
 
--- what a process sees at a page number by the entry there
+-- what a process sees at a page number with this entry
 abbrev pub sight_of : Map (ℕ × ℕ) Area → ℕ → ℕ → Entry → Sight
 sight_of areas pid v Zero = ZeroPage
 sight_of areas pid v (Frame f) = Sees (page_here areas pid v)
 sight_of areas pid v (Held f) = Sees (page_here areas pid v)
 
--- a process by its table
+-- the process that a page table gives
 abbrev pub process_of : Map (ℕ × ℕ) Area → ℕ → Task → Process
 process_of areas pid t =
     record {
@@ -52,7 +52,7 @@ process_of areas pid t =
       sees = with_values (sight_of areas pid) t.table;
     }
 
--- the entry of what is seen: the page of zeros, or the frame of the page
+-- the entry for what is seen: the page of zeros, or the frame of the page
 abbrev pub entry_of : Map Page ℕ → Sight → Entry
 entry_of place ZeroPage = Zero
 entry_of place (Sees p) = unwrap_or (option_map Frame (get page_cmp place p)) Zero

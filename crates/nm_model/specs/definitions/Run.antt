@@ -1,4 +1,4 @@
--- A run and a batch: one request after another.
+-- Runs and batches: one request after another.
 use Rattle.std.specs.Prelude.{◌≡◌, ◌⊎◌, Bool, ℕ, ◌+◌, ◌-◌, ◌^◌, min, ℤ, pos, ◌||◌, List, [], ◌∷◌, ◌++◌, map, length, count_by, slice_set}
 use Rattle.std.specs.List.{fold, AllByRecursion, filter}
 use Rattle.std.specs.Ordering.{int_eq}
@@ -17,13 +17,13 @@ use Rattle.nm_model.specs.definitions.Touch.{Access, AccessAnswer, all_in_flight
 use Rattle.std.specs.Prelude.{◌==◌}
 use Rattle.nm_model.specs.definitions.Cut.{Request, Stretch, cut}
 
--- what a request makes of a state: its status, and the move if there is one
+-- the state after a request, its status, and its move if there is one
 pub record Decision : Type 0 where
   pub state : State
   pub status : ℤ
   pub taken : List Taken
 
--- the page takes the front of the target's free list. The frame that it leaves is not free yet
+-- the page takes the front of the target's free list; the frame that it leaves is not free yet
 abbrev pub moved_page : State → ℕ → Page → ℕ → List ℕ → Decision
 moved_page s target page from [] = record { state = s; status = code Enomem; taken = [] }
 moved_page s target page from (frame ∷ rest) =
@@ -33,16 +33,16 @@ moved_page s target page from (frame ∷ rest) =
       taken = record { page = page; from = from; to = frame } ∷ [];
     }
 
--- what is to be done is done
+-- a request of this class is carried out
 abbrev pub decided : State → ℕ → Class → Decision
 decided s target (Status status) = record { state = s; status = status; taken = [] }
 decided s target (Move page from) = moved_page s target page from (free_list s target)
 
--- one request
+-- one request is decided and carried out
 abbrev pub one : State → ℕ → Wanted → Decision
 one s target w = decided s target (status_or_move s target w)
 
--- what requests make of a state: their statuses, and the moves
+-- the state after requests, their statuses, and the moves
 pub record Progress : Type 0 where
   pub state : State
   pub statuses : List ℤ
@@ -56,7 +56,7 @@ each s target (w ∷ ws) =
     let rest = each now.state target ws in
     record { state = rest.state; statuses = now.status ∷ rest.statuses; taken = now.taken ++ rest.taken }
 
--- a frame goes to the end of its own node's free list
+-- a frame is appended to its own node's free list
 abbrev pub with_free : State → ℕ → State
 with_free s frame =
     let node = node_of s.layout frame in
@@ -66,15 +66,15 @@ with_free s frame =
 abbrev pub with_all_free : State → List ℕ → State
 with_all_free s frames = fold with_free s frames
 
--- the frames that the moves leave, in their order
+-- the frames that the moves leave, in order
 abbrev pub left : List Taken → List ℕ
 left taken = map (λ t. t.from) taken
 
--- how many requests failed for a pin or for lack of a free frame
+-- how many requests failed because of a pin or for lack of a free frame
 abbrev pub failures : List ℤ → ℕ
 failures statuses = count_by (λ status. int_eq status (code Ebusy) || int_eq status (code Enomem)) statuses
 
--- a total stays where it is full
+-- a total, which stays at its greatest value
 abbrev pub added : ℕ → ℕ → ℕ
 added total n = min (total + n) (2 ^ 64 - 1)
 
@@ -82,7 +82,7 @@ added total n = min (total + n) (2 ^ 64 - 1)
 abbrev pub counted : State → ℕ → ℕ → State
 counted s moved failed = record s { moved = added s.moved moved; failed = added s.failed failed }
 
--- a request by address, which moves a page that other processes see too, or does not
+-- a request by address with this `all`: whether it moves a page that other processes also see
 abbrev pub IsByAddress : Bool → Wanted → Type 0
 IsByAddress all (Spot pid v b) = b ≡ all
 IsByAddress all (Whole page) = ⊥
@@ -92,18 +92,18 @@ abbrev pub IsByPage : Wanted → Type 0
 IsByPage (Spot pid v all) = ⊥
 IsByPage (Whole page) = Unit {0}
 
--- all requests of a run are by address and have one `all`, or all are by page
+-- all requests of a run are by address with one `all`, or all are by page
 abbrev pub HasOneAll : List Wanted → Type 0
 HasOneAll ws = ((all : Bool) × AllByRecursion (IsByAddress all) ws) ⊎ AllByRecursion IsByPage ws
 
--- what a run or a batch makes of a state
+-- the state after a run or a batch, the statuses and the answers
 pub record Ran : Type 0 where
   pub state : State
   pub statuses : List ℤ
-  -- for each run the answers to its accesses
+  -- each run's answers to its accesses
   pub answers : List (List AccessAnswer)
 
--- a run: the requests, the accesses in flight, then the frames that were left become free, then the totals
+-- a run: the requests, the accesses in flight, then the frames left become free, then the totals
 abbrev pub run : State → ℕ → List Wanted → List Access → Ran
 run s target ws accesses =
     let moves = each s target ws in
@@ -114,11 +114,11 @@ run s target ws accesses =
       answers = during.answers ∷ [];
     }
 
--- the accesses that name this run, in their order
+-- the accesses that name this run, in order
 abbrev pub accesses_of : ℕ → List (ℕ × Access) → List Access
 accesses_of k accesses = map (λ a. a.1) (filter (λ a. a.0 == k) accesses)
 
--- one run after another, with numbers from k on, each with its accesses
+-- one run after another, numbered from k on, each with its accesses
 abbrev pub runs_from : ℕ → State → List Stretch → List (ℕ × Access) → Ran
 runs_from k s [] accesses = record { state = s; statuses = []; answers = [] }
 runs_from k s (r ∷ rs) accesses =
@@ -130,6 +130,6 @@ runs_from k s (r ∷ rs) accesses =
 abbrev pub batch : State → List Request → List (ℕ × Access) → Ran
 batch s requests accesses = runs_from 0 s (cut requests) accesses
 
--- the answer to a batch
+-- the answer of a batch
 abbrev pub answer_of : Ran → ℕ
 answer_of r = failures r.statuses

@@ -1,4 +1,4 @@
--- The machine while a run is under way: page tables, buffers and jobs.
+-- The machine during a run: page tables, buffers and jobs.
 use Rattle.std.specs.Prelude.{ℕ, ℤ, ◌==◌, List, [], ◌∷◌, Option, Some, None, if◌then◌else◌}
 use Rattle.std.specs.Option.{unwrap_or, option_map}
 use Rattle.nm_types.specs.declared.page.Page.{Page}
@@ -15,13 +15,13 @@ use Rattle.nm_model.specs.definitions.Touch.{AccessAnswer}
 abbrev pub Buffer : Type 0
 Buffer = ℕ × List ℕ
 
--- how far a copying is: it lies, a worker has it in hand, or it is given back
+-- how far a copy job is: it lies on the board, a worker has it in hand, or it is given back
 pub data Stage : Type 0 where
   Laid : Stage
   InHand : (worker : ℕ) → Stage
   Given : Stage
 
--- a copying from one buffer into another
+-- a copy from one buffer into another
 pub record Job : Type 0 where
   pub source : Buffer
   pub target : Buffer
@@ -35,23 +35,23 @@ pub data Phase : Type 0 where
 
 pub record RunMachine : Type 0 where
   pub layout : Layout
-  -- by pid the process with its page table
+  -- each process with its page table, by pid
   pub tasks : Map ℕ Task
   pub areas : Map (ℕ × ℕ) Area
   pub segments : Map ℕ Segment
   pub next_segment : ℕ
   pub place : Map Page ℕ
   pub pins : Map Page ℕ
-  -- by frame the bytes in its buffer, and none where the buffer is out
+  -- the bytes in each frame's buffer, or none while the buffer is out
   pub buf : Store
   pub free : List (List ℕ)
   pub online : List ℕ
   pub moved : ℕ
   pub failed : ℕ
   pub phase : Phase
-  -- the run's copyings, in the order of its moves
+  -- the run's copy jobs, in the order of its moves
   pub jobs : List Job
-  -- what became of its requests, and of the accesses so far
+  -- the statuses of its requests, and the answers to its accesses so far
   pub statuses : List ℤ
   pub answers : List AccessAnswer
 
@@ -60,15 +60,16 @@ abbrev pub job_from : List Job → ℕ → Option Job
 job_from [] f = None
 job_from (job ∷ jobs) f = if job.source.0 == f then Some job else job_from jobs f
 
--- the frame to which a page in this one goes, which is this one where no job copies it
+-- the frame that a page in this frame goes to; the same frame if no job copies it
 abbrev pub goes_to : List Job → ℕ → ℕ
 goes_to jobs f = unwrap_or (option_map (λ job. job.target.0) (job_from jobs f)) f
 
--- the bytes of a page in this frame, which stand in its job's source while it is copied
+-- the bytes of a page in this frame, which are in its job's source while it is copied
 abbrev pub content : Store → List Job → ℕ → List ℕ
 content buf jobs f = unwrap_or (option_map (λ job. job.source.1) (job_from jobs f)) (bytes_of buf f)
 
--- the machine read as a state: each page is where it goes, with the bytes that it has where it comes from
+-- the machine read as a state: each page is in the frame that it goes to, with the bytes that it has in the one that it
+-- leaves
 abbrev pub state_of : RunMachine → State
 state_of m =
     record {

@@ -1,4 +1,4 @@
--- What processes see, and where the pages are that they see.
+-- What processes see, and where these pages are.
 use Rattle.std.specs.Prelude.{ℕ, nat_lt, Bool, false, List, length, Option, Some, None, nat_le, ◌&&◌, []}
 use Rattle.std.specs.Option.{unwrap_or, option_map}
 use Rattle.std.specs.List.{list_any, filter, flat_map}
@@ -16,7 +16,7 @@ use Rattle.std.specs.Prelude.{◌≡◌, ◌+◌, ◌^◌, ◌≤◌, ◌<◌, �
 use Rattle.nm_types.specs.Layout.{Layout, node_of}
 use Rattle.nm_types.specs.declared.located.Located.{Located}
 
--- what it sees at a page number, if it is there
+-- what a process sees at a page number, if there is such a process
 abbrev pub sight_in : Option Process → ℕ → Option Sight
 sight_in None v = None
 sight_in (Some process) v = get nat_cmp process.sees v
@@ -25,16 +25,16 @@ sight_in (Some process) v = get nat_cmp process.sees v
 abbrev pub sight_at : State → ℕ → ℕ → Option Sight
 sight_at s pid v = sight_in (get nat_cmp s.processes pid) v
 
--- whether this page is seen
+-- whether this page is what is seen
 abbrev pub is_sight_of : Page → Sight → Bool
 is_sight_of p ZeroPage = false
 is_sight_of p (Sees q) = same_page p q
 
--- whether a process sees a page, at whatever address
+-- whether a process sees a page, at any address
 abbrev pub sees_page : Page → Process → Bool
 sees_page p process = list_any (λ e. is_sight_of p e.1) process.sees
 
--- of these processes those that see a page, each once
+-- those of these processes that see a page, each once
 abbrev pub users_in : Map ℕ Process → Page → List ℕ
 users_in processes p = keys_of (filter (λ e. sees_page p e.1) processes)
 
@@ -42,11 +42,11 @@ users_in processes p = keys_of (filter (λ e. sees_page p e.1) processes)
 abbrev pub users : State → Page → List ℕ
 users s p = users_in s.processes p
 
--- how often a page is pinned, by the pins of all pages
+-- the number of pins of a page, among the pins of all pages
 abbrev pub pins_among : Map Page ℕ → Page → ℕ
 pins_among pins p = unwrap_or (get page_cmp pins p) 0
 
--- how often a page is pinned
+-- the number of pins of a page
 abbrev pub pins_of : State → Page → ℕ
 pins_of s p = pins_among s.pins p
 
@@ -54,7 +54,7 @@ pins_of s p = pins_among s.pins p
 abbrev pub is_pinned : State → Page → Bool
 is_pinned s p = nat_lt 0 (pins_of s p)
 
--- a look at a page that has this place
+-- a look at a page with this frame, if any
 abbrev pub look_at_place : Map ℕ Process → Map Page ℕ → Page → Option ℕ → Seen
 look_at_place processes pins p None = Absent
 look_at_place processes pins p (Some frame) = At p frame (length (users_in processes p)) (nat_lt 0 (pins_among pins p))
@@ -63,7 +63,7 @@ look_at_place processes pins p (Some frame) = At p frame (length (users_in proce
 abbrev pub look_at_page : State → Page → Option ℕ → Seen
 look_at_page s p place = look_at_place s.processes s.pins p place
 
--- a look at what is seen, by the places and pins of pages
+-- a look at what is seen, given the frames and pins of pages
 abbrev pub look_by_sight : Map ℕ Process → Map Page ℕ → Map Page ℕ → Option Sight → Seen
 look_by_sight processes place pins None = Absent
 look_by_sight processes place pins (Some ZeroPage) = Zero
@@ -73,7 +73,7 @@ look_by_sight processes place pins (Some (Sees p)) = look_at_place processes pin
 abbrev pub look_at_sight : State → Option Sight → Seen
 look_at_sight s sight = look_by_sight s.processes s.place s.pins sight
 
--- a look at what is seen where this page is shown
+-- a look at what is seen where this page, if any, is shown
 abbrev pub look_behind : Map ℕ Process → Map Page ℕ → Map Page ℕ → Option Page → Option Sight → Seen
 look_behind processes place pins None sight = NoArea
 look_behind processes place pins (Some shown) sight = look_by_sight processes place pins sight
@@ -82,7 +82,7 @@ look_behind processes place pins (Some shown) sight = look_by_sight processes pl
 abbrev pub look_under : State → Option Page → Option Sight → Seen
 look_under s shown sight = look_behind s.processes s.place s.pins shown sight
 
--- a look at a page number of a process, by the processes, the areas, and the places and pins of pages
+-- a look at a page number of a process, given the processes, the areas, and the frames and pins of pages
 abbrev pub look_in : Map ℕ Process → Map (ℕ × ℕ) Area → Map Page ℕ → Map Page ℕ → ℕ → ℕ → Seen
 look_in processes areas place pins pid v = look_behind processes place pins (page_at areas pid v) (sight_in (get nat_cmp processes pid) v)
 
@@ -90,13 +90,13 @@ look_in processes areas place pins pid v = look_behind processes place pins (pag
 abbrev pub look : State → ℕ → ℕ → Seen
 look s pid v = look_in s.processes s.areas s.place s.pins pid v
 
--- the frame of what is seen
+-- the frame of what is seen, if it has one
 abbrev pub frame_of : Map Page ℕ → Option Sight → Option ℕ
 frame_of place None = None
 frame_of place (Some ZeroPage) = None
 frame_of place (Some (Sees p)) = get page_cmp place p
 
--- the frame of what a process sees at a page number
+-- the frame of what a process sees at a page number, if it has one
 abbrev pub frame_seen : State → ℕ → ℕ → Option ℕ
 frame_seen s pid v = frame_of s.place (sight_at s pid v)
 
@@ -104,7 +104,7 @@ frame_seen s pid v = frame_of s.place (sight_at s pid v)
 abbrev pub between : {V : Type 0} → ℕ → ℕ → Map ℕ V → Map ℕ V
 between first end m = filter (λ e. nat_le first e.0 && nat_lt e.0 end) m
 
--- what a process sees, if it is there
+-- what a process sees, if there is such a process
 abbrev pub sights_in : Option Process → Map ℕ Sight
 sights_in process = unwrap_or (option_map (λ (p : Process). p.sees) process) []
 
@@ -112,21 +112,21 @@ sights_in process = unwrap_or (option_map (λ (p : Process). p.sees) process) []
 abbrev pub sights : State → ℕ → Map ℕ Sight
 sights s pid = sights_in (get nat_cmp s.processes pid)
 
--- the same from one page number up to another
+-- what a process sees from one page number up to another
 abbrev pub sights_between : State → ℕ → ℕ → ℕ → Map ℕ Sight
 sights_between s pid first end = between first end (sights s pid)
 
--- a page that is seen at a page number, if it has a frame
+-- a page seen at a page number, if it has a frame
 abbrev pub in_frame : Layout → ℕ → Page → Option ℕ → List Located
 in_frame g v p None = []
 in_frame g v p (Some frame) = record { vpn = v; page = p; frame = frame; node = node_of g frame } ∷ []
 
--- what is seen at a page number, if it is a page
+-- what is seen at a page number, if it is a page with a frame
 abbrev pub located : Layout → Map Page ℕ → ℕ → Sight → List Located
 located g place v ZeroPage = []
 located g place v (Sees p) = in_frame g v p (get page_cmp place p)
 
--- the pages of what is seen, with their frames and nodes
+-- the pages with a frame among what is seen, with their frames and nodes
 abbrev pub located_in : Layout → Map Page ℕ → Map ℕ Sight → List Located
 located_in g place sees = flat_map (λ e. located g place e.0 e.1) sees
 
@@ -138,7 +138,8 @@ located_between s pid first end = located_in s.layout s.place (sights_between s 
 abbrev pub placed_on : State → ℕ → List Page
 placed_on s node = keys_of (filter (λ e. node_of s.layout e.1 == node) s.place)
 
--- an area of a process from a page number on is over each of its page numbers, and its pages have indices
+-- an area of a process, given with its first page number, covers each of its page numbers, and its pages have indices
+-- below 2^64
 abbrev pub IsOver : Map (ℕ × ℕ) Area → ℕ → ℕ × Area → Type 0
 IsOver areas pid a =
     ((v : ℕ) → a.0 ≤ v → v < a.0 + a.1.pages → area_over areas pid v ≡ Some ((pid, a.0), a.1)) × (a.1.page.index + a.1.pages < 2 ^ 64)

@@ -1,4 +1,4 @@
--- What holds of every state between two calls, and how it is looked at.
+-- What holds of every state between two calls, and how an audit checks frames.
 use Rattle.std.specs.Prelude.{◌≡◌, ℕ, ◌+◌, ◌^◌, ◌≤◌, ◌<◌, nat_lt, ◌==◌, cond, false, List, [], length, count_by}
 use Rattle.std.specs.Prelude.{slice_index_or, Option, Some, None, IsSome, IsTrue, Bool, ◌&&◌, ◌∷◌, ◌++◌, map}
 use Rattle.std.specs.List.{sum_by, AllByRecursion, list_all}
@@ -12,7 +12,7 @@ use Rattle.nm_types.specs.Layout.{Layout, node_count, frame_count, node_of}
 use Rattle.nm_types.specs.declared.sight.Sight.TheVariants.{ZeroPage, Sees}
 use Rattle.nm_types.specs.State.{Process, State, Placed, page_at}
 use Rattle.nm_model.specs.definitions.Seen.{sight_at}
--- handed on: no two areas of a process are over one page number, and a private page is shown at one page number alone
+-- re-exported: the areas of a process do not overlap, and a private page is shown at one page number only
 pub use Rattle.nm_model.specs.definitions.Areas.{AreasAreApart, PrivateIsOnce}
 use Rattle.nm_model.specs.definitions.Areas.{is_shared}
 use Rattle.nm_model.specs.definitions.Effect.{is_covered}
@@ -31,19 +31,19 @@ abbrev pub PlacesAreApart : Map Page ℕ → Type 0
 PlacesAreApart place =
     (p q : Page) (frame : ℕ) → get page_cmp place p ≡ Some frame → get page_cmp place q ≡ Some frame → p ≡ q
 
--- how often a frame stands in a list
+-- how often a frame is in a list
 abbrev pub times : ℕ → List ℕ → ℕ
 times frame frames = count_by (λ f. f == frame) frames
 
--- how often it is the place of a page, is free, or was left by a run that has not ended
+-- how many times a frame is the place of a page, is free, or was left by a run that has not ended
 abbrev pub holders : Map Page ℕ → List (List ℕ) → List ℕ → ℕ → ℕ
 holders place free left frame = times frame (values_of place) + sum_by (times frame) free + times frame left
 
--- the free frames of a node are its own
+-- a node's free list has frames of that node only
 abbrev pub OwnsItsFree : Layout → List (List ℕ) → ℕ → Type 0
 OwnsItsFree g free node = AllByRecursion (λ frame. node_of g frame ≡ node) (slice_index_or free node [])
 
--- each frame of the machine is in one of these places, once, and a free one stands in its own node's list
+-- each frame of the machine is in exactly one of these places, once, and a free frame is in its own node's list
 pub record FramesAreOnce (g : Layout) (place : Map Page ℕ) (free : List (List ℕ)) (left : List ℕ) : Type 0 where
   pub lists : length free ≡ node_count g
   pub once : (frame : ℕ) → holders place free left frame ≡ cond (nat_lt frame (frame_count g)) 1 0
@@ -55,7 +55,7 @@ SeesWhatIsShown s =
     (pid v : ℕ) (p : Page) →
     sight_at s pid v ≡ Some (Sees p) → (page_at s.areas pid v ≡ Some p) × IsSome (get page_cmp s.place p)
 
--- the page of zeros stands only where a private page is shown
+-- the page of zeros is seen only where a private page is shown
 abbrev pub ZeroIsPrivate : State → Type 0
 ZeroIsPrivate s =
     (pid v : ℕ) →
@@ -65,39 +65,40 @@ ZeroIsPrivate s =
 abbrev pub PlacedIsCovered : State → Type 0
 PlacedIsCovered s = (p : Page) → IsSome (get page_cmp s.place p) → IsTrue (is_covered s.areas p)
 
--- the pages with a frame, and no others, have bytes, 4,096 each ..
+-- exactly the pages with a frame have bytes, 4,096 each ...
 pub record PlacedHasBytes (place : Map Page ℕ) (bytes : Map Page (List ℕ)) : Type 0 where
   pub same_pages : keys_of bytes ≡ keys_of place
   pub whole : AllByRecursion (λ e. length e.1 ≡ 4096) bytes
 
--- .. and a number of pins, which may be 0 and is at most 65,535
+-- ... and a number of pins, from 0 to 65,535
 pub record PlacedHasPins (place pins : Map Page ℕ) : Type 0 where
   pub same_pages : keys_of pins ≡ keys_of place
   pub few : AllByRecursion (λ e. e.1 ≤ 65535) pins
 
--- a private page with a frame is seen
+-- a private page with a frame is seen by some process
 abbrev pub PrivateIsSeen : State → Type 0
 PrivateIsSeen s =
     (p : Page) → IsSome (get page_cmp s.place p) → is_shared s.segments p.segment ≡ false →
     (pid : ℕ) × (v : ℕ) × (sight_at s pid v ≡ Some (Sees p))
 
--- a segment is there, and has at least `pages` pages
+-- the segment exists, and has at least `pages` pages
 abbrev pub HasPages : Option Segment → ℕ → Type 0
 HasPages None pages = ⊥
 HasPages (Some segment) pages = pages ≤ segment.pages
 
--- an area has a page and ends below 2^47, its process is there, and so is its segment, with all pages that it shows
+-- an area has a page and ends at 2^47 or before; its process exists, and so does its segment, with all pages that it
+-- shows
 abbrev pub IsWhole : State → Placed → Type 0
 IsWhole s a =
     (0 < a.1.pages) × (a.0.1 + a.1.pages ≤ 2 ^ 35) × IsSome (get nat_cmp s.processes a.0.0)
     × HasPages (get nat_cmp s.segments a.1.page.segment) (a.1.page.index + a.1.pages)
 
--- the next segment's number is new, and at most 65,536 segments were made
+-- the next segment's number is new, and at most 65,536 segments have been made
 pub record SegmentsAreNumbered (segments : Map ℕ Segment) (next : ℕ) : Type 0 where
   pub below : (n : ℕ) → IsSome (get nat_cmp segments n) → n < next
   pub few : next ≤ 65536
 
--- the nodes online are nodes of the machine, each below the next
+-- the online nodes are nodes of the machine, in ascending order
 pub record AreNodes (g : Layout) (nodes : List ℕ) : Type 0 where
   pub upwards : IsStrictlySortedBy nat_cmp nodes
   pub below : AllByRecursion (λ node. node < node_count g) nodes
@@ -106,7 +107,7 @@ pub record AreNodes (g : Layout) (nodes : List ℕ) : Type 0 where
 abbrev pub ProcessesAreFew : Map ℕ Process → Type 0
 ProcessesAreFew processes = length processes ≤ 1024
 
--- sound, when a run that has not ended has left these frames
+-- a state is sound during a run that has left these frames
 pub record IsSoundMidRun (s : State) (left : List ℕ) : Type 0 where
   pub order : IsInOrder s
   pub apart : PlacesAreApart s.place
@@ -124,7 +125,7 @@ pub record IsSoundMidRun (s : State) (left : List ℕ) : Type 0 where
   pub online : AreNodes s.layout s.online
   pub few : ProcessesAreFew s.processes
 
--- sound, as every state is between two calls
+-- a state is sound, as all states between two calls are
 abbrev pub IsSound : State → Type 0
 IsSound s = IsSoundMidRun s []
 
@@ -136,18 +137,18 @@ is_frame g frame = nat_lt frame (frame_count g)
 abbrev pub is_own : Layout → ℕ × ℕ → Bool
 is_own g f = is_frame g f.1 && (node_of g f.1 == f.0)
 
--- free frames paired with their nodes, and frames that are places: each is the machine's and each free one its node's,
--- and each frame of the machine stands once in both lists together
+-- the free frames, paired with their nodes, and the frames of pages: each is the machine's, each free frame is its
+-- node's, and each frame of the machine is in both lists together exactly once
 abbrev pub is_audited : Layout → List (ℕ × ℕ) → List ℕ → Bool
 is_audited g free placed =
     let frames : List ℕ = map (λ (f : ℕ × ℕ). f.1) free ++ placed in
     list_all (is_own g) free && list_all (is_frame g) placed && list_all (λ frame. times frame frames == 1) (up_from 0 (frame_count g))
 
--- the frames of each list paired with the list's number, which is this for the first
+-- the frames of each list, paired with the list's number, counted from this one
 abbrev pub numbered : ℕ → List (List ℕ) → List (ℕ × ℕ)
 numbered node [] = []
 numbered node (frames ∷ lists) = map {B = ℕ × ℕ} (λ (frame : ℕ). (node, frame)) frames ++ numbered (node + 1) lists
 
--- whether each frame stands once, in its own node's list or as the place of a page
+-- whether each frame is in exactly one place: its own node's free list, or a page's
 abbrev pub audited : State → Bool
 audited s = is_audited s.layout (numbered 0 s.free) (values_of s.place)

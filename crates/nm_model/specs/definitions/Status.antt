@@ -1,4 +1,4 @@
--- What becomes of a request, and of a look at a page.
+-- The status of a request, and of a look at a page.
 use Rattle.std.specs.Prelude.{ℕ, ◌-◌, ℤ, pos, negsuc, Bool, true, false, not, ◌&&◌, nat_lt, ◌==◌, Option, Some, None, if◌then◌else◌}
 use Rattle.std.specs.List.{list_any}
 use Rattle.nm_types.specs.declared.page.Page.{Page}
@@ -18,7 +18,7 @@ use Rattle.nm_types.specs.declared.request.Wanted.{Wanted}
 use Rattle.nm_types.specs.declared.request.Wanted.TheVariants.{At as Spot, Whole}
 use Rattle.nm_model.specs.definitions.Seen.{sight_at, users, is_pinned, look_at_page, look}
 
--- a status that says why nothing moves: the error's number with a minus sign
+-- the status of a page that does not move because of an error: the error's number with a minus sign
 abbrev pub code : Errno → ℤ
 code e = negsuc (number_of e - 1)
 
@@ -26,21 +26,21 @@ code e = negsuc (number_of e - 1)
 abbrev pub others_see : State → ℕ → Page → Bool
 others_see s pid p = list_any (λ user. not (user == pid)) (users s p)
 
--- a page with this place: it is on the target, or may not move for others or for a pin, or is to move
+-- a page with this frame: it is on the target, may not move because of other processes or a pin, or is to move
 abbrev pub page_status : State → ℕ → Bool → Page → Option ℕ → Class
 page_status s target kept p None = Status (code Enoent)
 page_status s target kept p (Some frame) =
     if node_of s.layout frame == target then Status (pos target)
     else (if kept then Status (code Eacces) else (if is_pinned s p then Status (code Ebusy) else Move p frame))
 
--- what is seen: nothing yet, the page of zeros, or a page, which is kept for others unless all are to move
+-- what is seen: nothing yet, the page of zeros, or a page, which stays for other processes unless `all` is set
 abbrev pub sight_status : State → ℕ → ℕ → Bool → Option Sight → Class
 sight_status s target pid all None = Status (code Enoent)
 sight_status s target pid all (Some ZeroPage) = Status (code Efault)
 sight_status s target pid all (Some (Sees p)) =
     page_status s target (others_see s pid p && not all) p (get page_cmp s.place p)
 
--- where no area is, there is nothing to move
+-- if there is no area, there is nothing to move
 abbrev pub status_under : State → ℕ → ℕ → Bool → Option Page → Option Sight → Class
 status_under s target pid all None sight = Status (code Efault)
 status_under s target pid all (Some shown) sight = sight_status s target pid all sight
@@ -60,7 +60,7 @@ class_of_look g target all (At p frame processes pinned) =
     else (if nat_lt 1 processes && not all then Status (code Eacces)
     else (if pinned then Status (code Ebusy) else Move p frame))
 
--- the class of a request by a look at what it names
+-- the class of a request, from a look at what it names
 abbrev pub class_of : State → ℕ → Wanted → Class
 class_of s target (Spot pid v all) = class_of_look s.layout target all (look s pid v)
 class_of s target (Whole p) = class_of_look s.layout target true (look_at_page s p (get page_cmp s.place p))
@@ -72,6 +72,6 @@ node_of_look g Absent = code Enoent
 node_of_look g Zero = code Efault
 node_of_look g (At p frame processes pinned) = pos (node_of g frame)
 
--- the status of a page number of a process, where no target is named
+-- the status of a page number of a process if no target is named
 abbrev pub node_status : State → ℕ → ℕ → ℤ
 node_status s pid v = node_of_look s.layout (look s pid v)

@@ -18,30 +18,30 @@ use Rattle.nm_model.specs.definitions.Frames.{overwrite}
 use Rattle.nm_model.specs.definitions.Memory.{mem_range}
 use Rattle.std.specs.List.{list_any}
 
--- a process, and its area over a page number
+-- a process, a page number, and its area over that
 pub record Spot : Type 0 where
   pub pid : ℕ
   pub process : Process
   pub area : Placed
   pub vpn : ℕ
 
--- the page that the area shows there
+-- the page that the area shows at the page number
 abbrev pub shown_at : Spot → Page
 shown_at at = page_of at.area at.vpn
 
--- there, if an area is over the page number
+-- this place, or EFAULT: no area covers the page number
 abbrev pub spot_over : ℕ → Process → ℕ → Option Placed → Result Spot Errno
 spot_over pid process v None = Err Efault
 spot_over pid process v (Some area) = Ok (record { pid = pid; process = process; area = area; vpn = v })
 
--- there, if the process is and the bytes are one or more and inside one page
+-- this place, or the first refusal (ESRCH: no such process; EINVAL: no byte, or past the page's end; EFAULT: no area)
 abbrev pub spot_of : State → Option Process → ℕ → ℕ → ℕ → Result Spot Errno
 spot_of s None pid address len = Err Esrch
 spot_of s (Some process) pid address len =
     if (len == 0) || nat_lt 4096 (address % 4096 + len) then Err Einval
     else spot_over pid process (address / 4096) (area_over s.areas pid (address / 4096))
 
--- where one or more bytes inside one page of a process stand, or the first refusal
+-- where `len` bytes of a process from an address on are, or the first refusal
 abbrev pub spot : State → ℕ → ℕ → ℕ → Result Spot Errno
 spot s pid address len = spot_of s (get nat_cmp s.processes pid) pid address len
 
@@ -50,17 +50,17 @@ abbrev pub error_in : {X : Type 0} → Result X Errno → Option Errno
 error_in (Ok x) = None
 error_in (Err e) = Some e
 
--- the refusals that a read or a write of `len` bytes comes to before it looks for a frame: all but the lack of one
+-- the refusals of a read or a write of `len` bytes before it looks for a frame: all except ENOMEM
 abbrev pub spot_refusal : State → ℕ → ℕ → ℕ → Option Errno
 spot_refusal s pid address len = error_in (spot s pid address len)
 
--- the process sees this there from now on
+-- what the process sees at this page number is set
 abbrev pub with_sight : State → Spot → Sight → State
 with_sight s at sight =
     let process : Process = record (at.process) { sees = set nat_cmp at.process.sees at.vpn sight } in
     record s { processes = replace nat_cmp s.processes at.pid process }
 
--- a page of zeros takes this frame
+-- a page gets this frame, with zeros in it
 abbrev pub with_page : State → Page → ℕ → State
 with_page s page frame =
     record s {
@@ -69,20 +69,20 @@ with_page s page frame =
       pins = set page_cmp s.pins page 0;
     }
 
--- a node's front frame is no longer free
+-- a node's front frame is taken
 abbrev pub without_front : State → ℕ → State
 without_front s node = record s { free = slice_set s.free node (drop 1 (free_list s node)) }
 
--- whether a node has a frame in its list of free ones
+-- whether a node has a free frame
 abbrev pub has_free : List (List ℕ) → ℕ → Bool
 has_free free node = not (length (slice_index_or free node []) == 0)
 
--- the first of these nodes that has one
+-- the first of these nodes that has a free frame
 abbrev pub first_free : List (List ℕ) → List ℕ → Option ℕ
 first_free free [] = None
 first_free free (node ∷ nodes) = if length (slice_index_or free node []) == 0 then first_free free nodes else Some node
 
--- the page takes the front frame of the node, and the process sees it
+-- the page takes the front frame of the node, and the process sees it; ENOMEM if there is no node
 abbrev pub allocated : State → Spot → Option ℕ → Result State Errno
 allocated s at None = Err Enomem
 allocated s at (Some node) =
@@ -96,12 +96,12 @@ filled s at =
     let order = first_touch_order s.layout s.online process.home process.allowed at.area.1.policy (shown_at at).index in
     allocated s at (first_free s.free order)
 
--- a page that others may show has a frame already, or gets one
+-- a page that others may show keeps its frame, or gets one
 abbrev pub joined : State → Spot → Option ℕ → Result State Errno
 joined s at (Some frame) = Ok (with_sight s at (Sees (shown_at at)))
 joined s at None = filled s at
 
--- an entry that shows a page is used; the page of zeros serves reads of private pages
+-- a touch uses an entry that shows a page; the page of zeros serves reads of private pages
 abbrev pub touched_entry : State → Spot → Bool → Option Sight → Result State Errno
 touched_entry s at writes (Some (Sees page)) = Ok s
 touched_entry s at writes (Some ZeroPage) = if writes then filled s at else Ok s
@@ -109,12 +109,12 @@ touched_entry s at writes None =
     if is_shared s.segments (shown_at at).segment then joined s at (get page_cmp s.place (shown_at at))
     else (if writes then filled s at else Ok (with_sight s at ZeroPage))
 
--- the entry there is touched, if nothing is refused
+-- the touch of an entry, unless the access is refused
 abbrev pub touched : State → Bool → Result Spot Errno → Result State Errno
 touched s writes (Err e) = Err e
 touched s writes (Ok at) = touched_entry s at writes (get nat_cmp at.process.sees at.vpn)
 
--- what a read or a write of `len` bytes does before it comes to the bytes, or the first refusal
+-- what a read or a write of `len` bytes does before it reaches the bytes, or the first refusal
 abbrev pub touch : State → ℕ → ℕ → ℕ → Bool → Result State Errno
 touch s pid address len writes = touched s writes (spot s pid address len)
 
@@ -130,21 +130,21 @@ pub data AccessAnswer : Type 0 where
   Held : AccessAnswer
   Refused : (errno : Errno) → AccessAnswer
 
--- what an access makes of a state, and its answer
+-- the state after an access, and its answer
 pub record Answered : Type 0 where
   pub state : State
   pub answer : AccessAnswer
 
--- the bytes after the touch, or its refusal
+-- the read after its touch, or its refusal
 abbrev pub read_after : State → ℕ → ℕ → ℕ → Result State Errno → Answered
 read_after s pid address len (Err e) = record { state = s; answer = Refused e }
 read_after s pid address len (Ok t) = record { state = t; answer = Bytes (mem_range t pid address len) }
 
--- the bytes there
+-- a read: its touch, then the bytes there
 abbrev pub read : State → ℕ → ℕ → ℕ → Answered
 read s pid address len = read_after s pid address len (touch s pid address len false)
 
--- the page that is seen has these bytes from a place in it on
+-- these bytes are written to the page that is seen, from an index on
 abbrev pub with_bytes : State → Option Sight → ℕ → List ℕ → State
 with_bytes s (Some (Sees page)) i new =
     let old = unwrap_or (get page_cmp s.bytes page) [] in
@@ -152,22 +152,22 @@ with_bytes s (Some (Sees page)) i new =
 with_bytes s (Some ZeroPage) i new = s
 with_bytes s None i new = s
 
--- the new bytes after the touch, or its refusal
+-- the write after its touch, or its refusal
 abbrev pub write_after : State → ℕ → ℕ → List ℕ → Result State Errno → Answered
 write_after s pid address new (Err e) = record { state = s; answer = Refused e }
 write_after s pid address new (Ok t) =
     record { state = with_bytes t (sight_at t pid (address / 4096)) (address % 4096) new; answer = Done }
 
--- these bytes are there from now on
+-- a write: its touch, then these bytes are there
 abbrev pub write : State → ℕ → ℕ → List ℕ → Answered
 write s pid address new = write_after s pid address new (touch s pid address (length new) true)
 
--- either of them
+-- a read or a write is made
 abbrev pub access : State → Access → Answered
 access s (Read pid address len) = read s pid address len
 access s (Write pid address new) = write s pid address new
 
--- where an access comes to its page, or its first refusal
+-- where an access finds its page, or its first refusal
 abbrev pub spot_of_access : State → Access → Result Spot Errno
 spot_of_access s (Read pid address len) = spot s pid address len
 spot_of_access s (Write pid address new) = spot s pid address (length new)
@@ -177,11 +177,11 @@ abbrev pub is_held : List Page → Result Spot Errno → Bool
 is_held moved (Err e) = false
 is_held moved (Ok at) = list_any (same_page (shown_at at)) moved
 
--- an access that comes to a page which moves is held and does nothing
+-- an access to a page that moves is held and does nothing
 abbrev pub in_flight : State → List Page → Access → Answered
 in_flight s moved a = if is_held moved (spot_of_access s a) then record { state = s; answer = Held } else access s a
 
--- what accesses make of a state, and their answers
+-- the state after accesses, and their answers
 pub record AllAnswered : Type 0 where
   pub state : State
   pub answers : List AccessAnswer

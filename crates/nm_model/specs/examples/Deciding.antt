@@ -8,20 +8,20 @@ use Rattle.nm_types.specs.declared.request.Class.{Class}
 use Rattle.nm_types.specs.declared.request.Class.TheVariants.{Status, Move}
 use Rattle.nm_model.specs.definitions.Decide.{decide, moves, shortage}
 
--- three nodes, of which node 2 is in the middle
+-- three nodes, with node 2 in the middle
 abbrev pub in_a_row : Layout
 in_a_row =
     let distances : List (List ℕ) = (10 ∷ 30 ∷ 20 ∷ []) ∷ (30 ∷ 10 ∷ 20 ∷ []) ∷ (20 ∷ 20 ∷ 10 ∷ []) ∷ [] in
     record { sizes = 4 ∷ 4 ∷ 4 ∷ []; distances = distances }
 
--- of each node, and then with node 2 offline
+-- from each node, and then with node 2 offline
 abbrev pub NodesAreOrderedByDistance : Type 0
 NodesAreOrderedByDistance =
     (map (zonelist in_a_row (0 ∷ 1 ∷ 2 ∷ [])) (0 ∷ 1 ∷ 2 ∷ [])
     ≡ (0 ∷ 2 ∷ 1 ∷ []) ∷ (1 ∷ 2 ∷ 0 ∷ []) ∷ (2 ∷ 0 ∷ 1 ∷ []) ∷ [])
     × (map (zonelist in_a_row (0 ∷ 1 ∷ [])) (0 ∷ 2 ∷ []) ≡ (0 ∷ 1 ∷ []) ∷ (0 ∷ 1 ∷ []) ∷ [])
 
--- BIND tries only its nodes, PREFERRED its own first, and INTERLEAVE begins with one in turn
+-- BIND tries its own nodes only, PREFERRED its own node first, and INTERLEAVE begins with the node whose turn it is
 abbrev pub PolicyOrdersTheNodes : Type 0
 PolicyOrdersTheNodes =
     let all : List ℕ = 0 ∷ 1 ∷ 2 ∷ [] in
@@ -33,13 +33,13 @@ PolicyOrdersTheNodes =
 abbrev pub page : ℕ → Page
 page index = record { segment = 0; index = index }
 
--- seven requests, in which two pages come twice
+-- seven requests, in which two pages appear twice
 abbrev pub classes : List Class
 classes =
     Move (page 0) 0 ∷ Status (negsuc 12) ∷ Move (page 1) 1 ∷ Move (page 0) 0 ∷ Move (page 2) 2 ∷ Status (pos 1)
     ∷ Move (page 2) 2 ∷ []
 
--- a page that comes again takes no other frame
+-- a page that appears again takes no other frame
 abbrev pub PlanResolvesRepeats : Type 0
 PlanResolvesRepeats =
     let plan = decide classes [] (6 ∷ 7 ∷ []) 1 in

@@ -1,4 +1,4 @@
--- A worked example of touches that are made first.
+-- A worked example of making touches first.
 use Rattle.std.specs.Prelude.{◌≡◌, [], ◌∷◌}
 use Rattle.nm_types.specs.declared.page.Page.{Page}
 use Rattle.nm_model.specs.definitions.Touch.{Read, Write, Held}
@@ -15,12 +15,13 @@ page_1 = record { segment = 0; index = 1 }
 abbrev page_4 : Page
 page_4 = record { segment = 0; index = 4 }
 
--- the first page moves, whose frame is taken; the second is read, and the last, which has no frame yet, is written
+-- the first page moves, and its new frame is taken; the second is read, and the last, which has no frame yet, is
+-- written
 abbrev pub while_one_moves : AllEarly
 while_one_moves =
     all_early (without_fronts four_of_five 1 1) (page_0 ∷ []) (Read 1 A 1 ∷ Read 1 B 1 ∷ Write 1 E (0x65 ∷ []) ∷ [])
 
--- the last page has the frame after the one that was taken; no byte is read or written yet
+-- the last page has the frame after the one that was taken; no byte has been read or written yet
 abbrev pub PagesAreReadyFirst : Type 0
 PagesAreReadyFirst =
     (while_one_moves.dues ≡ Known Held ∷ ToRead page_1 0 1 ∷ ToWrite page_4 0 (0x65 ∷ []) ∷ [])

@@ -1,4 +1,4 @@
--- A worked example: one page moves, and three accesses come meanwhile.
+-- A worked example: one page moves, and three accesses are made meanwhile.
 use Rattle.std.specs.Prelude.{◌≡◌, ℕ, false, List, [], ◌∷◌, ◌++◌, map, replicate, Option, Some, None, Bool}
 use Rattle.std.specs.Option.{option_map}
 use Rattle.nm_types.specs.Map.{get, page_cmp, with_values, Map}
@@ -19,7 +19,7 @@ use Rattle.nm_model.specs.definitions.Events.{Event, Begin, Draw, Give, Touch, E
 abbrev pub task_of : Map Page ℕ → Process → Task
 task_of place p = record { info = info_of p; table = with_values (λ v sight. entry_of place sight) p.sees }
 
--- the machine at rest of a state whose frames have these bytes
+-- the machine at rest of this state, with these bytes in its frames
 abbrev pub machine_of : State → Store → RunMachine
 machine_of s buf =
     record {
@@ -41,11 +41,11 @@ machine_of s buf =
       answers = [];
     }
 
--- the bytes of the page of this index of the first segment
+-- the bytes of the page at this index of the first segment
 abbrev pub page_bytes : State → ℕ → Option (List ℕ)
 page_bytes s index = get page_cmp s.bytes (record { segment = 0; index = index })
 
--- four pages are in the frames 0 to 3, and four frames are free and full of ones
+-- four pages are in frames 0 to 3, and four frames are free and full of ones
 abbrev pub buffers : Store
 buffers =
     map (page_bytes four_of_five) (0 ∷ 1 ∷ 2 ∷ 3 ∷ []) ++ replicate 4 (Some (replicate 4096 1))
@@ -53,15 +53,16 @@ buffers =
 abbrev pub start : RunMachine
 start = machine_of four_of_five buffers
 
--- the start is that of the state
+-- the machine at the start is read as the state
 abbrev pub StartIsRead : Type 0
 StartIsRead = state_of start ≡ four_of_five
 
--- the first page is asked to move to the other node
+-- a request to move the first page to the other node
 abbrev pub wanted : List Wanted
 wanted = Spot 1 0x10 false ∷ []
 
--- worker 3 draws while the first page is read; the second is read and the fifth written; then the job is given
+-- worker 3 draws the job while the first page is read; the second is read and the fifth written; then the job is given
+-- back
 abbrev pub early : List Event
 early =
     Touch (Read 1 A 1) ∷ Draw 3 ∷ Touch (Read 1 B 1) ∷ Touch (Write 1 E (0x65 ∷ [])) ∷ Give 3 0 ∷ End ∷ []
@@ -71,7 +72,7 @@ abbrev pub late : List Event
 late =
     Draw 0 ∷ Give 0 0 ∷ Touch (Read 1 A 1) ∷ Touch (Read 1 B 1) ∷ Touch (Write 1 E (0x65 ∷ [])) ∷ End ∷ []
 
--- what is shown of a machine
+-- what the example shows of a machine
 pub record Told : Type 0 where
   pub ready : Bool
   pub free : List (List ℕ)
@@ -94,7 +95,7 @@ told m =
       hands_of_four = hands m 4;
     }
 
--- the end of both
+-- the end in both orders
 abbrev pub end : Told
 end =
     record {
@@ -117,14 +118,14 @@ BothOrdersEndAlike =
 abbrev pub hands_of : List ℕ → RunMachine → List (List Hold)
 hands_of frames m = map (hands m) frames
 
--- after the drawing the job's buffers are in worker 3's hand; a page that moves is already where it goes
+-- after the draw the job's buffers are with worker 3, and the page that moves is already in its new frame
 abbrev pub InTheMiddle : Type 0
 InTheMiddle =
     (option_map (hands_of (0 ∷ 4 ∷ 5 ∷ [])) (after start (Begin 1 wanted ∷ Touch (Read 1 A 1) ∷ Draw 3 ∷ []))
     ≡ Some ((InJob (InHand 3) ∷ []) ∷ (InJob (InHand 3) ∷ []) ∷ (Home ∷ []) ∷ []))
     × (option_map (λ m. frame_at (state_of m) 1 A) (after start (Begin 1 wanted ∷ [])) ≡ Some (Some 4))
 
--- what is not allowed: another worker's job, an end before all is given, two beginnings
+-- not allowed: giving back another worker's job, ending before all jobs are given back, beginning twice
 abbrev pub NotAllowed : Type 0
 NotAllowed =
     (after start (Begin 1 wanted ∷ Draw 3 ∷ Give 2 0 ∷ []) ≡ None)
@@ -136,15 +137,16 @@ NotAllowed =
 abbrev pub frames_and_free : RunMachine → List (Option ℕ) × List (List ℕ)
 frames_and_free m = (map (frame_at (state_of m) 1) (A ∷ B ∷ []), m.free)
 
--- two pages are asked to move
+-- requests to move two pages
 abbrev pub two_wanted : List Wanted
 two_wanted = Spot 1 0x10 false ∷ Spot 1 0x11 false ∷ []
 
--- workers 1 and 2 draw in the order of the moves, and the second gives first
+-- workers 1 and 2 draw in the order of the moves, and worker 2 gives back first
 abbrev pub two_workers : List Event
 two_workers = Draw 1 ∷ Draw 2 ∷ Give 2 1 ∷ []
 
--- meanwhile each buffer is where its job is; at the end the pages are where they went, and the old frames are free
+-- during the run each buffer is where its job is; at the end the pages are in their new frames, and the old ones are
+-- free
 abbrev pub TwoWorkersCopy : Type 0
 TwoWorkersCopy =
     (option_map (hands_of (0 ∷ 1 ∷ 4 ∷ 5 ∷ [])) (after start (Begin 1 two_wanted ∷ two_workers))

@@ -1,4 +1,4 @@
--- Worked examples of accesses in flight, of pins, and of areas and processes that go.
+-- Worked examples of accesses in flight, of pins, and of areas and processes that go away.
 use Rattle.nm_model.specs.definitions.Status.{code}
 use Rattle.std.specs.Prelude.{◌≡◌, pos, [], ◌∷◌, map, Some, None, negsuc, false}
 use Rattle.nm_types.specs.declared.errno.Errno.TheVariants.{Esrch, Efault, Ebusy, Einval, Enoent}
@@ -9,12 +9,13 @@ use Rattle.nm_model.specs.definitions.Effect.{pin, unpin, unmap, exit, map_new}
 use Rattle.nm_model.specs.definitions.Effect.{pin_refusal, unpin_refusal, unmap_refusal, exit_refusal}
 use Rattle.nm_model.specs.examples.{A, B, C, D, E, three_pages, attached_by_two, four_of_five, to, frame_at, told, one_process, wrote}
 
--- while a page moves, a read of it is held, and others read and write; the frame that it leaves is not free yet
+-- while a page moves, a read of it is held, and other pages are read and written; the frame that it leaves is not free
+-- yet
 abbrev pub while_one_moves : Ran
 while_one_moves =
     batch four_of_five (to (A ∷ []) 1) ((0, Read 1 A 1) ∷ (0, Read 1 B 1) ∷ (0, Write 1 E (0x65 ∷ [])) ∷ [])
 
--- the new page takes the frame after the one that was reserved
+-- the new page takes the frame after the one that the move took
 abbrev pub OnlyTheMovingPageIsHeld : Type 0
 OnlyTheMovingPageIsHeld =
     (told while_one_moves
@@ -41,32 +42,32 @@ EachHasItsStatus =
     × ((batch one_of_each (to (C ∷ []) 0) []).statuses ≡ pos 0 ∷ [])
     × (map code (Efault ∷ Enoent ∷ Ebusy ∷ []) ≡ negsuc 13 ∷ negsuc 1 ∷ negsuc 15 ∷ [])
 
--- a pinned page keeps its area
+-- three pages, the second of which has a pin
 abbrev pub pinned : State
 pinned = pin three_pages 1 B
 
--- as long as it is pinned; a page without pins cannot be unpinned
+-- an area cannot be unmapped while a page of it has a pin; a page without pins cannot be unpinned
 abbrev pub PinnedPageKeepsItsArea : Type 0
 PinnedPageKeepsItsArea =
     (pin_refusal three_pages 1 B ≡ None) × (unmap_refusal pinned 1 A 3 ≡ Some Ebusy) × (unpin_refusal pinned 1 B ≡ None)
     × (unpin pinned 1 B ≡ three_pages) × (unpin_refusal three_pages 1 B ≡ Some Einval)
 
--- without its areas a process has no bytes, and no frames
+-- process 1 has unmapped its three pages
 abbrev pub unmapped : State
 unmapped = unmap three_pages 1 A 3
 
--- their frames are free in the order of their addresses
+-- it has no bytes and no frames there: the frames are free, in the order of the addresses
 abbrev pub UnmappedPagesAreFree : Type 0
 UnmappedPagesAreFree =
     (unmap_refusal three_pages 1 A 3 ≡ None) × (unmapped.free ≡ (3 ∷ 0 ∷ 1 ∷ 2 ∷ []) ∷ (4 ∷ 5 ∷ 6 ∷ 7 ∷ []) ∷ [])
     × ((read unmapped 1 A 1).answer ≡ Refused Efault) × (exit_refusal unmapped 1 ≡ None)
     × ((read (exit unmapped 1) 1 A 1).answer ≡ Refused Esrch)
 
--- a page lives as long as an area covers it, touched or not
+-- process 1 exits, and process 2 has the shared page in an area without having touched it
 abbrev pub first_gone : State
 first_gone = exit attached_by_two 1
 
--- the second process has not touched the page when the first is gone
+-- a page keeps its frame as long as an area covers it, touched or not, and loses it with the last
 abbrev pub LastAreaFreesThePage : Type 0
 LastAreaFreesThePage =
     (first_gone.free ≡ (1 ∷ 2 ∷ 3 ∷ []) ∷ (4 ∷ 5 ∷ 6 ∷ 7 ∷ []) ∷ [])

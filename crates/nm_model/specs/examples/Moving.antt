@@ -4,7 +4,7 @@ use Rattle.nm_model.specs.definitions.Touch.{read, Bytes}
 use Rattle.nm_model.specs.definitions.Run.{Ran, batch}
 use Rattle.nm_model.specs.examples.{A, B, C, D, E, three_pages, six_pages, seven_pages, to, frame_at, told}
 
--- three pages go to the other node ..
+-- three pages go to the other node ...
 abbrev pub three_moved : Ran
 three_moved = batch three_pages (to (A ∷ B ∷ C ∷ []) 1) []
 
@@ -21,15 +21,15 @@ ThreePagesMove =
     })
     × (map (frame_at three_moved.state 1) (A ∷ B ∷ C ∷ []) ≡ Some 4 ∷ Some 5 ∷ Some 6 ∷ [])
 
--- .. and read as before
+-- ... and read as before
 abbrev pub MovedPageReads : Type 0
 MovedPageReads = (read three_moved.state 1 B 2).answer ≡ Bytes (0x62 ∷ 0x00 ∷ [])
 
--- no request makes no run
+-- a batch without requests has no runs
 abbrev pub EmptyBatchDoesNothing : Type 0
 EmptyBatchDoesNothing = batch three_pages [] [] ≡ record { state = three_pages; statuses = []; answers = [] }
 
--- two addresses of one page: it moves once
+-- requests for two addresses of one page: it moves once
 abbrev pub one_page_twice : Ran
 one_page_twice = batch three_pages (to (A ∷ 0x10fff ∷ []) 1) []
 
@@ -46,11 +46,11 @@ OnePageTwiceMovesOnce =
     })
     × (frame_at one_page_twice.state 1 A ≡ Some 4)
 
--- two frames are free for four pages; the frames that were left are free only after the run
+-- two frames are free for four pages; the frames left become free only after the run
 abbrev pub shortage_of_frames : Ran
 shortage_of_frames = batch six_pages (to (A ∷ B ∷ C ∷ D ∷ []) 1) []
 
--- two move, and two stay for lack of a frame
+-- two pages move, and two stay for lack of a frame
 abbrev pub ShortageStopsTwoOfFour : Type 0
 ShortageStopsTwoOfFour =
     (told shortage_of_frames
@@ -63,7 +63,7 @@ ShortageStopsTwoOfFour =
     })
     × (map (frame_at shortage_of_frames.state 1) (A ∷ B ∷ C ∷ D ∷ []) ≡ Some 6 ∷ Some 7 ∷ Some 2 ∷ Some 3 ∷ [])
 
--- one page goes there and another comes back into its frame
+-- one page goes to a node, and another comes back into its frame
 abbrev pub there_and_back : Ran
 there_and_back = batch seven_pages (to (A ∷ []) 1 ++ to (E ∷ []) 0) []
 
@@ -89,7 +89,7 @@ EarlierRunFindsNone =
 abbrev pub home_again : Ran
 home_again = batch three_pages (to (A ∷ []) 1 ++ to (A ∷ []) 0) []
 
--- it comes back to another frame
+-- it comes back to a different frame
 abbrev pub PageGoesAndComesHome : Type 0
 PageGoesAndComesHome =
     (told home_again

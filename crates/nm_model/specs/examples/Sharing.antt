@@ -5,7 +5,7 @@ use Rattle.nm_model.specs.definitions.Touch.{read, Bytes}
 use Rattle.nm_model.specs.definitions.Run.{Ran, batch}
 use Rattle.nm_model.specs.examples.{two_addresses, seen_by_two, requests, to, frame_at, told}
 
--- two addresses of one process are no sharing
+-- two addresses of one process are not sharing
 abbrev pub both_addresses : Ran
 both_addresses = batch two_addresses (to (0x20000 ∷ 0x30000 ∷ []) 1) []
 
@@ -23,7 +23,7 @@ TwoAddressesAreOneProcess =
     × (map (frame_at both_addresses.state 1) (0x20000 ∷ 0x30000 ∷ []) ≡ Some 4 ∷ Some 4 ∷ [])
     × ((read two_addresses 1 0x30000 1).answer ≡ Bytes (0x61 ∷ []))
 
--- a page that another process sees stays ..
+-- a page that another process sees stays ...
 abbrev pub SharedPageStays : Type 0
 SharedPageStays =
     (users seen_by_two (record { segment = 0; index = 0 }) ≡ 1 ∷ 2 ∷ [])
@@ -36,11 +36,11 @@ SharedPageStays =
       failed = 0;
     })
 
--- .. but where it is on the target already
+-- ... unless it is on the target already
 abbrev pub SharedPageIsOnTarget : Type 0
 SharedPageIsOnTarget = (batch seen_by_two (to (0x20000 ∷ []) 0) []).statuses ≡ pos 0 ∷ []
 
--- .. and with MPOL_MF_MOVE_ALL it moves for both
+-- with MPOL_MF_MOVE_ALL it moves for both
 abbrev pub moved_for_both : Ran
 moved_for_both = batch seen_by_two (requests true (0x20000 ∷ []) 1) []
 

@@ -11,6 +11,6 @@ pub record Table : Type 0 where
   pub segments : Map ℕ Segment
   pub next : ℕ
 
--- the areas alone may change
+-- the table with other areas
 abbrev pub with_areas : Table → Map (ℕ × ℕ) Area → Table
 with_areas t areas = record t { areas = areas }

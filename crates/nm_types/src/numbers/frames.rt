@@ -2,8 +2,8 @@ ghost use Rattle.std.specs.Prelude.{◌≡◌, ℕ};
 
 use std::marker::Model;
 
-/// A frame's number, of 16 bits: a machine has 16,384 frames at most. Each node owns a stretch of consecutive frames, node
-/// 0 the first.
+/// A frame's number, of 16 bits: a machine has at most 16,384 frames. Each node owns a range of consecutive frames, and
+/// node 0's come first.
 #[derive(Clone, Copy, Debug, PartialEq, Eq, PartialOrd, Ord, Hash)]
 pub struct FrameId {
     number: u16,
@@ -18,7 +18,7 @@ impl Model for FrameId {
 }
 
 impl FrameId {
-    /// The FrameId of this number.
+    /// The FrameId with this number.
     pub const fn new(number: u16) -> Self
         ensures { result ≡ number }
     {
@@ -32,7 +32,7 @@ impl FrameId {
         self.number
     }
 
-    /// Its number, as the index of a list.
+    /// Its number as an index into a list.
     pub const fn index(self) -> usize
         ensures { result ≡ self }
     {

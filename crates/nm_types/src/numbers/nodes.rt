@@ -17,7 +17,7 @@ impl Model for NodeId {
 }
 
 impl NodeId {
-    /// The NodeId of this number.
+    /// The NodeId with this number.
     pub const fn new(number: u32) -> Self
         ensures { result ≡ number }
     {
@@ -31,7 +31,7 @@ impl NodeId {
         self.number
     }
 
-    /// Its number, as the index of a list.
+    /// Its number as an index into a list.
     pub const fn index(self) -> usize
         ensures { result ≡ self }
     {

@@ -2,7 +2,7 @@ ghost use Rattle.std.specs.Prelude.{◌≡◌, ℕ};
 
 use std::marker::Model;
 
-/// A process's number. No process has 0, which some calls read as the caller.
+/// A process's number. No process has the number 0, which some calls take as the caller.
 #[derive(Clone, Copy, Debug, PartialEq, Eq, PartialOrd, Ord, Hash)]
 pub struct Pid {
     number: u32,
@@ -17,7 +17,7 @@ impl Model for Pid {
 }
 
 impl Pid {
-    /// The Pid of this number.
+    /// The Pid with this number.
     pub const fn new(number: u32) -> Self
         ensures { result ≡ number }
     {

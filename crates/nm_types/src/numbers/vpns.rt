@@ -3,7 +3,7 @@ ghost use Rattle.std.specs.Prelude.{◌≡◌, ℕ, ◌*◌, ◌/◌, ◌%◌, �
 use crate::limits::PAGE_BYTES;
 use std::marker::Model;
 
-/// A virtual page number: an address divided by the 4,096 bytes of a page. Inside areas it is below 2^35.
+/// A virtual page number: an address divided by 4,096, the bytes of a page. Inside areas it is below 2^35.
 #[derive(Clone, Copy, Debug, PartialEq, Eq, PartialOrd, Ord, Hash)]
 pub struct Vpn {
     number: u64,
@@ -18,7 +18,7 @@ impl Model for Vpn {
 }
 
 impl Vpn {
-    /// The Vpn of this number.
+    /// The Vpn with this number.
     pub const fn new(number: u64) -> Self
         ensures { result ≡ number }
     {
@@ -33,7 +33,7 @@ impl Vpn {
         number
     }
 
-    /// The number of the page in which an address lies.
+    /// The number of the page that an address lies in.
     pub const fn of_address(address: u64) -> Self
         ensures { result ≡ address / 4096 }
     {
@@ -50,7 +50,7 @@ impl Vpn {
         self.number * PAGE_BYTES as u64
     }
 
-    /// The offset of an address in its page, in bytes.
+    /// An address's offset in its page, in bytes.
     pub const fn offset(address: u64) -> usize
         ensures value { result ≡ address % 4096 }
         ensures inside { result < 4096 }

@@ -3,7 +3,7 @@ use Rattle.std.specs.Prelude.{nat_le}
 use Rattle.std.proofs.lemmas.Bool.{leb-true, leb-false, le-leb, lt-leb}
 use Rattle.nm_areas.proofs.area_table.is_stretch.Goals as goal
 
--- what fits behind an offset
+-- what fits after an offset
 fits : (n o p : ℕ) → o ≤ n → nat_le p (n - o) ≡ nat_le (o + p) n
 fits n o p le =
     elim (nat_le p (n - o)) as (λ b. nat_le p (n - o) ≡ b → b ≡ nat_le (o + p) n) [

@@ -3,7 +3,7 @@ use Rattle.std.proofs.lemmas.List.{length-drop, map_more, take_all}
 use Rattle.nm_runs.specs.Shown.{class_shown}
 use Rattle.nm_runs.proofs.classes.classify_here.Goals as goal
 
--- the image of one element more stands at the end
+-- the image of one more element is at the end
 map_push : {X Y : Type 0} (f : X → Y) (xs : List X) (i : ℕ) (x : X) (ys zs : List Y) (y : Y) → i < length xs → x ≡ get_or xs i x → y ≡ f x → ys ≡ map f (take i xs) → zs ≡ ys ++ y ∷ []
     → zs ≡ map f (take (i + 1) xs)
 map_push f xs i x ys zs y lt is e h push =

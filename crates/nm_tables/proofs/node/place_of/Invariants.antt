@@ -6,7 +6,7 @@ use Rattle.nm_tables.proofs.node.place_of.Given as goal
 abbrev pub decreases-loop-low : goal.decreases-loop-low
 decreases-loop-low g l = l.high - l.low
 
--- what stands before the stretch that is left is lower, and what stands after it is higher
+-- parts before the stretch that is left have lower numbers, and parts after it have higher ones
 abbrev pub invariant-loop-low : goal.invariant-loop-low
 invariant-loop-low g l =
     record {

@@ -10,7 +10,7 @@ use Rattle.nm_model.specs.views.Table.{Table}
 use Rattle.nm_types.proofs.Maps.{without-set}
 use Rattle.nm_areas.proofs.area_table.AreaTable.insert.Goals as goal
 
--- a new segment that goes again
+-- a new segment that is removed again
 undone : (segments with_new left : Map ℕ Segment) (number : ℕ) (segment : Segment) → with_new ≡ set nat_cmp segments number segment → left ≡ without nat_cmp with_new number
     → IsStrictlySortedBy nat_cmp (keys_of segments) → get nat_cmp segments number ≡ None → left ≡ segments
 undone segments with_new left number segment set_new removed sorted new =

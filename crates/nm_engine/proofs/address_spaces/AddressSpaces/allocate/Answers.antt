@@ -20,7 +20,7 @@ use Rattle.nm_engine.proofs.address_spaces.AddressSpaces.allocate.Goals as goal
 placed_meanwhile : (m n : Mapped) (p : Page) (f : ℕ) → n ≡ with_frame m p f → IsSome (get page_cmp n.place p)
 placed_meanwhile m n p f is = subst IsSome (sym (ap (λ (n : Mapped). get page_cmp n.place p) is ∙ place_new m.place p f)) refl
 
--- the page has none again
+-- the page again has none
 areas_undone : (y : SpacesView) (tasks : Map ℕ Task) (m n k : Mapped) (r : Mappers) (p : Page) (f : ℕ) → spaces_view tasks m r ≡ y → IsTied tasks m r → get page_cmp y.place p ≡ None → n ≡ with_frame m p f → k ≡ without_frame n p → k ≡ m
 areas_undone y tasks m n k r p f is h none given taken =
     taken ∙ ap (λ (n : Mapped). without_frame n p) given ∙ place_undone m p f h.places (ap (λ (y : SpacesView). get page_cmp y.place p) is ∙ none)

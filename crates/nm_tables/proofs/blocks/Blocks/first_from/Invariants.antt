@@ -5,7 +5,7 @@ use Rattle.nm_types.specs.Map.{get}
 use Rattle.nm_tables.specs.Blocks.{block_entries}
 use Rattle.nm_tables.proofs.blocks.Blocks.first_from.Given as goal
 
--- no entry stands in the blocks before
+-- the blocks before have no entry
 abbrev pub invariant-loop-block : goal.invariant-loop-block
 invariant-loop-block g l =
     record {
