@@ -1,6 +1,6 @@
 //! What is to be done with each request of a run, by a look at what it names.
 
-ghost use Rattle.std.specs.Prelude.{◌≡◌, ◌<◌, ◌^◌, map, IfOk};
+ghost use Rattle.std.specs.Prelude.{◌≡◌, ◌<◌, ◌^◌, length, map, IfOk, OnErr};
 ghost use Rattle.nm_types.specs.Layout.{frame_count};
 ghost use Rattle.nm_model.specs.definitions.Status.{class_of_look};
 ghost use Rattle.nm_runs.specs.Shown.{class_shown, HasFrameBelow, ShowsItsFrames};
@@ -67,8 +67,8 @@ fn class_of<A: Allocator + Copy, V: PageView>(
 }
 
 /// What is to be done with each request of a run, in its order, by a look at what it names; the view shows frames of
-/// the machine alone. It looks on the calling thread. An error means that the host refused memory. The target is a status
-/// as well, so its number is below 2^31.
+/// the machine alone. It looks on the calling thread. An error means that the host refused memory; a run without requests
+/// takes none. The target is a status as well, so its number is below 2^31.
 pub fn classify_here<A: Allocator + Copy, V: PageView>(
     alloc: A,
     geometry: &Geometry<A>,
@@ -77,7 +77,8 @@ pub fn classify_here<A: Allocator + Copy, V: PageView>(
 ) -> Result<Vec<Class, A>, AllocError>
     requires target { run.now.target < 2 ^ 31 }
     requires frames { ShowsItsFrames geometry.now (V.seen_at view.now) (V.placed_at view.now) }
-    ensures { IfOk result (λ classes. classes.items ≡ map (class_shown geometry.now (V.seen_at view.now) (V.placed_at view.now) run.now.target) run.now.wanted.items) }
+    ensures classes { IfOk result (λ classes. classes.items ≡ map (class_shown geometry.now (V.seen_at view.now) (V.placed_at view.now) run.now.target) run.now.wanted.items) }
+    ensures asked { OnErr result (0 < length run.now.wanted.items) }
 {
     let mut classes = Vec::with_capacity(alloc, run.wanted.len())?;
     for wanted in &run.wanted {
@@ -88,7 +89,7 @@ pub fn classify_here<A: Allocator + Copy, V: PageView>(
 
 /// What is to be done with each request of a run, in its order, by a look at what it names; the view shows frames of
 /// the machine alone. Several threads look from 8,192 requests on, at 4,096 each at least. An error means that the host
-/// refused memory. The target is a status as well, so its number is below 2^31.
+/// refused memory; a run without requests takes none. The target is a status as well, so its number is below 2^31.
 pub fn classify<R: Threads + Sync, A: Allocator + Copy + Send + Sync, V: PageView + Sync>(
     rt: &R,
     alloc: A,
@@ -98,7 +99,8 @@ pub fn classify<R: Threads + Sync, A: Allocator + Copy + Send + Sync, V: PageVie
 ) -> Result<Vec<Class, A>, AllocError>
     requires target { run.now.target < 2 ^ 31 }
     requires frames { ShowsItsFrames geometry.now (V.seen_at view.now) (V.placed_at view.now) }
-    ensures { IfOk result (λ classes. classes.items ≡ map (class_shown geometry.now (V.seen_at view.now) (V.placed_at view.now) run.now.target) run.now.wanted.items) }
+    ensures classes { IfOk result (λ classes. classes.items ≡ map (class_shown geometry.now (V.seen_at view.now) (V.placed_at view.now) run.now.target) run.now.wanted.items) }
+    ensures asked { OnErr result (0 < length run.now.wanted.items) }
 {
     if run.wanted.len() < 2 * PIECE {
         return classify_here(alloc, geometry, view, run);
