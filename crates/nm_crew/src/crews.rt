@@ -1,6 +1,6 @@
 //! Crews: who copies the pages of a run.
 
-ghost use Rattle.std.specs.Prelude.{◌≡◌, ◌<◌, ◌≤◌, map};
+ghost use Rattle.std.specs.Prelude.{◌≡◌, ◌<◌, ◌≤◌, ◌↔◌, map, IsSome};
 ghost use Rattle.nm_frames.specs.Job.{copied};
 ghost use Rattle.nm_board.specs.Tickets.{InTicketOrder};
 
@@ -56,7 +56,9 @@ impl<'a, R: Threads + Wait + Sync, G: Gate + Sync> Crew<'a, R, G> {
     }
 
     /// The runtime of its threads; none where the caller is alone.
-    pub fn runtime(&self) -> Option<&'a R> {
+    pub fn runtime(&self) -> Option<&'a R>
+        ensures { IsSome result ↔ (1 < self.now) }
+    {
         if self.workers > 1 {
             Some(self.rt)
         } else {
