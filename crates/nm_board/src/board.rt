@@ -1,6 +1,6 @@
 //! The board.
 
-ghost use Rattle.std.specs.Prelude.{◌≡◌, ◌<◌, false, true, map, slice_get, Some, IfOk, IfErr, IfSome, IfNone};
+ghost use Rattle.std.specs.Prelude.{◌≡◌, ◌<◌, false, true, length, map, slice_get, Some, IfOk, IfErr, IfSome, IfNone};
 ghost use Rattle.nm_frames.specs.Job.{copied};
 ghost use Rattle.nm_board.specs.Tickets.{InTicketOrder};
 ghost use Rattle.nm_board.specs.Shown.{all_shares, without_ticket, Drew, HasEach, IsShort};
@@ -129,13 +129,14 @@ impl<A: Allocator + Copy> Board<A> {
 
     /// Returns all jobs in the order of their tickets, each as it was when the board was made, and copied. If some
     /// ticket was not given back, returns the board and the hand: for a hand of all shares, that ticket is still out
-    /// with it.
+    /// with it, and no hand is told so that has given back every ticket itself.
     pub fn clear(self, mut hand: Hand<A>) -> Result<Vec<CopyJob<A>, A>, Short<A>>
         requires own { hand.board ≡ self }
         requires past_end { hand.past_end ≡ true }
         ensures all { IfOk result (λ jobs. jobs.items ≡ map copied self.jobs) }
         ensures back { IfErr result (λ short. (short.board ≡ self) × (short.hand ≡ hand)) }
         ensures short { IfErr result (λ short. hand.shares ≡ 64 → IsShort hand) }
+        ensures fewer { IfErr result (λ short. length hand.done < length self.jobs) }
     {
         let given = self.table.shared.load::<Counting>(&mut hand.seat, GIVEN);
         if given != self.table.slot_count() as u64 {
