@@ -1,6 +1,6 @@
 //! The machine.
 
-ghost use Rattle.std.specs.Prelude.{◌≡◌, ◌<◌, ◌≤◌, ◌+◌, ◌-◌, [], ◌∷◌, map, true, length, nat_le, All, Some, IfOk, IfSome, IfNone, OnOk, OnErr, option_map};
+ghost use Rattle.std.specs.Prelude.{◌≡◌, ◌<◌, ◌≤◌, ◌+◌, ◌-◌, [], ◌∷◌, map, true, length, nat_le, All, Some, Err, IfOk, IfSome, IfNone, OnOk, OnErr, option_map};
 ghost use Rattle.std.specs.List.{list_any};
 ghost use Rattle.std.specs.Ordering.{nat_cmp};
 ghost use Rattle.nm_types.specs.declared.page.Page.{Page};
@@ -257,7 +257,7 @@ impl<A: Allocator + Copy + Send + Sync> Machine<A> {
     /// Sets where the new pages of `len` bytes from an address on are placed, rounded up to whole pages, as `mbind(2)`
     /// does. The areas of the process are split at both ends of the range, and never merged; no page moves. ESRCH
     /// without such a process; EINVAL for an address that is not a multiple of 4,096, or a range that ends past
-    /// 2^64 - 1; then a `len` of 0 changes nothing; EFAULT if a page of the range has no area. An error means that the
+    /// 2^64 - 1; then a `len` of 0 changes nothing and takes no memory; EFAULT if a page of the range has no area. An error means that the
     /// machine is as it was.
     pub fn set_policy(
         &mut self,
@@ -268,6 +268,7 @@ impl<A: Allocator + Copy + Send + Sync> Machine<A> {
     ) -> Result<(), MachineError>
         ensures done { Makes result self.old self.new (policy_refusal self.old pid addr len) (set_policy self.old pid addr len policy) }
         ensures memory { AsksLast result (policy_refusal self.old pid addr len) }
+        ensures asked { result ≡ Err MachineError.HostMemory → 0 < len }
     {
         self.inner.set_policy(pid, addr, len, policy)
     }
@@ -349,10 +350,11 @@ impl<A: Allocator + Copy + Send + Sync> Machine<A> {
         self.inner.has_free(node)
     }
 
-    /// The free frames of a node, the front first. EINVAL if there is no such node.
+    /// The free frames of a node, the front first. EINVAL if there is no such node. An empty list takes no memory.
     pub fn free_list(&self, node: NodeId) -> Result<Vec<FrameId, A>, MachineError>
         ensures told { Tells result (list_refusal self.now node) (λ frames. frames.items ≡ free_list self.now node) }
         ensures memory { AsksLast result (list_refusal self.now node) }
+        ensures asked { result ≡ Err MachineError.HostMemory → 0 < length (free_list self.now node) }
     {
         self.inner.free_list(node)
     }
@@ -365,10 +367,11 @@ impl<A: Allocator + Copy + Send + Sync> Machine<A> {
         self.inner.entries(pid)
     }
 
-    /// The areas of a process, by address. ESRCH without such a process.
+    /// The areas of a process, by address. ESRCH without such a process. An empty list takes no memory.
     pub fn lines(&self, pid: Pid) -> Result<Vec<Line, A>, MachineError>
         ensures told { Tells result (entries_refusal self.now pid) (λ lines. lines.items ≡ lines_of self.now.segments self.now.areas pid) }
         ensures memory { AsksLast result (entries_refusal self.now pid) }
+        ensures asked { result ≡ Err MachineError.HostMemory → 0 < length (lines_of self.now.segments self.now.areas pid) }
     {
         self.inner.lines(pid)
     }
