@@ -20,6 +20,7 @@ use Rattle.nm_model.specs.definitions.Areas.{shows_segment, AllShown}
 use Rattle.nm_model.specs.definitions.Areas.{segments_left, begins_in, is_own, others, without_own}
 use Rattle.nm_model.specs.views.Table.{Table, with_areas}
 use Rattle.nm_types.proofs.Maps.{equal}
+use Rattle.nm_types.proofs.Members.{or_swap}
 use Rattle.nm_model.proofs.areas.Parted.{Among}
 use Rattle.nm_model.proofs.areas.Overs.{get_not_none}
 use Rattle.nm_model.proofs.areas.Painted.{exact_spot}
@@ -64,12 +65,6 @@ fewer (e ∷ areas) k x h =
     ] h
 
 -- ---- segments
-
-or_swap : (a b c : Bool) → (a || (b || c)) ≡ (b || (a || c))
-or_swap true true c = refl
-or_swap true false c = refl
-or_swap false true c = refl
-or_swap false false c = refl
 
 -- an area and those without it
 any_without : (test : Placed → Bool) (areas : Map (ℕ × ℕ) Area) (k : ℕ × ℕ) (x : Area) → get spot_cmp areas k ≡ Some x → list_any test areas ≡ (test (k, x) || list_any test (without spot_cmp areas k))

@@ -1,6 +1,6 @@
 //! The list of a process's areas.
 
-ghost use Rattle.std.specs.Prelude.{◌≡◌, IfOk};
+ghost use Rattle.std.specs.Prelude.{◌≡◌, ◌<◌, length, IfOk, OnErr};
 ghost use Rattle.std.specs.List.{AllByRecursion};
 ghost use Rattle.nm_model.specs.definitions.Areas.{is_shared};
 ghost use Rattle.nm_areas.specs.Lines.{line_of, lines_of};
@@ -30,9 +30,10 @@ pub struct Line {
 
 impl<A: Allocator + Copy> Areas<A> {
     /// The areas of a process, in address order. Empty if it has none, or if there is no such process. An error means
-    /// that the host is out of memory.
+    /// that the host is out of memory; an empty list takes none.
     pub fn lines(&self, pid: Pid) -> Result<Vec<Line, A>, AllocError>
-        ensures { IfOk result (λ lines. lines.items ≡ lines_of self.now.segments self.now.areas pid) }
+        ensures lines { IfOk result (λ lines. lines.items ≡ lines_of self.now.segments self.now.areas pid) }
+        ensures asked { OnErr result (0 < length (lines_of self.now.segments self.now.areas pid)) }
     {
         list_lines(self.alloc, &self.table.segments, &self.table.areas, pid)
     }
@@ -47,7 +48,8 @@ fn list_lines<A: Allocator + Copy>(
 ) -> Result<Vec<Line, A>, AllocError>
     requires whole { AllByRecursion IsSomePages areas.now.entries }
     requires low { AllByRecursion EndsLow areas.now.entries }
-    ensures { IfOk result (λ lines. lines.items ≡ lines_of segments.now.entries areas.now.entries pid) }
+    ensures lines { IfOk result (λ lines. lines.items ≡ lines_of segments.now.entries areas.now.entries pid) }
+    ensures asked { OnErr result (0 < length (lines_of segments.now.entries areas.now.entries pid)) }
 {
     let mut lines = Vec::new(alloc);
     let mut rest = areas.range((pid, Vpn::new(0))..);

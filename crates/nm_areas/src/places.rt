@@ -51,10 +51,12 @@ impl<A: Allocator + Copy> Areas<A> {
         list_placed(self.alloc, &self.places)
     }
 
-    /// Sets the frame of a page. An error means that nothing has changed.
+    /// Sets the frame of a page. An error means that the host is out of memory, that the page had no frame, and that
+    /// nothing has changed.
     pub fn set_frame(&mut self, page: Page, frame: FrameId) -> Result<(), AllocError>
         ensures ok { OnOk result (self.new ≡ with_frame self.old page frame) }
         ensures err { OnErr result (self.new ≡ self.old) }
+        ensures absent { OnErr result (get page_cmp self.old.place page ≡ None) }
         ensures ordered { IsStrictlySortedBy page_cmp (keys_of self.new.place) }
     {
         self.places.insert(page, frame)?;

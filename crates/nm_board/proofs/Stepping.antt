@@ -1,5 +1,5 @@
 -- Each kind of step keeps the rule.
-use Rattle.std.proofs.Common.{◌≡◌, ℕ, ◌+◌, ◌%◌, ◌^◌, ◌<◌, ⊎_elim, true, false, List, [], ◌∷◌, ◌++◌, length, map, set, sym, refl, ap, ◌∙◌, subst, arith, length-append, min, Option, Some, slice_set, slice_index}
+use Rattle.std.proofs.Common.{◌≡◌, ℕ, ◌+◌, ◌%◌, ◌^◌, ◌<◌, ◌≤◌, ⊎_elim, true, false, List, [], ◌∷◌, ◌++◌, length, map, set, sym, refl, ap, ◌∙◌, subst, arith, length-append, min, Option, Some, slice_set, slice_index}
 use Rattle.std.proofs.Math.Decide.{dec_lt}
 use native.Mathlib.Decide.{ℕ_discrete}
 use mathlib.Core.Option.{some, some-injective, some-ne-none}
@@ -15,7 +15,7 @@ use Rattle.nm_board.specs.Tickets.{times}
 use Rattle.nm_board.specs.Rule.{words_of, past_shares, IsHand, Keeps, IsKept, first_view, spent_view}
 use Rattle.nm_board.specs.Steps.{Mine, Draws, Gives, Counts, Looks, less, part, both}
 use Rattle.nm_board.proofs.Kept.{hands_set, keeps_draw, keeps_past, next_small, keeps_give, keeps_full, keeps_same, each, twice, whole, both_hand, spent_is, first_is}
-use Rattle.nm_board.proofs.Sums.{total_set, total_snoc, total_has}
+use Rattle.nm_board.proofs.Sums.{total_set, total_snoc, total_has, total_le}
 use Rattle.nm_board.proofs.Counts.{times_append, step_is, get_lt, lt_get, once_lt, past_split, past_join, once_zero}
 
 module _ {A : Type 0} where
@@ -93,6 +93,18 @@ module _ {A : Type 0} where
       (Gives (step slots 8 1 0 Opt.none) (v, (t, Some (copied j)) ∷ tail) (slice_index c 8)) in
       subst P (sym held.2.words_are) (gives_here jobs slots id t v j tail s.words s.homes s.views held.0 held.1 held.2 job mine more at)
 
+  -- a hand's own tickets are among those that were given back, which are no more than there are jobs
+  own_among : (jobs : List (CopyJob A)) (ws : List ℕ) (homes : List (Opt.Option (Option (CopyJob A)))) (views : List (View A)) (next given id : ℕ) (v : View A)
+      → Keeps jobs ws homes views next given → get_elem? views id ≡ some v → length v.done ≤ given
+  own_among jobs ws homes views next given id v k at = let back = k.returned in omega (arith, total_has (λ v. length v.done) views id v at)
+
+  given_few : (jobs : List (CopyJob A)) (ws : List ℕ) (homes : List (Opt.Option (Option (CopyJob A)))) (views : List (View A)) (next given : ℕ) (own : List (CopyJob A))
+      → Keeps jobs ws homes views next given → own ≡ jobs → given ≤ length own
+  given_few jobs ws homes views next given own k is =
+      let back = k.returned in
+      let drawn = k.drawn in
+      omega (arith, ap length is, total_le (λ v. length v.done) (λ v. length v.drawn) views (λ i u h. (k.hands i u h).fewer))
+
   counts_here : (jobs : List (CopyJob A)) (slots id : ℕ) (m : Mine A) (ws : List ℕ) (homes : List (Opt.Option (Option (CopyJob A)))) (views : List (View A)) (next given : ℕ)
       → Keeps jobs ws homes views next given → 0 < m.0.shares → get_elem? views id ≡ some m.0 → Dec (given ≡ length m.0.jobs)
       → Goes jobs homes views id m.1 (words_of next given) (Counts (step slots 8 0 0 Opt.none) m given)
@@ -101,14 +113,14 @@ module _ {A : Type 0} where
     keeps,
     tt,
     (next, given, keeps_full jobs ws homes views next given id m.0 k at (e ∙ ap length ((k.hands id m.0 at).jobs_are some_share))),
-    record { all = (λ _. refl); some_out = (λ ne. absurd (ne e)); whole = whole jobs ws homes views next given id m.0 k at },
+    record { all = (λ _. refl); some_out = (λ ne. absurd (ne e)); whole = whole jobs ws homes views next given id m.0 k at; own = own_among jobs ws homes views next given id m.0 k at; few = given_few jobs ws homes views next given m.0.jobs k ((k.hands id m.0 at).jobs_are some_share) },
   )
   counts_here jobs slots id m ws homes views next given k some_share at (no ne) = (
     m.0,
     keeps,
     tt,
     (next, given, keeps_same jobs ws homes views next given id m.0 k at),
-    record { all = (λ e. absurd (ne e)); some_out = (λ _. refl); whole = whole jobs ws homes views next given id m.0 k at },
+    record { all = (λ e. absurd (ne e)); some_out = (λ _. refl); whole = whole jobs ws homes views next given id m.0 k at; own = own_among jobs ws homes views next given id m.0 k at; few = given_few jobs ws homes views next given m.0.jobs k ((k.hands id m.0 at).jobs_are some_share) },
   )
 
   pub counts : (jobs : List (CopyJob A)) (slots id : ℕ) (m : Mine A) → 0 < m.0.shares → Allows (IsKept jobs) slots id m 8 (λ n. n) (Counts (step slots 8 0 0 Opt.none) m)

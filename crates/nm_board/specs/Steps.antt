@@ -45,10 +45,13 @@ pub record Draws {A : Type 0} (s : Step (Option (CopyJob A))) (m : Mine A) (foun
 abbrev pub Gives : {A : Type 0} → Step (Option (CopyJob A)) → Mine A → ℕ → Mine A → Type 0
 Gives s m found r = r ≡ (record m.0 { done = m.0.done ++ front m.1 }, rest m.1)
 
--- the step returns how many tickets were given back; if that is all of them, the hand knows it
+-- the step returns how many tickets were given back: as many as the hand gave back or more, and no more than there are
+-- jobs; if that is all of them, the hand knows it
 pub record Counts {A : Type 0} (s : Step (Option (CopyJob A))) (m : Mine A) (found : ℕ) (r : Mine A) : Type 0 where
   pub all : found ≡ length m.0.jobs → r ≡ (record m.0 { full = true }, m.1)
   pub some_out : found ≢ length m.0.jobs → r ≡ m
+  pub own : length m.0.done ≤ found
+  pub few : found ≤ length m.0.jobs
   pub whole : m.0.shares ≡ 64 → m.0.past_end ≡ true → length m.0.done ≡ length m.0.drawn → found ≡ length m.0.jobs
 
 -- nothing changes; no hand has a ticket twice, or more shares than there are

@@ -1,6 +1,6 @@
 //! The board.
 
-ghost use Rattle.std.specs.Prelude.{◌≡◌, ◌<◌, false, true, map, slice_get, Some, IfOk, IfErr, IfSome, IfNone};
+ghost use Rattle.std.specs.Prelude.{◌≡◌, ◌<◌, false, true, length, map, slice_get, Some, IfOk, IfErr, IfSome, IfNone};
 ghost use Rattle.nm_frames.specs.Job.{copied};
 ghost use Rattle.nm_board.specs.Tickets.{InTicketOrder};
 ghost use Rattle.nm_board.specs.Shown.{all_shares, without_ticket, Drew, HasEach, IsShort};
@@ -137,7 +137,7 @@ impl<A: Allocator + Copy> Board<A> {
 
     /// Returns all jobs in the order of their tickets, each as it was when the board was made, and copied. If some
     /// ticket was not given back, returns the board and the hand instead; if the hand has all shares, that ticket is
-    /// still out with it.
+    /// still out with it. A hand that has given back every ticket itself never gets this answer.
     pub fn clear(self, mut hand: Hand<A>) -> Result<Vec<CopyJob<A>, A>, Short<A>>
         requires own { hand.board ≡ self }
         requires past_end { hand.past_end ≡ true }
@@ -148,6 +148,7 @@ impl<A: Allocator + Copy> Board<A> {
         // If a ticket was not given back
         ensures back { IfErr result (λ short. (short.board ≡ self) × (short.hand ≡ hand)) }
         ensures short { IfErr result (λ short. hand.shares ≡ 64 → IsShort hand) }
+        ensures fewer { IfErr result (λ short. length hand.done < length self.jobs) }
     {
         let given = self.table.shared.load::<Counting>(&mut hand.seat, GIVEN);
         if given != self.table.slot_count() as u64 {

@@ -1,15 +1,12 @@
 -- The nodes that the pages left are on, and what that means for the next pass.
-use Rattle.std.proofs.Common.{arith, ◌≡◌, ℕ, ◌+◌, ◌<◌, ◌≤◌, Bool, true, false, not, ◌&&◌, ◌||◌, is_none, List, [], ◌∷◌, ◌++◌, length, take, get_or, refl, sym, ap, subst, ◌∙◌, inl, inr}
-use Rattle.std.proofs.lemmas.Bool.{eqb-true, eq-eqb, cases_order}
+use Rattle.std.proofs.Common.{arith, ◌≡◌, ℕ, ◌+◌, ◌<◌, ◌≤◌, Bool, true, false, not, ◌&&◌, ◌||◌, is_none, List, [], ◌∷◌, ◌++◌, length, take, get_or, refl, sym, ap, subst, ◌∙◌}
+use Rattle.std.proofs.lemmas.Bool.{eqb-true, eq-eqb}
 use Rattle.std.proofs.lemmas.List.{take_more}
 use Rattle.std.proofs.lemmas.List.Elements.{All-push, recursion_from_All}
-use Rattle.std.specs.Prelude.{Option, Some, None, IfSome, pos, ◌==◌, if◌then◌else◌}
+use Rattle.std.specs.Prelude.{Option, Some, None, IfSome, Any, pos, ◌==◌, if◌then◌else◌}
 use Rattle.std.specs.Option.{option_map}
 use Rattle.std.specs.List.{AllByRecursion}
-use Rattle.std.specs.Ordering.{nat_cmp, match_ordering}
-use Rattle.std.specs.Cmp.{nat_cmp_is}
-use Rattle.std.specs.declared.cmp.Ordering.{Ordering}
-use Rattle.std.specs.declared.cmp.Ordering.TheVariants.{Less, Equal, Greater}
+use Rattle.std.specs.Ordering.{nat_cmp}
 use Rattle.std.specs.BTreeSet.{insert_key}
 use Rattle.nm_types.specs.declared.errno.Errno.TheVariants.{Eacces, Ebusy}
 use Rattle.nm_types.specs.declared.page.Page.{Page}
@@ -20,6 +17,8 @@ use Rattle.nm_types.specs.Layout.{node_of}
 use Rattle.nm_types.specs.Nodes.{is_in}
 use Rattle.nm_types.specs.State.{State, page_at, free_list}
 use Rattle.nm_types.proofs.Cases.{true_false, some_is}
+use Rattle.nm_types.proofs.Members.{is_in_insert}
+use Rattle.nm_types.specs.declared.request.Class.{Class}
 use Rattle.nm_types.specs.declared.request.Class.TheVariants.{Status, Move}
 use Rattle.nm_types.specs.declared.request.Wanted.{Wanted}
 use Rattle.nm_types.specs.declared.request.Wanted.TheVariants.{At as Spot, Whole}
@@ -28,7 +27,7 @@ use Rattle.nm_model.specs.definitions.Status.{code, others_see, page_status, sig
 use Rattle.nm_model.specs.definitions.Status.{node_of_look, node_status}
 use Rattle.nm_model.specs.definitions.Touch.{has_free}
 use Rattle.nm_model.specs.definitions.Run.{counted}
-use Rattle.nm_calls.specs.Full.{StandsOn, StandAmong, HasFailed, WouldMove}
+use Rattle.nm_calls.specs.Full.{StandsOn, StandAmong, EachHasSome, AreStanding, HasFailed, WouldMove}
 use Rattle.nm_calls.proofs.Full.{class_counted, all_elsewhere_move}
 use Rattle.nm_calls.proofs.Passing.{nothing_is}
 
@@ -67,32 +66,36 @@ spot_stands s target pid v all h = under_stands s target pid all (page_at s.area
 pub whole_stands : (s : State) (target : ℕ) (p : Page) → StandsOn s target (Whole p) → option_map (node_of s.layout) (get page_cmp s.place p) ≡ Some target
 whole_stands s target p h = page_stands s target false p (get page_cmp s.place p) h
 
-or_again : (a b : Bool) → (a || b) ≡ (a || (a || b))
-or_again true b = refl
-or_again false b = refl
-
-or_swap : (a b c : Bool) → (a || (b || c)) ≡ (b || (a || c))
-or_swap true true c = refl
-or_swap true false c = refl
-or_swap false true c = refl
-or_swap false false c = refl
-
 or_true : (a : Bool) → (a || true) ≡ true
 or_true true = refl
 or_true false = refl
 
--- a number is in a set with another number if it is that number, or was in the set
-is_in_insert : (ns : List ℕ) (j n : ℕ) → is_in (insert_key nat_cmp ns j) n ≡ ((j == n) || is_in ns n)
-is_in_insert [] j n = refl
-is_in_insert (m ∷ ns) j n =
-    let with : Ordering → Bool = λ r. is_in (match_ordering r (j ∷ m ∷ ns) (m ∷ ns) (m ∷ insert_key nat_cmp ns j)) n in
-    elim (cases_order j m) [
-      | inl e ↦ ap with (sym (nat_cmp_is j m Equal e)) ∙ or_again (m == n) (is_in ns n) ∙ ap (λ i. (i == n) || ((m == n) || is_in ns n)) (sym e)
-      | inr o ↦ elim o [
-        | inl lt ↦ ap with (sym (nat_cmp_is j m Less lt))
-        | inr gt ↦ ap with (sym (nat_cmp_is j m Greater gt)) ∙ ap (λ b. (m == n) || b) (is_in_insert ns j n) ∙ or_swap (m == n) (j == n) (is_in ns n)
-      ]
-    ]
+-- and where the frame is there, that is the status
+stands_at : (target node : ℕ) (other : Class) → node ≡ target → (if node == target then Status (pos target) else other) ≡ Status (pos target)
+stands_at target node other e = ap (λ b. if b then Status (pos target) else other) (eq-eqb node target e)
+
+page_there : (s : State) (target : ℕ) (kept : Bool) (p : Page) (o : Option ℕ) → option_map (node_of s.layout) o ≡ Some target → page_status s target kept p o ≡ Status (pos target)
+page_there s target kept p None h = cc
+page_there s target kept p (Some frame) h = stands_at target (node_of s.layout frame) _ (some_is h)
+
+look_there : (s : State) (target : ℕ) (kept : Bool) (p : Page) (o : Option ℕ) → node_of_look s.layout (look_at_place s.processes s.pins p o) ≡ pos target → page_status s target kept p o ≡ Status (pos target)
+look_there s target kept p None h = cc
+look_there s target kept p (Some frame) h = let same : node_of s.layout frame ≡ target = cc in stands_at target (node_of s.layout frame) _ same
+
+sight_there : (s : State) (target pid : ℕ) (all : Bool) (o : Option Sight) → node_of_look s.layout (look_by_sight s.processes s.place s.pins o) ≡ pos target → sight_status s target pid all o ≡ Status (pos target)
+sight_there s target pid all None h = cc
+sight_there s target pid all (Some ZeroPage) h = cc
+sight_there s target pid all (Some (Sees p)) h = look_there s target (others_see s pid p && not all) p (get page_cmp s.place p) h
+
+under_there : (s : State) (target pid : ℕ) (all : Bool) (shown : Option Page) (o : Option Sight) → node_of_look s.layout (look_behind s.processes s.place s.pins shown o) ≡ pos target → status_under s target pid all shown o ≡ Status (pos target)
+under_there s target pid all None o h = cc
+under_there s target pid all (Some shown) o h = sight_there s target pid all o h
+
+pub spot_there : (s : State) (target pid v : ℕ) (all : Bool) → node_status s pid v ≡ pos target → StandsOn s target (Spot pid v all)
+spot_there s target pid v all h = under_there s target pid all (page_at s.areas pid v) (sight_at s pid v) h
+
+pub whole_there : (s : State) (target : ℕ) (p : Page) → option_map (node_of s.layout) (get page_cmp s.place p) ≡ Some target → StandsOn s target (Whole p)
+whole_there s target p h = page_there s target false p (get page_cmp s.place p) h
 
 -- the nodes of what was asked first
 abbrev OnAmong : State → List ℕ → Wanted → Type 0
@@ -109,6 +112,14 @@ stands_there s nodes ws k w node lt is front on =
     among_push s (insert_key nat_cmp nodes node) ws k w lt is
     (λ j d below m few h. is_in_insert nodes node m ∙ ap (λ b. (node == m) || b) (front j d below m few h) ∙ or_true (node == m))
     (λ m few h. is_in_insert nodes node m ∙ ap (λ b. b || is_in nodes m) (eq-eqb node m (some_is (on m h))))
+
+-- .. and then has some
+pub some_there : (s : State) (nodes : List ℕ) (ws : List Wanted) (k : ℕ) (w : Wanted) (node : ℕ) → k < length ws → w ≡ get_or ws k w → EachHasSome s nodes ws → StandsOn s node w → EachHasSome s (insert_key nat_cmp nodes node) ws
+some_there s nodes ws k w node lt is had on = λ m h.
+    elim (node == m) as (λ b. (node == m) ≡ b → (b || is_in nodes m) ≡ true → Any (StandsOn s m) ws) [
+      | true ↦ λ e r. subst (λ (n : ℕ). Any (StandsOn s n) ws) (eqb-true node m e) (k, w, lt, sym is, on)
+      | false ↦ λ e r. had m r
+    ] refl (sym (is_in_insert nodes node m) ∙ h)
 
 -- .. or on none below 64
 pub stands_nowhere : (s : State) (nodes : List ℕ) (ws : List Wanted) (k : ℕ) (w : Wanted) → k < length ws → w ≡ get_or ws k w → StandAmong s nodes (take k ws) → ((m : ℕ) → m < 64 → StandsOn s m w → ⊥) → StandAmong s nodes (take (k + 1) ws)
@@ -134,10 +145,21 @@ none_free s node h = nothing_is (free_list s node) (length (free_list s node)) r
     not_false false e = cc
 
 -- failures that are counted change nothing of this
-pub among_counted : (s : State) (m n : ℕ) (nodes : List ℕ) (ws : List Wanted) → StandAmong s nodes ws → StandAmong (counted s m n) nodes ws
+among_counted : (s : State) (m n : ℕ) (nodes : List ℕ) (ws : List Wanted) → StandAmong s nodes ws → StandAmong (counted s m n) nodes ws
 among_counted s m n nodes ws among k d lt node few on =
     let w = get_or ws k d in
     among k d lt node few (sym (class_counted s m n node w) ∙ on)
+
+pub some_counted : (s : State) (m n : ℕ) (nodes : List ℕ) (ws : List Wanted) → EachHasSome s nodes ws → EachHasSome (counted s m n) nodes ws
+some_counted s m n nodes ws some = λ node h.
+    let one = some node h in
+    (one.0, one.1, one.2, one.3, class_counted s m n node one.1 ∙ one.4)
+
+pub standing_counted : (s : State) (m n : ℕ) (nodes : List ℕ) (ws : List Wanted) → AreStanding s nodes ws → AreStanding (counted s m n) nodes ws
+standing_counted s m n nodes ws are = record {
+  all = among_counted s m n nodes ws are.all;
+  some = some_counted s m n nodes ws are.some;
+}
 
 pub move_counted : (s : State) (m n node : ℕ) (ws : List Wanted) → AllByRecursion (WouldMove s node) ws → AllByRecursion (WouldMove (counted s m n) node) ws
 move_counted s m n node [] h = tt
@@ -152,6 +174,6 @@ pub none_is : (m : ℕ) → None ≡ Some m → ⊥
 none_is m e = cc
 
 -- what is said of some nodes, said of others that are the same
-pub among_if : (s : State) (o : Option (List ℕ)) (nodes : List ℕ) (ws : List Wanted) → IfSome o (λ ns. StandAmong s ns ws) → o ≡ Some nodes → StandAmong s nodes ws
-among_if s None nodes ws h e = absurd (true_false (ap (λ (o : Option (List ℕ)). is_none o) e))
-among_if s (Some ns) nodes ws h e = subst (λ ns. StandAmong s ns ws) (some_is e) h
+pub standing_if : (s : State) (o : Option (List ℕ)) (nodes : List ℕ) (ws : List Wanted) → IfSome o (λ ns. AreStanding s ns ws) → o ≡ Some nodes → AreStanding s nodes ws
+standing_if s None nodes ws h e = absurd (true_false (ap (λ (o : Option (List ℕ)). is_none o) e))
+standing_if s (Some ns) nodes ws h e = subst (λ ns. AreStanding s ns ws) (some_is e) h

@@ -1,5 +1,5 @@
 -- Passes over nodes without a free frame.
-use Rattle.std.specs.Prelude.{◌≡◌, ℕ, ◌+◌, ◌<◌, ◌/◌, ◌%◌, min, pos, true, All, List, [], length}
+use Rattle.std.specs.Prelude.{◌≡◌, ℕ, ◌+◌, ◌<◌, ◌/◌, ◌%◌, min, pos, true, All, Any, List, [], length}
 use Rattle.std.specs.List.{AllByRecursion}
 use Rattle.nm_types.specs.declared.page.Page.{Page}
 use Rattle.nm_types.specs.Nodes.{is_in}
@@ -73,3 +73,12 @@ HasFailed s wanted = (node : ℕ) × AllByRecursion (WouldMove s node) wanted
 -- each node below 64 that some of these pages are on is in this set
 abbrev pub StandAmong : State → List ℕ → List Wanted → Type 0
 StandAmong s nodes wanted = All (λ w. (node : ℕ) → node < 64 → StandsOn s node w → is_in nodes node ≡ true) wanted
+
+-- on each of these nodes some of this stands
+abbrev pub EachHasSome : State → List ℕ → List Wanted → Type 0
+EachHasSome s nodes wanted = (node : ℕ) → is_in nodes node ≡ true → Any (StandsOn s node) wanted
+
+-- these are the nodes below 64 on which some of this stands, and no other
+pub record AreStanding (s : State) (nodes : List ℕ) (wanted : List Wanted) : Type 0 where
+  pub all : StandAmong s nodes wanted
+  pub some : EachHasSome s nodes wanted

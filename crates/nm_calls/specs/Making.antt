@@ -17,7 +17,7 @@ use Rattle.nm_calls.specs.declared.ways.Way.TheVariants.{Passes, Turns}
 use Rattle.nm_calls.specs.declared.call_error.CallError.{CallError}
 use Rattle.nm_calls.specs.declared.call_error.CallError.TheVariants.{Refused, HostMemory}
 use Rattle.nm_calls.specs.Passes.{passes}
-use Rattle.nm_calls.specs.Full.{HasFailed, StandAmong}
+use Rattle.nm_calls.specs.Full.{HasFailed, AreStanding}
 use Rattle.nm_calls.specs.Binding.{still_strays, tells_late}
 use Rattle.nm_calls.specs.Offlining.{still_on}
 use Rattle.nm_calls.specs.Outcome.{states_of}
@@ -102,4 +102,4 @@ Empties (Err e) old new node runs = Keeps e old new node runs
 -- what is known of the pages left: a pass has found no free frame for them, and they are on these nodes
 abbrev pub IsLeft : {A : Type 0} → State → Left A → Type 0
 IsLeft s left =
-    (left.tried ≡ true → HasFailed s left.wanted.items) × IfSome left.standing (λ nodes. StandAmong s nodes left.wanted.items)
+    (left.tried ≡ true → HasFailed s left.wanted.items) × IfSome left.standing (λ nodes. AreStanding s nodes left.wanted.items)

@@ -1,6 +1,6 @@
 //! Batches and passes: all requests go to one node after another, until they have found a free frame.
 
-ghost use Rattle.std.specs.Prelude.{◌≡◌, ◌^◌, ◌<◌, ◌≤◌, ℕ, All, [], IfOk, IfSome, Some, length, vec_capacity};
+ghost use Rattle.std.specs.Prelude.{◌≡◌, ◌^◌, ◌<◌, ◌≤◌, ℕ, false, true, All, Any, [], IfOk, IfNone, IfSome, Some, length, vec_capacity};
 ghost use Rattle.std.specs.List.{AllByRecursion};
 ghost use Rattle.std.specs.Ordering.{int_eq};
 ghost use Rattle.nm_types.specs.declared.errno.Errno.TheVariants.{Enomem};
@@ -10,8 +10,9 @@ ghost use Rattle.nm_model.specs.definitions.Cut.{all_to, wanted_of};
 ghost use Rattle.nm_model.specs.definitions.Cut.{cut_within};
 ghost use Rattle.nm_model.specs.definitions.Status.{code};
 ghost use Rattle.nm_model.specs.definitions.Run.{HasOneAll};
+ghost use Rattle.nm_model.specs.definitions.Touch.{has_free};
 ghost use Rattle.nm_calls.specs.Passes.{passes, without_frame};
-ghost use Rattle.nm_calls.specs.Full.{StandsOn, StandAmong, WouldMove};
+ghost use Rattle.nm_calls.specs.Full.{StandsOn, AreStanding, WouldMove};
 ghost use Rattle.nm_calls.specs.Making.{Batches, MakesRuns, later, IsCounted, IsLeft};
 
 use crate::batch::move_runs;
@@ -169,7 +170,8 @@ fn place_of<A: Allocator + Copy + Send + Sync>(
     machine: &Machine<A>,
     wanted: &Wanted,
 ) -> Option<NodeId>
-    ensures { (node : ℕ) → StandsOn machine.now node wanted.now → result ≡ Some node }
+    ensures there { (node : ℕ) → StandsOn machine.now node wanted.now → result ≡ Some node }
+    ensures alone { IfSome result (λ node. StandsOn machine.now node wanted.now) }
 {
     match wanted {
         Wanted::At { pid, vpn, .. } => {
@@ -185,7 +187,7 @@ fn place_of<A: Allocator + Copy + Send + Sync>(
 
 /// The nodes below 64 that these pages are on.
 fn standing<A: Allocator + Copy + Send + Sync>(machine: &Machine<A>, wanted: &[Wanted]) -> NodeMask
-    ensures { StandAmong machine.now result wanted.now }
+    ensures { AreStanding machine.now result wanted.now }
 {
     let mut nodes = NodeMask::new();
     for page in wanted {
@@ -199,7 +201,8 @@ fn standing<A: Allocator + Copy + Send + Sync>(machine: &Machine<A>, wanted: &[W
 }
 
 /// The nodes that the pages left are on, if a pass over a node would find a free frame for none of them: the node has
-/// no free frame, and none of these pages is on it.
+/// no free frame, and none of these pages is on it. None if no pass has been made, the node has a free frame, or one of
+/// these pages is on it.
 fn lost_on<A: Allocator + Copy + Send + Sync>(
     machine: &Machine<A>,
     node: NodeId,
@@ -211,7 +214,8 @@ fn lost_on<A: Allocator + Copy + Send + Sync>(
     // If there are such nodes
     ensures full { IfSome result (λ nodes. free_list machine.now node ≡ []) }
     ensures lost { IfSome result (λ nodes. AllByRecursion (WouldMove machine.now node) left.now.wanted.items) }
-    ensures standing { IfSome result (λ nodes. StandAmong machine.now nodes left.now.wanted.items) }
+    ensures standing { IfSome result (λ nodes. AreStanding machine.now nodes left.now.wanted.items) }
+    ensures none { IfNone result (left.now.tried ≡ true → has_free machine.now.free node ≡ false → Any (StandsOn machine.now node) left.now.wanted.items) }
 {
     if !left.tried || machine.has_free(node) {
         return None;

@@ -1,6 +1,6 @@
 //! Crews: the workers that copy the pages of a run.
 
-ghost use Rattle.std.specs.Prelude.{◌≡◌, ◌<◌, ◌≤◌, map};
+ghost use Rattle.std.specs.Prelude.{◌≡◌, ◌<◌, ◌≤◌, ◌↔◌, map, IsSome};
 ghost use Rattle.nm_frames.specs.Job.{copied};
 ghost use Rattle.nm_board.specs.Tickets.{InTicketOrder};
 
@@ -57,7 +57,9 @@ impl<'a, R: Threads + Wait + Sync, G: Gate + Sync> Crew<'a, R, G> {
     }
 
     /// The runtime for more threads. None if the caller is the only worker.
-    pub fn runtime(&self) -> Option<&'a R> {
+    pub fn runtime(&self) -> Option<&'a R>
+        ensures { IsSome result ↔ (1 < self.now) }
+    {
         if self.workers > 1 {
             Some(self.rt)
         } else {

@@ -1,6 +1,6 @@
 //! The machine's frames: their bytes, and the free ones.
 
-ghost use Rattle.std.specs.Prelude.{◌≡◌, ℕ, false, ◌+◌, ◌<◌, ◌≤◌, [], ◌∷◌, ◌++◌, map, length, vec_capacity, vec_len, Some, IfOk, OnOk, replicate, take, drop, slice_get, slice_set};
+ghost use Rattle.std.specs.Prelude.{◌≡◌, ℕ, false, ◌+◌, ◌<◌, ◌≤◌, [], ◌∷◌, ◌++◌, map, length, vec_capacity, vec_len, Some, IfOk, OnOk, OnErr, replicate, take, drop, slice_get, slice_set};
 ghost use Rattle.nm_types.specs.Layout.{node_count, frame_count, node_of};
 ghost use Rattle.nm_types.specs.Nodes.{is_in};
 ghost use Rattle.nm_model.specs.definitions.Touch.{has_free};
@@ -152,7 +152,8 @@ impl<A: Allocator + Copy> Frames<A> {
     /// The free frames of a node, front first.
     pub(crate) fn free_list(&self, alloc: A, node: NodeId) -> Result<Vec<FrameId, A>, AllocError>
         requires { node < node_count self.now.layout }
-        ensures { IfOk result (λ frames. frames.items ≡ free_on self.now node) }
+        ensures frames { IfOk result (λ frames. frames.items ≡ free_on self.now node) }
+        ensures asked { OnErr result (0 < length (free_on self.now node)) }
     {
         front_of(alloc, &self.nodes, node, self.nodes.free_count(node))
     }
@@ -472,7 +473,8 @@ fn front_of<A: Allocator + Copy>(
 ) -> Result<Vec<FrameId, A>, AllocError>
     requires node { node < length nodes.now.lists }
     requires count { count ≤ length (list_of nodes.now node) }
-    ensures { IfOk result (λ frames. frames.items ≡ take count (list_of nodes.now node)) }
+    ensures frames { IfOk result (λ frames. frames.items ≡ take count (list_of nodes.now node)) }
+    ensures asked { OnErr result (0 < count) }
 {
     let mut frames = Vec::with_capacity(alloc, count)?;
     for k in 0..count {

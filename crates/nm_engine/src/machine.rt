@@ -1,6 +1,6 @@
 //! The machine.
 
-ghost use Rattle.std.specs.Prelude.{◌≡◌, ◌<◌, ◌≤◌, ◌+◌, ◌-◌, [], ◌∷◌, map, true, length, nat_le, All, Some, IfOk, IfSome, IfNone, OnOk, OnErr, option_map};
+ghost use Rattle.std.specs.Prelude.{◌≡◌, ◌<◌, ◌≤◌, ◌+◌, ◌-◌, [], ◌∷◌, map, true, length, nat_le, All, Some, Err, IfOk, IfSome, IfNone, OnOk, OnErr, option_map};
 ghost use Rattle.std.specs.List.{list_any};
 ghost use Rattle.std.specs.Ordering.{nat_cmp};
 ghost use Rattle.nm_types.specs.declared.page.Page.{Page};
@@ -271,7 +271,7 @@ impl<A: Allocator + Copy + Send + Sync> Machine<A> {
     ///
     /// Errors, in order: ESRCH if there is no such process; EINVAL if the address is not a multiple of 4,096, or the
     /// range ends past 2^64 - 1; EFAULT if a page of the range has no area. A `len` of 0 that is not refused changes
-    /// nothing. An error, also for lack of host memory, changes nothing.
+    /// nothing and does not allocate. An error, also for lack of host memory, changes nothing.
     pub fn set_policy(
         &mut self,
         pid: Pid,
@@ -281,6 +281,7 @@ impl<A: Allocator + Copy + Send + Sync> Machine<A> {
     ) -> Result<(), MachineError>
         ensures done { Makes result self.old self.new (policy_refusal self.old pid addr len) (set_policy self.old pid addr len policy) }
         ensures memory { AsksLast result (policy_refusal self.old pid addr len) }
+        ensures asked { result ≡ Err MachineError.HostMemory → 0 < len }
     {
         self.inner.set_policy(pid, addr, len, policy)
     }
@@ -374,10 +375,11 @@ impl<A: Allocator + Copy + Send + Sync> Machine<A> {
         self.inner.has_free(node)
     }
 
-    /// The free frames of a node, front first. EINVAL if there is no such node.
+    /// The free frames of a node, front first. EINVAL if there is no such node. An empty list takes no memory.
     pub fn free_list(&self, node: NodeId) -> Result<Vec<FrameId, A>, MachineError>
         ensures told { Tells result (list_refusal self.now node) (λ frames. frames.items ≡ free_list self.now node) }
         ensures memory { AsksLast result (list_refusal self.now node) }
+        ensures asked { result ≡ Err MachineError.HostMemory → 0 < length (free_list self.now node) }
     {
         self.inner.free_list(node)
     }
@@ -392,10 +394,11 @@ impl<A: Allocator + Copy + Send + Sync> Machine<A> {
     }
 
     /// The areas of a process, in address order, as in `/proc/PID/numa_maps` (numa(7)). ESRCH if there is no such
-    /// process.
+    /// process. An empty list takes no memory.
     pub fn lines(&self, pid: Pid) -> Result<Vec<Line, A>, MachineError>
         ensures told { Tells result (entries_refusal self.now pid) (λ lines. lines.items ≡ lines_of self.now.segments self.now.areas pid) }
         ensures memory { AsksLast result (entries_refusal self.now pid) }
+        ensures asked { result ≡ Err MachineError.HostMemory → 0 < length (lines_of self.now.segments self.now.areas pid) }
     {
         self.inner.lines(pid)
     }

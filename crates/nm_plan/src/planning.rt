@@ -1,6 +1,6 @@
 //! Making the plan of a run.
 
-ghost use Rattle.std.specs.Prelude.{◌≡◌, ◌<◌, ◌+◌, ◌^◌, ◌++◌, drop, length, position, vec_len, vec_capacity, IfOk, OnOk};
+ghost use Rattle.std.specs.Prelude.{◌≡◌, ◌<◌, ◌+◌, ◌^◌, ◌++◌, drop, length, position, vec_len, vec_capacity, IfOk, OnOk, OnErr};
 ghost use Rattle.std.specs.List.{zip};
 ghost use Rattle.nm_model.specs.definitions.Decide.{choose, is_short, planned};
 ghost use Rattle.nm_plan.specs.Found.{Finds};
@@ -77,7 +77,7 @@ fn shortage_of(classes: &[Class], statuses: &[i32]) -> Option<usize>
 /// The plan of a run with these classes, where the target has these free frames, front first. The requests are decided
 /// one after another, since each depends on those before it: a page that is to move takes the first frame that no page
 /// has taken yet, or gets -12 (ENOMEM) if there is none; a page that is named again stays where it went. An error means
-/// that the host is out of memory.
+/// that the host is out of memory; a run without requests takes none.
 pub fn plan<A: Allocator + Copy>(
     alloc: A,
     classes: &[Class],
@@ -85,7 +85,8 @@ pub fn plan<A: Allocator + Copy>(
     target: NodeId,
 ) -> Result<Plan<A>, AllocError>
     requires { target < 2 ^ 31 }
-    ensures { IfOk result (λ plan. plan ≡ planned classes.now free_front.now target) }
+    ensures plan { IfOk result (λ plan. plan ≡ planned classes.now free_front.now target) }
+    ensures asked { OnErr result (0 < length classes.now) }
 {
     let mut moves = Vec::with_capacity(alloc, classes.len())?;
     let mut statuses = Vec::with_capacity(alloc, classes.len())?;

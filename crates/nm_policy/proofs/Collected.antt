@@ -1,36 +1,11 @@
 -- Sets that are collected number by number.
-use Rattle.std.proofs.Common.{arith, ◌≡◌, ℕ, ◌+◌, nat_lt, ◌&&◌, ◌||◌, Bool, true, false, List, [], ◌∷◌, refl, sym, ap, ◌∙◌, inl, inr, eq-eqb}
+use Rattle.std.proofs.Common.{arith, ◌≡◌, ℕ, ◌+◌, nat_lt, ◌&&◌, ◌||◌, Bool, true, false, List, refl, sym, ap, ◌∙◌, inl, inr, eq-eqb}
 use Rattle.std.proofs.lemmas.Bool.{eqb-true, ne_eqb, cases_order}
 use Rattle.std.specs.Prelude.{◌==◌}
-use Rattle.std.specs.Ordering.{nat_cmp, match_ordering}
-use Rattle.std.specs.Cmp.{nat_cmp_is}
-use Rattle.std.specs.declared.cmp.Ordering.{Ordering}
-use Rattle.std.specs.declared.cmp.Ordering.TheVariants.{Less, Equal, Greater}
+use Rattle.std.specs.Ordering.{nat_cmp}
 use Rattle.std.specs.BTreeSet.{insert_key}
 use Rattle.nm_types.specs.Nodes.{is_in}
-
-or_again : (a b : Bool) → (a || b) ≡ (a || (a || b))
-or_again true b = refl
-or_again false b = refl
-
-or_swap : (a b c : Bool) → (a || (b || c)) ≡ (b || (a || c))
-or_swap true true c = refl
-or_swap true false c = refl
-or_swap false true c = refl
-or_swap false false c = refl
-
--- a number is in a set with one more number where it is that, or was in it
-is_in_insert : (ns : List ℕ) (j n : ℕ) → is_in (insert_key nat_cmp ns j) n ≡ ((j == n) || is_in ns n)
-is_in_insert [] j n = refl
-is_in_insert (m ∷ ns) j n =
-    let with : Ordering → Bool = λ r. is_in (match_ordering r (j ∷ m ∷ ns) (m ∷ ns) (m ∷ insert_key nat_cmp ns j)) n in
-    elim (cases_order j m) [
-      | inl e ↦ ap with (sym (nat_cmp_is j m Equal e)) ∙ or_again (m == n) (is_in ns n) ∙ ap (λ i. (i == n) || ((m == n) || is_in ns n)) (sym e)
-      | inr o ↦ elim o [
-        | inl lt ↦ ap with (sym (nat_cmp_is j m Less lt))
-        | inr gt ↦ ap with (sym (nat_cmp_is j m Greater gt)) ∙ ap (λ b. (m == n) || b) (is_in_insert ns j n) ∙ or_swap (m == n) (j == n) (is_in ns n)
-      ]
-    ]
+use Rattle.nm_types.proofs.Members.{is_in_insert}
 
 -- a number is below the next one where it is below this one, or is it
 below_next : (n k : ℕ) → nat_lt n (k + 1) ≡ ((k == n) || nat_lt n k)

@@ -1,11 +1,11 @@
 -- What both lists have at the place of one frame, as it is read and written.
 use Rattle.std.proofs.Common.{◌≡◌, ℕ, ◌<◌, ◌+◌, cond, List, length, get_or, [], sym, ap, subst, ◌∙◌, arith}
 use Rattle.std.proofs.Math.ListN.{set, length-set}
-use Rattle.std.specs.Prelude.{nat_lt}
+use Rattle.std.specs.Prelude.{nat_lt, false}
 use Rattle.std.proofs.lemmas.Bool.{lt-ltb}
 use Rattle.std.proofs.lemmas.List.{get_or_default, set-get_or}
 use Rattle.std.proofs.lemmas.List.Sums.{sum_by-set, count_by-le-length}
-use Rattle.nm_rmap.specs.Mappers.{Mappers, Mapper, mappers_of, with_mappers, frame_pins, with_pins, pinned_count}
+use Rattle.nm_rmap.specs.Mappers.{Mappers, Mapper, is_mapper, mappers_of, with_mappers, frame_pins, with_pins, pinned_count}
 
 abbrev both : List (List Mapper) → List ℕ → Mappers
 both mappings pins = record { mappings = mappings; pins = pins }
@@ -38,6 +38,9 @@ module _ (mappings : List (List Mapper)) (pins : List ℕ) (m : Mappers) (is : b
     pub reads_mappers : mappers_of m frame ≡ now
     reads_mappers =
         ap (λ (n : Mappers). mappers_of n frame) (sym is) ∙ ap (λ (k : ℕ). get_or mappings k []) (sym at) ∙ get_or_default mappings i [] now mappings_in ∙ sym value
+
+    pub no_mapper : (spot : Mapper) → is_mapper now spot ≡ false → is_mapper (mappers_of m frame) spot ≡ false
+    no_mapper spot none = ap (λ (ss : List Mapper). is_mapper ss spot) reads_mappers ∙ none
 
     pub same_mappers : (new : List Mapper) → new ≡ now → both (set mappings i new) pins ≡ m
     same_mappers new e = ap (λ (ss : List Mapper). both (set mappings i ss) pins) (e ∙ value) ∙ ap (λ (ss : List (List Mapper)). both ss pins) (set-get_or mappings i now) ∙ is

@@ -18,6 +18,10 @@ with_spot mappings spot = insert_key spot_cmp mappings spot
 abbrev pub without_spot : List Mapper → Mapper → List Mapper
 without_spot mappings spot = remove_key (is_at (spot_cmp spot)) mappings
 
+-- whether a page number of a process is among the mappings
+abbrev pub is_mapper : List Mapper → Mapper → Bool
+is_mapper mappings spot = list_any (is_at (spot_cmp spot)) mappings
+
 -- the pids of the mappers, one for each
 abbrev pub pids : List Mapper → List ℕ
 pids mappings = map (λ spot. spot.0) mappings

@@ -1,9 +1,9 @@
 //! The page numbers that map one frame.
 
-ghost use Rattle.std.specs.Prelude.{◌≡◌, [], IfOk, OnOk, OnErr};
+ghost use Rattle.std.specs.Prelude.{◌≡◌, [], false, IfOk, OnOk, OnErr};
 ghost use Rattle.std.specs.List.Sorted.{IsStrictlySortedBy};
 ghost use Rattle.nm_types.specs.Map.{spot_cmp};
-ghost use Rattle.nm_rmap.specs.Mappers.{with_spot, without_spot, has_process, process_count};
+ghost use Rattle.nm_rmap.specs.Mappers.{with_spot, without_spot, is_mapper, has_process, process_count};
 
 use nm_types::{Pid, Vpn};
 use std::alloc::{AllocError, Allocator};
@@ -42,10 +42,12 @@ impl<A: Allocator + Copy> Mappings<A> {
         }
     }
 
-    /// Adds a page number of a process, unless it is there. An error means that nothing has changed.
+    /// Adds a page number of a process, unless it is there. An error means that it was not there, and that nothing has
+    /// changed.
     pub(crate) fn insert(&mut self, pid: Pid, vpn: Vpn) -> Result<(), AllocError>
         ensures ok { OnOk result (self.new ≡ with_spot self.old (pid, vpn)) }
         ensures err { OnErr result (self.new ≡ self.old) }
+        ensures absent { OnErr result (is_mapper self.old (pid, vpn) ≡ false) }
     {
         let len = self.tree.len();
         prove!(self.processes <= len);

@@ -1,10 +1,10 @@
 //! The mappers and pins of all frames.
 
-ghost use Rattle.std.specs.Prelude.{◌≡◌, ◌<◌, ◌≤◌, ◌+◌, ◌-◌, length, IfOk, OnOk, OnErr, IfErr};
+ghost use Rattle.std.specs.Prelude.{◌≡◌, ◌<◌, ◌≤◌, ◌+◌, ◌-◌, false, length, IfOk, OnOk, OnErr, IfErr};
 ghost use Rattle.std.specs.List.Sorted.{IsStrictlySortedBy};
 ghost use Rattle.nm_types.specs.declared.errno.Errno.TheVariants.{Ebusy, Einval};
 ghost use Rattle.nm_types.specs.Map.{spot_cmp};
-ghost use Rattle.nm_rmap.specs.Mappers.{IsUnused, new_map, mappers_of, frame_pins, with_pins, with_mapper, without_mapper, carried, process_count, is_any_pinned};
+ghost use Rattle.nm_rmap.specs.Mappers.{IsUnused, new_map, mappers_of, frame_pins, with_pins, is_mapper, with_mapper, without_mapper, carried, process_count, is_any_pinned};
 
 use crate::mappings::Mappings;
 use nm_types::limits::MAX_PINS;
@@ -55,11 +55,12 @@ impl<A: Allocator + Copy> ReverseMap<A> {
     }
 
     /// Makes a page number of a process a mapper of a frame, unless it is one. An error means that the host is out of
-    /// memory, and that nothing has changed.
+    /// memory, that it was no mapper of the frame, and that nothing has changed.
     pub fn add(&mut self, frame: FrameId, pid: Pid, vpn: Vpn) -> Result<(), AllocError>
         requires { frame < length self.old.mappings }
         ensures ok { OnOk result (self.new ≡ with_mapper self.old frame (pid, vpn)) }
         ensures err { OnErr result (self.new ≡ self.old) }
+        ensures absent { OnErr result (is_mapper (mappers_of self.old frame) (pid, vpn) ≡ false) }
     {
         self.mappings[frame.index()].insert(pid, vpn)
     }

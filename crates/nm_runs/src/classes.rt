@@ -1,6 +1,6 @@
 //! What to do with each request of a run, from a look at what it names.
 
-ghost use Rattle.std.specs.Prelude.{◌≡◌, ◌<◌, ◌^◌, map, IfOk};
+ghost use Rattle.std.specs.Prelude.{◌≡◌, ◌<◌, ◌^◌, length, map, IfOk, OnErr};
 ghost use Rattle.nm_types.specs.Layout.{frame_count};
 ghost use Rattle.nm_model.specs.definitions.Status.{class_of_look};
 ghost use Rattle.nm_runs.specs.Shown.{class_shown, HasFrameBelow, ShowsItsFrames};
@@ -66,8 +66,8 @@ fn class_of<A: Allocator + Copy, V: PageView>(
 }
 
 /// What to do with each request of a run, in order, from a look at what it names. The view must show frames of this
-/// machine only. Looks on the calling thread. An error means that the host is out of memory. The target's number is
-/// also used as a status, so it must be below 2^31.
+/// machine only. Looks on the calling thread. An error means that the host is out of memory; a run without requests takes
+/// none. The target's number is also used as a status, so it must be below 2^31.
 pub fn classify_here<A: Allocator + Copy, V: PageView>(
     alloc: A,
     geometry: &Geometry<A>,
@@ -76,7 +76,8 @@ pub fn classify_here<A: Allocator + Copy, V: PageView>(
 ) -> Result<Vec<Class, A>, AllocError>
     requires target { run.now.target < 2 ^ 31 }
     requires frames { ShowsItsFrames geometry.now (V.seen_at view.now) (V.placed_at view.now) }
-    ensures { IfOk result (λ classes. classes.items ≡ map (class_shown geometry.now (V.seen_at view.now) (V.placed_at view.now) run.now.target) run.now.wanted.items) }
+    ensures classes { IfOk result (λ classes. classes.items ≡ map (class_shown geometry.now (V.seen_at view.now) (V.placed_at view.now) run.now.target) run.now.wanted.items) }
+    ensures asked { OnErr result (0 < length run.now.wanted.items) }
 {
     let mut classes = Vec::with_capacity(alloc, run.wanted.len())?;
     for wanted in &run.wanted {
@@ -87,7 +88,8 @@ pub fn classify_here<A: Allocator + Copy, V: PageView>(
 
 /// What to do with each request of a run, in order, from a look at what it names. The view must show frames of this
 /// machine only. From 8,192 requests on, several threads look, each at 4,096 or more. An error means that the host is
-/// out of memory. The target's number is also used as a status, so it must be below 2^31.
+/// out of memory; a run without requests takes none. The target's number is also used as a status, so it must be below
+/// 2^31.
 pub fn classify<R: Threads + Sync, A: Allocator + Copy + Send + Sync, V: PageView + Sync>(
     rt: &R,
     alloc: A,
@@ -97,7 +99,8 @@ pub fn classify<R: Threads + Sync, A: Allocator + Copy + Send + Sync, V: PageVie
 ) -> Result<Vec<Class, A>, AllocError>
     requires target { run.now.target < 2 ^ 31 }
     requires frames { ShowsItsFrames geometry.now (V.seen_at view.now) (V.placed_at view.now) }
-    ensures { IfOk result (λ classes. classes.items ≡ map (class_shown geometry.now (V.seen_at view.now) (V.placed_at view.now) run.now.target) run.now.wanted.items) }
+    ensures classes { IfOk result (λ classes. classes.items ≡ map (class_shown geometry.now (V.seen_at view.now) (V.placed_at view.now) run.now.target) run.now.wanted.items) }
+    ensures asked { OnErr result (0 < length run.now.wanted.items) }
 {
     if run.wanted.len() < 2 * PIECE {
         return classify_here(alloc, geometry, view, run);

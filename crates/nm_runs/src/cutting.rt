@@ -1,6 +1,6 @@
 //! Cutting a batch of requests into runs.
 
-ghost use Rattle.std.specs.Prelude.{◌≡◌, ◌<◌, ◌≤◌, ◌==◌, IfOk, length, slice_index};
+ghost use Rattle.std.specs.Prelude.{◌≡◌, ◌<◌, ◌≤◌, ◌==◌, IfOk, OnErr, length, slice_index};
 ghost use Rattle.std.specs.List.{take_while};
 ghost use Rattle.nm_model.specs.definitions.Cut.{cut, wanted_of, same_front, IsFirst};
 ghost use Rattle.nm_runs.specs.Stretches.{stretches_of};
@@ -52,12 +52,13 @@ fn first_run<A: Allocator + Copy>(alloc: A, requests: &[Request]) -> Result<Run<
 /// The runs of a batch, in order: its longest stretches of requests for one node. A batch without requests has no runs.
 /// The caller has all runs before it starts the first, so memory for the list of a later run cannot be refused after
 /// pages have moved. Cuts with a limit as long as the batch, which shortens no stretch. An error means that the host is
-/// out of memory.
+/// out of memory; a batch without requests takes none.
 pub fn cut<A: Allocator + Copy>(
     alloc: A,
     requests: &[Request],
 ) -> Result<Vec<Run<A>, A>, AllocError>
-    ensures { IfOk result (λ runs. stretches_of runs.items ≡ cut requests.now) }
+    ensures runs { IfOk result (λ runs. stretches_of runs.items ≡ cut requests.now) }
+    ensures asked { OnErr result (0 < length requests.now) }
 {
     let whole = requests.len().max(1);
     cut_within(alloc, requests, whole)
@@ -65,14 +66,15 @@ pub fn cut<A: Allocator + Copy>(
 
 /// The runs of a batch under a limit of at least 1, in order: its longest stretches of requests for one node, each cut
 /// from its front into runs of at most `limit` requests. A batch without requests has no runs. An error means that the
-/// host is out of memory.
+/// host is out of memory; a batch without requests takes none.
 pub fn cut_within<A: Allocator + Copy>(
     alloc: A,
     requests: &[Request],
     limit: usize,
 ) -> Result<Vec<Run<A>, A>, AllocError>
     requires { 0 < limit }
-    ensures { IfOk result (λ runs. stretches_of runs.items ≡ cut_within limit requests.now) }
+    ensures runs { IfOk result (λ runs. stretches_of runs.items ≡ cut_within limit requests.now) }
+    ensures asked { OnErr result (0 < length requests.now) }
 {
     let mut runs = Vec::new(alloc);
     let mut at = 0;

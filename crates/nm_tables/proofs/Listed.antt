@@ -1,13 +1,14 @@
 -- What a leaf, a block and a page table have from one page number to another.
-use Rattle.std.proofs.Common.{◌≡◌, ℕ, ◌+◌, ◌*◌, ◌/◌, ◌^◌, ◌≤◌, ◌<◌, List, Option, [], ◌∷◌, ◌++◌, refl, sym, ap, ◌∙◌, arith, append-nil, append_assoc}
+use Rattle.std.proofs.Common.{◌≡◌, ℕ, ◌+◌, ◌*◌, ◌/◌, ◌^◌, ◌≤◌, ◌<◌, List, Option, [], ◌∷◌, ◌++◌, length, refl, sym, ap, ◌∙◌, arith, append-nil, append_assoc}
 use Rattle.std.specs.Prelude.{Some, None}
 use Rattle.std.specs.Ordering.{nat_cmp}
 use Rattle.std.specs.declared.ops.Bound.TheVariants.{Included}
 use Rattle.std.specs.BTreeMap.Range.{range_contains}
+use Rattle.std.proofs.lemmas.List.{length-append}
 use Rattle.std.proofs.lemmas.List.Elements.{filter-append}
 use Rattle.nm_types.specs.Map.{Map, get}
 use Rattle.nm_tables.specs.Leaves.{leaf_entries, leaf_ordered, stands_at}
-use Rattle.nm_tables.specs.Lists.{Extends}
+use Rattle.nm_tables.specs.Lists.{Extends, IsCutShort}
 use Rattle.nm_tables.specs.Blocks.{slot_entries, IsSlot, IsSlotOf, entries_by, AreBlocks}
 use Rattle.nm_types.specs.declared.entry.Entry.{Entry}
 use Rattle.nm_tables.specs.declared.places.Places.{Places}
@@ -26,6 +27,16 @@ extended_by old now new was then = extended old now then.0 new was then.1
 
 pub unextended : {X : Type 0} (old : List X) → Extends old old
 unextended old = ([], sym (append-nil old))
+
+-- more was to come than was appended
+pub cut_short : {X : Type 0} (all now new : List X) (next : X) (more : List X) → now ++ next ∷ more ≡ all → new ≡ now → IsCutShort new all
+cut_short all now new next more is same = (next, more, sym is ∙ ap (λ l. l ++ next ∷ more) (sym same))
+
+pub cut_shorter : {X : Type 0} (new now rest all : List X) → IsCutShort new now → now ++ rest ≡ all → IsCutShort new all
+cut_shorter new now rest all cut is = (cut.0, cut.1 ++ rest, sym is ∙ ap (λ l. l ++ rest) cut.2 ∙ append_assoc new (cut.0 ∷ cut.1) rest)
+
+pub some_left_out : {X : Type 0} (new all : List X) → IsCutShort new all → 0 < length all
+some_left_out new all cut = omega (arith, ap length cut.2, length-append new (cut.0 ∷ cut.1))
 
 module _ (p : Places) (last : ℕ) where
   -- a walk begins at the first place that is not before

@@ -7,7 +7,7 @@ ghost use Rattle.std.specs.Ordering.{nat_cmp};
 ghost use Rattle.std.specs.declared.ops.Bound.TheVariants.{Included};
 ghost use Rattle.std.specs.BTreeMap.Range.{entries_between};
 ghost use Rattle.nm_types.specs.Map.{get, set, replace, without};
-ghost use Rattle.nm_tables.specs.Lists.{Extends};
+ghost use Rattle.nm_tables.specs.Lists.{Extends, IsCutShort};
 ghost use Rattle.nm_tables.specs.Blocks.{slot_entries, IsSlotOf, block_entries, IsBlocks};
 ghost use Rattle.nm_tables.specs.declared.slot.Slot.TheVariants.{Lone, Leaf};
 
@@ -256,7 +256,8 @@ impl<A: Allocator + Copy> Blocks<A> {
         self.index.replace(moved, Slot::Leaf(number));
     }
 
-    /// Appends the entries from one page number to another, both included, to a list, in ascending order.
+    /// Appends the entries from one page number to another, both included, to a list, in ascending order. An error means
+    /// that only some first ones of them were appended, or none.
     pub(crate) fn list_within(
         &self,
         first: Vpn,
@@ -266,6 +267,7 @@ impl<A: Allocator + Copy> Blocks<A> {
         requires { IsBlocks self.now }
         ensures ok { OnOk result (list.new.items ≡ list.old.items ++ entries_between nat_cmp (Included first) (Included last) (block_entries self.now)) }
         ensures before { Extends list.old.items list.new.items }
+        ensures short { OnErr result (IsCutShort list.new.items (list.old.items ++ entries_between nat_cmp (Included first) (Included last) (block_entries self.now))) }
     {
         let mut from = block_of(first);
         while let Some((block, slot)) = self.block_from(from) {
@@ -289,6 +291,7 @@ impl<A: Allocator + Copy> Blocks<A> {
         requires { (block : ℕ) × IsSlotOf self.now.leaves.items slot block }
         ensures ok { OnOk result (list.new.items ≡ list.old.items ++ entries_between nat_cmp (Included first) (Included last) (slot_entries self.now.leaves.items slot)) }
         ensures before { Extends list.old.items list.new.items }
+        ensures short { OnErr result (IsCutShort list.new.items (list.old.items ++ entries_between nat_cmp (Included first) (Included last) (slot_entries self.now.leaves.items slot))) }
     {
         match slot {
             Slot::Lone(own, entry) => {

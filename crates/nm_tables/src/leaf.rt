@@ -1,12 +1,12 @@
 //! A leaf of a page table, by page number.
 
-ghost use Rattle.std.specs.Prelude.{◌≡◌, ◌≤◌, ◌<◌, ◌+◌, ◌*◌, ◌/◌, ◌%◌, ◌^◌, ◌++◌, ℕ, [], true, false, None, Some, IfSome, IfNone, OnOk};
+ghost use Rattle.std.specs.Prelude.{◌≡◌, ◌≤◌, ◌<◌, ◌+◌, ◌*◌, ◌/◌, ◌%◌, ◌^◌, ◌++◌, ℕ, [], true, false, None, Some, IfSome, IfNone, OnOk, OnErr};
 ghost use Rattle.std.specs.Ordering.{nat_cmp};
 ghost use Rattle.nm_types.specs.Map.{get, set, without};
 ghost use Rattle.std.specs.declared.ops.Bound.TheVariants.{Included};
 ghost use Rattle.std.specs.BTreeMap.Range.{entries_between};
 ghost use Rattle.nm_tables.specs.Leaves.{leaf_entries};
-ghost use Rattle.nm_tables.specs.Lists.{Extends};
+ghost use Rattle.nm_tables.specs.Lists.{Extends, IsCutShort};
 
 use crate::Entry;
 use crate::places::Places;
@@ -87,7 +87,8 @@ pub(crate) fn first_in(leaf: &Places, at: Vpn) -> Option<(Vpn, Entry)>
     Some((Vpn::new(block * 512 + place as u64), entry))
 }
 
-/// Appends the entries of a leaf from one page number to another, both included, to a list, in ascending order.
+/// Appends the entries of a leaf from one page number to another, both included, to a list, in ascending order. An error
+/// means that only some first ones of them were appended, or none.
 pub(crate) fn list_leaf<A: Allocator + Copy>(
     leaf: &Places,
     first: Vpn,
@@ -97,6 +98,7 @@ pub(crate) fn list_leaf<A: Allocator + Copy>(
     requires { leaf.now.block < 2 ^ 55 }
     ensures ok { OnOk result (list.new.items ≡ list.old.items ++ entries_between nat_cmp (Included first) (Included last) (leaf_entries leaf.now)) }
     ensures before { Extends list.old.items list.new.items }
+    ensures short { OnErr result (IsCutShort list.new.items (list.old.items ++ entries_between nat_cmp (Included first) (Included last) (leaf_entries leaf.now))) }
 {
     let mut from = place_from(leaf.block, first);
     while let Some((place, entry)) = leaf.first_from(from) {

@@ -1,13 +1,13 @@
 //! A page table.
 
-ghost use Rattle.std.specs.Prelude.{◌≡◌, ◌≤◌, ◌<◌, ◌/◌, ℕ, [], ◌++◌, None, Some, IsSome, IfSome, IfNone, IfOk, OnOk, OnErr};
+ghost use Rattle.std.specs.Prelude.{◌≡◌, ◌≤◌, ◌<◌, ◌/◌, ℕ, [], ◌++◌, length, None, Some, IsSome, IfSome, IfNone, IfOk, OnOk, OnErr};
 ghost use Rattle.std.specs.List.Sorted.{IsStrictlySortedBy};
 ghost use Rattle.std.specs.Map.{keys_of};
 ghost use Rattle.std.specs.Ordering.{nat_cmp};
 ghost use Rattle.std.specs.declared.ops.Bound.TheVariants.{Included, Excluded};
 ghost use Rattle.std.specs.BTreeMap.Range.{entries_between};
 ghost use Rattle.nm_types.specs.Map.{get, set, replace, without};
-ghost use Rattle.nm_tables.specs.Lists.{Extends};
+ghost use Rattle.nm_tables.specs.Lists.{Extends, IsCutShort};
 
 use crate::Entry;
 use crate::blocks::Blocks;
@@ -109,7 +109,7 @@ impl<A: Allocator + Copy> PageTable<A> {
 
     /// Appends the entries at page numbers from `first` up to but not including `end` to a list, in ascending order.
     /// Takes time for the blocks and entries in that range, and allocates for the list alone. An error means that the
-    /// host is out of memory, and that some of these entries may be missing: the list keeps what it had before.
+    /// host is out of memory, and that only some first ones of these entries were appended, or none.
     pub fn list_between(
         &self,
         first: Vpn,
@@ -118,6 +118,7 @@ impl<A: Allocator + Copy> PageTable<A> {
     ) -> Result<(), AllocError>
         ensures all { OnOk result (list.new.items ≡ list.old.items ++ entries_between nat_cmp (Included first) (Excluded end) self.now) }
         ensures before { Extends list.old.items list.new.items }
+        ensures short { OnErr result (IsCutShort list.new.items (list.old.items ++ entries_between nat_cmp (Included first) (Excluded end) self.now)) }
         ensures ordered { IsStrictlySortedBy nat_cmp (keys_of self.now) }
     {
         let blocks = &self.blocks;
@@ -127,9 +128,11 @@ impl<A: Allocator + Copy> PageTable<A> {
         blocks.list_within(first, Vpn::new(end.number() - 1), list)
     }
 
-    /// All entries with their page numbers, in ascending order. An error means that the host is out of memory.
+    /// All entries with their page numbers, in ascending order. An error means that the host is out of memory; a table
+    /// without entries takes none.
     pub fn entries(&self) -> Result<Vec<(Vpn, Entry), A>, AllocError>
         ensures all { IfOk result (λ entries. entries.items ≡ self.now) }
+        ensures asked { OnErr result (0 < length self.now) }
         ensures ordered { IsStrictlySortedBy nat_cmp (keys_of self.now) }
     {
         let mut list = Vec::new(self.alloc);

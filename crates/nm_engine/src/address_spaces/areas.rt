@@ -78,6 +78,7 @@ impl<A: Allocator + Copy> AddressSpaces<A> {
     ) -> Result<(), MachineError>
         ensures done { Makes result (mapped_of self.old) (mapped_of self.new) (range_refusal (mapped_of self.old) pid addr len) (with_policy (mapped_of self.old) pid addr len policy) }
         ensures memory { result ≡ Err MachineError.HostMemory → range_refusal (mapped_of self.old) pid addr len ≡ None }
+        ensures asked { result ≡ Err MachineError.HostMemory → 0 < len }
         ensures same { self.new ≡ with_mapped self.old (mapped_of self.new) }
     {
         self.areas.split_policy(pid, addr, len, policy)

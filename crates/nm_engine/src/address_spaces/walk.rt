@@ -2,6 +2,7 @@
 
 ghost use Rattle.std.specs.Ordering.{nat_cmp};
 ghost use Rattle.std.specs.Prelude.{All, IfNone, IfOk, IfSome, Some, true, [], length, option_map, ◌+◌, ◌-◌, ◌<◌, ◌^◌, ◌∷◌, ◌≡◌, ◌≤◌};
+ghost use Rattle.std.specs.Result.{OnErr};
 ghost use Rattle.nm_areas.specs.Lines.{lines_of};
 ghost use Rattle.nm_model.specs.definitions.PageTables.{page_here};
 ghost use Rattle.nm_model.specs.definitions.Seen.{located_in, in_frame, IsOver};
@@ -22,7 +23,8 @@ use std::alloc::{AllocError, Allocator};
 impl<A: Allocator + Copy> AddressSpaces<A> {
     /// The areas of a process, in address order.
     pub(crate) fn lines(&self, pid: Pid) -> Result<Vec<Line, A>, AllocError>
-        ensures { IfOk result (λ lines. lines.items ≡ lines_of self.now.segments self.now.areas pid) }
+        ensures lines { IfOk result (λ lines. lines.items ≡ lines_of self.now.segments self.now.areas pid) }
+        ensures asked { OnErr result (0 < length (lines_of self.now.segments self.now.areas pid)) }
     {
         self.areas.lines(pid)
     }
@@ -159,7 +161,8 @@ impl<A: Allocator + Copy> AddressSpaces<A> {
 
 /// Whether an area that begins at a page number covers another one.
 fn is_over(first: Vpn, area: Area, vpn: Vpn) -> bool
-    ensures { result ≡ true → (first ≤ vpn) × (vpn < first + area.pages) }
+    ensures over { result ≡ true → (first ≤ vpn) × (vpn < first + area.pages) }
+    ensures all { first ≤ vpn → vpn < first + area.pages → result ≡ true }
 {
     vpn.number() >= first.number() && vpn.number() - first.number() < area.pages
 }

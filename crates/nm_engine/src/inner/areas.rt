@@ -9,7 +9,7 @@ ghost use Rattle.nm_model.specs.definitions.Effect.{policy_refusal, set_policy};
 ghost use Rattle.nm_model.specs.definitions.Effect.{attach_refusal, is_range, is_unknown, map_refusal, shows_pinned, unmap_refusal};
 ghost use Rattle.nm_types.specs.declared.errno.Errno.{Errno};
 ghost use Rattle.nm_types.specs.declared.errno.Errno.TheVariants.{Esrch};
-ghost use Rattle.std.specs.Prelude.{IfOk, Some, [], false, map, true, ◌+◌, ◌/◌, ◌<◌, ◌≡◌};
+ghost use Rattle.std.specs.Prelude.{Err, IfOk, Some, [], false, map, true, ◌+◌, ◌/◌, ◌<◌, ◌≡◌};
 
 use crate::frames::Frames;
 use crate::inner::Inner;
@@ -89,6 +89,7 @@ impl<A: Allocator + Copy> Inner<A> {
         // The result and the state
         ensures done { Makes result self.old.state self.new.state (policy_refusal self.old.state pid addr len) (set_policy self.old.state pid addr len policy) }
         ensures memory { AsksLast result (policy_refusal self.old.state pid addr len) }
+        ensures asked { result ≡ Err MachineError.HostMemory → 0 < len }
 
         // Nothing else changes
         ensures same { self.new ≡ with_state self.old self.new.state }

@@ -1,6 +1,6 @@
 //! Where the pages are that a process sees.
 
-ghost use Rattle.std.specs.Prelude.{All, IfNone, IfOk, IfSome, Some, [], length, option_map, ◌+◌, ◌-◌, ◌<◌, ◌∷◌, ◌≡◌, ◌≤◌};
+ghost use Rattle.std.specs.Prelude.{All, Err, IfNone, IfOk, IfSome, Some, [], length, option_map, ◌+◌, ◌-◌, ◌<◌, ◌∷◌, ◌≡◌, ◌≤◌};
 ghost use Rattle.nm_areas.specs.Lines.{lines_of};
 ghost use Rattle.nm_engine.specs.Does.{AsksLast, Tells};
 ghost use Rattle.nm_model.specs.definitions.Seen.{located, located_between};
@@ -21,6 +21,7 @@ impl<A: Allocator + Copy> Inner<A> {
     pub(crate) fn lines(&self, pid: Pid) -> Result<Vec<Line, A>, MachineError>
         ensures told { Tells result (entries_refusal self.now.state pid) (λ lines. lines.items ≡ lines_of self.now.state.segments self.now.state.areas pid) }
         ensures memory { AsksLast result (entries_refusal self.now.state pid) }
+        ensures asked { result ≡ Err MachineError.HostMemory → 0 < length (lines_of self.now.state.segments self.now.state.areas pid) }
     {
         if self.spaces.info(pid).is_none() {
             return Err(MachineError::Refused(Errno::Esrch));

@@ -14,7 +14,7 @@ ghost use Rattle.nm_types.specs.State.{free_list};
 ghost use Rattle.nm_types.specs.declared.errno.Errno.{Errno};
 ghost use Rattle.nm_types.specs.declared.errno.Errno.TheVariants.{Esrch};
 ghost use Rattle.std.specs.Ordering.{nat_cmp};
-ghost use Rattle.std.specs.Prelude.{IfOk, Some, [], option_map, true, ◌+◌, ◌<◌, ◌≡◌, ◌≤◌};
+ghost use Rattle.std.specs.Prelude.{Err, IfOk, Some, [], length, option_map, true, ◌+◌, ◌<◌, ◌≡◌, ◌≤◌};
 
 use crate::ProcessInfo;
 use crate::inner::Inner;
@@ -60,6 +60,7 @@ impl<A: Allocator + Copy> Inner<A> {
     pub(crate) fn free_list(&self, node: NodeId) -> Result<Vec<FrameId, A>, MachineError>
         ensures told { Tells result (list_refusal self.now.state node) (λ frames. frames.items ≡ free_list self.now.state node) }
         ensures memory { AsksLast result (list_refusal self.now.state node) }
+        ensures asked { result ≡ Err MachineError.HostMemory → 0 < length (free_list self.now.state node) }
     {
         if node.index() >= self.frames.node_count() {
             return Err(MachineError::Refused(Errno::Einval));

@@ -25,6 +25,7 @@ use Rattle.nm_model.specs.definitions.Run.{Decision, Progress, moved_page, decid
 use Rattle.nm_model.specs.definitions.Sound.{OwnsItsFree}
 use Rattle.nm_laws.specs.Laws.{Agrees, moves_all, with_moves}
 use Rattle.nm_types.proofs.Maps.{page_cmp_total, exact_page, equal, get-set}
+use Rattle.nm_types.proofs.Members.{or_swap}
 use Rattle.nm_laws.proofs.OneByOne.Looks.{looks_suffice}
 
 -- the class of a page that has this place
@@ -157,12 +158,6 @@ after_move s target all m f moved i p from frame rest class front =
           ] refl;
       own = subst (AllByRecursion (λ x. node_of s.layout x ≡ target)) (sym (list_now f target frame rest front)) own.1;
     }
-
-or_swap : (a b c : Bool) → (a || (b || c)) ≡ (b || (a || c))
-or_swap true true c = refl
-or_swap true false c = refl
-or_swap false true c = refl
-or_swap false false c = refl
 
 -- at the end of the moves is as good as in front
 moved_at_end : (moved : List Taken) (t : Taken) (q : Page) → has_moved (t ∷ moved) q ≡ has_moved (moved ++ t ∷ []) q

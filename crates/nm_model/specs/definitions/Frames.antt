@@ -26,10 +26,6 @@ pub record IsOut (store : Store) (frame : ℕ) : Type 0 where
   pub in_range : frame < length store
   pub taken : slice_index_or store frame None ≡ None
 
--- each frame that is home has 4,096 bytes
-abbrev pub AllWhole : Store → Type 0
-AllWhole store = (frame : ℕ) → IsHome store frame → length (bytes_of store frame) ≡ 4096
-
 pub record Pool : Type 0 where
   -- how many frames each node owns
   pub sizes : List ℕ

@@ -1,4 +1,6 @@
-use Rattle.std.proofs.Common.{ℕ, ◌++◌, ◌∷◌, [], ap, subst, ◌∙◌, arith}
+use Rattle.std.proofs.Common.{◌≡◌, ℕ, ◌<◌, List, length, ◌++◌, ◌∷◌, [], refl, ap, subst, ◌∙◌, arith}
+use Rattle.std.specs.Prelude.{Result, Ok, Err, OnErr}
+use Rattle.std.proofs.lemmas.List.{length-append}
 use Rattle.nm_types.specs.Map.{spot_cmp}
 use Rattle.nm_types.proofs.Maps.{spot_cmp_total}
 use Rattle.nm_areas.specs.Rests.{IsRest}
@@ -6,6 +8,13 @@ use Rattle.nm_model.proofs.areas.Painted.{exact_spot}
 use Rattle.nm_areas.proofs.Rests.{rest_begins}
 use Rattle.nm_areas.proofs.Own.{lines_from, lines_begin, lines_next, lines_end}
 use Rattle.nm_areas.proofs.lines.list_lines.Goals as goal
+
+where_err : {T E P : Type 0} (r : Result T E) → P → OnErr r P
+where_err (Ok x) h = tt
+where_err (Err e) h = h
+
+some_more : {X : Type 0} (xs : List X) (x : X) (ys all : List X) → (xs ++ x ∷ []) ++ ys ≡ all → 0 < length all
+some_more xs x ys all is = omega (arith, ap length is, length-append (xs ++ x ∷ []) ys, length-append xs (x ∷ []))
 
 pub loop-first-init : goal.loop-first-init
 loop-first-init g c = record {
@@ -31,9 +40,19 @@ loop-first-preserved g c =
       );
     }
 
-pub returns : goal.returns
-returns g c =
+pub returns-clause-lines : goal.returns-clause-lines
+returns-clause-lines g c =
     let areas = c.args.areas.now.entries in
     let rest = c.loop-first.invariant.rest in
     lines_end c.args.segments.now.entries areas c.args.pid c.loop-first.lines.items rest.0
     (λ v low high. c.in_default.ensures.none areas rest.0 rest.1 v low (omega (arith, high, c.new-in-loop-first.ensures))) rest.2
+
+pub returns-in_err-push-clause-asked : goal.returns-in_err-push-clause-asked
+returns-in_err-push-clause-asked g c =
+    let segments = c.args.segments.now.entries in
+    let areas = c.args.areas.now.entries in
+    let lines = c.loop-first.lines.items in
+    let rest = c.loop-first.invariant.rest in
+    let some = c.in-Some.ensures.some areas rest.0 rest.1 in
+    let more = lines_next segments areas c.args.pid lines _ rest.0 _ _ (omega (arith, some.1, c.new-in-loop-first.ensures)) c.range-rest.ensures.ordered some.0 some.2 (c.in-Some.ensures.first areas rest.0 rest.1) refl rest.2 in
+    where_err c.from_residual.result (some_more lines _ _ _ more)

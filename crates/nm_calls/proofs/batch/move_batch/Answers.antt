@@ -7,17 +7,17 @@ use Rattle.nm_calls.proofs.batch.move_batch.Goals as goal
 
 pub move_runs-requires-clause-targets : goal.move_runs-requires-clause-targets
 move_runs-requires-clause-targets g c κs within =
-    let runs = ap stretches_of c.as_slice-runs.ensures.value ∙ c.in_ok-runs.ensures ∙ ap (cut_within c.args.limit) (c.as_slice.ensures.value ∙ c.in_ok-requests.ensures) in
+    let runs = ap stretches_of c.as_slice-runs.ensures.value ∙ c.in_ok-runs.ensures.runs ∙ ap (cut_within c.args.limit) (c.as_slice.ensures.value ∙ c.in_ok-requests.ensures) in
     targets_below _ c.args.limit c.args.pid c.args.all c.args.pages.now c.args.nodes.now c.as_slice-runs.result.now c.requires.some runs c.requires.nodes
 
 pub move_runs-requires-clause-alike : goal.move_runs-requires-clause-alike
 move_runs-requires-clause-alike g c κs within =
-    let runs = ap stretches_of c.as_slice-runs.ensures.value ∙ c.in_ok-runs.ensures ∙ ap (cut_within c.args.limit) (c.as_slice.ensures.value ∙ c.in_ok-requests.ensures) in
+    let runs = ap stretches_of c.as_slice-runs.ensures.value ∙ c.in_ok-runs.ensures.runs ∙ ap (cut_within c.args.limit) (c.as_slice.ensures.value ∙ c.in_ok-requests.ensures) in
     runs_alike c.args.limit c.args.pid c.args.all c.args.pages.now c.args.nodes.now c.as_slice-runs.result.now c.requires.some runs
 
 pub move_runs-requires-clause-room : goal.move_runs-requires-clause-room
 move_runs-requires-clause-room g c κs within =
-    let runs = ap stretches_of c.as_slice-runs.ensures.value ∙ c.in_ok-runs.ensures ∙ ap (cut_within c.args.limit) (c.as_slice.ensures.value ∙ c.in_ok-requests.ensures) in
+    let runs = ap stretches_of c.as_slice-runs.ensures.value ∙ c.in_ok-runs.ensures.runs ∙ ap (cut_within c.args.limit) (c.as_slice.ensures.value ∙ c.in_ok-requests.ensures) in
     let fit = entries_fit c.args.limit c.args.pid c.args.all c.args.pages.now c.args.nodes.now c.as_slice-runs.result.now c.requires.some runs in
     omega (arith, fit, c.in_ok-statuses.ensures.capacity)
 
@@ -32,5 +32,5 @@ returns-in_err-statuses g c = none_moved _ _ _ _ c.from_residual-in_err-statuses
 
 pub returns : goal.returns
 returns g c =
-    let runs = ap stretches_of c.as_slice-runs.ensures.value ∙ c.in_ok-runs.ensures ∙ ap (cut_within c.args.limit) (c.as_slice.ensures.value ∙ c.in_ok-requests.ensures) in
+    let runs = ap stretches_of c.as_slice-runs.ensures.value ∙ c.in_ok-runs.ensures.runs ∙ ap (cut_within c.args.limit) (c.as_slice.ensures.value ∙ c.in_ok-requests.ensures) in
     moved_same c.move_runs.result _ _ _ _ _ _ runs refl c.move_runs.ensures

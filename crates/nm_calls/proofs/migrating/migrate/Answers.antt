@@ -17,7 +17,7 @@ move_runs-requires-clause-targets g c κs within =
     let what = c.args.what in
     let ps = pairs c.args.old what.targets in
     let list = c.in_ok-requests.ensures.list ∙ ap (migrate_list s what.pid what.all) (c.as_slice.ensures.value ∙ c.in_ok-pairs.ensures.value) in
-    let runs = ap stretches_of c.as_slice-3.ensures.value ∙ c.in_ok-runs.ensures ∙ ap (cut_within c.args.limit) (c.as_slice-2.ensures.value ∙ list) in
+    let runs = ap stretches_of c.as_slice-3.ensures.value ∙ c.in_ok-runs.ensures.runs ∙ ap (cut_within c.args.limit) (c.as_slice-2.ensures.value ∙ list) in
     run_targets (node_count s.layout) c.args.limit (migrate_list s what.pid what.all ps) c.as_slice-3.result.now c.requires.some runs
     (asked_targets (λ n. n < node_count s.layout) s what.pid what.all what.targets ps c.requires.nodes c.in_ok-pairs.ensures.order.inside)
 
@@ -27,12 +27,12 @@ move_runs-requires-clause-alike g c κs within =
     let what = c.args.what in
     let ps = pairs c.args.old what.targets in
     let list = c.in_ok-requests.ensures.list ∙ ap (migrate_list s what.pid what.all) (c.as_slice.ensures.value ∙ c.in_ok-pairs.ensures.value) in
-    let runs = ap stretches_of c.as_slice-3.ensures.value ∙ c.in_ok-runs.ensures ∙ ap (cut_within c.args.limit) (c.as_slice-2.ensures.value ∙ list) in
+    let runs = ap stretches_of c.as_slice-3.ensures.value ∙ c.in_ok-runs.ensures.runs ∙ ap (cut_within c.args.limit) (c.as_slice-2.ensures.value ∙ list) in
     run_kinds c.args.limit what.all (migrate_list s what.pid what.all ps) c.as_slice-3.result.now c.requires.some runs (asked_alike s what.pid what.all ps)
 
 pub move_runs-requires-clause-room : goal.move_runs-requires-clause-room
 move_runs-requires-clause-room g c κs within =
-    let runs = ap stretches_of c.as_slice-3.ensures.value ∙ c.in_ok-runs.ensures ∙ ap (cut_within c.args.limit) c.as_slice-2.ensures.value in
+    let runs = ap stretches_of c.as_slice-3.ensures.value ∙ c.in_ok-runs.ensures.runs ∙ ap (cut_within c.args.limit) c.as_slice-2.ensures.value in
     let fit = run_entries c.args.limit c.in_ok-requests.requests.items c.as_slice-3.result.now c.requires.some runs in
     omega (arith, fit, c.in_ok-statuses.ensures.capacity)
 
@@ -55,5 +55,5 @@ returns g c =
     let s = c.args.machine.now in
     let what = c.args.what in
     let list = c.in_ok-requests.ensures.list ∙ ap (migrate_list s what.pid what.all) (c.as_slice.ensures.value ∙ c.in_ok-pairs.ensures.value) in
-    let runs = ap stretches_of c.as_slice-3.ensures.value ∙ c.in_ok-runs.ensures ∙ ap (cut_within c.args.limit) (c.as_slice-2.ensures.value ∙ list) in
+    let runs = ap stretches_of c.as_slice-3.ensures.value ∙ c.in_ok-runs.ensures.runs ∙ ap (cut_within c.args.limit) (c.as_slice-2.ensures.value ∙ list) in
     moved_same c.move_runs.result _ _ _ _ _ _ runs (ap shown_during c.as_slice-4.ensures) c.move_runs.ensures

@@ -1,6 +1,6 @@
 use Rattle.std.proofs.Common.{sym, subst, ◌∙◌, arith}
-use Rattle.nm_calls.specs.Full.{StandAmong}
-use Rattle.nm_calls.proofs.Standing.{all_would_move, among_if, none_free}
+use Rattle.nm_calls.specs.Full.{AreStanding}
+use Rattle.nm_calls.proofs.Standing.{all_would_move, standing_if, none_free}
 use Rattle.nm_calls.proofs.passes.lost_on.Goals.{in-Some, in-None}
 use Rattle.nm_calls.proofs.passes.lost_on.Goals as goal
 
@@ -13,9 +13,9 @@ returns-clause-lost g c =
     let left = c.args.left.now in
     let ws = left.wanted.items in
     let nodes = c.match-left.nodes in
-    let among : StandAmong s nodes ws = elim c.match-left.branch [
-      | in-Some w ↦ subst (λ ns. StandAmong s ns ws) (sym w.nodes-is) (among_if s left.standing w.in-Some.nodes ws c.requires.left.1 w.in-Some.is)
-      | in-None w ↦ subst (λ ns. StandAmong s ns ws) (sym w.nodes-is) (subst (StandAmong s w.standing-nodes.result) w.as_slice.ensures.value w.standing-nodes.ensures)
+    let are : AreStanding s nodes ws = elim c.match-left.branch [
+      | in-Some w ↦ subst (λ ns. AreStanding s ns ws) (sym w.nodes-is) (standing_if s left.standing w.in-Some.nodes ws c.requires.left.1 w.in-Some.is)
+      | in-None w ↦ subst (λ ns. AreStanding s ns ws) (sym w.nodes-is) (subst (AreStanding s w.standing-nodes.result) w.as_slice.ensures.value w.standing-nodes.ensures)
     ] in
     all_would_move s nodes c.args.node ws (omega (arith, c.requires.node, c.node_count.ensures.count, c.node_count.ensures.few))
-    (sym c.contains.ensures ∙ c.if-contains.false) among (c.requires.left.0 c.if-not-left.false)
+    (sym c.contains.ensures ∙ c.if-contains.false) are.all (c.requires.left.0 c.if-not-left.false)

@@ -10,17 +10,17 @@ use Rattle.nm_calls.proofs.passes.make_batch.Goals as goal
 
 pub move_runs-requires-clause-targets : goal.move_runs-requires-clause-targets
 move_runs-requires-clause-targets g c κs within =
-    let runs = ap stretches_of c.as_slice.ensures.value ∙ c.in_ok-runs.ensures in
+    let runs = ap stretches_of c.as_slice.ensures.value ∙ c.in_ok-runs.ensures.runs in
     run_targets (node_count c.args.machine.now.layout) c.args.limit c.args.requests.now c.as_slice.result.now c.requires.some runs c.requires.targets
 
 pub move_runs-requires-clause-alike : goal.move_runs-requires-clause-alike
 move_runs-requires-clause-alike g c κs within =
-    let runs = ap stretches_of c.as_slice.ensures.value ∙ c.in_ok-runs.ensures in
+    let runs = ap stretches_of c.as_slice.ensures.value ∙ c.in_ok-runs.ensures.runs in
     runs_like c.args.limit c.args.requests.now c.as_slice.result.now c.requires.some runs c.requires.alike
 
 pub move_runs-requires-clause-room : goal.move_runs-requires-clause-room
 move_runs-requires-clause-room g c κs within =
-    let runs = ap stretches_of c.as_slice.ensures.value ∙ c.in_ok-runs.ensures in
+    let runs = ap stretches_of c.as_slice.ensures.value ∙ c.in_ok-runs.ensures.runs in
     let fit = run_entries c.args.limit c.args.requests.now c.as_slice.result.now c.requires.some runs in
     omega (arith, fit, c.in_ok-statuses.ensures.capacity)
 
@@ -32,13 +32,13 @@ returns-in_err-statuses g c = none_batched _ _ _ _ c.from_residual-in_err-status
 
 pub returns-in_err-moved : goal.returns-in_err-moved
 returns-in_err-moved g c =
-    let runs = ap stretches_of c.as_slice.ensures.value ∙ c.in_ok-runs.ensures in
+    let runs = ap stretches_of c.as_slice.ensures.value ∙ c.in_ok-runs.ensures.runs in
     batch_stopped c.move_runs.result _ _ _ _ _ _ _ _ c.in_err-moved.was c.from_residual-in_err-moved.ensures.1 runs (ap shown_during c.as_slice-2.ensures) c.move_runs.ensures
 
 pub returns : goal.returns
 returns g c =
-    let runs = ap stretches_of c.as_slice.ensures.value ∙ c.in_ok-runs.ensures in
+    let runs = ap stretches_of c.as_slice.ensures.value ∙ c.in_ok-runs.ensures.runs in
     let made = moved_batch c.in_ok-moved.moved _ _ _ _ _ runs (ap shown_during c.as_slice-2.ensures) c.in_ok-moved.ensures in
-    let count = ap length c.in_ok-runs.ensures in
+    let count = ap length c.in_ok-runs.ensures.runs in
     let same = length-map {B = Stretch} c.in_ok-runs.runs.items (λ run. record { target = run.target; wanted = run.wanted.items }) in
     (made.0, (omega (arith, count, same, c.len.ensures), made.1))

@@ -2,9 +2,9 @@ use Rattle.std.proofs.Common.{sym, subst, ap, ◌∙◌}
 use Rattle.std.specs.List.{AllByRecursion}
 use Rattle.nm_model.specs.definitions.Run.{counted}
 use Rattle.nm_calls.specs.Passes.{without_frame}
-use Rattle.nm_calls.specs.Full.{StandAmong, WouldMove, pass, rounded_up}
+use Rattle.nm_calls.specs.Full.{AreStanding, WouldMove, pass, rounded_up}
 use Rattle.nm_calls.proofs.Full.{full_node_takes_none, left_would_move, runs_go_by_length}
-use Rattle.nm_calls.proofs.Standing.{among_counted, move_counted}
+use Rattle.nm_calls.proofs.Standing.{standing_counted, move_counted}
 use Rattle.nm_calls.proofs.passes.next_pass.Goals as goal
 
 pub returns-in-Some-clause-runs : goal.returns-in-Some-clause-runs
@@ -29,7 +29,7 @@ returns-in-Some-clause-left g c =
     let n = c.len-count.result in
     let is = sym c.count_failures.ensures in (
       λ tried. (x.node, subst (λ t. AllByRecursion (WouldMove t x.node) ws) is (move_counted s 0 n x.node ws c.in-Some.ensures.lost)),
-      subst (λ t. StandAmong t c.in-Some.nodes ws) is (among_counted s 0 n c.in-Some.nodes ws c.in-Some.ensures.standing),
+      subst (λ t. AreStanding t c.in-Some.nodes ws) is (standing_counted s 0 n c.in-Some.nodes ws c.in-Some.ensures.standing),
     )
 
 pub returns-clause-left : goal.returns-clause-left

@@ -24,7 +24,7 @@ unreachable-requires g c =
 pub unreachable-unreachable : goal.unreachable-unreachable
 unreachable-unreachable g c = c.unreachable.result
 
-pub returns : goal.returns
-returns g c =
+pub returns-clause-frames : goal.returns-clause-frames
+returns-clause-frames g c =
     let all : c.loop-k.k ≡ c.args.count = omega (arith, c.loop-k-test.false, c.loop-k.auto.k-end) in
     c.loop-k.invariant.copied ∙ ap (λ n. take n (list_of c.args.nodes.now c.args.node)) all

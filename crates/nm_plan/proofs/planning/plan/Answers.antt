@@ -53,8 +53,8 @@ loop-class-preserved g c =
       move_room = next_move_room c.args.classes.now c.args.free_front.now c.args.target c.loop-class.class-index c.class-item.result c.loop-class-test.true c.class-item.is c.loop-class.moves.items c.choose.new.moves.items c.in_ok-status.ensures.moves c.loop-class.moves.cap c.choose.new.moves.cap c.in_ok-status.ensures.capacity c.loop-class.invariant.move_room;
     }
 
-pub returns : goal.returns
-returns g c =
+pub returns-clause-plan : goal.returns-clause-plan
+returns-clause-plan g c =
     let past : length c.args.classes.now ≤ c.loop-class.class-index = omega arith in
     end_planned c.args.classes.now c.args.free_front.now c.args.target c.loop-class.class-index c.loop-class.statuses.items c.loop-class.moves.items c.as_slice.result.now c.shortage_of-shortage.result past
     c.loop-class.invariant.statuses c.loop-class.invariant.moves c.as_slice.ensures.value c.shortage_of-shortage.ensures

@@ -4,8 +4,8 @@ use Rattle.rayon.proofs.ToStd.{slice-map}
 use Rattle.nm_runs.specs.Shown.{class_shown}
 use Rattle.nm_runs.proofs.classes.classify.Goals as goal
 
-pub returns : goal.returns
-returns g c =
+pub returns-clause-classes : goal.returns-clause-classes
+returns-clause-classes g c =
     let slice = ap (λ it. it.base.slice.now) c.map.ensures.base ∙ ap (λ it. it.slice.now) c.with_min_len.ensures.base ∙ c.par_iter.ensures ∙ c.as_slice.ensures.value in
     let class = class_shown c.args.geometry.now (g.V.PageView.seen_at c.args.view.now) (g.V.PageView.placed_at c.args.view.now) c.args.run.now.target in
     IfOk-then c.collect.result _ _ c.collect.ensures (λ v h.

@@ -39,8 +39,8 @@ loop-wanted-preserved g c =
       room = omega (arith, left, less, c.loop-wanted.invariant.room, c.loop-wanted-test.true, c.push_reserved.ensures.len, c.push_reserved.ensures.capacity);
     }
 
-pub returns : goal.returns
-returns g c =
+pub returns-clause-classes : goal.returns-clause-classes
+returns-clause-classes g c =
     c.loop-wanted.invariant.classes
     ∙ ap (map (class_shown c.args.geometry.now (g.V.PageView.seen_at c.args.view.now) (g.V.PageView.placed_at c.args.view.now) c.args.run.now.target))
     (take_all c.loop-wanted.wanted-index c.deref-wanted-items.result.now c.loop-wanted-test.false ∙ c.deref-wanted-items.ensures.value)

@@ -46,8 +46,8 @@ overflow_add-at g c =
 pub loop-at-smaller : goal.loop-at-smaller
 loop-at-smaller g c = omega (arith, c.in_ok-run.ensures.some, c.len-at.ensures, c.in_ok-run.run'.wanted.ok.0, c.loop-at-test.true)
 
-pub returns : goal.returns
-returns g c =
+pub returns-clause-runs : goal.returns-clause-runs
+returns-clause-runs g c =
     let made = stretches_of c.loop-at.runs.items in
     let none = at_drop_all (cut_within c.args.limit) c.args.requests.now c.loop-at.at c.loop-at-test.false in
     sym (append-nil made) ∙ ap (λ rest. made ++ rest) (sym none) ∙ c.loop-at.invariant.made

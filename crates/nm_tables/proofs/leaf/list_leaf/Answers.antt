@@ -1,8 +1,9 @@
 use Rattle.std.proofs.Common.{◌≡◌, ◌+◌, ◌*◌, ◌≤◌, ◌<◌, ◌++◌, [], ◌∷◌, sym, ap, subst, ◌∙◌, arith, append-nil, append_assoc}
 use Rattle.nm_tables.specs.Leaves.{leaf_entries}
 use Rattle.nm_tables.proofs.Numbers.{is_below, is_not_below}
+use Rattle.nm_tables.proofs.Results.{where_err}
 use Rattle.nm_tables.proofs.Within.{within}
-use Rattle.nm_tables.proofs.Listed.{extended, unextended, leaf-first, leaf-next, leaf-beyond, leaf-done}
+use Rattle.nm_tables.proofs.Listed.{extended, unextended, cut_short, leaf-first, leaf-next, leaf-beyond, leaf-done}
 use Rattle.nm_tables.proofs.leaf.list_leaf.Goals as goal
 
 pub loop-place-init : goal.loop-place-init
@@ -41,3 +42,13 @@ pub returns-clause-ok : goal.returns-clause-ok
 returns-clause-ok g c =
     let l = c.loop-place in
     sym (append-nil l.list.items) ∙ ap (λ m. l.list.items ++ m) (sym (leaf-done c.args.leaf.now c.args.last l.from c.in_default.ensures.none)) ∙ l.invariant.left
+
+pub returns-in_err-push-clause-short : goal.returns-in_err-push-clause-short
+returns-in_err-push-clause-short g c =
+    let p = c.args.leaf.now in
+    let l = c.loop-place in
+    let some = c.in-Some.ensures.some in
+    let at : c.new-vpn.result ≡ p.block * 512 + c.in-Some.place = c.new-vpn.ensures in
+    let high : p.block * 512 + c.in-Some.place ≤ c.args.last = subst (λ n. n ≤ c.args.last) at (is_not_below c.args.last c.new-vpn.result c.lt.result c.lt.ensures c.if-lt.false) in
+    let next = leaf-next p c.args.last l.from c.in-Some.place c.in-Some.entry some.0 some.1 c.in-Some.ensures.first some.2 high in
+    where_err c.from_residual.result (cut_short _ l.list.items c.push.new.self.items _ _ (ap (λ m. l.list.items ++ m) (sym next) ∙ l.invariant.left) c.in_err-push.ensures.items)

@@ -70,3 +70,12 @@ take_all-requires-clause-full g c = c.close_with.ensures.values.1
 
 pub take_all-requires-clause-room : goal.take_all-requires-clause-room
 take_all-requires-clause-room g c = (c.self.invariant.empty, omega (arith, c.close_with.ensures.counts.1, c.self.invariant.slots, c.self.invariant.room_left))
+
+pub returns-then-given-slot_count-clause-fewer : goal.returns-then-given-slot_count-clause-fewer
+returns-then-given-slot_count-clause-fewer g c =
+    let own = own_is _ _ _ _ _ c.hand.inside.seat.me _ _ c.hand.view_is c.requires.own c.self.view_is in
+    let counts = c.load-given.ensures.2 in
+    let done = ap (λ (h : Holding _). length h.done) c.hand.view_is in
+    let jobs = ap (λ (b : Laying _). length b.jobs) c.self.view_is in
+    let apart = c.if-given-slot_count.true in
+    omega (arith, counts.own, counts.few, done, jobs, ap length own.1, c.self.invariant.slots, c.slot_count.ensures, apart)

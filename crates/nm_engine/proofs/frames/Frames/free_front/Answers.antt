@@ -17,4 +17,4 @@ returns g c =
     let list = list_of c.self.inside.nodes c.args.node in
     let many = c.min-count.ensures ∙ ap (λ n. min c.args.count n) c.free_count.ensures.count in
     let all = ap (λ n. take n list) many ∙ take_min c.args.count list ∙ ap (λ (v : FramesView). take c.args.count (free_on v c.args.node)) c.self.view_is in
-    IfOk-weaker c.front_of.result _ _ (λ frames front. front ∙ all) c.front_of.ensures
+    IfOk-weaker c.front_of.result _ _ (λ frames front. front ∙ all) c.front_of.ensures.frames

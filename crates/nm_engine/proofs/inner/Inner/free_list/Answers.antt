@@ -1,4 +1,4 @@
-use Rattle.std.proofs.Common.{◌≡◌, arith, ℕ, List, ap, subst, ◌∙◌}
+use Rattle.std.proofs.Common.{◌≡◌, ◌<◌, arith, ℕ, List, length, ap, subst, ◌∙◌}
 use Rattle.std.specs.Prelude.{None}
 use Rattle.nm_types.specs.State.{free_list}
 use Rattle.nm_model.specs.definitions.Effect.{list_refusal}
@@ -17,7 +17,7 @@ returns-clause-told g c =
     (list_fine (seen i.spaces.processes (table_of i.spaces) (paged_frames i.spaces i.frames) i.online i.totals.moved i.totals.failed) c.args.node (omega (arith, c.if-index-node_count.false, c.index.ensures, c.node_count.ensures.count)))
     in
     let frames : List ℕ = c.in_ok-free_list.field-0.items in
-    (fine, c.in_ok-free_list.ensures ∙ ap (λ (a : MidRun). free_list a.state c.args.node) c.self.view_is)
+    (fine, c.in_ok-free_list.ensures.frames ∙ ap (λ (a : MidRun). free_list a.state c.args.node) c.self.view_is)
 
 pub returns-in_err-free_list-clause-memory : goal.returns-in_err-free_list-clause-memory
 returns-in_err-free_list-clause-memory g c =
@@ -25,3 +25,6 @@ returns-in_err-free_list-clause-memory g c =
     may_ask c.from_residual.result (list_refusal c.args.self.now.state c.args.node)
     (subst (λ (a : MidRun). list_refusal a.state c.args.node ≡ None) c.self.view_is
     (list_fine (seen i.spaces.processes (table_of i.spaces) (paged_frames i.spaces i.frames) i.online i.totals.moved i.totals.failed) c.args.node (omega (arith, c.if-index-node_count.false, c.index.ensures, c.node_count.ensures.count))))
+
+pub returns-in_err-free_list-clause-asked : goal.returns-in_err-free_list-clause-asked
+returns-in_err-free_list-clause-asked g c = λ _. subst (λ (a : MidRun). 0 < length (free_list a.state c.args.node)) c.self.view_is c.in_err-free_list.ensures.asked

@@ -39,4 +39,4 @@ returns g c =
     let few : length c.as_slice.result.now ≤ length c.as_slice.result.now = omega arith in
     IfOk-weaker c.plan.result _ _ (λ plan h. subst (λ (x : MidRun). IsPlanOf x.state t ws plan) c.self.view_is
     (is_plan_of s t ws plan c.self.invariant.sound.order.processes (c.self.invariant.sound.frames.own t) c.requires.alike
-    (h ∙ planned_is s t (length c.as_slice.result.now) c.as_slice.result.now c.as_slice-2.result.now ws classes front few))) c.plan.ensures
+    (h ∙ planned_is s t (length c.as_slice.result.now) c.as_slice.result.now c.as_slice-2.result.now ws classes front few))) c.plan.ensures.plan

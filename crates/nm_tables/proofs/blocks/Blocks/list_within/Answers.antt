@@ -1,7 +1,8 @@
 use Rattle.std.proofs.Common.{◌+◌, ◌/◌, ◌≤◌, ◌++◌, ap, ◌∙◌, arith}
 use Rattle.nm_tables.specs.Blocks.{entries_by}
+use Rattle.nm_tables.proofs.Results.{where_err}
 use Rattle.nm_tables.proofs.Within.{within}
-use Rattle.nm_tables.proofs.Listed.{unextended, extended_by, list-start, list-step, list-end}
+use Rattle.nm_tables.proofs.Listed.{unextended, extended_by, cut_shorter, list-start, list-step, list-end}
 use Rattle.nm_tables.proofs.blocks.Blocks.list_within.Goals as goal
 
 pub loop-block-init : goal.loop-block-init
@@ -51,3 +52,14 @@ returns-clause-ok g c =
     let b = c.args.self.now in
     let l = c.loop-block in
     list-end b.leaves.items b.index c.requires.0 c.args.first c.args.last l.list.items _ l.from l.invariant.left (λ k low high. c.in_default.ensures.none k low)
+
+pub returns-in_err-list_slot-clause-short : goal.returns-in_err-list_slot-clause-short
+returns-in_err-list_slot-clause-short g c =
+    let b = c.args.self.now in
+    let l = c.loop-block in
+    let inside = c.if-block-block_of.false in
+    let number = c.block_of.ensures.number in
+    let high : c.in-Some.block ≤ c.args.last / 512 = omega (arith, inside, number) in
+    where_err c.from_residual.result
+    (cut_shorter c.list_slot.new.list.items _ _ _ c.in_err-list_slot.ensures.short
+    (list-step b.leaves.items b.index c.requires.0 c.args.first c.args.last l.list.items _ l.from l.invariant.left c.in-Some.block c.in-Some.slot c.in-Some.ensures.some.0 high c.in-Some.ensures.some.1 c.in-Some.ensures.first))

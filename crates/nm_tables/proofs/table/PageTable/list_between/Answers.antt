@@ -1,8 +1,9 @@
-use Rattle.std.proofs.Common.{◌≡◌, ◌+◌, ◌++◌, sym, ap, ◌∙◌, arith, append-nil}
+use Rattle.std.proofs.Common.{◌≡◌, ◌+◌, ◌++◌, sym, ap, subst, ◌∙◌, arith, append-nil}
 use Rattle.std.specs.Ordering.{nat_cmp}
 use Rattle.std.specs.declared.ops.Bound.TheVariants.{Included, Excluded}
 use Rattle.std.specs.BTreeMap.Range.{entries_between}
-use Rattle.nm_tables.proofs.Results.{on_ok}
+use Rattle.nm_tables.specs.Lists.{IsCutShort}
+use Rattle.nm_tables.proofs.Results.{on_ok, on_err}
 use Rattle.nm_tables.proofs.Slots.{ordered_by}
 use Rattle.nm_tables.proofs.Within.{within, within_end, none_below}
 use Rattle.nm_tables.proofs.table.PageTable.list_between.Goals as goal
@@ -29,3 +30,14 @@ returns-clause-all g c =
 
 pub returns-clause-ordered : goal.returns-clause-ordered
 returns-clause-ordered g c = ordered_by c.self.inside.blocks c.args.self.now c.self.view_is c.self.invariant
+
+pub returns-clause-short : goal.returns-clause-short
+returns-clause-short g c =
+    let is = c.number.ensures in
+    let again = c.number-2.ensures in
+    let some = c.if-number-eq0.false in
+    let made = c.new.ensures in
+    let end : c.new.result + 1 ≡ c.args.end = omega (arith, is, again, some, made) in
+    on_err c.list_within.result
+    (λ short. subst (IsCutShort c.list_within.new.list.items) (ap (λ m. c.args.list.now.items ++ m) (ap (within c.args.first c.new.result) c.self.view_is ∙ within_end c.args.first c.new.result c.args.end end c.args.self.now)) short)
+    c.list_within.ensures.short
