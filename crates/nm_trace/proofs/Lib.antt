@@ -10,3 +10,4 @@ pub mod Lines
 pub mod Least
 pub mod Told
 pub mod Trees
+pub mod Shorts

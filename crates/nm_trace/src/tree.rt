@@ -1,11 +1,11 @@
 //! A JSON text as a tree that borrows its strings and keeps its numbers as they are written, and the values at its
 //! keys.
 
-ghost use Rattle.std.specs.Prelude.{◌≡◌, ◌<◌, ◌==◌, ◌^◌, length, slice_index, true, false, Some, is_some, option_map, option_and_then, IsTrue, IfOk, IfErr};
+ghost use Rattle.std.specs.Prelude.{◌≡◌, ◌<◌, ◌==◌, ◌^◌, length, slice_index, true, false, Some, is_some, option_map, option_and_then, IsTrue, IfSome, IfOk, IfErr};
 ghost use Rattle.fast_float.specs.Text.{minus};
 ghost use Rattle.json.specs.Json as grammar;
 ghost use Rattle.json.specs.Value.{value_view, items_view as json_items, members_view as json_members};
-ghost use Rattle.serde_json.specs.Data.{no_members};
+ghost use Rattle.serde_json.specs.Data.{no_members, unsigned};
 ghost use Rattle.serde_json.specs.Find.{get, as_number, as_u64, as_bool, as_str, as_array};
 ghost use Rattle.serde_json.specs.Read.{number_of, number_from, of_json, of_items, of_members, read};
 ghost use Rattle.nm_trace.specs.Tree.{view, items_view};
@@ -23,6 +23,9 @@ use std::alloc::{Allocator, Global};
 
 /// How deep lists and objects may nest.
 const MAX_DEPTH: usize = 127;
+
+/// As many digits as these write a number below 2^64.
+const SHORT_DIGITS: usize = 19;
 
 /// The tree of all that a reader reads. `Bad` if that is not one value.
 fn next_tree<'a>(heap: Global, reader: &mut Reader<'a>) -> Result<Value<'a>, StepError>
@@ -109,14 +112,36 @@ fn is_negative(number: &str) -> bool
     !bytes.is_empty() && bytes[0] == b'-'
 }
 
+/// The number that one to 19 digits write. None where the bytes are more, or something else.
+fn short_of(bytes: &[u8]) -> Option<u64>
+    ensures { IfSome result (λ n. number_of bytes.now ≡ Some (unsigned n)) }
+{
+    if bytes.is_empty() || bytes.len() > SHORT_DIGITS {
+        return None;
+    }
+    let mut number = 0;
+    for byte in bytes {
+        let digit = byte.wrapping_sub(b'0');
+        if digit > 9 {
+            return None;
+        }
+        number = number * 10 + u64::from(digit);
+    }
+    Some(number)
+}
+
 /// The whole number below 2^64 that a JSON number gives, without point and exponent.
 fn whole_of(number: &str) -> Option<u64>
     ensures { result ≡ option_and_then as_u64 (number_of number.now) }
 {
+    let bytes = number.as_bytes();
+    if let Some(short) = short_of(bytes) {
+        return Some(short);
+    }
     if is_negative(number) {
         None
     } else {
-        whole_from(&Numeral::scan(number.as_bytes()))
+        whole_from(&Numeral::scan(bytes))
     }
 }
 
@@ -151,7 +176,9 @@ fn is_in_range(number: &str) -> bool
     ensures { result ≡ is_some (number_of number.now) }
 {
     let bytes = number.as_bytes();
-    if is_negative(number) {
+    if short_of(bytes).is_some() {
+        true
+    } else if is_negative(number) {
         is_in_range_below_zero(&Numeral::scan(&bytes[1..]))
     } else {
         is_in_range_above_zero(&Numeral::scan(bytes))

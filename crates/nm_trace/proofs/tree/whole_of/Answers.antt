@@ -10,5 +10,5 @@ returns-then-is_negative c = sym (ap (option_and_then as_u64) (behind_minus c.ar
 
 pub returns-else-is_negative : goal.returns-else-is_negative
 returns-else-is_negative c =
-    let scanned = c.scan.ensures.parts ∙ ap scan c.as_bytes.ensures.value in
+    let scanned = c.scan.ensures.parts ∙ ap scan c.as_bytes-bytes.ensures.value in
     c.whole_from.ensures ∙ ap (λ p. option_and_then as_u64 (number_from false p)) scanned ∙ ap (option_and_then as_u64) (sym (without_minus c.args.number.now (sym c.if-is_negative.ensures.value)))
