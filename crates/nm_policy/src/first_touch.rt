@@ -1,6 +1,6 @@
 //! Where new pages are placed.
 
-ghost use Rattle.std.specs.Prelude.{◌≡◌, ℕ, List, ◌&&◌, IfOk, find};
+ghost use Rattle.std.specs.Prelude.{◌≡◌, ℕ, List, ◌&&◌, ◌<◌, length, IfOk, OnErr, find};
 ghost use Rattle.std.specs.List.{filter};
 ghost use Rattle.nm_types.specs.Layout.{Layout};
 ghost use Rattle.nm_types.specs.Nodes.{is_in};
@@ -42,7 +42,7 @@ fn way(home: NodeId, allowed: NodeMask, policy: Policy, index: u64) -> (NodeId, 
 /// distance from home, PREFERRED by distance from its node, and INTERLEAVE by distance from the node whose turn it is,
 /// number (`index` mod how many they are) of its set, all three over the allowed nodes. BIND goes over its own nodes
 /// alone, by distance from home. As set_mempolicy(2) and mbind(2) have it; the orders are this project's own. An error
-/// means that the host is out of memory.
+/// means that the host is out of memory; where no node is online, none is asked for.
 pub fn first_touch_order<A: Allocator + Copy>(
     alloc: A,
     geometry: &Geometry<A>,
@@ -52,7 +52,8 @@ pub fn first_touch_order<A: Allocator + Copy>(
     policy: Policy,
     index: u64,
 ) -> Result<Vec<NodeId, A>, AllocError>
-    ensures { IfOk result (λ order. order.items ≡ first_touch_order geometry.now online home allowed policy index) }
+    ensures order { IfOk result (λ order. order.items ≡ first_touch_order geometry.now online home allowed policy index) }
+    ensures asked { OnErr result (0 < length online) }
 {
     let (from, kept) = way(home, allowed, policy, index);
     let mut order = zonelist(alloc, geometry, online, from)?;

@@ -1,6 +1,6 @@
 //! Which nodes pages leave for which.
 
-ghost use Rattle.std.specs.Prelude.{◌≡◌, IfOk, OnOk};
+ghost use Rattle.std.specs.Prelude.{◌≡◌, ◌<◌, length, IfOk, OnOk, OnErr};
 ghost use Rattle.nm_policy.specs.Pairs.{stays, moving, next_pair, pairs, PairsAreInOrder};
 
 use crate::first_touch::turn;
@@ -29,7 +29,8 @@ fn moving<A: Allocator + Copy>(
     old: NodeMask,
     new: NodeMask,
 ) -> Result<Vec<Pair, A>, AllocError>
-    ensures { IfOk result (λ found. found.items ≡ moving old new) }
+    ensures value { IfOk result (λ found. found.items ≡ moving old new) }
+    ensures asked { OnErr result (0 < length old) }
 {
     let mut pairs = Vec::with_capacity(alloc, old.len())?;
     if new.is_empty() {
@@ -66,7 +67,7 @@ fn next_pair(pairs: &[Pair], remaining: NodeMask) -> Option<Pair>
 /// At first every node of `old` is still to be left, also one that keeps its pages. Of the pairs that remain, by source
 /// upwards, the first whose target is not still to be left comes next, or the last pair if there is none; then its
 /// source is left. So a chain of nodes is emptied from its end. There is no pair where one of the sets is empty. An
-/// error means that the host is out of memory.
+/// error means that the host is out of memory; where no node is to be left, none is asked for.
 pub fn pairs<A: Allocator + Copy>(
     alloc: A,
     old: NodeMask,
@@ -74,6 +75,7 @@ pub fn pairs<A: Allocator + Copy>(
 ) -> Result<Vec<Pair, A>, AllocError>
     ensures value { IfOk result (λ found. found.items ≡ pairs old new) }
     ensures order { OnOk result (PairsAreInOrder old new) }
+    ensures asked { OnErr result (0 < length old) }
 {
     let mut left = moving(alloc, old, new)?;
     let mut pairs = Vec::with_capacity(alloc, old.len())?;
