@@ -1,9 +1,10 @@
 //! The machine.
 
-ghost use Rattle.std.specs.Prelude.{◌≡◌, ◌<◌, ◌≤◌, ◌+◌, ◌-◌, [], ◌∷◌, map, true, length, nat_le, All, Some, Err, IfOk, IfSome, IfNone, OnOk, OnErr, option_map};
+ghost use Rattle.std.specs.Prelude.{◌≡◌, ◌<◌, ◌≤◌, ◌+◌, ◌-◌, ◌/◌, [], ◌∷◌, map, true, length, nat_le, All, Some, Err, IfOk, IfSome, IfNone, OnOk, OnErr, option_map};
 ghost use Rattle.std.specs.List.{list_any};
 ghost use Rattle.std.specs.Ordering.{nat_cmp};
 ghost use Rattle.nm_types.specs.declared.page.Page.{Page};
+ghost use Rattle.nm_types.specs.declared.sight.Sight.TheVariants.{Sees};
 ghost use Rattle.nm_types.specs.Map.{get, page_cmp};
 ghost use Rattle.nm_types.specs.Layout.{node_count, node_of};
 ghost use Rattle.nm_types.specs.Nodes.{is_in};
@@ -16,7 +17,7 @@ ghost use Rattle.nm_model.specs.definitions.Effect.{new_machine, set_online, spa
 ghost use Rattle.nm_model.specs.definitions.Effect.{spawn_refusal, map_refusal, attach_refusal, pin_refusal, unpin_refusal, unmap_refusal, exit_refusal, list_refusal, entries_refusal};
 ghost use Rattle.nm_model.specs.definitions.Effect.{policy_refusal, set_policy};
 ghost use Rattle.nm_areas.specs.Lines.{lines_of};
-ghost use Rattle.nm_model.specs.definitions.Seen.{users};
+ghost use Rattle.nm_model.specs.definitions.Seen.{sight_at, users};
 ghost use Rattle.nm_runs.specs.Targets.{Checks};
 ghost use Rattle.nm_model.specs.definitions.PageTables.{entries_of};
 ghost use Rattle.nm_model.specs.definitions.Seen.{located_between, placed_on};
@@ -302,10 +303,11 @@ impl<A: Allocator + Copy + Send + Sync> Machine<A> {
     /// (numa(7)).
     ///
     /// Errors, in order: ESRCH, EINVAL and EFAULT as for `read`; ENOMEM if the page needs a frame and no node that may
-    /// give one has any. A refused write changes nothing.
+    /// give one has any. A refused write changes nothing. A write to a page that the process sees does not allocate.
     pub fn write(&mut self, pid: Pid, addr: u64, bytes: &[u8]) -> Result<(), MachineError>
         ensures answer { Accesses result (λ done. Done) self.old self.new (write self.old pid addr bytes.now) }
         ensures memory { AsksLast result (spot_refusal self.old pid addr (length bytes.now)) }
+        ensures asked { result ≡ Err MachineError.HostMemory → (page : Page) → sight_at self.old pid (addr / 4096) ≡ Some (Sees page) → ⊥ }
     {
         self.inner.write(pid, addr, bytes)
     }

@@ -1,6 +1,6 @@
 //! Where new pages are placed.
 
-ghost use Rattle.std.specs.Prelude.{◌≡◌, ℕ, List, ◌&&◌, IfOk, find};
+ghost use Rattle.std.specs.Prelude.{◌≡◌, ℕ, List, ◌&&◌, ◌<◌, length, IfOk, OnErr, find};
 ghost use Rattle.std.specs.List.{filter};
 ghost use Rattle.nm_types.specs.Layout.{Layout};
 ghost use Rattle.nm_types.specs.Nodes.{is_in};
@@ -43,7 +43,7 @@ fn way(home: NodeId, allowed: NodeMask, policy: Policy, index: u64) -> (NodeId, 
 /// distance from home, PREFERRED by distance from its node, and INTERLEAVE by distance from the node of its set whose
 /// turn it is, number (`index` mod the size of the set), counted from 0; all three use the allowed nodes only. BIND
 /// uses its own nodes only, by distance from home. This follows set_mempolicy(2) and mbind(2); the orders are this
-/// project's own. An error means that the host is out of memory.
+/// project's own. An error means that the host is out of memory; if no node is online, none is asked for.
 pub fn first_touch_order<A: Allocator + Copy>(
     alloc: A,
     geometry: &Geometry<A>,
@@ -53,7 +53,8 @@ pub fn first_touch_order<A: Allocator + Copy>(
     policy: Policy,
     index: u64,
 ) -> Result<Vec<NodeId, A>, AllocError>
-    ensures { IfOk result (λ order. order.items ≡ first_touch_order geometry.now online home allowed policy index) }
+    ensures order { IfOk result (λ order. order.items ≡ first_touch_order geometry.now online home allowed policy index) }
+    ensures asked { OnErr result (0 < length online) }
 {
     let (from, kept) = way(home, allowed, policy, index);
     let mut order = zonelist(alloc, geometry, online, from)?;

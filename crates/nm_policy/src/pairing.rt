@@ -1,6 +1,6 @@
 //! Which nodes' pages go to which nodes.
 
-ghost use Rattle.std.specs.Prelude.{◌≡◌, IfOk, OnOk};
+ghost use Rattle.std.specs.Prelude.{◌≡◌, ◌<◌, length, IfOk, OnOk, OnErr};
 ghost use Rattle.nm_policy.specs.Pairs.{stays, moving, next_pair, pairs, PairsAreInOrder};
 
 use crate::first_touch::turn;
@@ -29,7 +29,8 @@ fn moving<A: Allocator + Copy>(
     old: NodeMask,
     new: NodeMask,
 ) -> Result<Vec<Pair, A>, AllocError>
-    ensures { IfOk result (λ found. found.items ≡ moving old new) }
+    ensures value { IfOk result (λ found. found.items ≡ moving old new) }
+    ensures asked { OnErr result (0 < length old) }
 {
     let mut pairs = Vec::with_capacity(alloc, old.len())?;
     if new.is_empty() {
@@ -66,7 +67,7 @@ fn next_pair(pairs: &[Pair], remaining: NodeMask) -> Option<Pair>
 /// At first every node of `old` is still to be emptied, even one that keeps its pages. Of the pairs left, in ascending
 /// order of source, the next is the first whose target is not still to be emptied, or the last pair if there is none;
 /// its source is then emptied. So a chain of nodes is emptied from its end. There are no pairs if either set is empty.
-/// An error means that the host is out of memory.
+/// An error means that the host is out of memory; if `old` is empty, none is asked for.
 pub fn pairs<A: Allocator + Copy>(
     alloc: A,
     old: NodeMask,
@@ -74,6 +75,7 @@ pub fn pairs<A: Allocator + Copy>(
 ) -> Result<Vec<Pair, A>, AllocError>
     ensures value { IfOk result (λ found. found.items ≡ pairs old new) }
     ensures order { OnOk result (PairsAreInOrder old new) }
+    ensures asked { OnErr result (0 < length old) }
 {
     let mut left = moving(alloc, old, new)?;
     let mut pairs = Vec::with_capacity(alloc, old.len())?;

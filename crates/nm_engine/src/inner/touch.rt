@@ -1,6 +1,6 @@
 //! Reads and writes.
 
-ghost use Rattle.std.specs.Prelude.{◌≡◌, ◌+◌, ◌/◌, ◌%◌, ◌≤◌, ◌++◌, true, length, replicate, vec_len, vec_capacity, Ok, Err, Some, None, IfOk, IfErr, IfNone, IsSome};
+ghost use Rattle.std.specs.Prelude.{◌≡◌, ◌+◌, ◌/◌, ◌%◌, ◌≤◌, ◌++◌, true, length, replicate, vec_len, vec_capacity, Ok, Err, Some, None, IfOk, IfErr, IfNone, IsSome, OnErr};
 ghost use Rattle.std.specs.Ordering.{nat_cmp};
 ghost use Rattle.nm_types.specs.declared.page.Page.{Page};
 ghost use Rattle.nm_types.specs.declared.sight.Sight.TheVariants.{Sees, ZeroPage};
@@ -42,6 +42,7 @@ impl<A: Allocator + Copy> Inner<A> {
     pub(crate) fn write(&mut self, pid: Pid, addr: u64, bytes: &[u8]) -> Result<(), MachineError>
         ensures answer { Accesses result (λ done. Done) self.old.state self.new.state (write self.old.state pid addr bytes.now) }
         ensures memory { AsksLast result (spot_refusal self.old.state pid addr (length bytes.now)) }
+        ensures asked { result ≡ Err MachineError.HostMemory → (page : Page) → sight_at self.old.state pid (addr / 4096) ≡ Some (Sees page) → ⊥ }
         ensures same { self.new ≡ with_state self.old self.new.state }
     {
         let resolved = self.resolve(pid, addr, bytes.len() as u64)?;
@@ -88,7 +89,7 @@ impl<A: Allocator + Copy> Inner<A> {
     }
 
     /// What a read or a write does before it reaches the bytes. Returns the frame of the page that the process then
-    /// sees, or None if that is the page of zeros.
+    /// sees, or None if that is the page of zeros. If it sees a page before, nothing is refused.
     pub(crate) fn touch(
         &mut self,
         t: Resolved,
@@ -103,6 +104,7 @@ impl<A: Allocator + Copy> Inner<A> {
         ensures frame { IfOk result (λ frame. frame ≡ frame_seen self.new.state t.pid t.vpn) }
         ensures some { IfOk result (λ frame. writes ≡ true → IsSome frame) }
         ensures zeros { IfOk result (λ frame. IfNone frame (sight_at self.new.state t.pid t.vpn ≡ Some ZeroPage)) }
+        ensures asked { OnErr result ((page : Page) → sight_at self.old.state t.pid t.vpn ≡ Some (Sees page) → ⊥) }
 
         // Nothing else changes
         ensures same { self.new ≡ with_state self.old self.new.state }

@@ -10,5 +10,5 @@ prove-unreachable-requires g c =
 
 pub returns-clause-few : goal.returns-clause-few
 returns-clause-few g c =
-    subst (λ l. length l ≤ 64) (sym c.in_ok-order.ensures)
+    subst (λ l. length l ≤ 64) (sym c.in_ok-order.ensures.order)
     (tried_few c.geometry.result.now c.online-online.result c.args.home c.args.nodes (set_is_few c.online-online.result c.len.ensures.nodes))

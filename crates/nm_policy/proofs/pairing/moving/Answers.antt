@@ -44,17 +44,17 @@ all_made old (m ∷ new) [] k b ps e h f made =
     sym (append-nil ps) ∙ (made ∙ ap (λ (z : Bool). cond z [] (movers old (m ∷ new) (dealt 0 old (m ∷ new)))) (sym some))
 all_made old (m ∷ new) (x ∷ rest) k b ps e h f made = absurd (cc)
 
-pub returns-in_err-pairs : goal.returns-in_err-pairs
-returns-in_err-pairs g c = IfOk-from_err _ _ c.from_residual.ensures.0
+pub returns-in_err-pairs-clause-value : goal.returns-in_err-pairs-clause-value
+returns-in_err-pairs-clause-value g c = IfOk-from_err _ _ c.from_residual.ensures.0
 
-pub returns-then-is_empty : goal.returns-then-is_empty
-returns-then-is_empty g c = c.in_ok-pairs.ensures.items ∙ ap (λ n. moving c.args.old n) (sym (c.is_empty.ensures.0 c.if-is_empty.true))
+pub returns-then-is_empty-clause-value : goal.returns-then-is_empty-clause-value
+returns-then-is_empty-clause-value g c = c.in_ok-pairs.ensures.items ∙ ap (λ n. moving c.args.old n) (sym (c.is_empty.ensures.0 c.if-is_empty.true))
 
 pub loop-from-init : goal.loop-from-init
 loop-from-init g c = record { counted = omega arith; made = ap (λ l. l ++ movers c.args.old c.args.new (dealt 0 c.args.old c.args.new)) c.in_ok-pairs.ensures.items }
 
-pub returns-in_err-push : goal.returns-in_err-push
-returns-in_err-push g c = IfOk-from_err _ _ c.from_residual-in_err-push.ensures.0
+pub returns-in_err-push-clause-value : goal.returns-in_err-push-clause-value
+returns-in_err-push-clause-value g c = IfOk-from_err _ _ c.from_residual-in_err-push.ensures.0
 
 pub loop-from-smaller : goal.loop-from-smaller
 loop-from-smaller g c = omega (arith, one_less c.loop-from.rest c.take_first.new.self c.in-Some.from c.in-Some.ensures.first c.in-Some.ensures.rest)
@@ -74,5 +74,5 @@ loop-from-preserved g c =
           ]);
     }
 
-pub returns : goal.returns
-returns g c = all_made c.args.old c.args.new c.loop-from.rest c.loop-from.index c.is_empty.result c.loop-from.pairs.items c.in_default.ensures.first c.is_empty.ensures.1 c.if-is_empty.false c.loop-from.invariant.made
+pub returns-clause-value : goal.returns-clause-value
+returns-clause-value g c = all_made c.args.old c.args.new c.loop-from.rest c.loop-from.index c.is_empty.result c.loop-from.pairs.items c.in_default.ensures.first c.is_empty.ensures.1 c.if-is_empty.false c.loop-from.invariant.made

@@ -17,6 +17,7 @@ use Rattle.nm_engine.proofs.Together.Touches.{inside, outside, not_none, seen_ke
 use Rattle.nm_laws.proofs.Seen.Frames.{none_sees, zero_sees}
 use Rattle.nm_engine.specs.AddressSpaces.{SpacesView, table_of, with_seen}
 use Rattle.nm_engine.specs.Shown.{paged_frames}
+use Rattle.nm_engine.proofs.Tied.Tabled.{on_any}
 use Rattle.nm_engine.proofs.inner.HandedOn.{touch_handed_on, nothing_touched}
 use Rattle.nm_engine.proofs.inner.Inner.touch.Goals as goal
 
@@ -228,3 +229,16 @@ pub invariant_of-self : goal.invariant_of-self
 invariant_of-self g c =
     let i = c.self.inside in
     subst (λ (z : SpacesView). IsKept (shown_by z i.frames i.online i.totals.moved i.totals.failed) i.frames.vacated z.frames) (sym c.in_err-see_zero-in-None.ensures.err) c.self.invariant
+
+-- memory is refused only where no page is seen
+pub returns-in_err-fill-in-Some-ZeroPage-clause-asked : goal.returns-in_err-fill-in-Some-ZeroPage-clause-asked
+returns-in_err-fill-in-Some-ZeroPage-clause-asked g c = on_any c.from_residual.result (zero_sees (outside _ _ _ _ c.self.view_is (λ z. sight_at z c.args.t.pid c.args.t.vpn ≡ Some ZeroPage) (sym c.sight.ensures ∙ c.in-Some-ZeroPage.is ∙ ap Some c.in-Some-ZeroPage.field-0-is)))
+
+pub returns-in_err-fill-in-None-clause-asked : goal.returns-in_err-fill-in-None-clause-asked
+returns-in_err-fill-in-None-clause-asked g c = on_any c.from_residual-in_err-fill-in-None.result (none_sees (outside _ _ _ _ c.self.view_is (λ z. sight_at z c.args.t.pid c.args.t.vpn ≡ None) (sym c.sight.ensures ∙ c.in-None.is)))
+
+pub returns-in_err-see_zero-in-None-clause-asked : goal.returns-in_err-see_zero-in-None-clause-asked
+returns-in_err-see_zero-in-None-clause-asked g c = on_any c.from_residual-in_err-see_zero-in-None.result (none_sees (outside _ _ _ _ c.self.view_is (λ z. sight_at z c.args.t.pid c.args.t.vpn ≡ None) (sym c.sight.ensures ∙ c.in-None.is)))
+
+pub returns-in_err-join-in-None-clause-asked : goal.returns-in_err-join-in-None-clause-asked
+returns-in_err-join-in-None-clause-asked g c = on_any c.from_residual-in_err-join-in-None.result (none_sees (outside _ _ _ _ c.self.view_is (λ z. sight_at z c.args.t.pid c.args.t.vpn ≡ None) (sym c.sight.ensures ∙ c.in-None.is)))
