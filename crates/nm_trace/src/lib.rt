@@ -1,6 +1,8 @@
 //! Traces: bytes to the calls that their steps ask for, and the calls to the report on them.
 #![tactic(auto)]
 
+mod block;
+mod closed;
 pub mod laws;
 mod parsing;
 mod playing;
