@@ -27,4 +27,4 @@ pub use call_error::CallError;
 pub use nm_engine::{AccessAnswer, Totals};
 pub use nm_types::Access;
 pub use system::System;
-pub use words::{push_address, push_number};
+pub use words::{ADDRESS_BYTES, write_address};

@@ -9,10 +9,10 @@ use std::alloc::{AllocError, Allocator};
 use std::str::from_utf8_unchecked;
 
 /// Room for the text of an address: the sixteen digits that a number of 64 bits has at most, and three zeros.
-const ADDRESS_BYTES: usize = 19;
+pub const ADDRESS_BYTES: usize = 19;
 
 /// Appends a word and a number.
-pub fn push_number<A: Allocator>(
+pub(crate) fn push_number<A: Allocator>(
     line: &mut String<A>,
     word: &str,
     number: u64,
@@ -55,7 +55,7 @@ fn write_digits(number: u64, text: &mut [u8; ADDRESS_BYTES]) -> usize
 }
 
 /// The address at which a page begins, as at least eight hexadecimal digits, which are written at the end of `text`.
-fn write_address(vpn: Vpn, text: &mut [u8; ADDRESS_BYTES]) -> &str
+pub fn write_address(vpn: Vpn, text: &mut [u8; ADDRESS_BYTES]) -> &str
     ensures { result.now ≡ address_text vpn }
 {
     *text = [b'0'; ADDRESS_BYTES];
@@ -67,7 +67,7 @@ fn write_address(vpn: Vpn, text: &mut [u8; ADDRESS_BYTES]) -> &str
 }
 
 /// Appends the address at which a page begins, in at least eight hexadecimal digits.
-pub fn push_address<A: Allocator>(line: &mut String<A>, vpn: Vpn) -> Result<(), AllocError>
+pub(crate) fn push_address<A: Allocator>(line: &mut String<A>, vpn: Vpn) -> Result<(), AllocError>
     ensures { OnOk result (string_bytes line.new ≡ string_bytes line.old ++ address_text vpn) }
 {
     let mut text = [0; ADDRESS_BYTES];

@@ -7,7 +7,7 @@ use Rattle.nm_calls.specs.Systems.{SystemState}
 use Rattle.nm_calls.specs.Calls.{Call}
 use Rattle.nm_calls.specs.Outcome.{Outcome, outcome}
 use Rattle.nm_trace.specs.Report.{text_of, report_from, state_after}
-use Rattle.nm_trace.specs.Played.{BreaksOff, HandsOn}
+use Rattle.nm_trace.specs.Played.{BreaksOff}
 use Rattle.nm_trace.proofs.Known.{appends_more}
 
 pub report_append : (k : ℕ) (s : SystemState) (xs ys : List Call) → report_from k s (xs ++ ys) ≡ report_from k s xs ++ report_from (k + length xs) (state_after s xs) ys
@@ -40,12 +40,6 @@ module _ (s : SystemState) (calls : List Call) (k : ℕ) (call : Call) (lt : k <
       ∙ (ap (λ (ls : List ℕ). report_from 0 s (take k calls) ++ ls) (append-nil (line (0 + length (take k calls))))
       ∙ ap (λ (j : ℕ). report_from 0 s (take k calls) ++ line j) len))
 
-  -- what is written, and what waits with the next line
-  pub waiting_more : (text before after : List ℕ) → text ++ before ≡ report_from 0 s (take k calls) → after ≡ before ++ text_of k call (outcome (state_after s (take k calls)) call).answer → text ++ after ≡ report_from 0 s (take (k + 1) calls)
-  waiting_more text before after e is =
-      let line = text_of k call (outcome (state_after s (take k calls)) call).answer in
-      ap (λ (ls : List ℕ). text ++ ls) is ∙ sym (append_assoc text before line) ∙ ap (λ (ls : List ℕ). ls ++ line) e ∙ sym report_more
-
 -- the report on some first calls is a front of the report
 pub report_front : (s : SystemState) (calls : List Call) (k : ℕ) → (rest : List ℕ) × (report_from 0 s (take k calls) ++ rest ≡ report_from 0 s calls)
 report_front s calls k = (_, sym (report_append 0 s (take k calls) (drop k calls)) ∙ ap (report_from 0 s) (take-append-drop k calls))
@@ -54,11 +48,6 @@ report_front s calls k = (_, sym (report_append 0 s (take k calls) (drop k calls
 pub broken_off : (a b c : Option (List ℕ)) (text waiting whole : List ℕ) → text ++ waiting ≡ whole → Appends a b text → BreaksOff b c waiting → BreaksOff a c whole
 broken_off a b c text waiting whole e p q =
     (text ++ q.0, q.1, append_assoc text q.0 q.1 ∙ ap (λ (ls : List ℕ). text ++ ls) q.2 ∙ e, q.3, appends_more a b c text q.0 p q.4)
-
--- what is written, and what waited and is handed on
-pub handed_on : (a b c : Option (List ℕ)) (text before after whole : List ℕ) → text ++ before ≡ whole → Appends a b text → HandsOn b c before after → (more : List ℕ) × (more ++ after ≡ whole) × Appends a c more
-handed_on a b c text before after whole e p q =
-    (text ++ q.0, append_assoc text q.0 after ∙ ap (λ (ls : List ℕ). text ++ ls) q.1 ∙ e, appends_more a b c text q.0 p q.2)
 
 -- what is written, and what waited and is written whole
 pub written_whole : (a b c : Option (List ℕ)) (text waiting whole : List ℕ) → text ++ waiting ≡ whole → Appends a b text → Appends b c waiting → Appends a c whole

@@ -1,7 +1,6 @@
 pub mod Each
 pub mod Sessions
 pub mod Utf8
-pub mod Texts
 pub mod Known
 pub mod InParts
 pub mod FromBytes
@@ -11,3 +10,4 @@ pub mod Least
 pub mod Told
 pub mod Trees
 pub mod Shorts
+pub mod Waits

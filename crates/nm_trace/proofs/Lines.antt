@@ -1,12 +1,67 @@
--- The lines of accesses, one after another.
-use Rattle.std.proofs.Common.{◌≡◌, ℕ, suc, ◌+◌, ◌<◌, ◌≤◌, List, [], ◌∷◌, ◌++◌, length, get_or, drop, map, refl, sym, ap, ◌∙◌, append_assoc, add-one, drop-cons}
-use Rattle.std.proofs.lemmas.List.{append-nil, drop_all}
+-- Pieces of text, one after another.
+use Rattle.std.proofs.Common.{◌≡◌, ℕ, suc, ◌+◌, ◌<◌, ◌≤◌, List, [], ◌∷◌, ◌++◌, length, get_or, take, drop, map, length-take, ◌/◌, ◌%◌, arith, refl, sym, ap, ◌∙◌, append_assoc, add-one, drop-cons}
+use Rattle.std.proofs.lemmas.List.{append-nil, drop_all, flat_map_more, take_more}
+use Rattle.std.proofs.Math.Seq.{take-add}
+use Rattle.std.specs.List.{flat_map}
+use Rattle.std.specs.Prelude.{slice_index}
+use Rattle.hex.specs.Hex.{encode_with, encode_lower}
 use Rattle.nm_model.specs.definitions.Touch.{AccessAnswer}
 use Rattle.nm_engine.specs.Answering.{access_shown, answer_shown}
 use Rattle.nm_engine.specs.declared.answered.AccessAnswer.{AccessAnswer as Given}
 use Rattle.nm_calls.specs.declared.call.InFlight.{InFlight}
 use Rattle.nm_calls.specs.Batch.{shown_during}
 use Rattle.nm_trace.specs.Report.{access_line, access_lines}
+
+-- the list up to a place, and the item there
+to_place : {X : Type 0} (xs : List X) (i : ℕ) (x : X) → i < length xs → x ≡ get_or xs i x → take (i + 1) xs ≡ take i xs ++ x ∷ []
+to_place xs i x lt is = take_more xs i x lt ∙ ap (λ y. take i xs ++ y ∷ []) (sym is)
+
+-- one more item
+pub next_piece : {X : Type 0} (f : X → List ℕ) (xs : List X) (i : ℕ) (x : X) (piece : List ℕ) → i < length xs → x ≡ get_or xs i x → piece ≡ f x
+    → flat_map f (take i xs) ++ piece ≡ flat_map f (take (i + 1) xs)
+next_piece f xs i x piece lt is e =
+    ap (λ p. flat_map f (take i xs) ++ p) e ∙ flat_map_more f [] (take i xs) x ∙ ap (flat_map f) (sym (to_place xs i x lt is))
+
+-- the same, as a number is read
+pub next_read : {X : Type 0} (f : X → List ℕ) (xs : List X) (i : ℕ) (d : X) (piece : List ℕ) → i < length xs → piece ≡ f (get_or xs i d)
+    → flat_map f (take i xs) ++ piece ≡ flat_map f (take (i + 1) xs)
+next_read f xs i d piece lt e =
+    ap (λ p. flat_map f (take i xs) ++ p) e ∙ flat_map_more f [] (take i xs) (get_or xs i d) ∙ ap (flat_map f) (sym (take_more xs i d lt))
+
+map_end : {X Y : Type 0} (h : X → Y) (xs : List X) (x : X) → map h (xs ++ x ∷ []) ≡ map h xs ++ h x ∷ []
+map_end h [] x = refl
+map_end h (y ∷ ys) x = ap (λ t. h y ∷ t) (map_end h ys x)
+
+-- one more item, as it is seen
+pub next_shown : {X Y : Type 0} (h : X → Y) (f : Y → List ℕ) (xs : List X) (i : ℕ) (x : X) (piece : List ℕ) → i < length xs → x ≡ get_or xs i x → piece ≡ f (h x)
+    → flat_map f (map h (take i xs)) ++ piece ≡ flat_map f (map h (take (i + 1) xs))
+next_shown h f xs i x piece lt is e =
+    ap (λ p. flat_map f (map h (take i xs)) ++ p) e ∙ flat_map_more f [] (map h (take i xs)) (h x)
+    ∙ ap (flat_map f) (sym (ap (map h) (to_place xs i x lt is) ∙ map_end h (take i xs) x))
+
+-- ---- bytes
+
+pub no_digits : encode_lower [] ≡ []
+unfolding encode_with
+no_digits = refl
+
+encode_append : (t xs ys : List ℕ) → encode_with t (xs ++ ys) ≡ encode_with t xs ++ encode_with t ys
+unfolding encode_with
+encode_append t [] ys = refl
+encode_append t (b ∷ xs) ys = ap (λ e. slice_index t (b / 16) ∷ slice_index t (b % 16) ∷ e) (encode_append t xs ys)
+
+piece_long : (xs rest piece : List ℕ) (m : ℕ) → piece ≡ take m rest → m ≤ length rest → length piece ≡ m
+piece_long xs rest piece m is le = ap length is ∙ omega (arith, length-take m rest, le)
+
+-- one more piece of them
+pub more_digits : (xs : List ℕ) (i m : ℕ) (rest piece : List ℕ) → rest ≡ drop i xs → piece ≡ take m rest → m ≤ length rest
+    → encode_lower (take i xs) ++ encode_lower piece ≡ encode_lower (take (i + length piece) xs)
+more_digits xs i m rest piece behind is le =
+    let joined : take (i + length piece) xs ≡ take i xs ++ piece =
+    ap (λ k. take (i + k) xs) (piece_long xs rest piece m is le) ∙ take-add i m xs ∙ ap (λ p. take i xs ++ p) (sym (is ∙ ap (take m) behind)) in
+    sym (ap encode_lower joined ∙ encode_append _ (take i xs) piece)
+
+-- ---- accesses
 
 -- no lines, where no access is left
 pub no_access : (k j : ℕ) (answers : List AccessAnswer) → access_lines k j [] answers ≡ []

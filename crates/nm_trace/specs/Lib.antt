@@ -12,3 +12,4 @@ pub mod Counts
 pub mod Watched
 pub mod Telling
 pub mod Session
+pub mod Waiting

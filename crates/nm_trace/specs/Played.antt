@@ -3,13 +3,12 @@ use Rattle.std.specs.Prelude.{◌≡◌, ◌⊎◌, ℕ, ◌<◌, ◌≤◌, Boo
 use Rattle.std.specs.Io.KnownBytes.{Appends}
 use Rattle.nm_calls.specs.Systems.{SystemState, system_with}
 use Rattle.nm_calls.specs.Calls.{Call}
-use Rattle.nm_calls.specs.Outcome.{outcome}
 use Rattle.nm_calls.specs.Does.{HostLeaves}
 use Rattle.nm_trace.specs.declared.playing.Summary.{Summary}
 use Rattle.nm_trace.specs.declared.trace_error.TraceError.{TraceError}
 use Rattle.nm_trace.specs.declared.trace_error.TraceError.TheVariants.{NotJson, BadMachine, BadStep, ReadFault, WriteFault, HostMemory}
 use Rattle.nm_trace.specs.Faults.{Plan}
-use Rattle.nm_trace.specs.Report.{text_of, report_from, state_after}
+use Rattle.nm_trace.specs.Report.{report_from, state_after}
 
 -- the written bytes, if known, grow by a prefix of the text
 abbrev pub AppendsFront : Option (List ℕ) → Option (List ℕ) → List ℕ → Type 0
@@ -19,29 +18,17 @@ AppendsFront old new text = (front : List ℕ) × (rest : List ℕ) × (front ++
 abbrev pub BreaksOff : Option (List ℕ) → Option (List ℕ) → List ℕ → Type 0
 BreaksOff old new text = (front : List ℕ) × (rest : List ℕ) × (front ++ rest ≡ text) × (0 < length rest) × Appends old new front
 
--- the written bytes, if known, grow by a prefix of what waits, and the rest still waits
-abbrev pub HandsOn : Option (List ℕ) → Option (List ℕ) → List ℕ → List ℕ → Type 0
-HandsOn old new before after = (text : List ℕ) × (text ++ after ≡ before) × Appends old new text
-
 -- a call that runs out of host memory has made some of its first runs
 abbrev pub StopsIn : SystemState → Call → SystemState → Type 0
 StopsIn s call t = (runs : ℕ) × (policy_set : Bool) × HostLeaves s call runs policy_set t
 
--- a call is made, and its lines follow those that wait; or it stopped, or was made without memory for its lines
-abbrev pub Tells : {E : Type 0} → ℕ → Result (Unit {0}) E → SystemState → SystemState → Call → List ℕ → List ℕ → Type 0
-Tells k (Ok done) old new call before after =
-    (after ≡ before ++ text_of k call (outcome old call).answer) × (new ≡ (outcome old call).system)
-Tells k (Err e) old new call before after = (StopsIn old call new ⊎ (new ≡ (outcome old call).system)) × (after ≡ before)
-
--- after the first k calls, the next one is not reported: it stopped, or was made without memory for its lines
+-- after the first k calls the next one stopped
 abbrev pub StopsAt : SystemState → List Call → ℕ → SystemState → Type 0
-StopsAt s calls k t =
-    (call : Call) × (slice_get calls k ≡ Some call)
-    × (StopsIn (state_after s (take k calls)) call t ⊎ (t ≡ (outcome (state_after s (take k calls)) call).system))
+StopsAt s calls k t = (call : Call) × (slice_get calls k ≡ Some call) × StopsIn (state_after s (take k calls)) call t
 
 -- a play makes every call and writes the report on them; if the writer fails, some first calls were made, and the
 -- report on them breaks off; if the host has no memory for step k, the report on the steps before it is written, and
--- step k may have been made in part, or whole without its lines
+-- step k may have been made in part
 abbrev pub Plays : SystemState → List Call → SystemState → Option (List ℕ) → Option (List ℕ) → Result Summary TraceError → Type 0
 Plays s calls t old new (Ok summary) =
     (summary.steps ≡ length calls) × (t ≡ state_after s calls) × Appends old new (report_from 0 s calls)

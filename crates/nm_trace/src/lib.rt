@@ -1,6 +1,8 @@
 //! Traces: from bytes to the calls that their steps ask for, and from these calls to the report.
 #![tactic(auto)]
 
+mod block;
+mod closed;
 pub mod laws;
 mod parsing;
 mod playing;

@@ -6,6 +6,8 @@ ghost use Rattle.nm_trace.specs.Tree.{view};
 ghost use Rattle.nm_trace.specs.Form as form;
 ghost use Rattle.nm_trace.specs.Faults.{Gives};
 
+use crate::block::Block;
+use crate::closed::Closed;
 use crate::parsing::step_of;
 use crate::playing::make_step;
 use crate::reading::{geometry_of, run_limit_of, value_of};
@@ -106,21 +108,23 @@ impl<A: Allocator + Copy + Send + Sync> Session<A> {
             Err(_) => return Err(TraceError::HostMemory(step)),
         };
         let call = call_of(self.alloc, &value, self.run_limit, step)?;
-        let mut text = String::new(self.alloc);
-        let mut lines = Vec::new(self.alloc);
+        let mut block = Block::new(self.alloc, usize::MAX);
+        let mut closed = Closed::new();
         let Ok(()) = make_step(
             rt,
-            self.alloc,
             &mut self.system,
             step,
             &call,
             gate,
-            &mut text,
-            &mut lines,
+            &mut block,
+            &mut closed,
         ) else {
             return Err(TraceError::HostMemory(step));
         };
+        if block.is_broken() {
+            return Err(TraceError::HostMemory(step));
+        }
         self.steps = step + 1;
-        Ok(lines)
+        Ok(block.into_waiting())
     }
 }

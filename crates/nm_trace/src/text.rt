@@ -1,20 +1,28 @@
 //! The answers of calls, as the lines of their steps.
 
-ghost use Rattle.std.specs.Prelude.{◌≡◌, ◌++◌, OnOk, string_bytes, map, decimal, codes};
+ghost use Rattle.std.specs.Prelude.{◌≡◌, ◌++◌, ◌≤◌, length, map, decimal, codes};
 ghost use Rattle.std.specs.List.{flat_map};
+ghost use Rattle.hex.specs.Hex.{encode_lower};
 ghost use Rattle.nm_calls.specs.Calls.{Refusal};
 ghost use Rattle.nm_calls.specs.Maps.{lines_shown};
 ghost use Rattle.nm_calls.specs.Outcome.{accesses_asked, shown};
 ghost use Rattle.nm_calls.specs.Views.{call_of, answer_of};
-ghost use Rattle.nm_trace.specs.Report.{word_of, listed, signed_listed, entry_text, totals_text, lines_behind, answer_text, line_of, text_of, access_lines, answers_in, access_word, access_line};
+ghost use Rattle.nm_trace.specs.Report.{word_of, listed, signed_listed, entry_text, frame_text, totals_text, lines_behind, answer_text, line_of, text_of, access_lines, answers_in, access_word, access_line};
+ghost use Rattle.nm_trace.specs.Waiting.{Puts};
 ghost use Rattle.nm_engine.specs.Answering.{access_shown, answer_shown};
 ghost use Rattle.nm_calls.specs.Batch.{shown_during};
 
+use crate::block::Block;
+use crate::telling::TellingWriter;
 use nm_calls::{
-    Access, AccessAnswer, Answer, Call, InFlight, PagemapEntry, Totals, push_address, push_number,
+    ADDRESS_BYTES, Access, AccessAnswer, Answer, Call, InFlight, PagemapEntry, Totals,
+    write_address,
 };
 use nm_types::{Errno, FrameId};
-use std::alloc::{AllocError, Allocator};
+use std::alloc::Allocator;
+
+/// How many bytes are told at once.
+const PIECE_BYTES: usize = 256;
 
 /// The word for a call.
 fn word<A: Allocator + Copy + Send + Sync>(call: &Call<A>) -> &'static str
@@ -43,160 +51,213 @@ fn word<A: Allocator + Copy + Send + Sync>(call: &Call<A>) -> &'static str
     }
 }
 
-/// Appends each frame after a space.
-fn push_frames<A: Allocator>(line: &mut String<A>, frames: &[FrameId]) -> Result<(), AllocError>
-    ensures { OnOk result (string_bytes line.new ≡ string_bytes line.old ++ listed frames.now) }
+/// Puts a number.
+fn push_number<W: TellingWriter, A: Allocator>(block: &mut Block<A>, writer: &mut W, number: u64)
+    ensures { Puts W.contents W.has_failed writer.old block.old writer.new block.new (decimal number) }
+{
+    let mut buffer = itoa::Buffer::new();
+    block.push_str(writer, buffer.format(number));
+}
+
+/// Puts each frame after a space.
+fn push_frames<W: TellingWriter, A: Allocator>(
+    block: &mut Block<A>,
+    writer: &mut W,
+    frames: &[FrameId],
+)
+    ensures { Puts W.contents W.has_failed writer.old block.old writer.new block.new (listed frames.now) }
 {
     let mut buffer = itoa::Buffer::new();
     for frame in frames {
-        line.push_str(" ")?;
-        line.push_str(buffer.format(frame.number()))?;
+        block.push_str(writer, " ");
+        block.push_str(writer, buffer.format(frame.number()));
     }
-    Ok(())
 }
 
-/// Appends each status after a space.
-fn push_statuses<A: Allocator>(line: &mut String<A>, statuses: &[i32]) -> Result<(), AllocError>
-    ensures { OnOk result (string_bytes line.new ≡ string_bytes line.old ++ signed_listed statuses.now) }
+/// Puts each status after a space.
+fn push_statuses<W: TellingWriter, A: Allocator>(
+    block: &mut Block<A>,
+    writer: &mut W,
+    statuses: &[i32],
+)
+    ensures { Puts W.contents W.has_failed writer.old block.old writer.new block.new (signed_listed statuses.now) }
 {
     let mut buffer = itoa::Buffer::new();
     for status in statuses {
-        line.push_str(" ")?;
-        line.push_str(buffer.format(*status))?;
+        block.push_str(writer, " ");
+        block.push_str(writer, buffer.format(*status));
     }
-    Ok(())
 }
 
-/// Appends an entry after a space.
-fn push_entry<A: Allocator>(line: &mut String<A>, entry: PagemapEntry) -> Result<(), AllocError>
-    ensures { OnOk result (string_bytes line.new ≡ string_bytes line.old ++ entry_text (entry.vpn, entry.frame)) }
+/// Puts the number of a frame, or that there is none.
+fn push_frame<W: TellingWriter, A: Allocator>(
+    block: &mut Block<A>,
+    writer: &mut W,
+    frame: Option<FrameId>,
+)
+    ensures { Puts W.contents W.has_failed writer.old block.old writer.new block.new (frame_text frame) }
 {
-    line.push_str(" ")?;
-    push_address(line, entry.vpn)?;
-    line.push_str("=")?;
-    match entry.frame {
-        None => line.push_str("zero"),
-        Some(frame) => {
+    match frame {
+        None => block.push_str(writer, "zero"),
+        Some(id) => {
             let mut buffer = itoa::Buffer::new();
-            line.push_str(buffer.format(frame.number()))
+            block.push_str(writer, buffer.format(id.number()));
         }
     }
 }
 
-/// Appends each entry after a space.
-fn push_entries<A: Allocator>(
-    line: &mut String<A>,
+/// Puts an entry after a space.
+fn push_entry<W: TellingWriter, A: Allocator>(
+    block: &mut Block<A>,
+    writer: &mut W,
+    entry: &PagemapEntry,
+)
+    ensures { Puts W.contents W.has_failed writer.old block.old writer.new block.new (entry_text (entry.now.vpn, entry.now.frame)) }
+{
+    let mut address = [0; ADDRESS_BYTES];
+    block.push_str(writer, " ");
+    block.push_str(writer, write_address(entry.vpn, &mut address));
+    block.push_str(writer, "=");
+    push_frame(block, writer, entry.frame);
+}
+
+/// Puts each entry after a space.
+fn push_entries<W: TellingWriter, A: Allocator>(
+    block: &mut Block<A>,
+    writer: &mut W,
     entries: &[PagemapEntry],
-) -> Result<(), AllocError>
-    ensures { OnOk result (string_bytes line.new ≡ string_bytes line.old
-        ++ flat_map entry_text (map (λ e. (e.vpn, e.frame)) entries.now)) }
+)
+    ensures { Puts W.contents W.has_failed writer.old block.old writer.new block.new (flat_map entry_text (map (λ e. (e.vpn, e.frame)) entries.now)) }
 {
     for entry in entries {
-        push_entry(line, *entry)?;
+        push_entry(block, writer, entry);
     }
-    Ok(())
 }
 
-/// Appends a number and a colon.
-fn push_count<A: Allocator>(line: &mut String<A>, count: usize) -> Result<(), AllocError>
-    ensures { OnOk result (string_bytes line.new ≡ string_bytes line.old ++ (decimal count ++ codes ":")) }
+/// Puts a number and a colon.
+fn push_count<W: TellingWriter, A: Allocator>(block: &mut Block<A>, writer: &mut W, count: usize)
+    ensures { Puts W.contents W.has_failed writer.old block.old writer.new block.new (decimal count ++ codes ":") }
 {
     let mut buffer = itoa::Buffer::new();
-    line.push_str(buffer.format(count))?;
-    line.push_str(":")
+    block.push_str(writer, buffer.format(count));
+    block.push_str(writer, ":");
 }
 
-/// Appends the two totals, each after its name.
-fn push_totals<A: Allocator>(line: &mut String<A>, totals: Totals) -> Result<(), AllocError>
-    ensures { OnOk result (string_bytes line.new ≡ string_bytes line.old ++ totals_text totals.moved totals.failed) }
+/// Puts the two totals, each after its name.
+fn push_totals<W: TellingWriter, A: Allocator>(block: &mut Block<A>, writer: &mut W, totals: Totals)
+    ensures { Puts W.contents W.has_failed writer.old block.old writer.new block.new (totals_text totals.moved totals.failed) }
 {
-    push_number(line, "pgmigrate_success ", totals.moved)?;
-    push_number(line, " pgmigrate_fail ", totals.failed)
+    block.push_str(writer, "pgmigrate_success ");
+    push_number(block, writer, totals.moved);
+    block.push_str(writer, " pgmigrate_fail ");
+    push_number(block, writer, totals.failed);
 }
 
-/// Appends each line after a line feed.
-fn push_lines<A: Allocator>(text: &mut String<A>, lines: &[String<A>]) -> Result<(), AllocError>
-    ensures { OnOk result (string_bytes text.new ≡ string_bytes text.old ++ lines_behind (lines_shown lines.now)) }
+/// Puts each line after a line feed.
+fn push_lines<W: TellingWriter, A: Allocator>(
+    block: &mut Block<A>,
+    writer: &mut W,
+    lines: &[String<A>],
+)
+    ensures { Puts W.contents W.has_failed writer.old block.old writer.new block.new (lines_behind (lines_shown lines.now)) }
 {
     for line in lines {
-        text.push_str("\n")?;
-        text.push_str(line.as_str())?;
+        block.push_str(writer, "\n");
+        block.push_str(writer, line.as_str());
     }
-    Ok(())
 }
 
-/// Appends an answer.
+/// The hexadecimal digits of a few bytes, which are written to `digits`.
+fn hex_of<'a>(bytes: &[u8], digits: &'a mut [u8; 2 * PIECE_BYTES]) -> &'a [u8]
+    requires { length bytes.now ≤ 256 }
+    ensures { result.now ≡ encode_lower bytes.now }
+{
+    let room = &mut digits[..2 * bytes.len()];
+    let _ = hex::encode_to_slice(bytes, room);
+    room
+}
+
+/// Puts bytes as hexadecimal digits.
+fn push_bytes<W: TellingWriter, A: Allocator>(block: &mut Block<A>, writer: &mut W, bytes: &[u8])
+    ensures { Puts W.contents W.has_failed writer.old block.old writer.new block.new (encode_lower bytes.now) }
+{
+    let mut digits = [0; 2 * PIECE_BYTES];
+    let mut at = 0;
+    while at < bytes.len() {
+        let (_, rest) = bytes.split_at(at);
+        let (piece, _) = rest.split_at(rest.len().min(PIECE_BYTES));
+        block.push(writer, hex_of(piece, &mut digits));
+        at += piece.len();
+    }
+}
+
+/// Puts an answer.
 #[tactic(auto, unfolding(crate::specs::Report::answer_text))]
-fn push_answer<A: Allocator + Copy + Send + Sync>(
-    alloc: A,
-    line: &mut String<A>,
+fn push_answer<W: TellingWriter, A: Allocator + Copy + Send + Sync>(
+    block: &mut Block<A>,
+    writer: &mut W,
     answer: &Answer<A>,
-) -> Result<(), AllocError>
-    ensures { OnOk result (string_bytes line.new ≡ string_bytes line.old ++ answer_text (answer_of answer.now)) }
+)
+    ensures { Puts W.contents W.has_failed writer.old block.old writer.new block.new (answer_text (answer_of answer.now)) }
 {
     match answer {
-        Answer::Done => line.push_str("ok"),
+        Answer::Done => block.push_str(writer, "ok"),
         Answer::Segment(segment) => {
-            let mut buffer = itoa::Buffer::new();
-            line.push_str("segment=")?;
-            line.push_str(buffer.format(*segment))
+            block.push_str(writer, "segment=");
+            push_number(block, writer, u64::from(*segment));
         }
-        Answer::Bytes(bytes) => line.push_str(hex::encode(alloc, bytes.as_slice())?.as_str()),
+        Answer::Bytes(bytes) => push_bytes(block, writer, bytes.as_slice()),
         Answer::Statuses(moved) => {
-            push_count(line, moved.failed)?;
-            push_statuses(line, moved.statuses.as_slice())
+            push_count(block, writer, moved.failed);
+            push_statuses(block, writer, moved.statuses.as_slice());
         }
-        Answer::Failed(failed) => {
-            let mut buffer = itoa::Buffer::new();
-            line.push_str(buffer.format(*failed))
-        }
+        Answer::Failed(failed) => push_number(block, writer, *failed as u64),
         Answer::Frames(frames) => {
-            push_count(line, frames.len())?;
-            push_frames(line, frames.as_slice())
+            push_count(block, writer, frames.len());
+            push_frames(block, writer, frames.as_slice());
         }
         Answer::Entries(entries) => {
-            push_count(line, entries.len())?;
-            push_entries(line, entries.as_slice())
+            push_count(block, writer, entries.len());
+            push_entries(block, writer, entries.as_slice());
         }
-        Answer::Totals(totals) => push_totals(line, *totals),
+        Answer::Totals(totals) => push_totals(block, writer, *totals),
         Answer::Lines(lines) => {
-            push_number(line, "", lines.len() as u64)?;
-            push_lines(line, lines.as_slice())
+            push_number(block, writer, lines.len() as u64);
+            push_lines(block, writer, lines.as_slice());
         }
     }
 }
 
-/// Appends the beginning of a step's line: its number and its word, each followed by a space.
-fn push_front<A: Allocator + Copy + Send + Sync>(
-    line: &mut String<A>,
+/// Puts the front of a step's line: its number and its word, each followed by a space.
+fn push_front<W: TellingWriter, A: Allocator + Copy + Send + Sync>(
+    block: &mut Block<A>,
+    writer: &mut W,
     k: usize,
     call: &Call<A>,
-) -> Result<(), AllocError>
-    ensures { OnOk result (string_bytes line.new ≡ string_bytes line.old
-        ++ (decimal k ++ codes " " ++ word_of (call_of call.now) ++ codes " ")) }
+)
+    ensures { Puts W.contents W.has_failed writer.old block.old writer.new block.new (decimal k ++ codes " " ++ word_of (call_of call.now) ++ codes " ") }
 {
     let mut buffer = itoa::Buffer::new();
-    line.push_str(buffer.format(k))?;
-    line.push_str(" ")?;
-    line.push_str(word(call))?;
-    line.push_str(" ")
+    block.push_str(writer, buffer.format(k));
+    block.push_str(writer, " ");
+    block.push_str(writer, word(call));
+    block.push_str(writer, " ");
 }
 
-/// Appends the line of step k, whose call was not refused, followed by those of an answer of several lines.
+/// Puts the line of step k, whose call was not refused, and then those of an answer of several lines.
 #[tactic(auto, unfolding(crate::specs::Report::line_of))]
-fn push_line<A: Allocator + Copy + Send + Sync>(
-    alloc: A,
-    text: &mut String<A>,
+fn push_line<W: TellingWriter, A: Allocator + Copy + Send + Sync>(
+    block: &mut Block<A>,
+    writer: &mut W,
     k: usize,
     call: &Call<A>,
     answer: &Answer<A>,
-) -> Result<(), AllocError>
-    ensures { OnOk result (string_bytes text.new ≡ string_bytes text.old
-        ++ line_of k (call_of call.now) (answer_of answer.now)) }
+)
+    ensures { Puts W.contents W.has_failed writer.old block.old writer.new block.new (line_of k (call_of call.now) (answer_of answer.now)) }
 {
-    push_front(text, k, call)?;
-    push_answer(alloc, text, answer)?;
-    text.push_str("\n")
+    push_front(block, writer, k, call);
+    push_answer(block, writer, answer);
+    block.push_str(writer, "\n");
 }
 
 /// The word for an access.
@@ -209,143 +270,132 @@ fn access_word<A: Allocator + Copy>(access: &Access<A>) -> &'static str
     }
 }
 
-/// Appends the answer to an access.
+/// Puts the answer to an access.
 #[tactic(auto, unfolding(crate::specs::Report::answer_text))]
-fn push_access_answer<A: Allocator + Copy>(
-    alloc: A,
-    line: &mut String<A>,
+fn push_access_answer<W: TellingWriter, A: Allocator + Copy>(
+    block: &mut Block<A>,
+    writer: &mut W,
     answer: &AccessAnswer<A>,
-) -> Result<(), AllocError>
-    ensures { OnOk result (string_bytes line.new ≡ string_bytes line.old ++ answer_text (shown (answer_shown answer.now))) }
+)
+    ensures { Puts W.contents W.has_failed writer.old block.old writer.new block.new (answer_text (shown (answer_shown answer.now))) }
 {
     match answer {
-        AccessAnswer::Bytes(bytes) => {
-            line.push_str(hex::encode(alloc, bytes.as_slice())?.as_str())
-        }
-        AccessAnswer::Done => line.push_str("ok"),
-        AccessAnswer::Held => line.push_str("held"),
-        AccessAnswer::Refused(errno) => {
-            line.push_str("error ")?;
-            line.push_str(errno.name())
+        AccessAnswer::Bytes(bytes) => push_bytes(block, writer, bytes.as_slice()),
+        AccessAnswer::Done => block.push_str(writer, "ok"),
+        AccessAnswer::Held => block.push_str(writer, "held"),
+        AccessAnswer::Refused(refusal) => {
+            block.push_str(writer, "error ");
+            block.push_str(writer, refusal.name());
         }
     }
 }
 
-/// Appends the beginning of the line of access j of a step: both numbers and the word of the access, followed by a
-/// space.
-fn push_access_front<A: Allocator + Copy>(
-    line: &mut String<A>,
+/// Puts the front of the line of access j of a step: both numbers and the word of the access, followed by a space.
+fn push_access_front<W: TellingWriter, A: Allocator + Copy>(
+    block: &mut Block<A>,
+    writer: &mut W,
     step: usize,
     j: usize,
     access: &Access<A>,
-) -> Result<(), AllocError>
-    ensures { OnOk result (string_bytes line.new ≡ string_bytes line.old
-        ++ (decimal step ++ codes "." ++ decimal j ++ codes " " ++ access_word (access_shown access.now) ++ codes " ")) }
+)
+    ensures { Puts W.contents W.has_failed writer.old block.old writer.new block.new (decimal step ++ codes "." ++ decimal j ++ codes " " ++ access_word (access_shown access.now) ++ codes " ") }
 {
     let mut buffer = itoa::Buffer::new();
-    line.push_str(buffer.format(step))?;
-    line.push_str(".")?;
-    line.push_str(buffer.format(j))?;
-    line.push_str(" ")?;
-    line.push_str(access_word(access))?;
-    line.push_str(" ")
+    block.push_str(writer, buffer.format(step));
+    block.push_str(writer, ".");
+    block.push_str(writer, buffer.format(j));
+    block.push_str(writer, " ");
+    block.push_str(writer, access_word(access));
+    block.push_str(writer, " ");
 }
 
-/// Appends the line of access j of step k.
+/// Puts the line of access j of step k.
 #[tactic(auto, unfolding(crate::specs::Report::access_line))]
-fn push_access<A: Allocator + Copy>(
-    alloc: A,
-    text: &mut String<A>,
+fn push_access<W: TellingWriter, A: Allocator + Copy>(
+    block: &mut Block<A>,
+    writer: &mut W,
     k: usize,
     j: usize,
     access: &Access<A>,
     answer: &AccessAnswer<A>,
-) -> Result<(), AllocError>
-    ensures { OnOk result (string_bytes text.new ≡ string_bytes text.old
-        ++ access_line k j (access_shown access.now) (answer_shown answer.now)) }
+)
+    ensures { Puts W.contents W.has_failed writer.old block.old writer.new block.new (access_line k j (access_shown access.now) (answer_shown answer.now)) }
 {
-    push_access_front(text, k, j, access)?;
-    push_access_answer(alloc, text, answer)?;
-    text.push_str("\n")
+    push_access_front(block, writer, k, j, access);
+    push_access_answer(block, writer, answer);
+    block.push_str(writer, "\n");
 }
 
-/// Appends the lines of the accesses of step k, one after another, each with the answer at its index.
-fn push_accesses<A: Allocator + Copy + Send + Sync>(
-    alloc: A,
-    text: &mut String<A>,
+/// Puts the lines of the accesses of step k, one after another, each with the answer at its place.
+fn push_accesses<W: TellingWriter, A: Allocator + Copy + Send + Sync>(
+    block: &mut Block<A>,
+    writer: &mut W,
     k: usize,
     during: &[InFlight<A>],
     answers: &[AccessAnswer<A>],
-) -> Result<(), AllocError>
-    ensures { OnOk result (string_bytes text.new ≡ string_bytes text.old
-        ++ access_lines k 0 (shown_during during.now) (map answer_shown answers.now)) }
+)
+    ensures { Puts W.contents W.has_failed writer.old block.old writer.new block.new (access_lines k 0 (shown_during during.now) (map answer_shown answers.now)) }
 {
     for (j, answer) in answers.iter().enumerate() {
         let Some(flight) = during.get(j) else {
-            return Ok(());
+            return;
         };
-        push_access(alloc, text, k, j, &flight.access, answer)?;
+        push_access(block, writer, k, j, &flight.access, answer);
     }
-    Ok(())
 }
 
-/// Appends the lines of the accesses of step k made while pages moved.
+/// Puts the lines of the accesses of step k that were made while pages moved.
 #[tactic(auto, unfolding(nm_calls::specs::Outcome::accesses_asked))]
-fn push_flights<A: Allocator + Copy + Send + Sync>(
-    alloc: A,
-    text: &mut String<A>,
+fn push_flights<W: TellingWriter, A: Allocator + Copy + Send + Sync>(
+    block: &mut Block<A>,
+    writer: &mut W,
     k: usize,
     call: &Call<A>,
     answer: &Answer<A>,
-) -> Result<(), AllocError>
-    ensures { OnOk result (string_bytes text.new ≡ string_bytes text.old
-        ++ access_lines k 0 (accesses_asked (call_of call.now)) (answers_in (answer_of answer.now))) }
+)
+    ensures { Puts W.contents W.has_failed writer.old block.old writer.new block.new (access_lines k 0 (accesses_asked (call_of call.now)) (answers_in (answer_of answer.now))) }
 {
     match call {
         Call::MovePages(request) => match answer {
-            Answer::Statuses(moved) => push_accesses(
-                alloc,
-                text,
-                k,
-                request.during.as_slice(),
-                moved.answers.as_slice(),
-            ),
-            _ => Ok(()),
+            Answer::Statuses(moved) => {
+                let during = request.during.as_slice();
+                push_accesses(block, writer, k, during, moved.answers.as_slice());
+            }
+            _ => {}
         },
-        _ => Ok(()),
+        _ => {}
     }
 }
 
-/// Appends the lines of step k, whose call was not refused: its own, and those of the accesses made while pages moved.
-/// If the host is out of memory, some of them may have been appended.
+/// Puts the lines of step k, whose call was not refused: its own, and those of the accesses that were made while pages
+/// moved.
 #[tactic(auto, unfolding(crate::specs::Report::text_of))]
-pub(crate) fn push_text<A: Allocator + Copy + Send + Sync>(
-    alloc: A,
-    text: &mut String<A>,
+pub(crate) fn push_text<W: TellingWriter, A: Allocator + Copy + Send + Sync>(
+    block: &mut Block<A>,
+    writer: &mut W,
     k: usize,
     call: &Call<A>,
     answer: &Answer<A>,
-) -> Result<(), AllocError>
-    ensures { OnOk result (string_bytes text.new ≡ string_bytes text.old
-        ++ text_of k (call_of call.now) (answer_of answer.now)) }
+)
+    ensures { Puts W.contents W.has_failed writer.old block.old writer.new block.new (text_of k (call_of call.now) (answer_of answer.now)) }
 {
-    push_line(alloc, text, k, call, answer)?;
-    push_flights(alloc, text, k, call, answer)
+    push_line(block, writer, k, call, answer);
+    push_flights(block, writer, k, call, answer);
 }
 
-/// Appends the line of step k, whose call was refused. If the host is out of memory, part of it may have been appended.
+/// Puts the line of step k, whose call was refused.
 #[tactic(auto, unfolding(crate::specs::Report::text_of, crate::specs::Report::line_of, crate::specs::Report::answer_text))]
-pub(crate) fn push_refusal<A: Allocator + Copy + Send + Sync>(
-    text: &mut String<A>,
+pub(crate) fn push_refusal<W: TellingWriter, A: Allocator + Copy + Send + Sync>(
+    block: &mut Block<A>,
+    writer: &mut W,
     k: usize,
     call: &Call<A>,
     errno: Errno,
-) -> Result<(), AllocError>
-    ensures { OnOk result (string_bytes text.new ≡ string_bytes text.old ++ text_of k (call_of call.now) (Refusal errno)) }
+)
+    ensures { Puts W.contents W.has_failed writer.old block.old writer.new block.new (text_of k (call_of call.now) (Refusal errno)) }
 {
-    push_front(text, k, call)?;
-    text.push_str("error ")?;
-    text.push_str(errno.name())?;
-    text.push_str("\n")?;
-    Ok(())
+    push_front(block, writer, k, call);
+    block.push_str(writer, "error ");
+    block.push_str(writer, errno.name());
+    block.push_str(writer, "\n");
 }

@@ -1,11 +1,12 @@
-use Rattle.std.proofs.Common.{◌≡◌, ◌++◌, drop, map, string_bytes}
+use Rattle.std.proofs.Common.{◌≡◌, ◌++◌, List, ℕ, drop, map}
 use Rattle.nm_engine.specs.Answering.{answer_shown}
 use Rattle.nm_calls.specs.Batch.{shown_during}
 use Rattle.nm_trace.specs.Report.{access_lines}
+use Rattle.nm_trace.specs.Waiting.{Puts}
 use Rattle.nm_trace.proofs.text.push_accesses.Given as goal
 
 -- what was put, and the lines that are left, are the lines
 abbrev pub invariant-loop-j : goal.invariant-loop-j
 invariant-loop-j g l =
-    string_bytes l.text ++ access_lines l.k l.j (shown_during (drop l.j l.during)) (map answer_shown (drop l.j l.answers))
-    ≡ string_bytes l.fn.text ++ access_lines l.k 0 (shown_during l.during) (map answer_shown l.answers)
+    (text : List ℕ) × Puts g.W.Write.contents g.W.TellingWriter.has_failed l.fn.writer l.fn.block l.writer l.block text
+    × (text ++ access_lines l.k l.j (shown_during (drop l.j l.during)) (map answer_shown (drop l.j l.answers)) ≡ access_lines l.k 0 (shown_during l.during) (map answer_shown l.answers))

@@ -1,12 +1,13 @@
-use Rattle.std.proofs.Common.{◌≡◌, [], refl, sym, string_bytes}
-use Rattle.std.proofs.lemmas.List.{append-nil}
+use Rattle.std.proofs.Common.{◌≡◌, [], refl, sym, ap, ◌∙◌, rules}
 use Rattle.nm_calls.specs.declared.call.Call.{Call}
 use Rattle.nm_calls.specs.declared.call.Call.TheVariants.{MovePages}
 use Rattle.nm_calls.specs.declared.call.MoveRequest.{MoveRequest}
 use Rattle.nm_calls.specs.Outcome.{accesses_asked}
 use Rattle.nm_calls.specs.Views.{call_of, answer_of}
 use Rattle.nm_trace.specs.Report.{answers_in}
+use Rattle.nm_trace.specs.Report.{access_lines}
 use Rattle.nm_trace.proofs.Lines.{no_access}
+use Rattle.nm_trace.proofs.Waits.{put_is, put_none}
 use Rattle.nm_trace.proofs.text.push_flights.Goals as goal
 
 -- a call of another kind makes no accesses
@@ -15,6 +16,12 @@ unfolding accesses_asked
 none_asked (MovePages request) other = absurd (other request refl)
 none_asked call other = refl
 
+pub returns-in_default-answer : goal.returns-in_default-answer
+returns-in_default-answer g c =
+    let none : access_lines c.args.k 0 (accesses_asked (call_of c.args.call.now)) (answers_in (answer_of c.args.answer.now)) ≡ [] = search rules in
+    put_is (sym none) put_none
+
 pub returns-in_default : goal.returns-in_default
 returns-in_default g c =
-    rw (none_asked c.args.call.now (λ request is. c.in_default.not-MovePages request is), no_access c.args.k 0 (answers_in (answer_of c.args.answer.now))) (sym (append-nil (string_bytes c.args.text.now)))
+    let none = ap (λ d. access_lines c.args.k 0 d (answers_in (answer_of c.args.answer.now))) (none_asked c.args.call.now (λ request is. c.in_default.not-MovePages request is)) in
+    put_is (sym (none ∙ no_access c.args.k 0 (answers_in (answer_of c.args.answer.now)))) put_none

@@ -1,6 +1,7 @@
-use Rattle.std.proofs.Common.{◌≡◌, ◌++◌, take, string_bytes}
+use Rattle.std.proofs.Common.{take}
 use Rattle.nm_trace.specs.Report.{signed_listed}
+use Rattle.nm_trace.specs.Waiting.{Puts}
 use Rattle.nm_trace.proofs.text.push_statuses.Given as goal
 
 abbrev pub invariant-loop-status : goal.invariant-loop-status
-invariant-loop-status g l = string_bytes l.line ≡ string_bytes l.fn.line ++ signed_listed (take l.status-index l.statuses)
+invariant-loop-status g l = Puts g.W.Write.contents g.W.TellingWriter.has_failed l.fn.writer l.fn.block l.writer l.block (signed_listed (take l.status-index l.statuses))

@@ -1,23 +1,30 @@
-use Rattle.std.proofs.Common.{◌∙◌, ap, ◌++◌}
+use Rattle.std.proofs.Common.{◌∙◌, ap, refl, sym, inl, inr}
 use Rattle.nm_trace.specs.Tree.{view}
 use Rattle.nm_trace.specs.Session.{SessionState}
 use Rattle.nm_calls.specs.Views.{call_of}
 use Rattle.nm_calls.specs.Systems.{SystemState}
-use Rattle.nm_trace.specs.Report.{text_of}
-use Rattle.nm_calls.specs.Outcome.{outcome}
-use Rattle.nm_trace.proofs.Sessions.{outcome_limit, told_limit, asked_is, stopped, stepped}
+use Rattle.nm_trace.proofs.Waits.{all_waits}
+use Rattle.nm_trace.proofs.Sessions.{outcome_limit, asked_is, stopped, stepped}
 use Rattle.nm_trace.proofs.session.Session.step.Goals as goal
-
-pub invariant_of-self : goal.invariant_of-self
-invariant_of-self g c =
-    (c.self.invariant.0, told_limit c.self.inside.system (call_of c.in_ok-call.call) c.make_step.new.system c.in_default.ensures.told.0 ∙ c.self.invariant.1)
 
 pub returns-in_default : goal.returns-in_default
 returns-in_default g c =
     let before : SessionState = record { system = c.self.inside.system; steps = c.self.inside.steps } in
     let call = call_of c.in_ok-call.call in
     let is = asked_is before c.args.bytes.now (view c.in-Ok.value) c.self.inside.run_limit call c.self.invariant.1 c.in-Ok.ensures c.in_ok-call.ensures in
-    stopped before c.args.self.now c.make_step.new.system c.args.bytes.now call c.self.view_is is c.in_default.ensures.told.0
+    stopped before c.args.self.now c.make_step.new.system c.args.bytes.now call c.self.view_is is (inl c.in_default.ensures.told.0)
+
+pub invariant_of-self-then-is_broken : goal.invariant_of-self-then-is_broken
+invariant_of-self-then-is_broken g c =
+    let call = call_of c.in_ok-call.call in
+    (c.self.invariant.0, ap (λ (u : SystemState). u.run_limit) c.in-Ok-make_step.ensures.told.1 ∙ outcome_limit c.self.inside.system call ∙ c.self.invariant.1)
+
+pub returns-then-is_broken : goal.returns-then-is_broken
+returns-then-is_broken g c =
+    let before : SessionState = record { system = c.self.inside.system; steps = c.self.inside.steps } in
+    let call = call_of c.in_ok-call.call in
+    let is = asked_is before c.args.bytes.now (view c.in-Ok.value) c.self.inside.run_limit call c.self.invariant.1 c.in-Ok.ensures c.in_ok-call.ensures in
+    stopped before c.args.self.now c.make_step.new.system c.args.bytes.now call c.self.view_is is (inr c.in-Ok-make_step.ensures.told.1)
 
 pub invariant_of-self-2 : goal.invariant_of-self-2
 invariant_of-self-2 g c =
@@ -29,5 +36,5 @@ returns g c =
     let before : SessionState = record { system = c.self.inside.system; steps = c.self.inside.steps } in
     let call = call_of c.in_ok-call.call in
     let is = asked_is before c.args.bytes.now (view c.in-Ok.value) c.self.inside.run_limit call c.self.invariant.1 c.in-Ok.ensures c.in_ok-call.ensures in
-    let text = c.in-Ok-make_step.ensures.told.0 ∙ ap (λ l. l ++ text_of c.self.inside.steps call (outcome c.self.inside.system call).answer) c.new-lines.ensures.items in
-    stepped before c.args.self.now c.make_step.new.system c.args.bytes.now c.make_step.new.waiting.items call c.self.view_is is text c.in-Ok-make_step.ensures.told.1
+    let waits = all_waits _ _ _ _ _ _ _ (λ u. refl) c.new-block.ensures.waiting c.new-block.ensures.whole (sym c.is_broken.ensures ∙ c.if-is_broken.false) c.in-Ok-make_step.ensures.told.0 in
+    stepped before c.args.self.now c.make_step.new.system c.args.bytes.now c.into_waiting.result.items call c.self.view_is is (c.into_waiting.ensures ∙ waits) c.in-Ok-make_step.ensures.told.1

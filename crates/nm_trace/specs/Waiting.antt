@@ -1,0 +1,26 @@
+-- Text that is put into a block, which waits there or is written.
+use Rattle.std.specs.Prelude.{◌≡◌, ◌||◌, ℕ, Bool, true, false, List, ◌++◌, Option, Result, Ok, Err}
+use Rattle.std.specs.Io.KnownBytes.{Appends}
+use Rattle.nm_trace.specs.declared.block.Block.{Block}
+use Rattle.nm_calls.specs.Calls.{Call}
+use Rattle.nm_calls.specs.Outcome.{outcome}
+use Rattle.nm_calls.specs.Systems.{SystemState}
+use Rattle.nm_trace.specs.Played.{BreaksOff, StopsIn}
+use Rattle.nm_trace.specs.Report.{text_of}
+
+-- what was put since a writer had the bytes old: it has a front of it, and the rest waits; or a write has failed, and it breaks off
+abbrev pub Stands : Option (List ℕ) → Option (List ℕ) → Bool → List ℕ → List ℕ → Type 0
+Stands old new false waiting text = (front : List ℕ) × (front ++ waiting ≡ text) × Appends old new front
+Stands old new true waiting text = BreaksOff old new text
+
+-- a text is put into a block before a writer
+pub record Puts {W A : Type 0} (contents : W → Option (List ℕ)) (failed : W → Bool) (w : W) (b : Block A) (v : W) (c : Block A) (text : List ℕ) : Type 0 where
+  -- after whatever was put there since whatever moment
+  pub stands : (old : Option (List ℕ)) (so_far : List ℕ) → Stands old (contents w) b.is_broken b.waiting.items so_far → Stands old (contents v) c.is_broken c.waiting.items (so_far ++ text)
+  -- the block breaks just where the writer fails
+  pub fails : (before : Bool) → failed w ≡ (b.is_broken || before) → failed v ≡ (c.is_broken || before)
+
+-- a call is made and its lines are put; or it stopped, and nothing was put
+abbrev pub Tells : {E W A : Type 0} → (W → Option (List ℕ)) → (W → Bool) → ℕ → Result (Unit {0}) E → SystemState → SystemState → Call → W → Block A → W → Block A → Type 0
+Tells contents failed k (Ok done) s t call w b v c = Puts contents failed w b v c (text_of k call (outcome s call).answer) × (t ≡ (outcome s call).system)
+Tells contents failed k (Err e) s t call w b v c = StopsIn s call t × (v ≡ w) × (c ≡ b)

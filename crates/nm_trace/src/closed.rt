@@ -1,0 +1,40 @@
+//! A writer that takes nothing.
+
+ghost use Rattle.std.specs.Prelude.{◌≡◌, ◌||◌, Some, [], true, is_err};
+ghost use Rattle.std.specs.Io.{WritesAtMost};
+ghost use Rattle.std.specs.Io.KnownBytes.{WriteAppends};
+
+use crate::telling::TellingWriter;
+use std::io;
+use std::io::{ErrorKind, Write};
+
+/// A writer whose every write fails.
+#[derive(Drop)]
+pub(crate) struct Closed {}
+
+impl Closed {
+    /// One more.
+    pub(crate) fn new() -> Closed {
+        Closed {}
+    }
+}
+
+impl Write for Closed {
+    ghost contents = { λ _. Some [] };
+
+    fn write(&mut self, _buf: &[u8]) -> io::Result<usize> {
+        Err(io::Error::from(ErrorKind::WriteZero))
+    }
+
+    fn flush(&mut self) -> io::Result<()> {
+        Ok(())
+    }
+}
+
+impl TellingWriter for Closed {
+    ghost has_failed = { λ _. true };
+
+    fn write_telling(&mut self, buf: &[u8]) -> io::Result<usize> {
+        self.write(buf)
+    }
+}
