@@ -14,13 +14,17 @@ Stands old new false waiting text = (front : List ℕ) × (front ++ waiting ≡ 
 Stands old new true waiting text = BreaksOff old new text
 
 -- a text is put into a block before a writer
-pub record Puts {W A : Type 0} (contents : W → Option (List ℕ)) (failed : W → Bool) (w : W) (b : Block A) (v : W) (c : Block A) (text : List ℕ) : Type 0 where
+pub record Puts {W A : Type 0} (contents : W → Option (List ℕ)) (failed : W → Bool)
+    (w : W) (b : Block A) (v : W) (c : Block A) (text : List ℕ) : Type 0 where
   -- after whatever was put there since whatever moment
-  pub stands : (old : Option (List ℕ)) (so_far : List ℕ) → Stands old (contents w) b.is_broken b.waiting.items so_far → Stands old (contents v) c.is_broken c.waiting.items (so_far ++ text)
+  pub stands : (old : Option (List ℕ)) (so_far : List ℕ) →
+      Stands old (contents w) b.is_broken b.waiting.items so_far → Stands old (contents v) c.is_broken c.waiting.items (so_far ++ text)
   -- the block breaks just where the writer fails
   pub fails : (before : Bool) → failed w ≡ (b.is_broken || before) → failed v ≡ (c.is_broken || before)
 
 -- a call is made and its lines are put; or it stopped, and nothing was put
-abbrev pub Tells : {E W A : Type 0} → (W → Option (List ℕ)) → (W → Bool) → ℕ → Result (Unit {0}) E → SystemState → SystemState → Call → W → Block A → W → Block A → Type 0
-Tells contents failed k (Ok done) s t call w b v c = Puts contents failed w b v c (text_of k call (outcome s call).answer) × (t ≡ (outcome s call).system)
+abbrev pub Tells : {E W A : Type 0} → (W → Option (List ℕ)) → (W → Bool) → ℕ → Result (Unit {0}) E → SystemState → SystemState → Call
+    → W → Block A → W → Block A → Type 0
+Tells contents failed k (Ok done) s t call w b v c =
+    Puts contents failed w b v c (text_of k call (outcome s call).answer) × (t ≡ (outcome s call).system)
 Tells contents failed k (Err e) s t call w b v c = StopsIn s call t × (v ≡ w) × (c ≡ b)
