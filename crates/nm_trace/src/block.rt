@@ -29,6 +29,7 @@ fn write_lines<W: TellingWriter>(writer: &mut W, lines: &[u8]) -> Result<(), Tra
 }
 
 /// Writes what waits and a text after it, and then nothing waits.
+#[inline(never)]
 fn write_through<W: TellingWriter, A: Allocator>(
     writer: &mut W,
     waiting: &mut Vec<u8, A>,
