@@ -36,6 +36,9 @@ use std::mem;
 use std::sync::Wait;
 use std::thread::Threads;
 
+/// How many frames get their bytes in memory at once. So many are 64 KiB.
+const POPULATED_TOGETHER: u16 = 16;
+
 /// The frames of all nodes with their bytes, each node's free frames, and the frames that a run's pages have left and
 /// that become free when it ends.
 #[derive(Drop)]
@@ -379,17 +382,40 @@ impl<A: Allocator + Copy + Send + Sync> Frames<A> {
     }
 }
 
-/// Gives a frame its bytes in memory, unless it has them. An error means that the host is out of memory.
+/// Gives a frame its bytes in memory, unless it has them, and then those behind it, as far as the host has memory: frames
+/// that are used together so have their bytes together. An error means that the host is out of memory.
 fn populate<A: Allocator + Copy>(
     frames: &mut FrameStore<A>,
     alloc: A,
     frame: FrameId,
 ) -> Result<(), AllocError>
-    requires { IsHome frames.old frame }
+    requires frame { frame < length frames.old }
+    requires home { (f : ℕ) → f < length frames.old → IsHome frames.old f }
     ensures kept { KeepsBytes frames.old frames.new }
     ensures populated { OnOk result (IsPopulated frames.new frame) }
 {
-    frames.populate(alloc, frame)
+    if !frames.is_populated(frame) {
+        frames.populate(alloc, frame)?;
+        populate_behind(frames, alloc, frame);
+    }
+    Ok(())
+}
+
+/// Gives the frames behind a frame their bytes in memory, as many as are populated together, unless the host is out of
+/// memory.
+fn populate_behind<A: Allocator + Copy>(frames: &mut FrameStore<A>, alloc: A, frame: FrameId)
+    requires { (f : ℕ) → f < length frames.old → IsHome frames.old f }
+    ensures { KeepsBytes frames.old frames.new }
+{
+    for step in 1..POPULATED_TOGETHER {
+        let next = FrameId::new(frame.number().saturating_add(step));
+        if next.index() >= frames.frame_count() {
+            return;
+        }
+        let Ok(()) = frames.populate(alloc, next) else {
+            return;
+        };
+    }
 }
 
 /// Gives the frames that pages of moves take their bytes in memory, as far as they lack them. An error means that the host
@@ -399,7 +425,8 @@ fn populate_each<A: Allocator + Copy>(
     alloc: A,
     moves: &[Taken],
 ) -> Result<(), AllocError>
-    requires { AllByRecursion (IsHome frames.old) (tos moves.now) }
+    requires frames { AllByRecursion (λ frame. frame < length frames.old) (tos moves.now) }
+    requires home { (f : ℕ) → f < length frames.old → IsHome frames.old f }
     ensures kept { KeepsBytes frames.old frames.new }
     ensures populated { OnOk result (AllByRecursion (IsPopulated frames.new) (tos moves.now)) }
 {

@@ -49,9 +49,9 @@ pub keeps_all : (fs : List ℕ) (a b : Store) → KeepsBytes a b → AllByRecurs
 keeps_all [] a b kept all = tt
 keeps_all (f ∷ fs) a b kept all = (keeps_populated a b f kept all.0, keeps_all fs a b kept all.1)
 
-pub homes_all : (fs : List ℕ) (a b : Store) → KeepsBytes a b → AllByRecursion (IsHome a) fs → AllByRecursion (IsHome b) fs
-homes_all [] a b kept all = tt
-homes_all (f ∷ fs) a b kept all = (kept.home f all.0, homes_all fs a b kept all.1)
+-- every frame is home still
+pub homes_then : (a b : Store) → KeepsBytes a b → ((f : ℕ) → f < length a → IsHome a f) → (f : ℕ) → f < length b → IsHome b f
+homes_then a b kept home f below = kept.home f (home f (subst (λ n. f < n) kept.as_many below))
 
 pub all_joined : (s : Store) (fs gs : List ℕ) → AllByRecursion (IsPopulated s) fs → AllByRecursion (IsPopulated s) gs → AllByRecursion (IsPopulated s) (fs ++ gs)
 all_joined s [] gs front back = back

@@ -12,9 +12,15 @@ use Rattle.nm_engine.proofs.Together.Copies.{home_set}
 pub seen_home : (k v : FramesView) (f : ℕ) → k ≡ v → HasAllFrames k → f < frame_count v.layout → IsHome k.frames f
 seen_home k v f e shelf below = shelf.home f (subst (λ (x : FramesView). f < frame_count x.layout) (sym e) below)
 
-pub all_home : (fs : List ℕ) (k v : FramesView) → k ≡ v → HasAllFrames k → AllByRecursion (λ f. f < frame_count v.layout) fs → AllByRecursion (IsHome k.frames) fs
-all_home [] k v e shelf below = tt
-all_home (f ∷ fs) k v e shelf below = (seen_home k v f e shelf below.0, all_home fs k v e shelf below.1)
+pub seen_below : (k v : FramesView) (f : ℕ) → k ≡ v → HasAllFrames k → f < frame_count v.layout → f < length k.frames
+seen_below k v f e shelf below = (seen_home k v f e shelf below).in_range
+
+pub all_below : (fs : List ℕ) (k v : FramesView) → k ≡ v → HasAllFrames k → AllByRecursion (λ f. f < frame_count v.layout) fs → AllByRecursion (λ f. f < length k.frames) fs
+all_below [] k v e shelf below = tt
+all_below (f ∷ fs) k v e shelf below = (seen_below k v f e shelf below.0, all_below fs k v e shelf below.1)
+
+pub every_home : (k : FramesView) → HasAllFrames k → (f : ℕ) → f < length k.frames → IsHome k.frames f
+every_home k shelf f below = shelf.home f (subst (λ n. f < n) shelf.buffers below)
 
 pub seen_node : (k v : FramesView) (node : ℕ) → k ≡ v → HasAllFrames k → node < node_count v.layout → node < length k.free
 seen_node k v node e shelf below =

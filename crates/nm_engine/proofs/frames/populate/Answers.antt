@@ -1,10 +1,6 @@
-use Rattle.std.proofs.Common.{sym, subst}
-use Rattle.std.proofs.lemmas.Result.{on_ok_weaker}
+use Rattle.std.proofs.Common.{ℕ, List, ◌≡◌, ◌==◌, length, true, sym, subst, ap, ◌∙◌, eqb-true}
 use Rattle.nm_frames.specs.Populated.{IsPopulated}
-use Rattle.nm_model.specs.definitions.Frames.{Store}
-use Rattle.nm_engine.proofs.Together.Populated.{populated_there}
+use Rattle.nm_model.specs.definitions.Frames.{Store, bytes_of}
+use Rattle.nm_engine.specs.Frames.{KeepsBytes}
+use Rattle.nm_engine.proofs.Together.Populated.{keeps_self, keeps_then, keeps_populated, populated_keeps, populated_there}
 use Rattle.nm_engine.proofs.frames.populate.Goals as goal
-
-pub returns-clause-populated : goal.returns-clause-populated
-returns-clause-populated g c =
-    on_ok_weaker c.populate.result (λ is. subst (λ (s : Store). IsPopulated s c.args.frame) (sym is) (populated_there c.args.frames.now c.args.frame c.requires)) c.populate.ensures.ok

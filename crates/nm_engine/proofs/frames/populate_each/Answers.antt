@@ -1,21 +1,23 @@
-use Rattle.std.proofs.Common.{List, ◌+◌, drop, sym, subst}
+use Rattle.std.proofs.Common.{List, ◌+◌, ◌<◌, length, drop, sym, subst}
 use Rattle.std.specs.List.{AllByRecursion}
 use Rattle.std.proofs.Math.ListN.{drop_of_length-le}
 use Rattle.nm_frames.specs.Populated.{IsPopulated}
 use Rattle.nm_types.specs.declared.taken.Taken.{Taken}
 use Rattle.nm_model.specs.definitions.Early.{tos}
-use Rattle.nm_model.specs.definitions.Frames.{IsHome}
 use Rattle.nm_engine.proofs.Together.Paces.{drop_item}
-use Rattle.nm_engine.proofs.Together.Populated.{keeps_self, keeps_then, keeps_populated, homes_all}
+use Rattle.nm_engine.proofs.Together.Populated.{keeps_self, keeps_then, keeps_populated, homes_then}
 use Rattle.nm_engine.proofs.frames.populate_each.Goals as goal
 
 pub loop-taken-init : goal.loop-taken-init
-loop-taken-init g c = record { kept = keeps_self c.args.frames.now; homes = c.requires; populated = λ s kept all. all }
+loop-taken-init g c = record { kept = keeps_self c.args.frames.now; inside = c.requires.frames; home = c.requires.home; populated = λ s kept all. all }
 
-pub populate-requires : goal.populate-requires
-populate-requires g c =
+pub populate-requires-clause-frame : goal.populate-requires-clause-frame
+populate-requires-clause-frame g c =
     let at = drop_item c.args.moves.now c.loop-taken.taken-index c.taken-item.result c.loop-taken-test.true c.taken-item.is in
-    (subst (λ (ts : List Taken). AllByRecursion (IsHome c.loop-taken.frames) (tos ts)) at c.loop-taken.invariant.homes).0
+    (subst (λ (ts : List Taken). AllByRecursion (λ frame. frame < length c.loop-taken.frames) (tos ts)) at c.loop-taken.invariant.inside).0
+
+pub populate-requires-clause-home : goal.populate-requires-clause-home
+populate-requires-clause-home g c = c.loop-taken.invariant.home
 
 pub loop-taken-preserved : goal.loop-taken-preserved
 loop-taken-preserved g c =
@@ -24,11 +26,12 @@ loop-taken-preserved g c =
     let before = c.loop-taken.frames in
     let after = c.populate.new.frames in
     let at = drop_item c.args.moves.now k t c.loop-taken-test.true c.taken-item.is in
-    let homes = subst (λ (ts : List Taken). AllByRecursion (IsHome before) (tos ts)) at c.loop-taken.invariant.homes in
+    let inside = subst (λ (ts : List Taken). AllByRecursion (λ frame. frame < length before) (tos ts)) at c.loop-taken.invariant.inside in
     let now = c.in_ok-populate.ensures.kept in
     record {
       kept = keeps_then c.args.frames.now before after c.loop-taken.invariant.kept now;
-      homes = homes_all (tos (drop (k + 1) c.args.moves.now)) before after now homes.1;
+      inside = subst (λ n. AllByRecursion (λ frame. frame < n) (tos (drop (k + 1) c.args.moves.now))) (sym now.as_many) inside.1;
+      home = homes_then before after now c.loop-taken.invariant.home;
       populated = λ s kept all.
           c.loop-taken.invariant.populated s (keeps_then before after s now kept)
           (subst (λ (ts : List Taken). AllByRecursion (IsPopulated s) (tos ts)) (sym at) (keeps_populated after s t.to kept c.in_ok-populate.ensures.populated, all));

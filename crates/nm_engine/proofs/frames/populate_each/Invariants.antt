@@ -1,4 +1,4 @@
-use Rattle.std.proofs.Common.{drop}
+use Rattle.std.proofs.Common.{ℕ, ◌<◌, length, drop}
 use Rattle.std.specs.List.{AllByRecursion}
 use Rattle.nm_frames.specs.Populated.{IsPopulated}
 use Rattle.nm_model.specs.definitions.Early.{tos}
@@ -9,6 +9,7 @@ use Rattle.nm_engine.proofs.frames.populate_each.Given as goal
 abbrev pub invariant-loop-taken : goal.invariant-loop-taken
 invariant-loop-taken g l = let rest = tos (drop l.taken-index l.moves) in record {
   kept : KeepsBytes l.fn.frames l.frames;
-  homes : AllByRecursion (IsHome l.frames) rest;
+  inside : AllByRecursion (λ frame. frame < length l.frames) rest;
+  home : (f : ℕ) → f < length l.frames → IsHome l.frames f;
   populated : (s : Store) → KeepsBytes l.frames s → AllByRecursion (IsPopulated s) rest → AllByRecursion (IsPopulated s) (tos l.moves);
 }

@@ -1,11 +1,14 @@
 use Rattle.std.proofs.Common.{subst, ap}
 use Rattle.nm_engine.specs.Frames.{FramesView, KeepsBytes}
-use Rattle.nm_engine.proofs.Together.Shelves.{seen_home, store_kept}
+use Rattle.nm_engine.proofs.Together.Shelves.{seen_below, every_home, store_kept}
 use Rattle.nm_engine.proofs.Together.Populated.{keeps_all}
 use Rattle.nm_engine.proofs.frames.Frames.populate.Goals as goal
 
-pub populate-requires : goal.populate-requires
-populate-requires g c = seen_home _ c.args.self.now c.args.frame c.self.view_is c.self.invariant.1 c.requires
+pub populate-requires-clause-frame : goal.populate-requires-clause-frame
+populate-requires-clause-frame g c = seen_below _ c.args.self.now c.args.frame c.self.view_is c.self.invariant.1 c.requires
+
+pub populate-requires-clause-home : goal.populate-requires-clause-home
+populate-requires-clause-home g c = every_home _ c.self.invariant.1
 
 pub invariant_of-self : goal.invariant_of-self
 invariant_of-self g c =
