@@ -6,7 +6,7 @@ ghost use Rattle.nm_calls.specs.Maps.{address_text};
 
 use nm_types::Vpn;
 use std::alloc::{AllocError, Allocator};
-use std::str::from_utf8_unchecked;
+use std::str::from_utf8;
 
 /// Room for the text of an address: the sixteen digits that a number of 64 bits has at most, and three zeros.
 pub const ADDRESS_BYTES: usize = 19;
@@ -62,8 +62,10 @@ pub fn write_address(vpn: Vpn, text: &mut [u8; ADDRESS_BYTES]) -> &str
     let start = write_digits(vpn.number(), text);
     let from = start.min(11);
     let all = &text[..];
-    // Digits are text.
-    unsafe { from_utf8_unchecked(&all[from..]) }
+    let Ok(address) = from_utf8(&all[from..]) else {
+        unreachable!()
+    };
+    address
 }
 
 /// Appends the address at which a page begins, in at least eight hexadecimal digits.

@@ -4,13 +4,13 @@ use Rattle.nm_calls.specs.Maps.{address_text}
 use Rattle.nm_calls.proofs.Texts.{filled_is, address_utf8}
 use Rattle.nm_calls.proofs.words.write_address.Goals as goal
 
-pub from_utf8_unchecked-requires : goal.from_utf8_unchecked-requires
-from_utf8_unchecked-requires c =
+pub unreachable-requires : goal.unreachable-requires
+unreachable-requires c =
     let w = c.write_digits-start in
     let from = c.min-from.result in
     let all : take (length w.new.text - from) (drop from w.new.text) ≡ drop from w.new.text = take_all (length w.new.text - from) (drop from w.new.text) (omega (arith, length-drop from w.new.text)) in
     let is = filled_is c.number.result w.result from w.new.text _ w.array_long refl w.ensures.within c.min-from.ensures w.ensures.before w.ensures.written in
-    subst IsUtf8 (sym (all ∙ is)) (address_utf8 c.number.result)
+    c.in_default.ensures.cases.0 (subst IsUtf8 (sym (all ∙ is)) (address_utf8 c.number.result))
 
 pub returns : goal.returns
 returns c =
@@ -18,4 +18,4 @@ returns c =
     let from = c.min-from.result in
     let all : take (length w.new.text - from) (drop from w.new.text) ≡ drop from w.new.text = take_all (length w.new.text - from) (drop from w.new.text) (omega (arith, length-drop from w.new.text)) in
     let is = filled_is c.number.result w.result from w.new.text _ w.array_long refl w.ensures.within c.min-from.ensures w.ensures.before w.ensures.written in
-    c.from_utf8_unchecked.ensures ∙ all ∙ is ∙ ap address_text c.number.ensures
+    c.in-Ok.ensures.cases.0 ∙ all ∙ is ∙ ap address_text c.number.ensures
