@@ -1,5 +1,5 @@
 -- What holds of a machine's frames, and what stays so.
-use Rattle.std.proofs.Common.{◌≡◌, ℕ, ◌+◌, ◌<◌, ◌≢◌, true, false, cond, List, [], ◌∷◌, ◌++◌, length, refl, sym, ap, subst, ◌∙◌, arith, length-set, eq-eqb, IsSome}
+use Rattle.std.proofs.Common.{◌≡◌, ℕ, ◌<◌, ◌≢◌, true, false, cond, List, [], ◌∷◌, ◌++◌, length, refl, sym, ap, subst, ◌∙◌, arith, length-set, eq-eqb, IsSome}
 use Rattle.std.specs.Prelude.{Option, Some, None, sum, replicate, slice_get, slice_index_or, slice_set}
 use Rattle.std.specs.Option.{unwrap_or}
 use Rattle.std.specs.List.{sum_by}

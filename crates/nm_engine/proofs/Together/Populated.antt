@@ -1,6 +1,6 @@
 -- Frames that have their bytes in memory, and what keeps them.
-use Rattle.std.proofs.Common.{◌≡◌, ◌≢◌, ℕ, zero, suc, ◌+◌, ◌<◌, ◌≤◌, ◌==◌, List, [], ◌∷◌, ◌++◌, Bool, true, false, cond, length, refl, sym, ap, subst, ◌∙◌, arith, length-set, length-append, length-take, length-drop, eq-eqb, eqb-true, ⊎_elim}
-use Rattle.std.specs.Prelude.{Option, Some, None, replicate, slice_index_or, slice_set, if◌then◌else◌}
+use Rattle.std.proofs.Common.{◌≡◌, ◌≢◌, ℕ, zero, suc, ◌+◌, ◌<◌, ◌≤◌, ◌==◌, List, [], ◌∷◌, ◌++◌, true, false, cond, length, refl, sym, ap, subst, ◌∙◌, arith, length-set, length-append, length-take, length-drop, eq-eqb, eqb-true, ⊎_elim}
+use Rattle.std.specs.Prelude.{Option, Some, None, replicate, slice_set, if◌then◌else◌}
 use Rattle.std.specs.Option.{unwrap_or}
 use Rattle.std.specs.List.{AllByRecursion}
 use Rattle.std.specs.Ordering.{is_eq}

@@ -1,9 +1,5 @@
-use Rattle.std.proofs.Common.{ap, sym, subst, ◌∙◌, arith, ℕ, ◌<◌, ◌≤◌, ◌+◌, List, length}
-use Rattle.std.specs.List.{AllByRecursion}
-use Rattle.nm_types.specs.Layout.{node_count, frame_count}
-use Rattle.nm_frames.specs.Populated.{IsPopulated}
-use Rattle.nm_model.specs.definitions.Early.{tos}
-use Rattle.nm_model.specs.definitions.Sound.{IsSoundMidRun}
+use Rattle.std.proofs.Common.{ap, sym, subst, ◌∙◌, arith, length}
+use Rattle.nm_types.specs.Layout.{node_count}
 use Rattle.nm_engine.specs.Frames.{FramesView}
 use Rattle.nm_engine.specs.MidRun.{MidRun}
 use Rattle.nm_laws.specs.Moves.{CanMove}
