@@ -1,5 +1,5 @@
 -- Texts that are put into a block one after another.
-use Rattle.std.proofs.Common.{◌≡◌, ◌||◌, ℕ, Bool, true, false, List, [], ◌++◌, length-append, Option, Some, Result, Ok, Err, refl, sym, ap, subst, ◌∙◌, append_assoc, append-nil, arith}
+use Rattle.std.proofs.Common.{◌≡◌, ◌≤◌, ◌+◌, ◌||◌, if◌then◌else◌, length, ℕ, Bool, true, false, List, [], ◌++◌, length-append, Option, Some, Result, Ok, Err, refl, sym, ap, subst, ◌∙◌, append_assoc, append-nil, arith}
 use Rattle.std.specs.Prelude.{OnOk, OnErr, is_err}
 use Rattle.std.specs.Io.KnownBytes.{Appends}
 use Rattle.nm_trace.specs.declared.block.Block.{Block}
@@ -18,6 +18,12 @@ breaks_behind old mid new front rest text e p h =
     (front ++ h.0, h.1, append_assoc front h.0 h.1 ∙ ap (λ t. front ++ t) h.2 ∙ e, h.3, appends_more old mid new front h.0 p h.4)
 
 -- ---- one text
+
+-- where there is room for a list and a text, there is for the list with the text behind it, or without
+pub appended_within : (is : Bool) (before after text : List ℕ) (room : ℕ) → after ≡ (if is then before ++ text else before)
+    → length before + length text ≤ room → length after ≤ room
+appended_within true before after text room e few = omega (arith, ap (λ (l : List ℕ). length l) e, length-append before text, few)
+appended_within false before after text room e few = omega (arith, ap (λ (l : List ℕ). length l) e, few)
 
 broken_more : (old new : Option (List ℕ)) (is : Bool) (waiting so_far text : List ℕ) → is ≡ true → Stands old new is waiting so_far → Stands old new is waiting (so_far ++ text)
 broken_more old new true waiting so_far text e h = breaks_before old new so_far text h
@@ -56,22 +62,29 @@ module _ {W A : Type 0} (contents : W → Option (List ℕ)) (failed : W → Boo
   put_broken w b text e = record {
     stands = λ old so_far h. broken_more old (contents w) b.is_broken b.waiting.items so_far text e h;
     fails = λ before h. h;
+    room = refl;
+    within = λ h. h;
   }
 
   -- a text that waits
-  pub put_waits : (w : W) (b c : Block A) (text : List ℕ) → b.is_broken ≡ false → c.is_broken ≡ false → c.waiting.items ≡ b.waiting.items ++ text → Puts contents failed w b w c text
-  put_waits w b c text p q e = record {
+  pub put_waits : (w : W) (b c : Block A) (text : List ℕ) → b.is_broken ≡ false → c.is_broken ≡ false → c.waiting.items ≡ b.waiting.items ++ text
+      → c.room ≡ b.room → (length b.waiting.items ≤ b.room → length c.waiting.items ≤ c.room) → Puts contents failed w b w c text
+  put_waits w b c text p q e room within = record {
     stands = λ old so_far h. waits_more old (contents w) b.is_broken c.is_broken b.waiting.items c.waiting.items so_far text p q e h;
     fails = λ before h. same_failed b.is_broken c.is_broken before (failed w) p q h;
+    room = room;
+    within = within;
   }
 
   -- a text that is written with what waited
   pub put_through : {E : Type 0} (r : Result (Unit {0}) E) (w v : W) (b c : Block A) (text : List ℕ) → b.is_broken ≡ false → c.is_broken ≡ is_err r
       → OnOk r (Appends (contents w) (contents v) (b.waiting.items ++ text)) → OnOk r (c.waiting.items ≡ []) → OnErr r (BreaksOff (contents w) (contents v) (b.waiting.items ++ text))
-      → failed v ≡ (is_err r || failed w) → Puts contents failed w b v c text
-  put_through r w v b c text p q whole emptied broken told = record {
+      → failed v ≡ (is_err r || failed w) → c.room ≡ b.room → length c.waiting.items ≤ length b.waiting.items → Puts contents failed w b v c text
+  put_through r w v b c text p q whole emptied broken told room within = record {
     stands = λ old so_far h. goes_through r old (contents w) (contents v) b.is_broken c.is_broken b.waiting.items c.waiting.items so_far text p q whole emptied broken h;
     fails = λ before h. fails_through b.is_broken c.is_broken (is_err r) before (failed w) (failed v) p q told h;
+    room = room;
+    within = λ h. omega (arith, room, within, h);
   }
 
 -- ---- several
@@ -81,12 +94,16 @@ module _ {W A : Type 0} {contents : W → Option (List ℕ)} {failed : W → Boo
   put_none {w} {b} = record {
     stands = λ old so_far h. subst (Stands old (contents w) b.is_broken b.waiting.items) (sym (append-nil so_far)) h;
     fails = λ before h. h;
+    room = refl;
+    within = λ h. h;
   }
 
   pub put_more : {w v u : W} {b c d : Block A} {x y : List ℕ} → Puts contents failed w b v c x → Puts contents failed v c u d y → Puts contents failed w b u d (x ++ y)
   put_more {u = u} {d = d} {x = x} {y = y} p q = record {
     stands = λ old so_far h. subst (Stands old (contents u) d.is_broken d.waiting.items) (append_assoc so_far x y) (q.stands old (so_far ++ x) (p.stands old so_far h));
     fails = λ before h. q.fails before (p.fails before h);
+    room = q.room ∙ p.room;
+    within = λ h. q.within (p.within h);
   }
 
   pub put_is : {w v : W} {b c : Block A} {x y : List ℕ} → x ≡ y → Puts contents failed w b v c x → Puts contents failed w b v c y

@@ -1,5 +1,5 @@
 -- Text that is put into a block, which waits there or is written.
-use Rattle.std.specs.Prelude.{◌≡◌, ◌||◌, ℕ, Bool, true, false, List, ◌++◌, Option, Result, Ok, Err}
+use Rattle.std.specs.Prelude.{◌≡◌, ◌≤◌, ◌||◌, length, ℕ, Bool, true, false, List, ◌++◌, Option, Result, Ok, Err}
 use Rattle.std.specs.Io.KnownBytes.{Appends}
 use Rattle.nm_trace.specs.declared.block.Block.{Block}
 use Rattle.nm_calls.specs.Calls.{Call}
@@ -21,6 +21,10 @@ pub record Puts {W A : Type 0} (contents : W → Option (List ℕ)) (failed : W 
       Stands old (contents w) b.is_broken b.waiting.items so_far → Stands old (contents v) c.is_broken c.waiting.items (so_far ++ text)
   -- the block breaks just where the writer fails
   pub fails : (before : Bool) → failed w ≡ (b.is_broken || before) → failed v ≡ (c.is_broken || before)
+  -- the block has as much room as before
+  pub room : c.room ≡ b.room
+  -- and no more waits than it has room for
+  pub within : length b.waiting.items ≤ b.room → length c.waiting.items ≤ c.room
 
 -- a call is made and its lines are put; or it stopped, and nothing was put
 abbrev pub Tells : {E W A : Type 0} → (W → Option (List ℕ)) → (W → Bool) → ℕ → Result (Unit {0}) E → SystemState → SystemState → Call

@@ -1,6 +1,6 @@
 //! Text that waits to be written.
 
-ghost use Rattle.std.specs.Prelude.{◌≡◌, ◌||◌, ◌++◌, [], false, if◌then◌else◌, OnOk, OnErr, IfErr, is_err};
+ghost use Rattle.std.specs.Prelude.{◌≡◌, ◌≤◌, ◌||◌, ◌++◌, [], length, false, if◌then◌else◌, OnOk, OnErr, IfErr, is_err};
 ghost use Rattle.std.specs.Io.KnownBytes.{Appends};
 ghost use Rattle.nm_trace.specs.Played.{BreaksOff};
 ghost use Rattle.nm_trace.specs.Waiting.{Puts};
@@ -37,6 +37,7 @@ fn write_through<W: TellingWriter, A: Allocator>(
 ) -> Result<(), TraceError>
     ensures whole { OnOk result (Appends (W.contents writer.old) (W.contents writer.new) (waiting.old.items ++ text.now)) }
     ensures emptied { OnOk result (waiting.new.items ≡ []) }
+    ensures within { length waiting.new.items ≤ length waiting.old.items }
     ensures broken { OnErr result (BreaksOff (W.contents writer.old) (W.contents writer.new) (waiting.old.items ++ text.now)) }
     ensures told { W.has_failed writer.new ≡ (is_err result || W.has_failed writer.old) }
 {
@@ -52,7 +53,8 @@ fn write_through<W: TellingWriter, A: Allocator>(
 
 /// Appends a text to what waits, if so much may wait and the host has memory for it. Returns whether it did.
 fn keep<A: Allocator>(waiting: &mut Vec<u8, A>, room: usize, text: &[u8]) -> bool
-    ensures { waiting.new.items ≡ (if result then waiting.old.items ++ text.now else waiting.old.items) }
+    ensures kept { waiting.new.items ≡ (if result then waiting.old.items ++ text.now else waiting.old.items) }
+    ensures within { length waiting.old.items ≤ room → length waiting.new.items ≤ room }
 {
     let left = room.saturating_sub(waiting.len());
     text.len() <= left && waiting.extend_from_slice(text).is_ok()
@@ -71,6 +73,7 @@ impl<A: Allocator> Block<A> {
     /// A block in which so many bytes wait at most.
     pub(crate) fn new(alloc: A, room: usize) -> Block<A>
         ensures waiting { result.waiting.items ≡ [] }
+        ensures room { result.room ≡ room }
         ensures whole { result.is_broken ≡ false }
     {
         Block {

@@ -1,4 +1,4 @@
-use Rattle.std.proofs.Common.{◌≡◌, ◌++◌}
+use Rattle.std.proofs.Common.{◌≡◌, ◌≤◌, ◌++◌, length, refl}
 use Rattle.nm_trace.proofs.Waits.{put_broken, put_waits, put_through}
 use Rattle.nm_trace.proofs.block.Block.push.Goals as goal
 
@@ -7,11 +7,12 @@ returns-then-self g c = put_broken _ _ _ _ _ c.if-self.true
 
 pub returns-then-keep : goal.returns-then-keep
 returns-then-keep g c =
-    let kept : c.keep.new.waiting.items ≡ c.args.self.now.waiting.items ++ c.args.text.now = rw c.if-keep.true at c.keep.ensures in
-    put_waits _ _ _ c.args.self.now _ _ c.if-self.false c.if-self.false kept
+    let kept : c.keep.new.waiting.items ≡ c.args.self.now.waiting.items ++ c.args.text.now = rw c.if-keep.true at c.keep.ensures.kept in
+    put_waits _ _ _ c.args.self.now _ _ c.if-self.false c.if-self.false kept refl c.keep.ensures.within
 
 pub returns : goal.returns
 returns g c =
-    let same : c.keep.new.waiting.items ≡ c.args.self.now.waiting.items = rw c.if-keep.false at c.keep.ensures in
+    let same : c.keep.new.waiting.items ≡ c.args.self.now.waiting.items = rw c.if-keep.false at c.keep.ensures.kept in
+    let shorter : length c.write_through.new.waiting.items ≤ length c.args.self.now.waiting.items = rw same at c.write_through.ensures.within in
     put_through g.W.Write.contents g.W.TellingWriter.has_failed c.write_through.result _ _ c.args.self.now _ _ c.if-self.false c.is_err-self.ensures.value
-    (rw same at c.write_through.ensures.whole) c.write_through.ensures.emptied (rw same at c.write_through.ensures.broken) c.write_through.ensures.told
+    (rw same at c.write_through.ensures.whole) c.write_through.ensures.emptied (rw same at c.write_through.ensures.broken) c.write_through.ensures.told refl shorter
