@@ -80,8 +80,11 @@ impl<A: Allocator + Copy> AreaTable<A> {
     /// The number of a segment, if it exists, is shared, and has `pages` pages from `offset` on. None otherwise.
     pub(crate) fn stretch_of(&self, segment: u64, offset: u64, pages: u64) -> Option<u32>
         requires numbers { AllByRecursion (λ e. e.0 < self.now.next) self.now.segments }
-        ensures none { IfNone result (is_stretch (get nat_cmp self.now.segments segment) offset pages ≡ false) }
-        ensures some { IfSome result (λ number. (number ≡ segment) × (is_stretch (get nat_cmp self.now.segments number) offset pages ≡ true)) }
+        ensures none { IfNone result
+            (is_stretch (get nat_cmp self.now.segments segment) offset pages ≡ false) }
+        ensures some { IfSome result
+            (λ number. (number ≡ segment)
+            × (is_stretch (get nat_cmp self.now.segments number) offset pages ≡ true)) }
     {
         if segment >= u64::from(self.next_segment()) {
             return None;
@@ -101,7 +104,8 @@ impl<A: Allocator + Copy> AreaTable<A> {
     pub(crate) fn over(&self, pid: Pid, vpn: Vpn) -> Option<(Vpn, Area)>
         requires apart { AreasAreApart self.now.areas }
         requires whole { AllByRecursion IsSomePages self.now.areas }
-        ensures { option_map {U = Placed} (λ found. ((pid, found.0), found.1)) result ≡ area_over self.now.areas pid vpn }
+        ensures { option_map {U = Placed} (λ found. ((pid, found.0), found.1)) result
+            ≡ area_over self.now.areas pid vpn }
     {
         let ((owner, first), area) = self.areas.range(..=(pid, vpn)).next_back()?;
         let within = vpn.number().checked_sub(first.number())?;
@@ -118,7 +122,10 @@ impl<A: Allocator + Copy> AreaTable<A> {
         requires apart { AreasAreApart self.now.areas }
         requires whole { AllByRecursion IsSomePages self.now.areas }
         ensures low { result ≤ vpn }
-        ensures first { (v start : ℕ) (area : Area) → vpn ≤ v → area_over self.now.areas pid v ≡ Some ((pid, start), area) → result ≤ start }
+        ensures first { (v start : ℕ) (area : Area) →
+            vpn ≤ v →
+            area_over self.now.areas pid v ≡ Some ((pid, start), area) →
+            result ≤ start }
     {
         match self.over(pid, vpn) {
             Some((start, _)) => start,
@@ -187,7 +194,10 @@ impl<A: Allocator + Copy> AreaTable<A> {
         pages: u64,
     ) -> Result<(), AllocError>
         requires free { get spot_cmp self.old.areas (pid, first) ≡ None }
-        ensures ok { OnOk result (self.new ≡ with_areas self.old (set spot_cmp self.old.areas (pid, first) (new_area segment offset pages))) }
+        ensures ok { OnOk result
+            (self.new
+            ≡ with_areas self.old
+            (set spot_cmp self.old.areas (pid, first) (new_area segment offset pages))) }
         ensures err { OnErr result (self.new ≡ self.old) }
     {
         self.add(pid, first, new_area(segment, offset, pages))
@@ -196,7 +206,8 @@ impl<A: Allocator + Copy> AreaTable<A> {
     /// Adds an area where none begins. An error means that nothing has changed.
     pub(crate) fn add(&mut self, pid: Pid, first: Vpn, area: Area) -> Result<(), AllocError>
         requires free { get spot_cmp self.old.areas (pid, first) ≡ None }
-        ensures ok { OnOk result (self.new ≡ with_areas self.old (set spot_cmp self.old.areas (pid, first) area)) }
+        ensures ok { OnOk result
+            (self.new ≡ with_areas self.old (set spot_cmp self.old.areas (pid, first) area)) }
         ensures err { OnErr result (self.new ≡ self.old) }
         ensures ordered { OnOk result (IsStrictlySortedBy spot_cmp (keys_of self.old.areas)) }
     {
@@ -212,7 +223,8 @@ impl<A: Allocator + Copy> AreaTable<A> {
     /// Replaces the area at a pid and first page number, if there is one, by another over pages of the same segment.
     /// Does not allocate.
     pub(crate) fn put(&mut self, pid: Pid, start: Vpn, area: Area)
-        requires same { IfSome (get spot_cmp self.old.areas (pid, start)) (λ a. a.page.segment ≡ area.page.segment) }
+        requires same { IfSome (get spot_cmp self.old.areas (pid, start))
+            (λ a. a.page.segment ≡ area.page.segment) }
         ensures { self.new ≡ with_areas self.old (replace spot_cmp self.old.areas (pid, start) area) }
     {
         put(&mut self.areas, (pid, start), area);

@@ -57,8 +57,13 @@ impl<A: Allocator + Copy> Areas<A> {
     /// The area of a process that covers a page number, with the area's first page number. None if no area does. The
     /// result holds for all of the area's page numbers, so callers may keep it for those.
     pub fn find(&self, pid: Pid, vpn: Vpn) -> Option<(Vpn, Area)>
-        ensures found { option_map {U = Placed} (λ found. ((pid, found.0), found.1)) result ≡ area_over self.now.areas pid vpn }
-        ensures over { IfSome result (λ a. (v : ℕ) → a.0 ≤ v → v < a.0 + a.1.pages → area_over self.now.areas pid v ≡ Some ((pid, a.0), a.1)) }
+        ensures found { option_map {U = Placed} (λ found. ((pid, found.0), found.1)) result
+            ≡ area_over self.now.areas pid vpn }
+        ensures over { IfSome result
+            (λ a. (v : ℕ) →
+            a.0 ≤ v →
+            v < a.0 + a.1.pages →
+            area_over self.now.areas pid v ≡ Some ((pid, a.0), a.1)) }
         ensures kept { IsMapped self.now }
     {
         self.table.over(pid, vpn)
@@ -85,14 +90,20 @@ impl<A: Allocator + Copy> Areas<A> {
         shared: bool,
     ) -> Result<u32, MachineError>
         // In any case
-        ensures done { Makes result self.old self.new (insert_refusal self.old pid addr pages) (inserted self.old pid addr pages shared) }
+        ensures done { Makes result self.old self.new (insert_refusal self.old pid addr pages)
+            (inserted self.old pid addr pages shared) }
 
         // Without memory
-        ensures memory { result ≡ Err MachineError.HostMemory → insert_refusal self.old pid addr pages ≡ None }
+        ensures memory { result ≡ Err MachineError.HostMemory →
+            insert_refusal self.old pid addr pages ≡ None }
 
         // On success
         ensures number { IfOk result (λ number. number ≡ self.old.next) }
-        ensures over { OnOk result ((q v : ℕ) → area_over self.new.areas q v ≡ over_with self.old.areas ((pid, addr / 4096), new_area self.old.next 0 pages) q v) }
+        ensures over { OnOk result
+            ((q v : ℕ) →
+            area_over self.new.areas q v
+            ≡ over_with self.old.areas
+            ((pid, addr / 4096), new_area self.old.next 0 pages) q v) }
     {
         let Some(first) = range_start(addr, pages) else {
             return Err(MachineError::Refused(Errno::Einval));
@@ -131,9 +142,16 @@ impl<A: Allocator + Copy> Areas<A> {
         offset: u64,
         pages: u64,
     ) -> Result<(), MachineError>
-        ensures done { Makes result self.old self.new (stretch_refusal self.old pid addr segment offset pages) (attached self.old pid addr segment offset pages) }
-        ensures memory { result ≡ Err MachineError.HostMemory → stretch_refusal self.old pid addr segment offset pages ≡ None }
-        ensures over { OnOk result ((q v : ℕ) → area_over self.new.areas q v ≡ over_with self.old.areas ((pid, addr / 4096), new_area segment offset pages) q v) }
+        ensures done { Makes result self.old self.new
+            (stretch_refusal self.old pid addr segment offset pages)
+            (attached self.old pid addr segment offset pages) }
+        ensures memory { result ≡ Err MachineError.HostMemory →
+            stretch_refusal self.old pid addr segment offset pages ≡ None }
+        ensures over { OnOk result
+            ((q v : ℕ) →
+            area_over self.new.areas q v
+            ≡ over_with self.old.areas
+            ((pid, addr / 4096), new_area segment offset pages) q v) }
     {
         let Some(first) = range_start(addr, pages) else {
             return Err(MachineError::Refused(Errno::Einval));

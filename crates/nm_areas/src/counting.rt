@@ -29,7 +29,8 @@ pub(crate) fn count_in<A: Allocator + Copy>(
     requires indices { area.page.index + area.pages < 2 ^ 64 }
 
     // On success
-    ensures ok { OnOk result (IsWith steps.new.entries table.now.segments table.now.areas area shared) }
+    ensures ok { OnOk result
+        (IsWith steps.new.entries table.now.segments table.now.areas area shared) }
 
     // Without memory
     ensures err { OnErr result (IsCoverage steps.new.entries table.now.segments table.now.areas) }
@@ -51,7 +52,9 @@ pub(crate) fn count_out<A: Allocator + Copy>(
     shared: bool,
 )
     requires indices { area.page.index + area.pages < 2 ^ 64 }
-    ensures { (segments : Map ℕ Segment) (areas : Map (ℕ × ℕ) Area) → IsWith steps.old.entries segments areas area shared → IsCoverage steps.new.entries segments areas }
+    ensures { (segments : Map ℕ Segment) (areas : Map (ℕ × ℕ) Area) →
+        IsWith steps.old.entries segments areas area shared →
+        IsCoverage steps.new.entries segments areas }
 {
     if shared {
         uncover(steps, area);
@@ -86,7 +89,11 @@ fn count_out_one<A: Allocator + Copy>(
     area: Area,
 )
     requires indices { area.page.index + area.pages < 2 ^ 64 }
-    ensures { (ends covers : Page → ℕ) → IsSteps steps.old.entries (of_shared table.now.segments (λ p. ends p + ends_of p area)) (of_shared table.now.segments (λ p. covers p + covers_of p area)) → IsSteps steps.new.entries (of_shared table.now.segments ends) (of_shared table.now.segments covers) }
+    ensures { (ends covers : Page → ℕ) →
+        IsSteps steps.old.entries (of_shared table.now.segments (λ p. ends p + ends_of p area))
+        (of_shared table.now.segments (λ p. covers p + covers_of p area)) →
+        IsSteps steps.new.entries (of_shared table.now.segments ends)
+        (of_shared table.now.segments covers) }
 {
     if table.is_shared(area.page.segment) {
         uncover(steps, area);
@@ -108,7 +115,12 @@ pub(crate) fn split_steps<A: Allocator + Copy>(
     requires indices { AllByRecursion HasIndices table.now.areas }
 
     // On success
-    ensures ok { OnOk result (IsSteps steps.new.entries (λ p. (of_shared table.now.segments (ends_at table.now.areas) p + of_shared table.now.segments (splits_at table.now.areas pid first) p) + of_shared table.now.segments (splits_at table.now.areas pid end) p) (of_shared table.now.segments (covers_at table.now.areas))) }
+    ensures ok { OnOk result
+        (IsSteps steps.new.entries
+        (λ p. (of_shared table.now.segments (ends_at table.now.areas) p
+        + of_shared table.now.segments (splits_at table.now.areas pid first) p)
+        + of_shared table.now.segments (splits_at table.now.areas pid end) p)
+        (of_shared table.now.segments (covers_at table.now.areas))) }
 
     // Without memory
     ensures err { OnErr result (IsCoverage steps.new.entries table.now.segments table.now.areas) }
@@ -132,7 +144,11 @@ pub(crate) fn join_steps<A: Allocator + Copy>(
     first: Vpn,
     end: Vpn,
 )
-    requires steps { IsSteps steps.old.entries (λ p. (of_shared table.now.segments (ends_at table.now.areas) p + of_shared table.now.segments (splits_at table.now.areas pid first) p) + of_shared table.now.segments (splits_at table.now.areas pid end) p) (of_shared table.now.segments (covers_at table.now.areas)) }
+    requires steps { IsSteps steps.old.entries
+        (λ p. (of_shared table.now.segments (ends_at table.now.areas) p
+        + of_shared table.now.segments (splits_at table.now.areas pid first) p)
+        + of_shared table.now.segments (splits_at table.now.areas pid end) p)
+        (of_shared table.now.segments (covers_at table.now.areas)) }
     requires apart { AreasAreApart table.now.areas }
     requires whole { AllByRecursion IsSomePages table.now.areas }
     requires indices { AllByRecursion HasIndices table.now.areas }
@@ -155,7 +171,14 @@ fn split_step<A: Allocator + Copy>(
     requires indices { AllByRecursion HasIndices table.now.areas }
 
     // On success
-    ensures ok { OnOk result ((ends covers : Page → ℕ) → IsSteps steps.old.entries ends covers → IsFlat ends covers → ((p : Page) → ends p + 2 < 2 ^ 64) → IsSteps steps.new.entries (λ p. ends p + of_shared table.now.segments (splits_at table.now.areas pid at) p) covers) }
+    ensures ok { OnOk result
+        ((ends covers : Page → ℕ) →
+        IsSteps steps.old.entries ends covers →
+        IsFlat ends covers →
+        ((p : Page) → ends p + 2 < 2 ^ 64) →
+        IsSteps steps.new.entries
+        (λ p. ends p
+        + of_shared table.now.segments (splits_at table.now.areas pid at) p) covers) }
 
     // Without memory
     ensures err { OnErr result (steps.new.entries ≡ steps.old.entries) }
@@ -176,7 +199,11 @@ fn join_step<A: Allocator + Copy>(
     requires apart { AreasAreApart table.now.areas }
     requires whole { AllByRecursion IsSomePages table.now.areas }
     requires indices { AllByRecursion HasIndices table.now.areas }
-    ensures { (ends covers : Page → ℕ) → IsSteps steps.old.entries (λ p. ends p + of_shared table.now.segments (splits_at table.now.areas pid at) p) covers → IsSteps steps.new.entries ends covers }
+    ensures { (ends covers : Page → ℕ) →
+        IsSteps steps.old.entries
+        (λ p. ends p
+        + of_shared table.now.segments (splits_at table.now.areas pid at) p) covers →
+        IsSteps steps.new.entries ends covers }
 {
     if let Some(page) = table.split_page(pid, at) {
         unmark(steps, page, 2);
@@ -192,10 +219,14 @@ impl<A: Allocator + Copy> AreaTable<A> {
         requires indices { AllByRecursion HasIndices self.now.areas }
 
         // If there is one
-        ensures some { IfSome result (λ page. (p : Page) → of_shared self.now.segments (splits_at self.now.areas pid at) p ≡ (if same_page page p then 2 else 0)) }
+        ensures some { IfSome result
+            (λ page. (p : Page) →
+            of_shared self.now.segments (splits_at self.now.areas pid at) p
+            ≡ (if same_page page p then 2 else 0)) }
 
         // If there is none
-        ensures none { IfNone result ((p : Page) → of_shared self.now.segments (splits_at self.now.areas pid at) p ≡ 0) }
+        ensures none { IfNone result
+            ((p : Page) → of_shared self.now.segments (splits_at self.now.areas pid at) p ≡ 0) }
     {
         let (start, area) = self.over(pid, at)?;
         let front = at.number() - start.number();

@@ -35,8 +35,19 @@ pub(crate) fn cover<A: Allocator + Copy>(
     area: Area,
 ) -> Result<(), AllocError>
     requires indices { area.page.index + area.pages < 2 ^ 64 }
-    ensures ok { OnOk result ((ends covers : Page → ℕ) → IsSteps steps.old.entries ends covers → IsFlat ends covers → ((p : Page) → (ends p < 2 ^ 63) × (covers p < 2 ^ 63)) → IsSteps steps.new.entries (λ p. ends p + ends_of p area) (λ p. covers p + covers_of p area)) }
-    ensures err { OnErr result ((ends covers : Page → ℕ) → IsSteps steps.old.entries ends covers → IsFlat ends covers → ((p : Page) → (ends p < 2 ^ 63) × (covers p < 2 ^ 63)) → IsSteps steps.new.entries ends covers) }
+    ensures ok { OnOk result
+        ((ends covers : Page → ℕ) →
+        IsSteps steps.old.entries ends covers →
+        IsFlat ends covers →
+        ((p : Page) → (ends p < 2 ^ 63) × (covers p < 2 ^ 63)) →
+        IsSteps steps.new.entries (λ p. ends p + ends_of p area)
+        (λ p. covers p + covers_of p area)) }
+    ensures err { OnErr result
+        ((ends covers : Page → ℕ) →
+        IsSteps steps.old.entries ends covers →
+        IsFlat ends covers →
+        ((p : Page) → (ends p < 2 ^ 63) × (covers p < 2 ^ 63)) →
+        IsSteps steps.new.entries ends covers) }
 {
     let Page { segment, index } = area.page;
     let past = index + area.pages;
@@ -57,7 +68,10 @@ pub(crate) fn cover<A: Allocator + Copy>(
 /// Removes an area that was counted. Does not allocate.
 pub(crate) fn uncover<A: Allocator + Copy>(steps: &mut BTreeMap<Page, Step, A>, area: Area)
     requires indices { area.page.index + area.pages < 2 ^ 64 }
-    ensures { (ends covers : Page → ℕ) → IsSteps steps.old.entries (λ p. ends p + ends_of p area) (λ p. covers p + covers_of p area) → IsSteps steps.new.entries ends covers }
+    ensures { (ends covers : Page → ℕ) →
+        IsSteps steps.old.entries (λ p. ends p + ends_of p area)
+        (λ p. covers p + covers_of p area) →
+        IsSteps steps.new.entries ends covers }
 {
     let Page { segment, index } = area.page;
     let past = index + area.pages;
@@ -80,7 +94,13 @@ pub(crate) fn mark<A: Allocator + Copy>(
     times: u64,
 ) -> Result<(), AllocError>
     requires some { 0 < times }
-    ensures ok { OnOk result ((ends covers : Page → ℕ) → IsSteps steps.old.entries ends covers → IsFlat ends covers → ends page + times < 2 ^ 64 → IsSteps steps.new.entries (λ p. ends p + (if same_page page p then times else 0)) covers) }
+    ensures ok { OnOk result
+        ((ends covers : Page → ℕ) →
+        IsSteps steps.old.entries ends covers →
+        IsFlat ends covers →
+        ends page + times < 2 ^ 64 →
+        IsSteps steps.new.entries
+        (λ p. ends p + (if same_page page p then times else 0)) covers) }
     ensures err { OnErr result (steps.new.entries ≡ steps.old.entries) }
 {
     let step = Step {
@@ -97,7 +117,9 @@ pub(crate) fn unmark<A: Allocator + Copy>(
     page: Page,
     times: u64,
 )
-    ensures { (ends covers : Page → ℕ) → IsSteps steps.old.entries (λ p. ends p + (if same_page page p then times else 0)) covers → IsSteps steps.new.entries ends covers }
+    ensures { (ends covers : Page → ℕ) →
+        IsSteps steps.old.entries (λ p. ends p + (if same_page page p then times else 0)) covers →
+        IsSteps steps.new.entries ends covers }
 {
     let Some(step) = steps.get(&page).copied() else {
         return;
@@ -120,7 +142,9 @@ fn shift<A: Allocator + Copy>(
     up: bool,
 )
     requires range { first ≤ past }
-    ensures { (p : Page) → get page_cmp steps.new.entries p ≡ option_map (shifted_in segment first past up p) (get page_cmp steps.old.entries p) }
+    ensures { (p : Page) →
+        get page_cmp steps.new.entries p
+        ≡ option_map (shifted_in segment first past up p) (get page_cmp steps.old.entries p) }
 {
     let from = Page {
         segment,
@@ -169,7 +193,10 @@ fn put_step<A: Allocator + Copy>(steps: &mut BTreeMap<Page, Step, A>, page: Page
 
 /// How many areas cover a page.
 pub(crate) fn count_at<A: Allocator + Copy>(steps: &BTreeMap<Page, Step, A>, page: Page) -> u64
-    ensures { (ends covers : Page → ℕ) → IsSteps steps.now.entries ends covers → IsFlat ends covers → result ≡ covers page }
+    ensures { (ends covers : Page → ℕ) →
+        IsSteps steps.now.entries ends covers →
+        IsFlat ends covers →
+        result ≡ covers page }
 {
     match steps.range(..=page).next_back() {
         Some((start, step)) => {
@@ -197,13 +224,29 @@ fn ends_at<A: Allocator + Copy>(steps: &BTreeMap<Page, Step, A>, page: Page) -> 
 /// cover that page; or `past` if there is none.
 pub(crate) fn step_change(rest: &mut Range<'_, Page, Step>, segment: u32, past: u64) -> (u64, u64)
     // The index
-    ensures low { (steps : Map Page Step) (at : ℕ) → IsRest page_cmp steps (page_in segment at) rest.old → at ≤ past → at ≤ result.0 }
+    ensures low { (steps : Map Page Step) (at : ℕ) →
+        IsRest page_cmp steps (page_in segment at) rest.old →
+        at ≤ past →
+        at ≤ result.0 }
     ensures high { result.0 ≤ past }
-    ensures none { (steps : Map Page Step) (at : ℕ) → IsRest page_cmp steps (page_in segment at) rest.old → (i : ℕ) → at ≤ i → i < result.0 → get page_cmp steps (page_in segment i) ≡ None }
+    ensures none { (steps : Map Page Step) (at : ℕ) →
+        IsRest page_cmp steps (page_in segment at) rest.old →
+        (i : ℕ) →
+        at ≤ i →
+        i < result.0 →
+        get page_cmp steps (page_in segment i) ≡ None }
 
     // If it is before `past`
-    ensures count { (steps : Map Page Step) (at : ℕ) → IsRest page_cmp steps (page_in segment at) rest.old → (ends covers : Page → ℕ) → IsSteps steps ends covers → result.0 < past → result.1 ≡ covers (page_in segment result.0) }
-    ensures rest { (steps : Map Page Step) (at : ℕ) → IsRest page_cmp steps (page_in segment at) rest.old → result.0 < past → IsRest page_cmp steps (page_in segment (result.0 + 1)) rest.new }
+    ensures count { (steps : Map Page Step) (at : ℕ) →
+        IsRest page_cmp steps (page_in segment at) rest.old →
+        (ends covers : Page → ℕ) →
+        IsSteps steps ends covers →
+        result.0 < past →
+        result.1 ≡ covers (page_in segment result.0) }
+    ensures rest { (steps : Map Page Step) (at : ℕ) →
+        IsRest page_cmp steps (page_in segment at) rest.old →
+        result.0 < past →
+        IsRest page_cmp steps (page_in segment (result.0 + 1)) rest.new }
 {
     match step_page(rest, segment, past) {
         Some((index, step)) => (index, step.covers),

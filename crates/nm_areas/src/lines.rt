@@ -32,7 +32,8 @@ impl<A: Allocator + Copy> Areas<A> {
     /// The areas of a process, in address order. Empty if it has none, or if there is no such process. An error means
     /// that the host is out of memory; an empty list takes none.
     pub fn lines(&self, pid: Pid) -> Result<Vec<Line, A>, AllocError>
-        ensures lines { IfOk result (λ lines. lines.items ≡ lines_of self.now.segments self.now.areas pid) }
+        ensures lines { IfOk result
+            (λ lines. lines.items ≡ lines_of self.now.segments self.now.areas pid) }
         ensures asked { OnErr result (0 < length (lines_of self.now.segments self.now.areas pid)) }
     {
         list_lines(self.alloc, &self.table.segments, &self.table.areas, pid)
@@ -48,7 +49,8 @@ fn list_lines<A: Allocator + Copy>(
 ) -> Result<Vec<Line, A>, AllocError>
     requires whole { AllByRecursion IsSomePages areas.now.entries }
     requires low { AllByRecursion EndsLow areas.now.entries }
-    ensures lines { IfOk result (λ lines. lines.items ≡ lines_of segments.now.entries areas.now.entries pid) }
+    ensures lines { IfOk result
+        (λ lines. lines.items ≡ lines_of segments.now.entries areas.now.entries pid) }
     ensures asked { OnErr result (0 < length (lines_of segments.now.entries areas.now.entries pid)) }
 {
     let mut lines = Vec::new(alloc);

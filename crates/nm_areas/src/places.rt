@@ -28,8 +28,18 @@ impl<A: Allocator + Copy> Areas<A> {
     /// Whether an area of a process shows, at a page number from `first` up to `end`, a page whose frame has a number
     /// above 0 in a list by frame. A frame past the end of the list counts as 0. Does not allocate.
     pub fn shows_counted(&self, pid: Pid, first: Vpn, end: Vpn, counts: &[u32]) -> bool
-        ensures shown { result ≡ true → (v : ℕ) × (p : Page) × (frame : ℕ) × (first ≤ v) × (v < end) × (page_at self.now.areas pid v ≡ Some p) × (get page_cmp self.now.place p ≡ Some frame) × (0 < slice_index_or counts.now frame 0) }
-        ensures none { result ≡ false → (v : ℕ) (p : Page) (frame : ℕ) → first ≤ v → v < end → page_at self.now.areas pid v ≡ Some p → get page_cmp self.now.place p ≡ Some frame → slice_index_or counts.now frame 0 ≡ 0 }
+        ensures shown { result ≡ true →
+            (v : ℕ) × (p : Page) × (frame : ℕ) × (first ≤ v) × (v < end)
+            × (page_at self.now.areas pid v ≡ Some p)
+            × (get page_cmp self.now.place p ≡ Some frame)
+            × (0 < slice_index_or counts.now frame 0) }
+        ensures none { result ≡ false →
+            (v : ℕ) (p : Page) (frame : ℕ) →
+            first ≤ v →
+            v < end →
+            page_at self.now.areas pid v ≡ Some p →
+            get page_cmp self.now.place p ≡ Some frame →
+            slice_index_or counts.now frame 0 ≡ 0 }
         ensures kept { IsMapped self.now }
     {
         shows_counted(&self.table, &self.places, pid, first, end, counts)
@@ -93,8 +103,18 @@ fn shows_counted<A: Allocator + Copy>(
     counts: &[u32],
 ) -> bool
     requires { IsMapped (mapped table.now places.now.entries) }
-    ensures shown { result ≡ true → (v : ℕ) × (p : Page) × (frame : ℕ) × (first ≤ v) × (v < end) × (page_at table.now.areas pid v ≡ Some p) × (get page_cmp places.now.entries p ≡ Some frame) × (0 < slice_index_or counts.now frame 0) }
-    ensures none { result ≡ false → (v : ℕ) (p : Page) (frame : ℕ) → first ≤ v → v < end → page_at table.now.areas pid v ≡ Some p → get page_cmp places.now.entries p ≡ Some frame → slice_index_or counts.now frame 0 ≡ 0 }
+    ensures shown { result ≡ true →
+        (v : ℕ) × (p : Page) × (frame : ℕ) × (first ≤ v) × (v < end)
+        × (page_at table.now.areas pid v ≡ Some p)
+        × (get page_cmp places.now.entries p ≡ Some frame)
+        × (0 < slice_index_or counts.now frame 0) }
+    ensures none { result ≡ false →
+        (v : ℕ) (p : Page) (frame : ℕ) →
+        first ≤ v →
+        v < end →
+        page_at table.now.areas pid v ≡ Some p →
+        get page_cmp places.now.entries p ≡ Some frame →
+        slice_index_or counts.now frame 0 ≡ 0 }
 {
     let begin = table.begin(pid, first);
     let mut rest = table.areas.range((pid, begin)..);
@@ -119,10 +139,20 @@ fn area_shows_counted<A: Allocator + Copy>(
     requires indices { area.page.index + area.pages < 2 ^ 64 }
 
     // If there is one
-    ensures shown { result ≡ true → (v : ℕ) × (frame : ℕ) × (first ≤ v) × (v < end) × (start ≤ v) × (v < start + area.pages) × (get page_cmp places.now.entries (page_of ((0, start), area) v) ≡ Some frame) × (0 < slice_index_or counts.now frame 0) }
+    ensures shown { result ≡ true →
+        (v : ℕ) × (frame : ℕ) × (first ≤ v) × (v < end) × (start ≤ v) × (v < start + area.pages)
+        × (get page_cmp places.now.entries (page_of ((0, start), area) v) ≡ Some frame)
+        × (0 < slice_index_or counts.now frame 0) }
 
     // If there is none
-    ensures none { result ≡ false → (v frame : ℕ) → first ≤ v → v < end → start ≤ v → v < start + area.pages → get page_cmp places.now.entries (page_of ((0, start), area) v) ≡ Some frame → slice_index_or counts.now frame 0 ≡ 0 }
+    ensures none { result ≡ false →
+        (v frame : ℕ) →
+        first ≤ v →
+        v < end →
+        start ≤ v →
+        v < start + area.pages →
+        get page_cmp places.now.entries (page_of ((0, start), area) v) ≡ Some frame →
+        slice_index_or counts.now frame 0 ≡ 0 }
 {
     let Page { segment, index } = area.page;
     let front = first
@@ -141,8 +171,16 @@ fn has_counted<A: Allocator + Copy>(
     past: u64,
     counts: &[u32],
 ) -> bool
-    ensures shown { result ≡ true → (i : ℕ) × (frame : ℕ) × (at ≤ i) × (i < past) × (get page_cmp places.now.entries (page_in segment i) ≡ Some frame) × (0 < slice_index_or counts.now frame 0) }
-    ensures none { result ≡ false → (i frame : ℕ) → at ≤ i → i < past → get page_cmp places.now.entries (page_in segment i) ≡ Some frame → slice_index_or counts.now frame 0 ≡ 0 }
+    ensures shown { result ≡ true →
+        (i : ℕ) × (frame : ℕ) × (at ≤ i) × (i < past)
+        × (get page_cmp places.now.entries (page_in segment i) ≡ Some frame)
+        × (0 < slice_index_or counts.now frame 0) }
+    ensures none { result ≡ false →
+        (i frame : ℕ) →
+        at ≤ i →
+        i < past →
+        get page_cmp places.now.entries (page_in segment i) ≡ Some frame →
+        slice_index_or counts.now frame 0 ≡ 0 }
 {
     let from = Page { segment, index: at };
     let mut rest = places.range(from..);
@@ -179,7 +217,8 @@ fn list_placed<A: Allocator + Copy>(
     alloc: A,
     places: &BTreeMap<Page, FrameId, A>,
 ) -> Result<Vec<(Page, FrameId), A>, AllocError>
-    ensures { IfOk result (λ placed. placed.items ≡ with_values (λ page frame. frame) places.now.entries) }
+    ensures { IfOk result
+        (λ placed. placed.items ≡ with_values (λ page frame. frame) places.now.entries) }
 {
     places
         .iter()

@@ -50,8 +50,10 @@ impl<A: Allocator + Copy> Areas<A> {
         len: u64,
         policy: Policy,
     ) -> Result<(), MachineError>
-        ensures done { Makes result self.old self.new (range_refusal self.old pid addr len) (with_policy self.old pid addr len policy) }
-        ensures memory { result ≡ Err MachineError.HostMemory → (range_refusal self.old pid addr len ≡ None) × (0 < len) }
+        ensures done { Makes result self.old self.new (range_refusal self.old pid addr len)
+            (with_policy self.old pid addr len policy) }
+        ensures memory { result ≡ Err MachineError.HostMemory →
+            (range_refusal self.old pid addr len ≡ None) × (0 < len) }
         ensures pages { (q v : ℕ) → page_at self.new.areas q v ≡ page_at self.old.areas q v }
     {
         let Some((first, count)) = whole_pages(addr, len) else {
@@ -108,7 +110,10 @@ impl<A: Allocator + Copy> AreaTable<A> {
         requires end { first + count < 2 ^ 64 }
 
         // On success
-        ensures ok { OnOk result (self.new ≡ with_areas self.old (flat_map (repoliced pid first (first + count) policy) self.old.areas)) }
+        ensures ok { OnOk result
+            (self.new
+            ≡ with_areas self.old
+            (flat_map (repoliced pid first (first + count) policy) self.old.areas)) }
 
         // Without memory
         ensures err { OnErr result (self.new ≡ self.old) }
@@ -133,8 +138,12 @@ fn goes_on<A: Allocator + Copy>(
     requires whole { AllByRecursion IsSomePages areas.now.entries }
     requires low { AllByRecursion EndsLow areas.now.entries }
     requires some { 0 < area.pages }
-    requires over { (v : ℕ) → first ≤ v → v < first + area.pages → area_over areas.now.entries pid v ≡ Some ((pid, first), area) }
-    ensures { result ≡ is_mapped areas.now.entries pid (first + area.pages) (end - (first + area.pages)) }
+    requires over { (v : ℕ) →
+        first ≤ v →
+        v < first + area.pages →
+        area_over areas.now.entries pid v ≡ Some ((pid, first), area) }
+    ensures { result
+        ≡ is_mapped areas.now.entries pid (first + area.pages) (end - (first + area.pages)) }
 {
     let mut at = first.number() + area.pages;
     let mut rest = areas.range((pid, Vpn::new(at))..);

@@ -10,7 +10,9 @@ use nm_types::limits::{PAGE_BYTES, PAGE_NUMBERS};
 /// The first of the page numbers of `pages` pages from an address on. None if the address is not a multiple of 4,096,
 /// `pages` is 0, or the pages end past 2^47: then a call refuses them with EINVAL.
 pub fn range_start(addr: u64, pages: u64) -> Option<Vpn>
-    ensures some { IfSome result (λ first. (first ≡ addr / 4096) × (is_range addr pages ≡ true) × (0 < pages) × (first + pages ≤ 2 ^ 35)) }
+    ensures some { IfSome result
+        (λ first. (first ≡ addr / 4096) × (is_range addr pages ≡ true) × (0 < pages)
+        × (first + pages ≤ 2 ^ 35)) }
     ensures none { IfNone result (is_range addr pages ≡ false) }
 {
     let first = Vpn::of_address(addr);
@@ -25,7 +27,9 @@ pub fn range_start(addr: u64, pages: u64) -> Option<Vpn>
 /// The first page number and the number of the whole pages of `len` bytes from an address on. None if the address is
 /// not a multiple of 4,096 or the pages end at 2^64 or past it.
 pub(crate) fn whole_pages(addr: u64, len: u64) -> Option<(Vpn, u64)>
-    ensures some { IfSome result (λ r. (r.0 ≡ addr / 4096) × (r.1 ≡ pages_of len) × (addr % 4096 ≡ 0) × (addr + 4096 * pages_of len < 2 ^ 64)) }
+    ensures some { IfSome result
+        (λ r. (r.0 ≡ addr / 4096) × (r.1 ≡ pages_of len) × (addr % 4096 ≡ 0)
+        × (addr + 4096 * pages_of len < 2 ^ 64)) }
     ensures none { IfNone result (addr % 4096 ≡ 0 → 2 ^ 64 ≤ addr + 4096 * pages_of len) }
 {
     let bytes = PAGE_BYTES as u64;

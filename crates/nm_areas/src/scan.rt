@@ -19,11 +19,14 @@ impl<A: Allocator + Copy> AreaTable<A> {
     /// The first area of the process that begins from one page number up to another.
     pub(crate) fn next_own(&self, pid: Pid, at: Vpn, end: Vpn) -> Option<(Vpn, Area)>
         // If there is one
-        ensures some { IfSome result (λ a. (at ≤ a.0) × (a.0 < end) × (get spot_cmp self.now.areas (pid, a.0) ≡ Some a.1)) }
-        ensures first { IfSome result (λ a. (v : ℕ) → at ≤ v → v < a.0 → get spot_cmp self.now.areas (pid, v) ≡ None) }
+        ensures some { IfSome result
+            (λ a. (at ≤ a.0) × (a.0 < end) × (get spot_cmp self.now.areas (pid, a.0) ≡ Some a.1)) }
+        ensures first { IfSome result
+            (λ a. (v : ℕ) → at ≤ v → v < a.0 → get spot_cmp self.now.areas (pid, v) ≡ None) }
 
         // If there is none
-        ensures none { IfNone result ((v : ℕ) → at ≤ v → v < end → get spot_cmp self.now.areas (pid, v) ≡ None) }
+        ensures none { IfNone result
+            ((v : ℕ) → at ≤ v → v < end → get spot_cmp self.now.areas (pid, v) ≡ None) }
 
         // In any case
         ensures ordered { IsStrictlySortedBy spot_cmp (keys_of self.now.areas) }
@@ -40,11 +43,14 @@ pub(crate) fn next_area<A: Allocator + Copy>(
     end: Vpn,
 ) -> Option<(Vpn, Area)>
     // If there is one
-    ensures some { IfSome result (λ a. (at ≤ a.0) × (a.0 < end) × (get spot_cmp areas.now.entries (pid, a.0) ≡ Some a.1)) }
-    ensures first { IfSome result (λ a. (v : ℕ) → at ≤ v → v < a.0 → get spot_cmp areas.now.entries (pid, v) ≡ None) }
+    ensures some { IfSome result
+        (λ a. (at ≤ a.0) × (a.0 < end) × (get spot_cmp areas.now.entries (pid, a.0) ≡ Some a.1)) }
+    ensures first { IfSome result
+        (λ a. (v : ℕ) → at ≤ v → v < a.0 → get spot_cmp areas.now.entries (pid, v) ≡ None) }
 
     // If there is none
-    ensures none { IfNone result ((v : ℕ) → at ≤ v → v < end → get spot_cmp areas.now.entries (pid, v) ≡ None) }
+    ensures none { IfNone result
+        ((v : ℕ) → at ≤ v → v < end → get spot_cmp areas.now.entries (pid, v) ≡ None) }
 
     // In any case
     ensures ordered { IsStrictlySortedBy spot_cmp (keys_of areas.now.entries) }
@@ -60,14 +66,22 @@ pub(crate) fn step_area(
     end: Vpn,
 ) -> Option<(Vpn, Area)>
     // If there is one
-    ensures some { (areas : Map (ℕ × ℕ) Area) (at : ℕ) → IsRest spot_cmp areas (pid, at) rest.old → IfSome result (λ a. (at ≤ a.0) × (a.0 < end) × (get spot_cmp areas (pid, a.0) ≡ Some a.1)) }
-    ensures first { (areas : Map (ℕ × ℕ) Area) (at : ℕ) → IsRest spot_cmp areas (pid, at) rest.old → IfSome result (λ a. (v : ℕ) → at ≤ v → v < a.0 → get spot_cmp areas (pid, v) ≡ None) }
+    ensures some { (areas : Map (ℕ × ℕ) Area) (at : ℕ) →
+        IsRest spot_cmp areas (pid, at) rest.old →
+        IfSome result (λ a. (at ≤ a.0) × (a.0 < end) × (get spot_cmp areas (pid, a.0) ≡ Some a.1)) }
+    ensures first { (areas : Map (ℕ × ℕ) Area) (at : ℕ) →
+        IsRest spot_cmp areas (pid, at) rest.old →
+        IfSome result (λ a. (v : ℕ) → at ≤ v → v < a.0 → get spot_cmp areas (pid, v) ≡ None) }
 
     // If there is none
-    ensures none { (areas : Map (ℕ × ℕ) Area) (at : ℕ) → IsRest spot_cmp areas (pid, at) rest.old → IfNone result ((v : ℕ) → at ≤ v → v < end → get spot_cmp areas (pid, v) ≡ None) }
+    ensures none { (areas : Map (ℕ × ℕ) Area) (at : ℕ) →
+        IsRest spot_cmp areas (pid, at) rest.old →
+        IfNone result ((v : ℕ) → at ≤ v → v < end → get spot_cmp areas (pid, v) ≡ None) }
 
     // What is left of them
-    ensures rest { (areas : Map (ℕ × ℕ) Area) (at : ℕ) → IsRest spot_cmp areas (pid, at) rest.old → IfSome result (λ a. IsRest spot_cmp areas (pid, a.0 + 1) rest.new) }
+    ensures rest { (areas : Map (ℕ × ℕ) Area) (at : ℕ) →
+        IsRest spot_cmp areas (pid, at) rest.old →
+        IfSome result (λ a. IsRest spot_cmp areas (pid, a.0 + 1) rest.new) }
     ensures fewer { IfSome result (λ a. length rest.new < length rest.old) }
 {
     let ((owner, start), area) = rest.next()?;
@@ -101,11 +115,18 @@ pub(crate) fn next_of<V: Copy, A: Allocator + Copy>(
     past: u64,
 ) -> Option<(u64, V)>
     // If there is one
-    ensures some { IfSome result (λ p. (at ≤ p.0) × (p.0 < past) × (get page_cmp pages.now.entries (page_in segment p.0) ≡ Some p.1)) }
-    ensures first { IfSome result (λ p. (i : ℕ) → at ≤ i → i < p.0 → get page_cmp pages.now.entries (page_in segment i) ≡ None) }
+    ensures some { IfSome result
+        (λ p. (at ≤ p.0) × (p.0 < past)
+        × (get page_cmp pages.now.entries (page_in segment p.0) ≡ Some p.1)) }
+    ensures first { IfSome result
+        (λ p. (i : ℕ) →
+        at ≤ i →
+        i < p.0 →
+        get page_cmp pages.now.entries (page_in segment i) ≡ None) }
 
     // If there is none
-    ensures none { IfNone result ((i : ℕ) → at ≤ i → i < past → get page_cmp pages.now.entries (page_in segment i) ≡ None) }
+    ensures none { IfNone result
+        ((i : ℕ) → at ≤ i → i < past → get page_cmp pages.now.entries (page_in segment i) ≡ None) }
 
     // In any case
     ensures ordered { IsStrictlySortedBy page_cmp (keys_of pages.now.entries) }
@@ -122,14 +143,24 @@ pub(crate) fn step_page<V: Copy>(
     past: u64,
 ) -> Option<(u64, V)>
     // If there is one
-    ensures some { (pages : Map Page V) (at : ℕ) → IsRest page_cmp pages (page_in segment at) rest.old → IfSome result (λ p. (at ≤ p.0) × (p.0 < past) × (get page_cmp pages (page_in segment p.0) ≡ Some p.1)) }
-    ensures first { (pages : Map Page V) (at : ℕ) → IsRest page_cmp pages (page_in segment at) rest.old → IfSome result (λ p. (i : ℕ) → at ≤ i → i < p.0 → get page_cmp pages (page_in segment i) ≡ None) }
+    ensures some { (pages : Map Page V) (at : ℕ) →
+        IsRest page_cmp pages (page_in segment at) rest.old →
+        IfSome result
+        (λ p. (at ≤ p.0) × (p.0 < past) × (get page_cmp pages (page_in segment p.0) ≡ Some p.1)) }
+    ensures first { (pages : Map Page V) (at : ℕ) →
+        IsRest page_cmp pages (page_in segment at) rest.old →
+        IfSome result
+        (λ p. (i : ℕ) → at ≤ i → i < p.0 → get page_cmp pages (page_in segment i) ≡ None) }
 
     // If there is none
-    ensures none { (pages : Map Page V) (at : ℕ) → IsRest page_cmp pages (page_in segment at) rest.old → IfNone result ((i : ℕ) → at ≤ i → i < past → get page_cmp pages (page_in segment i) ≡ None) }
+    ensures none { (pages : Map Page V) (at : ℕ) →
+        IsRest page_cmp pages (page_in segment at) rest.old →
+        IfNone result ((i : ℕ) → at ≤ i → i < past → get page_cmp pages (page_in segment i) ≡ None) }
 
     // What is left of them
-    ensures rest { (pages : Map Page V) (at : ℕ) → IsRest page_cmp pages (page_in segment at) rest.old → IfSome result (λ p. IsRest page_cmp pages (page_in segment (p.0 + 1)) rest.new) }
+    ensures rest { (pages : Map Page V) (at : ℕ) →
+        IsRest page_cmp pages (page_in segment at) rest.old →
+        IfSome result (λ p. IsRest page_cmp pages (page_in segment (p.0 + 1)) rest.new) }
     ensures fewer { IfSome result (λ p. length rest.new < length rest.old) }
     ensures high { IfSome result (λ p. p.0 < past) }
 {

@@ -23,7 +23,8 @@ impl<A: Allocator + Copy> AreaTable<A> {
         requires ordered { IsStrictlySortedBy spot_cmp (keys_of self.old.areas) }
 
         // On success
-        ensures ok { OnOk result (self.new ≡ with_areas self.old (split_at pid end (split_at pid first self.old.areas))) }
+        ensures ok { OnOk result
+            (self.new ≡ with_areas self.old (split_at pid end (split_at pid first self.old.areas))) }
 
         // Without memory
         ensures err { OnErr result (self.new ≡ self.old) }
@@ -47,7 +48,9 @@ impl<A: Allocator + Copy> AreaTable<A> {
 
         // On success
         ensures ok { OnOk result (self.new ≡ with_areas self.old (split_at pid at self.old.areas)) }
-        ensures some { IfOk result (λ cut. IfSome cut (λ c. (c.0 < at) × (area_over self.old.areas pid at ≡ Some ((pid, c.0), c.1)))) }
+        ensures some { IfOk result
+            (λ cut. IfSome cut
+            (λ c. (c.0 < at) × (area_over self.old.areas pid at ≡ Some ((pid, c.0), c.1)))) }
         ensures none { IfOk result (λ cut. IfNone cut (self.new ≡ self.old)) }
 
         // Without memory
@@ -81,8 +84,13 @@ impl<A: Allocator + Copy> AreaTable<A> {
 
     /// Removes the area that begins at a page number, and restores another one to its old length. Does not allocate.
     fn unsplit(&mut self, pid: Pid, at: Vpn, whole: (Vpn, Area))
-        requires same { IfSome (get spot_cmp (without spot_cmp self.old.areas (pid, at)) (pid, whole.0)) (λ a. a.page.segment ≡ whole.1.page.segment) }
-        ensures { self.new ≡ with_areas self.old (replace spot_cmp (without spot_cmp self.old.areas (pid, at)) (pid, whole.0) whole.1) }
+        requires same { IfSome
+            (get spot_cmp (without spot_cmp self.old.areas (pid, at)) (pid, whole.0))
+            (λ a. a.page.segment ≡ whole.1.page.segment) }
+        ensures { self.new
+            ≡ with_areas self.old
+            (replace spot_cmp (without spot_cmp self.old.areas (pid, at))
+            (pid, whole.0) whole.1) }
     {
         let (start, area) = whole;
         self.take(pid, at);

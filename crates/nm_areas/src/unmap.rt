@@ -42,14 +42,19 @@ impl<A: Allocator + Copy> Areas<A> {
         pages: u64,
     ) -> Result<Vec<(Page, FrameId), A>, MachineError>
         // In any case
-        ensures done { Makes result self.old self.new (remove_refusal addr pages) (removed self.old pid (addr / 4096) (addr / 4096 + pages)) }
+        ensures done { Makes result self.old self.new (remove_refusal addr pages)
+            (removed self.old pid (addr / 4096) (addr / 4096 + pages)) }
 
         // Without memory
         ensures memory { result ≡ Err MachineError.HostMemory → remove_refusal addr pages ≡ None }
 
         // On success
-        ensures pages { OnOk result ((q v : ℕ) → page_at self.new.areas q v ≡ page_outside self.old.areas pid (addr / 4096) (addr / 4096 + pages) q v) }
-        ensures freed { IfOk result (λ freed. freed.items ≡ frames_lost self.old pid (addr / 4096) (addr / 4096 + pages)) }
+        ensures pages { OnOk result
+            ((q v : ℕ) →
+            page_at self.new.areas q v
+            ≡ page_outside self.old.areas pid (addr / 4096) (addr / 4096 + pages) q v) }
+        ensures freed { IfOk result
+            (λ freed. freed.items ≡ frames_lost self.old pid (addr / 4096) (addr / 4096 + pages)) }
         ensures room { IfOk result (λ freed. vec_capacity freed ≤ min (length self.old.place) pages) }
     {
         let Some(first) = range_start(addr, pages) else {
@@ -87,15 +92,24 @@ impl<A: Allocator + Copy> AreaTable<A> {
         freed: &mut Vec<(Page, FrameId), A>,
     )
         requires range { first ≤ end }
-        requires steps { IsCoverage steps.now.entries self.now.segments (others pid first end self.now.areas) }
+        requires steps { IsCoverage steps.now.entries self.now.segments
+            (others pid first end self.now.areas) }
         requires apart { AreasAreApart self.now.areas }
         requires once { PrivateIsOnce self.now.areas self.now.segments }
         requires indices { AllByRecursion HasIndices self.now.areas }
-        requires room { vec_len freed.old + min (length places.old.entries) (length (pages_of_own pid first end self.now.areas)) ≤ vec_capacity freed.old }
+        requires room { vec_len freed.old
+            + min (length places.old.entries)
+            (length (pages_of_own pid first end self.now.areas))
+            ≤ vec_capacity freed.old }
 
         // The pages lose their frames and join the list
-        ensures places { places.new.entries ≡ fold (place_left (others pid first end self.now.areas)) places.old.entries (pages_of_own pid first end self.now.areas) }
-        ensures freed { freed.new.items ≡ freed.old.items ++ all_lost (others pid first end self.now.areas) places.old.entries (pages_of_own pid first end self.now.areas) }
+        ensures places { places.new.entries
+            ≡ fold (place_left (others pid first end self.now.areas)) places.old.entries
+            (pages_of_own pid first end self.now.areas) }
+        ensures freed { freed.new.items
+            ≡ freed.old.items
+            ++ all_lost (others pid first end self.now.areas) places.old.entries
+            (pages_of_own pid first end self.now.areas) }
 
         // The list keeps its capacity
         ensures room { vec_capacity freed.new ≡ vec_capacity freed.old }
@@ -153,14 +167,24 @@ fn lose_area<A: Allocator + Copy>(
     freed: &mut Vec<(Page, FrameId), A>,
 )
     requires indices { area.page.index + area.pages < 2 ^ 64 }
-    requires room { vec_len freed.old + min (length places.old.entries) area.pages ≤ vec_capacity freed.old }
+    requires room { vec_len freed.old + min (length places.old.entries) area.pages
+        ≤ vec_capacity freed.old }
 
     // The pages lose their frames and join the list
-    ensures places { (segments : Map ℕ Segment) (left : Map (ℕ × ℕ) Area) → IsCoverage steps.now.entries segments left → shared ≡ is_shared segments area.page.segment → IsAlone left area shared → places.new.entries ≡ fold (place_left left) places.old.entries (pages_of_area area) }
-    ensures freed { (segments : Map ℕ Segment) (left : Map (ℕ × ℕ) Area) → IsCoverage steps.now.entries segments left → shared ≡ is_shared segments area.page.segment → IsAlone left area shared → freed.new.items ≡ freed.old.items ++ all_lost left places.old.entries (pages_of_area area) }
+    ensures places { (segments : Map ℕ Segment) (left : Map (ℕ × ℕ) Area) →
+        IsCoverage steps.now.entries segments left →
+        shared ≡ is_shared segments area.page.segment →
+        IsAlone left area shared →
+        places.new.entries ≡ fold (place_left left) places.old.entries (pages_of_area area) }
+    ensures freed { (segments : Map ℕ Segment) (left : Map (ℕ × ℕ) Area) →
+        IsCoverage steps.now.entries segments left →
+        shared ≡ is_shared segments area.page.segment →
+        IsAlone left area shared →
+        freed.new.items ≡ freed.old.items ++ all_lost left places.old.entries (pages_of_area area) }
 
     // The list grows by as many, and keeps its capacity
-    ensures counted { vec_len freed.new + length places.new.entries ≡ vec_len freed.old + length places.old.entries }
+    ensures counted { vec_len freed.new + length places.new.entries
+        ≡ vec_len freed.old + length places.old.entries }
     ensures few { vec_len freed.new ≤ vec_len freed.old + area.pages }
     ensures room { vec_capacity freed.new ≡ vec_capacity freed.old }
 {
@@ -182,14 +206,22 @@ fn lose<A: Allocator + Copy>(
     freed: &mut Vec<(Page, FrameId), A>,
 )
     requires indices { area.page.index + area.pages < 2 ^ 64 }
-    requires room { vec_len freed.old + min (length places.old.entries) area.pages ≤ vec_capacity freed.old }
+    requires room { vec_len freed.old + min (length places.old.entries) area.pages
+        ≤ vec_capacity freed.old }
 
     // The pages lose their frames and join the list
-    ensures places { (segments : Map ℕ Segment) (left : Map (ℕ × ℕ) Area) → IsCoverage steps.now.entries segments left → is_shared segments area.page.segment ≡ true → places.new.entries ≡ fold (place_left left) places.old.entries (pages_of_area area) }
-    ensures freed { (segments : Map ℕ Segment) (left : Map (ℕ × ℕ) Area) → IsCoverage steps.now.entries segments left → is_shared segments area.page.segment ≡ true → freed.new.items ≡ freed.old.items ++ all_lost left places.old.entries (pages_of_area area) }
+    ensures places { (segments : Map ℕ Segment) (left : Map (ℕ × ℕ) Area) →
+        IsCoverage steps.now.entries segments left →
+        is_shared segments area.page.segment ≡ true →
+        places.new.entries ≡ fold (place_left left) places.old.entries (pages_of_area area) }
+    ensures freed { (segments : Map ℕ Segment) (left : Map (ℕ × ℕ) Area) →
+        IsCoverage steps.now.entries segments left →
+        is_shared segments area.page.segment ≡ true →
+        freed.new.items ≡ freed.old.items ++ all_lost left places.old.entries (pages_of_area area) }
 
     // The list grows by as many, and keeps its capacity
-    ensures counted { vec_len freed.new + length places.new.entries ≡ vec_len freed.old + length places.old.entries }
+    ensures counted { vec_len freed.new + length places.new.entries
+        ≡ vec_len freed.old + length places.old.entries }
     ensures few { vec_len freed.new ≤ vec_len freed.old + area.pages }
     ensures room { vec_capacity freed.new ≡ vec_capacity freed.old }
 {
@@ -222,14 +254,19 @@ fn lose_stretch<A: Allocator + Copy>(
     freed: &mut Vec<(Page, FrameId), A>,
 )
     requires range { first ≤ past }
-    requires room { vec_len freed.old + min (length places.old.entries) (past - first) ≤ vec_capacity freed.old }
+    requires room { vec_len freed.old + min (length places.old.entries) (past - first)
+        ≤ vec_capacity freed.old }
 
     // The pages lose their frames and join the list
-    ensures places { places.new.entries ≡ fold (place_left []) places.old.entries (pages_from segment first (past - first)) }
-    ensures freed { freed.new.items ≡ freed.old.items ++ all_lost [] places.old.entries (pages_from segment first (past - first)) }
+    ensures places { places.new.entries
+        ≡ fold (place_left []) places.old.entries (pages_from segment first (past - first)) }
+    ensures freed { freed.new.items
+        ≡ freed.old.items
+        ++ all_lost [] places.old.entries (pages_from segment first (past - first)) }
 
     // The list grows by as many, and keeps its capacity
-    ensures counted { vec_len freed.new + length places.new.entries ≡ vec_len freed.old + length places.old.entries }
+    ensures counted { vec_len freed.new + length places.new.entries
+        ≡ vec_len freed.old + length places.old.entries }
     ensures few { vec_len freed.new ≤ vec_len freed.old + (past - first) }
     ensures room { vec_capacity freed.new ≡ vec_capacity freed.old }
 {
@@ -255,7 +292,8 @@ fn lose_page<A: Allocator + Copy>(
     ensures freed { freed.new.items ≡ freed.old.items ++ lost [] places.old.entries page }
 
     // The list grows by one, and keeps its capacity
-    ensures counted { vec_len freed.new + length places.new.entries ≡ vec_len freed.old + length places.old.entries }
+    ensures counted { vec_len freed.new + length places.new.entries
+        ≡ vec_len freed.old + length places.old.entries }
     ensures few { vec_len freed.new ≤ vec_len freed.old + 1 }
     ensures room { vec_capacity freed.new ≡ vec_capacity freed.old }
 {

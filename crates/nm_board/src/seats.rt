@@ -20,7 +20,8 @@ pub(crate) fn take_out<A: Allocator + Copy>(
     requires own { seat.old.table_id ≡ shelf.now.table_id }
     requires last { (job : CopyJob A) × (seat.old.me.1 ≡ (slot, Some job) ∷ rest seat.old.me.1) }
     ensures job { seat.old.me.1 ≡ (slot, result) ∷ rest seat.old.me.1 }
-    ensures seat { (seat.new.table_id ≡ seat.old.table_id) × (seat.new.id ≡ seat.old.id) × (seat.new.me ≡ (seat.old.me.0, (slot, None) ∷ rest seat.old.me.1)) }
+    ensures seat { (seat.new.table_id ≡ seat.old.table_id) × (seat.new.id ≡ seat.old.id)
+        × (seat.new.me ≡ (seat.old.me.0, (slot, None) ∷ rest seat.old.me.1)) }
 {
     shelf.exchange(seat, slot, None)
 }
@@ -34,7 +35,8 @@ pub(crate) fn put_in<A: Allocator + Copy>(
 )
     requires own { seat.old.table_id ≡ shelf.now.table_id }
     requires last { (old : Option (CopyJob A)) × (seat.old.me.1 ≡ (slot, old) ∷ rest seat.old.me.1) }
-    ensures { (seat.new.table_id ≡ seat.old.table_id) × (seat.new.id ≡ seat.old.id) × (seat.new.me ≡ (seat.old.me.0, (slot, Some job) ∷ rest seat.old.me.1)) }
+    ensures { (seat.new.table_id ≡ seat.old.table_id) × (seat.new.id ≡ seat.old.id)
+        × (seat.new.me ≡ (seat.old.me.0, (slot, Some job) ∷ rest seat.old.me.1)) }
 {
     shelf.exchange(seat, slot, Some(job));
 }

@@ -15,7 +15,8 @@ pub(crate) fn into_slots<A: Allocator + Copy>(
     alloc: A,
     room: &mut Vec<CopyJob<A>, A>,
 ) -> Result<Vec<Slot<A>, A>, AllocError>
-    ensures ok { IfOk result (λ slots. (slots.items ≡ map Some room.old.items) × (vec_len room.new ≡ 0)) }
+    ensures ok { IfOk result
+        (λ slots. (slots.items ≡ map Some room.old.items) × (vec_len room.new ≡ 0)) }
     ensures err { OnErr result (room.new.items ≡ room.old.items) }
     ensures room { vec_capacity room.new ≡ vec_capacity room.old }
 {

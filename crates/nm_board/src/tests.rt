@@ -217,11 +217,13 @@ fn two_threads(rt: HostRuntime) -> Result<(), Fail> {
         &rt,
         move || -> (Hand<Global>, Drawn)
             requires { (hand.board ≡ shared.now) × (hand.out ≡ []) × (hand.past_end ≡ false) }
-            ensures { (result.0.board ≡ shared.entry.now) × (result.0.out ≡ []) × (result.0.shares ≡ hand.shares) }
+            ensures { (result.0.board ≡ shared.entry.now) × (result.0.out ≡ [])
+                × (result.0.shares ≡ hand.shares) }
         { work_off(shared, hand) },
         move || -> (Hand<Global>, Drawn)
             requires { (other.board ≡ shared.now) × (other.out ≡ []) × (other.past_end ≡ false) }
-            ensures { (result.0.board ≡ shared.entry.now) × (result.0.out ≡ []) × (result.0.shares ≡ other.shares) }
+            ensures { (result.0.board ≡ shared.entry.now) × (result.0.out ≡ [])
+                × (result.0.shares ≡ other.shares) }
         { work_off(shared, other) },
     );
     assert!(rt; share_hundred(&one, &two) && hand.past_end() && other.past_end());

@@ -33,8 +33,10 @@ pub(crate) fn check_targets<A: Allocator + Copy + Send + Sync>(
     allowed: NodeMask,
     nodes: &[u32],
 ) -> Result<(), Errno>
-    ensures nodes { OnOk result (EachIndex nodes.now (λ k. slice_index nodes.now k < node_count (machine.now.layout))) }
-    ensures exact { Checks result (first_refusal (node_count (machine.now.layout)) machine.now.online allowed nodes.now) }
+    ensures nodes { OnOk result
+        (EachIndex nodes.now (λ k. slice_index nodes.now k < node_count (machine.now.layout))) }
+    ensures exact { Checks result
+        (first_refusal (node_count (machine.now.layout)) machine.now.online allowed nodes.now) }
 {
     check_batch(machine.node_count(), machine.online(), allowed, nodes)
 }
@@ -139,9 +141,11 @@ pub(crate) fn move_batch<
     limit: usize,
 ) -> Result<Moved<A>, CallError>
     requires some { 0 < limit }
-    requires nodes { EachIndex nodes.now (λ k. slice_index nodes.now k < node_count machine.old.layout) }
+    requires nodes { EachIndex nodes.now
+        (λ k. slice_index nodes.now k < node_count machine.old.layout) }
     requires paired { length pages.now ≡ length nodes.now }
-    ensures { Moves result machine.old machine.new (cut_within limit (requests_of pid all pages.now nodes.now)) (shown_during during.now) }
+    ensures { Moves result machine.old machine.new
+        (cut_within limit (requests_of pid all pages.now nodes.now)) (shown_during during.now) }
 {
     let requests = requests_of(alloc, pid, all, pages, nodes)?;
     let runs = cut_within(alloc, requests.as_slice(), limit)?;
@@ -197,7 +201,8 @@ pub(crate) fn in_order<A: Allocator + Copy + Send + Sync>(
 ) -> Vec<AccessAnswer<A>, A>
     requires empty { answers.items ≡ [] }
     requires room { length during.now ≤ vec_capacity answers }
-    ensures { map answer_shown result.items ≡ in_order (runs_named (shown_during during.now)) (map left_shown told.items) }
+    ensures { map answer_shown result.items
+        ≡ in_order (runs_named (shown_during during.now)) (map left_shown told.items) }
 {
     for asked in during {
         if let Some(left) = told.get_mut(asked.run) {

@@ -123,13 +123,18 @@ fn asked_of<A: Allocator + Copy + Send + Sync>(
     flags: u32,
 ) -> Result<Asked, Errno>
     // In any case
-    ensures exact { Checks result (mode_refusal machine.now (info_at machine.now caller) mode nodes flags) }
+    ensures exact { Checks result
+        (mode_refusal machine.now (info_at machine.now caller) mode nodes flags) }
 
     // On success
-    ensures policy { IfOk result (λ asked. asked.policy ≡ policy_of mode (usable machine.now (allowed_to (info_at machine.now caller)) nodes)) }
+    ensures policy { IfOk result
+        (λ asked. asked.policy
+        ≡ policy_of mode (usable machine.now (allowed_to (info_at machine.now caller)) nodes)) }
     ensures home { IfOk result (λ asked. asked.home ≡ home_of (info_at machine.now caller)) }
     ensures flags { IfOk result (λ asked. asked.flags ≡ flags) }
-    ensures nodes { IfOk result (λ asked. AllByRecursion (λ n. n < node_count (machine.now.layout)) (nodes_named asked.policy)) }
+    ensures nodes { IfOk result
+        (λ asked. AllByRecursion (λ n. n < node_count (machine.now.layout))
+        (nodes_named asked.policy)) }
 {
     let Some(asking) = machine.process(caller) else {
         return Err(Errno::Esrch);
@@ -209,7 +214,8 @@ pub(crate) fn ready<A: Allocator + Copy + Send + Sync>(
     ensures binding { IfOk result (λ r. r.1 ≡ binding machine.now caller addr len mode nodes) }
     ensures home { IfOk result (λ r. r.0.home ≡ home_of (info_at machine.now caller)) }
     ensures flags { IfOk result (λ r. r.0.flags ≡ flags) }
-    ensures nodes { IfOk result (λ r. AllByRecursion (λ n. n < node_count (machine.now.layout)) (nodes_named r.1.policy)) }
+    ensures nodes { IfOk result
+        (λ r. AllByRecursion (λ n. n < node_count (machine.now.layout)) (nodes_named r.1.policy)) }
     ensures few { IfOk result (λ r. r.1.end - r.1.first ≤ 2 ^ 52) }
 {
     let asked = asked_of(machine, caller, mode, nodes, flags)?;
@@ -262,7 +268,8 @@ pub(crate) fn bind<R: Threads + Wait + Sync, A: Allocator + Copy + Send + Sync, 
 ) -> Result<(), CallError>
     requires some { 0 < limit }
     requires free { policy_refusal machine.old binding.now.pid addr len ≡ None }
-    requires nodes { AllByRecursion (λ n. n < node_count (machine.old.layout)) (nodes_named binding.now.policy) }
+    requires nodes { AllByRecursion (λ n. n < node_count (machine.old.layout))
+        (nodes_named binding.now.policy) }
     requires home { asked.home ≡ home_of (info_at machine.old binding.now.pid) }
     requires few { binding.now.end - binding.now.first ≤ 2 ^ 52 }
     ensures { Binds result machine.old (set_policy machine.old binding.now.pid addr len binding.now.policy) machine.new binding.now

@@ -41,7 +41,9 @@ fn push_stretch<A: Allocator>(
     first: NodeId,
     last: NodeId,
 ) -> Result<(), AllocError>
-    ensures { OnOk result (string_bytes line.new ≡ string_bytes line.old ++ (comma behind ++ stretch_text (first, last))) }
+    ensures { OnOk result
+        (string_bytes line.new
+        ≡ string_bytes line.old ++ (comma behind ++ stretch_text (first, last))) }
 {
     push_comma(line, behind)?;
     push_number(line, "", u64::from(first.number()))?;
@@ -71,7 +73,8 @@ fn push_list<A: Allocator>(
     word: &str,
     nodes: NodeMask,
 ) -> Result<(), AllocError>
-    ensures { OnOk result (string_bytes line.new ≡ string_bytes line.old ++ (word.now ++ set_text nodes)) }
+    ensures { OnOk result
+        (string_bytes line.new ≡ string_bytes line.old ++ (word.now ++ set_text nodes)) }
 {
     line.push_str(word)?;
     push_set(line, nodes)
@@ -104,7 +107,8 @@ struct Tally {
 
 /// Counts pages that processes see.
 fn tally_of<A: Allocator + Copy + Send + Sync>(machine: &Machine<A>, pages: &[Located]) -> Tally
-    requires placed { All (λ (page : Located). get page_cmp machine.now.place page.page ≡ Some page.frame) pages.now }
+    requires placed { All
+        (λ (page : Located). get page_cmp machine.now.place page.page ≡ Some page.frame) pages.now }
     requires nodes { All (λ (page : Located). page.node < node_count machine.now.layout) pages.now }
     ensures pages { result.pages ≡ length pages.now }
     ensures most { result.most ≡ most_users machine.now pages.now }
@@ -138,8 +142,12 @@ fn count_pages<A: Allocator + Copy + Send + Sync>(
 
     // On success
     ensures pages { IfOk result (λ tally. tally.pages ≡ length (pages_of machine.now pid area.now)) }
-    ensures most { IfOk result (λ tally. tally.most ≡ most_users machine.now (pages_of machine.now pid area.now)) }
-    ensures on { IfOk result (λ tally. (node : ℕ) → node < 64 → slice_index tally.on node ≡ count_on (pages_of machine.now pid area.now) node) }
+    ensures most { IfOk result
+        (λ tally. tally.most ≡ most_users machine.now (pages_of machine.now pid area.now)) }
+    ensures on { IfOk result
+        (λ tally. (node : ℕ) →
+        node < 64 →
+        slice_index tally.on node ≡ count_on (pages_of machine.now pid area.now) node) }
 {
     let first = area.first.number();
     let end = Vpn::new(first + area.pages);
@@ -180,7 +188,8 @@ fn push_tally<A: Allocator>(
     nodes: usize,
 ) -> Result<(), AllocError>
     requires { nodes ≤ 64 }
-    ensures { OnOk result (string_bytes line.new ≡ string_bytes line.old ++ tally_text tally.now nodes) }
+    ensures { OnOk result
+        (string_bytes line.new ≡ string_bytes line.old ++ tally_text tally.now nodes) }
 {
     if tally.pages == 0 {
         return Ok(());
@@ -220,7 +229,8 @@ pub(crate) fn areas_text<A: Allocator + Copy + Send + Sync>(
     areas: &[Line],
 ) -> Result<Vec<String<A>, A>, AllocError>
     requires { All (λ (area : Line). area.first + area.pages < 2 ^ 64) areas.now }
-    ensures { IfOk result (λ lines. lines_shown lines.items ≡ map (area_text machine.now pid) areas.now) }
+    ensures { IfOk result
+        (λ lines. lines_shown lines.items ≡ map (area_text machine.now pid) areas.now) }
 {
     let mut lines = Vec::with_capacity(alloc, areas.len())?;
     for area in areas {

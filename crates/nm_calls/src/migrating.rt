@@ -73,9 +73,12 @@ pub(crate) fn migration_of<A: Allocator + Copy + Send + Sync>(
     ensures exact { Checks result (migrate_refusal machine.now caller pid old new) }
 
     // On success
-    ensures list { IfOk result (λ m. migration machine.now caller pid old new ≡ migrate_list machine.now m.pid m.all (pairs old m.targets)) }
+    ensures list { IfOk result
+        (λ m. migration machine.now caller pid old new
+        ≡ migrate_list machine.now m.pid m.all (pairs old m.targets)) }
     ensures there { IfOk result (λ m. IsSome (info_at machine.now m.pid)) }
-    ensures nodes { IfOk result (λ m. AllByRecursion (λ n. n < node_count (machine.now.layout)) m.targets) }
+    ensures nodes { IfOk result
+        (λ m. AllByRecursion (λ n. n < node_count (machine.now.layout)) m.targets) }
 {
     let Some(asking) = machine.process(caller) else {
         return Err(Errno::Esrch);
@@ -109,7 +112,8 @@ pub(crate) fn migrate<R: Threads + Wait + Sync, A: Allocator + Copy + Send + Syn
     requires some { 0 < limit }
     requires there { IsSome (info_at machine.old what.pid) }
     requires nodes { AllByRecursion (λ n. n < node_count machine.old.layout) what.targets }
-    ensures { Moves result machine.old machine.new (cut_within limit (migrate_list machine.old what.pid what.all (pairs old what.targets))) [] }
+    ensures { Moves result machine.old machine.new
+        (cut_within limit (migrate_list machine.old what.pid what.all (pairs old what.targets))) [] }
 {
     let pairs = pairs(alloc, old, what.targets)?;
     let requests = migrate_list(alloc, machine, what.pid, what.all, pairs.as_slice())?;

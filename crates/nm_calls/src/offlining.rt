@@ -56,7 +56,8 @@ fn refuges<A: Allocator + Copy + Send + Sync>(
 ) -> Result<Vec<NodeId, A>, AllocError>
     ensures order { IfOk result (λ order. order.items ≡ refuges machine.now node) }
     ensures few { IfOk result (λ order. length order.items ≤ 64) }
-    ensures below { IfOk result (λ order. All (λ n. n < node_count (machine.now.layout)) order.items) }
+    ensures below { IfOk result
+        (λ order. All (λ n. n < node_count (machine.now.layout)) order.items) }
 {
     let others = others(machine, node);
     prove!(others.len() <= 64);

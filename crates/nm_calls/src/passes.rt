@@ -213,9 +213,13 @@ fn lost_on<A: Allocator + Copy + Send + Sync>(
 
     // If there are such nodes
     ensures full { IfSome result (λ nodes. free_list machine.now node ≡ []) }
-    ensures lost { IfSome result (λ nodes. AllByRecursion (WouldMove machine.now node) left.now.wanted.items) }
+    ensures lost { IfSome result
+        (λ nodes. AllByRecursion (WouldMove machine.now node) left.now.wanted.items) }
     ensures standing { IfSome result (λ nodes. AreStanding machine.now nodes left.now.wanted.items) }
-    ensures none { IfNone result (left.now.tried ≡ true → has_free machine.now.free node ≡ false → Any (StandsOn machine.now node) left.now.wanted.items) }
+    ensures none { IfNone result
+        (left.now.tried ≡ true →
+        has_free machine.now.free node ≡ false →
+        Any (StandsOn machine.now node) left.now.wanted.items) }
 {
     if !left.tried || machine.has_free(node) {
         return None;
@@ -320,7 +324,8 @@ pub(crate) fn make_passes<
     requires passes { length nodes.now ≤ 64 }
     requires alike { HasOneAll wanted.items }
     requires pages { length wanted.items ≤ 2 ^ 52 }
-    ensures { MakesRuns policy_set result machine.old machine.new (passes limit machine.old nodes.now wanted.items) }
+    ensures { MakesRuns policy_set result machine.old machine.new
+        (passes limit machine.old nodes.now wanted.items) }
 {
     let mut left = Left {
         wanted,

@@ -95,7 +95,8 @@ pub(crate) fn permit_of<A: Allocator + Copy + Send + Sync>(
     // On success
     ensures pid { IfOk result (λ permit. permit.pid ≡ owner_of caller pid) }
     ensures all { IfOk result (λ permit. permit.all ≡ moves_all flags) }
-    ensures allowed { IfOk result (λ permit. allowed_at machine.now (owner_of caller pid) ≡ Some permit.allowed) }
+    ensures allowed { IfOk result
+        (λ permit. allowed_at machine.now (owner_of caller pid) ≡ Some permit.allowed) }
 {
     let Some(asking) = machine.process(caller) else {
         return Err(Errno::Esrch);

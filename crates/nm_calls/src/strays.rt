@@ -28,7 +28,9 @@ pub(crate) fn stray_from<A: Allocator + Copy + Send + Sync>(
     end: Vpn,
     policy: &Policy,
 ) -> Option<Located>
-    ensures some { IfSome result (λ e. strays_between machine.now pid first end policy.now ≡ e ∷ strays_between machine.now pid (e.vpn + 1) end policy.now) }
+    ensures some { IfSome result
+        (λ e. strays_between machine.now pid first end policy.now
+        ≡ e ∷ strays_between machine.now pid (e.vpn + 1) end policy.now) }
     ensures none { IfNone result (strays_between machine.now pid first end policy.now ≡ []) }
     ensures range { IfSome result (λ e. (first ≤ e.vpn) × (e.vpn < end)) }
 {
@@ -48,7 +50,9 @@ fn strays_among<A: Allocator + Copy>(
     policy: &Policy,
     pages: &[Located],
 ) -> Result<Vec<Located, A>, AllocError>
-    ensures { IfOk result (λ strays. strays.items ≡ filter (λ (page : Located). not (follows policy.now page.node)) pages.now) }
+    ensures { IfOk result
+        (λ strays. strays.items
+        ≡ filter (λ (page : Located). not (follows policy.now page.node)) pages.now) }
 {
     pages
         .iter()

@@ -138,7 +138,8 @@ impl<A: Allocator + Copy + Send + Sync> System<A> {
         allowed: NodeMask,
         privileged: bool,
     ) -> Result<(), CallError>
-        ensures { Does (λ done. Done) result self.old self.new (Spawn pid uid home allowed privileged) }
+        ensures { Does (λ done. Done) result self.old self.new
+            (Spawn pid uid home allowed privileged) }
     {
         Ok(self.machine.spawn(pid, uid, home, allowed, privileged)?)
     }
@@ -169,7 +170,8 @@ impl<A: Allocator + Copy + Send + Sync> System<A> {
         offset: u64,
         pages: u64,
     ) -> Result<(), CallError>
-        ensures { Does (λ done. Done) result self.old self.new (Attach pid addr segment offset pages) }
+        ensures { Does (λ done. Done) result self.old self.new
+            (Attach pid addr segment offset pages) }
     {
         Ok(self.machine.attach(pid, addr, segment, offset, pages)?)
     }
@@ -224,7 +226,8 @@ impl<A: Allocator + Copy + Send + Sync> System<A> {
     /// (no free frame).
     #[tactic(auto, unfolding(crate::specs::Outcome::refused, crate::specs::Outcome::refused_at_once, crate::specs::Outcome::ended, crate::specs::Outcome::runs_asked, crate::specs::Outcome::start, crate::specs::Outcome::sets_policy, crate::specs::Outcome::accesses_asked), using(crate::proofs::Outcomes::answers, crate::proofs::Outcomes::refuses, crate::proofs::Outcomes::unchanged))]
     pub fn read(&mut self, pid: Pid, addr: u64, len: u64) -> Result<Vec<u8, A>, CallError>
-        ensures { Does (λ bytes. TheBytes bytes.items) result self.old self.new (ReadBytes pid addr len) }
+        ensures { Does (λ bytes. TheBytes bytes.items) result self.old self.new
+            (ReadBytes pid addr len) }
     {
         Ok(self.machine.read(pid, addr, len)?)
     }
@@ -277,7 +280,10 @@ impl<A: Allocator + Copy + Send + Sync> System<A> {
         gate: &G,
     ) -> Result<Moved<A>, CallError>
         requires paired { length pages.now ≡ length nodes.now }
-        ensures { Does (λ moved. Statuses moved.failed moved.statuses.items (map answer_shown moved.answers.items)) result self.old self.new (MovePages caller pid pages.now nodes.now flags (shown_during during.now)) }
+        ensures { Does
+            (λ moved. Statuses moved.failed moved.statuses.items
+            (map answer_shown moved.answers.items)) result self.old self.new
+            (MovePages caller pid pages.now nodes.now flags (shown_during during.now)) }
     {
         let permit = permit_of(&self.machine, caller, pid, flags)?;
         let Permit {
@@ -364,7 +370,8 @@ impl<A: Allocator + Copy + Send + Sync> System<A> {
         flags: u32,
         gate: &G,
     ) -> Result<(), CallError>
-        ensures { Does (λ done. Failed 0) result self.old self.new (Mbind caller addr len mode nodes flags) }
+        ensures { Does (λ done. Failed 0) result self.old self.new
+            (Mbind caller addr len mode nodes flags) }
     {
         let (asked, binding) = ready(&self.machine, caller, addr, len, mode, nodes, flags)?;
         let limit = self.run_limit;
@@ -432,7 +439,8 @@ impl<A: Allocator + Copy + Send + Sync> System<A> {
         pages: &[u64],
         flags: u32,
     ) -> Result<Vec<i32, A>, CallError>
-        ensures { Does (λ statuses. Statuses 0 statuses.items []) result self.now self.now (Query caller pid pages.now flags) }
+        ensures { Does (λ statuses. Statuses 0 statuses.items []) result self.now self.now
+            (Query caller pid pages.now flags) }
     {
         let permit = permit_of(&self.machine, caller, pid, flags)?;
         Ok(statuses_of(self.alloc, &self.machine, permit.pid, pages)?)
@@ -445,7 +453,8 @@ impl<A: Allocator + Copy + Send + Sync> System<A> {
         ensures sound { IsSound self.now.state }
         ensures moved { result.moved ≡ self.now.state.moved }
         ensures failed { result.failed ≡ self.now.state.failed }
-        ensures told { outcome self.now Vmstat ≡ record { answer = TheTotals result.moved result.failed; system = self.now } }
+        ensures told { outcome self.now Vmstat
+            ≡ record { answer = TheTotals result.moved result.failed; system = self.now } }
     {
         self.machine.totals()
     }
@@ -458,7 +467,8 @@ impl<A: Allocator + Copy + Send + Sync> System<A> {
     /// `kernelpagesize_kB=4`. The page of zeros does not count as a page. Error: ESRCH (no such process).
     #[tactic(auto, unfolding(crate::specs::Outcome::refused, crate::specs::Outcome::refused_at_once, crate::specs::Outcome::ended, crate::specs::Outcome::runs_asked, crate::specs::Outcome::start, crate::specs::Outcome::sets_policy, crate::specs::Outcome::accesses_asked), using(crate::proofs::Outcomes::answers, crate::proofs::Outcomes::refuses, crate::proofs::Outcomes::unchanged))]
     pub fn numa_maps(&self, pid: Pid) -> Result<Vec<String<A>, A>, CallError>
-        ensures { Does (λ lines. Lines (lines_shown lines.items)) result self.now self.now (NumaMaps pid) }
+        ensures { Does (λ lines. Lines (lines_shown lines.items)) result self.now self.now
+            (NumaMaps pid) }
     {
         let areas = self.machine.lines(pid)?;
         prove!(self.machine.node_count() <= 64);
@@ -477,7 +487,8 @@ impl<A: Allocator + Copy + Send + Sync> System<A> {
     /// Error: ESRCH (no such process).
     #[tactic(auto, unfolding(crate::specs::Outcome::refused, crate::specs::Outcome::refused_at_once, crate::specs::Outcome::ended, crate::specs::Outcome::runs_asked, crate::specs::Outcome::start, crate::specs::Outcome::sets_policy, crate::specs::Outcome::accesses_asked), using(crate::proofs::Outcomes::answers, crate::proofs::Outcomes::refuses, crate::proofs::Outcomes::unchanged))]
     pub fn pagemap(&self, pid: Pid) -> Result<Vec<PagemapEntry, A>, CallError>
-        ensures { Does (λ mapped. Entries (entries_mapped mapped.items)) result self.now self.now (Pagemap pid) }
+        ensures { Does (λ mapped. Entries (entries_mapped mapped.items)) result self.now self.now
+            (Pagemap pid) }
     {
         let entries = self.machine.entries(pid)?;
         Ok(mapped_of(self.alloc, entries.as_slice())?)

@@ -109,7 +109,8 @@ fn turns<A: Allocator + Copy>(
     nodes: NodeMask,
     pages: &[Located],
 ) -> Result<Vec<Request, A>, AllocError>
-    ensures { IfOk result (λ requests. requests.items ≡ each_to pid all (by_turns nodes (strays_of pages.now))) }
+    ensures { IfOk result
+        (λ requests. requests.items ≡ each_to pid all (by_turns nodes (strays_of pages.now))) }
 {
     let strays = strays_of(alloc, pages)?;
     let targets = mbind_targets(alloc, nodes, strays.as_slice())?;
@@ -123,7 +124,9 @@ fn by_distance<A: Allocator + Copy + Send + Sync>(
     home: NodeId,
     nodes: NodeMask,
 ) -> Result<Vec<NodeId, A>, AllocError>
-    ensures order { IfOk result (λ order. order.items ≡ filter (is_in nodes) (zonelist (machine.now.layout) machine.now.online home)) }
+    ensures order { IfOk result
+        (λ order. order.items
+        ≡ filter (is_in nodes) (zonelist (machine.now.layout) machine.now.online home)) }
     ensures few { IfOk result (λ order. length order.items ≤ 64) }
 {
     let online = machine.online();
@@ -166,7 +169,8 @@ pub(crate) fn way_of<A: Allocator + Copy + Send + Sync>(
     all: bool,
     pages: &[Located],
 ) -> Result<Way<A>, AllocError>
-    requires nodes { AllByRecursion (λ n. n < node_count (machine.now.layout)) (nodes_named binding.now.policy) }
+    requires nodes { AllByRecursion (λ n. n < node_count (machine.now.layout))
+        (nodes_named binding.now.policy) }
     requires few { length pages.now ≤ 2 ^ 52 }
 
     // On success

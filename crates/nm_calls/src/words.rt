@@ -17,7 +17,8 @@ pub(crate) fn push_number<A: Allocator>(
     word: &str,
     number: u64,
 ) -> Result<(), AllocError>
-    ensures { OnOk result (string_bytes line.new ≡ string_bytes line.old ++ (word.now ++ decimal number)) }
+    ensures { OnOk result
+        (string_bytes line.new ≡ string_bytes line.old ++ (word.now ++ decimal number)) }
 {
     let mut buffer = itoa::Buffer::new();
     line.push_str(word)?;

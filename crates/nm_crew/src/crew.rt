@@ -233,7 +233,8 @@ fn work_beside<
         thread::scope_env(),
         rt,
         |scope| -> (Hand<A>, T)
-            requires { (named board.now ≡ B.board) × IsReady board.now own × W.pre work × IsSync G.row × IsSync B.row × IsSend B.row × IsSync A.row × IsSend A.row }
+            requires { (named board.now ≡ B.board) × IsReady board.now own × W.pre work
+                × IsSync G.row × IsSync B.row × IsSend B.row × IsSync A.row × IsSend A.row }
             ensures { IsOver board.entry.now own.shares result.0 × W.post work result.1 }
         {
             start_each(scope, all, board, starts, gate);

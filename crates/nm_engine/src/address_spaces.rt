@@ -82,7 +82,8 @@ impl<A: Allocator + Copy> AddressSpaces<A> {
 
     /// The area of a process that covers a page number, with its first page number.
     pub(crate) fn over(&self, pid: Pid, vpn: Vpn) -> Option<(Vpn, Area)>
-        ensures over { option_map {U = Placed} (λ found. ((pid, found.0), found.1)) result ≡ area_over self.now.areas pid vpn }
+        ensures over { option_map {U = Placed} (λ found. ((pid, found.0), found.1)) result
+            ≡ area_over self.now.areas pid vpn }
         ensures first { IfSome result (λ a. a.0 ≤ vpn) }
         ensures index { IfSome result (λ a. a.1.page.index + (vpn - a.0) < 2 ^ 64) }
     {
@@ -115,7 +116,11 @@ impl<A: Allocator + Copy> AddressSpaces<A> {
 
     /// The entries of a process's page table, in ascending order. None if there is no such process.
     pub(crate) fn entries(&self, pid: Pid) -> Result<Option<Vec<(Vpn, Entry), A>>, AllocError>
-        ensures entries { IfOk result (λ all. option_map (λ entries. entries.items) all ≡ option_map (λ (p : Process). with_values (λ v sight. entry_of self.now.place sight) p.sees) (get nat_cmp self.now.processes pid)) }
+        ensures entries { IfOk result
+            (λ all. option_map (λ entries. entries.items) all
+            ≡ option_map
+            (λ (p : Process). with_values (λ v sight. entry_of self.now.place sight) p.sees)
+            (get nat_cmp self.now.processes pid)) }
         ensures memory { OnErr result (IsSome (get nat_cmp self.now.processes pid)) }
     {
         self.tasks.entries(pid)
@@ -145,7 +150,8 @@ impl<A: Allocator + Copy> AddressSpaces<A> {
 
     /// What a process sees at a page number. Looks up the area over it once.
     pub(crate) fn look(&self, pid: Pid, vpn: Vpn) -> Seen
-        ensures look { result ≡ look_in self.now.processes self.now.areas self.now.place self.now.pins pid vpn }
+        ensures look { result
+            ≡ look_in self.now.processes self.now.areas self.now.place self.now.pins pid vpn }
         ensures known { HasFrameBelow self.now.frames result }
     {
         let Some(page) = self.page_at(pid, vpn) else {
@@ -163,7 +169,8 @@ impl<A: Allocator + Copy> AddressSpaces<A> {
 
     /// What is to be seen of a page, whoever sees it.
     pub(crate) fn look_at_page(&self, page: Page) -> Seen
-        ensures look { result ≡ look_at_place self.now.processes self.now.pins page (get page_cmp self.now.place page) }
+        ensures look { result
+            ≡ look_at_place self.now.processes self.now.pins page (get page_cmp self.now.place page) }
         ensures known { HasFrameBelow self.now.frames result }
     {
         match self.place(page) {
@@ -189,7 +196,12 @@ impl<A: Allocator + Copy> AddressSpaces<A> {
     /// Adds a process that has touched nothing.
     pub(crate) fn add(&mut self, pid: Pid, info: ProcessInfo) -> Result<(), AllocError>
         requires { get nat_cmp self.old.processes pid ≡ None }
-        ensures ok { OnOk result (self.new ≡ record (self.old) { processes = set nat_cmp self.old.processes pid (untouched info) }) }
+        ensures ok { OnOk result
+            (self.new
+            ≡ record (self.old) {
+              processes = set nat_cmp self.old.processes pid
+                  (untouched info);
+            }) }
         ensures err { OnErr result (self.new ≡ self.old) }
     {
         self.tasks.add(pid, info)
@@ -198,10 +210,15 @@ impl<A: Allocator + Copy> AddressSpaces<A> {
     /// Makes a process see the page of zeros at a page number.
     pub(crate) fn see_zero(&mut self, pid: Pid, vpn: Vpn) -> Result<(), AllocError>
         requires known { IsSome (get nat_cmp self.old.processes pid) }
-        requires unseen { (q : Page) → sight_in (get nat_cmp self.old.processes pid) vpn ≡ Some (Sees q) → ⊥ }
+        requires unseen { (q : Page) →
+            sight_in (get nat_cmp self.old.processes pid) vpn ≡ Some (Sees q) →
+            ⊥ }
 
         // On success
-        ensures ok { OnOk result ((p : Process) → get nat_cmp self.old.processes pid ≡ Some p → self.new ≡ with_seen self.old pid p vpn ZeroPage) }
+        ensures ok { OnOk result
+            ((p : Process) →
+            get nat_cmp self.old.processes pid ≡ Some p →
+            self.new ≡ with_seen self.old pid p vpn ZeroPage) }
 
         // Without memory
         ensures err { OnErr result (self.new ≡ self.old) }
@@ -218,12 +235,17 @@ impl<A: Allocator + Copy> AddressSpaces<A> {
         frame: FrameId,
     ) -> Result<(), AllocError>
         requires known { IsSome (get nat_cmp self.old.processes pid) }
-        requires unseen { (q : Page) → sight_in (get nat_cmp self.old.processes pid) vpn ≡ Some (Sees q) → ⊥ }
+        requires unseen { (q : Page) →
+            sight_in (get nat_cmp self.old.processes pid) vpn ≡ Some (Sees q) →
+            ⊥ }
         requires shown { page_at self.old.areas pid vpn ≡ Some page }
         requires placed { get page_cmp self.old.place page ≡ Some frame }
 
         // On success
-        ensures ok { OnOk result ((p : Process) → get nat_cmp self.old.processes pid ≡ Some p → self.new ≡ with_seen self.old pid p vpn (Sees page)) }
+        ensures ok { OnOk result
+            ((p : Process) →
+            get nat_cmp self.old.processes pid ≡ Some p →
+            self.new ≡ with_seen self.old pid p vpn (Sees page)) }
 
         // Without memory
         ensures err { OnErr result (self.new ≡ self.old) }
@@ -245,14 +267,19 @@ impl<A: Allocator + Copy> AddressSpaces<A> {
         frame: FrameId,
     ) -> Result<(), AllocError>
         requires known { IsSome (get nat_cmp self.old.processes pid) }
-        requires unseen { (q : Page) → sight_in (get nat_cmp self.old.processes pid) vpn ≡ Some (Sees q) → ⊥ }
+        requires unseen { (q : Page) →
+            sight_in (get nat_cmp self.old.processes pid) vpn ≡ Some (Sees q) →
+            ⊥ }
         requires shown { page_at self.old.areas pid vpn ≡ Some page }
         requires unplaced { get page_cmp self.old.place page ≡ None }
         requires frame { frame < self.old.frames }
         requires spare { (q : Page) → get page_cmp self.old.place q ≡ Some frame → ⊥ }
 
         // On success
-        ensures ok { OnOk result ((p : Process) → get nat_cmp self.old.processes pid ≡ Some p → self.new ≡ with_new_page self.old pid p vpn page frame) }
+        ensures ok { OnOk result
+            ((p : Process) →
+            get nat_cmp self.old.processes pid ≡ Some p →
+            self.new ≡ with_new_page self.old pid p vpn page frame) }
 
         // Without memory
         ensures err { OnErr result (self.new ≡ self.old) }
@@ -299,7 +326,8 @@ impl<A: Allocator + Copy> AddressSpaces<A> {
 
         // On success
         ensures room { OnOk result (pins_here self.old page < 65535) }
-        ensures ok { OnOk result (self.new ≡ with_pins_of self.old page (pins_here self.old page + 1)) }
+        ensures ok { OnOk result
+            (self.new ≡ with_pins_of self.old page (pins_here self.old page + 1)) }
 
         // On refusal
         ensures full { IfErr result (λ error. (error ≡ Ebusy) × (65535 ≤ pins_here self.old page)) }
@@ -314,7 +342,8 @@ impl<A: Allocator + Copy> AddressSpaces<A> {
 
         // On success
         ensures pinned { OnOk result (0 < pins_here self.old page) }
-        ensures ok { OnOk result (self.new ≡ with_pins_of self.old page (pins_here self.old page - 1)) }
+        ensures ok { OnOk result
+            (self.new ≡ with_pins_of self.old page (pins_here self.old page - 1)) }
 
         // On refusal
         ensures none { IfErr result (λ error. (error ≡ Einval) × (pins_here self.old page ≡ 0)) }

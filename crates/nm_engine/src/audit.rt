@@ -37,7 +37,8 @@ fn tally<A: Allocator + Copy>(
     frames: &[FrameId],
 ) -> Result<Vec<u64, A>, AllocError>
     ensures length { IfOk result (λ v. length v.items ≡ count) }
-    ensures times { IfOk result (λ v. (k : ℕ) → k < count → slice_index_or v.items k 0 ≡ times k frames.now) }
+    ensures times { IfOk result
+        (λ v. (k : ℕ) → k < count → slice_index_or v.items k 0 ≡ times k frames.now) }
 {
     let mut counts = vec![in alloc; 0u64; count]?;
     for frame in frames {
@@ -100,7 +101,8 @@ fn push_list<A: Allocator + Copy>(
     free: &mut Vec<(NodeId, FrameId), A>,
 ) -> Result<(), AllocError>
     requires { node < length nodes.now.lists }
-    ensures { OnOk result (free.new.items ≡ free.old.items ++ map (λ frame. (node, frame)) (list_of nodes.now node)) }
+    ensures { OnOk result
+        (free.new.items ≡ free.old.items ++ map (λ frame. (node, frame)) (list_of nodes.now node)) }
 {
     for k in 0..nodes.free_count(node) {
         let Some(frame) = nodes.nth(node, k) else {

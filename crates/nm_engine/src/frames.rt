@@ -188,7 +188,11 @@ impl<A: Allocator + Copy> Frames<A> {
     pub(crate) fn take_front(&mut self, node: NodeId) -> Option<FrameId>
         requires { node < node_count self.old.layout }
         ensures front { result ≡ slice_get (free_on self.old node) 0 }
-        ensures rest { self.new ≡ record (self.old) { free = slice_set self.old.free node (drop 1 (free_on self.old node)) } }
+        ensures rest { self.new
+            ≡ record (self.old) {
+              free = slice_set self.old.free node
+                  (drop 1 (free_on self.old node));
+            } }
         ensures shelf { HasAllFrames self.old }
     {
         self.nodes.take_front(node)
@@ -199,7 +203,8 @@ impl<A: Allocator + Copy> Frames<A> {
         requires frame { frame < frame_count self.now.layout }
         requires inside { at + len ≤ 4096 }
         requires room { vec_len bytes.old + len ≤ vec_capacity bytes.old }
-        ensures { bytes.new.items ≡ bytes.old.items ++ stretch_of (bytes_of self.now.frames frame) at len }
+        ensures { bytes.new.items
+            ≡ bytes.old.items ++ stretch_of (bytes_of self.now.frames frame) at len }
     {
         copy_bytes(&self.frames, frame, at, len, bytes);
     }
@@ -221,7 +226,8 @@ impl<A: Allocator + Copy> Frames<A> {
         requires { AllByRecursion (λ frame. frame < frame_count self.old.layout) (tos moves.now) }
         ensures kept { KeepsBytes self.old.frames self.new.frames }
         ensures same { self.new ≡ record (self.old) { frames = self.new.frames } }
-        ensures populated { OnOk result (AllByRecursion (IsPopulated self.new.frames) (tos moves.now)) }
+        ensures populated { OnOk result
+            (AllByRecursion (IsPopulated self.new.frames) (tos moves.now)) }
         ensures shelf { HasAllFrames self.new }
     {
         populate_each(&mut self.frames, alloc, moves)
@@ -232,7 +238,11 @@ impl<A: Allocator + Copy> Frames<A> {
         requires frame { frame < frame_count self.old.layout }
         requires populated { IsPopulated self.old.frames frame }
         requires inside { at + length bytes.now ≤ 4096 }
-        ensures written { self.new ≡ record (self.old) { frames = slice_set self.old.frames frame (Some (overwrite (bytes_of self.old.frames frame) at bytes.now)) } }
+        ensures written { self.new
+            ≡ record (self.old) {
+              frames = slice_set self.old.frames frame
+                  (Some (overwrite (bytes_of self.old.frames frame) at bytes.now));
+            } }
         ensures shelf { HasAllFrames self.old }
     {
         self.frames.write(frame, at, bytes);
@@ -242,7 +252,11 @@ impl<A: Allocator + Copy> Frames<A> {
     pub(crate) fn zero(&mut self, frame: FrameId)
         requires frame { frame < frame_count self.old.layout }
         requires populated { IsPopulated self.old.frames frame }
-        ensures { self.new ≡ record (self.old) { frames = slice_set self.old.frames frame (Some (replicate 4096 0)) } }
+        ensures { self.new
+            ≡ record (self.old) {
+              frames = slice_set self.old.frames frame
+                  (Some (replicate 4096 0));
+            } }
     {
         self.frames.zero(frame);
     }
@@ -269,7 +283,12 @@ impl<A: Allocator + Copy> Frames<A> {
         requires node { node < node_count self.old.layout }
         requires room { length self.old.vacated + length moves.now ≤ self.old.room }
         requires populated { AllByRecursion (IsPopulated self.old.frames) (tos moves.now) }
-        ensures taken { self.new ≡ record (self.old) { free = slice_set self.old.free node (drop (length moves.now) (free_on self.old node)); vacated = self.old.vacated ++ tos moves.now } }
+        ensures taken { self.new
+            ≡ record (self.old) {
+              free = slice_set self.old.free node
+                  (drop (length moves.now) (free_on self.old node));
+              vacated = self.old.vacated ++ tos moves.now;
+            } }
         ensures shelf { HasAllFrames self.old }
     {
         take_fronts(&mut self.nodes, node, moves.len());
@@ -280,7 +299,12 @@ impl<A: Allocator + Copy> Frames<A> {
     pub(crate) fn give_back(&mut self, node: NodeId, moves: &[Taken])
         requires node { node < node_count self.old.layout }
         requires can { CanReturn (pool_of self.old) node (tos moves.now) }
-        ensures given { self.new ≡ record (self.old) { free = slice_set self.old.free node (tos moves.now ++ free_on self.old node); vacated = [] } }
+        ensures given { self.new
+            ≡ record (self.old) {
+              free = slice_set self.old.free node
+                  (tos moves.now ++ free_on self.old node);
+              vacated = [];
+            } }
         ensures shelf { HasAllFrames self.old }
     {
         self.vacated.clear();
@@ -328,7 +352,8 @@ impl<A: Allocator + Copy> Frames<A> {
 
     /// Whether each frame is in exactly one place: its own node's list, or the places of pages.
     pub(crate) fn audit(&self, alloc: A, places: &[FrameId]) -> Result<bool, AllocError>
-        ensures { IfOk result (λ b. b ≡ is_audited self.now.layout (numbered 0 self.now.free) places.now) }
+        ensures { IfOk result
+            (λ b. b ≡ is_audited self.now.layout (numbered 0 self.now.free) places.now) }
     {
         let free = audit::free_frames(alloc, &self.nodes, self.node_count())?;
         audit::is_each_once(alloc, &self.geometry, free.as_slice(), places)
@@ -354,7 +379,8 @@ impl<A: Allocator + Copy + Send + Sync> Frames<A> {
         requires few { length moves.now ≤ self.old.room }
 
         // What is left to do
-        requires due { AllByRecursion (CanDo spaces.now.place (emptied self.old.frames moves.now)) (map (due_shown accesses.now) dues.items) }
+        requires due { AllByRecursion (CanDo spaces.now.place (emptied self.old.frames moves.now))
+            (map (due_shown accesses.now) dues.items) }
         requires room { AllByRecursion HasRoom dues.items }
 
         // The list for the answers
@@ -362,8 +388,16 @@ impl<A: Allocator + Copy + Send + Sync> Frames<A> {
         requires space { vec_len dues ≤ vec_capacity answers }
 
         // Afterwards
-        ensures frames { self.new ≡ record (self.old) { frames = (all_done spaces.now.place (with_copies self.old.frames moves.now) (map (due_shown accesses.now) dues.items)).store; room = self.new.room } }
-        ensures answers { map answer_shown result.items ≡ (all_done spaces.now.place (with_copies self.old.frames moves.now) (map (due_shown accesses.now) dues.items)).answers }
+        ensures frames { self.new
+            ≡ record (self.old) {
+              frames = (all_done spaces.now.place
+                  (with_copies self.old.frames moves.now)
+                  (map (due_shown accesses.now) dues.items)).store;
+              room = self.new.room;
+            } }
+        ensures answers { map answer_shown result.items
+            ≡ (all_done spaces.now.place (with_copies self.old.frames moves.now)
+            (map (due_shown accesses.now) dues.items)).answers }
     {
         let jobs = mem::replace(&mut self.jobs, Vec::new(alloc));
         let (jobs, answers) = copy_pages(

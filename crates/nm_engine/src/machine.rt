@@ -167,7 +167,8 @@ impl<A: Allocator + Copy + Send + Sync> Machine<A> {
         allowed: NodeMask,
         privileged: bool,
     ) -> Result<(), MachineError>
-        ensures done { Makes result self.old self.new (spawn_refusal self.old pid home allowed) (spawn self.old pid uid home allowed privileged) }
+        ensures done { Makes result self.old self.new (spawn_refusal self.old pid home allowed)
+            (spawn self.old pid uid home allowed privileged) }
         ensures memory { AsksLast result (spawn_refusal self.old pid home allowed) }
     {
         let info = ProcessInfo {
@@ -192,7 +193,8 @@ impl<A: Allocator + Copy + Send + Sync> Machine<A> {
         pages: u64,
         shared: bool,
     ) -> Result<u32, MachineError>
-        ensures done { Makes result self.old self.new (map_refusal self.old pid addr pages) (map_new self.old pid addr pages shared) }
+        ensures done { Makes result self.old self.new (map_refusal self.old pid addr pages)
+            (map_new self.old pid addr pages shared) }
         ensures memory { AsksLast result (map_refusal self.old pid addr pages) }
         ensures number { IfOk result (λ number. number ≡ self.old.next_segment) }
     {
@@ -212,7 +214,9 @@ impl<A: Allocator + Copy + Send + Sync> Machine<A> {
         offset: u64,
         pages: u64,
     ) -> Result<(), MachineError>
-        ensures done { Makes result self.old self.new (attach_refusal self.old pid addr segment offset pages) (attach self.old pid addr segment offset pages) }
+        ensures done { Makes result self.old self.new
+            (attach_refusal self.old pid addr segment offset pages)
+            (attach self.old pid addr segment offset pages) }
         ensures memory { AsksLast result (attach_refusal self.old pid addr segment offset pages) }
     {
         self.inner.attach(pid, addr, segment, offset, pages)
@@ -223,7 +227,8 @@ impl<A: Allocator + Copy + Send + Sync> Machine<A> {
     /// Errors, in order: ESRCH if there is no such process; EFAULT if there is no area, or only the page of zeros;
     /// ENOENT if nothing was touched there; EBUSY if the page has 65,535 pins. Does not allocate.
     pub fn pin(&mut self, pid: Pid, addr: u64) -> Result<(), Errno>
-        ensures { Alters result self.old self.new (pin_refusal self.old pid addr) (pin self.old pid addr) }
+        ensures { Alters result self.old self.new (pin_refusal self.old pid addr)
+            (pin self.old pid addr) }
     {
         self.inner.pin(pid, addr)
     }
@@ -232,7 +237,8 @@ impl<A: Allocator + Copy + Send + Sync> Machine<A> {
     ///
     /// Errors, in order: ESRCH, EFAULT and ENOENT as for `pin`; EINVAL if the page has no pin. Does not allocate.
     pub fn unpin(&mut self, pid: Pid, addr: u64) -> Result<(), Errno>
-        ensures { Alters result self.old self.new (unpin_refusal self.old pid addr) (unpin self.old pid addr) }
+        ensures { Alters result self.old self.new (unpin_refusal self.old pid addr)
+            (unpin self.old pid addr) }
     {
         self.inner.unpin(pid, addr)
     }
@@ -244,7 +250,8 @@ impl<A: Allocator + Copy + Send + Sync> Machine<A> {
     /// Errors, in order: ESRCH if there is no such process; EINVAL if the address is not a multiple of 4,096, `pages`
     /// is 0, or the end is past 2^47; EBUSY if an area of the process shows a page with a pin there.
     pub fn unmap(&mut self, pid: Pid, addr: u64, pages: u64) -> Result<(), MachineError>
-        ensures done { Makes result self.old self.new (unmap_refusal self.old pid addr pages) (unmap self.old pid addr pages) }
+        ensures done { Makes result self.old self.new (unmap_refusal self.old pid addr pages)
+            (unmap self.old pid addr pages) }
         ensures memory { AsksLast result (unmap_refusal self.old pid addr pages) }
     {
         self.inner.unmap(pid, addr, pages)
@@ -254,7 +261,8 @@ impl<A: Allocator + Copy + Send + Sync> Machine<A> {
     ///
     /// Errors, in order: ESRCH if there is no such process; EBUSY if one of its areas shows a page with a pin.
     pub fn exit(&mut self, pid: Pid) -> Result<(), MachineError>
-        ensures done { Makes result self.old self.new (exit_refusal self.old pid) (exit self.old pid) }
+        ensures done { Makes result self.old self.new (exit_refusal self.old pid)
+            (exit self.old pid) }
         ensures memory { AsksLast result (exit_refusal self.old pid) }
     {
         self.inner.exit(pid)
@@ -280,7 +288,8 @@ impl<A: Allocator + Copy + Send + Sync> Machine<A> {
         len: u64,
         policy: Policy,
     ) -> Result<(), MachineError>
-        ensures done { Makes result self.old self.new (policy_refusal self.old pid addr len) (set_policy self.old pid addr len policy) }
+        ensures done { Makes result self.old self.new (policy_refusal self.old pid addr len)
+            (set_policy self.old pid addr len policy) }
         ensures memory { AsksLast result (policy_refusal self.old pid addr len) }
         ensures asked { result ≡ Err MachineError.HostMemory → 0 < len }
     {
@@ -293,7 +302,8 @@ impl<A: Allocator + Copy + Send + Sync> Machine<A> {
     /// Errors, in order: ESRCH if there is no such process; EINVAL if there is no byte, or the bytes go past the page's
     /// end; EFAULT if there is no area; ENOMEM if shared memory needs a frame and no node that may give one has any.
     pub fn read(&mut self, pid: Pid, addr: u64, len: u64) -> Result<Vec<u8, A>, MachineError>
-        ensures answer { Accesses result (λ bytes. Bytes bytes.items) self.old self.new (read self.old pid addr len) }
+        ensures answer { Accesses result (λ bytes. Bytes bytes.items) self.old self.new
+            (read self.old pid addr len) }
         ensures memory { AsksLast result (spot_refusal self.old pid addr len) }
     {
         self.inner.read(pid, addr, len)
@@ -305,9 +315,13 @@ impl<A: Allocator + Copy + Send + Sync> Machine<A> {
     /// Errors, in order: ESRCH, EINVAL and EFAULT as for `read`; ENOMEM if the page needs a frame and no node that may
     /// give one has any. A refused write changes nothing. A write to a page that the process sees does not allocate.
     pub fn write(&mut self, pid: Pid, addr: u64, bytes: &[u8]) -> Result<(), MachineError>
-        ensures answer { Accesses result (λ done. Done) self.old self.new (write self.old pid addr bytes.now) }
+        ensures answer { Accesses result (λ done. Done) self.old self.new
+            (write self.old pid addr bytes.now) }
         ensures memory { AsksLast result (spot_refusal self.old pid addr (length bytes.now)) }
-        ensures asked { result ≡ Err MachineError.HostMemory → (page : Page) → sight_at self.old pid (addr / 4096) ≡ Some (Sees page) → ⊥ }
+        ensures asked { result ≡ Err MachineError.HostMemory →
+            (page : Page) →
+            sight_at self.old pid (addr / 4096) ≡ Some (Sees page) →
+            ⊥ }
     {
         self.inner.write(pid, addr, bytes)
     }
@@ -340,9 +354,18 @@ impl<A: Allocator + Copy + Send + Sync> Machine<A> {
         requires alike { HasOneAll requests.now.wanted.items }
 
         // On success
-        ensures statuses { IfOk result (λ flown. flown.statuses.items ≡ (run self.old requests.now.target requests.now.wanted.items (map access_shown accesses.now)).statuses) }
-        ensures answers { IfOk result (λ flown. map answer_shown flown.answers.items ∷ [] ≡ (run self.old requests.now.target requests.now.wanted.items (map access_shown accesses.now)).answers) }
-        ensures state { OnOk result (self.new ≡ (run self.old requests.now.target requests.now.wanted.items (map access_shown accesses.now)).state) }
+        ensures statuses { IfOk result
+            (λ flown. flown.statuses.items
+            ≡ (run self.old requests.now.target requests.now.wanted.items
+            (map access_shown accesses.now)).statuses) }
+        ensures answers { IfOk result
+            (λ flown. map answer_shown flown.answers.items ∷ []
+            ≡ (run self.old requests.now.target requests.now.wanted.items
+            (map access_shown accesses.now)).answers) }
+        ensures state { OnOk result
+            (self.new
+            ≡ (run self.old requests.now.target requests.now.wanted.items
+            (map access_shown accesses.now)).state) }
 
         // Without memory
         ensures err { OnErr result (self.new ≡ self.old) }
@@ -379,7 +402,8 @@ impl<A: Allocator + Copy + Send + Sync> Machine<A> {
 
     /// The free frames of a node, front first. EINVAL if there is no such node. An empty list takes no memory.
     pub fn free_list(&self, node: NodeId) -> Result<Vec<FrameId, A>, MachineError>
-        ensures told { Tells result (list_refusal self.now node) (λ frames. frames.items ≡ free_list self.now node) }
+        ensures told { Tells result (list_refusal self.now node)
+            (λ frames. frames.items ≡ free_list self.now node) }
         ensures memory { AsksLast result (list_refusal self.now node) }
         ensures asked { result ≡ Err MachineError.HostMemory → 0 < length (free_list self.now node) }
     {
@@ -389,7 +413,8 @@ impl<A: Allocator + Copy + Send + Sync> Machine<A> {
     /// What a process has at the page numbers that it has touched, in ascending order, as in `/proc/PID/pagemap`. ESRCH
     /// if there is no such process.
     pub fn entries(&self, pid: Pid) -> Result<Vec<(Vpn, Entry), A>, MachineError>
-        ensures told { Tells result (entries_refusal self.now pid) (λ entries. entries.items ≡ entries_of self.now pid) }
+        ensures told { Tells result (entries_refusal self.now pid)
+            (λ entries. entries.items ≡ entries_of self.now pid) }
         ensures memory { AsksLast result (entries_refusal self.now pid) }
     {
         self.inner.entries(pid)
@@ -398,9 +423,11 @@ impl<A: Allocator + Copy + Send + Sync> Machine<A> {
     /// The areas of a process, in address order, as in `/proc/PID/numa_maps` (numa(7)). ESRCH if there is no such
     /// process. An empty list takes no memory.
     pub fn lines(&self, pid: Pid) -> Result<Vec<Line, A>, MachineError>
-        ensures told { Tells result (entries_refusal self.now pid) (λ lines. lines.items ≡ lines_of self.now.segments self.now.areas pid) }
+        ensures told { Tells result (entries_refusal self.now pid)
+            (λ lines. lines.items ≡ lines_of self.now.segments self.now.areas pid) }
         ensures memory { AsksLast result (entries_refusal self.now pid) }
-        ensures asked { result ≡ Err MachineError.HostMemory → 0 < length (lines_of self.now.segments self.now.areas pid) }
+        ensures asked { result ≡ Err MachineError.HostMemory →
+            0 < length (lines_of self.now.segments self.now.areas pid) }
     {
         self.inner.lines(pid)
     }
@@ -410,7 +437,9 @@ impl<A: Allocator + Copy + Send + Sync> Machine<A> {
     /// number on gives all such pages in order, however long the range is. Does not allocate.
     pub fn page_from(&self, pid: Pid, first: Vpn, end: Vpn) -> Option<Located>
         // If there is one
-        ensures some { IfSome result (λ e. located_between self.now pid first end ≡ e ∷ located_between self.now pid (e.vpn + 1) end) }
+        ensures some { IfSome result
+            (λ e. located_between self.now pid first end
+            ≡ e ∷ located_between self.now pid (e.vpn + 1) end) }
 
         // If there is none
         ensures none { IfNone result (located_between self.now pid first end ≡ []) }
@@ -440,8 +469,10 @@ impl<A: Allocator + Copy + Send + Sync> Machine<A> {
     ) -> Result<Vec<Located, A>, AllocError>
         // On success
         ensures pages { IfOk result (λ pages. pages.items ≡ located_between self.now pid first end) }
-        ensures placed { IfOk result (λ pages. All (λ e. get page_cmp self.now.place e.page ≡ Some e.frame) pages.items) }
-        ensures nodes { IfOk result (λ pages. All (λ e. e.node < node_count self.now.layout) pages.items) }
+        ensures placed { IfOk result
+            (λ pages. All (λ e. get page_cmp self.now.place e.page ≡ Some e.frame) pages.items) }
+        ensures nodes { IfOk result
+            (λ pages. All (λ e. e.node < node_count self.now.layout) pages.items) }
         ensures few { IfOk result (λ pages. length pages.items ≤ end - first) }
     {
         self.inner.pages_between(pid, first, end)
@@ -450,7 +481,9 @@ impl<A: Allocator + Copy + Send + Sync> Machine<A> {
     /// How many processes see the page in a frame. Two addresses of one process count once. Does not allocate.
     pub fn users_in(&self, frame: FrameId) -> usize
         requires placed { (page : Page) × (get page_cmp self.now.place page ≡ Some frame) }
-        ensures users { (page : Page) → get page_cmp self.now.place page ≡ Some frame → result ≡ length (users self.now page) }
+        ensures users { (page : Page) →
+            get page_cmp self.now.place page ≡ Some frame →
+            result ≡ length (users self.now page) }
     {
         self.inner.users_in(frame)
     }

@@ -72,7 +72,9 @@ impl<A: Allocator + Copy> ProcessTable<A> {
 
     /// All entries of a process, in order of page number. None if there is no such process.
     pub(crate) fn entries(&self, pid: Pid) -> Result<Option<Vec<(Vpn, Entry), A>>, AllocError>
-        ensures entries { IfOk result (λ all. option_map (λ entries. entries.items) all ≡ option_map task_table (get nat_cmp self.now pid)) }
+        ensures entries { IfOk result
+            (λ all. option_map (λ entries. entries.items) all
+            ≡ option_map task_table (get nat_cmp self.now pid)) }
         ensures memory { OnErr result (IsSome (get nat_cmp self.now pid)) }
     {
         match self.tasks.get(&pid) {
@@ -84,7 +86,8 @@ impl<A: Allocator + Copy> ProcessTable<A> {
     /// The first entry of a process at or after a page number.
     pub(crate) fn first_from(&self, pid: Pid, at: Vpn) -> Option<(Vpn, Entry)>
         ensures some { IfSome result (λ e. (at ≤ e.0) × (entry_at self.now pid e.0 ≡ Some e.1)) }
-        ensures first { IfSome result (λ e. (v : ℕ) → at ≤ v → v < e.0 → entry_at self.now pid v ≡ None) }
+        ensures first { IfSome result
+            (λ e. (v : ℕ) → at ≤ v → v < e.0 → entry_at self.now pid v ≡ None) }
         ensures none { IfNone result ((v : ℕ) → at ≤ v → entry_at self.now pid v ≡ None) }
     {
         self.tasks.get(&pid)?.table.first_from(at)
@@ -97,7 +100,8 @@ impl<A: Allocator + Copy> ProcessTable<A> {
         first: Vpn,
         end: Vpn,
     ) -> Result<Vec<(Vpn, Entry), A>, AllocError>
-        ensures { IfOk result (λ entries. entries.items ≡ between first end (entries_in self.now pid)) }
+        ensures { IfOk result
+            (λ entries. entries.items ≡ between first end (entries_in self.now pid)) }
     {
         let mut entries = Vec::new(self.alloc);
         let Some(task) = self.tasks.get(&pid) else {
@@ -131,7 +135,10 @@ impl<A: Allocator + Copy> ProcessTable<A> {
     /// Sets the entry at a page number of a process.
     pub(crate) fn set(&mut self, pid: Pid, vpn: Vpn, entry: Entry) -> Result<(), AllocError>
         requires { IsSome (get nat_cmp self.old pid) }
-        ensures ok { OnOk result ((t : Task) → get nat_cmp self.old pid ≡ Some t → self.new ≡ replace nat_cmp self.old pid (with_entry t vpn entry)) }
+        ensures ok { OnOk result
+            ((t : Task) →
+            get nat_cmp self.old pid ≡ Some t →
+            self.new ≡ replace nat_cmp self.old pid (with_entry t vpn entry)) }
         ensures err { OnErr result (self.new ≡ self.old) }
     {
         let Some(task) = self.tasks.get_mut(&pid) else {
@@ -154,7 +161,9 @@ impl<A: Allocator + Copy> ProcessTable<A> {
     /// Removes the entry at a page number of a process. Does not allocate.
     pub(crate) fn clear(&mut self, pid: Pid, vpn: Vpn)
         requires { IsSome (get nat_cmp self.old pid) }
-        ensures { (t : Task) → get nat_cmp self.old pid ≡ Some t → self.new ≡ replace nat_cmp self.old pid (without_entry t vpn) }
+        ensures { (t : Task) →
+            get nat_cmp self.old pid ≡ Some t →
+            self.new ≡ replace nat_cmp self.old pid (without_entry t vpn) }
     {
         let Some(task) = self.tasks.get_mut(&pid) else {
             unreachable!()

@@ -91,7 +91,8 @@ impl<A: Allocator + Copy> FrameStore<A> {
         requires home { IsHome self.old frame }
         requires populated { IsPopulated self.old frame }
         requires inside { at + length bytes.now ≤ 4096 }
-        ensures { self.new ≡ slice_set self.old frame (Some (overwrite (bytes_of self.old frame) at bytes.now)) }
+        ensures { self.new
+            ≡ slice_set self.old frame (Some (overwrite (bytes_of self.old frame) at bytes.now)) }
     {
         let mut buf = self.take_out(frame);
         buf.bytes.write(at, bytes);

@@ -27,9 +27,19 @@ fn choose<A: Allocator + Copy>(
     requires room { vec_len moves.old < vec_capacity moves.old }
 
     // On success
-    ensures status { IfOk result (λ status. status ≡ (choose class moves.old.items (drop (length moves.old.items) free_front.now) target).status) }
-    ensures moves { OnOk result (moves.new.items ≡ moves.old.items ++ (choose class moves.old.items (drop (length moves.old.items) free_front.now) target).taken) }
-    ensures front { OnOk result (drop (length moves.new.items) free_front.now ≡ (choose class moves.old.items (drop (length moves.old.items) free_front.now) target).front) }
+    ensures status { IfOk result
+        (λ status. status
+        ≡ (choose class moves.old.items
+        (drop (length moves.old.items) free_front.now) target).status) }
+    ensures moves { OnOk result
+        (moves.new.items
+        ≡ moves.old.items
+        ++ (choose class moves.old.items
+        (drop (length moves.old.items) free_front.now) target).taken) }
+    ensures front { OnOk result
+        (drop (length moves.new.items) free_front.now
+        ≡ (choose class moves.old.items
+        (drop (length moves.old.items) free_front.now) target).front) }
     ensures found { OnOk result (Finds search.new moves.new.items) }
     ensures capacity { OnOk result (vec_capacity moves.new ≡ vec_capacity moves.old) }
 {

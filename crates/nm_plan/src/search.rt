@@ -72,7 +72,8 @@ impl<A: Allocator + Copy> Search<A> {
     /// Notes a page that moves after these. An error means that the host is out of memory.
     pub(crate) fn add(&mut self, moves: &[Taken], page: Page) -> Result<(), AllocError>
         requires { Finds self.old moves.now }
-        ensures { OnOk result ((taken : Taken) → taken.page ≡ page → Finds self.new (moves.now ++ taken ∷ [])) }
+        ensures { OnOk result
+            ((taken : Taken) → taken.page ≡ page → Finds self.new (moves.now ++ taken ∷ [])) }
     {
         let behind = moves.len() - self.ascending;
         if behind == 0 && is_past(moves, page) {

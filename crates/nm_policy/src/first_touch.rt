@@ -27,7 +27,9 @@ pub(crate) fn turn(nodes: NodeMask, index: u64) -> NodeId
 /// The node from which distances are measured, and the nodes that may be used: those of the policy, or else those of
 /// the process.
 fn way(home: NodeId, allowed: NodeMask, policy: Policy, index: u64) -> (NodeId, NodeMask)
-    ensures { (layout : Layout) (online : List ℕ) → filter (is_in result.1) (zonelist layout online result.0) ≡ first_touch_order layout online home allowed policy index }
+    ensures { (layout : Layout) (online : List ℕ) →
+        filter (is_in result.1) (zonelist layout online result.0)
+        ≡ first_touch_order layout online home allowed policy index }
 {
     match policy {
         Policy::Default => (home, allowed),
@@ -53,7 +55,8 @@ pub fn first_touch_order<A: Allocator + Copy>(
     policy: Policy,
     index: u64,
 ) -> Result<Vec<NodeId, A>, AllocError>
-    ensures order { IfOk result (λ order. order.items ≡ first_touch_order geometry.now online home allowed policy index) }
+    ensures order { IfOk result
+        (λ order. order.items ≡ first_touch_order geometry.now online home allowed policy index) }
     ensures asked { OnErr result (0 < length online) }
 {
     let (from, kept) = way(home, allowed, policy, index);
@@ -100,7 +103,8 @@ pub fn first_touch_node<A: Allocator + Copy>(
     policy: Policy,
     index: u64,
 ) -> Option<NodeId>
-    ensures { result ≡ find (is_in free) (first_touch_order geometry.now online home allowed policy index) }
+    ensures { result
+        ≡ find (is_in free) (first_touch_order geometry.now online home allowed policy index) }
 {
     let (from, kept) = way(home, allowed, policy, index);
     nearest(geometry, online, from, kept, free)

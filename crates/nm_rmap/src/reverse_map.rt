@@ -118,7 +118,8 @@ impl<A: Allocator + Copy> ReverseMap<A> {
 
         // On success
         ensures room { OnOk result (frame_pins self.old frame < 65535) }
-        ensures ok { OnOk result (self.new ≡ with_pins self.old frame (frame_pins self.old frame + 1)) }
+        ensures ok { OnOk result
+            (self.new ≡ with_pins self.old frame (frame_pins self.old frame + 1)) }
 
         // On refusal
         ensures full { IfErr result (λ error. (error ≡ Ebusy) × (65535 ≤ frame_pins self.old frame)) }
@@ -142,7 +143,8 @@ impl<A: Allocator + Copy> ReverseMap<A> {
 
         // On success
         ensures pinned { OnOk result (0 < frame_pins self.old frame) }
-        ensures ok { OnOk result (self.new ≡ with_pins self.old frame (frame_pins self.old frame - 1)) }
+        ensures ok { OnOk result
+            (self.new ≡ with_pins self.old frame (frame_pins self.old frame - 1)) }
 
         // On refusal
         ensures none { IfErr result (λ error. (error ≡ Einval) × (frame_pins self.old frame ≡ 0)) }

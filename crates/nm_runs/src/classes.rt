@@ -57,7 +57,8 @@ fn class_of<A: Allocator + Copy, V: PageView>(
 ) -> Class
     requires target { target < 2 ^ 31 }
     requires frames { ShowsItsFrames geometry.now (V.seen_at view.now) (V.placed_at view.now) }
-    ensures { result ≡ class_shown geometry.now (V.seen_at view.now) (V.placed_at view.now) target wanted }
+    ensures { result
+        ≡ class_shown geometry.now (V.seen_at view.now) (V.placed_at view.now) target wanted }
 {
     match wanted {
         Wanted::At { pid, vpn, all } => class_of_look(geometry, target, all, view.seen(pid, vpn)),
@@ -76,7 +77,11 @@ pub fn classify_here<A: Allocator + Copy, V: PageView>(
 ) -> Result<Vec<Class, A>, AllocError>
     requires target { run.now.target < 2 ^ 31 }
     requires frames { ShowsItsFrames geometry.now (V.seen_at view.now) (V.placed_at view.now) }
-    ensures classes { IfOk result (λ classes. classes.items ≡ map (class_shown geometry.now (V.seen_at view.now) (V.placed_at view.now) run.now.target) run.now.wanted.items) }
+    ensures classes { IfOk result
+        (λ classes. classes.items
+        ≡ map
+        (class_shown geometry.now (V.seen_at view.now)
+        (V.placed_at view.now) run.now.target) run.now.wanted.items) }
     ensures asked { OnErr result (0 < length run.now.wanted.items) }
 {
     let mut classes = Vec::with_capacity(alloc, run.wanted.len())?;
@@ -99,7 +104,11 @@ pub fn classify<R: Threads + Sync, A: Allocator + Copy + Send + Sync, V: PageVie
 ) -> Result<Vec<Class, A>, AllocError>
     requires target { run.now.target < 2 ^ 31 }
     requires frames { ShowsItsFrames geometry.now (V.seen_at view.now) (V.placed_at view.now) }
-    ensures classes { IfOk result (λ classes. classes.items ≡ map (class_shown geometry.now (V.seen_at view.now) (V.placed_at view.now) run.now.target) run.now.wanted.items) }
+    ensures classes { IfOk result
+        (λ classes. classes.items
+        ≡ map
+        (class_shown geometry.now (V.seen_at view.now)
+        (V.placed_at view.now) run.now.target) run.now.wanted.items) }
     ensures asked { OnErr result (0 < length run.now.wanted.items) }
 {
     if run.wanted.len() < 2 * PIECE {
@@ -113,8 +122,11 @@ pub fn classify<R: Threads + Sync, A: Allocator + Copy + Send + Sync, V: PageVie
         .map(
             |wanted: &Wanted| -> Class
                 requires target { target < 2 ^ 31 }
-                requires frames { ShowsItsFrames geometry.now (V.seen_at view.now) (V.placed_at view.now) }
-                ensures { result ≡ class_shown geometry.entry.now (V.seen_at view.entry.now) (V.placed_at view.entry.now) target wanted.now }
+                requires frames { ShowsItsFrames geometry.now (V.seen_at view.now)
+                    (V.placed_at view.now) }
+                ensures { result
+                    ≡ class_shown geometry.entry.now (V.seen_at view.entry.now)
+                    (V.placed_at view.entry.now) target wanted.now }
             { class_of(geometry, view, target, *wanted) },
         )
         .collect(rt, alloc)

@@ -70,11 +70,14 @@ impl<A: Allocator + Copy> Blocks<A> {
         requires { IsBlocks self.now }
 
         // If there is one
-        ensures some { IfSome result (λ e. (at ≤ e.0) × (get nat_cmp (block_entries self.now) e.0 ≡ Some e.1)) }
-        ensures first { IfSome result (λ e. (v : ℕ) → at ≤ v → v < e.0 → get nat_cmp (block_entries self.now) v ≡ None) }
+        ensures some { IfSome result
+            (λ e. (at ≤ e.0) × (get nat_cmp (block_entries self.now) e.0 ≡ Some e.1)) }
+        ensures first { IfSome result
+            (λ e. (v : ℕ) → at ≤ v → v < e.0 → get nat_cmp (block_entries self.now) v ≡ None) }
 
         // If there is none
-        ensures none { IfNone result ((v : ℕ) → at ≤ v → get nat_cmp (block_entries self.now) v ≡ None) }
+        ensures none { IfNone result
+            ((v : ℕ) → at ≤ v → get nat_cmp (block_entries self.now) v ≡ None) }
     {
         let mut from = block_of(at);
         while let Some((block, slot)) = self.block_from(from) {
@@ -91,9 +94,11 @@ impl<A: Allocator + Copy> Blocks<A> {
         requires { IsBlocks self.now }
 
         // If there is one
-        ensures some { IfSome result (λ e. (from ≤ e.0) × (get nat_cmp self.now.index e.0 ≡ Some e.1)) }
+        ensures some { IfSome result
+            (λ e. (from ≤ e.0) × (get nat_cmp self.now.index e.0 ≡ Some e.1)) }
         ensures slot { IfSome result (λ e. IsSlotOf self.now.leaves.items e.1 e.0) }
-        ensures first { IfSome result (λ e. (k : ℕ) → from ≤ k → k < e.0 → get nat_cmp self.now.index k ≡ None) }
+        ensures first { IfSome result
+            (λ e. (k : ℕ) → from ≤ k → k < e.0 → get nat_cmp self.now.index k ≡ None) }
 
         // If there is none
         ensures none { IfNone result ((k : ℕ) → from ≤ k → get nat_cmp self.now.index k ≡ None) }
@@ -106,11 +111,18 @@ impl<A: Allocator + Copy> Blocks<A> {
         requires { (block : ℕ) × IsSlotOf self.now.leaves.items slot block }
 
         // If there is one
-        ensures some { IfSome result (λ e. (at ≤ e.0) × (get nat_cmp (slot_entries self.now.leaves.items slot) e.0 ≡ Some e.1)) }
-        ensures first { IfSome result (λ e. (v : ℕ) → at ≤ v → v < e.0 → get nat_cmp (slot_entries self.now.leaves.items slot) v ≡ None) }
+        ensures some { IfSome result
+            (λ e. (at ≤ e.0)
+            × (get nat_cmp (slot_entries self.now.leaves.items slot) e.0 ≡ Some e.1)) }
+        ensures first { IfSome result
+            (λ e. (v : ℕ) →
+            at ≤ v →
+            v < e.0 →
+            get nat_cmp (slot_entries self.now.leaves.items slot) v ≡ None) }
 
         // If there is none
-        ensures none { IfNone result ((v : ℕ) → at ≤ v → get nat_cmp (slot_entries self.now.leaves.items slot) v ≡ None) }
+        ensures none { IfNone result
+            ((v : ℕ) → at ≤ v → get nat_cmp (slot_entries self.now.leaves.items slot) v ≡ None) }
     {
         match slot {
             Slot::Lone(own, entry) => { if own < at { None } else { Some((own, entry)) } }
@@ -124,7 +136,8 @@ impl<A: Allocator + Copy> Blocks<A> {
         requires { IsBlocks self.old }
 
         // On success
-        ensures ok { OnOk result (block_entries self.new ≡ set nat_cmp (block_entries self.old) vpn entry) }
+        ensures ok { OnOk result
+            (block_entries self.new ≡ set nat_cmp (block_entries self.old) vpn entry) }
 
         // Without memory
         ensures err { OnErr result (block_entries self.new ≡ block_entries self.old) }
@@ -148,7 +161,8 @@ impl<A: Allocator + Copy> Blocks<A> {
         requires empty { get nat_cmp self.old.index (vpn / 512) ≡ None }
 
         // On success
-        ensures ok { OnOk result (block_entries self.new ≡ set nat_cmp (block_entries self.old) vpn entry) }
+        ensures ok { OnOk result
+            (block_entries self.new ≡ set nat_cmp (block_entries self.old) vpn entry) }
 
         // Without memory
         ensures err { OnErr result (block_entries self.new ≡ block_entries self.old) }
@@ -202,7 +216,8 @@ impl<A: Allocator + Copy> Blocks<A> {
     pub(crate) fn replace(&mut self, vpn: Vpn, entry: Entry)
         requires kept { IsBlocks self.old }
         requires there { IsSome (get nat_cmp (block_entries self.old) vpn) }
-        ensures entries { block_entries self.new ≡ replace nat_cmp (block_entries self.old) vpn entry }
+        ensures entries { block_entries self.new
+            ≡ replace nat_cmp (block_entries self.old) vpn entry }
         ensures kept { IsBlocks self.new }
     {
         let Some(slot) = self.index.get(block_of(vpn)) else {
@@ -265,9 +280,17 @@ impl<A: Allocator + Copy> Blocks<A> {
         list: &mut Vec<(Vpn, Entry), A>,
     ) -> Result<(), AllocError>
         requires { IsBlocks self.now }
-        ensures ok { OnOk result (list.new.items ≡ list.old.items ++ entries_between nat_cmp (Included first) (Included last) (block_entries self.now)) }
+        ensures ok { OnOk result
+            (list.new.items
+            ≡ list.old.items
+            ++ entries_between nat_cmp (Included first) (Included last)
+            (block_entries self.now)) }
         ensures before { Extends list.old.items list.new.items }
-        ensures short { OnErr result (IsCutShort list.new.items (list.old.items ++ entries_between nat_cmp (Included first) (Included last) (block_entries self.now))) }
+        ensures short { OnErr result
+            (IsCutShort list.new.items
+            (list.old.items
+            ++ entries_between nat_cmp (Included first) (Included last)
+            (block_entries self.now))) }
     {
         let mut from = block_of(first);
         while let Some((block, slot)) = self.block_from(from) {
@@ -289,9 +312,17 @@ impl<A: Allocator + Copy> Blocks<A> {
         list: &mut Vec<(Vpn, Entry), A>,
     ) -> Result<(), AllocError>
         requires { (block : ℕ) × IsSlotOf self.now.leaves.items slot block }
-        ensures ok { OnOk result (list.new.items ≡ list.old.items ++ entries_between nat_cmp (Included first) (Included last) (slot_entries self.now.leaves.items slot)) }
+        ensures ok { OnOk result
+            (list.new.items
+            ≡ list.old.items
+            ++ entries_between nat_cmp (Included first) (Included last)
+            (slot_entries self.now.leaves.items slot)) }
         ensures before { Extends list.old.items list.new.items }
-        ensures short { OnErr result (IsCutShort list.new.items (list.old.items ++ entries_between nat_cmp (Included first) (Included last) (slot_entries self.now.leaves.items slot))) }
+        ensures short { OnErr result
+            (IsCutShort list.new.items
+            (list.old.items
+            ++ entries_between nat_cmp (Included first) (Included last)
+            (slot_entries self.now.leaves.items slot))) }
     {
         match slot {
             Slot::Lone(own, entry) => {

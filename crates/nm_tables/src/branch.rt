@@ -35,14 +35,21 @@ impl<T: Subtree<A>, A: Allocator + Copy> Branch<T, A> {
         requires apart { get nat_cmp (parts_of self.old) (T.number block) ≡ None }
 
         // On success
-        ensures ok { OnOk result (joined (shown T.slots (parts_of self.new)) ≡ set nat_cmp (joined (shown T.slots (parts_of self.old))) block slot) }
+        ensures ok { OnOk result
+            (joined (shown T.slots (parts_of self.new))
+            ≡ set nat_cmp (joined (shown T.slots (parts_of self.old))) block slot) }
 
         // Without memory
-        ensures err { OnErr result (joined (shown T.slots (parts_of self.new)) ≡ joined (shown T.slots (parts_of self.old))) }
+        ensures err { OnErr result
+            (joined (shown T.slots (parts_of self.new))
+            ≡ joined (shown T.slots (parts_of self.old))) }
 
         // In any case
         ensures kept { IsFilledNode T.whole T.is_in (parts_of self.new) }
-        ensures inside { (i : ℕ) → AllByRecursion (λ k. k / 512 ≡ i) (keys_of (parts_of self.old)) → T.number block / 512 ≡ i → AllByRecursion (λ k. k / 512 ≡ i) (keys_of (parts_of self.new)) }
+        ensures inside { (i : ℕ) →
+            AllByRecursion (λ k. k / 512 ≡ i) (keys_of (parts_of self.old)) →
+            T.number block / 512 ≡ i →
+            AllByRecursion (λ k. k / 512 ≡ i) (keys_of (parts_of self.new)) }
     {
         let own = T::number_of(block);
         let part = T::holding(alloc, block, slot)?;

@@ -61,7 +61,8 @@ impl<A: Allocator + Copy> Index<A> {
     pub(crate) fn first_from(&self, at: u64) -> Option<(u64, Slot)>
         // If there is one
         ensures some { IfSome result (λ e. (at ≤ e.0) × (get nat_cmp self.now e.0 ≡ Some e.1)) }
-        ensures first { IfSome result (λ e. (v : ℕ) → at ≤ v → v < e.0 → get nat_cmp self.now v ≡ None) }
+        ensures first { IfSome result
+            (λ e. (v : ℕ) → at ≤ v → v < e.0 → get nat_cmp self.now v ≡ None) }
 
         // If there is none
         ensures none { IfNone result ((v : ℕ) → at ≤ v → get nat_cmp self.now v ≡ None) }

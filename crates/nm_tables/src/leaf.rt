@@ -76,8 +76,10 @@ pub(crate) fn first_in(leaf: &Places, at: Vpn) -> Option<(Vpn, Entry)>
     requires { leaf.now.block < 2 ^ 55 }
 
     // If there is one
-    ensures some { IfSome result (λ e. (at ≤ e.0) × (get nat_cmp (leaf_entries leaf.now) e.0 ≡ Some e.1)) }
-    ensures first { IfSome result (λ e. (v : ℕ) → at ≤ v → v < e.0 → get nat_cmp (leaf_entries leaf.now) v ≡ None) }
+    ensures some { IfSome result
+        (λ e. (at ≤ e.0) × (get nat_cmp (leaf_entries leaf.now) e.0 ≡ Some e.1)) }
+    ensures first { IfSome result
+        (λ e. (v : ℕ) → at ≤ v → v < e.0 → get nat_cmp (leaf_entries leaf.now) v ≡ None) }
 
     // If there is none
     ensures none { IfNone result ((v : ℕ) → at ≤ v → get nat_cmp (leaf_entries leaf.now) v ≡ None) }
@@ -96,9 +98,16 @@ pub(crate) fn list_leaf<A: Allocator + Copy>(
     list: &mut Vec<(Vpn, Entry), A>,
 ) -> Result<(), AllocError>
     requires { leaf.now.block < 2 ^ 55 }
-    ensures ok { OnOk result (list.new.items ≡ list.old.items ++ entries_between nat_cmp (Included first) (Included last) (leaf_entries leaf.now)) }
+    ensures ok { OnOk result
+        (list.new.items
+        ≡ list.old.items
+        ++ entries_between nat_cmp (Included first) (Included last) (leaf_entries leaf.now)) }
     ensures before { Extends list.old.items list.new.items }
-    ensures short { OnErr result (IsCutShort list.new.items (list.old.items ++ entries_between nat_cmp (Included first) (Included last) (leaf_entries leaf.now))) }
+    ensures short { OnErr result
+        (IsCutShort list.new.items
+        (list.old.items
+        ++ entries_between nat_cmp (Included first) (Included last)
+        (leaf_entries leaf.now))) }
 {
     let mut from = place_from(leaf.block, first);
     while let Some((place, entry)) = leaf.first_from(from) {

@@ -29,7 +29,9 @@ impl Marks {
     /// The marks from a place to the end of its word; the place's own is the lowest bit.
     pub(crate) fn rest_of_word(&self, place: usize) -> u64
         requires { place < 512 }
-        ensures { (j : ℕ) → place % 64 + j < 64 → is_marked self.now.words (place + j) ≡ (bit_at result j == 1) }
+        ensures { (j : ℕ) →
+            place % 64 + j < 64 →
+            is_marked self.now.words (place + j) ≡ (bit_at result j == 1) }
     {
         self.words[place / 64] >> (place % 64)
     }
@@ -37,7 +39,8 @@ impl Marks {
     /// Sets the mark of a place, or clears it.
     pub(crate) fn put(&mut self, place: usize, marked: bool)
         requires { place < 512 }
-        ensures { (i : ℕ) → is_marked self.new.words i ≡ (if i == place then marked else is_marked self.old.words i) }
+        ensures { (i : ℕ) →
+            is_marked self.new.words i ≡ (if i == place then marked else is_marked self.old.words i) }
     {
         let bit = 1u64 << (place % 64);
         if marked {

@@ -105,8 +105,10 @@ impl Places {
         requires { from ≤ 512 }
 
         // If there is one
-        ensures some { IfSome result (λ e. (from ≤ e.0) × (e.0 < 512) × (stands_at self.now e.0 ≡ Some e.1)) }
-        ensures first { IfSome result (λ e. (i : ℕ) → from ≤ i → i < e.0 → stands_at self.now i ≡ None) }
+        ensures some { IfSome result
+            (λ e. (from ≤ e.0) × (e.0 < 512) × (stands_at self.now e.0 ≡ Some e.1)) }
+        ensures first { IfSome result
+            (λ e. (i : ℕ) → from ≤ i → i < e.0 → stands_at self.now i ≡ None) }
 
         // If there is none
         ensures none { IfNone result ((i : ℕ) → from ≤ i → i < 512 → stands_at self.now i ≡ None) }
@@ -129,8 +131,14 @@ impl Places {
     /// Whether no place except this one has an entry.
     pub(crate) fn has_no_other(&self, place: usize) -> bool
         requires { place < 512 }
-        ensures none { result ≡ true → (i : ℕ) → i < 512 → (i ≡ place → ⊥) → stands_at self.now i ≡ None }
-        ensures some { result ≡ false → ((i : ℕ) → i < 512 → (i ≡ place → ⊥) → stands_at self.now i ≡ None) → ⊥ }
+        ensures none { result ≡ true →
+            (i : ℕ) →
+            i < 512 →
+            (i ≡ place → ⊥) →
+            stands_at self.now i ≡ None }
+        ensures some { result ≡ false →
+            ((i : ℕ) → i < 512 → (i ≡ place → ⊥) → stands_at self.now i ≡ None) →
+            ⊥ }
     {
         if let Some((first, _)) = self.first_from(0) {
             if first < place {

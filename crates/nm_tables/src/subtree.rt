@@ -50,8 +50,10 @@ pub(crate) trait Subtree<A: Allocator + Copy>: Drop {
         requires kept { whole self.now }
 
         // If there is one
-        ensures some { IfSome result (λ e. (at ≤ e.0) × (get nat_cmp (slots self.now) e.0 ≡ Some e.1)) }
-        ensures first { IfSome result (λ e. (v : ℕ) → at ≤ v → v < e.0 → get nat_cmp (slots self.now) v ≡ None) }
+        ensures some { IfSome result
+            (λ e. (at ≤ e.0) × (get nat_cmp (slots self.now) e.0 ≡ Some e.1)) }
+        ensures first { IfSome result
+            (λ e. (v : ℕ) → at ≤ v → v < e.0 → get nat_cmp (slots self.now) v ≡ None) }
 
         // If there is none
         ensures none { IfNone result ((v : ℕ) → at ≤ v → get nat_cmp (slots self.now) v ≡ None) };

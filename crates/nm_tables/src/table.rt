@@ -62,7 +62,8 @@ impl<A: Allocator + Copy> PageTable<A> {
     pub fn first_from(&self, at: Vpn) -> Option<(Vpn, Entry)>
         // If there is one
         ensures some { IfSome result (λ e. (at ≤ e.0) × (get nat_cmp self.now e.0 ≡ Some e.1)) }
-        ensures first { IfSome result (λ e. (v : ℕ) → at ≤ v → v < e.0 → get nat_cmp self.now v ≡ None) }
+        ensures first { IfSome result
+            (λ e. (v : ℕ) → at ≤ v → v < e.0 → get nat_cmp self.now v ≡ None) }
 
         // If there is none
         ensures none { IfNone result ((v : ℕ) → at ≤ v → get nat_cmp self.now v ≡ None) }
@@ -116,9 +117,15 @@ impl<A: Allocator + Copy> PageTable<A> {
         end: Vpn,
         list: &mut Vec<(Vpn, Entry), A>,
     ) -> Result<(), AllocError>
-        ensures all { OnOk result (list.new.items ≡ list.old.items ++ entries_between nat_cmp (Included first) (Excluded end) self.now) }
+        ensures all { OnOk result
+            (list.new.items
+            ≡ list.old.items
+            ++ entries_between nat_cmp (Included first) (Excluded end) self.now) }
         ensures before { Extends list.old.items list.new.items }
-        ensures short { OnErr result (IsCutShort list.new.items (list.old.items ++ entries_between nat_cmp (Included first) (Excluded end) self.now)) }
+        ensures short { OnErr result
+            (IsCutShort list.new.items
+            (list.old.items
+            ++ entries_between nat_cmp (Included first) (Excluded end) self.now)) }
         ensures ordered { IsStrictlySortedBy nat_cmp (keys_of self.now) }
     {
         let blocks = &self.blocks;

@@ -12,7 +12,8 @@ use std::alloc::Allocator;
 /// Writes bytes whole, or a prefix of them and a fault: the writer failed, or took no byte.
 fn write_lines<W: TellingWriter>(writer: &mut W, lines: &[u8]) -> Result<(), TraceError>
     ensures whole { OnOk result (Appends (W.contents writer.old) (W.contents writer.new) lines.now) }
-    ensures broken { OnErr result (BreaksOff (W.contents writer.old) (W.contents writer.new) lines.now) }
+    ensures broken { OnErr result
+        (BreaksOff (W.contents writer.old) (W.contents writer.new) lines.now) }
     ensures fault { IfErr result (λ e. e ≡ TraceError.WriteFault) }
     ensures told { W.has_failed writer.new ≡ (is_err result || W.has_failed writer.old) }
 {
@@ -35,10 +36,12 @@ fn write_through<W: TellingWriter, A: Allocator>(
     waiting: &mut Vec<u8, A>,
     text: &[u8],
 ) -> Result<(), TraceError>
-    ensures whole { OnOk result (Appends (W.contents writer.old) (W.contents writer.new) (waiting.old.items ++ text.now)) }
+    ensures whole { OnOk result
+        (Appends (W.contents writer.old) (W.contents writer.new) (waiting.old.items ++ text.now)) }
     ensures emptied { OnOk result (waiting.new.items ≡ []) }
     ensures within { length waiting.new.items ≤ length waiting.old.items }
-    ensures broken { OnErr result (BreaksOff (W.contents writer.old) (W.contents writer.new) (waiting.old.items ++ text.now)) }
+    ensures broken { OnErr result
+        (BreaksOff (W.contents writer.old) (W.contents writer.new) (waiting.old.items ++ text.now)) }
     ensures told { W.has_failed writer.new ≡ (is_err result || W.has_failed writer.old) }
 {
     let Ok(()) = write_lines(writer, waiting.as_slice()) else {
@@ -53,7 +56,8 @@ fn write_through<W: TellingWriter, A: Allocator>(
 
 /// Appends a text to what waits, if so much may wait and the host has memory for it. Returns whether it did.
 fn keep<A: Allocator>(waiting: &mut Vec<u8, A>, room: usize, text: &[u8]) -> bool
-    ensures kept { waiting.new.items ≡ (if result then waiting.old.items ++ text.now else waiting.old.items) }
+    ensures kept { waiting.new.items
+        ≡ (if result then waiting.old.items ++ text.now else waiting.old.items) }
     ensures within { length waiting.old.items ≤ room → length waiting.new.items ≤ room }
 {
     let left = room.saturating_sub(waiting.len());
@@ -119,8 +123,10 @@ impl<A: Allocator> Block<A> {
 
     /// Writes what waits.
     pub(crate) fn finish<W: TellingWriter>(&self, writer: &mut W) -> Result<(), TraceError>
-        ensures whole { OnOk result (Appends (W.contents writer.old) (W.contents writer.new) self.now.waiting.items) }
-        ensures broken { OnErr result (BreaksOff (W.contents writer.old) (W.contents writer.new) self.now.waiting.items) }
+        ensures whole { OnOk result
+            (Appends (W.contents writer.old) (W.contents writer.new) self.now.waiting.items) }
+        ensures broken { OnErr result
+            (BreaksOff (W.contents writer.old) (W.contents writer.new) self.now.waiting.items) }
         ensures told { W.has_failed writer.new ≡ (is_err result || W.has_failed writer.old) }
     {
         let Ok(()) = write_lines(writer, self.waiting.as_slice()) else {

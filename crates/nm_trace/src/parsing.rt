@@ -70,7 +70,8 @@ fn in_flight<A: Allocator + Copy + Send + Sync>(
     value: &Value<'_>,
     runs: usize,
 ) -> Result<InFlight<A>, StepError>
-    ensures { Gives (λ d. (d.run, access_shown d.access)) result (form.in_flight runs (view value.now)) }
+    ensures { Gives (λ d. (d.run, access_shown d.access)) result
+        (form.in_flight runs (view value.now)) }
 {
     let run = number(value, "run")?;
     if run >= runs as u64 {
@@ -103,7 +104,8 @@ fn flights_of<A: Allocator + Copy + Send + Sync>(
     values: &[Value<'_>],
     runs: usize,
 ) -> Result<Vec<InFlight<A>, A>, StepError>
-    ensures { Gives (λ v. shown_during v.items) result (form.each (form.in_flight runs) (items_view values.now)) }
+    ensures { Gives (λ v. shown_during v.items) result
+        (form.each (form.in_flight runs) (items_view values.now)) }
 {
     let mut flights = Vec::new(alloc);
     for value in values {
@@ -239,7 +241,8 @@ fn batch_of<A: Allocator + Copy + Send + Sync>(
     alloc: A,
     value: &Value<'_>,
 ) -> Result<Batch<A>, StepError>
-    ensures { Gives (λ batch. (batch.pages.items, batch.nodes.items)) result (form.batch_of (view value.now)) }
+    ensures { Gives (λ batch. (batch.pages.items, batch.nodes.items)) result
+        (form.batch_of (view value.now)) }
 {
     let pages = numbers(alloc, value, "pages")?;
     let nodes = smalls(alloc, value, "nodes")?;

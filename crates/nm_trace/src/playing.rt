@@ -44,7 +44,8 @@ pub(crate) fn make_step<
     block: &mut Block<A>,
     writer: &mut W,
 ) -> Result<(), AllocError>
-    ensures told { Tells W.contents W.has_failed k result system.old system.new (call_of call.now) writer.old block.old writer.new block.new }
+    ensures told { Tells W.contents W.has_failed k result system.old system.new
+        (call_of call.now) writer.old block.old writer.new block.new }
 {
     match system.call(rt, call, gate) {
         Ok(answer) => {
@@ -73,7 +74,8 @@ pub(crate) fn play_calls<
     writer: &mut W,
     gate: &G,
 ) -> Result<Summary, TraceError>
-    ensures plays { Plays system.old (map call_of calls.now) system.new (W.contents writer.old) (W.contents writer.new) result }
+    ensures plays { Plays system.old (map call_of calls.now) system.new (W.contents writer.old)
+        (W.contents writer.new) result }
     ensures told { W.has_failed writer.new ≡ (is_write_fault result || W.has_failed writer.old) }
 {
     let mut block = Block::new(alloc, BLOCK_BYTES);
@@ -114,7 +116,8 @@ pub fn play<
     gate: &G,
 ) -> Result<Summary, TraceError>
     requires limit { system.old.run_limit ≡ trace.now.run_limit }
-    ensures plays { Plays system.old (map call_of trace.now.calls.items) system.new (W.contents writer.old) (W.contents writer.new) result }
+    ensures plays { Plays system.old (map call_of trace.now.calls.items) system.new
+        (W.contents writer.old) (W.contents writer.new) result }
     ensures told { W.has_failed writer.new ≡ (is_write_fault result || W.has_failed writer.old) }
 {
     play_calls(rt, alloc, system, trace.calls.as_slice(), writer, gate)

@@ -39,7 +39,8 @@ fn distances_of<A: Allocator + Copy>(
     alloc: A,
     values: &[Value<'_>],
 ) -> Result<Vec<u8, A>, StepError>
-    ensures { of_step.Gives (λ v. v.items) result (form.each (form.number_below (2 ^ 8)) (items_view values.now)) }
+    ensures { of_step.Gives (λ v. v.items) result
+        (form.each (form.number_below (2 ^ 8)) (items_view values.now)) }
 {
     let mut row = Vec::new(alloc);
     for value in values {
@@ -62,7 +63,8 @@ fn rows_of<A: Allocator + Copy>(
     alloc: A,
     values: &[Value<'_>],
 ) -> Result<Vec<Vec<u8, A>, A>, StepError>
-    ensures { of_step.Gives (λ v. map (λ row. row.items) v.items) result (form.each form.row_of (items_view values.now)) }
+    ensures { of_step.Gives (λ v. map (λ row. row.items) v.items) result
+        (form.each form.row_of (items_view values.now)) }
 {
     let mut rows = Vec::new(alloc);
     for value in values {
@@ -135,7 +137,8 @@ fn calls_of<A: Allocator + Copy + Send + Sync>(
     limit: usize,
 ) -> Result<Vec<Call<A>, A>, TraceError>
     requires { 0 < limit }
-    ensures { Gives (λ v. map call_of v.items) result (faults.calls_of limit (items_view values.now)) }
+    ensures { Gives (λ v. map call_of v.items) result
+        (faults.calls_of limit (items_view values.now)) }
 {
     let mut calls = Vec::new(alloc);
     for (k, value) in values.iter().enumerate() {
@@ -189,7 +192,8 @@ pub(crate) fn run_limit_of(value: &Value<'_>) -> Result<usize, TraceError>
 
 /// The values of the steps of a trace, or a fault if its top has none.
 fn values_of<'v, 'a>(value: &'v Value<'a>) -> Result<&'v Vec<Value<'a>>, TraceError>
-    ensures values { Gives (λ v. items_view v.now.items) result (ok_or (form.items_at (codes "steps") (view value.now)) BadMachine) }
+    ensures values { Gives (λ v. items_view v.now.items) result
+        (ok_or (form.items_at (codes "steps") (view value.now)) BadMachine) }
     ensures bad { IfErr result (λ e. e ≡ BadMachine) }
 {
     list(value, "steps").map_err(bad_machine)

@@ -33,7 +33,8 @@ fn read_all<A: Allocator + Copy, R: TellingReader>(
     ensures fault { IfErr result (λ e. (e ≡ TraceError.ReadFault) ⊎ (e ≡ TraceError.HostMemory 0)) }
 
     // In any case
-    ensures told { TellsReads (R.has_failed reader.old) (R.has_failed reader.new) (R.gave reader.old reader.new) result }
+    ensures told { TellsReads (R.has_failed reader.old) (R.has_failed reader.new)
+        (R.gave reader.old reader.new) result }
 {
     let mut bytes = Vec::new(alloc);
     let mut buffer = [0u8; 16384];
@@ -80,10 +81,14 @@ fn run_bytes<
     requires { (0 < workers) × (workers ≤ 64) }
 
     // On success
-    ensures played { IfOk result (λ p. (plan : Plan) × (trace_of bytes.now ≡ Ok plan) × IsPlayed plan p.summary.steps p.system (W.contents writer.old) (W.contents writer.new)) }
+    ensures played { IfOk result
+        (λ p. (plan : Plan) × (trace_of bytes.now ≡ Ok plan)
+        × IsPlayed plan p.summary.steps p.system (W.contents writer.old)
+        (W.contents writer.new)) }
 
     // In any case
-    ensures runs { Runs (trace_of bytes.now) (W.contents writer.old) (W.contents writer.new) (summary_of (λ p. p.summary) result) }
+    ensures runs { Runs (trace_of bytes.now) (W.contents writer.old) (W.contents writer.new)
+        (summary_of (λ p. p.summary) result) }
 
     // On a fault
     ensures silent { IfErr result (λ e. IsSilent e (W.contents writer.old) (W.contents writer.new)) }
@@ -145,7 +150,8 @@ pub fn run_on<
     ensures silent { IfErr result (λ e. IsSilent e (W.contents writer.old) (W.contents writer.new)) }
 
     // The reader and the writer
-    ensures reads { TellsReads (R.has_failed reader.old) (R.has_failed reader.new) (R.gave reader.old reader.new) result }
+    ensures reads { TellsReads (R.has_failed reader.old) (R.has_failed reader.new)
+        (R.gave reader.old reader.new) result }
     ensures writes { W.has_failed writer.new ≡ (is_write_fault result || W.has_failed writer.old) }
 {
     let bytes = read_all(alloc, reader)?;
@@ -178,7 +184,8 @@ pub fn run_trace<
     ensures silent { IfErr result (λ e. IsSilent e (W.contents writer.old) (W.contents writer.new)) }
 
     // The reader and the writer
-    ensures reads { TellsReads (R.has_failed reader.old) (R.has_failed reader.new) (R.gave reader.old reader.new) result }
+    ensures reads { TellsReads (R.has_failed reader.old) (R.has_failed reader.new)
+        (R.gave reader.old reader.new) result }
     ensures writes { W.has_failed writer.new ≡ (is_write_fault result || W.has_failed writer.old) }
 {
     let played = run_on(rt, alloc, heap, reader, writer, workers, gate)?;

@@ -23,7 +23,8 @@ pub trait TellingReader: Read {
     fn read_telling(&mut self, buf: &mut [u8]) -> io::Result<usize>
         // What `read` does
         ensures bound { ReadsAtMost result buf.new }
-        ensures bytes { ReadConsumes (Self.remaining self.old) (Self.remaining self.new) result buf.new }
+        ensures bytes { ReadConsumes (Self.remaining self.old)
+            (Self.remaining self.new) result buf.new }
 
         // What is reported
         ensures failed { has_failed self.new ≡ (is_err result || has_failed self.old) }
@@ -44,8 +45,10 @@ pub trait TellingWriter: Write {
     /// Does what `write` does, and keeps the report.
     fn write_telling(&mut self, buf: &[u8]) -> io::Result<usize>
         ensures bound { WritesAtMost result buf.now }
-        ensures bytes { WriteAppends (Self.contents self.old) (Self.contents self.new) result buf.now }
-        ensures failed { has_failed self.new ≡ (is_failed_write result buf.now || has_failed self.old) };
+        ensures bytes { WriteAppends (Self.contents self.old)
+            (Self.contents self.new) result buf.now }
+        ensures failed { has_failed self.new
+            ≡ (is_failed_write result buf.now || has_failed self.old) };
 }
 
 impl TellingReader for &[u8] {

@@ -53,7 +53,8 @@ fn word<A: Allocator + Copy + Send + Sync>(call: &Call<A>) -> &'static str
 
 /// Puts a number.
 fn push_number<W: TellingWriter, A: Allocator>(block: &mut Block<A>, writer: &mut W, number: u64)
-    ensures { Puts W.contents W.has_failed writer.old block.old writer.new block.new (decimal number) }
+    ensures { Puts W.contents W.has_failed writer.old block.old writer.new block.new
+        (decimal number) }
 {
     let mut buffer = itoa::Buffer::new();
     block.push_str(writer, buffer.format(number));
@@ -65,7 +66,8 @@ fn push_frames<W: TellingWriter, A: Allocator>(
     writer: &mut W,
     frames: &[FrameId],
 )
-    ensures { Puts W.contents W.has_failed writer.old block.old writer.new block.new (listed frames.now) }
+    ensures { Puts W.contents W.has_failed writer.old block.old writer.new block.new
+        (listed frames.now) }
 {
     let mut buffer = itoa::Buffer::new();
     for frame in frames {
@@ -80,7 +82,8 @@ fn push_statuses<W: TellingWriter, A: Allocator>(
     writer: &mut W,
     statuses: &[i32],
 )
-    ensures { Puts W.contents W.has_failed writer.old block.old writer.new block.new (signed_listed statuses.now) }
+    ensures { Puts W.contents W.has_failed writer.old block.old writer.new block.new
+        (signed_listed statuses.now) }
 {
     let mut buffer = itoa::Buffer::new();
     for status in statuses {
@@ -95,7 +98,8 @@ fn push_frame<W: TellingWriter, A: Allocator>(
     writer: &mut W,
     frame: Option<FrameId>,
 )
-    ensures { Puts W.contents W.has_failed writer.old block.old writer.new block.new (frame_text frame) }
+    ensures { Puts W.contents W.has_failed writer.old block.old writer.new block.new
+        (frame_text frame) }
 {
     match frame {
         None => block.push_str(writer, "zero"),
@@ -112,7 +116,8 @@ fn push_entry<W: TellingWriter, A: Allocator>(
     writer: &mut W,
     entry: &PagemapEntry,
 )
-    ensures { Puts W.contents W.has_failed writer.old block.old writer.new block.new (entry_text (entry.now.vpn, entry.now.frame)) }
+    ensures { Puts W.contents W.has_failed writer.old block.old writer.new block.new
+        (entry_text (entry.now.vpn, entry.now.frame)) }
 {
     let mut address = [0; ADDRESS_BYTES];
     block.push_str(writer, " ");
@@ -127,7 +132,8 @@ fn push_entries<W: TellingWriter, A: Allocator>(
     writer: &mut W,
     entries: &[PagemapEntry],
 )
-    ensures { Puts W.contents W.has_failed writer.old block.old writer.new block.new (flat_map entry_text (map (λ e. (e.vpn, e.frame)) entries.now)) }
+    ensures { Puts W.contents W.has_failed writer.old block.old writer.new block.new
+        (flat_map entry_text (map (λ e. (e.vpn, e.frame)) entries.now)) }
 {
     for entry in entries {
         push_entry(block, writer, entry);
@@ -136,7 +142,8 @@ fn push_entries<W: TellingWriter, A: Allocator>(
 
 /// Puts a number and a colon.
 fn push_count<W: TellingWriter, A: Allocator>(block: &mut Block<A>, writer: &mut W, count: usize)
-    ensures { Puts W.contents W.has_failed writer.old block.old writer.new block.new (decimal count ++ codes ":") }
+    ensures { Puts W.contents W.has_failed writer.old block.old writer.new block.new
+        (decimal count ++ codes ":") }
 {
     let mut buffer = itoa::Buffer::new();
     block.push_str(writer, buffer.format(count));
@@ -145,7 +152,8 @@ fn push_count<W: TellingWriter, A: Allocator>(block: &mut Block<A>, writer: &mut
 
 /// Puts the two totals, each after its name.
 fn push_totals<W: TellingWriter, A: Allocator>(block: &mut Block<A>, writer: &mut W, totals: Totals)
-    ensures { Puts W.contents W.has_failed writer.old block.old writer.new block.new (totals_text totals.moved totals.failed) }
+    ensures { Puts W.contents W.has_failed writer.old block.old writer.new block.new
+        (totals_text totals.moved totals.failed) }
 {
     block.push_str(writer, "pgmigrate_success ");
     push_number(block, writer, totals.moved);
@@ -159,7 +167,8 @@ fn push_lines<W: TellingWriter, A: Allocator>(
     writer: &mut W,
     lines: &[String<A>],
 )
-    ensures { Puts W.contents W.has_failed writer.old block.old writer.new block.new (lines_behind (lines_shown lines.now)) }
+    ensures { Puts W.contents W.has_failed writer.old block.old writer.new block.new
+        (lines_behind (lines_shown lines.now)) }
 {
     for line in lines {
         block.push_str(writer, "\n");
@@ -179,7 +188,8 @@ fn hex_of<'a>(bytes: &[u8], digits: &'a mut [u8; 2 * PIECE_BYTES]) -> &'a [u8]
 
 /// Puts bytes as hexadecimal digits.
 fn push_bytes<W: TellingWriter, A: Allocator>(block: &mut Block<A>, writer: &mut W, bytes: &[u8])
-    ensures { Puts W.contents W.has_failed writer.old block.old writer.new block.new (encode_lower bytes.now) }
+    ensures { Puts W.contents W.has_failed writer.old block.old writer.new block.new
+        (encode_lower bytes.now) }
 {
     let mut digits = [0; 2 * PIECE_BYTES];
     let mut at = 0;
@@ -198,7 +208,8 @@ fn push_answer<W: TellingWriter, A: Allocator + Copy + Send + Sync>(
     writer: &mut W,
     answer: &Answer<A>,
 )
-    ensures { Puts W.contents W.has_failed writer.old block.old writer.new block.new (answer_text (answer_of answer.now)) }
+    ensures { Puts W.contents W.has_failed writer.old block.old writer.new block.new
+        (answer_text (answer_of answer.now)) }
 {
     match answer {
         Answer::Done => block.push_str(writer, "ok"),
@@ -235,7 +246,8 @@ fn push_front<W: TellingWriter, A: Allocator + Copy + Send + Sync>(
     k: usize,
     call: &Call<A>,
 )
-    ensures { Puts W.contents W.has_failed writer.old block.old writer.new block.new (decimal k ++ codes " " ++ word_of (call_of call.now) ++ codes " ") }
+    ensures { Puts W.contents W.has_failed writer.old block.old writer.new block.new
+        (decimal k ++ codes " " ++ word_of (call_of call.now) ++ codes " ") }
 {
     let mut buffer = itoa::Buffer::new();
     block.push_str(writer, buffer.format(k));
@@ -253,7 +265,8 @@ fn push_line<W: TellingWriter, A: Allocator + Copy + Send + Sync>(
     call: &Call<A>,
     answer: &Answer<A>,
 )
-    ensures { Puts W.contents W.has_failed writer.old block.old writer.new block.new (line_of k (call_of call.now) (answer_of answer.now)) }
+    ensures { Puts W.contents W.has_failed writer.old block.old writer.new block.new
+        (line_of k (call_of call.now) (answer_of answer.now)) }
 {
     push_front(block, writer, k, call);
     push_answer(block, writer, answer);
@@ -277,7 +290,8 @@ fn push_access_answer<W: TellingWriter, A: Allocator + Copy>(
     writer: &mut W,
     answer: &AccessAnswer<A>,
 )
-    ensures { Puts W.contents W.has_failed writer.old block.old writer.new block.new (answer_text (shown (answer_shown answer.now))) }
+    ensures { Puts W.contents W.has_failed writer.old block.old writer.new block.new
+        (answer_text (shown (answer_shown answer.now))) }
 {
     match answer {
         AccessAnswer::Bytes(bytes) => push_bytes(block, writer, bytes.as_slice()),
@@ -298,7 +312,9 @@ fn push_access_front<W: TellingWriter, A: Allocator + Copy>(
     j: usize,
     access: &Access<A>,
 )
-    ensures { Puts W.contents W.has_failed writer.old block.old writer.new block.new (decimal step ++ codes "." ++ decimal j ++ codes " " ++ access_word (access_shown access.now) ++ codes " ") }
+    ensures { Puts W.contents W.has_failed writer.old block.old writer.new block.new
+        (decimal step ++ codes "." ++ decimal j ++ codes " "
+        ++ access_word (access_shown access.now) ++ codes " ") }
 {
     let mut buffer = itoa::Buffer::new();
     block.push_str(writer, buffer.format(step));
@@ -319,7 +335,8 @@ fn push_access<W: TellingWriter, A: Allocator + Copy>(
     access: &Access<A>,
     answer: &AccessAnswer<A>,
 )
-    ensures { Puts W.contents W.has_failed writer.old block.old writer.new block.new (access_line k j (access_shown access.now) (answer_shown answer.now)) }
+    ensures { Puts W.contents W.has_failed writer.old block.old writer.new block.new
+        (access_line k j (access_shown access.now) (answer_shown answer.now)) }
 {
     push_access_front(block, writer, k, j, access);
     push_access_answer(block, writer, answer);
@@ -334,7 +351,8 @@ fn push_accesses<W: TellingWriter, A: Allocator + Copy + Send + Sync>(
     during: &[InFlight<A>],
     answers: &[AccessAnswer<A>],
 )
-    ensures { Puts W.contents W.has_failed writer.old block.old writer.new block.new (access_lines k 0 (shown_during during.now) (map answer_shown answers.now)) }
+    ensures { Puts W.contents W.has_failed writer.old block.old writer.new block.new
+        (access_lines k 0 (shown_during during.now) (map answer_shown answers.now)) }
 {
     for (j, answer) in answers.iter().enumerate() {
         let Some(flight) = during.get(j) else {
@@ -353,7 +371,8 @@ fn push_flights<W: TellingWriter, A: Allocator + Copy + Send + Sync>(
     call: &Call<A>,
     answer: &Answer<A>,
 )
-    ensures { Puts W.contents W.has_failed writer.old block.old writer.new block.new (access_lines k 0 (accesses_asked (call_of call.now)) (answers_in (answer_of answer.now))) }
+    ensures { Puts W.contents W.has_failed writer.old block.old writer.new block.new
+        (access_lines k 0 (accesses_asked (call_of call.now)) (answers_in (answer_of answer.now))) }
 {
     match call {
         Call::MovePages(request) => match answer {
@@ -377,7 +396,8 @@ pub(crate) fn push_text<W: TellingWriter, A: Allocator + Copy + Send + Sync>(
     call: &Call<A>,
     answer: &Answer<A>,
 )
-    ensures { Puts W.contents W.has_failed writer.old block.old writer.new block.new (text_of k (call_of call.now) (answer_of answer.now)) }
+    ensures { Puts W.contents W.has_failed writer.old block.old writer.new block.new
+        (text_of k (call_of call.now) (answer_of answer.now)) }
 {
     push_line(block, writer, k, call, answer);
     push_flights(block, writer, k, call, answer);
@@ -392,7 +412,8 @@ pub(crate) fn push_refusal<W: TellingWriter, A: Allocator + Copy + Send + Sync>(
     call: &Call<A>,
     errno: Errno,
 )
-    ensures { Puts W.contents W.has_failed writer.old block.old writer.new block.new (text_of k (call_of call.now) (Refusal errno)) }
+    ensures { Puts W.contents W.has_failed writer.old block.old writer.new block.new
+        (text_of k (call_of call.now) (Refusal errno)) }
 {
     push_front(block, writer, k, call);
     block.push_str(writer, "error ");

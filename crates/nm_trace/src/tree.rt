@@ -29,7 +29,8 @@ const SHORT_DIGITS: usize = 19;
 
 /// The tree of all that a reader reads. `Bad` if that is not one value.
 fn next_tree<'a>(heap: Global, reader: &mut Reader<'a>) -> Result<Value<'a>, StepError>
-    ensures { Gives value_view result (option_and_then (λ p. grammar.if_last p.0 p.1) (grammar.value 127 reader.old)) }
+    ensures { Gives value_view result
+        (option_and_then (λ p. grammar.if_last p.0 p.1) (grammar.value 127 reader.old)) }
 {
     match Value::read(heap, reader, MAX_DEPTH) {
         Ok(value) => {
@@ -261,7 +262,8 @@ pub(crate) fn flag(value: &Value<'_>, key: &str) -> Result<bool, StepError>
 
 /// The list at a key.
 pub(crate) fn list<'v, 'a>(value: &'v Value<'a>, key: &str) -> Result<&'v Vec<Value<'a>>, StepError>
-    ensures value { Gives (λ v. items_view v.now.items) result (form.items_at key.now (view value.now)) }
+    ensures value { Gives (λ v. items_view v.now.items) result
+        (form.items_at key.now (view value.now)) }
     ensures bad { IfErr result (λ e. e ≡ Bad) }
 {
     get(value, key).and_then(as_array).ok_or(StepError::Bad)
@@ -308,7 +310,8 @@ fn small_value(value: &Value<'_>) -> Result<u32, StepError>
 
 /// The numbers of a list, each below 2^32.
 fn smalls_of<A: Allocator + Copy>(alloc: A, values: &[Value<'_>]) -> Result<Vec<u32, A>, StepError>
-    ensures { Gives (λ v. v.items) result (form.each (form.number_below (2 ^ 32)) (items_view values.now)) }
+    ensures { Gives (λ v. v.items) result
+        (form.each (form.number_below (2 ^ 32)) (items_view values.now)) }
 {
     let mut numbers = Vec::new(alloc);
     for value in values {

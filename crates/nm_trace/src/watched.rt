@@ -68,11 +68,13 @@ impl<R: Read> Read for Watched<R> {
     fn read(&mut self, buf: &mut [u8]) -> io::Result<usize>
         // In any case
         ensures bound { ReadsAtMost result buf.new }
-        ensures bytes { ReadConsumes (R.remaining (watched_inner self.old)) (R.remaining (watched_inner self.new)) result buf.new }
+        ensures bytes { ReadConsumes (R.remaining (watched_inner self.old))
+            (R.remaining (watched_inner self.new)) result buf.new }
         ensures failed { watched_failed self.new ≡ (is_err result || watched_failed self.old) }
 
         // On success
-        ensures given { IfOk result (λ n. watched_given self.new ≡ u64_saturate (watched_given self.old + n)) }
+        ensures given { IfOk result
+            (λ n. watched_given self.new ≡ u64_saturate (watched_given self.old + n)) }
 
         // On an error
         ensures none { OnErr result (watched_given self.new ≡ watched_given self.old) }
@@ -109,8 +111,10 @@ impl<W: Write> Write for Watched<W> {
 
     fn write(&mut self, buf: &[u8]) -> io::Result<usize>
         ensures bound { WritesAtMost result buf.now }
-        ensures bytes { WriteAppends (W.contents (watched_inner self.old)) (W.contents (watched_inner self.new)) result buf.now }
-        ensures failed { watched_failed self.new ≡ (is_failed_write result buf.now || watched_failed self.old) }
+        ensures bytes { WriteAppends (W.contents (watched_inner self.old))
+            (W.contents (watched_inner self.new)) result buf.now }
+        ensures failed { watched_failed self.new
+            ≡ (is_failed_write result buf.now || watched_failed self.old) }
     {
         match self.inner.write(buf) {
             Ok(count) => {
@@ -127,7 +131,8 @@ impl<W: Write> Write for Watched<W> {
     }
 
     fn flush(&mut self) -> io::Result<()>
-        ensures bytes { Keeps (W.contents (watched_inner self.old)) (W.contents (watched_inner self.new)) }
+        ensures bytes { Keeps (W.contents (watched_inner self.old))
+            (W.contents (watched_inner self.new)) }
         ensures failed { watched_failed self.new ≡ watched_failed self.old }
     {
         self.inner.flush()

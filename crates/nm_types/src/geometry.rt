@@ -117,7 +117,8 @@ fn few_frames(sizes: &[u32]) -> Option<u64>
 
 /// The first fault of sizes and distances, in the order of `GeometryError`.
 fn fault_of<A: Allocator + Copy>(sizes: &[u32], distances: &[Vec<u8, A>]) -> Option<GeometryError>
-    ensures { result ≡ refusal (record { sizes = sizes.now; distances = map (λ row. row.items) distances.now }) }
+    ensures { result
+        ≡ refusal (record { sizes = sizes.now; distances = map (λ row. row.items) distances.now }) }
 {
     if sizes.is_empty() {
         Some(GeometryError::NoNodes)
@@ -138,7 +139,11 @@ impl<A: Allocator + Copy> Geometry<A> {
     /// Makes a geometry of nodes that own these numbers of frames, with a row of distances for each node. Takes over
     /// both lists, and does not allocate. If several errors apply, it returns the one that `GeometryError` lists first.
     pub fn new(sizes: Vec<u32, A>, distances: Vec<Vec<u8, A>, A>) -> Result<Self, GeometryError>
-        ensures { Opens (record { sizes = sizes.items; distances = map (λ row. row.items) distances.items }) result }
+        ensures { Opens
+            (record {
+              sizes = sizes.items;
+              distances = map (λ row. row.items) distances.items;
+            }) result }
     {
         match fault_of(sizes.as_slice(), distances.as_slice()) {
             None => Ok(Geometry { sizes, distances }),

@@ -144,7 +144,9 @@ pub fn run_words<
     ensures refused { Refuses (refusals_of (map string_bytes words.now)) result }
 
     // After status 4
-    ensures streams { result ≡ 4 → HasStreamCause (R.has_failed reader.new) (R.gave reader.old reader.new) (W.has_failed out.new) }
+    ensures streams { result ≡ 4 →
+        HasStreamCause (R.has_failed reader.new) (R.gave reader.old reader.new)
+        (W.has_failed out.new) }
 
     // After status 2
     ensures bad { result ≡ 2 → Appends (W.contents out.old) (W.contents out.new) [] }
@@ -179,7 +181,9 @@ pub(crate) fn run_words_through<
     ensures refused { Refuses (refusals_of (map string_bytes words.now)) result }
 
     // After status 4
-    ensures streams { result ≡ 4 → HasStreamCause (R.has_failed reader.new) (R.gave reader.old reader.new) (W.has_failed out.new) }
+    ensures streams { result ≡ 4 →
+        HasStreamCause (R.has_failed reader.new) (R.gave reader.old reader.new)
+        (W.has_failed out.new) }
 
     // After status 2
     ensures bad { result ≡ 2 → Appends (W.contents out.old) (W.contents out.new) [] }

@@ -34,8 +34,11 @@ impl<A: Allocator + Copy> AddressSpaces<A> {
         shared: bool,
     ) -> Result<u32, MachineError>
         // The result and the areas
-        ensures done { Makes result (mapped_of self.old) (mapped_of self.new) (insert_refusal (mapped_of self.old) pid addr pages) (inserted (mapped_of self.old) pid addr pages shared) }
-        ensures memory { result ≡ Err MachineError.HostMemory → insert_refusal (mapped_of self.old) pid addr pages ≡ None }
+        ensures done { Makes result (mapped_of self.old) (mapped_of self.new)
+            (insert_refusal (mapped_of self.old) pid addr pages)
+            (inserted (mapped_of self.old) pid addr pages shared) }
+        ensures memory { result ≡ Err MachineError.HostMemory →
+            insert_refusal (mapped_of self.old) pid addr pages ≡ None }
         ensures number { IfOk result (λ number. number ≡ self.old.next) }
 
         // Nothing else changes
@@ -53,8 +56,11 @@ impl<A: Allocator + Copy> AddressSpaces<A> {
         offset: u64,
         pages: u64,
     ) -> Result<(), MachineError>
-        ensures done { Makes result (mapped_of self.old) (mapped_of self.new) (stretch_refusal (mapped_of self.old) pid addr segment offset pages) (attached (mapped_of self.old) pid addr segment offset pages) }
-        ensures memory { result ≡ Err MachineError.HostMemory → stretch_refusal (mapped_of self.old) pid addr segment offset pages ≡ None }
+        ensures done { Makes result (mapped_of self.old) (mapped_of self.new)
+            (stretch_refusal (mapped_of self.old) pid addr segment offset pages)
+            (attached (mapped_of self.old) pid addr segment offset pages) }
+        ensures memory { result ≡ Err MachineError.HostMemory →
+            stretch_refusal (mapped_of self.old) pid addr segment offset pages ≡ None }
         ensures same { self.new ≡ with_mapped self.old (mapped_of self.new) }
     {
         self.areas.attach(pid, addr, segment, offset, pages)
@@ -76,8 +82,11 @@ impl<A: Allocator + Copy> AddressSpaces<A> {
         len: u64,
         policy: Policy,
     ) -> Result<(), MachineError>
-        ensures done { Makes result (mapped_of self.old) (mapped_of self.new) (range_refusal (mapped_of self.old) pid addr len) (with_policy (mapped_of self.old) pid addr len policy) }
-        ensures memory { result ≡ Err MachineError.HostMemory → range_refusal (mapped_of self.old) pid addr len ≡ None }
+        ensures done { Makes result (mapped_of self.old) (mapped_of self.new)
+            (range_refusal (mapped_of self.old) pid addr len)
+            (with_policy (mapped_of self.old) pid addr len policy) }
+        ensures memory { result ≡ Err MachineError.HostMemory →
+            range_refusal (mapped_of self.old) pid addr len ≡ None }
         ensures asked { result ≡ Err MachineError.HostMemory → 0 < len }
         ensures same { self.new ≡ with_mapped self.old (mapped_of self.new) }
     {
@@ -106,14 +115,21 @@ impl<A: Allocator + Copy> AddressSpaces<A> {
         addr: u64,
         pages: u64,
     ) -> Result<Vec<(Page, FrameId), A>, MachineError>
-        requires unpinned { shows_pinned self.old.areas self.old.pins pid (addr / 4096) (addr / 4096 + pages) ≡ false }
+        requires unpinned { shows_pinned self.old.areas self.old.pins pid (addr / 4096)
+            (addr / 4096 + pages)
+            ≡ false }
 
         // In any case
-        ensures done { Makes result (mapped_of self.old) (mapped_of self.new) (remove_refusal addr pages) (removed (mapped_of self.old) pid (addr / 4096) (addr / 4096 + pages)) }
+        ensures done { Makes result (mapped_of self.old) (mapped_of self.new)
+            (remove_refusal addr pages)
+            (removed (mapped_of self.old) pid (addr / 4096) (addr / 4096 + pages)) }
 
         // On success
-        ensures ok { OnOk result (self.new ≡ without_range self.old pid (addr / 4096) (addr / 4096 + pages)) }
-        ensures freed { IfOk result (λ freed. freed.items ≡ frames_lost (mapped_of self.old) pid (addr / 4096) (addr / 4096 + pages)) }
+        ensures ok { OnOk result
+            (self.new ≡ without_range self.old pid (addr / 4096) (addr / 4096 + pages)) }
+        ensures freed { IfOk result
+            (λ freed. freed.items
+            ≡ frames_lost (mapped_of self.old) pid (addr / 4096) (addr / 4096 + pages)) }
 
         // On an error
         ensures err { OnErr result (self.new ≡ self.old) }
@@ -128,7 +144,8 @@ impl<A: Allocator + Copy> AddressSpaces<A> {
     /// Removes a process that sees nothing.
     pub(crate) fn remove_task(&mut self, pid: Pid)
         requires { (p : Process) → get nat_cmp self.old.processes pid ≡ Some p → p.sees ≡ [] }
-        ensures { self.new ≡ record (self.old) { processes = without nat_cmp self.old.processes pid } }
+        ensures { self.new
+            ≡ record (self.old) { processes = without nat_cmp self.old.processes pid } }
     {
         self.tasks.remove(pid);
     }
@@ -142,7 +159,9 @@ fn clear_between<A: Allocator + Copy>(
     first: Vpn,
     end: Vpn,
 )
-    requires frames { (f v : ℕ) → names f (entry_at tasks.old pid v) ≡ true → f < length rmap.old.mappings }
+    requires frames { (f v : ℕ) →
+        names f (entry_at tasks.old pid v) ≡ true →
+        f < length rmap.old.mappings }
     requires pids { IsStrictlySortedBy nat_cmp (keys_of tasks.old) }
     requires tables { AllByRecursion (λ e. IsStrictlySortedBy nat_cmp (keys_of e.1.table)) tasks.old }
     ensures tasks { tasks.new ≡ cleared tasks.old pid first end }

@@ -22,7 +22,9 @@ impl<A: Allocator + Copy> AddressSpaces<A> {
     /// Makes a process see nothing at a page number. Does not allocate.
     fn unsee(&mut self, pid: Pid, vpn: Vpn)
         requires { IsSome (get nat_cmp self.old.processes pid) }
-        ensures { (p : Process) → get nat_cmp self.old.processes pid ≡ Some p → self.new ≡ without_seen self.old pid p vpn }
+        ensures { (p : Process) →
+            get nat_cmp self.old.processes pid ≡ Some p →
+            self.new ≡ without_seen self.old pid p vpn }
     {
         drop_mapper(&self.tasks, &mut self.rmap, pid, vpn);
         self.tasks.clear(pid, vpn);
@@ -32,7 +34,9 @@ impl<A: Allocator + Copy> AddressSpaces<A> {
     fn see_zero_again(&mut self, pid: Pid, vpn: Vpn)
         requires known { IsSome (get nat_cmp self.old.processes pid) }
         requires seen { IsSome (sight_in (get nat_cmp self.old.processes pid) vpn) }
-        ensures { (p : Process) → get nat_cmp self.old.processes pid ≡ Some p → self.new ≡ with_seen self.old pid p vpn ZeroPage }
+        ensures { (p : Process) →
+            get nat_cmp self.old.processes pid ≡ Some p →
+            self.new ≡ with_seen self.old pid p vpn ZeroPage }
     {
         drop_mapper(&self.tasks, &mut self.rmap, pid, vpn);
         self.tasks.replace(pid, vpn, Entry::Zero);
@@ -42,7 +46,9 @@ impl<A: Allocator + Copy> AddressSpaces<A> {
     pub(crate) fn see_before(&mut self, pid: Pid, vpn: Vpn, zero: bool)
         requires known { IsSome (get nat_cmp self.old.processes pid) }
         requires seen { IsSome (sight_in (get nat_cmp self.old.processes pid) vpn) }
-        ensures { (p : Process) → get nat_cmp self.old.processes pid ≡ Some p → self.new ≡ with_before self.old pid p vpn zero }
+        ensures { (p : Process) →
+            get nat_cmp self.old.processes pid ≡ Some p →
+            self.new ≡ with_before self.old pid p vpn zero }
     {
         if zero {
             self.see_zero_again(pid, vpn);
@@ -55,7 +61,9 @@ impl<A: Allocator + Copy> AddressSpaces<A> {
     pub(crate) fn unplace(&mut self, page: Page)
         requires placed { IsSome (get page_cmp self.old.place page) }
         requires unpinned { pins_here self.old page ≡ 0 }
-        requires unseen { (pid v : ℕ) → sight_in (get nat_cmp self.old.processes pid) v ≡ Some (Sees page) → ⊥ }
+        requires unseen { (pid v : ℕ) →
+            sight_in (get nat_cmp self.old.processes pid) v ≡ Some (Sees page) →
+            ⊥ }
         ensures { self.new ≡ without_page self.old page }
     {
         self.areas.drop_frame(page);

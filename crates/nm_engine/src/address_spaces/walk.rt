@@ -23,7 +23,8 @@ use std::alloc::{AllocError, Allocator};
 impl<A: Allocator + Copy> AddressSpaces<A> {
     /// The areas of a process, in address order.
     pub(crate) fn lines(&self, pid: Pid) -> Result<Vec<Line, A>, AllocError>
-        ensures lines { IfOk result (λ lines. lines.items ≡ lines_of self.now.segments self.now.areas pid) }
+        ensures lines { IfOk result
+            (λ lines. lines.items ≡ lines_of self.now.segments self.now.areas pid) }
         ensures asked { OnErr result (0 < length (lines_of self.now.segments self.now.areas pid)) }
     {
         self.areas.lines(pid)
@@ -41,7 +42,8 @@ impl<A: Allocator + Copy> AddressSpaces<A> {
         ensures some { IfSome result (λ e. between first end (sights_in (get nat_cmp self.now.processes pid))
             ≡ (e.0, e.1) ∷ between (e.0 + 1) end (sights_in (get nat_cmp self.now.processes pid))) }
         ensures range { IfSome result (λ e. (first ≤ e.0) × (e.0 < end)) }
-        ensures none { IfNone result (between first end (sights_in (get nat_cmp self.now.processes pid)) ≡ []) }
+        ensures none { IfNone result
+            (between first end (sights_in (get nat_cmp self.now.processes pid)) ≡ []) }
     {
         let (vpn, entry) = self.tasks.first_from(pid, first)?;
         if vpn.number() >= end.number() {
@@ -67,9 +69,14 @@ impl<A: Allocator + Copy> AddressSpaces<A> {
         requires { self.now.frames ≡ frame_count geometry.now }
 
         // On success
-        ensures pages { IfOk result (λ pages. pages.items ≡ located_in geometry.now self.now.place (between first end (sights_in (get nat_cmp self.now.processes pid)))) }
-        ensures placed { IfOk result (λ pages. All (λ e. get page_cmp self.now.place e.page ≡ Some e.frame) pages.items) }
-        ensures nodes { IfOk result (λ pages. All (λ e. e.node < node_count geometry.now) pages.items) }
+        ensures pages { IfOk result
+            (λ pages. pages.items
+            ≡ located_in geometry.now self.now.place
+            (between first end (sights_in (get nat_cmp self.now.processes pid)))) }
+        ensures placed { IfOk result
+            (λ pages. All (λ e. get page_cmp self.now.place e.page ≡ Some e.frame) pages.items) }
+        ensures nodes { IfOk result
+            (λ pages. All (λ e. e.node < node_count geometry.now) pages.items) }
         ensures few { IfOk result (λ pages. length pages.items ≤ end - first) }
     {
         let entries = self.tasks.entries_between(pid, first, end)?;
@@ -103,10 +110,12 @@ impl<A: Allocator + Copy> AddressSpaces<A> {
     ) -> Located
         requires known { frame < frame_count geometry.now }
         requires last { IfSome last.old (IsOver self.now.areas pid) }
-        requires seen { (p : Page) × (page_at self.now.areas pid vpn ≡ Some p) × (get page_cmp self.now.place p ≡ Some frame) }
+        requires seen { (p : Page) × (page_at self.now.areas pid vpn ≡ Some p)
+            × (get page_cmp self.now.place p ≡ Some frame) }
 
         // The page
-        ensures page { in_frame geometry.now vpn (page_here self.now.areas pid vpn) (Some frame) ≡ result ∷ [] }
+        ensures page { in_frame geometry.now vpn (page_here self.now.areas pid vpn) (Some frame)
+            ≡ result ∷ [] }
         ensures node { result.node < node_count geometry.now }
 
         // The area found last
@@ -130,7 +139,9 @@ impl<A: Allocator + Copy> AddressSpaces<A> {
     /// How many processes see the page in a frame.
     pub(crate) fn users_in(&self, frame: FrameId) -> usize
         requires { (page : Page) × (get page_cmp self.now.place page ≡ Some frame) }
-        ensures { (page : Page) → get page_cmp self.now.place page ≡ Some frame → result ≡ length (users_in self.now.processes page) }
+        ensures { (page : Page) →
+            get page_cmp self.now.place page ≡ Some frame →
+            result ≡ length (users_in self.now.processes page) }
     {
         self.rmap.processes(frame)
     }
@@ -140,7 +151,8 @@ impl<A: Allocator + Copy> AddressSpaces<A> {
         requires { IfSome last.now (IsOver self.now.areas pid) }
 
         // In any case
-        ensures found { option_map {U = Placed} (λ found. ((pid, found.0), found.1)) result ≡ area_over self.now.areas pid vpn }
+        ensures found { option_map {U = Placed} (λ found. ((pid, found.0), found.1)) result
+            ≡ area_over self.now.areas pid vpn }
 
         // If there is one
         ensures here { IfSome result (λ a. (a.0 ≤ vpn) × (vpn < a.0 + a.1.pages)) }

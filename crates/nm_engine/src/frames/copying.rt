@@ -45,7 +45,8 @@ pub(super) fn copy_pages<
     requires few { length moves.now ≤ vec_capacity jobs }
 
     // What is left to do
-    requires due { AllByRecursion (CanDo spaces.now.place (emptied frames.old moves.now)) (map (due_shown accesses.now) dues.items) }
+    requires due { AllByRecursion (CanDo spaces.now.place (emptied frames.old moves.now))
+        (map (due_shown accesses.now) dues.items) }
     requires room { AllByRecursion HasRoom dues.items }
 
     // The list for the answers
@@ -53,8 +54,12 @@ pub(super) fn copy_pages<
     requires space { vec_len dues ≤ vec_capacity answers }
 
     // Afterwards
-    ensures frames { frames.new ≡ (all_done spaces.now.place (with_copies frames.old moves.now) (map (due_shown accesses.now) dues.items)).store }
-    ensures answers { map answer_shown result.1.items ≡ (all_done spaces.now.place (with_copies frames.old moves.now) (map (due_shown accesses.now) dues.items)).answers }
+    ensures frames { frames.new
+        ≡ (all_done spaces.now.place (with_copies frames.old moves.now)
+        (map (due_shown accesses.now) dues.items)).store }
+    ensures answers { map answer_shown result.1.items
+        ≡ (all_done spaces.now.place (with_copies frames.old moves.now)
+        (map (due_shown accesses.now) dues.items)).answers }
     ensures empty { result.0.items ≡ [] }
 {
     take_out_each(frames, moves, &mut jobs);
@@ -64,12 +69,17 @@ pub(super) fn copy_pages<
         alloc,
         jobs,
         move || -> (FrameStore<A>, Vec<AccessAnswer<A>, A>)
-            requires due { AllByRecursion (CanDo spaces.now.place store) (map (due_shown accesses.now) dues.items) }
+            requires due { AllByRecursion (CanDo spaces.now.place store)
+                (map (due_shown accesses.now) dues.items) }
             requires room { AllByRecursion HasRoom dues.items }
             requires unanswered { answers.items ≡ [] }
             requires space { vec_len dues ≤ vec_capacity answers }
-            ensures store { result.0 ≡ (all_done spaces.entry.now.place store (map (due_shown accesses.entry.now) dues.items)).store }
-            ensures answers { map answer_shown result.1.items ≡ (all_done spaces.entry.now.place store (map (due_shown accesses.entry.now) dues.items)).answers }
+            ensures store { result.0
+                ≡ (all_done spaces.entry.now.place store
+                (map (due_shown accesses.entry.now) dues.items)).store }
+            ensures answers { map answer_shown result.1.items
+                ≡ (all_done spaces.entry.now.place store
+                (map (due_shown accesses.entry.now) dues.items)).answers }
         { finish(store, spaces, accesses, dues, answers, gate) },
     );
     *frames = store;
@@ -87,7 +97,8 @@ fn take_out_each<A: Allocator + Copy>(
     requires populated { AllByRecursion (HasBoth frames.old) moves.now }
     requires room { vec_len jobs.old + length moves.now ≤ vec_capacity jobs.old }
     ensures frames { frames.new ≡ emptied frames.old moves.now }
-    ensures jobs { jobs.new.items ≡ jobs.old.items ++ jobs_of (vec_len jobs.old) frames.old moves.now }
+    ensures jobs { jobs.new.items
+        ≡ jobs.old.items ++ jobs_of (vec_len jobs.old) frames.old moves.now }
     ensures room { vec_capacity jobs.new ≡ vec_capacity jobs.old }
 {
     for taken in moves {
@@ -126,7 +137,8 @@ fn finish<A: Allocator + Copy, G: Gate>(
     gate: &G,
 ) -> (FrameStore<A>, Vec<AccessAnswer<A>, A>)
     // What is left to do
-    requires due { AllByRecursion (CanDo spaces.now.place store) (map (due_shown accesses.now) dues.items) }
+    requires due { AllByRecursion (CanDo spaces.now.place store)
+        (map (due_shown accesses.now) dues.items) }
     requires room { AllByRecursion HasRoom dues.items }
 
     // The list for the answers
@@ -134,8 +146,10 @@ fn finish<A: Allocator + Copy, G: Gate>(
     requires space { vec_len dues ≤ vec_capacity answers }
 
     // Afterwards
-    ensures store { result.0 ≡ (all_done spaces.now.place store (map (due_shown accesses.now) dues.items)).store }
-    ensures answers { map answer_shown result.1.items ≡ (all_done spaces.now.place store (map (due_shown accesses.now) dues.items)).answers }
+    ensures store { result.0
+        ≡ (all_done spaces.now.place store (map (due_shown accesses.now) dues.items)).store }
+    ensures answers { map answer_shown result.1.items
+        ≡ (all_done spaces.now.place store (map (due_shown accesses.now) dues.items)).answers }
 {
     for due in dues {
         gate.access(answers.len());
@@ -155,7 +169,8 @@ fn finish_one<A: Allocator + Copy>(
     requires due { CanDo spaces.now.place store.old (due_shown accesses.now due) }
     requires room { HasRoom due }
     ensures store { store.new ≡ done_in spaces.now.place store.old (due_shown accesses.now due) }
-    ensures answer { answer_shown result ≡ told_in spaces.now.place store.old (due_shown accesses.now due) }
+    ensures answer { answer_shown result
+        ≡ told_in spaces.now.place store.old (due_shown accesses.now due) }
 {
     match due {
         Due::Known(answer) => answer,

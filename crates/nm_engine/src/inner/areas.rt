@@ -29,7 +29,9 @@ impl<A: Allocator + Copy> Inner<A> {
         requires { self.old.left ≡ [] }
 
         // The result and the state
-        ensures done { Makes result self.old.state self.new.state (map_refusal self.old.state pid addr pages) (map_new self.old.state pid addr pages shared) }
+        ensures done { Makes result self.old.state self.new.state
+            (map_refusal self.old.state pid addr pages)
+            (map_new self.old.state pid addr pages shared) }
         ensures memory { AsksLast result (map_refusal self.old.state pid addr pages) }
         ensures number { IfOk result (λ number. number ≡ self.old.state.next_segment) }
 
@@ -54,8 +56,11 @@ impl<A: Allocator + Copy> Inner<A> {
         requires { self.old.left ≡ [] }
 
         // The result and the state
-        ensures done { Makes result self.old.state self.new.state (attach_refusal self.old.state pid addr segment offset pages) (attach self.old.state pid addr segment offset pages) }
-        ensures memory { AsksLast result (attach_refusal self.old.state pid addr segment offset pages) }
+        ensures done { Makes result self.old.state self.new.state
+            (attach_refusal self.old.state pid addr segment offset pages)
+            (attach self.old.state pid addr segment offset pages) }
+        ensures memory { AsksLast result
+            (attach_refusal self.old.state pid addr segment offset pages) }
 
         // Nothing else changes
         ensures same { self.new ≡ with_state self.old self.new.state }
@@ -87,7 +92,9 @@ impl<A: Allocator + Copy> Inner<A> {
         requires { self.old.left ≡ [] }
 
         // The result and the state
-        ensures done { Makes result self.old.state self.new.state (policy_refusal self.old.state pid addr len) (set_policy self.old.state pid addr len policy) }
+        ensures done { Makes result self.old.state self.new.state
+            (policy_refusal self.old.state pid addr len)
+            (set_policy self.old.state pid addr len policy) }
         ensures memory { AsksLast result (policy_refusal self.old.state pid addr len) }
         ensures asked { result ≡ Err MachineError.HostMemory → 0 < len }
 
@@ -105,7 +112,8 @@ impl<A: Allocator + Copy> Inner<A> {
         requires { self.old.left ≡ [] }
 
         // The result and the state
-        ensures done { Makes result self.old.state self.new.state (unmap_refusal self.old.state pid addr pages) (unmap self.old.state pid addr pages) }
+        ensures done { Makes result self.old.state self.new.state
+            (unmap_refusal self.old.state pid addr pages) (unmap self.old.state pid addr pages) }
         ensures memory { AsksLast result (unmap_refusal self.old.state pid addr pages) }
 
         // Nothing else changes
@@ -132,10 +140,13 @@ impl<A: Allocator + Copy> Inner<A> {
         requires left { self.old.left ≡ [] }
         requires known { is_unknown self.old.state pid ≡ false }
         requires range { is_range addr pages ≡ true }
-        requires unpinned { shows_pinned self.old.state.areas self.old.state.pins pid (addr / 4096) (addr / 4096 + pages) ≡ false }
+        requires unpinned { shows_pinned self.old.state.areas self.old.state.pins pid (addr / 4096)
+            (addr / 4096 + pages)
+            ≡ false }
 
         // The result and the state
-        ensures done { Makes result self.old.state self.new.state None (dropped self.old.state pid (addr / 4096) (addr / 4096 + pages)) }
+        ensures done { Makes result self.old.state self.new.state None
+            (dropped self.old.state pid (addr / 4096) (addr / 4096 + pages)) }
 
         // Nothing else changes
         ensures same { self.new ≡ with_state self.old self.new.state }
@@ -149,7 +160,11 @@ impl<A: Allocator + Copy> Inner<A> {
 /// Frees the frames of pages, in order, each at the end of its own node's list.
 fn free_each<A: Allocator + Copy>(frames: &mut Frames<A>, freed: &[(Page, FrameId)])
     requires { CanFree (pool_of frames.old) (map (λ f. f.1) freed.now) }
-    ensures { frames.new ≡ record (frames.old) { free = (with_freed (pool_of frames.old) (map (λ f. f.1) freed.now)).lists } }
+    ensures { frames.new
+        ≡ record (frames.old) {
+          free = (with_freed (pool_of frames.old)
+              (map (λ f. f.1) freed.now)).lists;
+        } }
 {
     for (_, frame) in freed {
         frames.free(*frame);

@@ -41,8 +41,14 @@ impl<A: Allocator + Copy> Inner<A> {
         requires moves { CanMove self.old.state target moves.now }
 
         // On success
-        ensures state { OnOk result (self.new.state ≡ (all_early (without_fronts self.old.state target (length moves.now)) (map (λ t. t.page) moves.now) (map access_shown accesses.now)).state) }
-        ensures dues { IfOk result (λ dues. map (due_shown accesses.now) dues.items ≡ (all_early (without_fronts self.old.state target (length moves.now)) (map (λ t. t.page) moves.now) (map access_shown accesses.now)).dues) }
+        ensures state { OnOk result
+            (self.new.state
+            ≡ (all_early (without_fronts self.old.state target (length moves.now))
+            (map (λ t. t.page) moves.now) (map access_shown accesses.now)).state) }
+        ensures dues { IfOk result
+            (λ dues. map (due_shown accesses.now) dues.items
+            ≡ (all_early (without_fronts self.old.state target (length moves.now))
+            (map (λ t. t.page) moves.now) (map access_shown accesses.now)).dues) }
         ensures ready { IfOk result (λ dues. AllByRecursion HasRoom dues.items) }
         ensures len { IfOk result (λ dues. vec_len dues ≡ length accesses.now) }
         ensures left { OnOk result (self.new.left ≡ tos moves.now) }
@@ -73,7 +79,8 @@ impl<A: Allocator + Copy> Inner<A> {
         requires moves { CanMove self.old.state target moves.now }
 
         // On success
-        ensures state { OnOk result (self.new.state ≡ without_fronts self.old.state target (length moves.now)) }
+        ensures state { OnOk result
+            (self.new.state ≡ without_fronts self.old.state target (length moves.now)) }
         ensures left { OnOk result (self.new.left ≡ tos moves.now) }
         ensures room { OnOk result (self.new.room ≡ self.old.room) }
 
@@ -96,8 +103,14 @@ impl<A: Allocator + Copy> Inner<A> {
         accesses: &[Access<A>],
     ) -> Result<Vec<Due<A>, A>, AllocError>
         // On success
-        ensures state { OnOk result (self.new.state ≡ (all_early self.old.state (map (λ t. t.page) moves.now) (map access_shown accesses.now)).state) }
-        ensures dues { IfOk result (λ dues. map (due_shown accesses.now) dues.items ≡ (all_early self.old.state (map (λ t. t.page) moves.now) (map access_shown accesses.now)).dues) }
+        ensures state { OnOk result
+            (self.new.state
+            ≡ (all_early self.old.state (map (λ t. t.page) moves.now)
+            (map access_shown accesses.now)).state) }
+        ensures dues { IfOk result
+            (λ dues. map (due_shown accesses.now) dues.items
+            ≡ (all_early self.old.state (map (λ t. t.page) moves.now)
+            (map access_shown accesses.now)).dues) }
         ensures room { IfOk result (λ dues. AllByRecursion HasRoom dues.items) }
         ensures len { IfOk result (λ dues. vec_len dues ≡ length accesses.now) }
 
@@ -146,8 +159,14 @@ impl<A: Allocator + Copy> Inner<A> {
         undos: &mut Vec<Undo, A>,
     ) -> Result<Due<A>, AllocError>
         // On success
-        ensures state { OnOk result (self.new.state ≡ (early self.old.state moving.now.keys (access_shown access.now)).state) }
-        ensures due { IfOk result (λ due. (accesses : List (Asked _)) → slice_get accesses number ≡ Some access.now → due_shown accesses due ≡ (early self.old.state moving.now.keys (access_shown access.now)).due) }
+        ensures state { OnOk result
+            (self.new.state
+            ≡ (early self.old.state moving.now.keys (access_shown access.now)).state) }
+        ensures due { IfOk result
+            (λ due. (accesses : List (Asked _)) →
+            slice_get accesses number ≡ Some access.now →
+            due_shown accesses due
+            ≡ (early self.old.state moving.now.keys (access_shown access.now)).due) }
         ensures room { IfOk result (λ due. HasRoom due) }
 
         // Nothing else changes
@@ -177,8 +196,12 @@ impl<A: Allocator + Copy> Inner<A> {
         undos: &mut Vec<Undo, A>,
     ) -> Result<Due<A>, AllocError>
         // On success
-        ensures state { OnOk result (self.new.state ≡ (early self.old.state moving.now.keys (Read pid addr len)).state) }
-        ensures due { IfOk result (λ due. (accesses : List (Asked _)) → due_shown accesses due ≡ (early self.old.state moving.now.keys (Read pid addr len)).due) }
+        ensures state { OnOk result
+            (self.new.state ≡ (early self.old.state moving.now.keys (Read pid addr len)).state) }
+        ensures due { IfOk result
+            (λ due. (accesses : List (Asked _)) →
+            due_shown accesses due
+            ≡ (early self.old.state moving.now.keys (Read pid addr len)).due) }
         ensures room { IfOk result (λ due. HasRoom due) }
 
         // Nothing else changes
@@ -226,8 +249,14 @@ impl<A: Allocator + Copy> Inner<A> {
         undos: &mut Vec<Undo, A>,
     ) -> Result<Due<A>, AllocError>
         // On success
-        ensures state { OnOk result (self.new.state ≡ (early self.old.state moving.now.keys (Write pid addr bytes.now)).state) }
-        ensures due { IfOk result (λ due. (accesses : List (Asked _)) → written_by (slice_get accesses number) ≡ bytes.now → due_shown accesses due ≡ (early self.old.state moving.now.keys (Write pid addr bytes.now)).due) }
+        ensures state { OnOk result
+            (self.new.state
+            ≡ (early self.old.state moving.now.keys (Write pid addr bytes.now)).state) }
+        ensures due { IfOk result
+            (λ due. (accesses : List (Asked _)) →
+            written_by (slice_get accesses number) ≡ bytes.now →
+            due_shown accesses due
+            ≡ (early self.old.state moving.now.keys (Write pid addr bytes.now)).due) }
         ensures room { IfOk result (λ due. HasRoom due) }
 
         // Nothing else changes
@@ -260,7 +289,10 @@ impl<A: Allocator + Copy> Inner<A> {
 
 /// The pages of moves, in order.
 fn pages_of<A: Allocator + Copy>(alloc: A, moves: &[Taken]) -> Result<BTreeSet<Page, A>, AllocError>
-    ensures { IfOk result (λ pages. (p : Page) → list_any (same_page p) pages.keys ≡ list_any (same_page p) (map (λ t. t.page) moves.now)) }
+    ensures { IfOk result
+        (λ pages. (p : Page) →
+        list_any (same_page p) pages.keys
+        ≡ list_any (same_page p) (map (λ t. t.page) moves.now)) }
 {
     let mut pages = BTreeSet::new(alloc);
     for taken in moves {

@@ -19,9 +19,11 @@ use std::alloc::{AllocError, Allocator};
 impl<A: Allocator + Copy> Inner<A> {
     /// The areas of a process, in address order.
     pub(crate) fn lines(&self, pid: Pid) -> Result<Vec<Line, A>, MachineError>
-        ensures told { Tells result (entries_refusal self.now.state pid) (λ lines. lines.items ≡ lines_of self.now.state.segments self.now.state.areas pid) }
+        ensures told { Tells result (entries_refusal self.now.state pid)
+            (λ lines. lines.items ≡ lines_of self.now.state.segments self.now.state.areas pid) }
         ensures memory { AsksLast result (entries_refusal self.now.state pid) }
-        ensures asked { result ≡ Err MachineError.HostMemory → 0 < length (lines_of self.now.state.segments self.now.state.areas pid) }
+        ensures asked { result ≡ Err MachineError.HostMemory →
+            0 < length (lines_of self.now.state.segments self.now.state.areas pid) }
     {
         if self.spaces.info(pid).is_none() {
             return Err(MachineError::Refused(Errno::Esrch));
@@ -32,7 +34,9 @@ impl<A: Allocator + Copy> Inner<A> {
     /// How many processes see the page in a frame.
     pub(crate) fn users_in(&self, frame: FrameId) -> usize
         requires { (page : Page) × (get page_cmp self.now.state.place page ≡ Some frame) }
-        ensures { (page : Page) → get page_cmp self.now.state.place page ≡ Some frame → result ≡ length (users self.now.state page) }
+        ensures { (page : Page) →
+            get page_cmp self.now.state.place page ≡ Some frame →
+            result ≡ length (users self.now.state page) }
     {
         self.spaces.users_in(frame)
     }
@@ -45,9 +49,13 @@ impl<A: Allocator + Copy> Inner<A> {
         end: Vpn,
     ) -> Result<Vec<Located, A>, AllocError>
         // On success
-        ensures pages { IfOk result (λ pages. pages.items ≡ located_between self.now.state pid first end) }
-        ensures placed { IfOk result (λ pages. All (λ e. get page_cmp self.now.state.place e.page ≡ Some e.frame) pages.items) }
-        ensures nodes { IfOk result (λ pages. All (λ e. e.node < node_count self.now.state.layout) pages.items) }
+        ensures pages { IfOk result
+            (λ pages. pages.items ≡ located_between self.now.state pid first end) }
+        ensures placed { IfOk result
+            (λ pages. All
+            (λ e. get page_cmp self.now.state.place e.page ≡ Some e.frame) pages.items) }
+        ensures nodes { IfOk result
+            (λ pages. All (λ e. e.node < node_count self.now.state.layout) pages.items) }
         ensures few { IfOk result (λ pages. length pages.items ≤ end - first) }
     {
         self.spaces
@@ -57,7 +65,9 @@ impl<A: Allocator + Copy> Inner<A> {
     /// The first page that a process sees from one page number up to another, with its node.
     pub(crate) fn page_from(&self, pid: Pid, first: Vpn, end: Vpn) -> Option<Located>
         // If there is one
-        ensures some { IfSome result (λ e. located_between self.now.state pid first end ≡ e ∷ located_between self.now.state pid (e.vpn + 1) end) }
+        ensures some { IfSome result
+            (λ e. located_between self.now.state pid first end
+            ≡ e ∷ located_between self.now.state pid (e.vpn + 1) end) }
 
         // If there is none
         ensures none { IfNone result (located_between self.now.state pid first end ≡ []) }
@@ -78,7 +88,8 @@ impl<A: Allocator + Copy> Inner<A> {
 
     /// The node that a page is on. None if it has no frame.
     pub(crate) fn node_of_page(&self, page: Page) -> Option<NodeId>
-        ensures { result ≡ option_map (node_of self.now.state.layout) (get page_cmp self.now.state.place page) }
+        ensures { result
+            ≡ option_map (node_of self.now.state.layout) (get page_cmp self.now.state.place page) }
     {
         let frame = self.spaces.place(page)?;
         Some(self.frames.geometry().node_of(frame))
@@ -87,11 +98,13 @@ impl<A: Allocator + Copy> Inner<A> {
     /// The page among what is seen at a page number, with its node.
     fn locate(&self, vpn: Vpn, sight: Sight) -> Option<Located>
         // If there is one
-        ensures some { IfSome result (λ e. located self.now.state.layout self.now.state.place vpn sight ≡ e ∷ []) }
+        ensures some { IfSome result
+            (λ e. located self.now.state.layout self.now.state.place vpn sight ≡ e ∷ []) }
         ensures vpn { IfSome result (λ e. e.vpn ≡ vpn) }
 
         // If there is none
-        ensures none { IfNone result (located self.now.state.layout self.now.state.place vpn sight ≡ []) }
+        ensures none { IfNone result
+            (located self.now.state.layout self.now.state.place vpn sight ≡ []) }
 
         // Its node
         ensures node { IfSome result (λ e. e.node < node_count self.now.state.layout) }

@@ -42,7 +42,8 @@ impl<A: Allocator + Copy> Inner<A> {
 /// A set with this node, or without it.
 fn changed(nodes: NodeMask, node: NodeId, is_in: bool) -> NodeMask
     requires { node < 64 }
-    ensures nodes { result ≡ (if is_in then insert_key nat_cmp nodes node else without_node nodes node) }
+    ensures nodes { result
+        ≡ (if is_in then insert_key nat_cmp nodes node else without_node nodes node) }
     ensures set { IsNodeSet result }
 {
     let mut changed = nodes;
@@ -63,7 +64,8 @@ fn pages_among<A: Allocator + Copy>(
     node: NodeId,
 ) -> Result<Vec<Page, A>, AllocError>
     requires { All (λ e. e.1 < frame_count geometry.now) placed.now }
-    ensures { IfOk result (λ pages. pages.items ≡ keys_of (filter (λ e. node_of geometry.now e.1 == node) placed.now)) }
+    ensures { IfOk result
+        (λ pages. pages.items ≡ keys_of (filter (λ e. node_of geometry.now e.1 == node) placed.now)) }
 {
     let mut pages = Vec::new(alloc);
     for (page, frame) in placed {

@@ -21,11 +21,16 @@ impl<A: Allocator + Copy> Inner<A> {
     fn page_seen(&self, pid: Pid, addr: u64) -> Result<(Page, FrameId), Errno>
         // On success
         ensures known { IfOk result (λ r. is_unknown self.now.state pid ≡ false) }
-        ensures seen { IfOk result (λ r. sight_at self.now.state pid (addr / 4096) ≡ Some (Sees r.0)) }
+        ensures seen { IfOk result
+            (λ r. sight_at self.now.state pid (addr / 4096) ≡ Some (Sees r.0)) }
         ensures placed { IfOk result (λ r. get page_cmp self.now.state.place r.0 ≡ Some r.1) }
 
         // On refusal
-        ensures err { IfErr result (λ e. (is_bad : ℕ → Bool) (bad : Errno) → (if is_unknown self.now.state pid then Some Esrch else pins_refusal self.now.state is_bad bad (look self.now.state pid (addr / 4096))) ≡ Some e) }
+        ensures err { IfErr result
+            (λ e. (is_bad : ℕ → Bool) (bad : Errno) →
+            (if is_unknown self.now.state pid then Some Esrch else pins_refusal self.now.state is_bad bad
+            (look self.now.state pid (addr / 4096)))
+            ≡ Some e) }
     {
         if self.spaces.info(pid).is_none() {
             return Err(Errno::Esrch);
@@ -39,7 +44,8 @@ impl<A: Allocator + Copy> Inner<A> {
 
     /// Adds a pin to the page that a process sees at an address.
     pub(crate) fn pin(&mut self, pid: Pid, addr: u64) -> Result<(), Errno>
-        ensures done { Alters result self.old.state self.new.state (pin_refusal self.old.state pid addr) (pin self.old.state pid addr) }
+        ensures done { Alters result self.old.state self.new.state
+            (pin_refusal self.old.state pid addr) (pin self.old.state pid addr) }
         ensures same { self.new ≡ with_state self.old self.new.state }
     {
         let (page, frame) = self.page_seen(pid, addr)?;
@@ -48,7 +54,8 @@ impl<A: Allocator + Copy> Inner<A> {
 
     /// Removes a pin from the page that a process sees at an address.
     pub(crate) fn unpin(&mut self, pid: Pid, addr: u64) -> Result<(), Errno>
-        ensures done { Alters result self.old.state self.new.state (unpin_refusal self.old.state pid addr) (unpin self.old.state pid addr) }
+        ensures done { Alters result self.old.state self.new.state
+            (unpin_refusal self.old.state pid addr) (unpin self.old.state pid addr) }
         ensures same { self.new ≡ with_state self.old self.new.state }
     {
         let (page, frame) = self.page_seen(pid, addr)?;

@@ -43,7 +43,9 @@ impl<A: Allocator + Copy> Inner<A> {
         requires { self.old.left ≡ [] }
 
         // The result and the state
-        ensures done { Makes result self.old.state self.new.state (spawn_refusal self.old.state pid info.home info.allowed) (spawn self.old.state pid info.uid info.home info.allowed info.privileged) }
+        ensures done { Makes result self.old.state self.new.state
+            (spawn_refusal self.old.state pid info.home info.allowed)
+            (spawn self.old.state pid info.uid info.home info.allowed info.privileged) }
         ensures memory { AsksLast result (spawn_refusal self.old.state pid info.home info.allowed) }
 
         // Nothing else changes
@@ -70,7 +72,8 @@ impl<A: Allocator + Copy> Inner<A> {
         requires { self.old.left ≡ [] }
 
         // The result and the state
-        ensures done { Makes result self.old.state self.new.state (exit_refusal self.old.state pid) (exit self.old.state pid) }
+        ensures done { Makes result self.old.state self.new.state (exit_refusal self.old.state pid)
+            (exit self.old.state pid) }
         ensures memory { AsksLast result (exit_refusal self.old.state pid) }
 
         // Nothing else changes

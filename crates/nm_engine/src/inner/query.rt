@@ -58,9 +58,11 @@ impl<A: Allocator + Copy> Inner<A> {
 
     /// The free frames of a node, front first.
     pub(crate) fn free_list(&self, node: NodeId) -> Result<Vec<FrameId, A>, MachineError>
-        ensures told { Tells result (list_refusal self.now.state node) (λ frames. frames.items ≡ free_list self.now.state node) }
+        ensures told { Tells result (list_refusal self.now.state node)
+            (λ frames. frames.items ≡ free_list self.now.state node) }
         ensures memory { AsksLast result (list_refusal self.now.state node) }
-        ensures asked { result ≡ Err MachineError.HostMemory → 0 < length (free_list self.now.state node) }
+        ensures asked { result ≡ Err MachineError.HostMemory →
+            0 < length (free_list self.now.state node) }
     {
         if node.index() >= self.frames.node_count() {
             return Err(MachineError::Refused(Errno::Einval));
@@ -70,7 +72,8 @@ impl<A: Allocator + Copy> Inner<A> {
 
     /// What a process has at the page numbers that it has touched, in ascending order.
     pub(crate) fn entries(&self, pid: Pid) -> Result<Vec<(Vpn, Entry), A>, MachineError>
-        ensures told { Tells result (entries_refusal self.now.state pid) (λ entries. entries.items ≡ entries_of self.now.state pid) }
+        ensures told { Tells result (entries_refusal self.now.state pid)
+            (λ entries. entries.items ≡ entries_of self.now.state pid) }
         ensures memory { AsksLast result (entries_refusal self.now.state pid) }
     {
         match self.spaces.entries(pid)? {

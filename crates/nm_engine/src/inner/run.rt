@@ -40,7 +40,8 @@ impl<A: Allocator + Copy + Send + Sync> Inner<A> {
     ) -> Result<Plan<A>, AllocError>
         requires target { requests.now.target < node_count self.now.state.layout }
         requires alike { HasOneAll requests.now.wanted.items }
-        ensures { IfOk result (λ plan. IsPlanOf self.now.state requests.now.target requests.now.wanted.items plan) }
+        ensures { IfOk result
+            (λ plan. IsPlanOf self.now.state requests.now.target requests.now.wanted.items plan) }
     {
         prove!(self.frames.node_count() <= 64);
         let target = requests.target;
@@ -72,10 +73,12 @@ impl<A: Allocator + Copy + Send + Sync> Inner<A> {
         requires few { length moves.now ≤ self.old.room }
         requires taken { self.old.left ≡ tos moves.now }
         requires sound { IsSound (with_fronts (self.old.state) target (tos moves.now)) }
-        requires moves { CanMove (with_fronts (self.old.state) target (tos moves.now)) target moves.now }
+        requires moves { CanMove
+            (with_fronts (self.old.state) target (tos moves.now)) target moves.now }
 
         // What is left to do
-        requires due { AllByRecursion (IsDue (map (λ t. t.page) moves.now) self.old.state) (map (due_shown accesses.now) dues.items) }
+        requires due { AllByRecursion (IsDue (map (λ t. t.page) moves.now) self.old.state)
+            (map (due_shown accesses.now) dues.items) }
         requires room { AllByRecursion HasRoom dues.items }
 
         // The list for the answers
@@ -83,8 +86,14 @@ impl<A: Allocator + Copy + Send + Sync> Inner<A> {
         requires space { vec_len dues ≤ vec_capacity answers }
 
         // Afterwards
-        ensures state { self.new.state ≡ (all_made (with_moves (with_fronts (self.old.state) target (tos moves.now)) target moves.now) (map (due_shown accesses.now) dues.items)).state }
-        ensures answers { map answer_shown result.items ≡ (all_made (with_moves (with_fronts (self.old.state) target (tos moves.now)) target moves.now) (map (due_shown accesses.now) dues.items)).answers }
+        ensures state { self.new.state
+            ≡ (all_made
+            (with_moves (with_fronts (self.old.state) target (tos moves.now)) target moves.now)
+            (map (due_shown accesses.now) dues.items)).state }
+        ensures answers { map answer_shown result.items
+            ≡ (all_made
+            (with_moves (with_fronts (self.old.state) target (tos moves.now)) target moves.now)
+            (map (due_shown accesses.now) dues.items)).answers }
         ensures left { self.new.left ≡ left moves.now }
     {
         self.frames.vacate_each(moves);
@@ -102,7 +111,9 @@ impl<A: Allocator + Copy + Send + Sync> Inner<A> {
 
     /// Ends a run: its moves and failures are counted, and the frames that its pages left become free.
     pub(crate) fn end_run(&mut self, statuses: &[i32])
-        ensures state { self.new.state ≡ counted (with_all_free self.old.state self.old.left) (length self.old.left) (failures statuses.now) }
+        ensures state { self.new.state
+            ≡ counted (with_all_free self.old.state self.old.left) (length self.old.left)
+            (failures statuses.now) }
         ensures left { self.new.left ≡ [] }
     {
         let moved = self.frames.vacated_count() as u64;
@@ -150,7 +161,11 @@ fn classes<
 ) -> Result<Vec<Class, A>, AllocError>
     requires target { run.now.target < 2 ^ 31 }
     requires frames { ShowsItsFrames geometry.now (V.seen_at view.now) (V.placed_at view.now) }
-    ensures { IfOk result (λ classes. classes.items ≡ map (class_shown geometry.now (V.seen_at view.now) (V.placed_at view.now) run.now.target) run.now.wanted.items) }
+    ensures { IfOk result
+        (λ classes. classes.items
+        ≡ map
+        (class_shown geometry.now (V.seen_at view.now)
+        (V.placed_at view.now) run.now.target) run.now.wanted.items) }
 {
     match crew.runtime() {
         Some(rt) => classify(rt, alloc, geometry, view, run),

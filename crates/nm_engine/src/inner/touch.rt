@@ -24,7 +24,8 @@ use std::alloc::Allocator;
 impl<A: Allocator + Copy> Inner<A> {
     /// Reads bytes inside one page of a process.
     pub(crate) fn read(&mut self, pid: Pid, addr: u64, len: u64) -> Result<Vec<u8, A>, MachineError>
-        ensures answer { Accesses result (λ bytes. Bytes bytes.items) self.old.state self.new.state (read self.old.state pid addr len) }
+        ensures answer { Accesses result (λ bytes. Bytes bytes.items) self.old.state self.new.state
+            (read self.old.state pid addr len) }
         ensures memory { AsksLast result (spot_refusal self.old.state pid addr len) }
         ensures same { self.new ≡ with_state self.old self.new.state }
     {
@@ -40,9 +41,13 @@ impl<A: Allocator + Copy> Inner<A> {
 
     /// Writes bytes inside one page of a process.
     pub(crate) fn write(&mut self, pid: Pid, addr: u64, bytes: &[u8]) -> Result<(), MachineError>
-        ensures answer { Accesses result (λ done. Done) self.old.state self.new.state (write self.old.state pid addr bytes.now) }
+        ensures answer { Accesses result (λ done. Done) self.old.state self.new.state
+            (write self.old.state pid addr bytes.now) }
         ensures memory { AsksLast result (spot_refusal self.old.state pid addr (length bytes.now)) }
-        ensures asked { result ≡ Err MachineError.HostMemory → (page : Page) → sight_at self.old.state pid (addr / 4096) ≡ Some (Sees page) → ⊥ }
+        ensures asked { result ≡ Err MachineError.HostMemory →
+            (page : Page) →
+            sight_at self.old.state pid (addr / 4096) ≡ Some (Sees page) →
+            ⊥ }
         ensures same { self.new ≡ with_state self.old self.new.state }
     {
         let resolved = self.resolve(pid, addr, bytes.len() as u64)?;
@@ -56,7 +61,10 @@ impl<A: Allocator + Copy> Inner<A> {
     /// Where `len` bytes of a process from `addr` on are, or the first refusal.
     pub(crate) fn resolve(&self, pid: Pid, addr: u64, len: u64) -> Result<Resolved, Errno>
         // On success
-        ensures ok { IfOk result (λ t. (p : Process) × (a : Placed) × (spot self.now.state pid addr len ≡ Ok (spot_at t p a)) × IsResolved self.now.state t p a) }
+        ensures ok { IfOk result
+            (λ t. (p : Process) × (a : Placed)
+            × (spot self.now.state pid addr len ≡ Ok (spot_at t p a))
+            × IsResolved self.now.state t p a) }
         ensures pid { IfOk result (λ t. t.pid ≡ pid) }
         ensures page { IfOk result (λ t. t.vpn ≡ addr / 4096) }
         ensures inside { IfOk result (λ t. addr % 4096 + len ≤ 4096) }
@@ -98,13 +106,18 @@ impl<A: Allocator + Copy> Inner<A> {
         requires { (p : Process) × (a : Placed) × IsResolved self.old.state t p a }
 
         // In any case
-        ensures touches { (p : Process) (a : Placed) → IsResolved self.old.state t p a → Touches result self.old.state self.new.state (touched_entry self.old.state (spot_at t p a) writes (get nat_cmp p.sees t.vpn)) }
+        ensures touches { (p : Process) (a : Placed) →
+            IsResolved self.old.state t p a →
+            Touches result self.old.state self.new.state
+            (touched_entry self.old.state (spot_at t p a) writes (get nat_cmp p.sees t.vpn)) }
 
         // On success
         ensures frame { IfOk result (λ frame. frame ≡ frame_seen self.new.state t.pid t.vpn) }
         ensures some { IfOk result (λ frame. writes ≡ true → IsSome frame) }
-        ensures zeros { IfOk result (λ frame. IfNone frame (sight_at self.new.state t.pid t.vpn ≡ Some ZeroPage)) }
-        ensures asked { OnErr result ((page : Page) → sight_at self.old.state t.pid t.vpn ≡ Some (Sees page) → ⊥) }
+        ensures zeros { IfOk result
+            (λ frame. IfNone frame (sight_at self.new.state t.pid t.vpn ≡ Some ZeroPage)) }
+        ensures asked { OnErr result
+            ((page : Page) → sight_at self.old.state t.pid t.vpn ≡ Some (Sees page) → ⊥) }
 
         // Nothing else changes
         ensures same { self.new ≡ with_state self.old self.new.state }
@@ -137,7 +150,10 @@ impl<A: Allocator + Copy> Inner<A> {
         requires unseen { sight_at self.old.state t.pid t.vpn ≡ None }
 
         // In any case
-        ensures touches { (p : Process) (a : Placed) → IsResolved self.old.state t p a → Touches result self.old.state self.new.state (joined self.old.state (spot_at t p a) (get page_cmp self.old.state.place t.page)) }
+        ensures touches { (p : Process) (a : Placed) →
+            IsResolved self.old.state t p a →
+            Touches result self.old.state self.new.state
+            (joined self.old.state (spot_at t p a) (get page_cmp self.old.state.place t.page)) }
 
         // On success
         ensures frame { IfOk result (λ frame. frame_seen self.new.state t.pid t.vpn ≡ Some frame) }
@@ -160,7 +176,9 @@ impl<A: Allocator + Copy> Inner<A> {
         requires unseen { (page : Page) → sight_at self.old.state t.pid t.vpn ≡ Some (Sees page) → ⊥ }
 
         // In any case
-        ensures touches { (p : Process) (a : Placed) → IsResolved self.old.state t p a → Touches result self.old.state self.new.state (filled self.old.state (spot_at t p a)) }
+        ensures touches { (p : Process) (a : Placed) →
+            IsResolved self.old.state t p a →
+            Touches result self.old.state self.new.state (filled self.old.state (spot_at t p a)) }
 
         // On success
         ensures frame { IfOk result (λ frame. frame_seen self.new.state t.pid t.vpn ≡ Some frame) }
@@ -184,7 +202,9 @@ impl<A: Allocator + Copy> Inner<A> {
 
     /// The first node, in the order for a new page, that has a free frame.
     fn first_node(&self, info: ProcessInfo, policy: Policy, index: u64) -> Option<NodeId>
-        ensures { result ≡ first_free self.now.state.free (first_touch_order self.now.state.layout self.now.state.online info.home info.allowed policy index) }
+        ensures { result
+            ≡ first_free self.now.state.free
+            (first_touch_order self.now.state.layout self.now.state.online info.home info.allowed policy index) }
     {
         let ProcessInfo { home, allowed, .. } = info;
         let geometry = self.frames.geometry();

@@ -51,14 +51,22 @@ impl<A: Allocator + Copy> Inner<A> {
         requires { (p : Process) × (a : Placed) × IsResolved self.old.state t p a }
 
         // The touch
-        ensures touches { (p : Process) (a : Placed) → IsResolved self.old.state t p a → Touches result self.old.state self.new.state (touched_entry self.old.state (spot_at t p a) writes (get nat_cmp p.sees t.vpn)) }
+        ensures touches { (p : Process) (a : Placed) →
+            IsResolved self.old.state t p a →
+            Touches result self.old.state self.new.state
+            (touched_entry self.old.state (spot_at t p a) writes (get nat_cmp p.sees t.vpn)) }
         ensures frame { IfOk result (λ frame. frame ≡ frame_seen self.new.state t.pid t.vpn) }
         ensures some { IfOk result (λ frame. writes ≡ true → IsSome frame) }
-        ensures zeros { IfOk result (λ frame. IfNone frame (sight_at self.new.state t.pid t.vpn ≡ Some ZeroPage)) }
+        ensures zeros { IfOk result
+            (λ frame. IfNone frame (sight_at self.new.state t.pid t.vpn ≡ Some ZeroPage)) }
         ensures same { self.new ≡ with_state self.old self.new.state }
 
         // The notes
-        ensures noted { IfOk result (λ frame. undos.new.items ≡ with_undo undos.old.items (noted t.pid t.vpn t.page (sight_at self.old.state t.pid t.vpn) (get page_cmp self.old.state.place t.page) frame)) }
+        ensures noted { IfOk result
+            (λ frame. undos.new.items
+            ≡ with_undo undos.old.items
+            (noted t.pid t.vpn t.page (sight_at self.old.state t.pid t.vpn)
+            (get page_cmp self.old.state.place t.page) frame)) }
         ensures err { OnErr result (undos.new.items ≡ undos.old.items) }
         ensures sound { OnOk result (IsSoundMidRun self.old.state self.old.left) }
         ensures back { IsStillUndone self.old.left self.old.state undos.old.items self.new.state undos.new.items }
@@ -73,7 +81,14 @@ impl<A: Allocator + Copy> Inner<A> {
     /// What a touch finds.
     fn before(&self, t: &Resolved) -> Before
         requires { page_at self.now.state.areas t.now.pid t.now.vpn ≡ Some t.now.page }
-        ensures is { result ≡ record { pid = t.now.pid; vpn = t.now.vpn; page = t.now.page; seen = sight_at self.now.state t.now.pid t.now.vpn; place = get page_cmp self.now.state.place t.now.page } }
+        ensures is { result
+            ≡ record {
+              pid = t.now.pid;
+              vpn = t.now.vpn;
+              page = t.now.page;
+              seen = sight_at self.now.state t.now.pid t.now.vpn;
+              place = get page_cmp self.now.state.place t.now.page;
+            } }
         ensures sound { IsSoundMidRun self.now.state self.now.left }
     {
         Before {
@@ -120,7 +135,9 @@ impl<A: Allocator + Copy> Inner<A> {
 /// Notes how to undo a touch that returned this frame, if there is anything to undo.
 fn note<A: Allocator + Copy>(undos: &mut Vec<Undo, A>, before: Before, frame: &Option<FrameId>)
     requires { vec_len undos.old + 1 ≤ vec_capacity undos.old }
-    ensures { undos.new.items ≡ with_undo undos.old.items (noted before.pid before.vpn before.page before.seen before.place frame.now) }
+    ensures { undos.new.items
+        ≡ with_undo undos.old.items
+        (noted before.pid before.vpn before.page before.seen before.place frame.now) }
 {
     if let Some(undo) = noted(before, *frame) {
         undos.push_reserved(undo);
