@@ -1,4 +1,5 @@
 pub mod Cleared
+pub mod Held
 pub mod Mapped
 pub mod Moved
 pub mod New

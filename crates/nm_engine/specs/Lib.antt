@@ -9,6 +9,7 @@ pub mod Shown
 pub mod ProcessTable
 pub mod AddressSpaces
 pub mod Tied
+pub mod Held
 pub mod MidRun
 pub mod Does
 pub mod Undo

@@ -58,9 +58,13 @@ replaced_in tasks (Some t) pid v e = replace nat_cmp tasks pid (with_other_entry
 abbrev pub replaced : Map ℕ Task → Entry → ℕ × ℕ → Map ℕ Task
 replaced tasks e spot = replaced_in tasks (get nat_cmp tasks spot.0) spot.0 spot.1 e
 
+-- another entry at all these page numbers
+abbrev pub all_replaced : Map ℕ Task → List (ℕ × ℕ) → Entry → Map ℕ Task
+all_replaced tasks mappings e = fold (λ ts spot. replaced ts e spot) tasks mappings
+
 -- the entries at all these page numbers name this frame
 abbrev pub remapped : Map ℕ Task → List (ℕ × ℕ) → ℕ → Map ℕ Task
-remapped tasks mappings frame = fold (λ ts spot. replaced ts (Frame frame) spot) tasks mappings
+remapped tasks mappings frame = all_replaced tasks mappings (Frame frame)
 
 -- a table without the entries from one page number up to another
 abbrev pub cleared_between : ℕ → ℕ → Task → Task

@@ -20,6 +20,11 @@ use Rattle.nm_engine.specs.ProcessTable.{names}
 abbrev pub has_spot : List (ℕ × ℕ) → ℕ × ℕ → Bool
 has_spot mappings spot = list_any (is_at (spot_cmp spot)) mappings
 
+-- the processes, and the entries of each, are in order
+pub record AreInOrder (tasks : Map ℕ Task) : Type 0 where
+  pub pids : IsStrictlySortedBy nat_cmp (keys_of tasks)
+  pub tables : AllByRecursion (λ e. IsStrictlySortedBy nat_cmp (keys_of e.1.table)) tasks
+
 pub record IsTied (tasks : Map ℕ Task) (m : Mapped) (r : Mappers) : Type 0 where
   -- the maps have their keys in order
   pub pids : IsStrictlySortedBy nat_cmp (keys_of tasks)

@@ -2,7 +2,6 @@
 
 ghost use Rattle.std.specs.Prelude.{◌≡◌, ◌<◌, ◌≤◌, ◌+◌, ◌-◌, ◌^◌, length, Some, None, IsSome, IfSome, IfOk, IfErr, OnOk, OnErr};
 ghost use Rattle.std.specs.Option.{option_map};
-ghost use Rattle.std.specs.List.{AllByRecursion};
 ghost use Rattle.std.specs.Map.{values_of};
 ghost use Rattle.std.specs.Ordering.{nat_cmp};
 ghost use Rattle.nm_types.specs.declared.page.Page.{Page};
@@ -14,24 +13,21 @@ ghost use Rattle.nm_model.specs.definitions.Areas.{is_shared};
 ghost use Rattle.nm_model.specs.definitions.Seen.{sight_in, look_in, look_at_place};
 ghost use Rattle.nm_runs.specs.Shown.{HasFrameBelow};
 ghost use Rattle.nm_model.specs.definitions.Effect.{info_of, untouched};
-ghost use Rattle.nm_engine.specs.ProcessTable.{IsThere, remapped};
 ghost use Rattle.nm_model.specs.definitions.PageTables.{entry_of};
-ghost use Rattle.nm_engine.specs.Moves.{CanRemap, all_moved};
-ghost use Rattle.nm_engine.specs.AddressSpaces.{no_spaces, with_seen, with_new_page, with_moved, pins_here, with_pins_of};
+ghost use Rattle.nm_engine.specs.AddressSpaces.{no_spaces, with_seen, with_new_page, pins_here, with_pins_of};
 
 mod areas;
 mod back;
+pub(crate) mod held;
 mod walk;
 
 use crate::ProcessInfo;
 use crate::process_table::ProcessTable;
 use nm_areas::Areas;
-use nm_plan::Taken;
 use nm_rmap::ReverseMap;
 use nm_tables::Entry;
 use nm_types::{Area, Errno, FrameId, Page, PageView, Pid, Seen, Sight, Vpn};
 use std::alloc::{AllocError, Allocator};
-use std::collections::BTreeSet;
 use std::marker::Model;
 
 /// The page tables of all processes, the areas with the frames of pages, and for each frame the entries that name it
@@ -64,6 +60,17 @@ impl<A: Allocator + Copy> AddressSpaces<A> {
             areas: Areas::new(alloc),
             rmap: ReverseMap::new(alloc, frames)?,
         })
+    }
+
+    /// Makes address spaces without processes and without frames. Does not allocate.
+    pub(crate) fn none(alloc: A) -> Self
+        ensures { result ≡ no_spaces 0 }
+    {
+        AddressSpaces {
+            tasks: ProcessTable::new(alloc),
+            areas: Areas::new(alloc),
+            rmap: ReverseMap::none(alloc),
+        }
     }
 
     /// How many processes there are.
@@ -297,29 +304,6 @@ impl<A: Allocator + Copy> AddressSpaces<A> {
         Ok(())
     }
 
-    /// Moves a page to a frame that no page has: every entry that named the old frame names the new one, which gets the
-    /// pins. Does not allocate.
-    fn move_page(&mut self, page: Page, from: FrameId, to: FrameId)
-        requires placed { get page_cmp self.old.place page ≡ Some from }
-        requires frame { to < self.old.frames }
-        requires spare { (q : Page) → get page_cmp self.old.place q ≡ Some to → ⊥ }
-        ensures { self.new ≡ with_moved self.old page to }
-    {
-        remap(&mut self.tasks, self.rmap.mappings(from), to);
-        self.rmap.carry(from, to);
-        self.areas.move_page(page, to);
-    }
-
-    /// Moves pages from their frames to others, one after another.
-    pub(crate) fn move_pages(&mut self, moves: &[Taken])
-        requires { CanRemap self.old moves.now }
-        ensures { self.new ≡ all_moved self.old moves.now }
-    {
-        for taken in moves {
-            self.move_page(taken.page, taken.from, taken.to);
-        }
-    }
-
     /// Adds a pin to a page that has a frame. EBUSY, with nothing changed, if it has 65,535 pins.
     pub(crate) fn pin(&mut self, page: Page, frame: FrameId) -> Result<(), Errno>
         requires { get page_cmp self.old.place page ≡ Some frame }
@@ -367,19 +351,5 @@ impl<A: Allocator + Copy> PageView for AddressSpaces<A> {
 
     fn placed(&self, page: Page) -> Seen {
         self.look_at_page(page)
-    }
-}
-
-/// Makes each of these entries name this frame.
-fn remap<A: Allocator + Copy>(
-    tasks: &mut ProcessTable<A>,
-    mappings: &BTreeSet<(Pid, Vpn), A>,
-    frame: FrameId,
-)
-    requires { AllByRecursion (IsThere tasks.old) mappings.now.keys }
-    ensures { tasks.new ≡ remapped tasks.old mappings.now.keys frame }
-{
-    for (pid, vpn) in mappings.iter() {
-        tasks.replace(*pid, *vpn, Entry::Frame(frame));
     }
 }

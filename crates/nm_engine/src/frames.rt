@@ -20,7 +20,7 @@ ghost use Rattle.nm_model.specs.definitions.Memory.{stretch_of};
 
 mod copying;
 
-use crate::address_spaces::AddressSpaces;
+use crate::address_spaces::held::HeldSpaces;
 use crate::answered::AccessAnswer;
 use crate::audit;
 use crate::inner::due::Due;
@@ -368,7 +368,7 @@ impl<A: Allocator + Copy + Send + Sync> Frames<A> {
         crew: &Crew<R, G>,
         alloc: A,
         moves: &[Taken],
-        spaces: &AddressSpaces<A>,
+        held: &HeldSpaces<A>,
         accesses: &[Access<A>],
         dues: Vec<Due<A>, A>,
         answers: Vec<AccessAnswer<A>, A>,
@@ -379,7 +379,7 @@ impl<A: Allocator + Copy + Send + Sync> Frames<A> {
         requires few { length moves.now ≤ self.old.room }
 
         // What is left to do
-        requires due { AllByRecursion (CanDo spaces.now.place (emptied self.old.frames moves.now))
+        requires due { AllByRecursion (CanDo held.now.spaces.place (emptied self.old.frames moves.now))
             (map (due_shown accesses.now) dues.items) }
         requires room { AllByRecursion HasRoom dues.items }
 
@@ -390,13 +390,13 @@ impl<A: Allocator + Copy + Send + Sync> Frames<A> {
         // Afterwards
         ensures frames { self.new
             ≡ record (self.old) {
-              frames = (all_done spaces.now.place
+              frames = (all_done held.now.spaces.place
                   (with_copies self.old.frames moves.now)
                   (map (due_shown accesses.now) dues.items)).store;
               room = self.new.room;
             } }
         ensures answers { map answer_shown result.items
-            ≡ (all_done spaces.now.place (with_copies self.old.frames moves.now)
+            ≡ (all_done held.now.spaces.place (with_copies self.old.frames moves.now)
             (map (due_shown accesses.now) dues.items)).answers }
     {
         let jobs = mem::replace(&mut self.jobs, Vec::new(alloc));
@@ -406,7 +406,7 @@ impl<A: Allocator + Copy + Send + Sync> Frames<A> {
             &mut self.frames,
             moves,
             jobs,
-            spaces,
+            held,
             accesses,
             dues,
             answers,

@@ -22,7 +22,7 @@ use Rattle.nm_engine.specs.Tied.{IsTied, has_spot}
 use Rattle.nm_types.proofs.Maps.{equal, get-set, page_cmp_total, exact_page, spot_cmp_total, with_values-moved, keys-set}
 use Rattle.nm_engine.proofs.Tied.Remapped.{mappers_mapped, entry_at-remapped, remapped_shows, keys-remapped, order-remapped}
 
-frame_held : {f g : ℕ} → Some (Frame f) ≡ Some (Held g) → ⊥
+pub frame_held : {f g : ℕ} → Some (Frame f) ≡ Some (Held g) → ⊥
 frame_held e = cc
 
 -- a frame that no page has

@@ -112,7 +112,7 @@ seen_here y tasks m r pid v o is e = ap (option_map (sight_of m.areas pid v)) e 
 
 -- the entry of what it shows
 module _ (tasks : Map ℕ Task) (m : Mapped) (r : Mappers) (h : IsTied tasks m r) where
-  entry_again : (pid v : ℕ) (e : Entry) → entry_at tasks pid v ≡ Some e → entry_of m.place (sight_of m.areas pid v e) ≡ e
+  pub entry_again : (pid v : ℕ) (e : Entry) → entry_at tasks pid v ≡ Some e → entry_of m.place (sight_of m.areas pid v e) ≡ e
   entry_again pid v Zero k = refl
   entry_again pid v (Frame f) k =
       let s = h.shows f pid v (ap (names f) k ∙ eq-eqb f f refl) in

@@ -117,7 +117,7 @@ entry_at-remapped tasks (s ∷ mappings) to q h =
     ]
 
 -- what holds at the places that a list has holds of all in it
-all_from_has : (P : ℕ × ℕ → Type 0) (mappings : List (ℕ × ℕ)) → ((q : ℕ × ℕ) → has_spot mappings q ≡ true → P q) → AllByRecursion P mappings
+pub all_from_has : (P : ℕ × ℕ → Type 0) (mappings : List (ℕ × ℕ)) → ((q : ℕ × ℕ) → has_spot mappings q ≡ true → P q) → AllByRecursion P mappings
 all_from_has P [] h = tt
 all_from_has P (s ∷ mappings) h =
     (h s (or_left _ _ (ap is_eq (tied_itself spot_cmp_total s))), all_from_has P mappings (λ q k. h q (or_right _ _ k)))

@@ -10,6 +10,7 @@ use Rattle.nm_frames.specs.Job.{copied}
 use Rattle.nm_frames.specs.Populated.{IsPopulated}
 use Rattle.nm_model.specs.definitions.Frames.{Store, IsHome, IsOut, bytes_of}
 use Rattle.nm_types.specs.declared.taken.Taken.{Taken}
+use Rattle.nm_engine.specs.Held.{AreApart}
 use Rattle.nm_engine.specs.Copies.{with_copy, with_copies, without_both, CanCopy, HasBoth, emptied, with_buf, jobs_of, with_job, refilled, CanRefill}
 use Rattle.nm_engine.proofs.Together.Free.{copied_frame, home_bytes}
 
@@ -50,13 +51,13 @@ module _ (store : Store) (t : Taken) where
   not_from : (q : ℕ) → IsHome (without_both store t) q → q ≢ t.from
   not_from q home = not_home (without_both store t) t.from q from_out home
 
-  not_to : (q : ℕ) → IsHome (without_both store t) q → q ≢ t.to
+  pub not_to : (q : ℕ) → IsHome (without_both store t) q → q ≢ t.to
   not_to q home = not_home (without_both store t) t.to q to_out home
 
   untouched : (q : ℕ) → q ≢ t.from → q ≢ t.to → at (without_both store t) q ≡ at store q
   untouched q a b = get_or-set_other (slice_set store t.from None) t.to q None None b ∙ get_or-set_other store t.from q None None a
 
-  was_home : (q : ℕ) → IsHome (without_both store t) q → IsHome store q
+  pub was_home : (q : ℕ) → IsHome (without_both store t) q → IsHome store q
   was_home q home = record {
     in_range = omega (arith, as_many, home.in_range);
     here = subst (λ (o : Option (List ℕ)). IsSome o) (untouched q (not_from q home) (not_to q home)) home.here;
@@ -92,7 +93,7 @@ home_set store f q bytes home =
 abbrev Covers : Store → Store → Type 0
 Covers g h = (q : ℕ) → IsHome g q → IsHome h q
 
-can_where_more : (taken : List Taken) (g h : Store) → Covers g h → CanCopy g taken → CanCopy h taken
+pub can_where_more : (taken : List Taken) (g h : Store) → Covers g h → CanCopy g taken → CanCopy h taken
 can_where_more [] g h covers can = tt
 can_where_more (t ∷ taken) g h covers can = (
   covers t.from can.0,
@@ -193,3 +194,20 @@ module _ {A : Type 0} where
       let rest = can_last jobs job store can.0 in
       let is = refilled_last jobs job store in
       (rest.0, rest.1, (rest.2, subst (λ (s : Store). IsOut s j.source.0) is can.1, subst (λ (s : Store). IsOut (with_buf s j.source) j.target.0) is can.2))
+
+-- ---- frames that are named once
+
+apart_from : (taken : List Taken) (store : Store) (t : Taken) → CanCopy (without_both store t) taken → AllByRecursion (λ u. u.from ≢ t.to) taken
+apart_from [] store t can = tt
+apart_from (u ∷ taken) store t can = (
+  not_to store t u.from can.0,
+  apart_from taken store t (can_where_more taken (without_both (without_both store t) u) (without_both store t) (λ q home. was_home (without_both store t) u q home) can.3),
+)
+
+-- no page leaves a frame that one before it takes
+pub copies_apart : (taken : List Taken) (store : Store) → CanCopy store taken → AreApart taken
+copies_apart [] store can = tt
+copies_apart (t ∷ taken) store can = (
+  apart_from taken store t can.3,
+  copies_apart taken store (can_where_more taken (without_both store t) store (λ q home. was_home store t q home) can.3),
+)

@@ -7,7 +7,7 @@ ghost use Rattle.nm_engine.specs.Finishing.{all_done, done_in, told_in, frame_at
 ghost use Rattle.nm_types.specs.Map.{get, page_cmp};
 ghost use Rattle.nm_engine.specs.Answering.{answer_shown, due_shown, written_by, HasRoom};
 
-use crate::address_spaces::AddressSpaces;
+use crate::address_spaces::held::HeldSpaces;
 use crate::answered::AccessAnswer;
 use crate::frames::copy_bytes;
 use crate::inner::due::Due;
@@ -33,7 +33,7 @@ pub(super) fn copy_pages<
     frames: &mut FrameStore<A>,
     moves: &[Taken],
     mut jobs: Vec<CopyJob<A>, A>,
-    spaces: &AddressSpaces<A>,
+    held: &HeldSpaces<A>,
     accesses: &[Access<A>],
     dues: Vec<Due<A>, A>,
     answers: Vec<AccessAnswer<A>, A>,
@@ -45,7 +45,7 @@ pub(super) fn copy_pages<
     requires few { length moves.now ≤ vec_capacity jobs }
 
     // What is left to do
-    requires due { AllByRecursion (CanDo spaces.now.place (emptied frames.old moves.now))
+    requires due { AllByRecursion (CanDo held.now.spaces.place (emptied frames.old moves.now))
         (map (due_shown accesses.now) dues.items) }
     requires room { AllByRecursion HasRoom dues.items }
 
@@ -55,10 +55,10 @@ pub(super) fn copy_pages<
 
     // Afterwards
     ensures frames { frames.new
-        ≡ (all_done spaces.now.place (with_copies frames.old moves.now)
+        ≡ (all_done held.now.spaces.place (with_copies frames.old moves.now)
         (map (due_shown accesses.now) dues.items)).store }
     ensures answers { map answer_shown result.1.items
-        ≡ (all_done spaces.now.place (with_copies frames.old moves.now)
+        ≡ (all_done held.now.spaces.place (with_copies frames.old moves.now)
         (map (due_shown accesses.now) dues.items)).answers }
     ensures empty { result.0.items ≡ [] }
 {
@@ -69,18 +69,18 @@ pub(super) fn copy_pages<
         alloc,
         jobs,
         move || -> (FrameStore<A>, Vec<AccessAnswer<A>, A>)
-            requires due { AllByRecursion (CanDo spaces.now.place store)
+            requires due { AllByRecursion (CanDo held.now.spaces.place store)
                 (map (due_shown accesses.now) dues.items) }
             requires room { AllByRecursion HasRoom dues.items }
             requires unanswered { answers.items ≡ [] }
             requires space { vec_len dues ≤ vec_capacity answers }
             ensures store { result.0
-                ≡ (all_done spaces.entry.now.place store
+                ≡ (all_done held.entry.now.spaces.place store
                 (map (due_shown accesses.entry.now) dues.items)).store }
             ensures answers { map answer_shown result.1.items
-                ≡ (all_done spaces.entry.now.place store
+                ≡ (all_done held.entry.now.spaces.place store
                 (map (due_shown accesses.entry.now) dues.items)).answers }
-        { finish(store, spaces, accesses, dues, answers, gate) },
+        { finish(store, held, accesses, dues, answers, gate) },
     );
     *frames = store;
     put_back_each(frames, &mut copied);
@@ -130,14 +130,14 @@ fn put_back_each<A: Allocator + Copy>(frames: &mut FrameStore<A>, jobs: &mut Vec
 /// that has room for them. The gate is called before each access.
 fn finish<A: Allocator + Copy, G: Gate>(
     mut store: FrameStore<A>,
-    spaces: &AddressSpaces<A>,
+    held: &HeldSpaces<A>,
     accesses: &[Access<A>],
     dues: Vec<Due<A>, A>,
     mut answers: Vec<AccessAnswer<A>, A>,
     gate: &G,
 ) -> (FrameStore<A>, Vec<AccessAnswer<A>, A>)
     // What is left to do
-    requires due { AllByRecursion (CanDo spaces.now.place store)
+    requires due { AllByRecursion (CanDo held.now.spaces.place store)
         (map (due_shown accesses.now) dues.items) }
     requires room { AllByRecursion HasRoom dues.items }
 
@@ -147,13 +147,13 @@ fn finish<A: Allocator + Copy, G: Gate>(
 
     // Afterwards
     ensures store { result.0
-        ≡ (all_done spaces.now.place store (map (due_shown accesses.now) dues.items)).store }
+        ≡ (all_done held.now.spaces.place store (map (due_shown accesses.now) dues.items)).store }
     ensures answers { map answer_shown result.1.items
-        ≡ (all_done spaces.now.place store (map (due_shown accesses.now) dues.items)).answers }
+        ≡ (all_done held.now.spaces.place store (map (due_shown accesses.now) dues.items)).answers }
 {
     for due in dues {
         gate.access(answers.len());
-        let answer = finish_one(&mut store, spaces, accesses, due);
+        let answer = finish_one(&mut store, held, accesses, due);
         answers.push_reserved(answer);
     }
     (store, answers)
@@ -162,15 +162,15 @@ fn finish<A: Allocator + Copy, G: Gate>(
 /// Does what is left to do for one access.
 fn finish_one<A: Allocator + Copy>(
     store: &mut FrameStore<A>,
-    spaces: &AddressSpaces<A>,
+    held: &HeldSpaces<A>,
     accesses: &[Access<A>],
     due: Due<A>,
 ) -> AccessAnswer<A>
-    requires due { CanDo spaces.now.place store.old (due_shown accesses.now due) }
+    requires due { CanDo held.now.spaces.place store.old (due_shown accesses.now due) }
     requires room { HasRoom due }
-    ensures store { store.new ≡ done_in spaces.now.place store.old (due_shown accesses.now due) }
+    ensures store { store.new ≡ done_in held.now.spaces.place store.old (due_shown accesses.now due) }
     ensures answer { answer_shown result
-        ≡ told_in spaces.now.place store.old (due_shown accesses.now due) }
+        ≡ told_in held.now.spaces.place store.old (due_shown accesses.now due) }
 {
     match due {
         Due::Known(answer) => answer,
@@ -180,11 +180,11 @@ fn finish_one<A: Allocator + Copy>(
             len,
             mut bytes,
         } => {
-            copy_bytes(store, frame_of(spaces, page), at, len, &mut bytes);
+            copy_bytes(store, frame_of(held, page), at, len, &mut bytes);
             AccessAnswer::Bytes(bytes)
         }
         Due::Write { page, at, access } => {
-            store.write(frame_of(spaces, page), at, written_by(accesses, access));
+            store.write(frame_of(held, page), at, written_by(accesses, access));
             AccessAnswer::Done
         }
     }
@@ -201,11 +201,11 @@ fn written_by<A: Allocator + Copy>(accesses: &[Access<A>], number: usize) -> &[u
 }
 
 /// The frame of a page that has one.
-fn frame_of<A: Allocator + Copy>(spaces: &AddressSpaces<A>, page: Page) -> FrameId
-    requires { IsSome (get page_cmp spaces.now.place page) }
-    ensures { result ≡ frame_at spaces.now.place page }
+fn frame_of<A: Allocator + Copy>(held: &HeldSpaces<A>, page: Page) -> FrameId
+    requires { IsSome (get page_cmp held.now.spaces.place page) }
+    ensures { result ≡ frame_at held.now.spaces.place page }
 {
-    let Some(frame) = spaces.place(page) else {
+    let Some(frame) = held.place(page) else {
         unreachable!()
     };
     frame

@@ -11,6 +11,7 @@ ghost use Rattle.nm_model.specs.definitions.Sound.{IsSound};
 ghost use Rattle.nm_model.specs.definitions.Early.{with_fronts, tos, all_made, IsDue};
 ghost use Rattle.nm_engine.specs.Answering.{answer_shown, due_shown, HasRoom};
 
+use crate::address_spaces::AddressSpaces;
 use crate::answered::AccessAnswer;
 use crate::inner::Inner;
 use crate::inner::due::Due;
@@ -20,6 +21,7 @@ use nm_plan::{Plan, Taken, plan};
 use nm_runs::{Class, Run, classify, classify_here};
 use nm_types::{Access, Errno, FrameId, Geometry, NodeId, Page, PageView};
 use std::alloc::{AllocError, Allocator};
+use std::mem;
 use std::sync::Wait;
 use std::thread::Threads;
 
@@ -56,9 +58,9 @@ impl<A: Allocator + Copy + Send + Sync> Inner<A> {
         plan(self.alloc, classes.as_slice(), front.as_slice(), target)
     }
 
-    /// Makes moves to a node, whose frames are taken already: every entry that named a frame that a page leaves names
-    /// the new one, and the crew copies all pages. What is left to do for accesses to other pages is done meanwhile;
-    /// the answers go into a list that has room for them.
+    /// Makes moves to a node, whose frames are taken already: every entry that names a frame that a page leaves is held
+    /// while the crew copies the pages, and then names the new frame. What is left to do for accesses to other pages is
+    /// done meanwhile; the answers go into a list that has room for them.
     pub(crate) fn carry_out<R: Threads + Wait + Sync, G: Gate + Sync>(
         &mut self,
         crew: &Crew<R, G>,
@@ -97,16 +99,13 @@ impl<A: Allocator + Copy + Send + Sync> Inner<A> {
         ensures left { self.new.left ≡ left moves.now }
     {
         self.frames.vacate_each(moves);
-        self.spaces.move_pages(moves);
-        self.frames.copy_pages(
-            crew,
-            self.alloc,
-            moves,
-            &self.spaces,
-            accesses,
-            dues,
-            answers,
-        )
+        let spaces = mem::replace(&mut self.spaces, AddressSpaces::none(self.alloc));
+        let held = spaces.hold(moves);
+        let answers = self
+            .frames
+            .copy_pages(crew, self.alloc, moves, &held, accesses, dues, answers);
+        self.spaces = held.settle(moves);
+        answers
     }
 
     /// Ends a run: its moves and failures are counted, and the frames that its pages left become free.

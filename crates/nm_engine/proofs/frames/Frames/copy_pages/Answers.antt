@@ -18,7 +18,7 @@ invariant_of-self g c =
     let k = c.self.inside in
     let moves = c.args.moves.now in
     let dues = map (due_shown c.args.accesses.now) c.args.dues.items in
-    let place = c.args.spaces.now.place in
+    let place = c.args.held.now.spaces.place in
     let copied = with_copies k.frames moves in (
       c.self.invariant.0,
       record {
@@ -42,14 +42,14 @@ copy_pages-jobs-requires-clause-can g c κs within = subst (λ (k : FramesView).
 
 pub copy_pages-jobs-requires-clause-due : goal.copy_pages-jobs-requires-clause-due
 copy_pages-jobs-requires-clause-due g c κs within =
-    subst (λ (k : FramesView). AllByRecursion (CanDo c.args.spaces.now.place (emptied k.frames c.args.moves.now)) (map (due_shown c.args.accesses.now) c.args.dues.items)) (sym c.self.view_is) c.requires.due
+    subst (λ (k : FramesView). AllByRecursion (CanDo c.args.held.now.spaces.place (emptied k.frames c.args.moves.now)) (map (due_shown c.args.accesses.now) c.args.dues.items)) (sym c.self.view_is) c.requires.due
 
 pub returns-clause-frames : goal.returns-clause-frames
 returns-clause-frames g c =
     let k = c.self.inside in
     let moves = c.args.moves.now in
     let dues = map (due_shown c.args.accesses.now) c.args.dues.items in
-    let place = c.args.spaces.now.place in
+    let place = c.args.held.now.spaces.place in
     let room = min (vec_capacity k.vacated) (vec_capacity c.copy_pages-jobs.result.0) in
     let fields : Store → FramesView = λ s. record { layout = k.geometry; frames = s; free = k.nodes.lists; vacated = k.vacated.items; room = room } in
     ap fields c.copy_pages-jobs.ensures.frames ∙ ap (λ (v : FramesView). record v { frames = (all_done place (with_copies v.frames moves) dues).store; room = room }) c.self.view_is
@@ -57,7 +57,7 @@ returns-clause-frames g c =
 pub returns-clause-answers : goal.returns-clause-answers
 returns-clause-answers g c =
     let dues = map (due_shown c.args.accesses.now) c.args.dues.items in
-    c.copy_pages-jobs.ensures.answers ∙ ap (λ (v : FramesView). (all_done c.args.spaces.now.place (with_copies v.frames c.args.moves.now) dues).answers) c.self.view_is
+    c.copy_pages-jobs.ensures.answers ∙ ap (λ (v : FramesView). (all_done c.args.held.now.spaces.place (with_copies v.frames c.args.moves.now) dues).answers) c.self.view_is
 
 pub copy_pages-jobs-requires-clause-few : goal.copy_pages-jobs-requires-clause-few
 copy_pages-jobs-requires-clause-few g c κs within =

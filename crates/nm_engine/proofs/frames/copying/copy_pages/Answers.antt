@@ -21,14 +21,14 @@ copy_while-copied-requires-clause-tickets g c κs within t job at =
 
 pub copy_while-copied-requires-clause-work : goal.copy_while-copied-requires-clause-work
 copy_while-copied-requires-clause-work g c κs within = (
-  subst (λ (s : Store). AllByRecursion (CanDo c.args.spaces.now.place s) (map (due_shown c.args.accesses.now) c.args.dues.items)) (sym (c.replace-store.ensures.value ∙ c.take_out_each.ensures.frames)) c.requires.due,
+  subst (λ (s : Store). AllByRecursion (CanDo c.args.held.now.spaces.place s) (map (due_shown c.args.accesses.now) c.args.dues.items)) (sym (c.replace-store.ensures.value ∙ c.take_out_each.ensures.frames)) c.requires.due,
   (c.requires.room, (c.requires.unanswered, c.requires.space)),
 )
 
 pub put_back_each-requires : goal.put_back_each-requires
 put_back_each-requires g c =
     let k = vec_len c.args.jobs in
-    let place = c.args.spaces.now.place in
+    let place = c.args.held.now.spaces.place in
     let store = c.args.frames.now in
     let moves = c.args.moves.now in
     let dues = map (due_shown c.args.accesses.now) c.args.dues.items in
@@ -39,7 +39,7 @@ put_back_each-requires g c =
 pub returns-clause-frames : goal.returns-clause-frames
 returns-clause-frames g c =
     let k = vec_len c.args.jobs in
-    let place = c.args.spaces.now.place in
+    let place = c.args.held.now.spaces.place in
     let store = c.args.frames.now in
     let moves = c.args.moves.now in
     let dues = map (due_shown c.args.accesses.now) c.args.dues.items in
@@ -49,7 +49,7 @@ returns-clause-frames g c =
 
 pub returns-clause-answers : goal.returns-clause-answers
 returns-clause-answers g c =
-    let place = c.args.spaces.now.place in
+    let place = c.args.held.now.spaces.place in
     let store = c.args.frames.now in
     let moves = c.args.moves.now in
     let dues = map (due_shown c.args.accesses.now) c.args.dues.items in

@@ -12,7 +12,7 @@ pub loop-due-init : goal.loop-due-init
 loop-due-init g c =
     let all = c.into_iter-due-iterator.ensures.into_iter_gives.0 in
     let shown = due_shown c.args.accesses.now in
-    let place = c.args.spaces.now.place in
+    let place = c.args.held.now.spaces.place in
     let none = ap length c.requires.unanswered in
     let many = c.args.dues.ok.0 in
     let len = ap length all in
@@ -27,7 +27,7 @@ loop-due-init g c =
 
 pub finish_one-answer-requires-clause-due : goal.finish_one-answer-requires-clause-due
 finish_one-answer-requires-clause-due g c =
-    (subst (λ ds. AllByRecursion (CanDo c.args.spaces.now.place c.loop-due.store) (map (due_shown c.args.accesses.now) ds)) c.in-Some.ensures.steps.0 c.loop-due.invariant.due).0
+    (subst (λ ds. AllByRecursion (CanDo c.args.held.now.spaces.place c.loop-due.store) (map (due_shown c.args.accesses.now) ds)) c.in-Some.ensures.steps.0 c.loop-due.invariant.due).0
 
 pub finish_one-answer-requires-clause-room : goal.finish_one-answer-requires-clause-room
 finish_one-answer-requires-clause-room g c = (subst (λ ds. AllByRecursion HasRoom ds) c.in-Some.ensures.steps.0 c.loop-due.invariant.room).0
@@ -41,7 +41,7 @@ push_reserved-requires g c =
 pub loop-due-preserved : goal.loop-due-preserved
 loop-due-preserved g c =
     let shown = due_shown c.args.accesses.now in
-    let place = c.args.spaces.now.place in
+    let place = c.args.held.now.spaces.place in
     let store = c.loop-due.store in
     let one = c.in-Some.due in
     let rest = c.next.new.self.rest.items in
@@ -72,11 +72,11 @@ no_items (x ∷ xs) none = absurd (omega (arith, none))
 pub returns-clause-store : goal.returns-clause-store
 returns-clause-store g c =
     let ends = no_items c.loop-due.due-iterator.rest.items (sym c.loop-due.due-iterator.rest.ok.0 ∙ c.in-None.ensures.steps.0) in
-    ap (λ ds. (all_done c.args.spaces.now.place c.loop-due.store (map (due_shown c.args.accesses.now) ds)).store) (sym ends) ∙ c.loop-due.invariant.store
+    ap (λ ds. (all_done c.args.held.now.spaces.place c.loop-due.store (map (due_shown c.args.accesses.now) ds)).store) (sym ends) ∙ c.loop-due.invariant.store
 
 pub returns-clause-answers : goal.returns-clause-answers
 returns-clause-answers g c =
     let ends = no_items c.loop-due.due-iterator.rest.items (sym c.loop-due.due-iterator.rest.ok.0 ∙ c.in-None.ensures.steps.0) in
     let told = map (answer_shown {A = g.row.A.Denot}) c.loop-due.answers.items in
     sym (append-nil told)
-    ∙ ap (λ ds. told ++ (all_done c.args.spaces.now.place c.loop-due.store (map (due_shown c.args.accesses.now) ds)).answers) (sym ends) ∙ c.loop-due.invariant.answers
+    ∙ ap (λ ds. told ++ (all_done c.args.held.now.spaces.place c.loop-due.store (map (due_shown c.args.accesses.now) ds)).answers) (sym ends) ∙ c.loop-due.invariant.answers

@@ -8,10 +8,10 @@ use Rattle.nm_engine.proofs.frames.copying.finish.Given as goal
 abbrev pub invariant-loop-due : goal.invariant-loop-due
 invariant-loop-due g l =
     let rest = map (due_shown l.accesses) l.due-iterator.rest.items in
-    let all = all_done l.spaces.place l.fn.store (map (due_shown l.accesses) l.fn.dues.items) in record {
-      due : AllByRecursion (CanDo l.spaces.place l.store) rest;
+    let all = all_done l.held.spaces.place l.fn.store (map (due_shown l.accesses) l.fn.dues.items) in record {
+      due : AllByRecursion (CanDo l.held.spaces.place l.store) rest;
       room : AllByRecursion HasRoom l.due-iterator.rest.items;
-      store : (all_done l.spaces.place l.store rest).store ≡ all.store;
-      answers : map answer_shown l.answers.items ++ (all_done l.spaces.place l.store rest).answers ≡ all.answers;
+      store : (all_done l.held.spaces.place l.store rest).store ≡ all.store;
+      answers : map answer_shown l.answers.items ++ (all_done l.held.spaces.place l.store rest).answers ≡ all.answers;
       space : length l.answers.items + length l.due-iterator.rest.items ≤ vec_capacity l.answers;
     }

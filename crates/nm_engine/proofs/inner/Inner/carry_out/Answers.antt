@@ -1,6 +1,13 @@
-use Rattle.std.proofs.Common.{map, ap, sym, subst, ◌∙◌}
+use Rattle.std.proofs.Common.{◌≡◌, ◌<◌, List, [], map, ap, sym, subst, ◌∙◌}
 use Rattle.std.specs.List.{AllByRecursion}
+use Rattle.std.specs.Ordering.{nat_cmp}
+use Rattle.nm_types.specs.Map.{get}
+use Rattle.nm_types.specs.declared.taken.Taken.{Taken}
+use Rattle.nm_model.specs.definitions.Seen.{sight_in}
 use Rattle.nm_engine.specs.AddressSpaces.{SpacesView}
+use Rattle.nm_engine.specs.Moves.{CanRemap, all_moved}
+use Rattle.nm_engine.proofs.Together.Copies.{copies_apart}
+use Rattle.nm_engine.proofs.Tied.Held.{held_is_taken, frames_stay, takes_below}
 use Rattle.nm_engine.specs.Answering.{due_shown}
 use Rattle.nm_engine.specs.Copies.{CanCopy, HasBoth, emptied, with_copies}
 use Rattle.nm_model.specs.definitions.Early.{all_made, with_fronts, tos}
@@ -12,8 +19,12 @@ use Rattle.nm_engine.specs.Shown.{shown_by}
 use Rattle.nm_engine.proofs.Early.Carrying.{spaces_then, copied_frames, prepared, lefts_populated, both_whole, remap, can_copy, can_meanwhile, finished_shows, finished_told, finished_kept}
 use Rattle.nm_engine.proofs.inner.Inner.carry_out.Goals as goal
 
-pub move_pages-requires : goal.move_pages-requires
-move_pages-requires g c =
+-- the pages are in their new frames once they have arrived
+on_way : (z x y : SpacesView) (moves : List Taken) → z ≡ all_moved x moves → x ≡ y → z ≡ all_moved y moves
+on_way z x y moves held same = held ∙ ap (λ (y : SpacesView). all_moved y moves) same
+
+pub hold-held-requires-clause-moves : goal.hold-held-requires-clause-moves
+hold-held-requires-clause-moves g c =
     let i = c.self.inside in
     let y = i.spaces in
     let k : FramesView = i.frames in
@@ -22,10 +33,22 @@ move_pages-requires g c =
     let dues = map (due_shown c.args.accesses.now) c.args.dues.items in
     let h = prepared y k i.online i.totals.moved i.totals.failed t moves dues c.args.self.now c.self.view_is c.self.invariant c.vacate_each.ensures.shelf
     c.requires.target c.requires.taken c.requires.sound c.requires.moves c.requires.due c.vacate_each.ensures.populated in
-    remap y k i.online i.totals.moved i.totals.failed t moves dues h
+    subst (λ (z : SpacesView). CanRemap z moves) (sym c.replace-spaces.ensures.value) (remap y k i.online i.totals.moved i.totals.failed t moves dues h)
 
-pub copy_pages-requires-clause-can : goal.copy_pages-requires-clause-can
-copy_pages-requires-clause-can g c κs within =
+pub hold-held-requires-clause-apart : goal.hold-held-requires-clause-apart
+hold-held-requires-clause-apart g c =
+    let i = c.self.inside in
+    let y = i.spaces in
+    let k : FramesView = i.frames in
+    let moves = c.args.moves.now in
+    let t = c.args.target in
+    let dues = map (due_shown c.args.accesses.now) c.args.dues.items in
+    let h = prepared y k i.online i.totals.moved i.totals.failed t moves dues c.args.self.now c.self.view_is c.self.invariant c.vacate_each.ensures.shelf
+    c.requires.target c.requires.taken c.requires.sound c.requires.moves c.requires.due c.vacate_each.ensures.populated in
+    copies_apart moves k.frames (can_copy y k i.online i.totals.moved i.totals.failed t moves dues h)
+
+pub copy_pages-answers-requires-clause-can : goal.copy_pages-answers-requires-clause-can
+copy_pages-answers-requires-clause-can g c κs within =
     let i = c.self.inside in
     let y = i.spaces in
     let k : FramesView = i.frames in
@@ -36,8 +59,8 @@ copy_pages-requires-clause-can g c κs within =
     c.requires.target c.requires.taken c.requires.sound c.requires.moves c.requires.due c.vacate_each.ensures.populated in
     subst (λ (v : FramesView). CanCopy v.frames moves) (sym c.vacate_each.ensures.vacated) (can_copy y k i.online i.totals.moved i.totals.failed t moves dues h)
 
-pub copy_pages-requires-clause-populated : goal.copy_pages-requires-clause-populated
-copy_pages-requires-clause-populated g c κs within =
+pub copy_pages-answers-requires-clause-populated : goal.copy_pages-answers-requires-clause-populated
+copy_pages-answers-requires-clause-populated g c κs within =
     let i = c.self.inside in
     let y = i.spaces in
     let k : FramesView = i.frames in
@@ -54,8 +77,8 @@ vacate_each-requires-clause-populated g c =
     let dues = map (due_shown c.args.accesses.now) c.args.dues.items in
     lefts_populated i.spaces i.frames i.online i.totals.moved i.totals.failed c.args.target c.args.moves.now dues c.args.self.now c.self.view_is c.requires.sound c.requires.moves
 
-pub copy_pages-requires-clause-due : goal.copy_pages-requires-clause-due
-copy_pages-requires-clause-due g c κs within =
+pub copy_pages-answers-requires-clause-due : goal.copy_pages-answers-requires-clause-due
+copy_pages-answers-requires-clause-due g c κs within =
     let i = c.self.inside in
     let y = i.spaces in
     let k : FramesView = i.frames in
@@ -64,8 +87,26 @@ copy_pages-requires-clause-due g c κs within =
     let dues = map (due_shown c.args.accesses.now) c.args.dues.items in
     let h = prepared y k i.online i.totals.moved i.totals.failed t moves dues c.args.self.now c.self.view_is c.self.invariant c.vacate_each.ensures.shelf
     c.requires.target c.requires.taken c.requires.sound c.requires.moves c.requires.due c.vacate_each.ensures.populated in
-    subst (λ (z : SpacesView). AllByRecursion (CanDo z.place (emptied c.vacate_each.new.self.frames moves)) dues) (sym c.move_pages.ensures)
+    subst (λ (z : SpacesView). AllByRecursion (CanDo z.place (emptied c.vacate_each.new.self.frames moves)) dues) (sym (on_way c.hold-held.result.spaces c.replace-spaces.result y moves c.hold-held.ensures.spaces c.replace-spaces.ensures.value))
     (subst (λ (v : FramesView). AllByRecursion (CanDo (spaces_then y k i.online i.totals.moved i.totals.failed t moves dues).place (emptied v.frames moves)) dues) (sym c.vacate_each.ensures.vacated) (can_meanwhile y k i.online i.totals.moved i.totals.failed t moves dues h))
+
+pub settle-requires-clause-below : goal.settle-requires-clause-below
+settle-requires-clause-below g c =
+    let i = c.self.inside in
+    let y = i.spaces in
+    let k : FramesView = i.frames in
+    let moves = c.args.moves.now in
+    let t = c.args.target in
+    let dues = map (due_shown c.args.accesses.now) c.args.dues.items in
+    let h = prepared y k i.online i.totals.moved i.totals.failed t moves dues c.args.self.now c.self.view_is c.self.invariant c.vacate_each.ensures.shelf
+    c.requires.target c.requires.taken c.requires.sound c.requires.moves c.requires.due c.vacate_each.ensures.populated in
+    subst (λ n. AllByRecursion (λ (t : Taken). t.to < n) moves) (sym (ap (λ (z : SpacesView). z.frames) (on_way c.hold-held.result.spaces c.replace-spaces.result y moves c.hold-held.ensures.spaces c.replace-spaces.ensures.value) ∙ frames_stay moves y))
+    (takes_below moves y (remap y k i.online i.totals.moved i.totals.failed t moves dues h))
+
+pub settle-requires-clause-among : goal.settle-requires-clause-among
+settle-requires-clause-among g c f pid v held =
+    let y = c.replace-spaces.result in
+    held_is_taken [] y.place c.args.moves.now (sight_in (get nat_cmp y.processes pid) v) f (sym (c.hold-held.ensures.entries [] pid v) ∙ held)
 
 pub invariant_of-self : goal.invariant_of-self
 invariant_of-self g c =
@@ -77,9 +118,9 @@ invariant_of-self g c =
     let dues = map (due_shown c.args.accesses.now) c.args.dues.items in
     let h = prepared y k i.online i.totals.moved i.totals.failed t moves dues c.args.self.now c.self.view_is c.self.invariant c.vacate_each.ensures.shelf
     c.requires.target c.requires.taken c.requires.sound c.requires.moves c.requires.due c.vacate_each.ensures.populated in
-    let w = c.copy_pages.new.self in
-    let is = copied_frames y k i.online i.totals.moved i.totals.failed t moves dues c.vacate_each.new.self w c.move_pages.new.self c.vacate_each.ensures.vacated c.move_pages.ensures c.copy_pages.ensures.frames in
-    subst (λ (z : SpacesView). IsKept (shown_by z w i.online i.totals.moved i.totals.failed) w.vacated z.frames) (sym c.move_pages.ensures) (finished_kept y k i.online i.totals.moved i.totals.failed t moves dues h w is)
+    let w = c.copy_pages-answers.new.self in
+    let is = copied_frames y k i.online i.totals.moved i.totals.failed t moves dues c.vacate_each.new.self w c.hold-held.result.spaces c.vacate_each.ensures.vacated (on_way c.hold-held.result.spaces c.replace-spaces.result y moves c.hold-held.ensures.spaces c.replace-spaces.ensures.value) c.copy_pages-answers.ensures.frames in
+    subst (λ (z : SpacesView). IsKept (shown_by z w i.online i.totals.moved i.totals.failed) w.vacated z.frames) (sym (c.settle.ensures ∙ on_way c.hold-held.result.spaces c.replace-spaces.result y moves c.hold-held.ensures.spaces c.replace-spaces.ensures.value)) (finished_kept y k i.online i.totals.moved i.totals.failed t moves dues h w is)
 
 pub returns-clause-state : goal.returns-clause-state
 returns-clause-state g c =
@@ -91,9 +132,9 @@ returns-clause-state g c =
     let dues = map (due_shown c.args.accesses.now) c.args.dues.items in
     let h = prepared y k i.online i.totals.moved i.totals.failed t moves dues c.args.self.now c.self.view_is c.self.invariant c.vacate_each.ensures.shelf
     c.requires.target c.requires.taken c.requires.sound c.requires.moves c.requires.due c.vacate_each.ensures.populated in
-    let w = c.copy_pages.new.self in
-    let is = copied_frames y k i.online i.totals.moved i.totals.failed t moves dues c.vacate_each.new.self w c.move_pages.new.self c.vacate_each.ensures.vacated c.move_pages.ensures c.copy_pages.ensures.frames in
-    ap (λ (z : SpacesView). shown_by z w i.online i.totals.moved i.totals.failed) c.move_pages.ensures ∙ finished_shows y k i.online i.totals.moved i.totals.failed t moves dues h w is
+    let w = c.copy_pages-answers.new.self in
+    let is = copied_frames y k i.online i.totals.moved i.totals.failed t moves dues c.vacate_each.new.self w c.hold-held.result.spaces c.vacate_each.ensures.vacated (on_way c.hold-held.result.spaces c.replace-spaces.result y moves c.hold-held.ensures.spaces c.replace-spaces.ensures.value) c.copy_pages-answers.ensures.frames in
+    ap (λ (z : SpacesView). shown_by z w i.online i.totals.moved i.totals.failed) (c.settle.ensures ∙ on_way c.hold-held.result.spaces c.replace-spaces.result y moves c.hold-held.ensures.spaces c.replace-spaces.ensures.value) ∙ finished_shows y k i.online i.totals.moved i.totals.failed t moves dues h w is
     ∙ ap (λ (x : MidRun). (all_made (with_moves (with_fronts (x.state) t (tos moves)) t moves) dues).state) c.self.view_is
 
 pub returns-clause-answers : goal.returns-clause-answers
@@ -106,8 +147,8 @@ returns-clause-answers g c =
     let dues = map (due_shown c.args.accesses.now) c.args.dues.items in
     let h = prepared y k i.online i.totals.moved i.totals.failed t moves dues c.args.self.now c.self.view_is c.self.invariant c.vacate_each.ensures.shelf
     c.requires.target c.requires.taken c.requires.sound c.requires.moves c.requires.due c.vacate_each.ensures.populated in
-    c.copy_pages.ensures.answers
-    ∙ ap (λ (v : FramesView). (all_done c.move_pages.new.self.place (with_copies v.frames moves) dues).answers) c.vacate_each.ensures.vacated
-    ∙ ap (λ (z : SpacesView). (all_done z.place (with_copies k.frames moves) dues).answers) c.move_pages.ensures
+    c.copy_pages-answers.ensures.answers
+    ∙ ap (λ (v : FramesView). (all_done c.hold-held.result.spaces.place (with_copies v.frames moves) dues).answers) c.vacate_each.ensures.vacated
+    ∙ ap (λ (z : SpacesView). (all_done z.place (with_copies k.frames moves) dues).answers) (on_way c.hold-held.result.spaces c.replace-spaces.result y moves c.hold-held.ensures.spaces c.replace-spaces.ensures.value)
     ∙ finished_told y k i.online i.totals.moved i.totals.failed t moves dues h
     ∙ ap (λ (x : MidRun). (all_made (with_moves (with_fronts (x.state) t (tos moves)) t moves) dues).answers) c.self.view_is

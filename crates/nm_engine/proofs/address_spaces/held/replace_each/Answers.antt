@@ -1,16 +1,15 @@
 use Rattle.std.proofs.Common.{ap, subst, sym, ◌∙◌}
 use Rattle.std.specs.List.{AllByRecursion}
-use Rattle.nm_types.specs.declared.entry.Entry.TheVariants.{Frame}
-use Rattle.nm_engine.specs.ProcessTable.{IsThere, remapped}
+use Rattle.nm_engine.specs.ProcessTable.{IsThere, all_replaced}
 use Rattle.nm_engine.proofs.Tied.Remapped.{all_there_stay}
-use Rattle.nm_engine.proofs.address_spaces.remap.Goals as goal
+use Rattle.nm_engine.proofs.address_spaces.held.replace_each.Goals as goal
 
 pub loop-pid-init : goal.loop-pid-init
 loop-pid-init g c =
     let all = c.into_iter-pid-iterator.ensures.into_iter_gives ∙ c.iter-pid-items.ensures.rest in
     record {
       there = subst (AllByRecursion (IsThere c.args.tasks.now)) (sym all) c.requires;
-      made = ap (λ l. remapped c.args.tasks.now l c.args.frame) all;
+      made = ap (λ l. all_replaced c.args.tasks.now l c.args.entry.now) all;
     }
 
 pub replace-requires : goal.replace-requires
@@ -20,10 +19,10 @@ pub loop-pid-preserved : goal.loop-pid-preserved
 loop-pid-preserved g c =
     let there = subst (AllByRecursion (IsThere c.loop-pid.tasks)) c.in-Some.ensures.steps c.loop-pid.invariant.there in
     record {
-      there = subst (λ ts. AllByRecursion (IsThere ts) c.next.new.self) (sym c.replace.ensures) (all_there_stay c.loop-pid.tasks (Frame c.args.frame) c.in-Some.field-0.now c.next.new.self there.0 there.1);
-      made = ap (λ ts. remapped ts c.next.new.self c.args.frame) c.replace.ensures
-          ∙ sym (ap (λ l. remapped c.loop-pid.tasks l c.args.frame) c.in-Some.ensures.steps) ∙ c.loop-pid.invariant.made;
+      there = subst (λ ts. AllByRecursion (IsThere ts) c.next.new.self) (sym c.replace.ensures) (all_there_stay c.loop-pid.tasks c.args.entry.now c.in-Some.field-0.now c.next.new.self there.0 there.1);
+      made = ap (λ ts. all_replaced ts c.next.new.self c.args.entry.now) c.replace.ensures
+          ∙ sym (ap (λ l. all_replaced c.loop-pid.tasks l c.args.entry.now) c.in-Some.ensures.steps) ∙ c.loop-pid.invariant.made;
     }
 
 pub returns : goal.returns
-returns g c = sym (ap (λ l. remapped c.loop-pid.tasks l c.args.frame) c.in-None.ensures.steps.0) ∙ c.loop-pid.invariant.made
+returns g c = sym (ap (λ l. all_replaced c.loop-pid.tasks l c.args.entry.now) c.in-None.ensures.steps.0) ∙ c.loop-pid.invariant.made

@@ -1,12 +1,12 @@
 use Rattle.std.proofs.Common.{◌≡◌}
 use Rattle.std.specs.List.{AllByRecursion}
-use Rattle.nm_engine.specs.ProcessTable.{IsThere, remapped}
-use Rattle.nm_engine.proofs.address_spaces.remap.Given as goal
+use Rattle.nm_engine.specs.ProcessTable.{IsThere, all_replaced}
+use Rattle.nm_engine.proofs.address_spaces.held.replace_each.Given as goal
 
 -- what is done and what is left are all
 abbrev pub invariant-loop-pid : goal.invariant-loop-pid
 invariant-loop-pid g l =
     record {
       there : AllByRecursion (IsThere l.tasks) l.pid-iterator;
-      made : remapped l.tasks l.pid-iterator l.frame ≡ remapped l.initial.tasks l.mappings.keys l.frame;
+      made : all_replaced l.tasks l.pid-iterator l.entry ≡ all_replaced l.initial.tasks l.mappings.keys l.entry;
     }
