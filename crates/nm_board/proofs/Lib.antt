@@ -7,3 +7,4 @@ pub mod Filled
 pub mod Full
 pub mod Callers
 pub mod Staged
+pub mod Machined

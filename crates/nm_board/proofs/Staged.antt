@@ -12,7 +12,8 @@ use Rattle.nm_board.specs.declared.view.View.{View}
 use Rattle.nm_board.specs.Tickets.{hit, times, once_below}
 use Rattle.nm_board.specs.Rule.{total, IsKept, spent_view}
 use Rattle.nm_board.specs.Steps.{Mine, front, tickets, less, part, both}
-use Rattle.nm_board.specs.Stages.{Stage, Laid, InHand, Given, Moment, next_of, given_of, IsAt, EachIsAtOneStage, Stays, Moves, DrawTakesTheFirst, LateDrawTakesNone, GiveReturnsTheLast, SplitChangesNone, JoinChangesNone}
+use Rattle.nm_model.specs.definitions.RunMachine.{Stage, Laid, InHand, Given}
+use Rattle.nm_board.specs.Stages.{Moment, next_of, given_of, IsAt, EachIsAtOneStage, Stays, Moves, DrawTakesTheFirst, LateDrawTakesNone, GiveReturnsTheLast, SplitChangesNone, JoinChangesNone}
 use Rattle.nm_board.proofs.Counts.{times_append, hit_same, hit_other, lt_get, once_le, once_lt}
 use Rattle.nm_board.proofs.Sums.{total_set, total_snoc, total_has, total_le}
 

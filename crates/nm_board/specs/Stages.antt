@@ -1,20 +1,16 @@
 -- A board's words and hands show how far each job is.
-use Rattle.std.specs.Prelude.{◌≡◌, ◌≢◌, ℕ, ◌+◌, ◌<◌, ◌≤◌, Bool, List, [], ◌∷◌, ◌++◌, length, slice_index, slice_set, Option}
+use Rattle.std.specs.Prelude.{◌≡◌, ◌≢◌, ℕ, ◌+◌, ◌<◌, ◌≤◌, Bool, List, [], ◌∷◌, ◌++◌, length, slice_index, slice_set, Option, Some, slice_get}
 use mathlib.Core.Option.{some}
 use lib.ListN.{get_elem?}
 use Rattle.atomic_table.specs.Table.{State, Step, rest}
+use Rattle.nm_model.specs.definitions.Events.{drawn, given}
+use Rattle.nm_model.specs.definitions.RunMachine.{Job, Stage, Laid, InHand, Given}
 use Rattle.nm_frames.specs.declared.job.CopyJob.{CopyJob}
 use Rattle.nm_board.specs.declared.view.View.{View}
 use Rattle.nm_board.specs.Tickets.{times}
 use Rattle.nm_board.specs.Rule.{total, IsKept, spent_view}
 use Rattle.nm_board.specs.Steps.{Mine, Draws, Gives, less, part, both}
 use Rattle.nm_board.specs.Shown.{Fits}
-
--- a job lies on the board, is in a hand, or was given back
-pub data Stage : Type 0 where
-  Laid : Stage
-  InHand : (hand : ℕ) → Stage
-  Given : Stage
 
 -- a board at one moment: its words, its slots and what its hands know
 abbrev pub Moment : Type 0 → Type 0
@@ -77,6 +73,24 @@ GiveReturnsTheLast A = (jobs : List (CopyJob A)) (hand t : ℕ) (job : Option (C
     → (s : Step (Option (CopyJob A)))
     → Moves jobs hand 8 (given_of old + 1) old new me now → Gives s me (given_of old) now → me.1 ≡ (t, job) ∷ rest me.1
     → Turns old new t (InHand hand) Given
+
+-- a board shows jobs of the run machine: as many as it has, each at the stage that it is at
+pub record Shows {A : Type 0} (jobs : List (CopyJob A)) (s : Moment A) (shown : List Job) : Type 0 where
+  pub as_many : length shown ≡ length jobs
+  pub stages : (t : ℕ) (job : Job) → slice_get shown t ≡ Some job → IsAt s t job.stage
+
+-- a draw, even one that comes when no job is left, is the run machine's
+abbrev pub DrawIsTheMachines : Type 0 → Type 0
+DrawIsTheMachines A = (jobs : List (CopyJob A)) (hand : ℕ) (old new : Moment A) (me now : Mine A) (s : Step (Option (CopyJob A)))
+    → (shown : List Job) → Moves jobs hand 0 (next_of old + 1) old new me now → Draws s me (next_of old) now
+    → Shows jobs old shown → Shows jobs new (drawn hand shown)
+
+-- giving a job back is the run machine's
+abbrev pub GiveIsTheMachines : Type 0 → Type 0
+GiveIsTheMachines A = (jobs : List (CopyJob A)) (hand t : ℕ) (job : Option (CopyJob A)) (old new : Moment A) (me now : Mine A)
+    → (s : Step (Option (CopyJob A))) (shown : List Job)
+    → Moves jobs hand 8 (given_of old + 1) old new me now → Gives s me (given_of old) now → me.1 ≡ (t, job) ∷ rest me.1
+    → Shows jobs old shown → Shows jobs new (given t shown)
 
 -- a split changes no job's stage
 abbrev pub SplitChangesNone : Type 0 → Type 0

@@ -1,4 +1,5 @@
 use Rattle.nm_board.proofs.Staged.{draw_takes, late_takes, give_returns, split_changes, join_changes}
+use Rattle.nm_board.proofs.Machined.{draw_is, give_is}
 use Rattle.nm_board.proofs.laws.steps_are_events.Goals as goal
 
 pub returns-clause-draw : goal.returns-clause-draw
@@ -15,3 +16,9 @@ returns-clause-split g c = split_changes
 
 pub returns-clause-join : goal.returns-clause-join
 returns-clause-join g c = join_changes
+
+pub returns-clause-drawn : goal.returns-clause-drawn
+returns-clause-drawn g c = draw_is
+
+pub returns-clause-given : goal.returns-clause-given
+returns-clause-given g c = give_is
