@@ -12,7 +12,8 @@ use Rattle.nm_model.specs.definitions.Touch.{Access, AccessAnswer}
 use Rattle.nm_model.specs.definitions.Touch.{in_flight, all_in_flight}
 use Rattle.nm_model.specs.definitions.Run.{each, run}
 use Rattle.nm_model.specs.definitions.Run.{accesses_of, runs_from}
-use Rattle.nm_calls.specs.Calls.{Call, MovePages, Answer, Statuses}
+use Rattle.nm_steps.specs.Calls.{Call, MovePages}
+use Rattle.nm_calls.specs.Answers.{Answer, Statuses}
 use Rattle.nm_calls.specs.Batch.{list_at, runs_named, in_order}
 use Rattle.nm_calls.specs.Systems.{SystemState}
 use Rattle.nm_calls.specs.Outcome.{refused, start, runs_asked, runs_unless, accesses_asked, ended, unless}

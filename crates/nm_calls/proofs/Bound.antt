@@ -10,7 +10,8 @@ use Rattle.nm_model.specs.definitions.Run.{runs_from}
 use Rattle.nm_model.specs.definitions.Effect.{pages_of}
 use Rattle.nm_calls.specs.declared.call_error.CallError.{CallError}
 use Rattle.nm_calls.specs.declared.call_error.CallError.TheVariants.{Refused, HostMemory}
-use Rattle.nm_calls.specs.Calls.{Call, Mbind, Refusal, Failed}
+use Rattle.nm_steps.specs.Calls.{Call, Mbind}
+use Rattle.nm_calls.specs.Answers.{Refusal, Failed}
 use Rattle.nm_calls.specs.Systems.{SystemState, in_state}
 use Rattle.nm_calls.specs.Binding.{mbind_refusal, binding, mbind_runs, policed, tells_late, still_strays}
 use Rattle.nm_calls.specs.Outcome.{refused, refused_at_once, start, started, sets_policy, runs_asked, accesses_asked, runs_of, runs_unless, ended, outcome, late_answer, leaves, states_of, trail}

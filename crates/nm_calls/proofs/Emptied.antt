@@ -19,7 +19,8 @@ use Rattle.nm_model.specs.definitions.Run.{IsByPage, HasOneAll}
 use Rattle.nm_calls.specs.declared.call_error.CallError.{CallError}
 use Rattle.nm_calls.specs.declared.call_error.CallError.TheVariants.{Refused, HostMemory}
 use Rattle.nm_types.specs.declared.errno.Errno.TheVariants.{Ebusy}
-use Rattle.nm_calls.specs.Calls.{Call, Offline, Refusal, Done}
+use Rattle.nm_steps.specs.Calls.{Call, Offline}
+use Rattle.nm_calls.specs.Answers.{Refusal, Done}
 use Rattle.nm_calls.specs.Migrating.{is_on}
 use Rattle.nm_calls.specs.Passes.{passes}
 use Rattle.nm_calls.specs.Systems.{SystemState, in_state}

@@ -20,7 +20,7 @@ use Rattle.nm_types.specs.declared.process.ProcessInfo.{ProcessInfo}
 use Rattle.nm_model.specs.definitions.Run.{IsByAddress}
 use Rattle.nm_calls.specs.Permission.{owner_of, info_at}
 use Rattle.nm_calls.specs.Permission.{usable}
-use Rattle.nm_calls.specs.Calls.{MigratePages}
+use Rattle.nm_steps.specs.Calls.{MigratePages}
 use Rattle.nm_calls.specs.Outcome.{refused, runs_asked, runs_unless}
 use Rattle.nm_calls.specs.MigrateLaws.{RunsGoToNodesOnline}
 use Rattle.nm_calls.proofs.Requests.{cut_targets}

@@ -9,7 +9,7 @@ use Rattle.nm_model.specs.definitions.Touch.{Access}
 use Rattle.nm_model.specs.definitions.Run.{runs_from}
 use Rattle.nm_calls.specs.declared.call_error.CallError.{CallError}
 use Rattle.nm_calls.specs.declared.call_error.CallError.TheVariants.{Refused, HostMemory}
-use Rattle.nm_calls.specs.declared.call.Moved.{Moved}
+use Rattle.nm_calls.specs.declared.answer.Moved.{Moved}
 use Rattle.nm_calls.specs.Errors.{out_of_memory}
 use Rattle.nm_calls.specs.Does.{Moves}
 use Rattle.nm_calls.specs.Making.{Batches, Stops, Keeps, Empties}

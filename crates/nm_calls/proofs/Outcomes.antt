@@ -5,7 +5,8 @@ use Rattle.nm_types.specs.declared.errno.Errno.{Errno}
 use Rattle.nm_types.specs.State.{State}
 use Rattle.nm_model.specs.definitions.Cut.{Stretch}
 use Rattle.nm_model.specs.definitions.Run.{runs_from}
-use Rattle.nm_calls.specs.Calls.{Call, Refusal}
+use Rattle.nm_steps.specs.Calls.{Call}
+use Rattle.nm_calls.specs.Answers.{Refusal}
 use Rattle.nm_calls.specs.Systems.{SystemState, in_state}
 use Rattle.nm_calls.specs.Outcome.{Outcome, refused, refused_at_once, start, started, sets_policy, runs_asked, runs_of, runs_unless, accesses_asked, ended, outcome, states_from, trail}
 use Rattle.nm_calls.specs.Does.{LeavesSome, HostLeaves}

@@ -6,7 +6,8 @@ use Rattle.nm_model.specs.definitions.Touch as engine
 use Rattle.nm_model.specs.definitions.Touch.{read, write}
 use Rattle.nm_model.specs.definitions.Run.{Ran}
 use Rattle.nm_model.specs.definitions.Run.{runs_from}
-use Rattle.nm_calls.specs.Calls.{Call, Spawn, MapPages, Attach, Unmap, Exit, Pin, Unpin, ReadBytes, WriteBytes, MovePages, MigratePages, Query, FreeList, Pagemap, Vmstat, NumaMaps, Mbind, Offline, Online, Answer, Refusal, Done, Held, Failed, NewSegment, TheBytes, Statuses, Frames, Entries, TheTotals, Lines}
+use Rattle.nm_steps.specs.Calls.{Call, Spawn, MapPages, Attach, Unmap, Exit, Pin, Unpin, ReadBytes, WriteBytes, MovePages, MigratePages, Query, FreeList, Pagemap, Vmstat, NumaMaps, Mbind, Offline, Online}
+use Rattle.nm_calls.specs.Answers.{Answer, Refusal, Done, Held, Failed, NewSegment, TheBytes, Statuses, Frames, Entries, TheTotals, Lines}
 use Rattle.nm_calls.specs.Systems.{SystemState}
 use Rattle.nm_calls.specs.Outcome.{refusal_in, shown, refused, start, runs_asked, accesses_asked, ended, unless, late_answer, emptied}
 use Rattle.std.specs.Prelude.{◌⊎◌, ◌&&◌, if◌then◌else◌}

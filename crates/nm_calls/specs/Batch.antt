@@ -15,9 +15,9 @@ use Rattle.std.specs.declared.vec.IntoIter.{IntoIter}
 use Rattle.nm_types.specs.declared.access.Access.{Access as Asked}
 use Rattle.nm_engine.specs.declared.answered.AccessAnswer.{AccessAnswer as Given}
 use Rattle.nm_model.specs.definitions.Touch.{Access, AccessAnswer}
-use Rattle.nm_engine.specs.Answering.{access_shown, answer_shown}
+use Rattle.nm_model.specs.views.Asked.{access_shown}
+use Rattle.nm_engine.specs.Answering.{answer_shown}
 use Rattle.nm_model.specs.definitions.Run.{accesses_of}
-use Rattle.nm_calls.specs.declared.call.InFlight.{InFlight}
 
 -- the nodes that a process may use, if it exists
 abbrev pub allowed_at : State → ℕ → Option (List ℕ)
@@ -37,10 +37,6 @@ move_refusal s caller pid nodes flags =
 abbrev pub requests_of : ℕ → Bool → List ℕ → List ℕ → List Request
 requests_of pid all addresses nodes =
     map (λ e. record { target = e.1; wanted = At pid (e.0 / 4096) all }) (zip addresses nodes)
-
--- accesses, each with the number of the run in which it is made
-abbrev pub shown_during : {A : Type 0} → List (InFlight A) → List (ℕ × Access)
-shown_during during = map (λ d. (d.run, access_shown d.access)) during
 
 -- the numbers of the runs that accesses name, in order
 abbrev pub runs_named : List (ℕ × Access) → List ℕ

@@ -8,9 +8,10 @@ use Rattle.nm_model.specs.definitions.Effect.{new_machine, spawn, map_new, attac
 use Rattle.nm_model.specs.definitions.Effect.{map_refusal}
 use Rattle.nm_model.specs.definitions.Touch.{read, write, Bytes, Refused}
 use Rattle.nm_model.specs.examples.{A, B, C, D, E, three_nodes, one_process, with_second, wrote, three_pages, seen_by_two, frame_at}
-use Rattle.nm_calls.specs.Calls.{Call, Mbind, Answer, Refusal, Failed}
+use Rattle.nm_steps.specs.Calls.{Call, Mbind, default_limit}
+use Rattle.nm_calls.specs.Answers.{Answer, Refusal, Failed}
 use Rattle.nm_calls.specs.Outcome.{Outcome, outcome, runs_of, after_runs}
-use Rattle.nm_calls.specs.Systems.{SystemState, default_limit}
+use Rattle.nm_calls.specs.Systems.{SystemState}
 use Rattle.nm_calls.specs.Maps.{set_text, numa_maps}
 use Rattle.nm_calls.specs.Binding.{MPOL_DEFAULT, MPOL_PREFERRED, MPOL_BIND, MPOL_INTERLEAVE}
 

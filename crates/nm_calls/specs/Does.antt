@@ -8,8 +8,9 @@ use Rattle.nm_model.specs.definitions.Run.{runs_from, answer_of}
 use Rattle.nm_engine.specs.Answering.{answer_shown}
 use Rattle.nm_calls.specs.declared.call_error.CallError.{CallError}
 use Rattle.nm_calls.specs.declared.call_error.CallError.TheVariants.{Refused, HostMemory}
-use Rattle.nm_calls.specs.declared.call.Moved.{Moved}
-use Rattle.nm_calls.specs.Calls.{Call, Answer, Refusal}
+use Rattle.nm_calls.specs.declared.answer.Moved.{Moved}
+use Rattle.nm_steps.specs.Calls.{Call}
+use Rattle.nm_calls.specs.Answers.{Answer, Refusal}
 use Rattle.nm_calls.specs.Batch.{runs_named, in_order}
 use Rattle.nm_calls.specs.Systems.{SystemState}
 use Rattle.nm_calls.specs.Outcome.{refused_at_once, outcome, sets_policy, runs_of, after_runs, states_from}

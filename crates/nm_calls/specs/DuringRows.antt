@@ -6,7 +6,8 @@ use Rattle.nm_model.specs.definitions.Status.{code}
 use Rattle.nm_model.specs.definitions.Effect.{map_new, attach}
 use Rattle.nm_model.specs.definitions.Touch.{Access, Read, Write, Bytes, Done, Held, Refused}
 use Rattle.nm_model.specs.examples.{A, B, C, D, E, three_pages, four_of_five, six_pages, shared_page, frame_at}
-use Rattle.nm_calls.specs.Calls.{MovePages, Statuses, Refusal}
+use Rattle.nm_steps.specs.Calls.{MovePages}
+use Rattle.nm_calls.specs.Answers.{Statuses, Refusal}
 use Rattle.nm_calls.specs.Systems.{SystemState}
 use Rattle.nm_calls.specs.Outcome.{Outcome, outcome}
 use Rattle.nm_calls.specs.BindingRows.{system_in, left_in}

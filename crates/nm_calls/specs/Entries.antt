@@ -2,7 +2,7 @@
 use Rattle.std.specs.Prelude.{ℕ, List, map, Option, Some, None}
 use Rattle.nm_types.specs.declared.entry.Entry.{Entry}
 use Rattle.nm_types.specs.declared.entry.Entry.TheVariants.{Zero, Frame, Held}
-use Rattle.nm_calls.specs.declared.call.PagemapEntry.{PagemapEntry}
+use Rattle.nm_calls.specs.declared.answer.PagemapEntry.{PagemapEntry}
 
 -- the frame of an entry; none for the page of zeros
 abbrev pub frame_shown : Entry → Option ℕ

@@ -9,7 +9,8 @@ use Rattle.nm_model.specs.definitions.Touch.{Access, AccessAnswer}
 use Rattle.nm_model.specs.definitions.Run.{runs_from}
 use Rattle.nm_model.specs.definitions.Sound.{IsSound}
 use Rattle.nm_laws.specs.Laws.{runs_written}
-use Rattle.nm_calls.specs.Calls.{Call, MapPages, Attach, Unmap, Exit, WriteBytes, MovePages, Mbind, Offline, Refusal, Statuses}
+use Rattle.nm_steps.specs.Calls.{Call, MapPages, Attach, Unmap, Exit, WriteBytes, MovePages, Mbind, Offline}
+use Rattle.nm_calls.specs.Answers.{Refusal, Statuses}
 use Rattle.nm_calls.specs.Batch.{runs_named, in_order, by_place}
 use Rattle.nm_calls.specs.Systems.{SystemState}
 use Rattle.nm_calls.specs.Outcome.{refused, start, started, outcome, runs_of, accesses_asked, trail}

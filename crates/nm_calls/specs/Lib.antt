@@ -1,4 +1,4 @@
-pub mod Calls
+pub mod Answers
 pub mod DuringRows
 pub mod Errors
 pub mod Maps

@@ -9,7 +9,7 @@ use Rattle.nm_types.specs.declared.page.Page.{Page}
 use Rattle.nm_policy.specs.Pairs.{pairs}
 use Rattle.nm_calls.specs.Migrating.{pages_on}
 use Rattle.nm_calls.specs.Systems.{SystemState}
-use Rattle.nm_calls.specs.Calls.{MigratePages}
+use Rattle.nm_steps.specs.Calls.{MigratePages}
 use Rattle.nm_calls.specs.Outcome.{runs_of}
 
 -- the pages of a process that go from some nodes to others, in the order of the list

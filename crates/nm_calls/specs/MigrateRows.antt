@@ -5,8 +5,9 @@ use Rattle.nm_types.specs.Layout.{Layout}
 use Rattle.nm_types.specs.State.{State}
 use Rattle.nm_model.specs.definitions.Effect.{new_machine, spawn, map_new, pin}
 use Rattle.nm_model.specs.examples.{A, B, C, one_process, with_second, wrote, three_pages, two_addresses, six_pages, seen_by_two, on_two_of_three, frame_at}
-use Rattle.nm_calls.specs.Systems.{SystemState, default_limit}
-use Rattle.nm_calls.specs.Calls.{Call, MigratePages, Answer, Failed}
+use Rattle.nm_steps.specs.Calls.{default_limit, Call, MigratePages}
+use Rattle.nm_calls.specs.Systems.{SystemState}
+use Rattle.nm_calls.specs.Answers.{Answer, Failed}
 use Rattle.nm_calls.specs.Outcome.{refused, outcome, trail}
 
 -- a system in this state, with this limit on runs

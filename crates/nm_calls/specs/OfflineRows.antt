@@ -6,7 +6,8 @@ use Rattle.nm_types.specs.State.{State}
 use Rattle.nm_model.specs.definitions.Effect.{new_machine, spawn, map_new, exit, pin, set_online}
 use Rattle.nm_model.specs.definitions.Touch.{read, write, Bytes, Refused}
 use Rattle.nm_model.specs.examples.{A, B, C, D, E, one_process, wrote, three_pages, attached_by_two, seen_by_two, frame_at}
-use Rattle.nm_calls.specs.Calls.{Call, Answer, MovePages, MigratePages, Mbind, Offline, Refusal, Done, Failed}
+use Rattle.nm_steps.specs.Calls.{Call, MovePages, MigratePages, Mbind, Offline}
+use Rattle.nm_calls.specs.Answers.{Answer, Refusal, Done, Failed}
 use Rattle.nm_calls.specs.Outcome.{refused, outcome, trail, after_runs}
 use Rattle.nm_calls.specs.Binding.{MPOL_BIND}
 use Rattle.nm_calls.specs.BindingRows.{system_in, left_in, narrow}

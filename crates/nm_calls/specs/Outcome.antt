@@ -12,7 +12,8 @@ use Rattle.nm_model.specs.definitions.Run.{Ran, run}
 use Rattle.nm_model.specs.definitions.Run.{accesses_of, runs_from, answer_of}
 use Rattle.nm_model.specs.definitions.PageTables.{entries_of}
 use Rattle.nm_model.specs.definitions.Status.{node_status}
-use Rattle.nm_calls.specs.Calls.{Call, Spawn, MapPages, Attach, Unmap, Exit, Pin, Unpin, ReadBytes, WriteBytes, MovePages, MigratePages, Query, FreeList, Pagemap, Vmstat, NumaMaps, Mbind, Offline, Online, Answer, Refusal, Done, Held, NewSegment, TheBytes, Statuses, Failed, Frames, Entries, TheTotals, Lines}
+use Rattle.nm_steps.specs.Calls.{Call, Spawn, MapPages, Attach, Unmap, Exit, Pin, Unpin, ReadBytes, WriteBytes, MovePages, MigratePages, Query, FreeList, Pagemap, Vmstat, NumaMaps, Mbind, Offline, Online}
+use Rattle.nm_calls.specs.Answers.{Answer, Refusal, Done, Held, NewSegment, TheBytes, Statuses, Failed, Frames, Entries, TheTotals, Lines}
 use Rattle.nm_calls.specs.Entries.{entries_shown}
 use Rattle.nm_calls.specs.Maps.{numa_maps}
 use Rattle.nm_calls.specs.Permission.{query_refusal, moves_all, owner_of}

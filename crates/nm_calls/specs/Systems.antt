@@ -3,15 +3,12 @@ use Rattle.std.specs.Prelude.{ℕ}
 use Rattle.nm_types.specs.Layout.{Layout}
 use Rattle.nm_types.specs.State.{State}
 use Rattle.nm_model.specs.definitions.Effect.{new_machine}
+use Rattle.nm_steps.specs.Calls.{default_limit}
 
 -- the state of its machine, and the most entries that a run may have
 pub record SystemState : Type 0 where
   pub state : State
   pub run_limit : ℕ
-
--- the most entries that a run may have by default: as many as a batch
-abbrev pub default_limit : ℕ
-default_limit = 16384
 
 -- a new machine with these nodes, and this limit on runs
 abbrev pub system_with : Layout → ℕ → SystemState

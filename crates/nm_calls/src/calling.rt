@@ -2,18 +2,20 @@
 
 ghost use Rattle.std.specs.Prelude.{map};
 ghost use Rattle.nm_engine.specs.Answering.{answer_shown};
-ghost use Rattle.nm_calls.specs.Calls as calls;
+ghost use Rattle.nm_steps.specs.Calls as calls;
+ghost use Rattle.nm_calls.specs.Answers as answers;
 ghost use Rattle.nm_calls.specs.Does.{Does};
-ghost use Rattle.nm_calls.specs.Batch.{shown_during};
-ghost use Rattle.nm_calls.specs.Views.{call_of, answer_of};
+ghost use Rattle.nm_steps.specs.Views.{shown_during, call_of};
+ghost use Rattle.nm_calls.specs.Views.{answer_of};
 
-use crate::call::{
-    Answer, Attachment, Batch, Call, MbindRequest, MigrateRequest, MoveRequest, Moved, NewArea,
-    NewProcess, Question,
-};
+use crate::answer::{Answer, Moved};
 use crate::call_error::CallError;
 use crate::system::System;
 use nm_crew::Gate;
+use nm_steps::{
+    Attachment, Batch, Call, MbindRequest, MigrateRequest, MoveRequest, NewArea, NewProcess,
+    Question,
+};
 use nm_types::NodeId;
 use std::alloc::Allocator;
 use std::sync::Wait;
@@ -43,7 +45,7 @@ fn map<A: Allocator + Copy + Send + Sync>(
     system: &mut System<A>,
     area: &NewArea,
 ) -> Result<u32, CallError>
-    ensures { Does calls.NewSegment result system.old system.new
+    ensures { Does answers.NewSegment result system.old system.new
         (calls.MapPages area.now.pid area.now.addr area.now.pages area.now.shared) }
 {
     let NewArea {
@@ -81,7 +83,7 @@ fn move_pages<R: Threads + Wait + Sync, A: Allocator + Copy + Send + Sync, G: Ga
     request: &MoveRequest<A>,
     gate: &G,
 ) -> Result<Moved<A>, CallError>
-    ensures { Does (λ moved. calls.Statuses moved.failed moved.statuses.items (map answer_shown moved.answers.items)) result system.old system.new
+    ensures { Does (λ moved. answers.Statuses moved.failed moved.statuses.items (map answer_shown moved.answers.items)) result system.old system.new
         (calls.MovePages request.now.caller request.now.pid request.now.batch.pages.items request.now.batch.nodes.items request.now.flags (shown_during request.now.during.items)) }
 {
     let MoveRequest {
@@ -111,7 +113,7 @@ fn migrate_pages<R: Threads + Wait + Sync, A: Allocator + Copy + Send + Sync, G:
     request: &MigrateRequest,
     gate: &G,
 ) -> Result<usize, CallError>
-    ensures { Does calls.Failed result system.old system.new
+    ensures { Does answers.Failed result system.old system.new
         (calls.MigratePages request.now.caller request.now.pid request.now.old request.now.new) }
 {
     let MigrateRequest {
@@ -174,7 +176,7 @@ fn query<A: Allocator + Copy + Send + Sync>(
     system: &System<A>,
     question: &Question<A>,
 ) -> Result<Moved<A>, CallError>
-    ensures { Does (λ moved. calls.Statuses moved.failed moved.statuses.items (map answer_shown moved.answers.items)) result system.now system.now
+    ensures { Does (λ moved. answers.Statuses moved.failed moved.statuses.items (map answer_shown moved.answers.items)) result system.now system.now
         (calls.Query question.now.caller question.now.pid question.now.pages.items question.now.flags) }
 {
     let Question {

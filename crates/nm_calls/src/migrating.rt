@@ -11,8 +11,8 @@ ghost use Rattle.nm_calls.specs.Permission.{info_at};
 ghost use Rattle.nm_calls.specs.Permission.{usable};
 ghost use Rattle.nm_calls.specs.Migrating.{new_refusal, migrate_refusal, migration, migrate_list};
 
+use crate::answer::Moved;
 use crate::batch::move_runs;
-use crate::call::{InFlight, Moved};
 use crate::call_error::CallError;
 use crate::listing::migrate_list;
 use crate::permission::{acted_on, owner_of, usable};
@@ -20,6 +20,7 @@ use nm_crew::{Crew, Gate};
 use nm_engine::{Machine, ProcessInfo};
 use nm_policy::pairs;
 use nm_runs::cut_within;
+use nm_steps::InFlight;
 use nm_types::{Errno, NodeMask, Pid};
 use std::alloc::Allocator;
 use std::sync::Wait;

@@ -16,11 +16,11 @@ ghost use Rattle.nm_calls.specs.Full.{StandsOn, AreStanding, WouldMove};
 ghost use Rattle.nm_calls.specs.Making.{Batches, MakesRuns, later, IsCounted, IsLeft};
 
 use crate::batch::move_runs;
-use crate::call::InFlight;
 use crate::call_error::CallError;
 use nm_crew::{Crew, Gate};
 use nm_engine::Machine;
 use nm_runs::{Request, Wanted, cut_within};
+use nm_steps::InFlight;
 use nm_types::{Errno, NodeId, NodeMask};
 use std::alloc::{AllocError, Allocator};
 use std::sync::Wait;

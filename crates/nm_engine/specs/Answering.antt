@@ -1,4 +1,4 @@
--- Accesses, their answers and what is left to do for them, as contracts see the values of the code.
+-- Answers to accesses, and what is left to do for them, as contracts see the values of the code.
 use Rattle.std.specs.Prelude.{◌≡◌, ◌≤◌, ℕ, vec_capacity, List, [], slice_get, Option, Some, None}
 use Rattle.nm_types.specs.declared.access.Access.{Access as Asked}
 use Rattle.nm_types.specs.declared.access.Access.TheVariants as asked
@@ -6,15 +6,10 @@ use Rattle.nm_engine.specs.declared.answered.AccessAnswer.{AccessAnswer as Given
 use Rattle.nm_engine.specs.declared.answered.AccessAnswer.TheVariants as given
 use Rattle.nm_engine.specs.declared.inner.due.Due.{Due as Left}
 use Rattle.nm_engine.specs.declared.inner.due.Due.TheVariants as left
-use Rattle.nm_model.specs.definitions.Touch.{Access, Read, Write, AccessAnswer, Bytes, Done, Held, Refused}
+use Rattle.nm_model.specs.definitions.Touch.{AccessAnswer, Bytes, Done, Held, Refused}
 use Rattle.nm_model.specs.definitions.Early.{Due, Known, ToRead, ToWrite}
 
 module _ {A : Type 0} where
-  -- an access
-  abbrev pub access_shown : Asked A → Access
-  access_shown (asked.Read pid addr len) = Read pid addr len
-  access_shown (asked.Write pid addr bytes) = Write pid addr bytes.items
-
   -- an answer
   abbrev pub answer_shown : Given A → AccessAnswer
   answer_shown (given.Bytes bytes) = Bytes bytes.items

@@ -6,17 +6,17 @@ use Rattle.nm_types.proofs.Cases.{some_is, none_some}
 use Rattle.nm_model.specs.definitions.Memory.{mem}
 use Rattle.nm_model.specs.definitions.Sound.{IsSound}
 use Rattle.nm_laws.proofs.Soundness.New.{new_sound}
-use Rattle.nm_calls.specs.Calls.{Call}
+use Rattle.nm_steps.specs.Calls.{Call}
 use Rattle.nm_calls.specs.Outcome.{outcome}
 use Rattle.nm_calls.specs.Systems.{SystemState, system_with}
 use Rattle.nm_calls.proofs.Bytes.{calls_keep_memory}
 use Rattle.nm_calls.proofs.Staying.{calls_stay_sound}
-use Rattle.nm_trace.specs.Faults.{Plan}
+use Rattle.nm_steps.specs.Faults.{Plan}
 use Rattle.nm_trace.specs.Headline.{summary_of, KeepMemory, IsPlayed}
 use Rattle.nm_trace.specs.Played.{Plays}
 use Rattle.nm_trace.specs.Report.{report_from, state_after}
 use Rattle.nm_trace.specs.declared.playing.Summary.{Summary}
-use Rattle.nm_trace.specs.declared.trace_error.TraceError.{TraceError}
+use Rattle.nm_steps.specs.declared.trace_error.TraceError.{TraceError}
 
 all_sound : (s : SystemState) (calls : List Call) → IsSound s.state → IsSound (state_after s calls).state
 all_sound s [] h = h

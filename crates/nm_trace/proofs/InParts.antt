@@ -4,7 +4,7 @@ use Rattle.std.proofs.lemmas.List.{take_more, take-append-drop, append-nil, leng
 use Rattle.std.proofs.Math.ListN.{get_or-map}
 use Rattle.std.specs.Io.KnownBytes.{Appends}
 use Rattle.nm_calls.specs.Systems.{SystemState}
-use Rattle.nm_calls.specs.Calls.{Call}
+use Rattle.nm_steps.specs.Calls.{Call}
 use Rattle.nm_calls.specs.Outcome.{Outcome, outcome}
 use Rattle.nm_trace.specs.Report.{text_of, report_from, state_after}
 use Rattle.nm_trace.specs.Played.{BreaksOff}

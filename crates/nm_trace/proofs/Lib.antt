@@ -1,13 +1,8 @@
-pub mod Each
 pub mod Sessions
-pub mod Utf8
 pub mod Known
 pub mod InParts
 pub mod FromBytes
 pub mod Headlines
 pub mod Lines
-pub mod Least
 pub mod Told
-pub mod Trees
-pub mod Shorts
 pub mod Waits

@@ -6,10 +6,11 @@ use Rattle.std.specs.List.{flat_map}
 use Rattle.std.specs.Prelude.{slice_index}
 use Rattle.hex.specs.Hex.{encode_with, encode_lower}
 use Rattle.nm_model.specs.definitions.Touch.{AccessAnswer}
-use Rattle.nm_engine.specs.Answering.{access_shown, answer_shown}
+use Rattle.nm_model.specs.views.Asked.{access_shown}
+use Rattle.nm_engine.specs.Answering.{answer_shown}
 use Rattle.nm_engine.specs.declared.answered.AccessAnswer.{AccessAnswer as Given}
-use Rattle.nm_calls.specs.declared.call.InFlight.{InFlight}
-use Rattle.nm_calls.specs.Batch.{shown_during}
+use Rattle.nm_steps.specs.declared.call.InFlight.{InFlight}
+use Rattle.nm_steps.specs.Views.{shown_during}
 use Rattle.nm_trace.specs.Report.{access_line, access_lines}
 
 -- the list up to a place, and the item there

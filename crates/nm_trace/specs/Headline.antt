@@ -3,15 +3,15 @@ use Rattle.std.specs.Prelude.{◌≡◌, ℕ, ◌+◌, false, List, length, take
 use Rattle.std.specs.Io.KnownBytes.{Appends}
 use Rattle.nm_model.specs.definitions.Memory.{mem}
 use Rattle.nm_model.specs.definitions.Sound.{IsSound}
-use Rattle.nm_calls.specs.Calls.{Call}
+use Rattle.nm_steps.specs.Calls.{Call}
 use Rattle.nm_calls.specs.Laws.{writes_or_maps, byte_after}
 use Rattle.nm_calls.specs.Outcome.{runs_of}
 use Rattle.nm_calls.specs.Systems.{SystemState, system_with}
-use Rattle.nm_trace.specs.Faults.{Plan}
+use Rattle.nm_steps.specs.Faults.{Plan}
 use Rattle.nm_trace.specs.Played.{report_of}
 use Rattle.nm_trace.specs.Report.{state_after}
 use Rattle.nm_trace.specs.declared.playing.Summary.{Summary}
-use Rattle.nm_trace.specs.declared.trace_error.TraceError.{TraceError}
+use Rattle.nm_steps.specs.declared.trace_error.TraceError.{TraceError}
 
 -- the result of a run from bytes, without the system that it leaves
 abbrev pub summary_of : {P : Type 0} → (P → Summary) → Result P TraceError → Result Summary TraceError

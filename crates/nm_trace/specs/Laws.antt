@@ -1,23 +1,8 @@
--- What holds of faults and reports, and a worked report.
-use Rattle.std.specs.Prelude.{◌≡◌, ℕ, zero, suc, ◌<◌, [], ◌∷◌, ◌++◌, Option, Some, None, IsSome, codes, false}
-use Rattle.serde_json.specs.Data.{Data, Items, no_items, item}
-use Rattle.nm_calls.specs.Calls.{Spawn, MapPages, ReadBytes, WriteBytes, MovePages, FreeList, Pagemap}
-use Rattle.nm_trace.specs.Form.{each, step_of}
-use Rattle.nm_trace.specs.Faults.{Plan, first_bad}
+-- A worked report.
+use Rattle.std.specs.Prelude.{◌≡◌, [], ◌∷◌, ◌++◌, codes, false}
+use Rattle.nm_steps.specs.Calls.{Spawn, MapPages, ReadBytes, WriteBytes, MovePages, FreeList, Pagemap}
+use Rattle.nm_steps.specs.Faults.{Plan}
 use Rattle.nm_trace.specs.Played.{report_of}
-
--- the item at an index
-abbrev pub item_at : Items → ℕ → Option Data
-item_at no_items k = None
-item_at (item d ds) zero = Some d
-item_at (item d ds) (suc k) = item_at ds k
-
--- if not every item is a step, the one that is reported is not, and all before it are
-abbrev pub FirstBadIsLeast : Type 0
-FirstBadIsLeast =
-    (limit : ℕ) (ds : Items) → each (step_of limit) ds ≡ None →
-    ((d : Data) × (item_at ds (first_bad limit ds) ≡ Some d) × (step_of limit d ≡ None))
-    × ((k : ℕ) → k < first_bad limit ds → (d : Data) × (item_at ds k ≡ Some d) × IsSome (step_of limit d))
 
 -- three pages of a process, written on node 0, moved to node 1 and read there
 abbrev pub three_pages : Plan

@@ -1,8 +1,3 @@
-pub mod Tree
-pub mod Form
-pub mod Gives
-pub mod Faults
-pub mod Plans
 pub mod Report
 pub mod Played
 pub mod Headline

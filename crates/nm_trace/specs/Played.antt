@@ -2,12 +2,12 @@
 use Rattle.std.specs.Prelude.{◌≡◌, ◌⊎◌, ℕ, ◌<◌, ◌≤◌, Bool, List, [], ◌++◌, length, take, slice_get, Option, Some, Result, Ok, Err}
 use Rattle.std.specs.Io.KnownBytes.{Appends}
 use Rattle.nm_calls.specs.Systems.{SystemState, system_with}
-use Rattle.nm_calls.specs.Calls.{Call}
+use Rattle.nm_steps.specs.Calls.{Call}
 use Rattle.nm_calls.specs.Does.{HostLeaves}
 use Rattle.nm_trace.specs.declared.playing.Summary.{Summary}
-use Rattle.nm_trace.specs.declared.trace_error.TraceError.{TraceError}
-use Rattle.nm_trace.specs.declared.trace_error.TraceError.TheVariants.{NotJson, BadMachine, BadStep, ReadFault, WriteFault, HostMemory}
-use Rattle.nm_trace.specs.Faults.{Plan}
+use Rattle.nm_steps.specs.declared.trace_error.TraceError.{TraceError}
+use Rattle.nm_steps.specs.declared.trace_error.TraceError.TheVariants.{NotJson, BadMachine, BadStep, ReadFault, WriteFault, HostMemory}
+use Rattle.nm_steps.specs.Faults.{Plan}
 use Rattle.nm_trace.specs.Report.{report_from, state_after}
 
 -- the written bytes, if known, grow by a prefix of the text

@@ -7,7 +7,8 @@ use Rattle.nm_types.specs.Names.{name_of}
 use Rattle.nm_model.specs.definitions.Touch.{Access, Read, Write, AccessAnswer}
 use Rattle.nm_calls.specs.Maps.{address_text}
 use Rattle.nm_calls.specs.Systems.{SystemState}
-use Rattle.nm_calls.specs.Calls.{Call, Spawn, MapPages, Attach, Unmap, Exit, Pin, Unpin, ReadBytes, WriteBytes, MovePages, MigratePages, Query, FreeList, Pagemap, Vmstat, NumaMaps, Mbind, Offline, Online, Answer, Refusal, Done, Held, NewSegment, TheBytes, Statuses, Failed, Frames, Entries, TheTotals, Lines}
+use Rattle.nm_steps.specs.Calls.{Call, Spawn, MapPages, Attach, Unmap, Exit, Pin, Unpin, ReadBytes, WriteBytes, MovePages, MigratePages, Query, FreeList, Pagemap, Vmstat, NumaMaps, Mbind, Offline, Online}
+use Rattle.nm_calls.specs.Answers.{Answer, Refusal, Done, Held, NewSegment, TheBytes, Statuses, Failed, Frames, Entries, TheTotals, Lines}
 use Rattle.nm_calls.specs.Outcome.{Outcome, accesses_asked, outcome, shown}
 
 -- the word for a call

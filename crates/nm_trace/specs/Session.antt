@@ -2,15 +2,15 @@
 use Rattle.std.specs.Prelude.{◌≡◌, ◌⊎◌, ℕ, ◌+◌, List, [], ◌∷◌, ◌++◌, Option, Some, None, Result, Ok, Err}
 use Rattle.std.specs.Option.{ok_or}
 use Rattle.serde_json.specs.Data.{Data}
-use Rattle.nm_calls.specs.Calls.{Call}
-use Rattle.nm_calls.specs.declared.call.Call.{Call as Made}
-use Rattle.nm_calls.specs.Views.{call_of}
+use Rattle.nm_steps.specs.Calls.{Call}
+use Rattle.nm_steps.specs.declared.call.Call.{Call as Made}
+use Rattle.nm_steps.specs.Views.{call_of}
 use Rattle.nm_calls.specs.Outcome.{Outcome, outcome}
 use Rattle.nm_calls.specs.Systems.{SystemState, system_with}
-use Rattle.nm_trace.specs.declared.trace_error.TraceError.{TraceError}
-use Rattle.nm_trace.specs.declared.trace_error.TraceError.TheVariants.{NotJson, BadMachine, BadStep, ReadFault, WriteFault, HostMemory}
-use Rattle.nm_trace.specs.Form as form
-use Rattle.nm_trace.specs.Faults.{Plan, ◌>>=◌, value_of}
+use Rattle.nm_steps.specs.declared.trace_error.TraceError.{TraceError}
+use Rattle.nm_steps.specs.declared.trace_error.TraceError.TheVariants.{NotJson, BadMachine, BadStep, ReadFault, WriteFault, HostMemory}
+use Rattle.nm_steps.specs.Form as form
+use Rattle.nm_steps.specs.Faults.{Plan, ◌>>=◌, value_of}
 use Rattle.nm_trace.specs.Played.{StopsIn, report_of}
 use Rattle.nm_trace.specs.Report.{text_of, report_from, state_after}
 

@@ -1,8 +1,8 @@
 -- What the faults of a run say about its reader and its writer.
 use Rattle.std.specs.Prelude.{◌≡◌, ◌⊎◌, ℕ, ◌<◌, Bool, true, false, Result, Ok, Err}
-use Rattle.nm_trace.specs.declared.trace_error.TraceError.{TraceError}
-use Rattle.nm_trace.specs.declared.trace_error.TraceError.TheVariants.{NotJson, BadMachine, BadStep, ReadFault, WriteFault, HostMemory}
-use Rattle.nm_trace.specs.Faults.{trace_limit}
+use Rattle.nm_steps.specs.declared.trace_error.TraceError.{TraceError}
+use Rattle.nm_steps.specs.declared.trace_error.TraceError.TheVariants.{NotJson, BadMachine, BadStep, ReadFault, WriteFault, HostMemory}
+use Rattle.nm_steps.specs.Faults.{trace_limit}
 
 -- the reader has failed, or gave more bytes than a trace may have
 abbrev pub HasReadCause : Bool → (ℕ → Type 0) → Type 0

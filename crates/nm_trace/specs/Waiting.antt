@@ -2,7 +2,7 @@
 use Rattle.std.specs.Prelude.{◌≡◌, ◌≤◌, ◌||◌, length, ℕ, Bool, true, false, List, ◌++◌, Option, Result, Ok, Err}
 use Rattle.std.specs.Io.KnownBytes.{Appends}
 use Rattle.nm_trace.specs.declared.block.Block.{Block}
-use Rattle.nm_calls.specs.Calls.{Call}
+use Rattle.nm_steps.specs.Calls.{Call}
 use Rattle.nm_calls.specs.Outcome.{outcome}
 use Rattle.nm_calls.specs.Systems.{SystemState}
 use Rattle.nm_trace.specs.Played.{BreaksOff, StopsIn}

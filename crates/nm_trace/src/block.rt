@@ -6,7 +6,7 @@ ghost use Rattle.nm_trace.specs.Played.{BreaksOff};
 ghost use Rattle.nm_trace.specs.Waiting.{Puts};
 
 use crate::telling::TellingWriter;
-use crate::trace_error::TraceError;
+use nm_steps::TraceError;
 use std::alloc::Allocator;
 
 /// Writes bytes whole, or a prefix of them and a fault: the writer failed, or took no byte.

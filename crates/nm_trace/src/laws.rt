@@ -1,22 +1,14 @@
-//! Laws of faults and reports. Each function does nothing, and its contract is the law.
+//! Laws of reports. Each function does nothing, and its contract is the law.
 
-ghost use Rattle.nm_trace.specs.Laws.{FirstBadIsLeast, ThreePagesReport};
+ghost use Rattle.nm_trace.specs.Laws.{ThreePagesReport};
 ghost use Rattle.nm_trace.specs.Session.{SessionsReport, SessionsAreTraces};
-ghost use Rattle.nm_trace.specs.Flights.{AccessLineRows, FlightRows, ReadWhileItMoves};
+ghost use Rattle.nm_trace.specs.Flights.{AccessLineRows, ReadWhileItMoves};
 
-/// The fault reported for a list of steps is that of the first faulty step.
-pub fn first_bad_is_least()
-    ensures { FirstBadIsLeast }
-{}
+pub use nm_steps::laws::{first_bad_is_least, flight_rows};
 
 /// The report on three pages that move to another node.
 pub fn three_pages_report()
     ensures { ThreePagesReport }
-{}
-
-/// Worked accesses in flight: which are accepted, and which have another form.
-pub fn flight_rows()
-    ensures { FlightRows }
 {}
 
 /// Worked lines of accesses in flight.

@@ -1,7 +1,7 @@
 //! Playing a trace and writing its report.
 
 ghost use Rattle.std.specs.Prelude.{◌≡◌, ◌||◌, map};
-ghost use Rattle.nm_calls.specs.Views.{call_of};
+ghost use Rattle.nm_steps.specs.Views.{call_of};
 ghost use Rattle.nm_trace.specs.Played.{Plays};
 ghost use Rattle.nm_trace.specs.Telling.{is_write_fault};
 ghost use Rattle.nm_trace.specs.Waiting.{Tells};
@@ -9,10 +9,9 @@ ghost use Rattle.nm_trace.specs.Waiting.{Tells};
 use crate::block::Block;
 use crate::telling::TellingWriter;
 use crate::text::{push_refusal, push_text};
-use crate::trace::Trace;
-use crate::trace_error::TraceError;
 use nm_calls::{Call, CallError, System};
 use nm_crew::Gate;
+use nm_steps::{Trace, TraceError};
 use std::alloc::{AllocError, Allocator};
 use std::sync::Wait;
 use std::thread::Threads;

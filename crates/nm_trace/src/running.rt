@@ -1,18 +1,16 @@
 //! From a reader's bytes to a writer's report.
 
 ghost use Rattle.std.specs.Prelude.{◌≡◌, ◌≢◌, ◌⊎◌, ◌||◌, ◌<◌, ◌≤◌, length, Ok, IfOk, IfErr, IfSome};
-ghost use Rattle.nm_trace.specs.Faults.{OfSomeBytes, Plan, trace_of, trace_limit};
+ghost use Rattle.nm_steps.specs.Faults.{OfSomeBytes, Plan, trace_of, trace_limit};
 ghost use Rattle.nm_trace.specs.Headline.{IsPlayed, summary_of};
 ghost use Rattle.nm_trace.specs.Played.{Runs, IsSilent, WritesFront};
 ghost use Rattle.nm_trace.specs.Telling.{TellsReads, is_write_fault};
 
 use crate::playing::{Summary, play_calls};
-use crate::reading::read_trace;
 use crate::telling::{TellingReader, TellingWriter};
-use crate::trace::Trace;
-use crate::trace_error::TraceError;
 use nm_calls::System;
 use nm_crew::Gate;
+use nm_steps::{Trace, TraceError, read_trace};
 use std::alloc::{Allocator, Global};
 use std::sync::Wait;
 use std::thread::Threads;

@@ -2,20 +2,17 @@
 
 ghost use Rattle.std.specs.Prelude.{◌≡◌, ◌<◌, ◌≤◌};
 ghost use Rattle.nm_trace.specs.Session.{opened, IsCall, Steps};
-ghost use Rattle.nm_trace.specs.Tree.{view};
-ghost use Rattle.nm_trace.specs.Form as form;
-ghost use Rattle.nm_trace.specs.Faults.{Gives};
+ghost use Rattle.nm_steps.specs.Tree.{view};
+ghost use Rattle.nm_steps.specs.Form as form;
+ghost use Rattle.nm_steps.specs.Faults.{Gives};
 
 use crate::block::Block;
 use crate::closed::Closed;
-use crate::parsing::step_of;
 use crate::playing::make_step;
-use crate::reading::{geometry_of, run_limit_of, value_of};
-use crate::step_error::StepError;
-use crate::trace_error::TraceError;
 use json::{Scratch, Value};
 use nm_calls::{Call, System};
 use nm_crew::Gate;
+use nm_steps::{StepError, TraceError, geometry_of, run_limit_of, step_of, value_of};
 use std::alloc::{Allocator, Global};
 use std::marker::Model;
 use std::sync::Wait;

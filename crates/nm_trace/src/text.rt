@@ -3,14 +3,15 @@
 ghost use Rattle.std.specs.Prelude.{◌≡◌, ◌++◌, ◌≤◌, length, map, decimal, codes};
 ghost use Rattle.std.specs.List.{flat_map};
 ghost use Rattle.hex.specs.Hex.{encode_lower};
-ghost use Rattle.nm_calls.specs.Calls.{Refusal};
+ghost use Rattle.nm_calls.specs.Answers.{Refusal};
 ghost use Rattle.nm_calls.specs.Maps.{lines_shown};
 ghost use Rattle.nm_calls.specs.Outcome.{accesses_asked, shown};
-ghost use Rattle.nm_calls.specs.Views.{call_of, answer_of};
+ghost use Rattle.nm_steps.specs.Views.{call_of, shown_during};
+ghost use Rattle.nm_calls.specs.Views.{answer_of};
 ghost use Rattle.nm_trace.specs.Report.{word_of, listed, signed_listed, entry_text, frame_text, totals_text, lines_behind, answer_text, line_of, text_of, access_lines, answers_in, access_word, access_line};
 ghost use Rattle.nm_trace.specs.Waiting.{Puts};
-ghost use Rattle.nm_engine.specs.Answering.{access_shown, answer_shown};
-ghost use Rattle.nm_calls.specs.Batch.{shown_during};
+ghost use Rattle.nm_model.specs.views.Asked.{access_shown};
+ghost use Rattle.nm_engine.specs.Answering.{answer_shown};
 
 use crate::block::Block;
 use crate::telling::TellingWriter;

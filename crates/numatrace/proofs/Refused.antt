@@ -12,9 +12,9 @@ use Rattle.clap.proofs.OnLiterals.{clap_on_literals}
 use Rattle.clap.proofs.ValueTestLemmas.{accepts-Accepts, Accepts-accepts}
 use Rattle.clap.specs.declared.builder.value_parser.ValueParser.TheVariants as vp
 use Rattle.clap.specs.declared.error.Error.{Error}
-use Rattle.nm_trace.specs.declared.trace_error.TraceError.{TraceError}
-use Rattle.nm_trace.specs.declared.trace_error.TraceError.TheVariants.{NotJson, BadMachine, BadStep, ReadFault, WriteFault, HostMemory}
-use Rattle.nm_trace.specs.Faults.{Plan, OfSomeBytes}
+use Rattle.nm_steps.specs.declared.trace_error.TraceError.{TraceError}
+use Rattle.nm_steps.specs.declared.trace_error.TraceError.TheVariants.{NotJson, BadMachine, BadStep, ReadFault, WriteFault, HostMemory}
+use Rattle.nm_steps.specs.Faults.{Plan, OfSomeBytes}
 use Rattle.nm_trace.specs.Played.{Runs, WritesFront}
 use Rattle.numatrace.specs.Status.{IsBad, Leaves, refused_status, status_of}
 use Rattle.numatrace.specs.Words.{program, refusals_of, workers_in, workers_of}

@@ -1,7 +1,7 @@
 -- Which stream failed.
 use Rattle.std.proofs.Common.{◌≡◌, ℕ, Bool, ◌||◌, ◌⊎◌, inl, inr, sym, ◌∙◌, arith}
-use Rattle.nm_trace.specs.declared.trace_error.TraceError.{TraceError}
-use Rattle.nm_trace.specs.declared.trace_error.TraceError.TheVariants.{NotJson, BadMachine, BadStep, ReadFault, WriteFault, HostMemory}
+use Rattle.nm_steps.specs.declared.trace_error.TraceError.{TraceError}
+use Rattle.nm_steps.specs.declared.trace_error.TraceError.TheVariants.{NotJson, BadMachine, BadStep, ReadFault, WriteFault, HostMemory}
 use Rattle.nm_trace.specs.Telling.{ReadTold, is_of_writer}
 use Rattle.numatrace.specs.Status.{HasStreamCause, status_of}
 

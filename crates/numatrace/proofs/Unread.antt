@@ -3,8 +3,8 @@ use Rattle.std.proofs.Common.{◌≡◌, ℕ, List, [], Option, Some, None, Resu
 use Rattle.clap.specs.Words.{Kinds}
 use Rattle.std.proofs.lemmas.List.{append-nil}
 use Rattle.std.specs.Io.KnownBytes.{Appends}
-use Rattle.nm_trace.specs.declared.trace_error.TraceError.{TraceError}
-use Rattle.nm_trace.specs.Faults.{Plan, OfSomeBytes, trace_within}
+use Rattle.nm_steps.specs.declared.trace_error.TraceError.{TraceError}
+use Rattle.nm_steps.specs.Faults.{Plan, OfSomeBytes, trace_within}
 use Rattle.nm_trace.specs.Played.{report_of, WritesFront}
 use Rattle.numatrace.specs.Status.{Leaves}
 

@@ -2,9 +2,9 @@
 use Rattle.std.specs.Prelude.{◌≡◌, ◌≢◌, ◌⊎◌, ℕ, Bool, true, List, [], Option, Result, Ok, Err}
 use Rattle.std.specs.declared.io.ErrorKind.{ErrorKind}
 use Rattle.std.specs.declared.io.ErrorKind.TheVariants.{OutOfMemory}
-use Rattle.nm_trace.specs.declared.trace_error.TraceError.{TraceError}
-use Rattle.nm_trace.specs.declared.trace_error.TraceError.TheVariants.{NotJson, BadMachine, BadStep, ReadFault, WriteFault, HostMemory}
-use Rattle.nm_trace.specs.Faults.{Plan}
+use Rattle.nm_steps.specs.declared.trace_error.TraceError.{TraceError}
+use Rattle.nm_steps.specs.declared.trace_error.TraceError.TheVariants.{NotJson, BadMachine, BadStep, ReadFault, WriteFault, HostMemory}
+use Rattle.nm_steps.specs.Faults.{Plan}
 use Rattle.std.specs.Io.KnownBytes.{Appends}
 use Rattle.nm_trace.specs.Played.{report_of, WritesFront}
 use Rattle.nm_trace.specs.Telling.{HasReadCause}

@@ -3,7 +3,7 @@
 ghost use Rattle.std.specs.Prelude.{◌≡◌, ◌⊎◌, ◌<◌, ◌≤◌, [], IfOk, map, string_bytes};
 ghost use Rattle.std.specs.Io.KnownBytes.{Appends};
 ghost use Rattle.clap.specs.Words.{FailsBy};
-ghost use Rattle.nm_trace.specs.Faults.{OfSomeBytes};
+ghost use Rattle.nm_steps.specs.Faults.{OfSomeBytes};
 ghost use Rattle.numatrace.specs.Status.{status_of, words_status, refused_status, HasStreamCause, IsStatus, Leaves, Refuses};
 ghost use Rattle.numatrace.specs.Words.{refusals_of, workers_asked, workers_of};
 

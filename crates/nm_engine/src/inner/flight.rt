@@ -13,7 +13,8 @@ ghost use Rattle.nm_model.specs.definitions.Touch.{Read, Write};
 ghost use Rattle.nm_engine.specs.MidRun.{with_state};
 ghost use Rattle.nm_model.specs.definitions.Early.{early, all_early, without_fronts, with_fronts, tos};
 ghost use Rattle.nm_engine.specs.Undo.{IsStillUndone};
-ghost use Rattle.nm_engine.specs.Answering.{access_shown, due_shown, written_by, HasRoom};
+ghost use Rattle.nm_model.specs.views.Asked.{access_shown};
+ghost use Rattle.nm_engine.specs.Answering.{due_shown, written_by, HasRoom};
 
 use crate::answered::AccessAnswer;
 use crate::inner::Inner;

@@ -3,10 +3,11 @@ use Rattle.std.specs.Prelude.{slice_set}
 use Rattle.std.proofs.lemmas.List.{map-append, length-map, length-set, drop_all}
 use Rattle.nm_types.specs.declared.access.Access.{Access as Asked}
 use Rattle.nm_model.specs.definitions.Touch.{Access}
-use Rattle.nm_engine.specs.Answering.{access_shown}
+use Rattle.nm_model.specs.views.Asked.{access_shown}
 use Rattle.nm_model.specs.definitions.Run.{accesses_of}
 use Rattle.nm_engine.proofs.Together.Paces.{drop_item}
-use Rattle.nm_calls.specs.Batch.{shown_during, list_at}
+use Rattle.nm_steps.specs.Views.{shown_during}
+use Rattle.nm_calls.specs.Batch.{list_at}
 use Rattle.nm_calls.proofs.Meanwhile.{one_more_asked, none_asked, list_there, list_after, empty_more, append_none}
 use Rattle.nm_calls.proofs.batch.by_run.Goals as goal
 use Rattle.nm_calls.proofs.batch.by_run.Goals.{in-Some+in_ok-copy_of+in_ok-push-2, in_default}

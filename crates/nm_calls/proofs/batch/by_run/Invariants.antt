@@ -1,7 +1,8 @@
 use Rattle.std.proofs.Common.{◌≡◌, ◌++◌, ◌<◌, ℕ, drop, length, map, []}
-use Rattle.nm_engine.specs.Answering.{access_shown}
+use Rattle.nm_model.specs.views.Asked.{access_shown}
 use Rattle.nm_model.specs.definitions.Run.{accesses_of}
-use Rattle.nm_calls.specs.Batch.{list_at, shown_during}
+use Rattle.nm_steps.specs.Views.{shown_during}
+use Rattle.nm_calls.specs.Batch.{list_at}
 use Rattle.nm_calls.proofs.batch.by_run.Given as goal
 
 abbrev pub invariant-loop : goal.invariant-loop

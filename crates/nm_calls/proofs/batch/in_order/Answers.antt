@@ -3,7 +3,8 @@ use Rattle.std.specs.Prelude.{slice_set}
 use Rattle.std.proofs.lemmas.List.{map-append, length-map}
 use Rattle.nm_engine.specs.Answering.{answer_shown}
 use Rattle.nm_engine.proofs.Together.Paces.{drop_item}
-use Rattle.nm_calls.specs.Batch.{shown_during, runs_named, in_order, left_shown}
+use Rattle.nm_steps.specs.Views.{shown_during}
+use Rattle.nm_calls.specs.Batch.{runs_named, in_order, left_shown}
 use Rattle.nm_calls.proofs.Meanwhile.{unmade_told, none_told, one_told, list_there, list_after}
 use Rattle.nm_calls.proofs.batch.in_order.Goals as goal
 use Rattle.nm_calls.proofs.batch.in_order.Goals.{in-Some+in-Some-next, in-Some+in_default-next, in_default}

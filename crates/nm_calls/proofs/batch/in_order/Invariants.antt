@@ -1,6 +1,7 @@
 use Rattle.std.proofs.Common.{◌≡◌, ◌+◌, ◌++◌, ◌≤◌, drop, length, map, vec_capacity}
 use Rattle.nm_engine.specs.Answering.{answer_shown}
-use Rattle.nm_calls.specs.Batch.{in_order, runs_named, shown_during, left_shown}
+use Rattle.nm_steps.specs.Views.{shown_during}
+use Rattle.nm_calls.specs.Batch.{in_order, runs_named, left_shown}
 use Rattle.nm_calls.proofs.batch.in_order.Given as goal
 
 abbrev pub invariant-loop-asked : goal.invariant-loop-asked

@@ -2,10 +2,12 @@ use Rattle.std.proofs.Common.{◌≡◌, ◌<◌, ◌+◌, ◌++◌, ◌∷◌, 
 use Rattle.std.proofs.lemmas.List.{map-append, drop_all}
 use Rattle.nm_types.specs.Layout.{node_count}
 use Rattle.nm_runs.specs.Stretches.{stretches_of}
-use Rattle.nm_engine.specs.Answering.{access_shown, answer_shown}
+use Rattle.nm_model.specs.views.Asked.{access_shown}
+use Rattle.nm_engine.specs.Answering.{answer_shown}
 use Rattle.nm_model.specs.definitions.Run.{run, failures}
 use Rattle.nm_model.specs.definitions.Run.{accesses_of}
-use Rattle.nm_calls.specs.Batch.{shown_during, runs_named, in_order, left_shown}
+use Rattle.nm_steps.specs.Views.{shown_during}
+use Rattle.nm_calls.specs.Batch.{runs_named, in_order, left_shown}
 use Rattle.nm_calls.proofs.Lengths.{run_length, run_layout}
 use Rattle.nm_calls.proofs.Meanwhile.{list_there}
 use Rattle.nm_calls.proofs.Made.{none_moved}

@@ -5,7 +5,7 @@ use Rattle.nm_policy.specs.Pairs.{pairs}
 use Rattle.nm_runs.specs.Stretches.{stretches_of}
 use Rattle.nm_model.specs.definitions.Cut.{cut_within}
 use Rattle.nm_calls.specs.Migrating.{migrate_list}
-use Rattle.nm_calls.specs.Batch.{shown_during}
+use Rattle.nm_steps.specs.Views.{shown_during}
 use Rattle.nm_calls.proofs.Made.{none_moved, moved_same}
 use Rattle.nm_calls.proofs.Requests.{run_targets, run_entries, run_kinds}
 use Rattle.nm_calls.proofs.Lists.{asked_targets, asked_alike}

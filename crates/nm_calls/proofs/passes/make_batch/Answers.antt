@@ -3,7 +3,7 @@ use Rattle.std.proofs.lemmas.List.{length-map}
 use Rattle.nm_types.specs.Layout.{node_count}
 use Rattle.nm_model.specs.definitions.Cut.{Stretch}
 use Rattle.nm_runs.specs.Stretches.{stretches_of}
-use Rattle.nm_calls.specs.Batch.{shown_during}
+use Rattle.nm_steps.specs.Views.{shown_during}
 use Rattle.nm_calls.proofs.Made.{none_batched, batch_stopped, moved_batch}
 use Rattle.nm_calls.proofs.Requests.{run_targets, run_entries, runs_like}
 use Rattle.nm_calls.proofs.passes.make_batch.Goals as goal

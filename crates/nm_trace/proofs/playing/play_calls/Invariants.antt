@@ -1,5 +1,5 @@
 use Rattle.std.proofs.Common.{◌≡◌, ◌||◌, false, map, take}
-use Rattle.nm_calls.specs.Views.{call_of}
+use Rattle.nm_steps.specs.Views.{call_of}
 use Rattle.nm_trace.specs.Report.{report_from, state_after}
 use Rattle.nm_trace.specs.Waiting.{Stands}
 use Rattle.nm_trace.proofs.playing.play_calls.Given as goal

@@ -1,10 +1,10 @@
 use Rattle.std.proofs.Common.{rules, ◌≡◌, Err, map, ap, sym, subst, ◌∙◌}
 use Rattle.std.specs.Prelude.{IfErr}
-use Rattle.nm_calls.specs.Views.{call_of}
-use Rattle.nm_trace.specs.declared.trace_error.TraceError.TheVariants.{ReadFault}
-use Rattle.nm_trace.specs.Faults.{trace_of}
+use Rattle.nm_steps.specs.Views.{call_of}
+use Rattle.nm_steps.specs.declared.trace_error.TraceError.TheVariants.{ReadFault}
+use Rattle.nm_steps.specs.Faults.{trace_of}
 use Rattle.nm_trace.specs.Headline.{summary_of}
-use Rattle.nm_trace.specs.Plans.{plan_in}
+use Rattle.nm_steps.specs.Plans.{plan_in}
 use Rattle.nm_trace.specs.Played.{Runs, IsSilent}
 use Rattle.nm_trace.proofs.FromBytes.{runs, silent}
 use Rattle.nm_trace.proofs.Headlines.{played}

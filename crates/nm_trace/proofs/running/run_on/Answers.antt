@@ -1,6 +1,6 @@
 use Rattle.std.proofs.Common.{rules, ◌≡◌, Err, ap, sym, subst}
 use Rattle.std.specs.Prelude.{Ok, IfOk}
-use Rattle.nm_trace.specs.Faults.{Plan}
+use Rattle.nm_steps.specs.Faults.{Plan}
 use Rattle.nm_trace.specs.Headline.{IsPlayed, summary_of}
 use Rattle.nm_trace.specs.Played.{Runs, IsSilent, WritesFront}
 use Rattle.nm_trace.proofs.Known.{appends_none}

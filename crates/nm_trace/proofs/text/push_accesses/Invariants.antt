@@ -1,6 +1,6 @@
 use Rattle.std.proofs.Common.{◌≡◌, ◌++◌, List, ℕ, drop, map}
 use Rattle.nm_engine.specs.Answering.{answer_shown}
-use Rattle.nm_calls.specs.Batch.{shown_during}
+use Rattle.nm_steps.specs.Views.{shown_during}
 use Rattle.nm_trace.specs.Report.{access_lines}
 use Rattle.nm_trace.specs.Waiting.{Puts}
 use Rattle.nm_trace.proofs.text.push_accesses.Given as goal

@@ -1,7 +1,8 @@
 use Rattle.std.proofs.Common.{◌≡◌, ℕ, Some, subst}
 use Rattle.nm_model.specs.definitions.Effect.{set_policy}
 use Rattle.nm_calls.specs.declared.binding.Binding.{Binding}
-use Rattle.nm_calls.specs.Calls.{Mbind, Failed}
+use Rattle.nm_steps.specs.Calls.{Mbind}
+use Rattle.nm_calls.specs.Answers.{Failed}
 use Rattle.nm_calls.specs.Systems.{SystemState, in_state}
 use Rattle.nm_calls.specs.Binding.{mbind_runs}
 use Rattle.nm_calls.specs.Does.{Does}

@@ -1,5 +1,6 @@
 use Rattle.std.proofs.Common.{◌≡◌, sym, subst, ◌∙◌}
-use Rattle.nm_calls.specs.Calls.{Offline, Done}
+use Rattle.nm_steps.specs.Calls.{Offline}
+use Rattle.nm_calls.specs.Answers.{Done}
 use Rattle.nm_calls.specs.Systems.{SystemState, in_state}
 use Rattle.nm_calls.specs.Outcome.{outcome}
 use Rattle.nm_calls.specs.Does.{Does}

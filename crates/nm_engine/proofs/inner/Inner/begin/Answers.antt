@@ -2,7 +2,7 @@ use Rattle.std.proofs.Common.{◌≡◌, ◌<◌, map, ap, sym, subst, ◌∙◌
 use Rattle.nm_types.specs.Layout.{node_count}
 use Rattle.nm_types.specs.State.{State}
 use Rattle.nm_types.specs.declared.taken.Taken.{Taken}
-use Rattle.nm_engine.specs.Answering.{access_shown}
+use Rattle.nm_model.specs.views.Asked.{access_shown}
 use Rattle.nm_model.specs.definitions.Early.{all_early, with_fronts, tos}
 use Rattle.nm_engine.specs.MidRun.{MidRun}
 use Rattle.nm_model.specs.definitions.Sound.{IsSound}

@@ -5,7 +5,8 @@ use Rattle.std.proofs.lemmas.Bool.Decides.{nat_tests}
 use Rattle.std.proofs.lemmas.Option.{slice_get-get_or}
 use Rattle.std.specs.List.{AllByRecursion, slice_get}
 use Rattle.nm_types.specs.State.{State}
-use Rattle.nm_engine.specs.Answering.{access_shown, due_shown, HasRoom}
+use Rattle.nm_model.specs.views.Asked.{access_shown}
+use Rattle.nm_engine.specs.Answering.{due_shown, HasRoom}
 use Rattle.nm_model.specs.definitions.Early.{Due, AllEarly, early, all_early}
 use Rattle.nm_engine.specs.MidRun.{MidRun, with_state}
 use Rattle.nm_engine.specs.Undo.{CanUndo, all_undone}

@@ -1,7 +1,8 @@
 use Rattle.std.proofs.Common.{◌≡◌, ◌≤◌, ◌++◌, map, length, drop}
 use Rattle.std.specs.Prelude.{vec_capacity}
 use Rattle.std.specs.List.{AllByRecursion}
-use Rattle.nm_engine.specs.Answering.{access_shown, due_shown, HasRoom}
+use Rattle.nm_model.specs.views.Asked.{access_shown}
+use Rattle.nm_engine.specs.Answering.{due_shown, HasRoom}
 use Rattle.nm_model.specs.definitions.Early.{AllEarly, all_early}
 use Rattle.nm_engine.specs.MidRun.{with_state}
 use Rattle.nm_engine.specs.Undo.{CanUndo, all_undone}

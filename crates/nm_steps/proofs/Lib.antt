@@ -1,0 +1,5 @@
+pub mod Each
+pub mod Utf8
+pub mod Least
+pub mod Trees
+pub mod Shorts

@@ -1,0 +1,11 @@
+use Rattle.std.proofs.Common.{◌≡◌, drop}
+use Rattle.nm_steps.specs.Tree.{items_view}
+use Rattle.nm_steps.specs.Views.{shown_during}
+use Rattle.nm_steps.specs.Form.{each, in_flight}
+use Rattle.nm_steps.proofs.Each.{with_front}
+use Rattle.nm_steps.proofs.parsing.flights_of.Given as goal
+
+abbrev pub invariant-loop-value : goal.invariant-loop-value
+invariant-loop-value g l =
+    with_front (shown_during l.flights.items) (each (in_flight l.runs) (items_view (drop l.value-index l.values)))
+    ≡ each (in_flight l.runs) (items_view l.values)

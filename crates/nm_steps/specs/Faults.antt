@@ -1,0 +1,80 @@
+-- Which bytes are which trace, and for the others the first fault.
+use Rattle.std.specs.Prelude.{◌≡◌, ℕ, suc, nat_le, List, length, if◌then◌else◌, Option, None, IfSome, is_some, Result, Ok, Err, codes}
+use Rattle.std.specs.Option.{ok_or}
+use Rattle.std.specs.Str.{is_utf8}
+use Rattle.serde_json.specs.Data.{Data, Items, no_items, item}
+use Rattle.serde_json.specs.Read.{read}
+use Rattle.nm_types.specs.Layout.{Layout}
+use Rattle.nm_steps.specs.Calls.{Call}
+use Rattle.nm_steps.specs.declared.trace_error.TraceError.{TraceError}
+use Rattle.nm_steps.specs.declared.trace_error.TraceError.TheVariants.{NotJson, BadMachine, BadStep, ReadFault, WriteFault, HostMemory}
+use Rattle.nm_steps.specs.declared.step_error.StepError.{StepError}
+use Rattle.nm_steps.specs.declared.step_error.StepError.TheVariants.{Bad, Memory}
+use Rattle.nm_steps.specs.Form as form
+
+-- a trace: its machine, the most entries that a run may have, and the calls of its steps
+pub record Plan : Type 0 where
+  pub layout : Layout
+  pub run_limit : ℕ
+  pub calls : List Call
+
+infixl 10 ◌>>=◌
+abbrev pub ◌>>=◌ : {A B : Type 0} → Result A TraceError → (A → Result B TraceError) → Result B TraceError
+(Ok x) >>= f = f x
+(Err e) >>= f = Err e
+
+-- the JSON value of bytes, if they are one
+abbrev pub value_of : List ℕ → Option Data
+value_of bytes = if is_utf8 bytes then read bytes else None
+
+-- the index of the first item that is not a step, where a run has at most `limit` entries
+abbrev pub first_bad : ℕ → Items → ℕ
+first_bad limit no_items = 0
+first_bad limit (item d ds) = if is_some (form.step_of limit d) then suc (first_bad limit ds) else 0
+
+abbrev pub calls_of : ℕ → Items → Result (List Call) TraceError
+calls_of limit ds = ok_or (form.each (form.step_of limit) ds) (BadStep (first_bad limit ds))
+
+unfoldable pub plan_of : Data → Result Plan TraceError
+plan_of d = do
+  layout ← ok_or (form.machine_of d) BadMachine
+  limit ← ok_or (form.limit_of d) BadMachine
+  ds ← ok_or (form.items_at (codes "steps") d) BadMachine
+  calls ← calls_of limit ds
+  Ok (record { layout = layout; run_limit = limit; calls = calls })
+
+unfoldable pub trace_of : List ℕ → Result Plan TraceError
+trace_of bytes = do
+  d ← ok_or (value_of bytes) NotJson
+  plan_of d
+
+-- the most bytes that a trace may have
+abbrev pub trace_limit : ℕ
+trace_limit = 16777216
+
+-- the trace in these bytes; more bytes than a trace may have are not read
+abbrev pub trace_within : List ℕ → Result Plan TraceError
+trace_within bytes = if nat_le (length bytes) trace_limit then trace_of bytes else Err ReadFault
+
+-- something holds of the trace in some bytes: if it is known which bytes are left to be read, of those
+abbrev pub OfSomeBytes : Option (List ℕ) → (Result Plan TraceError → Type 0) → Type 0
+OfSomeBytes remaining Holds = (bytes : List ℕ) × IfSome remaining (λ xs. bytes ≡ xs) × Holds (trace_within bytes)
+
+-- an error is the first fault of the trace, unless memory ran out before the first step
+abbrev pub Fails : {Y : Type 0} → TraceError → Result Y TraceError → Type 0
+Fails NotJson found = found ≡ Err NotJson
+Fails BadMachine found = found ≡ Err BadMachine
+Fails (BadStep k) found = found ≡ Err (BadStep k)
+Fails ReadFault found = ⊥
+Fails WriteFault found = ⊥
+Fails (HostMemory k) found = k ≡ 0
+
+-- a result, mapped by `view`, is what the definition says
+abbrev pub Gives : {X Y : Type 0} → (X → Y) → Result X TraceError → Result Y TraceError → Type 0
+Gives view (Ok x) found = found ≡ Ok (view x)
+Gives view (Err e) found = Fails e found
+
+-- the fault of a trace's machine
+abbrev pub bad_machine : StepError → TraceError
+bad_machine Bad = BadMachine
+bad_machine Memory = HostMemory 0

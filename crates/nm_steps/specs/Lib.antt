@@ -1,0 +1,9 @@
+pub mod Calls
+pub mod Views
+pub mod Tree
+pub mod Form
+pub mod Gives
+pub mod Faults
+pub mod Plans
+pub mod Laws
+pub mod Flights

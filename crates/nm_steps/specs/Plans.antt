@@ -1,0 +1,9 @@
+-- What a trace in memory asks for.
+use Rattle.std.specs.Prelude.{map}
+use Rattle.nm_steps.specs.Views.{call_of}
+use Rattle.nm_steps.specs.declared.trace.Trace.{Trace}
+use Rattle.nm_steps.specs.Faults.{Plan}
+
+-- its machine, its limit, and its calls
+abbrev pub plan_in : {A : Type 0} → Trace A → Plan
+plan_in trace = record { layout = trace.geometry; run_limit = trace.run_limit; calls = map call_of trace.calls.items }

@@ -1,0 +1,424 @@
+//! Steps in JSON: the call that each asks for.
+
+ghost use Rattle.std.specs.Prelude.{◌≡◌, ◌<◌, ◌++◌, ◌∷◌, [], OnOk, IfErr};
+ghost use Rattle.nm_steps.specs.Tree.{view, items_view};
+ghost use Rattle.nm_model.specs.views.Asked.{access_shown};
+ghost use Rattle.nm_steps.specs.Form as form;
+ghost use Rattle.nm_steps.specs.Views.{call_of, shown_during};
+ghost use Rattle.nm_steps.specs.Gives.{Gives};
+ghost use Rattle.nm_steps.specs.declared.step_error.StepError.TheVariants.{Memory};
+
+use crate::call::{
+    Attachment, Batch, Call, InFlight, MbindRequest, MigrateRequest, MoveRequest, NewArea,
+    NewProcess, Question,
+};
+use crate::step_error::StepError;
+use crate::tree::{self, flag, hex, number, numbers, set, small, smalls, text};
+use json::Value;
+use nm_runs::run_count;
+use nm_types::limits::MAX_BATCH;
+use nm_types::{Access, NodeId, Pid};
+use std::alloc::Allocator;
+
+/// The read that these keys describe.
+#[tactic(auto, unfolding(crate::specs::Form::read_access))]
+fn read_access<A: Allocator + Copy + Send + Sync>(value: &Value<'_>) -> Result<Access<A>, StepError>
+    ensures { Gives access_shown result (form.read_access (view value.now)) }
+{
+    Ok(Access::Read {
+        pid: Pid::new(small(value, "pid")?),
+        addr: number(value, "addr")?,
+        len: number(value, "len")?,
+    })
+}
+
+/// The write that these keys describe.
+#[tactic(auto, unfolding(crate::specs::Form::write_access))]
+fn write_access<A: Allocator + Copy + Send + Sync>(
+    alloc: A,
+    value: &Value<'_>,
+) -> Result<Access<A>, StepError>
+    ensures { Gives access_shown result (form.write_access (view value.now)) }
+{
+    Ok(Access::Write {
+        pid: Pid::new(small(value, "pid")?),
+        addr: number(value, "addr")?,
+        bytes: hex(alloc, value, "data")?,
+    })
+}
+
+/// The access with this name.
+#[tactic(auto, unfolding(crate::specs::Form::access_named))]
+fn access_named<A: Allocator + Copy + Send + Sync>(
+    alloc: A,
+    op: &str,
+    value: &Value<'_>,
+) -> Result<Access<A>, StepError>
+    ensures { Gives access_shown result (form.access_named op.now (view value.now)) }
+{
+    match op {
+        "read" => read_access(value),
+        "write" => write_access(alloc, value),
+        _ => Err(StepError::Bad),
+    }
+}
+
+/// An access in flight, whose run is below `runs`.
+#[tactic(auto, unfolding(crate::specs::Form::in_flight))]
+fn in_flight<A: Allocator + Copy + Send + Sync>(
+    alloc: A,
+    value: &Value<'_>,
+    runs: usize,
+) -> Result<InFlight<A>, StepError>
+    ensures { Gives (λ d. (d.run, access_shown d.access)) result
+        (form.in_flight runs (view value.now)) }
+{
+    let run = number(value, "run")?;
+    if run >= runs as u64 {
+        return Err(StepError::Bad);
+    }
+    let access = access_named(alloc, text(value, "op")?, value)?;
+    Ok(InFlight {
+        run: run as usize,
+        access,
+    })
+}
+
+/// Appends an access to a list.
+fn put<A: Allocator + Copy + Send + Sync>(
+    flights: &mut Vec<InFlight<A>, A>,
+    flight: InFlight<A>,
+) -> Result<(), StepError>
+    ensures put { OnOk result (flights.new.items ≡ flights.old.items ++ flight ∷ []) }
+    ensures memory { IfErr result (λ e. e ≡ Memory) }
+{
+    match flights.push(flight) {
+        Ok(()) => Ok(()),
+        Err(_) => Err(StepError::Memory),
+    }
+}
+
+/// The accesses of a list, each of a run below `runs`.
+fn flights_of<A: Allocator + Copy + Send + Sync>(
+    alloc: A,
+    values: &[Value<'_>],
+    runs: usize,
+) -> Result<Vec<InFlight<A>, A>, StepError>
+    ensures { Gives (λ v. shown_during v.items) result
+        (form.each (form.in_flight runs) (items_view values.now)) }
+{
+    let mut flights = Vec::new(alloc);
+    for value in values {
+        let flight = in_flight(alloc, value, runs)?;
+        put(&mut flights, flight)?;
+    }
+    Ok(flights)
+}
+
+/// The accesses in flight of a step with this many runs. Empty if the key is missing.
+fn flights_at<A: Allocator + Copy + Send + Sync>(
+    alloc: A,
+    value: &Value<'_>,
+    runs: usize,
+) -> Result<Vec<InFlight<A>, A>, StepError>
+    ensures { Gives (λ v. shown_during v.items) result (form.during_at runs (view value.now)) }
+{
+    match tree::get(value, "during") {
+        None => Ok(Vec::new(alloc)),
+        Some(during) => {
+            let values = tree::as_array(during).ok_or(StepError::Bad)?;
+            flights_of(alloc, values.as_slice(), runs)
+        }
+    }
+}
+
+#[tactic(auto, unfolding(crate::specs::Form::spawn_of))]
+fn spawn<A: Allocator + Copy + Send + Sync>(value: &Value<'_>) -> Result<Call<A>, StepError>
+    ensures { Gives call_of result (form.spawn_of (view value.now)) }
+{
+    Ok(Call::Spawn(NewProcess {
+        pid: Pid::new(small(value, "pid")?),
+        uid: small(value, "uid")?,
+        home: NodeId::new(small(value, "home")?),
+        allowed: set(value, "allowed")?,
+        privileged: flag(value, "privileged")?,
+    }))
+}
+
+#[tactic(auto, unfolding(crate::specs::Form::map_of))]
+fn map<A: Allocator + Copy + Send + Sync>(value: &Value<'_>) -> Result<Call<A>, StepError>
+    ensures { Gives call_of result (form.map_of (view value.now)) }
+{
+    Ok(Call::Map(NewArea {
+        pid: Pid::new(small(value, "pid")?),
+        addr: number(value, "addr")?,
+        pages: number(value, "pages")?,
+        shared: flag(value, "shared")?,
+    }))
+}
+
+#[tactic(auto, unfolding(crate::specs::Form::attach_of))]
+fn attach<A: Allocator + Copy + Send + Sync>(value: &Value<'_>) -> Result<Call<A>, StepError>
+    ensures { Gives call_of result (form.attach_of (view value.now)) }
+{
+    Ok(Call::Attach(Attachment {
+        pid: Pid::new(small(value, "pid")?),
+        addr: number(value, "addr")?,
+        segment: number(value, "segment")?,
+        offset: number(value, "offset")?,
+        pages: number(value, "pages")?,
+    }))
+}
+
+#[tactic(auto, unfolding(crate::specs::Form::unmap_of))]
+fn unmap<A: Allocator + Copy + Send + Sync>(value: &Value<'_>) -> Result<Call<A>, StepError>
+    ensures { Gives call_of result (form.unmap_of (view value.now)) }
+{
+    Ok(Call::Unmap {
+        pid: Pid::new(small(value, "pid")?),
+        addr: number(value, "addr")?,
+        pages: number(value, "pages")?,
+    })
+}
+
+#[tactic(auto, unfolding(crate::specs::Form::exit_of))]
+fn exit<A: Allocator + Copy + Send + Sync>(value: &Value<'_>) -> Result<Call<A>, StepError>
+    ensures { Gives call_of result (form.exit_of (view value.now)) }
+{
+    Ok(Call::Exit {
+        pid: Pid::new(small(value, "pid")?),
+    })
+}
+
+#[tactic(auto, unfolding(crate::specs::Form::pin_of))]
+fn pin<A: Allocator + Copy + Send + Sync>(value: &Value<'_>) -> Result<Call<A>, StepError>
+    ensures { Gives call_of result (form.pin_of (view value.now)) }
+{
+    Ok(Call::Pin {
+        pid: Pid::new(small(value, "pid")?),
+        addr: number(value, "addr")?,
+    })
+}
+
+#[tactic(auto, unfolding(crate::specs::Form::unpin_of))]
+fn unpin<A: Allocator + Copy + Send + Sync>(value: &Value<'_>) -> Result<Call<A>, StepError>
+    ensures { Gives call_of result (form.unpin_of (view value.now)) }
+{
+    Ok(Call::Unpin {
+        pid: Pid::new(small(value, "pid")?),
+        addr: number(value, "addr")?,
+    })
+}
+
+/// The step that makes an access.
+fn access_step<A: Allocator + Copy + Send + Sync>(access: Access<A>) -> Call<A>
+    ensures { call_of result ≡ form.access_step (access_shown access) }
+{
+    match access {
+        Access::Read { pid, addr, len } => Call::Read { pid, addr, len },
+        Access::Write { pid, addr, bytes } => Call::Write { pid, addr, bytes },
+    }
+}
+
+fn read<A: Allocator + Copy + Send + Sync>(value: &Value<'_>) -> Result<Call<A>, StepError>
+    ensures { Gives call_of result (form.read_of (view value.now)) }
+{
+    Ok(access_step(read_access(value)?))
+}
+
+fn write<A: Allocator + Copy + Send + Sync>(
+    alloc: A,
+    value: &Value<'_>,
+) -> Result<Call<A>, StepError>
+    ensures { Gives call_of result (form.write_of (view value.now)) }
+{
+    Ok(access_step(write_access(alloc, value)?))
+}
+
+/// Pages with a node for each.
+#[tactic(auto, unfolding(crate::specs::Form::batch_of))]
+fn batch_of<A: Allocator + Copy + Send + Sync>(
+    alloc: A,
+    value: &Value<'_>,
+) -> Result<Batch<A>, StepError>
+    ensures { Gives (λ batch. (batch.pages.items, batch.nodes.items)) result
+        (form.batch_of (view value.now)) }
+{
+    let pages = numbers(alloc, value, "pages")?;
+    let nodes = smalls(alloc, value, "nodes")?;
+    if pages.len() > MAX_BATCH || pages.len() != nodes.len() {
+        return Err(StepError::Bad);
+    }
+    Ok(Batch { pages, nodes })
+}
+
+#[tactic(auto, unfolding(crate::specs::Form::move_pages_of))]
+fn move_pages<A: Allocator + Copy + Send + Sync>(
+    alloc: A,
+    value: &Value<'_>,
+    limit: usize,
+) -> Result<Call<A>, StepError>
+    requires { 0 < limit }
+    ensures { Gives call_of result (form.move_pages_of limit (view value.now)) }
+{
+    let caller = small(value, "caller")?;
+    let pid = small(value, "pid")?;
+    let batch = batch_of(alloc, value)?;
+    let flags = small(value, "flags")?;
+    let runs = run_count(batch.nodes.as_slice(), limit);
+    let during = flights_at(alloc, value, runs)?;
+    Ok(Call::MovePages(MoveRequest {
+        caller: Pid::new(caller),
+        pid: Pid::new(pid),
+        batch,
+        flags,
+        during,
+    }))
+}
+
+#[tactic(auto, unfolding(crate::specs::Form::migrate_pages_of))]
+fn migrate_pages<A: Allocator + Copy + Send + Sync>(value: &Value<'_>) -> Result<Call<A>, StepError>
+    ensures { Gives call_of result (form.migrate_pages_of (view value.now)) }
+{
+    Ok(Call::MigratePages(MigrateRequest {
+        caller: Pid::new(small(value, "caller")?),
+        pid: Pid::new(small(value, "pid")?),
+        old: set(value, "old")?,
+        new: set(value, "new")?,
+    }))
+}
+
+#[tactic(auto, unfolding(crate::specs::Form::mbind_of))]
+fn mbind<A: Allocator + Copy + Send + Sync>(value: &Value<'_>) -> Result<Call<A>, StepError>
+    ensures { Gives call_of result (form.mbind_of (view value.now)) }
+{
+    Ok(Call::Mbind(MbindRequest {
+        caller: Pid::new(small(value, "caller")?),
+        addr: number(value, "addr")?,
+        len: number(value, "len")?,
+        mode: small(value, "mode")?,
+        nodes: set(value, "nodes")?,
+        flags: small(value, "flags")?,
+    }))
+}
+
+#[tactic(auto, unfolding(crate::specs::Form::offline_of))]
+fn offline<A: Allocator + Copy + Send + Sync>(value: &Value<'_>) -> Result<Call<A>, StepError>
+    ensures { Gives call_of result (form.offline_of (view value.now)) }
+{
+    Ok(Call::Offline {
+        node: NodeId::new(small(value, "node")?),
+    })
+}
+
+#[tactic(auto, unfolding(crate::specs::Form::online_of))]
+fn online<A: Allocator + Copy + Send + Sync>(value: &Value<'_>) -> Result<Call<A>, StepError>
+    ensures { Gives call_of result (form.online_of (view value.now)) }
+{
+    Ok(Call::Online {
+        node: NodeId::new(small(value, "node")?),
+    })
+}
+
+#[tactic(auto, unfolding(crate::specs::Form::query_of))]
+fn query<A: Allocator + Copy + Send + Sync>(
+    alloc: A,
+    value: &Value<'_>,
+) -> Result<Call<A>, StepError>
+    ensures { Gives call_of result (form.query_of (view value.now)) }
+{
+    let caller = small(value, "caller")?;
+    let pid = small(value, "pid")?;
+    let pages = numbers(alloc, value, "pages")?;
+    let given = small(value, "flags")?;
+    if pages.len() > MAX_BATCH {
+        return Err(StepError::Bad);
+    }
+    Ok(Call::Query(Question {
+        caller: Pid::new(caller),
+        pid: Pid::new(pid),
+        pages,
+        flags: given,
+    }))
+}
+
+#[tactic(auto, unfolding(crate::specs::Form::free_of))]
+fn free<A: Allocator + Copy + Send + Sync>(value: &Value<'_>) -> Result<Call<A>, StepError>
+    ensures { Gives call_of result (form.free_of (view value.now)) }
+{
+    Ok(Call::FreeList {
+        node: NodeId::new(small(value, "node")?),
+    })
+}
+
+#[tactic(auto, unfolding(crate::specs::Form::pagemap_of))]
+fn pagemap<A: Allocator + Copy + Send + Sync>(value: &Value<'_>) -> Result<Call<A>, StepError>
+    ensures { Gives call_of result (form.pagemap_of (view value.now)) }
+{
+    Ok(Call::Pagemap {
+        pid: Pid::new(small(value, "pid")?),
+    })
+}
+
+#[tactic(auto, unfolding(crate::specs::Form::vmstat_of))]
+fn vmstat<A: Allocator + Copy + Send + Sync>(value: &Value<'_>) -> Result<Call<A>, StepError>
+    ensures { Gives call_of result (form.vmstat_of (view value.now)) }
+{
+    Ok(Call::Vmstat)
+}
+
+#[tactic(auto, unfolding(crate::specs::Form::numa_maps_of))]
+fn numa_maps<A: Allocator + Copy + Send + Sync>(value: &Value<'_>) -> Result<Call<A>, StepError>
+    ensures { Gives call_of result (form.numa_maps_of (view value.now)) }
+{
+    Ok(Call::NumaMaps {
+        pid: Pid::new(small(value, "pid")?),
+    })
+}
+
+#[tactic(auto, unfolding(crate::specs::Form::named))]
+fn named<A: Allocator + Copy + Send + Sync>(
+    alloc: A,
+    op: &str,
+    value: &Value<'_>,
+    limit: usize,
+) -> Result<Call<A>, StepError>
+    requires { 0 < limit }
+    ensures { Gives call_of result (form.named limit op.now (view value.now)) }
+{
+    match op {
+        "spawn" => spawn(value),
+        "map" => map(value),
+        "attach" => attach(value),
+        "unmap" => unmap(value),
+        "exit" => exit(value),
+        "pin" => pin(value),
+        "unpin" => unpin(value),
+        "read" => read(value),
+        "write" => write(alloc, value),
+        "move_pages" => move_pages(alloc, value, limit),
+        "migrate_pages" => migrate_pages(value),
+        "mbind" => mbind(value),
+        "offline" => offline(value),
+        "online" => online(value),
+        "query" => query(alloc, value),
+        "free" => free(value),
+        "pagemap" => pagemap(value),
+        "vmstat" => vmstat(value),
+        "numa_maps" => numa_maps(value),
+        _ => Err(StepError::Bad),
+    }
+}
+
+/// The call that a step asks for, where a run has at most `limit` entries.
+#[tactic(auto, unfolding(crate::specs::Form::step_of))]
+pub fn step_of<A: Allocator + Copy + Send + Sync>(
+    alloc: A,
+    value: &Value<'_>,
+    limit: usize,
+) -> Result<Call<A>, StepError>
+    requires { 0 < limit }
+    ensures { Gives call_of result (form.step_of limit (view value.now)) }
+{
+    named(alloc, text(value, "op")?, value, limit)
+}

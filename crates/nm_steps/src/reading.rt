@@ -1,0 +1,255 @@
+//! Reading a trace from bytes.
+
+ghost use Rattle.std.specs.Prelude.{map, ◌≡◌, ◌<◌, ◌≤◌, ◌^◌, [], ◌∷◌, ◌++◌, IfOk, OnOk, IfErr, codes};
+ghost use Rattle.nm_steps.specs.Calls.{default_limit};
+ghost use Rattle.nm_steps.specs.Views.{call_of};
+ghost use Rattle.std.specs.Option.{ok_or};
+ghost use Rattle.nm_steps.specs.Tree.{view, items_view};
+ghost use Rattle.nm_steps.specs.Form as form;
+ghost use Rattle.nm_steps.specs.Faults as faults;
+ghost use Rattle.nm_steps.specs.Faults.{Gives};
+ghost use Rattle.nm_steps.specs.Plans.{plan_in};
+ghost use Rattle.nm_steps.specs.declared.trace_error.TraceError.TheVariants.{NotJson, BadMachine};
+ghost use Rattle.nm_steps.specs.declared.step_error.StepError.TheVariants.{Bad};
+ghost use Rattle.nm_steps.specs.Gives as of_step;
+
+use crate::call::Call;
+use crate::parsing::step_of;
+use crate::step_error::StepError;
+use crate::trace::Trace;
+use crate::trace_error::TraceError;
+use crate::tree::{self, list, number, smalls};
+use json::{Scratch, Value};
+use nm_types::Geometry;
+use nm_types::limits::MAX_BATCH;
+use std::alloc::{Allocator, Global};
+use std::str::from_utf8;
+
+/// A distance: below 256.
+fn distance_value(value: &Value<'_>) -> Result<u8, StepError>
+    ensures value { of_step.Gives (λ n. n) result (form.number_below (2 ^ 8) (view value.now)) }
+    ensures bad { IfErr result (λ e. e ≡ Bad) }
+{
+    let number = tree::as_u64(value).ok_or(StepError::Bad)?;
+    u8::try_from(number).map_err(|_| StepError::Bad)
+}
+
+/// The distances of a list.
+fn distances_of<A: Allocator + Copy>(
+    alloc: A,
+    values: &[Value<'_>],
+) -> Result<Vec<u8, A>, StepError>
+    ensures { of_step.Gives (λ v. v.items) result
+        (form.each (form.number_below (2 ^ 8)) (items_view values.now)) }
+{
+    let mut row = Vec::new(alloc);
+    for value in values {
+        let distance = distance_value(value)?;
+        row.push(distance)?;
+    }
+    Ok(row)
+}
+
+/// A row of distances.
+fn row_of<A: Allocator + Copy>(alloc: A, value: &Value<'_>) -> Result<Vec<u8, A>, StepError>
+    ensures { of_step.Gives (λ v. v.items) result (form.row_of (view value.now)) }
+{
+    let values = tree::as_array(value).ok_or(StepError::Bad)?;
+    distances_of(alloc, values.as_slice())
+}
+
+/// The rows of a list.
+fn rows_of<A: Allocator + Copy>(
+    alloc: A,
+    values: &[Value<'_>],
+) -> Result<Vec<Vec<u8, A>, A>, StepError>
+    ensures { of_step.Gives (λ v. map (λ row. row.items) v.items) result
+        (form.each form.row_of (items_view values.now)) }
+{
+    let mut rows = Vec::new(alloc);
+    for value in values {
+        let row = row_of(alloc, value)?;
+        rows.push(row)?;
+    }
+    Ok(rows)
+}
+
+/// The machine at the top of a trace.
+#[tactic(auto, unfolding(crate::specs::Form::machine_of))]
+fn machine_of<A: Allocator + Copy>(alloc: A, value: &Value<'_>) -> Result<Geometry<A>, StepError>
+    ensures { of_step.Gives (λ g. g) result (form.machine_of (view value.now)) }
+{
+    let machine = tree::get(value, "machine").ok_or(StepError::Bad)?;
+    let sizes = smalls(alloc, machine, "nodes")?;
+    let distances = rows_of(alloc, list(machine, "distance")?.as_slice())?;
+    match Geometry::new(sizes, distances) {
+        Ok(geometry) => Ok(geometry),
+        Err(_) => Err(StepError::Bad),
+    }
+}
+
+/// The most entries that a run may have: 16,384 in version 1, whatever the trace says, and what version 2 says.
+#[tactic(auto, unfolding(crate::specs::Form::limit_of))]
+fn limit_of(value: &Value<'_>) -> Result<usize, StepError>
+    // In any case
+    ensures limit { of_step.Gives (λ n. n) result (form.limit_of (view value.now)) }
+
+    // On a fault
+    ensures bad { IfErr result (λ e. e ≡ Bad) }
+
+    // On success
+    ensures some { IfOk result (λ n. 0 < n) }
+    ensures within { IfOk result (λ n. n ≤ default_limit) }
+{
+    let version = number(value, "version")?;
+    if version == 1 {
+        return Ok(MAX_BATCH);
+    }
+    if version != 2 {
+        return Err(StepError::Bad);
+    }
+    let limit = number(value, "run_limit")?;
+    if limit >= 1 && limit <= MAX_BATCH as u64 {
+        Ok(limit as usize)
+    } else {
+        Err(StepError::Bad)
+    }
+}
+
+/// Appends a call to a list.
+fn put<A: Allocator + Copy + Send + Sync>(
+    calls: &mut Vec<Call<A>, A>,
+    call: Call<A>,
+) -> Result<(), TraceError>
+    ensures put { OnOk result (calls.new.items ≡ calls.old.items ++ call ∷ []) }
+    ensures fault { IfErr result (λ e. e ≡ TraceError.HostMemory 0) }
+{
+    match calls.push(call) {
+        Ok(()) => Ok(()),
+        Err(_) => Err(TraceError::HostMemory(0)),
+    }
+}
+
+/// The calls that the steps of a list ask for, or the first fault. A run has at most `limit` entries.
+fn calls_of<A: Allocator + Copy + Send + Sync>(
+    alloc: A,
+    values: &[Value<'_>],
+    limit: usize,
+) -> Result<Vec<Call<A>, A>, TraceError>
+    requires { 0 < limit }
+    ensures { Gives (λ v. map call_of v.items) result
+        (faults.calls_of limit (items_view values.now)) }
+{
+    let mut calls = Vec::new(alloc);
+    for (k, value) in values.iter().enumerate() {
+        let call = match step_of(alloc, value, limit) {
+            Ok(call) => call,
+            Err(StepError::Bad) => return Err(TraceError::BadStep(k)),
+            Err(StepError::Memory) => return Err(TraceError::HostMemory(0)),
+        };
+        put(&mut calls, call)?;
+    }
+    Ok(calls)
+}
+
+/// The fault of a trace's machine.
+fn bad_machine(error: StepError) -> TraceError
+    ensures { result ≡ faults.bad_machine error }
+{
+    match error {
+        StepError::Bad => TraceError::BadMachine,
+        StepError::Memory => TraceError::HostMemory(0),
+    }
+}
+
+/// The machine of a trace, or its fault.
+pub fn geometry_of<A: Allocator + Copy>(
+    alloc: A,
+    value: &Value<'_>,
+) -> Result<Geometry<A>, TraceError>
+    ensures { Gives (λ g. g) result (ok_or (form.machine_of (view value.now)) BadMachine) }
+{
+    machine_of(alloc, value).map_err(bad_machine)
+}
+
+/// The limit on runs of a trace, or its fault.
+pub fn run_limit_of(value: &Value<'_>) -> Result<usize, TraceError>
+    // In any case
+    ensures limit { Gives (λ n. n) result (ok_or (form.limit_of (view value.now)) BadMachine) }
+
+    // On a fault
+    ensures bad { IfErr result (λ e. e ≡ BadMachine) }
+
+    // On success
+    ensures some { IfOk result (λ n. 0 < n) }
+    ensures within { IfOk result (λ n. n ≤ default_limit) }
+{
+    match limit_of(value) {
+        Ok(limit) => Ok(limit),
+        Err(error) => Err(bad_machine(error)),
+    }
+}
+
+/// The values of the steps of a trace, or a fault if its top has none.
+fn values_of<'v, 'a>(value: &'v Value<'a>) -> Result<&'v Vec<Value<'a>>, TraceError>
+    ensures values { Gives (λ v. items_view v.now.items) result
+        (ok_or (form.items_at (codes "steps") (view value.now)) BadMachine) }
+    ensures bad { IfErr result (λ e. e ≡ BadMachine) }
+{
+    list(value, "steps").map_err(bad_machine)
+}
+
+/// The trace in a value, or its first fault.
+#[tactic(auto, unfolding(crate::specs::Faults::plan_of))]
+fn trace_of<A: Allocator + Copy + Send + Sync>(
+    alloc: A,
+    value: &Value<'_>,
+) -> Result<Trace<A>, TraceError>
+    ensures { Gives plan_in result (faults.plan_of (view value.now)) }
+{
+    let geometry = geometry_of(alloc, value)?;
+    let run_limit = run_limit_of(value)?;
+    let values = values_of(value)?;
+    let calls = calls_of(alloc, values.as_slice(), run_limit)?;
+    Ok(Trace {
+        geometry,
+        run_limit,
+        calls,
+    })
+}
+
+/// The JSON tree of these bytes. Strings with escapes are written to `scratch`.
+pub fn value_of<'a>(
+    heap: Global,
+    bytes: &'a [u8],
+    scratch: &'a mut Scratch,
+) -> Result<Value<'a>, TraceError>
+    ensures { Gives view result (ok_or (faults.value_of bytes.now) NotJson) }
+{
+    let Ok(text) = from_utf8(bytes) else {
+        return Err(TraceError::NotJson);
+    };
+    match tree::read(heap, text, scratch) {
+        Ok(value) => Ok(value),
+        Err(StepError::Bad) => Err(TraceError::NotJson),
+        Err(StepError::Memory) => Err(TraceError::HostMemory(0)),
+    }
+}
+
+/// Reads a trace from bytes, or returns their first fault: `NotJson`, then `BadMachine`, then `BadStep` of the first
+/// bad step. Every step is checked before any is made. The trace is in the memory of `alloc`, and the JSON tree, until
+/// this call returns, in that of `heap`.
+///
+/// `HostMemory(0)` if either is out of memory.
+#[tactic(auto, unfolding(crate::specs::Faults::trace_of))]
+pub fn read_trace<A: Allocator + Copy + Send + Sync>(
+    alloc: A,
+    heap: Global,
+    bytes: &[u8],
+) -> Result<Trace<A>, TraceError>
+    ensures { Gives plan_in result (faults.trace_of bytes.now) }
+{
+    let mut scratch = Scratch::new(heap);
+    let value = value_of(heap, bytes, &mut scratch)?;
+    trace_of(alloc, &value)
+}

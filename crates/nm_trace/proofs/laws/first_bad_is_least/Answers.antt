@@ -1,5 +1,0 @@
-use Rattle.nm_trace.proofs.Least.{first_bad_is_least}
-use Rattle.nm_trace.proofs.laws.first_bad_is_least.Goals as goal
-
-pub returns : goal.returns
-returns c = first_bad_is_least

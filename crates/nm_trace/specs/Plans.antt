@@ -1,9 +1,0 @@
--- What a trace in memory asks for.
-use Rattle.std.specs.Prelude.{map}
-use Rattle.nm_calls.specs.Views.{call_of}
-use Rattle.nm_trace.specs.declared.trace.Trace.{Trace}
-use Rattle.nm_trace.specs.Faults.{Plan}
-
--- its machine, its limit, and its calls
-abbrev pub plan_in : {A : Type 0} → Trace A → Plan
-plan_in trace = record { layout = trace.geometry; run_limit = trace.run_limit; calls = map call_of trace.calls.items }
