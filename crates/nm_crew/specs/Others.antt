@@ -11,7 +11,7 @@ others_of size worth_from jobs workers = if nat_lt size worth_from then 0 else m
 abbrev pub IsSizeOf : {A : Type 0} → CopyJob A → ℕ → Type 0
 IsSizeOf job size = IsZeroFrom job.source.1 size × IsZeroFrom job.target.1 size × (size ≤ 4096)
 
--- the sum of such sizes, one for each job, where it is below 2^64
+-- the sum of such sizes, one for each job, and at most 2^64 - 1
 abbrev pub IsSizeOfAll : {A : Type 0} → List (CopyJob A) → ℕ → Type 0
 IsSizeOfAll [] size = size ≡ 0
 IsSizeOfAll (job ∷ jobs) size = (first : ℕ) × (rest : ℕ) × IsSizeOf job first × IsSizeOfAll jobs rest × (size ≡ min (first + rest) (2 ^ 64 - 1))
