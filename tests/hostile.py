@@ -757,7 +757,7 @@ def tried(item):
     fault = None
     if used.ru_maxrss > (MOST_KIB_OF_HEAVY if check is check_heavy else MOST_KIB):
         fault = f"{used.ru_maxrss * 1024 // 1000000} MB of memory"
-    elif seconds > MOST_SECONDS and check not in (check_streams, check_memory):
+    elif seconds > MOST_SECONDS and check not in (check_streams, check_little, check_memory):
         fault = f"{seconds:.1f} seconds"
     return fault, ended_as, seconds, used.ru_maxrss
 
@@ -779,21 +779,60 @@ def within(data, most, words):
     return ran.returncode, ran.stdout, ran.stderr
 
 
+def ended(data, report, words, most):
+    """The status of a run with so many KiB, whose report is whole, or a prefix with as many steps as standard error says. None
+    where the program does not even start: that is what the kernel or the dynamic linker says, and not the program."""
+    try:
+        status, out, err = within(data, most << 10, words)
+    except OSError:
+        return None
+    if status in (127, -signal.SIGKILL, -signal.SIGSEGV) and not err.startswith(b"numatrace: "):
+        return None
+    made = sum(b"." not in line.split(b" ")[0] for line in out.split(b"\n")[:-1])
+    refused = (3, f"numatrace: host memory refused after {made} steps\n".encode())
+    if (status, err) not in ((0, b""), refused) or (out != report if status == 0 else not report.startswith(out)):
+        raise Fault(f"with {most} KiB: status {status}, {len(out)} bytes and {err[:200]!r}")
+    return status
+
+
+def least(holds):
+    """The least number of KiB, up to the page, for which this holds, as it does for all greater ones."""
+    low, high = 0, 1 << 18
+    while high - low > 1:
+        middle = (low + high) // 2
+        low, high = (low, middle) if holds(4 * middle) else (middle, high)
+    return 4 * high
+
+
+def bounds(data, report, words):
+    """The least KiB with which the program starts, and the least with which its report is whole."""
+    return (least(lambda most: ended(data, report, words, most) is not None),
+            least(lambda most: ended(data, report, words, most) == 0))
+
+
+def check_little(_):
+    """The words, and a short trace, with each number of pages of memory from the least with which the program starts to the least
+    with which its report is whole: words that find no memory are no bad words."""
+    run = FIRST.encode(), FIRST_REPORT, ["--workers", "64"]
+    starts, whole = bounds(*run)
+    ends = {most: ended(*run, most) for most in range(starts, whole + 64, 4)}
+    if not {0, 3} <= set(ends.values()):
+        raise Fault(f"memory was refused never or always: {ends}")
+    if None in [end for most, end in ends.items() if most >= starts + 64]:
+        raise Fault(f"the program does not start with more memory than it needs: {ends}")
+
+
 def check_memory(_):
-    """Little memory, so that threads are refused, and then the trace itself: the whole report, or a prefix with as many steps
-    as standard error says."""
+    """Little memory, from the least with which the program starts to the least with which its report is whole, and then so little
+    that threads are refused."""
     with tempfile.TemporaryDirectory() as there:
         paths = [os.path.join(there, "trace"), os.path.join(there, "report")]
         subprocess.run([os.path.join(ROOT, "tests/long_run.py"), *paths], check=True)
         data, report = (open(path, "rb").read() for path in paths)
-    ends = set()
-    for most in [*range(8192, 28672, 256), *range(32768, 655360, 32768)]:
-        status, out, err = within(data, most << 10, ["--workers", "64"])
-        made = sum(b"." not in line.split(b" ")[0] for line in out.split(b"\n")[:-1])
-        refused = (3, f"numatrace: host memory refused after {made} steps\n".encode())
-        if (status, err) not in ((0, b""), refused) or (out != report if status == 0 else not report.startswith(out)):
-            raise Fault(f"with {most} KiB: status {status}, {len(out)} bytes and {err[:200]!r}")
-        ends.add(status)
+    run = data, report, ["--workers", "64"]
+    starts, whole = bounds(*run)
+    rows = [*range(starts + 64, whole, max(4, (whole - starts) // 80)), *range(whole, 655360, 32768)]
+    ends = {ended(*run, most) for most in rows}
     if ends != {0, 3}:
         raise Fault(f"memory was refused never or always: {ends}")
 
@@ -814,7 +853,7 @@ def parts():
     fronts = [(check_front, length) for length in range(len(FIRST))]
     great = [(check_great, make) for make in (whole_nodes, whole_batches, whole_flight, whole_table)]
     yield PARTS[0], rows(), None
-    yield PARTS[1], [(check_streams, None), (check_memory, None)], 1
+    yield PARTS[1], [(check_streams, None), (check_little, None), (check_memory, None)], 1
     yield PARTS[2], fronts, None
     yield PARTS[3], [(check_edge, trace) for trace in edges()], None
     yield PARTS[4], great + [(check_long, shape) for shape in LONG] + [(check_heavy, shape) for shape in HEAVY], 1

@@ -4,9 +4,10 @@ ghost use Rattle.std.specs.Prelude.{◌<◌, ◌≤◌};
 
 use nm_crew::Gate;
 use nm_trace::{Watched, run_trace};
-use std::alloc::Global;
+use std::alloc::{AllocError, Global};
 use std::sync::Wait;
 use std::sync::atomic::{AtomicBool, AtomicU64, Ordering};
+use std::test::Fail;
 use std::thread::{Threads, yield_now};
 
 /// Three pages of one process, written on node 0, moved to node 1 in one run and read there. Meanwhile one of them is
@@ -39,6 +40,17 @@ const REPORT: &str = "0 spawn ok
 8 pagemap 4: 00010000=4 00011000=5 00012000=6 00013000=3
 9 read 6200
 ";
+
+/// The front of a trace in which a batch moves one page.
+const ONE_PAGE: &str =
+    "{\"version\":1,\"machine\":{\"nodes\":[4,4],\"distance\":[[10,20],[20,10]]},\"steps\":[
+{\"op\":\"spawn\",\"pid\":1,\"uid\":100,\"home\":0,\"allowed\":[0,1]},
+{\"op\":\"map\",\"pid\":1,\"addr\":65536,\"pages\":1},
+{\"op\":\"write\",\"pid\":1,\"addr\":65536,\"data\":\"61\"},
+{\"op\":\"move_pages\",\"caller\":1,\"pid\":0,\"pages\":[";
+
+/// The end of its report.
+const ONE_PAGE_END: &str = " 1 1 1 1\n4 vmstat pgmigrate_success 1 pgmigrate_fail 0\n";
 
 /// Lets each worker through at once, and allows other workers from the first job on.
 #[derive(Drop)]
@@ -170,6 +182,51 @@ fn one_worker_is_alone(rt: HostRuntime) {
     let gate = Alone(AtomicU64::new(0));
     assert!(rt; reports_right(&rt, rt.alloc(), 1, &gate));
     assert_eq!(rt; gate.0.load(Ordering::SeqCst), 30_003u64);
+}
+
+/// A trace in which one page is named in each of the 16,384 entries of a batch.
+fn equal_entries(alloc: Global) -> Result<String, AllocError> {
+    let mut text = String::from_str(alloc, ONE_PAGE)?;
+    for _ in 1..16_384 {
+        text.push_str("65536,")?;
+    }
+    text.push_str("65536],\"nodes\":[")?;
+    for _ in 1..16_384 {
+        text.push_str("1,")?;
+    }
+    text.push_str("1],\"flags\":2},{\"op\":\"vmstat\"}]}")?;
+    Ok(text)
+}
+
+/// Whether a trace is played with one worker, and its report ends like this.
+fn ends_with(
+    rt: &(impl Threads + Wait + Sync),
+    alloc: Global,
+    trace: &str,
+    gate: &Alone,
+    end: &str,
+) -> bool {
+    let mut written = Watched::new(Vec::new(alloc));
+    let played = run_trace(
+        rt,
+        alloc,
+        alloc,
+        &mut trace.as_bytes(),
+        &mut written,
+        1,
+        gate,
+    );
+    played.is_ok() && written.get_ref().as_slice().ends_with(end.as_bytes())
+}
+
+/// The longest batch that names one page alone is one copy job: its page is copied once, and each entry gets a status.
+#[test]
+fn equal_entries_are_one_job(rt: HostRuntime) -> Result<(), Fail> {
+    let gate = Alone(AtomicU64::new(0));
+    let trace = equal_entries(rt.alloc())?;
+    assert!(rt; ends_with(&rt, rt.alloc(), trace.as_str(), &gate, ONE_PAGE_END));
+    assert_eq!(rt; gate.0.load(Ordering::SeqCst), 1u64);
+    Ok(())
 }
 
 /// The report is the same for any number of workers, with other workers allowed from the first page on.

@@ -311,7 +311,8 @@ fn refused_runs_begin_again(rt: HostRuntime) -> Result<(), Fail> {
     Ok(())
 }
 
-/// A page that two processes see, and that one of them asks to move: it stays.
+/// A page that two processes see stays: one of them asks to move it, and to have it where it is, and then a privileged
+/// caller asks to move it, without MPOL_MF_MOVE_ALL.
 const SHARED: &str =
     "{\"version\":1,\"machine\":{\"nodes\":[4,4],\"distance\":[[10,20],[20,10]]},\"steps\":[
 {\"op\":\"spawn\",\"pid\":1,\"uid\":100,\"home\":0,\"allowed\":[0,1]},
@@ -322,6 +323,8 @@ const SHARED: &str =
 {\"op\":\"attach\",\"pid\":2,\"addr\":196608,\"segment\":0,\"offset\":0,\"pages\":1},
 {\"op\":\"read\",\"pid\":2,\"addr\":196608,\"len\":1},
 {\"op\":\"move_pages\",\"caller\":1,\"pid\":0,\"pages\":[131072],\"nodes\":[1],\"flags\":2},
+{\"op\":\"move_pages\",\"caller\":1,\"pid\":0,\"pages\":[131072],\"nodes\":[0],\"flags\":2},
+{\"op\":\"move_pages\",\"caller\":3,\"pid\":1,\"pages\":[131072],\"nodes\":[1],\"flags\":2},
 {\"op\":\"pagemap\",\"pid\":1},
 {\"op\":\"free\",\"node\":0},
 {\"op\":\"free\",\"node\":1},
@@ -330,6 +333,18 @@ const SHARED: &str =
 {\"op\":\"read\",\"pid\":2,\"addr\":196608,\"len\":1}]}";
 
 const SHARED_TOLD: [&str; 2] = [
+    "| 0: [-13] | 0: [0] | 0: [-13] | 0 | 1 2 3 | 4 5 6 7 | 0 0 | 0 | [97] | true",
+    "| HostMemory { runs: 0, policy_set: false } | 0: [0] | 0: [-13] | 0 | 1 2 3 | 4 5 6 7 | 0 0 | 0 | [97] | true
+| 0: [-13] | 0: [0] | 0: [-13] | 0 | 1 2 3 | 4 5 6 7 | 0 0 | 0 | [97] | true",
+];
+
+const SHARED_THERE_TOLD: [&str; 2] = [
+    "| 0: [0] | 0: [-13] | 0 | 1 2 3 | 4 5 6 7 | 0 0 | 0 | [97] | true",
+    "| HostMemory { runs: 0, policy_set: false } | 0: [-13] | 0 | 1 2 3 | 4 5 6 7 | 0 0 | 0 | [97] | true
+| 0: [0] | 0: [-13] | 0 | 1 2 3 | 4 5 6 7 | 0 0 | 0 | [97] | true",
+];
+
+const SHARED_UNASKED_TOLD: [&str; 2] = [
     "| 0: [-13] | 0 | 1 2 3 | 4 5 6 7 | 0 0 | 0 | [97] | true",
     "| HostMemory { runs: 0, policy_set: false } | 0 | 1 2 3 | 4 5 6 7 | 0 0 | 0 | [97] | true
 | 0: [-13] | 0 | 1 2 3 | 4 5 6 7 | 0 0 | 0 | [97] | true",
@@ -338,8 +353,10 @@ const SHARED_TOLD: [&str; 2] = [
 /// A call that moves nothing also allocates.
 #[test]
 fn refused_pages_stay(rt: HostRuntime) -> Result<(), Fail> {
-    let seen = refuse(&rt, rt.alloc(), SHARED, 7, SHARED_TOLD.as_slice())?;
-    assert_eq!(rt; seen, 3u32);
+    let asked = refuse(&rt, rt.alloc(), SHARED, 7, SHARED_TOLD.as_slice())?;
+    let there = refuse(&rt, rt.alloc(), SHARED, 8, SHARED_THERE_TOLD.as_slice())?;
+    let unasked = refuse(&rt, rt.alloc(), SHARED, 9, SHARED_UNASKED_TOLD.as_slice())?;
+    assert!(rt; [asked, there, unasked] == [3, 3, 3]);
     Ok(())
 }
 

@@ -1,12 +1,13 @@
 //! Copying by a crew of workers.
 
-ghost use Rattle.std.specs.Prelude.{◌≡◌, ◌+◌, ◌<◌, ◌≤◌, length, map, vec_len};
+ghost use Rattle.std.specs.Prelude.{◌≡◌, ◌⊎◌, ◌+◌, ◌<◌, ◌≤◌, map, vec_len};
 ghost use Rattle.std.specs.Thread.{IsSync, IsSend};
 ghost use Rattle.nm_frames.specs.Job.{copied};
 ghost use Rattle.nm_board.specs.Tickets.{InTicketOrder};
 ghost use Rattle.nm_board.specs.Shown.{all_shares};
 ghost use Rattle.nm_crew.specs.Named.{named};
 ghost use Rattle.nm_crew.specs.Hands.{IsReady, IsOver};
+ghost use Rattle.nm_crew.specs.Others.{others_of, IsSizeOfAll};
 
 use crate::gate::Gate;
 use crate::room::Room;
@@ -71,7 +72,8 @@ pub(crate) fn copy_with<
     ensures jobs { result.0.items ≡ map copied jobs.items }
     ensures work { W.post work result.1 }
 {
-    let others = others(gate, jobs.as_slice(), workers);
+    let size = size_of(jobs.as_slice());
+    let others = others(size, gate.worth_from(), jobs.len(), workers);
     if others == 0 {
         return copy_alone(jobs, gate, work);
     }
@@ -83,22 +85,23 @@ pub(crate) fn copy_with<
     }
 }
 
-/// How many workers to use besides the caller: none if the gate says that it is not worth it, and never more than there
-/// are jobs.
-fn others<A: Allocator + Copy, G: Gate>(gate: &G, jobs: &[CopyJob<A>], workers: usize) -> usize
+/// How many workers to use besides the caller to copy `size` bytes by this many jobs: none if it is worth it only from
+/// more bytes on, and never more than there are jobs.
+fn others(size: usize, worth_from: usize, jobs: usize, workers: usize) -> usize
     requires { 0 < workers }
-    ensures workers { result < workers }
-    ensures jobs { result ≤ length jobs.now }
+    ensures { result ≡ others_of size worth_from jobs workers }
 {
-    if workers == 1 || size_of(jobs) < gate.worth_from() {
+    if size < worth_from {
         0
     } else {
-        (workers - 1).min(jobs.len())
+        (workers - 1).min(jobs)
     }
 }
 
-/// How many bytes there are to copy.
-fn size_of<A: Allocator + Copy>(jobs: &[CopyJob<A>]) -> usize {
+/// How many bytes there are to copy, at most the greatest `usize`.
+fn size_of<A: Allocator + Copy>(jobs: &[CopyJob<A>]) -> usize
+    ensures { IsSizeOfAll jobs.now result }
+{
     let mut size = 0usize;
     for job in jobs {
         size = size.saturating_add(job.size());
@@ -178,6 +181,7 @@ fn hire<A: Allocator + Copy, B: Room>(
     requires others { others < own.old.shares }
     ensures ready { IsReady board.now own.new }
     ensures shares { own.new.shares + vec_len result ≡ own.old.shares }
+    ensures all { (vec_len result ≡ others) ⊎ (vec_len result ≡ 0) }
 {
     let mut workers = Vec::new(alloc);
     if workers.reserve(others).is_err() {

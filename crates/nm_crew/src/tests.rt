@@ -2,7 +2,7 @@ ghost use Rattle.std.specs.Prelude.{◌≡◌, ◌<◌, ◌≤◌, IfOk};
 ghost use Rattle.nm_board.specs.Tickets.{InTicketOrder};
 
 use crate::crew::copy_with;
-use crate::starts::Starts;
+use crate::starts::{Plainly, Starts};
 use crate::{Gate, OpenGate, copy_while};
 use nm_frames::{CopyJob, FrameStore};
 use nm_refusing::Refusing;
@@ -127,23 +127,61 @@ impl Calls {
     }
 }
 
-/// Holds each worker until both have called.
+/// Holds each worker until all that are expected have called, for at most 2^24 turns.
 #[derive(Drop)]
-struct Meeting(Calls);
+struct Meeting {
+    /// Which workers called, and which are expected: one bit each.
+    came: AtomicU64,
+    all: u64,
+    missed: AtomicBool,
+}
 
 impl Gate for Meeting {
     fn pass(&self, worker: usize, _ticket: u64) {
-        self.0.count(worker);
-        self.0.hold(&self.0.zero, 1);
-        self.0.hold(&self.0.one, 1);
+        if worker < 64 {
+            self.came.fetch_or(1 << worker, Ordering::SeqCst);
+        }
+        for _ in 0..1u64 << 24 {
+            if self.came.load(Ordering::SeqCst) & self.all == self.all {
+                return;
+            }
+            yield_now();
+        }
+        self.missed.store(true, Ordering::SeqCst);
     }
+}
+
+/// Whether these workers meet, one bit each, and no other copies one of four jobs, which all come back copied.
+fn meet(
+    rt: &(impl Threads + Wait + Sync),
+    alloc: Global,
+    workers: usize,
+    starts: &impl Starts,
+    all: u64,
+) -> Result<bool, AllocError>
+    requires { (0 < workers) × (workers ≤ 64) }
+{
+    let gate = Meeting {
+        came: AtomicU64::new(0),
+        all,
+        missed: AtomicBool::new(false),
+    };
+    let (jobs, answer) = copy_with(rt, alloc, jobs(alloc, 4)?, workers, starts, &gate, || 7);
+    let met = gate.came.load(Ordering::SeqCst) == all && !gate.missed.load(Ordering::SeqCst);
+    Ok(met && answer == 7 && are_copied(jobs.as_slice(), 4))
 }
 
 /// Two workers meet at the gate: code that copies on one thread never gets both there.
 #[test]
 fn two_workers_meet(rt: HostRuntime) -> Result<(), Fail> {
-    let gate = Meeting(Calls::new());
-    assert!(rt; copies(&rt, rt.alloc(), 2, 2, &gate)? && gate.0.met());
+    assert!(rt; meet(&rt, rt.alloc(), 2, &Plainly, 0b11)?);
+    Ok(())
+}
+
+/// Four workers meet: code that starts only some of them never gets all there.
+#[test]
+fn four_workers_meet(rt: HostRuntime) -> Result<(), Fail> {
+    assert!(rt; meet(&rt, rt.alloc(), 4, &Plainly, 0b1111)?);
     Ok(())
 }
 
@@ -247,6 +285,14 @@ impl Starts for Refused {
             Builder::new()
         }
     }
+}
+
+/// Workers 0 and 2 meet if the host refuses the thread of worker 1: code that starts no thread after a refusal never
+/// gets both there.
+#[test]
+fn workers_behind_a_refused_one_meet(rt: HostRuntime) -> Result<(), Fail> {
+    assert!(rt; meet(&rt, rt.alloc(), 3, &Refused(1), 0b101)?);
+    Ok(())
 }
 
 /// Notes which workers called, one bit each.

@@ -73,3 +73,31 @@ fn frames_of_zeros(rt: HostRuntime) -> Result<(), Fail> {
     assert!(rt; ends_of_a_frame(rt.alloc())? == [0, 97, 0, 0]);
     Ok(())
 }
+
+/// How many bytes there are to copy from a frame of zeros that was written whole and then cleared, to one that was
+/// written up to its 96th byte, and how many after that copy.
+fn sizes_of_zeros(alloc: Global) -> Result<[usize; 2], AllocError> {
+    let cleared = FrameId::new(0);
+    let written = FrameId::new(1);
+    let mut store = FrameStore::new(alloc, 2)?;
+    store.populate(alloc, cleared)?;
+    store.populate(alloc, written)?;
+    store.write(cleared, 0, [0; 4096].as_slice());
+    store.zero(cleared);
+    store.write(written, 95, [97].as_slice());
+    let mut job = CopyJob {
+        source: store.take_out(cleared),
+        target: store.take_out(written),
+        ticket: 0,
+    };
+    let before = job.size();
+    job.copy();
+    Ok([before, job.size()])
+}
+
+/// A frame that was cleared has nothing to copy, and neither has one over which such a frame was copied.
+#[test]
+fn nothing_to_copy(rt: HostRuntime) -> Result<(), Fail> {
+    assert!(rt; sizes_of_zeros(rt.alloc())? == [96, 0]);
+    Ok(())
+}

@@ -149,7 +149,7 @@ fn checks(rt: HostRuntime) -> Result<(), Fail> {
     Ok(())
 }
 
-/// Four page numbers that every process sees alike, and no pages by name.
+/// Six page numbers that every process sees alike, and no pages by name.
 struct Row;
 
 impl PageView for Row {
@@ -182,6 +182,24 @@ impl PageView for Row {
                 processes: 1,
                 pinned: false,
             },
+            20 => Seen::At {
+                page: Page {
+                    segment: 0,
+                    index: 4,
+                },
+                frame: FrameId::new(2),
+                processes: 2,
+                pinned: false,
+            },
+            21 => Seen::At {
+                page: Page {
+                    segment: 0,
+                    index: 5,
+                },
+                frame: FrameId::new(4),
+                processes: 2,
+                pinned: true,
+            },
             _ => Seen::NoArea,
         }
     }
@@ -192,7 +210,7 @@ impl PageView for Row {
 }
 
 /// Requests for the second node, for these page numbers of a process.
-fn run_at(alloc: Global, numbers: &[u64]) -> Result<Run<Global>, AllocError>
+fn run_at(alloc: Global, numbers: &[u64], all: bool) -> Result<Run<Global>, AllocError>
     ensures { IfOk result (λ run. run.target ≡ 1) }
 {
     let wanted = numbers
@@ -200,7 +218,7 @@ fn run_at(alloc: Global, numbers: &[u64]) -> Result<Run<Global>, AllocError>
         .map(|number| Wanted::At {
             pid: Pid::new(1),
             vpn: Vpn::new(*number),
-            all: false,
+            all,
         })
         .collect(alloc)?;
     Ok(Run {
@@ -223,39 +241,62 @@ fn are_classes(
     geometry: &Geometry<Global>,
     alloc: Global,
     numbers: &[u64],
+    all: bool,
     want: &[Class],
 ) -> Result<bool, AllocError>
     requires { frame_count geometry.now ≡ 8 }
 {
-    let run = run_at(alloc, numbers)?;
+    let run = run_at(alloc, numbers, all)?;
     let classes = classify(rt, alloc, geometry, &Row, &run)?;
     Ok(classes.as_slice() == want)
 }
 
+/// The class of a page that is to move.
+fn moves(index: u64, from: u16) -> Class {
+    Class::Move {
+        page: Page { segment: 0, index },
+        from: FrameId::new(from),
+    }
+}
+
+/// A page number of each state, one of them twice.
+const NUMBERS: [u64; 8] = [80, 16, 17, 18, 19, 19, 20, 21];
+
+/// Each class in a state of its own: no area, nothing seen, the page of zeros, a pin, other processes, a page that is
+/// where it is to go, and pages that move.
 #[test]
 fn classes_by_a_view(rt: HostRuntime) -> Result<(), Fail> {
     let geometry = two_nodes(rt.alloc())?;
-    let statuses = [
+    let unasked = [
         Class::Status(-14),
         Class::Status(-14),
         Class::Status(-2),
         Class::Status(-16),
+        moves(3, 1),
+        moves(3, 1),
+        Class::Status(-13),
+        Class::Status(1),
     ];
     assert!(rt;
         are_classes(
             &rt,
             &geometry,
             rt.alloc(),
-            &[80, 16, 17, 18],
-            statuses.as_slice()
+            NUMBERS.as_slice(),
+            false,
+            unasked.as_slice()
         )?
     );
-    let page = Page {
-        segment: 0,
-        index: 3,
-    };
-    let from = FrameId::new(1);
-    let same = [Class::Move { page, from }, Class::Move { page, from }];
-    assert!(rt; are_classes(&rt, &geometry, rt.alloc(), &[19, 19], same.as_slice())?);
+    let asked = [Class::Status(-16), moves(4, 2), Class::Status(1)];
+    assert!(rt;
+        are_classes(
+            &rt,
+            &geometry,
+            rt.alloc(),
+            &[18, 20, 21],
+            true,
+            asked.as_slice()
+        )?
+    );
     Ok(())
 }

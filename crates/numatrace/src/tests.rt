@@ -12,7 +12,8 @@ use std::sync::atomic::{AtomicU64, Ordering};
 use std::test::Fail;
 use std::thread::{Threads, yield_now};
 
-/// Three pages of one process, written on node 0, moved to node 1 and read there.
+/// The trace of `examples/three_pages.json`: three pages of one process, written on node 0, moved to node 1 and read
+/// there.
 const TRACE: &str =
     "{\"version\":1,\"machine\":{\"nodes\":[4,4],\"distance\":[[10,20],[20,10]]},\"steps\":[
 {\"op\":\"spawn\",\"pid\":1,\"uid\":100,\"home\":0,\"allowed\":[0,1]},
@@ -175,7 +176,7 @@ const ASKED: [(&str, u64); 3] = [
     ("numatrace --workers 3", 7),
 ];
 
-/// Whether with these words these workers copy, and no others.
+/// Whether with these words these workers copy, and no others, and the report is right.
 fn come(
     rt: &(impl Threads + Wait + Sync),
     global: Global,
@@ -187,17 +188,19 @@ fn come(
         came: AtomicU64::new(0),
         all,
     };
+    let mut written = Watched::new(Vec::new(global));
     let status = run_words_through(
         rt,
         global,
         global,
         words.as_slice(),
         &mut TRACE.as_bytes(),
-        &mut Watched::new(Vec::new(global)),
+        &mut written,
         &mut Vec::new(global),
         &gate,
     );
-    Ok(status == 0 && gate.came.load(Ordering::SeqCst) == all)
+    let told = status == 0 && written.get_ref().as_slice() == REPORT.as_bytes();
+    Ok(told && gate.came.load(Ordering::SeqCst) == all)
 }
 
 #[test]
