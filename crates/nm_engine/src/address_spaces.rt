@@ -129,6 +129,8 @@ impl<A: Allocator + Copy> AddressSpaces<A> {
             (λ (p : Process). with_values (λ v sight. entry_of self.now.place sight) p.sees)
             (get nat_cmp self.now.processes pid)) }
         ensures memory { OnErr result (IsSome (get nat_cmp self.now.processes pid)) }
+        ensures asked { OnErr result
+            ((p : Process) → get nat_cmp self.now.processes pid ≡ Some p → 0 < length p.sees) }
     {
         self.tasks.entries(pid)
     }

@@ -10,6 +10,7 @@ pub mod laws;
 mod machine;
 mod process;
 mod process_table;
+mod view;
 
 pub use answered::{AccessAnswer, Flown};
 pub use inner::failures;

@@ -55,7 +55,7 @@ pub struct Totals {
 /// Processes, areas and pages over nodes of frames. Contracts see it as a sound `State` of the definitions.
 #[derive(Drop)]
 pub struct Machine<A: Allocator + Copy + Send + Sync> {
-    inner: Inner<A>,
+    pub(crate) inner: Inner<A>,
     alloc: A,
 }
 
@@ -412,11 +412,13 @@ impl<A: Allocator + Copy + Send + Sync> Machine<A> {
     }
 
     /// What a process has at the page numbers that it has touched, in ascending order, as in `/proc/PID/pagemap`. ESRCH
-    /// if there is no such process.
+    /// if there is no such process. An empty list takes no memory.
     pub fn entries(&self, pid: Pid) -> Result<Vec<(Vpn, Entry), A>, MachineError>
         ensures told { Tells result (entries_refusal self.now pid)
             (λ entries. entries.items ≡ entries_of self.now pid) }
         ensures memory { AsksLast result (entries_refusal self.now pid) }
+        ensures asked { result ≡ Err MachineError.HostMemory →
+            0 < length (entries_of self.now pid) }
     {
         self.inner.entries(pid)
     }

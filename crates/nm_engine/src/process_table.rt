@@ -76,6 +76,7 @@ impl<A: Allocator + Copy> ProcessTable<A> {
             (λ all. option_map (λ entries. entries.items) all
             ≡ option_map task_table (get nat_cmp self.now pid)) }
         ensures memory { OnErr result (IsSome (get nat_cmp self.now pid)) }
+        ensures asked { OnErr result (0 < length (entries_in self.now pid)) }
     {
         match self.tasks.get(&pid) {
             Some(task) => Ok(Some(task.table.entries()?)),

@@ -7,8 +7,9 @@ ghost use Rattle.nm_model.specs.definitions.PageTables.{entries_of};
 ghost use Rattle.nm_model.specs.definitions.Effect.{entries_refusal, list_refusal};
 ghost use Rattle.nm_model.specs.definitions.Sound.{IsSound};
 ghost use Rattle.nm_model.specs.definitions.Effect.{info_of};
+ghost use Rattle.nm_model.specs.definitions.Seen.{look, look_at_place};
 ghost use Rattle.nm_types.specs.Layout.{node_count};
-ghost use Rattle.nm_types.specs.Map.{get};
+ghost use Rattle.nm_types.specs.Map.{get, page_cmp};
 ghost use Rattle.nm_types.specs.Nodes.{is_in};
 ghost use Rattle.nm_types.specs.State.{free_list};
 ghost use Rattle.nm_types.specs.declared.errno.Errno.{Errno};
@@ -20,7 +21,7 @@ use crate::ProcessInfo;
 use crate::inner::Inner;
 use crate::machine::Totals;
 use nm_tables::Entry;
-use nm_types::{Errno, FrameId, MachineError, NodeId, Pid, Seen, Vpn};
+use nm_types::{Errno, FrameId, MachineError, NodeId, Page, Pid, Seen, Vpn};
 use std::alloc::{AllocError, Allocator};
 
 impl<A: Allocator + Copy> Inner<A> {
@@ -75,11 +76,29 @@ impl<A: Allocator + Copy> Inner<A> {
         ensures told { Tells result (entries_refusal self.now.state pid)
             (λ entries. entries.items ≡ entries_of self.now.state pid) }
         ensures memory { AsksLast result (entries_refusal self.now.state pid) }
+        ensures asked { result ≡ Err MachineError.HostMemory →
+            0 < length (entries_of self.now.state pid) }
     {
         match self.spaces.entries(pid)? {
             Some(entries) => Ok(entries),
             None => Err(MachineError::Refused(Errno::Esrch)),
         }
+    }
+
+    /// What a process sees at a page number.
+    pub(crate) fn look(&self, pid: Pid, vpn: Vpn) -> Seen
+        ensures { result ≡ look self.now.state pid vpn }
+    {
+        self.spaces.look(pid, vpn)
+    }
+
+    /// What is to be seen of a page, whoever sees it.
+    pub(crate) fn look_at_page(&self, page: Page) -> Seen
+        ensures { result
+            ≡ look_at_place self.now.state.processes self.now.state.pins page
+            (get page_cmp self.now.state.place page) }
+    {
+        self.spaces.look_at_page(page)
     }
 
     /// The number of the node of the page that a process sees at a page number, or an error's number with a minus sign.
