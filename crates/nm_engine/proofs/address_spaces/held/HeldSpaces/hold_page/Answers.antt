@@ -14,7 +14,7 @@ use Rattle.nm_engine.specs.Held.{HeldView, held_for}
 use Rattle.nm_engine.specs.ProcessTable.{IsThere, all_replaced}
 use Rattle.nm_engine.specs.Tied.{IsTied}
 use Rattle.nm_engine.proofs.Tied.Held.{named_there, hold_tied, hold_shows, hold_entries}
-use Rattle.nm_engine.proofs.Tied.Moved.{IsSpare, placed_in, spare_in, spare_without}
+use Rattle.nm_engine.proofs.Tied.Moved.{placed_in, spare_in, spare_without}
 use Rattle.nm_engine.proofs.address_spaces.held.HeldSpaces.hold_page.Given.{Over}
 use Rattle.nm_engine.proofs.address_spaces.held.HeldSpaces.hold_page.Goals as goal
 
