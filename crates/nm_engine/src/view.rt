@@ -4,7 +4,7 @@ use crate::machine::Machine;
 use nm_types::{Page, PageView, Pid, Seen, Vpn};
 use std::alloc::Allocator;
 
-impl<A: Allocator + Copy> PageView for Machine<A> {
+impl<A: Allocator + Copy + Send + Sync> PageView for Machine<A> {
     ghost use Rattle.nm_types.specs.Map.{get, page_cmp};
     ghost use Rattle.nm_model.specs.definitions.Seen.{look, look_at_place};
 

@@ -1,6 +1,11 @@
-use Rattle.std.proofs.Common.{◌∙◌, Option, Some, None, IsSome, option_map, subst}
+use Rattle.std.proofs.Common.{◌<◌, ℕ, [], length, ap, ◌∙◌, Option, Some, None, IsSome, option_map, subst}
+use Rattle.std.specs.Option.{unwrap_or}
 use Rattle.std.specs.Ordering.{nat_cmp}
-use Rattle.nm_types.specs.Map.{get}
+use Rattle.nm_types.specs.Map.{Map, get, with_values}
+use Rattle.nm_types.specs.State.{Process}
+use Rattle.nm_types.specs.declared.entry.Entry.{Entry}
+use Rattle.nm_types.proofs.Keys.{as_many-values}
+use Rattle.nm_model.specs.definitions.PageTables.{entry_of}
 use Rattle.nm_engine.proofs.Tied.Tabled.{if_ok, on_err}
 use Rattle.nm_engine.proofs.Tied.New.{table_shown, info_shown}
 use Rattle.nm_engine.proofs.address_spaces.AddressSpaces.entries.Goals as goal
@@ -24,3 +29,13 @@ returns-clause-memory g c =
     let x = c.self.inside in
     let there = info_shown c.args.self.now x.tasks x.areas x.rmap c.args.pid c.self.view_is in
     on_err c.entries.result (λ some. some_mapped _ (get nat_cmp c.args.self.now.processes c.args.pid) (subst IsSome there (mapped_some _ (get nat_cmp x.tasks c.args.pid) some))) c.entries.ensures.memory
+
+pub returns-clause-asked : goal.returns-clause-asked
+returns-clause-asked g c =
+    let x = c.self.inside in
+    let y = c.args.self.now in
+    let shown : Process → Map ℕ Entry = λ p. with_values (λ v sight. entry_of y.place sight) p.sees in
+    on_err c.entries.result (λ some p found.
+    subst (λ n. 0 < n) (as_many-values (λ v sight. entry_of y.place sight) p.sees)
+    (subst (λ (o : Option (Map ℕ Entry)). 0 < length (unwrap_or o [])) (table_shown x.tasks x.areas x.rmap c.self.invariant y c.args.pid c.self.view_is ∙ ap (option_map shown) found) some))
+    c.entries.ensures.asked
