@@ -2,9 +2,7 @@
 use Rattle.std.proofs.Common.{◌≡◌, ℕ, suc, ◌+◌, ◌≤◌, ◌<◌, List, [], ◌∷◌, ◌++◌, Option, Some, None, length, get_or, drop, option_map, refl, sym, ap, ◌∙◌, append_assoc, add-one, drop-cons, arith}
 use Rattle.std.proofs.lemmas.List.{append-nil, drop_all}
 use Rattle.serde_json.specs.Data.{Data}
-use Rattle.std.specs.declared.alloc.Global.{Global}
-use Rattle.json.specs.declared.value.Value.{Value}
-use Rattle.nm_steps.specs.Tree.{view, items_view}
+use Rattle.nm_steps.specs.Tree.{items_seen}
 use Rattle.nm_steps.specs.declared.step_error.StepError.{StepError}
 use Rattle.nm_steps.specs.declared.step_error.StepError.TheVariants.{Bad, Memory}
 use Rattle.nm_steps.specs.Calls.{Call}
@@ -20,30 +18,30 @@ regroup : {A : Type 0} (front : List A) (x : A) (rest : Option (List A)) → wit
 regroup front x (Some xs) = ap Some (simp append_assoc)
 regroup front x None = refl
 
-module _ {A : Type 0} (f : Data → Option A) (front : List A) (vs : List (Value Global)) (i : ℕ) (v : Value Global) (total : Option (List A)) (lt : i < length vs) (is : v ≡ get_or vs i v) where
+module _ {A V : Type 0} (f : Data → Option A) (front : List A) (view : V → Data) (vs : List V) (i : ℕ) (v : V) (total : Option (List A)) (lt : i < length vs) (is : v ≡ get_or vs i v) where
   split : drop i vs ≡ v ∷ drop (i + 1) vs
   split = rw (add-one, drop-cons vs i v) (ap (λ w. w ∷ drop (suc i) vs) (sym is))
 
-  pub goes_on : (x : A) → f (view v) ≡ Some x → with_front front (each f (items_view (drop i vs))) ≡ total → with_front (front ++ x ∷ []) (each f (items_view (drop (i + 1) vs))) ≡ total
+  pub goes_on : (x : A) → f (view v) ≡ Some x → with_front front (each f (items_seen view (drop i vs))) ≡ total → with_front (front ++ x ∷ []) (each f (items_seen view (drop (i + 1) vs))) ≡ total
   goes_on x h so_far =
-      let one : with_front front (each f (items_view (drop i vs))) ≡ with_front (front ++ x ∷ []) (each f (items_view (drop (i + 1) vs))) = rw (split, h) (regroup front x (each f (items_view (drop (i + 1) vs)))) in
+      let one : with_front front (each f (items_seen view (drop i vs))) ≡ with_front (front ++ x ∷ []) (each f (items_seen view (drop (i + 1) vs))) = rw (split, h) (regroup front x (each f (items_seen view (drop (i + 1) vs)))) in
       sym one ∙ so_far
 
-  pub ends : (e : StepError) → Fails e (f (view v)) → with_front front (each f (items_view (drop i vs))) ≡ total → Fails e total
+  pub ends : (e : StepError) → Fails e (f (view v)) → with_front front (each f (items_seen view (drop i vs))) ≡ total → Fails e total
   ends Memory h so_far = tt
   ends Bad h so_far =
-      let one : with_front front (each f (items_view (drop i vs))) ≡ None = rw (split, h) refl in
+      let one : with_front front (each f (items_seen view (drop i vs))) ≡ None = rw (split, h) refl in
       sym so_far ∙ one
 
-pub is_done : {A : Type 0} (f : Data → Option A) (front : List A) (vs : List (Value Global)) (i : ℕ) (total : Option (List A)) → length vs ≤ i → with_front front (each f (items_view (drop i vs))) ≡ total → total ≡ Some front
-is_done f front vs i total le so_far =
+pub is_done : {A V : Type 0} (f : Data → Option A) (front : List A) (view : V → Data) (vs : List V) (i : ℕ) (total : Option (List A)) → length vs ≤ i → with_front front (each f (items_seen view (drop i vs))) ≡ total → total ≡ Some front
+is_done f front view vs i total le so_far =
     let none : drop i vs ≡ [] = drop_all i vs le in
-    let one : with_front front (each f (items_view (drop i vs))) ≡ Some front = rw none (ap Some (append-nil front)) in
+    let one : with_front front (each f (items_seen view (drop i vs))) ≡ Some front = rw none (ap Some (append-nil front)) in
     sym so_far ∙ one
 
 -- the first item that is no step comes after one that is a step
-pub is_later : (limit : ℕ) (vs : List (Value Global)) (i : ℕ) (v : Value Global) → i < length vs → v ≡ get_or vs i v → (call : Call) → step_of limit (view v) ≡ Some call → (place : ℕ) → i + first_bad limit (items_view (drop i vs)) ≡ place → (i + 1) + first_bad limit (items_view (drop (i + 1) vs)) ≡ place
-is_later limit vs i v lt is call h place so_far =
+pub is_later : {V : Type 0} (limit : ℕ) (view : V → Data) (vs : List V) (i : ℕ) (v : V) → i < length vs → v ≡ get_or vs i v → (call : Call) → step_of limit (view v) ≡ Some call → (place : ℕ) → i + first_bad limit (items_seen view (drop i vs)) ≡ place → (i + 1) + first_bad limit (items_seen view (drop (i + 1) vs)) ≡ place
+is_later limit view vs i v lt is call h place so_far =
     let split : drop i vs ≡ v ∷ drop (i + 1) vs = rw (add-one, drop-cons vs i v) (ap (λ w. w ∷ drop (suc i) vs) (sym is)) in
-    let one : first_bad limit (items_view (drop i vs)) ≡ suc (first_bad limit (items_view (drop (i + 1) vs))) = rw (split, h) refl in
+    let one : first_bad limit (items_seen view (drop i vs)) ≡ suc (first_bad limit (items_seen view (drop (i + 1) vs))) = rw (split, h) refl in
     omega (arith, one, so_far)

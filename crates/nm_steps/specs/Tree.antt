@@ -34,5 +34,9 @@ abbrev mutual
 abbrev pub view : Value Global → Data
 view v = shown (value_view v)
 
+-- the items of a list of values, each seen as its data
+abbrev pub items_seen : {V : Type 0} → (V → Data) → List V → Items
+items_seen as_data vs = items_of (map as_data vs)
+
 abbrev pub items_view : List (Value Global) → Items
-items_view vs = items_of (map view vs)
+items_view vs = items_seen view vs

@@ -1,7 +1,7 @@
 //! Steps in JSON: the call that each asks for.
 
 ghost use Rattle.std.specs.Prelude.{◌≡◌, ◌<◌, ◌++◌, ◌∷◌, [], OnOk, IfErr};
-ghost use Rattle.nm_steps.specs.Tree.{view, items_view};
+ghost use Rattle.nm_steps.specs.Tree.{items_seen};
 ghost use Rattle.nm_model.specs.views.Asked.{access_shown};
 ghost use Rattle.nm_steps.specs.Form as form;
 ghost use Rattle.nm_steps.specs.Views.{call_of, shown_during};
@@ -12,9 +12,9 @@ use crate::call::{
     Attachment, Batch, Call, InFlight, MbindRequest, MigrateRequest, MoveRequest, NewArea,
     NewProcess, Question,
 };
+use crate::json_value::JsonValue;
+use crate::keys::{flag, hex, number, numbers, set, small, smalls, text};
 use crate::step_error::StepError;
-use crate::tree::{self, flag, hex, number, numbers, set, small, smalls, text};
-use json::Value;
 use nm_runs::run_count;
 use nm_types::limits::MAX_BATCH;
 use nm_types::{Access, NodeId, Pid};
@@ -22,8 +22,10 @@ use std::alloc::Allocator;
 
 /// The read that these keys describe.
 #[tactic(auto, unfolding(crate::specs::Form::read_access))]
-fn read_access<A: Allocator + Copy + Send + Sync>(value: &Value<'_>) -> Result<Access<A>, StepError>
-    ensures { Gives access_shown result (form.read_access (view value.now)) }
+fn read_access<A: Allocator + Copy + Send + Sync, V: JsonValue>(
+    value: &V,
+) -> Result<Access<A>, StepError>
+    ensures { Gives access_shown result (form.read_access (V.as_data value.now)) }
 {
     Ok(Access::Read {
         pid: Pid::new(small(value, "pid")?),
@@ -34,11 +36,11 @@ fn read_access<A: Allocator + Copy + Send + Sync>(value: &Value<'_>) -> Result<A
 
 /// The write that these keys describe.
 #[tactic(auto, unfolding(crate::specs::Form::write_access))]
-fn write_access<A: Allocator + Copy + Send + Sync>(
+fn write_access<A: Allocator + Copy + Send + Sync, V: JsonValue>(
     alloc: A,
-    value: &Value<'_>,
+    value: &V,
 ) -> Result<Access<A>, StepError>
-    ensures { Gives access_shown result (form.write_access (view value.now)) }
+    ensures { Gives access_shown result (form.write_access (V.as_data value.now)) }
 {
     Ok(Access::Write {
         pid: Pid::new(small(value, "pid")?),
@@ -49,12 +51,12 @@ fn write_access<A: Allocator + Copy + Send + Sync>(
 
 /// The access with this name.
 #[tactic(auto, unfolding(crate::specs::Form::access_named))]
-fn access_named<A: Allocator + Copy + Send + Sync>(
+fn access_named<A: Allocator + Copy + Send + Sync, V: JsonValue>(
     alloc: A,
     op: &str,
-    value: &Value<'_>,
+    value: &V,
 ) -> Result<Access<A>, StepError>
-    ensures { Gives access_shown result (form.access_named op.now (view value.now)) }
+    ensures { Gives access_shown result (form.access_named op.now (V.as_data value.now)) }
 {
     match op {
         "read" => read_access(value),
@@ -65,13 +67,13 @@ fn access_named<A: Allocator + Copy + Send + Sync>(
 
 /// An access in flight, whose run is below `runs`.
 #[tactic(auto, unfolding(crate::specs::Form::in_flight))]
-fn in_flight<A: Allocator + Copy + Send + Sync>(
+fn in_flight<A: Allocator + Copy + Send + Sync, V: JsonValue>(
     alloc: A,
-    value: &Value<'_>,
+    value: &V,
     runs: usize,
 ) -> Result<InFlight<A>, StepError>
     ensures { Gives (λ d. (d.run, access_shown d.access)) result
-        (form.in_flight runs (view value.now)) }
+        (form.in_flight runs (V.as_data value.now)) }
 {
     let run = number(value, "run")?;
     if run >= runs as u64 {
@@ -99,13 +101,13 @@ fn put<A: Allocator + Copy + Send + Sync>(
 }
 
 /// The accesses of a list, each of a run below `runs`.
-fn flights_of<A: Allocator + Copy + Send + Sync>(
+fn flights_of<A: Allocator + Copy + Send + Sync, V: JsonValue>(
     alloc: A,
-    values: &[Value<'_>],
+    values: &[V],
     runs: usize,
 ) -> Result<Vec<InFlight<A>, A>, StepError>
     ensures { Gives (λ v. shown_during v.items) result
-        (form.each (form.in_flight runs) (items_view values.now)) }
+        (form.each (form.in_flight runs) (items_seen V.as_data values.now)) }
 {
     let mut flights = Vec::new(alloc);
     for value in values {
@@ -116,25 +118,25 @@ fn flights_of<A: Allocator + Copy + Send + Sync>(
 }
 
 /// The accesses in flight of a step with this many runs. Empty if the key is missing.
-fn flights_at<A: Allocator + Copy + Send + Sync>(
+fn flights_at<A: Allocator + Copy + Send + Sync, V: JsonValue>(
     alloc: A,
-    value: &Value<'_>,
+    value: &V,
     runs: usize,
 ) -> Result<Vec<InFlight<A>, A>, StepError>
-    ensures { Gives (λ v. shown_during v.items) result (form.during_at runs (view value.now)) }
+    ensures { Gives (λ v. shown_during v.items) result (form.during_at runs (V.as_data value.now)) }
 {
-    match tree::get(value, "during") {
+    match value.get("during") {
         None => Ok(Vec::new(alloc)),
         Some(during) => {
-            let values = tree::as_array(during).ok_or(StepError::Bad)?;
-            flights_of(alloc, values.as_slice(), runs)
+            let values = during.as_array().ok_or(StepError::Bad)?;
+            flights_of(alloc, values, runs)
         }
     }
 }
 
 #[tactic(auto, unfolding(crate::specs::Form::spawn_of))]
-fn spawn<A: Allocator + Copy + Send + Sync>(value: &Value<'_>) -> Result<Call<A>, StepError>
-    ensures { Gives call_of result (form.spawn_of (view value.now)) }
+fn spawn<A: Allocator + Copy + Send + Sync, V: JsonValue>(value: &V) -> Result<Call<A>, StepError>
+    ensures { Gives call_of result (form.spawn_of (V.as_data value.now)) }
 {
     Ok(Call::Spawn(NewProcess {
         pid: Pid::new(small(value, "pid")?),
@@ -146,8 +148,8 @@ fn spawn<A: Allocator + Copy + Send + Sync>(value: &Value<'_>) -> Result<Call<A>
 }
 
 #[tactic(auto, unfolding(crate::specs::Form::map_of))]
-fn map<A: Allocator + Copy + Send + Sync>(value: &Value<'_>) -> Result<Call<A>, StepError>
-    ensures { Gives call_of result (form.map_of (view value.now)) }
+fn map<A: Allocator + Copy + Send + Sync, V: JsonValue>(value: &V) -> Result<Call<A>, StepError>
+    ensures { Gives call_of result (form.map_of (V.as_data value.now)) }
 {
     Ok(Call::Map(NewArea {
         pid: Pid::new(small(value, "pid")?),
@@ -158,8 +160,8 @@ fn map<A: Allocator + Copy + Send + Sync>(value: &Value<'_>) -> Result<Call<A>, 
 }
 
 #[tactic(auto, unfolding(crate::specs::Form::attach_of))]
-fn attach<A: Allocator + Copy + Send + Sync>(value: &Value<'_>) -> Result<Call<A>, StepError>
-    ensures { Gives call_of result (form.attach_of (view value.now)) }
+fn attach<A: Allocator + Copy + Send + Sync, V: JsonValue>(value: &V) -> Result<Call<A>, StepError>
+    ensures { Gives call_of result (form.attach_of (V.as_data value.now)) }
 {
     Ok(Call::Attach(Attachment {
         pid: Pid::new(small(value, "pid")?),
@@ -171,8 +173,8 @@ fn attach<A: Allocator + Copy + Send + Sync>(value: &Value<'_>) -> Result<Call<A
 }
 
 #[tactic(auto, unfolding(crate::specs::Form::unmap_of))]
-fn unmap<A: Allocator + Copy + Send + Sync>(value: &Value<'_>) -> Result<Call<A>, StepError>
-    ensures { Gives call_of result (form.unmap_of (view value.now)) }
+fn unmap<A: Allocator + Copy + Send + Sync, V: JsonValue>(value: &V) -> Result<Call<A>, StepError>
+    ensures { Gives call_of result (form.unmap_of (V.as_data value.now)) }
 {
     Ok(Call::Unmap {
         pid: Pid::new(small(value, "pid")?),
@@ -182,8 +184,8 @@ fn unmap<A: Allocator + Copy + Send + Sync>(value: &Value<'_>) -> Result<Call<A>
 }
 
 #[tactic(auto, unfolding(crate::specs::Form::exit_of))]
-fn exit<A: Allocator + Copy + Send + Sync>(value: &Value<'_>) -> Result<Call<A>, StepError>
-    ensures { Gives call_of result (form.exit_of (view value.now)) }
+fn exit<A: Allocator + Copy + Send + Sync, V: JsonValue>(value: &V) -> Result<Call<A>, StepError>
+    ensures { Gives call_of result (form.exit_of (V.as_data value.now)) }
 {
     Ok(Call::Exit {
         pid: Pid::new(small(value, "pid")?),
@@ -191,8 +193,8 @@ fn exit<A: Allocator + Copy + Send + Sync>(value: &Value<'_>) -> Result<Call<A>,
 }
 
 #[tactic(auto, unfolding(crate::specs::Form::pin_of))]
-fn pin<A: Allocator + Copy + Send + Sync>(value: &Value<'_>) -> Result<Call<A>, StepError>
-    ensures { Gives call_of result (form.pin_of (view value.now)) }
+fn pin<A: Allocator + Copy + Send + Sync, V: JsonValue>(value: &V) -> Result<Call<A>, StepError>
+    ensures { Gives call_of result (form.pin_of (V.as_data value.now)) }
 {
     Ok(Call::Pin {
         pid: Pid::new(small(value, "pid")?),
@@ -201,8 +203,8 @@ fn pin<A: Allocator + Copy + Send + Sync>(value: &Value<'_>) -> Result<Call<A>, 
 }
 
 #[tactic(auto, unfolding(crate::specs::Form::unpin_of))]
-fn unpin<A: Allocator + Copy + Send + Sync>(value: &Value<'_>) -> Result<Call<A>, StepError>
-    ensures { Gives call_of result (form.unpin_of (view value.now)) }
+fn unpin<A: Allocator + Copy + Send + Sync, V: JsonValue>(value: &V) -> Result<Call<A>, StepError>
+    ensures { Gives call_of result (form.unpin_of (V.as_data value.now)) }
 {
     Ok(Call::Unpin {
         pid: Pid::new(small(value, "pid")?),
@@ -220,29 +222,29 @@ fn access_step<A: Allocator + Copy + Send + Sync>(access: Access<A>) -> Call<A>
     }
 }
 
-fn read<A: Allocator + Copy + Send + Sync>(value: &Value<'_>) -> Result<Call<A>, StepError>
-    ensures { Gives call_of result (form.read_of (view value.now)) }
+fn read<A: Allocator + Copy + Send + Sync, V: JsonValue>(value: &V) -> Result<Call<A>, StepError>
+    ensures { Gives call_of result (form.read_of (V.as_data value.now)) }
 {
     Ok(access_step(read_access(value)?))
 }
 
-fn write<A: Allocator + Copy + Send + Sync>(
+fn write<A: Allocator + Copy + Send + Sync, V: JsonValue>(
     alloc: A,
-    value: &Value<'_>,
+    value: &V,
 ) -> Result<Call<A>, StepError>
-    ensures { Gives call_of result (form.write_of (view value.now)) }
+    ensures { Gives call_of result (form.write_of (V.as_data value.now)) }
 {
     Ok(access_step(write_access(alloc, value)?))
 }
 
 /// Pages with a node for each.
 #[tactic(auto, unfolding(crate::specs::Form::batch_of))]
-fn batch_of<A: Allocator + Copy + Send + Sync>(
+fn batch_of<A: Allocator + Copy + Send + Sync, V: JsonValue>(
     alloc: A,
-    value: &Value<'_>,
+    value: &V,
 ) -> Result<Batch<A>, StepError>
     ensures { Gives (λ batch. (batch.pages.items, batch.nodes.items)) result
-        (form.batch_of (view value.now)) }
+        (form.batch_of (V.as_data value.now)) }
 {
     let pages = numbers(alloc, value, "pages")?;
     let nodes = smalls(alloc, value, "nodes")?;
@@ -253,13 +255,13 @@ fn batch_of<A: Allocator + Copy + Send + Sync>(
 }
 
 #[tactic(auto, unfolding(crate::specs::Form::move_pages_of))]
-fn move_pages<A: Allocator + Copy + Send + Sync>(
+fn move_pages<A: Allocator + Copy + Send + Sync, V: JsonValue>(
     alloc: A,
-    value: &Value<'_>,
+    value: &V,
     limit: usize,
 ) -> Result<Call<A>, StepError>
     requires { 0 < limit }
-    ensures { Gives call_of result (form.move_pages_of limit (view value.now)) }
+    ensures { Gives call_of result (form.move_pages_of limit (V.as_data value.now)) }
 {
     let caller = small(value, "caller")?;
     let pid = small(value, "pid")?;
@@ -277,8 +279,10 @@ fn move_pages<A: Allocator + Copy + Send + Sync>(
 }
 
 #[tactic(auto, unfolding(crate::specs::Form::migrate_pages_of))]
-fn migrate_pages<A: Allocator + Copy + Send + Sync>(value: &Value<'_>) -> Result<Call<A>, StepError>
-    ensures { Gives call_of result (form.migrate_pages_of (view value.now)) }
+fn migrate_pages<A: Allocator + Copy + Send + Sync, V: JsonValue>(
+    value: &V,
+) -> Result<Call<A>, StepError>
+    ensures { Gives call_of result (form.migrate_pages_of (V.as_data value.now)) }
 {
     Ok(Call::MigratePages(MigrateRequest {
         caller: Pid::new(small(value, "caller")?),
@@ -289,8 +293,8 @@ fn migrate_pages<A: Allocator + Copy + Send + Sync>(value: &Value<'_>) -> Result
 }
 
 #[tactic(auto, unfolding(crate::specs::Form::mbind_of))]
-fn mbind<A: Allocator + Copy + Send + Sync>(value: &Value<'_>) -> Result<Call<A>, StepError>
-    ensures { Gives call_of result (form.mbind_of (view value.now)) }
+fn mbind<A: Allocator + Copy + Send + Sync, V: JsonValue>(value: &V) -> Result<Call<A>, StepError>
+    ensures { Gives call_of result (form.mbind_of (V.as_data value.now)) }
 {
     Ok(Call::Mbind(MbindRequest {
         caller: Pid::new(small(value, "caller")?),
@@ -303,8 +307,8 @@ fn mbind<A: Allocator + Copy + Send + Sync>(value: &Value<'_>) -> Result<Call<A>
 }
 
 #[tactic(auto, unfolding(crate::specs::Form::offline_of))]
-fn offline<A: Allocator + Copy + Send + Sync>(value: &Value<'_>) -> Result<Call<A>, StepError>
-    ensures { Gives call_of result (form.offline_of (view value.now)) }
+fn offline<A: Allocator + Copy + Send + Sync, V: JsonValue>(value: &V) -> Result<Call<A>, StepError>
+    ensures { Gives call_of result (form.offline_of (V.as_data value.now)) }
 {
     Ok(Call::Offline {
         node: NodeId::new(small(value, "node")?),
@@ -312,8 +316,8 @@ fn offline<A: Allocator + Copy + Send + Sync>(value: &Value<'_>) -> Result<Call<
 }
 
 #[tactic(auto, unfolding(crate::specs::Form::online_of))]
-fn online<A: Allocator + Copy + Send + Sync>(value: &Value<'_>) -> Result<Call<A>, StepError>
-    ensures { Gives call_of result (form.online_of (view value.now)) }
+fn online<A: Allocator + Copy + Send + Sync, V: JsonValue>(value: &V) -> Result<Call<A>, StepError>
+    ensures { Gives call_of result (form.online_of (V.as_data value.now)) }
 {
     Ok(Call::Online {
         node: NodeId::new(small(value, "node")?),
@@ -321,11 +325,11 @@ fn online<A: Allocator + Copy + Send + Sync>(value: &Value<'_>) -> Result<Call<A
 }
 
 #[tactic(auto, unfolding(crate::specs::Form::query_of))]
-fn query<A: Allocator + Copy + Send + Sync>(
+fn query<A: Allocator + Copy + Send + Sync, V: JsonValue>(
     alloc: A,
-    value: &Value<'_>,
+    value: &V,
 ) -> Result<Call<A>, StepError>
-    ensures { Gives call_of result (form.query_of (view value.now)) }
+    ensures { Gives call_of result (form.query_of (V.as_data value.now)) }
 {
     let caller = small(value, "caller")?;
     let pid = small(value, "pid")?;
@@ -343,8 +347,8 @@ fn query<A: Allocator + Copy + Send + Sync>(
 }
 
 #[tactic(auto, unfolding(crate::specs::Form::free_of))]
-fn free<A: Allocator + Copy + Send + Sync>(value: &Value<'_>) -> Result<Call<A>, StepError>
-    ensures { Gives call_of result (form.free_of (view value.now)) }
+fn free<A: Allocator + Copy + Send + Sync, V: JsonValue>(value: &V) -> Result<Call<A>, StepError>
+    ensures { Gives call_of result (form.free_of (V.as_data value.now)) }
 {
     Ok(Call::FreeList {
         node: NodeId::new(small(value, "node")?),
@@ -352,8 +356,8 @@ fn free<A: Allocator + Copy + Send + Sync>(value: &Value<'_>) -> Result<Call<A>,
 }
 
 #[tactic(auto, unfolding(crate::specs::Form::pagemap_of))]
-fn pagemap<A: Allocator + Copy + Send + Sync>(value: &Value<'_>) -> Result<Call<A>, StepError>
-    ensures { Gives call_of result (form.pagemap_of (view value.now)) }
+fn pagemap<A: Allocator + Copy + Send + Sync, V: JsonValue>(value: &V) -> Result<Call<A>, StepError>
+    ensures { Gives call_of result (form.pagemap_of (V.as_data value.now)) }
 {
     Ok(Call::Pagemap {
         pid: Pid::new(small(value, "pid")?),
@@ -361,15 +365,17 @@ fn pagemap<A: Allocator + Copy + Send + Sync>(value: &Value<'_>) -> Result<Call<
 }
 
 #[tactic(auto, unfolding(crate::specs::Form::vmstat_of))]
-fn vmstat<A: Allocator + Copy + Send + Sync>(value: &Value<'_>) -> Result<Call<A>, StepError>
-    ensures { Gives call_of result (form.vmstat_of (view value.now)) }
+fn vmstat<A: Allocator + Copy + Send + Sync, V: JsonValue>(value: &V) -> Result<Call<A>, StepError>
+    ensures { Gives call_of result (form.vmstat_of (V.as_data value.now)) }
 {
     Ok(Call::Vmstat)
 }
 
 #[tactic(auto, unfolding(crate::specs::Form::numa_maps_of))]
-fn numa_maps<A: Allocator + Copy + Send + Sync>(value: &Value<'_>) -> Result<Call<A>, StepError>
-    ensures { Gives call_of result (form.numa_maps_of (view value.now)) }
+fn numa_maps<A: Allocator + Copy + Send + Sync, V: JsonValue>(
+    value: &V,
+) -> Result<Call<A>, StepError>
+    ensures { Gives call_of result (form.numa_maps_of (V.as_data value.now)) }
 {
     Ok(Call::NumaMaps {
         pid: Pid::new(small(value, "pid")?),
@@ -377,14 +383,14 @@ fn numa_maps<A: Allocator + Copy + Send + Sync>(value: &Value<'_>) -> Result<Cal
 }
 
 #[tactic(auto, unfolding(crate::specs::Form::named))]
-fn named<A: Allocator + Copy + Send + Sync>(
+fn named<A: Allocator + Copy + Send + Sync, V: JsonValue>(
     alloc: A,
     op: &str,
-    value: &Value<'_>,
+    value: &V,
     limit: usize,
 ) -> Result<Call<A>, StepError>
     requires { 0 < limit }
-    ensures { Gives call_of result (form.named limit op.now (view value.now)) }
+    ensures { Gives call_of result (form.named limit op.now (V.as_data value.now)) }
 {
     match op {
         "spawn" => spawn(value),
@@ -412,13 +418,13 @@ fn named<A: Allocator + Copy + Send + Sync>(
 
 /// The call that a step asks for, where a run has at most `limit` entries.
 #[tactic(auto, unfolding(crate::specs::Form::step_of))]
-pub fn step_of<A: Allocator + Copy + Send + Sync>(
+pub fn step_of<A: Allocator + Copy + Send + Sync, V: JsonValue>(
     alloc: A,
-    value: &Value<'_>,
+    value: &V,
     limit: usize,
 ) -> Result<Call<A>, StepError>
     requires { 0 < limit }
-    ensures { Gives call_of result (form.step_of limit (view value.now)) }
+    ensures { Gives call_of result (form.step_of limit (V.as_data value.now)) }
 {
     named(alloc, text(value, "op")?, value, limit)
 }

@@ -4,7 +4,8 @@ ghost use Rattle.std.specs.Prelude.{map, ◌≡◌, ◌<◌, ◌≤◌, ◌^◌,
 ghost use Rattle.nm_steps.specs.Calls.{default_limit};
 ghost use Rattle.nm_steps.specs.Views.{call_of};
 ghost use Rattle.std.specs.Option.{ok_or};
-ghost use Rattle.nm_steps.specs.Tree.{view, items_view};
+ghost use Rattle.nm_steps.specs.Tree.{view, items_seen};
+ghost use Rattle.serde_json.specs.View as owned;
 ghost use Rattle.nm_steps.specs.Form as form;
 ghost use Rattle.nm_steps.specs.Faults as faults;
 ghost use Rattle.nm_steps.specs.Faults.{Gives};
@@ -14,11 +15,13 @@ ghost use Rattle.nm_steps.specs.declared.step_error.StepError.TheVariants.{Bad};
 ghost use Rattle.nm_steps.specs.Gives as of_step;
 
 use crate::call::Call;
+use crate::json_value::JsonValue;
+use crate::keys::{list, number, smalls};
 use crate::parsing::step_of;
 use crate::step_error::StepError;
 use crate::trace::Trace;
 use crate::trace_error::TraceError;
-use crate::tree::{self, list, number, smalls};
+use crate::tree;
 use json::{Scratch, Value};
 use nm_types::Geometry;
 use nm_types::limits::MAX_BATCH;
@@ -26,21 +29,21 @@ use std::alloc::{Allocator, Global};
 use std::str::from_utf8;
 
 /// A distance: below 256.
-fn distance_value(value: &Value<'_>) -> Result<u8, StepError>
-    ensures value { of_step.Gives (λ n. n) result (form.number_below (2 ^ 8) (view value.now)) }
+fn distance_value<V: JsonValue>(value: &V) -> Result<u8, StepError>
+    ensures value { of_step.Gives (λ n. n) result (form.number_below (2 ^ 8) (V.as_data value.now)) }
     ensures bad { IfErr result (λ e. e ≡ Bad) }
 {
-    let number = tree::as_u64(value).ok_or(StepError::Bad)?;
+    let number = value.as_u64().ok_or(StepError::Bad)?;
     u8::try_from(number).map_err(|_| StepError::Bad)
 }
 
 /// The distances of a list.
-fn distances_of<A: Allocator + Copy>(
+fn distances_of<A: Allocator + Copy, V: JsonValue>(
     alloc: A,
-    values: &[Value<'_>],
+    values: &[V],
 ) -> Result<Vec<u8, A>, StepError>
     ensures { of_step.Gives (λ v. v.items) result
-        (form.each (form.number_below (2 ^ 8)) (items_view values.now)) }
+        (form.each (form.number_below (2 ^ 8)) (items_seen V.as_data values.now)) }
 {
     let mut row = Vec::new(alloc);
     for value in values {
@@ -51,20 +54,19 @@ fn distances_of<A: Allocator + Copy>(
 }
 
 /// A row of distances.
-fn row_of<A: Allocator + Copy>(alloc: A, value: &Value<'_>) -> Result<Vec<u8, A>, StepError>
-    ensures { of_step.Gives (λ v. v.items) result (form.row_of (view value.now)) }
+fn row_of<A: Allocator + Copy, V: JsonValue>(alloc: A, value: &V) -> Result<Vec<u8, A>, StepError>
+    ensures { of_step.Gives (λ v. v.items) result (form.row_of (V.as_data value.now)) }
 {
-    let values = tree::as_array(value).ok_or(StepError::Bad)?;
-    distances_of(alloc, values.as_slice())
+    distances_of(alloc, value.as_array().ok_or(StepError::Bad)?)
 }
 
 /// The rows of a list.
-fn rows_of<A: Allocator + Copy>(
+fn rows_of<A: Allocator + Copy, V: JsonValue>(
     alloc: A,
-    values: &[Value<'_>],
+    values: &[V],
 ) -> Result<Vec<Vec<u8, A>, A>, StepError>
     ensures { of_step.Gives (λ v. map (λ row. row.items) v.items) result
-        (form.each form.row_of (items_view values.now)) }
+        (form.each form.row_of (items_seen V.as_data values.now)) }
 {
     let mut rows = Vec::new(alloc);
     for value in values {
@@ -76,12 +78,15 @@ fn rows_of<A: Allocator + Copy>(
 
 /// The machine at the top of a trace.
 #[tactic(auto, unfolding(crate::specs::Form::machine_of))]
-fn machine_of<A: Allocator + Copy>(alloc: A, value: &Value<'_>) -> Result<Geometry<A>, StepError>
-    ensures { of_step.Gives (λ g. g) result (form.machine_of (view value.now)) }
+fn machine_of<A: Allocator + Copy, V: JsonValue>(
+    alloc: A,
+    value: &V,
+) -> Result<Geometry<A>, StepError>
+    ensures { of_step.Gives (λ g. g) result (form.machine_of (V.as_data value.now)) }
 {
-    let machine = tree::get(value, "machine").ok_or(StepError::Bad)?;
+    let machine = value.get("machine").ok_or(StepError::Bad)?;
     let sizes = smalls(alloc, machine, "nodes")?;
-    let distances = rows_of(alloc, list(machine, "distance")?.as_slice())?;
+    let distances = rows_of(alloc, list(machine, "distance")?)?;
     match Geometry::new(sizes, distances) {
         Ok(geometry) => Ok(geometry),
         Err(_) => Err(StepError::Bad),
@@ -90,9 +95,9 @@ fn machine_of<A: Allocator + Copy>(alloc: A, value: &Value<'_>) -> Result<Geomet
 
 /// The most entries that a run may have: 16,384 in version 1, whatever the trace says, and what version 2 says.
 #[tactic(auto, unfolding(crate::specs::Form::limit_of))]
-fn limit_of(value: &Value<'_>) -> Result<usize, StepError>
+fn limit_of<V: JsonValue>(value: &V) -> Result<usize, StepError>
     // In any case
-    ensures limit { of_step.Gives (λ n. n) result (form.limit_of (view value.now)) }
+    ensures limit { of_step.Gives (λ n. n) result (form.limit_of (V.as_data value.now)) }
 
     // On a fault
     ensures bad { IfErr result (λ e. e ≡ Bad) }
@@ -131,14 +136,14 @@ fn put<A: Allocator + Copy + Send + Sync>(
 }
 
 /// The calls that the steps of a list ask for, or the first fault. A run has at most `limit` entries.
-fn calls_of<A: Allocator + Copy + Send + Sync>(
+fn calls_of<A: Allocator + Copy + Send + Sync, V: JsonValue>(
     alloc: A,
-    values: &[Value<'_>],
+    values: &[V],
     limit: usize,
 ) -> Result<Vec<Call<A>, A>, TraceError>
     requires { 0 < limit }
     ensures { Gives (λ v. map call_of v.items) result
-        (faults.calls_of limit (items_view values.now)) }
+        (faults.calls_of limit (items_seen V.as_data values.now)) }
 {
     let mut calls = Vec::new(alloc);
     for (k, value) in values.iter().enumerate() {
@@ -163,19 +168,19 @@ fn bad_machine(error: StepError) -> TraceError
 }
 
 /// The machine of a trace, or its fault.
-pub fn geometry_of<A: Allocator + Copy>(
+pub fn geometry_of<A: Allocator + Copy, V: JsonValue>(
     alloc: A,
-    value: &Value<'_>,
+    value: &V,
 ) -> Result<Geometry<A>, TraceError>
-    ensures { Gives (λ g. g) result (ok_or (form.machine_of (view value.now)) BadMachine) }
+    ensures { Gives (λ g. g) result (ok_or (form.machine_of (V.as_data value.now)) BadMachine) }
 {
     machine_of(alloc, value).map_err(bad_machine)
 }
 
 /// The limit on runs of a trace, or its fault.
-pub fn run_limit_of(value: &Value<'_>) -> Result<usize, TraceError>
+pub fn run_limit_of<V: JsonValue>(value: &V) -> Result<usize, TraceError>
     // In any case
-    ensures limit { Gives (λ n. n) result (ok_or (form.limit_of (view value.now)) BadMachine) }
+    ensures limit { Gives (λ n. n) result (ok_or (form.limit_of (V.as_data value.now)) BadMachine) }
 
     // On a fault
     ensures bad { IfErr result (λ e. e ≡ BadMachine) }
@@ -191,9 +196,9 @@ pub fn run_limit_of(value: &Value<'_>) -> Result<usize, TraceError>
 }
 
 /// The values of the steps of a trace, or a fault if its top has none.
-fn values_of<'v, 'a>(value: &'v Value<'a>) -> Result<&'v Vec<Value<'a>>, TraceError>
-    ensures values { Gives (λ v. items_view v.now.items) result
-        (ok_or (form.items_at (codes "steps") (view value.now)) BadMachine) }
+fn values_of<'v, V: JsonValue>(value: &'v V) -> Result<&'v [V], TraceError>
+    ensures values { Gives (λ v. items_seen V.as_data v.now) result
+        (ok_or (form.items_at (codes "steps") (V.as_data value.now)) BadMachine) }
     ensures bad { IfErr result (λ e. e ≡ BadMachine) }
 {
     list(value, "steps").map_err(bad_machine)
@@ -201,16 +206,16 @@ fn values_of<'v, 'a>(value: &'v Value<'a>) -> Result<&'v Vec<Value<'a>>, TraceEr
 
 /// The trace in a value, or its first fault.
 #[tactic(auto, unfolding(crate::specs::Faults::plan_of))]
-fn trace_of<A: Allocator + Copy + Send + Sync>(
+fn trace_of<A: Allocator + Copy + Send + Sync, V: JsonValue>(
     alloc: A,
-    value: &Value<'_>,
+    value: &V,
 ) -> Result<Trace<A>, TraceError>
-    ensures { Gives plan_in result (faults.plan_of (view value.now)) }
+    ensures { Gives plan_in result (faults.plan_of (V.as_data value.now)) }
 {
     let geometry = geometry_of(alloc, value)?;
     let run_limit = run_limit_of(value)?;
     let values = values_of(value)?;
-    let calls = calls_of(alloc, values.as_slice(), run_limit)?;
+    let calls = calls_of(alloc, values, run_limit)?;
     Ok(Trace {
         geometry,
         run_limit,
@@ -252,4 +257,16 @@ pub fn read_trace<A: Allocator + Copy + Send + Sync>(
     let mut scratch = Scratch::new(heap);
     let value = value_of(heap, bytes, &mut scratch)?;
     trace_of(alloc, &value)
+}
+
+impl<A: Allocator + Copy + Send + Sync> Trace<A> {
+    /// The trace that a JSON value is, or its first fault: `BadMachine`, or `BadStep` of the first bad step. It is what
+    /// `read_trace` reads from a text of the value, except that a value may nest deeper than a text.
+    ///
+    /// `HostMemory(0)` if `alloc` is out of memory.
+    pub fn from_value(alloc: A, value: &serde_json::Value) -> Result<Trace<A>, TraceError>
+        ensures { Gives plan_in result (faults.plan_of (owned.view value.now)) }
+    {
+        trace_of(alloc, value)
+    }
 }

@@ -1,25 +1,20 @@
-//! A JSON text as a tree that borrows its strings and keeps its numbers as they are written, and the values at its
-//! keys.
+//! A JSON text as a tree that borrows its strings and keeps its numbers as they are written.
 
-ghost use Rattle.std.specs.Prelude.{◌≡◌, ◌<◌, ◌==◌, ◌^◌, length, slice_index, true, false, Some, is_some, option_map, option_and_then, IsTrue, IfSome, IfOk, IfErr};
+ghost use Rattle.std.specs.Prelude.{◌≡◌, ◌<◌, ◌==◌, ◌^◌, length, slice_index, true, false, Some, is_some, option_map, option_and_then, IsTrue, IfSome};
 ghost use Rattle.fast_float.specs.Text.{minus};
 ghost use Rattle.json.specs.Json as grammar;
 ghost use Rattle.json.specs.Value.{value_view, items_view as json_items, members_view as json_members};
 ghost use Rattle.serde_json.specs.Data.{no_members, unsigned};
 ghost use Rattle.serde_json.specs.Find.{get, as_number, as_u64, as_bool, as_str, as_array};
 ghost use Rattle.serde_json.specs.Read.{number_of, number_from, of_json, of_items, of_members, read};
-ghost use Rattle.nm_steps.specs.Tree.{view, items_view};
-ghost use Rattle.nm_steps.specs.Form.{number_at, small_at, text_at, flag_at, set_at, hex_at, bytes_of};
-ghost use Rattle.nm_steps.specs.Form as form;
-ghost use Rattle.nm_steps.specs.declared.step_error.StepError.TheVariants.{Bad};
+ghost use Rattle.nm_steps.specs.Tree.{view, items_seen};
 ghost use Rattle.nm_steps.specs.Gives.{Gives};
 
+use crate::json_value::JsonValue;
 use crate::step_error::StepError;
 use fast_float::Numeral;
-use hex::FromHexError;
 use json::{Error, Reader, Scratch, Value};
-use nm_types::{NodeId, NodeMask};
-use std::alloc::{Allocator, Global};
+use std::alloc::Global;
 
 /// How deep lists and objects may nest.
 const MAX_DEPTH: usize = 127;
@@ -64,18 +59,18 @@ pub(crate) fn read<'a>(
 }
 
 /// The value at a key, the last one if the key occurs twice. None if the key is missing, or this is not an object.
-pub(crate) fn get<'v, 'a>(value: &'v Value<'a>, key: &str) -> Option<&'v Value<'a>>
+fn get<'v, 'a>(value: &'v Value<'a>, key: &str) -> Option<&'v Value<'a>>
     ensures { option_map (λ v. view v.now) result ≡ get key.now (view value.now) }
 {
     value.get(key)
 }
 
 /// The items of a list, or None if this is not a list.
-pub(crate) fn as_array<'v, 'a>(value: &'v Value<'a>) -> Option<&'v Vec<Value<'a>>>
-    ensures { option_map (λ v. items_view v.now.items) result ≡ as_array (view value.now) }
+fn as_array<'v, 'a>(value: &'v Value<'a>) -> Option<&'v [Value<'a>]>
+    ensures { option_map (λ v. items_seen view v.now) result ≡ as_array (view value.now) }
 {
     match value {
-        Value::Array(items) => Some(items),
+        Value::Array(items) => Some(items.as_slice()),
         _ => None,
     }
 }
@@ -95,7 +90,7 @@ fn as_bool(value: &Value<'_>) -> Option<bool>
 }
 
 /// A whole number below 2^64, written without point and exponent, or None if this is not one.
-pub(crate) fn as_u64(value: &Value<'_>) -> Option<u64>
+fn as_u64(value: &Value<'_>) -> Option<u64>
     ensures { result ≡ option_and_then as_u64 (as_number (view value.now)) }
 {
     match value {
@@ -225,166 +220,26 @@ fn members_in_range<'a>(members: &Vec<(&'a str, Value<'a>)>) -> bool
     true
 }
 
-/// The number at a key, of 64 bits.
-pub(crate) fn number(value: &Value<'_>, key: &str) -> Result<u64, StepError>
-    ensures value { Gives (λ n. n) result (number_at key.now (view value.now)) }
-    ensures bad { IfErr result (λ e. e ≡ Bad) }
-{
-    get(value, key).and_then(as_u64).ok_or(StepError::Bad)
-}
+impl<'a> JsonValue for Value<'a> {
+    ghost as_data = { view };
 
-/// The number at a key, below 2^32.
-pub(crate) fn small(value: &Value<'_>, key: &str) -> Result<u32, StepError>
-    ensures value { Gives (λ n. n) result (small_at key.now (view value.now)) }
-    ensures bad { IfErr result (λ e. e ≡ Bad) }
-{
-    u32::try_from(number(value, key)?).map_err(|_| StepError::Bad)
-}
-
-/// The text at a key.
-pub(crate) fn text<'a>(value: &Value<'a>, key: &str) -> Result<&'a str, StepError>
-    ensures value { Gives (λ s. s.now) result (text_at key.now (view value.now)) }
-    ensures bad { IfErr result (λ e. e ≡ Bad) }
-{
-    get(value, key).and_then(as_str).ok_or(StepError::Bad)
-}
-
-/// True or false at a key. False if the key is missing.
-pub(crate) fn flag(value: &Value<'_>, key: &str) -> Result<bool, StepError>
-    ensures value { Gives (λ b. b) result (flag_at key.now (view value.now)) }
-    ensures bad { IfErr result (λ e. e ≡ Bad) }
-{
-    match get(value, key) {
-        None => Ok(false),
-        Some(flag) => as_bool(flag).ok_or(StepError::Bad),
+    fn get(&self, key: &str) -> Option<&Value<'a>> {
+        get(self, key)
     }
-}
 
-/// The list at a key.
-pub(crate) fn list<'v, 'a>(value: &'v Value<'a>, key: &str) -> Result<&'v Vec<Value<'a>>, StepError>
-    ensures value { Gives (λ v. items_view v.now.items) result
-        (form.items_at key.now (view value.now)) }
-    ensures bad { IfErr result (λ e. e ≡ Bad) }
-{
-    get(value, key).and_then(as_array).ok_or(StepError::Bad)
-}
-
-/// A number of 64 bits, as an item of a list.
-fn number_value(value: &Value<'_>) -> Result<u64, StepError>
-    ensures value { Gives (λ n. n) result (form.number_of (view value.now)) }
-    ensures bad { IfErr result (λ e. e ≡ Bad) }
-{
-    as_u64(value).ok_or(StepError::Bad)
-}
-
-/// The numbers of a list, each of 64 bits.
-fn numbers_of<A: Allocator + Copy>(alloc: A, values: &[Value<'_>]) -> Result<Vec<u64, A>, StepError>
-    ensures { Gives (λ v. v.items) result (form.each form.number_of (items_view values.now)) }
-{
-    let mut numbers = Vec::new(alloc);
-    for value in values {
-        let number = number_value(value)?;
-        numbers.push(number)?;
+    fn as_u64(&self) -> Option<u64> {
+        as_u64(self)
     }
-    Ok(numbers)
-}
 
-/// The numbers of the list at a key, each of 64 bits.
-pub(crate) fn numbers<A: Allocator + Copy>(
-    alloc: A,
-    value: &Value<'_>,
-    key: &str,
-) -> Result<Vec<u64, A>, StepError>
-    ensures { Gives (λ v. v.items) result (form.numbers_at key.now (view value.now)) }
-{
-    numbers_of(alloc, list(value, key)?.as_slice())
-}
-
-/// A number below 2^32, as an item of a list.
-fn small_value(value: &Value<'_>) -> Result<u32, StepError>
-    ensures value { Gives (λ n. n) result (form.number_below (2 ^ 32) (view value.now)) }
-    ensures bad { IfErr result (λ e. e ≡ Bad) }
-{
-    u32::try_from(number_value(value)?).map_err(|_| StepError::Bad)
-}
-
-/// The numbers of a list, each below 2^32.
-fn smalls_of<A: Allocator + Copy>(alloc: A, values: &[Value<'_>]) -> Result<Vec<u32, A>, StepError>
-    ensures { Gives (λ v. v.items) result
-        (form.each (form.number_below (2 ^ 32)) (items_view values.now)) }
-{
-    let mut numbers = Vec::new(alloc);
-    for value in values {
-        let number = small_value(value)?;
-        numbers.push(number)?;
+    fn as_str(&self) -> Option<&str> {
+        as_str(self)
     }
-    Ok(numbers)
-}
 
-/// The numbers of the list at a key, each below 2^32.
-pub(crate) fn smalls<A: Allocator + Copy>(
-    alloc: A,
-    value: &Value<'_>,
-    key: &str,
-) -> Result<Vec<u32, A>, StepError>
-    ensures { Gives (λ v. v.items) result (form.smalls_at key.now (view value.now)) }
-{
-    smalls_of(alloc, list(value, key)?.as_slice())
-}
-
-/// A node's number, below 64, as an item of a list.
-fn node_value(value: &Value<'_>) -> Result<NodeId, StepError>
-    ensures value { Gives (λ n. n) result (form.number_below 64 (view value.now)) }
-    ensures bad { IfErr result (λ e. e ≡ Bad) }
-    ensures below { IfOk result (λ n. n < 64) }
-{
-    let number = small_value(value)?;
-    if number < 64 {
-        Ok(NodeId::new(number))
-    } else {
-        Err(StepError::Bad)
+    fn as_array(&self) -> Option<&[Value<'a>]> {
+        as_array(self)
     }
-}
 
-/// The set of a list's numbers, each below 64.
-fn set_of(values: &[Value<'_>]) -> Result<NodeMask, StepError>
-    ensures value { Gives (λ s. s) result (form.set_of (items_view values.now)) }
-    ensures bad { IfErr result (λ e. e ≡ Bad) }
-{
-    let mut mask = NodeMask::new();
-    for value in values {
-        let node = node_value(value)?;
-        mask.insert(node);
+    fn as_bool(&self) -> Option<bool> {
+        as_bool(self)
     }
-    Ok(mask)
-}
-
-/// The set of the numbers at a key, each below 64.
-pub(crate) fn set(value: &Value<'_>, key: &str) -> Result<NodeMask, StepError>
-    ensures value { Gives (λ s. s) result (set_at key.now (view value.now)) }
-    ensures bad { IfErr result (λ e. e ≡ Bad) }
-{
-    set_of(list(value, key)?.as_slice())
-}
-
-/// The bytes that hexadecimal digits spell.
-fn bytes<A: Allocator + Copy>(alloc: A, text: &str) -> Result<Vec<u8, A>, StepError>
-    ensures { Gives (λ v. v.items) result (bytes_of text.now) }
-{
-    match hex::decode(alloc, text) {
-        Ok(bytes) => Ok(bytes),
-        Err(FromHexError::OutOfMemory) => Err(StepError::Memory),
-        Err(_) => Err(StepError::Bad),
-    }
-}
-
-/// The bytes at a key, given as hexadecimal digits.
-pub(crate) fn hex<A: Allocator + Copy>(
-    alloc: A,
-    value: &Value<'_>,
-    key: &str,
-) -> Result<Vec<u8, A>, StepError>
-    ensures { Gives (λ v. v.items) result (hex_at key.now (view value.now)) }
-{
-    bytes(alloc, text(value, key)?)
 }

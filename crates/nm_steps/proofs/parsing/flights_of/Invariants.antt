@@ -1,5 +1,5 @@
 use Rattle.std.proofs.Common.{◌≡◌, drop}
-use Rattle.nm_steps.specs.Tree.{items_view}
+use Rattle.nm_steps.specs.Tree.{items_seen}
 use Rattle.nm_steps.specs.Views.{shown_during}
 use Rattle.nm_steps.specs.Form.{each, in_flight}
 use Rattle.nm_steps.proofs.Each.{with_front}
@@ -7,5 +7,5 @@ use Rattle.nm_steps.proofs.parsing.flights_of.Given as goal
 
 abbrev pub invariant-loop-value : goal.invariant-loop-value
 invariant-loop-value g l =
-    with_front (shown_during l.flights.items) (each (in_flight l.runs) (items_view (drop l.value-index l.values)))
-    ≡ each (in_flight l.runs) (items_view l.values)
+    with_front (shown_during l.flights.items) (each (in_flight l.runs) (items_seen g.V.JsonValue.as_data (drop l.value-index l.values)))
+    ≡ each (in_flight l.runs) (items_seen g.V.JsonValue.as_data l.values)

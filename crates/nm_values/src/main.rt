@@ -1,0 +1,70 @@
+//! Plays the trace on standard input, read as a value of serde_json; where there is none, one that the program makes as
+//! such a value. It is for programs that make or change traces as values; a trace that is only to be played is read
+//! faster by `read_trace`.
+#![tactic(auto)]
+
+mod making;
+mod reading;
+#[cfg(test)]
+mod tests;
+
+use making::made;
+use nm_calls::System;
+use nm_crew::OpenGate;
+use nm_trace::{Summary, TellingWriter, Trace, TraceError, Watched, play};
+use reading::read_value;
+use std::alloc::Global;
+use std::io::{Read, Write};
+use std::process::ExitCode;
+use std::sync::Wait;
+use std::thread::Threads;
+
+/// How many pages the trace moves that the program makes.
+const PAGES: u64 = 3;
+
+/// The trace in these bytes, or if there are none, one that is made here.
+fn trace_of(heap: Global, bytes: &[u8]) -> Result<Trace<Global>, TraceError> {
+    if !bytes.is_empty() {
+        return read_value(heap, bytes);
+    }
+    match made(heap, PAGES) {
+        Ok(value) => Trace::from_value(heap, &value),
+        Err(_) => Err(TraceError::HostMemory(0)),
+    }
+}
+
+/// Plays a trace on a new system, with one worker.
+fn play_new(
+    rt: &(impl Threads + Wait + Sync),
+    heap: Global,
+    trace: &Trace<Global>,
+    out: &mut impl TellingWriter,
+) -> Result<Summary, TraceError> {
+    let Ok(geometry) = trace.geometry.clone() else {
+        return Err(TraceError::HostMemory(0));
+    };
+    let Ok(mut system) = System::with_run_limit(heap, geometry, 1, trace.run_limit) else {
+        return Err(TraceError::HostMemory(0));
+    };
+    play(rt, heap, &mut system, trace, out, &OpenGate)
+}
+
+fn main(rt: HostRuntime) -> ExitCode {
+    let heap = rt.alloc();
+    let mut bytes = Vec::new(heap);
+    if rt.stdin().read_to_end(&mut bytes).is_err() {
+        return ExitCode::FAILURE;
+    }
+    let mut out = Watched::new(rt.stdout());
+    let played = match trace_of(heap, bytes.as_slice()) {
+        Ok(trace) => play_new(&rt, heap, &trace, &mut out),
+        Err(fault) => Err(fault),
+    };
+    match played {
+        Ok(_) => ExitCode::SUCCESS,
+        Err(fault) => {
+            let _ = writeln!(rt.stderr(), "nm_values: {fault}");
+            ExitCode::FAILURE
+        }
+    }
+}
