@@ -14,4 +14,5 @@ IsSizeOf job size = IsZeroFrom job.source.1 size × IsZeroFrom job.target.1 size
 -- the sum of such sizes, one for each job, and at most 2^64 - 1
 abbrev pub IsSizeOfAll : {A : Type 0} → List (CopyJob A) → ℕ → Type 0
 IsSizeOfAll [] size = size ≡ 0
-IsSizeOfAll (job ∷ jobs) size = (first : ℕ) × (rest : ℕ) × IsSizeOf job first × IsSizeOfAll jobs rest × (size ≡ min (first + rest) (2 ^ 64 - 1))
+IsSizeOfAll (job ∷ jobs) size =
+    (first : ℕ) × (rest : ℕ) × IsSizeOf job first × IsSizeOfAll jobs rest × (size ≡ min (first + rest) (2 ^ 64 - 1))
