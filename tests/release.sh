@@ -148,7 +148,8 @@ expect_report ./numatrace
 ln -s "$PWD/numatrace" "$there/clone"
 expect_report "$there/clone"
 
-# Both scripts start the program within 3 ms. (It gets no trace, and so ends with 2.)
+# Both scripts start the program within 3 ms. (It gets no trace, and so ends with 2. What counts is the fastest of 500 starts: on a
+# busy machine any other says how busy it is.)
 if ! command -v hyperfine > /dev/null; then
     note "there is no command hyperfine, so it is not tested that the scripts start within 3 ms"
     exit
@@ -161,7 +162,7 @@ import json
 import sys
 
 with open(sys.argv[1], encoding="utf-8") as file:
-    times = [1000 * result["median"] for result in json.load(file)["results"]]
+    times = [1000 * result["min"] for result in json.load(file)["results"]]
 for name, time in zip(("./numatrace", "an installed numatrace"), times[1:]):
     if time > times[0] + 3:
         sys.exit(f"tests/release.sh: {name} takes {time:.1f} ms, and the program by itself {times[0]:.1f}")
