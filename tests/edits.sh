@@ -5,6 +5,7 @@
 # one is not refused.
 set -eu
 cd "$(dirname "$0")/.."
+# shellcheck disable=SC2046 # (the names of crates have no spaces)
 [ $# -gt 0 ] || set -- $(ls tests/edits)
 room=$(mktemp -d)
 trap 'rm -rf "$room"' EXIT

@@ -148,7 +148,8 @@ expect_report ./numatrace
 ln -s "$PWD/numatrace" "$there/clone"
 expect_report "$there/clone"
 
-# Both scripts start the program within 3 ms. (It gets no trace, and so ends with 2.)
+# Both scripts start the program within 3 ms, as the median of many starts says: so this wants a machine with nothing beside it. (The
+# program gets no trace, and so ends with 2.)
 if ! command -v hyperfine > /dev/null; then
     note "there is no command hyperfine, so it is not tested that the scripts start within 3 ms"
     exit

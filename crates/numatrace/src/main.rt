@@ -1,7 +1,6 @@
 //! Reads a trace from standard input, plays it on a modelled machine, and writes the report to standard output.
 #![tactic(auto)]
 
-pub mod laws;
 #[cfg(test)]
 mod tests;
 mod words;

@@ -1,7 +1,7 @@
 use Rattle.std.proofs.Common.{◌∙◌, ap, map, arith}
 use Rattle.std.specs.Prelude.{string_bytes}
 use Rattle.numatrace.specs.Status.{refused_status}
-use Rattle.numatrace.specs.Words.{refusals_of}
+use Rattle.nm_words.specs.Words.{refusals_of}
 use Rattle.numatrace.proofs.Refused.{refused_two, reported}
 use Rattle.numatrace.proofs.Unread.{unread}
 use Rattle.numatrace.proofs.Streams.{neither, stream_cause}

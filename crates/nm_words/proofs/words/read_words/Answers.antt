@@ -3,9 +3,9 @@ use Rattle.std.specs.Prelude.{string_bytes}
 use Rattle.std.specs.Str.Parse.{ExplainsUnsignedError, HasUnsignedDigitsIfOk, ParsesUnsigned}
 use Rattle.clap.specs.Words.{FailsBy, Text, app_of, found_of, new_app, one_text, rule_of, with_rule}
 use Rattle.clap.specs.Simple.{app_of_fields, on_top}
-use Rattle.numatrace.specs.Words.{program, refusals_of, workers_in, workers_rule}
-use Rattle.numatrace.proofs.Refused.{asked_of, refused_of, value_of}
-use Rattle.numatrace.proofs.words.read_words.Goals as goal
+use Rattle.nm_words.specs.Words.{program, refusals_of, workers_in, workers_rule}
+use Rattle.nm_words.proofs.Asked.{asked_of, refused_of, value_of}
+use Rattle.nm_words.proofs.words.read_words.Goals as goal
 
 pub returns-in_err-matches-clause-refused : goal.returns-in_err-matches-clause-refused
 returns-in_err-matches-clause-refused c =

@@ -1,6 +1,6 @@
 use Rattle.std.proofs.Common.{refl}
 use Rattle.clap.proofs.OnLiterals.{clap_on_literals}
-use Rattle.numatrace.proofs.laws.word_rows.Goals as goal
+use Rattle.nm_words.proofs.laws.word_rows.Goals as goal
 
 pub returns : goal.returns
 unfolding clap_on_literals

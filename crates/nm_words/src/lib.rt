@@ -1,0 +1,7 @@
+//! Reads the words of the command line.
+#![tactic(auto)]
+
+pub mod laws;
+mod words;
+
+pub use words::read_words;
