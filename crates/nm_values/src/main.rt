@@ -19,15 +19,12 @@ use std::process::ExitCode;
 use std::sync::Wait;
 use std::thread::Threads;
 
-/// How many pages the trace moves that the program makes.
-const PAGES: u64 = 3;
-
 /// The trace in these bytes, or if there are none, one that is made here.
 fn trace_of(heap: Global, bytes: &[u8]) -> Result<Trace<Global>, TraceError> {
     if !bytes.is_empty() {
         return read_value(heap, bytes);
     }
-    match made(heap, PAGES) {
+    match made(heap) {
         Ok(value) => Trace::from_value(heap, &value),
         Err(_) => Err(TraceError::HostMemory(0)),
     }
