@@ -4,10 +4,12 @@ pub mod Mapped
 pub mod Moved
 pub mod New
 pub mod Pinned
+pub mod Places
 pub mod Removed
 pub mod Touched
 pub mod Remapped
 pub mod Tabled
+pub mod Unreached
 pub mod Unseen
 pub mod Counted
 pub mod Looked

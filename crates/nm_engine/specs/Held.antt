@@ -1,5 +1,5 @@
 -- The address spaces while pages of a run are on their way.
-use Rattle.std.specs.Prelude.{◌≢◌, ℕ, ◌==◌, Bool, List, [], ◌∷◌, Option, if◌then◌else◌}
+use Rattle.std.specs.Prelude.{◌≡◌, ◌≢◌, ℕ, ◌==◌, Bool, false, List, [], ◌∷◌, Option, Some, if◌then◌else◌}
 use Rattle.std.specs.List.{AllByRecursion, list_any}
 use Rattle.std.specs.Option.{option_map}
 use Rattle.std.specs.Ordering.{nat_cmp}
@@ -8,7 +8,7 @@ use Rattle.nm_types.specs.declared.entry.Entry.{Entry}
 use Rattle.nm_types.specs.declared.entry.Entry.TheVariants.{Zero, Frame, Held}
 use Rattle.nm_types.specs.declared.taken.Taken.{Taken}
 use Rattle.nm_model.specs.definitions.Areas.{Mapped}
-use Rattle.nm_model.specs.definitions.PageTables.{Task, entry_of}
+use Rattle.nm_model.specs.definitions.PageTables.{Task, entry_at, entry_of}
 use Rattle.nm_model.specs.definitions.Seen.{sight_in}
 use Rattle.nm_rmap.specs.Mappers.{Mappers}
 use Rattle.nm_engine.specs.AddressSpaces.{SpacesView, spaces_view}
@@ -46,3 +46,12 @@ AreApart (t ∷ moves) = AllByRecursion (λ u. u.from ≢ t.to) moves × AreApar
 -- whether one of the pages takes this frame
 abbrev pub is_taken : List Taken → ℕ → Bool
 is_taken moves f = list_any (λ t. t.to == f) moves
+
+-- whether one of the pages leaves this frame
+abbrev pub is_left : List Taken → ℕ → Bool
+is_left moves f = list_any (λ t. t.from == f) moves
+
+-- no entry names a frame that one of the pages leaves or takes: whoever maps the page, the entry is held
+abbrev pub AreHeld : Map ℕ Task → List Taken → Type 0
+AreHeld tables moves =
+    (f pid v : ℕ) → entry_at tables pid v ≡ Some (Frame f) → (is_left moves f ≡ false) × (is_taken moves f ≡ false)

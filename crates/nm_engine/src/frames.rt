@@ -6,6 +6,7 @@ ghost use Rattle.nm_types.specs.Nodes.{is_in};
 ghost use Rattle.nm_model.specs.definitions.Touch.{has_free};
 ghost use Rattle.nm_model.specs.definitions.Frames.{list_of, with_list, appended, prepended};
 ghost use Rattle.std.specs.List.{AllByRecursion};
+ghost use Rattle.nm_engine.specs.Held.{AreHeld};
 ghost use Rattle.nm_engine.specs.Copies.{CanCopy, HasBoth, with_copies, emptied};
 ghost use Rattle.nm_model.specs.definitions.Early.{tos};
 ghost use Rattle.nm_engine.specs.Finishing.{all_done, CanDo};
@@ -377,6 +378,7 @@ impl<A: Allocator + Copy + Send + Sync> Frames<A> {
         requires can { CanCopy self.old.frames moves.now }
         requires populated { AllByRecursion (HasBoth self.old.frames) moves.now }
         requires few { length moves.now ≤ self.old.room }
+        requires held { AreHeld held.now.tables moves.now }
 
         // What is left to do
         requires due { AllByRecursion (CanDo held.now.spaces.place (emptied self.old.frames moves.now))

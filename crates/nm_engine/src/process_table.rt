@@ -1,9 +1,10 @@
 //! The table of processes.
 
-ghost use Rattle.std.specs.Prelude.{ℕ, ◌≡◌, ◌≤◌, ◌<◌, [], length, Some, None, IsSome, IfSome, IfNone, IfOk, OnOk, OnErr};
-ghost use Rattle.std.specs.Option.{option_map};
+ghost use Rattle.std.specs.Prelude.{ℕ, ◌≡◌, ◌≤◌, ◌<◌, nat_eq, slice_get, [], length, Some, None, IsSome, IfSome, IfNone, IfOk, OnOk, OnErr};
+ghost use Rattle.std.specs.Option.{option_copied, option_map};
 ghost use Rattle.std.specs.List.Sorted.{IsStrictlySortedBy};
-ghost use Rattle.std.specs.Map.{keys_of};
+ghost use Rattle.std.specs.Map.{keys_of, lookup};
+ghost use Rattle.indexmap.specs.IndexMap.{values};
 ghost use Rattle.std.specs.Ordering.{nat_cmp};
 ghost use Rattle.nm_types.specs.Map.{get, set, replace, without};
 ghost use Rattle.nm_model.specs.definitions.PageTables.{Task};
@@ -19,10 +20,13 @@ use std::alloc::{AllocError, Allocator};
 use std::hash::{BuildHasherDefault, FoldHasher};
 use std::marker::Model;
 
+/// Processes by pid, in any order.
+type Tasks<A> = IndexMap<Pid, process::Task<A>, BuildHasherDefault<FoldHasher>, A>;
+
 /// The processes by pid, in any order, each with its page table.
 #[derive(Drop)]
 pub(crate) struct ProcessTable<A: Allocator + Copy> {
-    tasks: IndexMap<Pid, process::Task<A>, BuildHasherDefault<FoldHasher>, A>,
+    tasks: Tasks<A>,
     alloc: A,
 }
 
@@ -60,14 +64,14 @@ impl<A: Allocator + Copy> ProcessTable<A> {
     pub(crate) fn info(&self, pid: Pid) -> Option<ProcessInfo>
         ensures { result ≡ option_map task_info (get nat_cmp self.now pid) }
     {
-        self.tasks.get(&pid).map(|task| task.info)
+        task_of(&self.tasks, pid).map(|task| task.info)
     }
 
     /// The entry of a process at a page number. None if it is absent, or there is no such process.
     pub(crate) fn entry(&self, pid: Pid, vpn: Vpn) -> Option<Entry>
         ensures { result ≡ entry_at self.now pid vpn }
     {
-        self.tasks.get(&pid)?.table.get(vpn)
+        task_of(&self.tasks, pid)?.table.get(vpn)
     }
 
     /// All entries of a process, in order of page number. None if there is no such process.
@@ -78,7 +82,7 @@ impl<A: Allocator + Copy> ProcessTable<A> {
         ensures memory { OnErr result (IsSome (get nat_cmp self.now pid)) }
         ensures asked { OnErr result (0 < length (entries_in self.now pid)) }
     {
-        match self.tasks.get(&pid) {
+        match task_of(&self.tasks, pid) {
             Some(task) => Ok(Some(task.table.entries()?)),
             None => Ok(None),
         }
@@ -91,7 +95,7 @@ impl<A: Allocator + Copy> ProcessTable<A> {
             (λ e. (v : ℕ) → at ≤ v → v < e.0 → entry_at self.now pid v ≡ None) }
         ensures none { IfNone result ((v : ℕ) → at ≤ v → entry_at self.now pid v ≡ None) }
     {
-        self.tasks.get(&pid)?.table.first_from(at)
+        task_of(&self.tasks, pid)?.table.first_from(at)
     }
 
     /// The entries of a process from one page number up to another, in order. Empty if there is no such process.
@@ -105,7 +109,7 @@ impl<A: Allocator + Copy> ProcessTable<A> {
             (λ entries. entries.items ≡ between first end (entries_in self.now pid)) }
     {
         let mut entries = Vec::new(self.alloc);
-        let Some(task) = self.tasks.get(&pid) else {
+        let Some(task) = task_of(&self.tasks, pid) else {
             return Ok(entries);
         };
         task.table.list_between(first, end, &mut entries)?;
@@ -153,9 +157,10 @@ impl<A: Allocator + Copy> ProcessTable<A> {
         requires { IsThere self.old (pid, vpn) }
         ensures { self.new ≡ replaced self.old entry (pid, vpn) }
     {
-        let Some(task) = self.tasks.get_mut(&pid) else {
+        let Some(place) = place_of(&self.tasks, pid) else {
             unreachable!()
         };
+        let (_, task) = self.tasks.pair_mut(place);
         task.table.replace(vpn, entry);
     }
 
@@ -178,5 +183,30 @@ impl<A: Allocator + Copy> ProcessTable<A> {
         ensures ordered { IsStrictlySortedBy nat_cmp (keys_of self.new) }
     {
         self.tasks.swap_remove(&pid);
+    }
+}
+
+/// The process with this pid, if there is one.
+fn task_of<A: Allocator + Copy>(tasks: &Tasks<A>, pid: Pid) -> Option<&process::Task<A>>
+    ensures { option_copied result ≡ lookup (nat_eq pid) tasks.now.entries }
+{
+    let place = place_of(tasks, pid)?;
+    Some(&tasks[place])
+}
+
+/// Where the process with this pid stands among the others, if there is one. Mostly pids are given one after another,
+/// and processes stand in the order in which they came: so this looks there first, and only then hashes the pid.
+fn place_of<A: Allocator + Copy>(tasks: &Tasks<A>, pid: Pid) -> Option<usize>
+    ensures within { IfSome result (λ i. i < length tasks.now.entries) }
+    ensures key { IfSome result (λ i. slice_get (keys_of tasks.now.entries) i ≡ Some pid) }
+    ensures value { IfSome result
+        (λ i. slice_get (values tasks.now) i ≡ lookup (nat_eq pid) tasks.now.entries) }
+    ensures none { IfNone result (lookup (nat_eq pid) tasks.now.entries ≡ None) }
+{
+    let (first, _) = tasks.first()?;
+    let near = pid.number().wrapping_sub(first.number()) as usize;
+    match tasks.get_index(near) {
+        Some((there, _)) if *there == pid => Some(near),
+        _ => tasks.get_index_of(&pid),
     }
 }

@@ -96,15 +96,21 @@ removed es now k h =
     h q ∙ ap (λ o. cond (nat_eq k q) None o) (by_pid_get es q) ∙ ap (λ b. cond b None (get nat_cmp (by_pid es) q)) (unsigned_ties k q)
     ∙ sym (lookup-remove_entry (eq_by_cmp_equiv nat_cmp_total) (is_at (nat_cmp k)) (λ x y t. ap is_eq (nat_cmp_total.congr k x y (equal _ t))) q (by_pid es) (IsDistinct-from_sorted nat_cmp (keys_of (by_pid es)) (by_pid_sorted es))))
 
+-- what a process becomes, told by what is found
+pub rewritten : (es after : List (ℕ × Task)) (now : Map ℕ Task) (k : ℕ) (w : Task) → by_pid es ≡ now → IsSome (lookup (nat_eq k) es) → ((q : ℕ) → lookup (nat_eq q) after ≡ cond (nat_eq k q) (Some w) (lookup (nat_eq q) es)) → by_pid after ≡ replace nat_cmp now k w
+rewritten es after now k w same there h =
+    by_look_ups after (replace nat_cmp (by_pid es) k w) (subst (IsStrictlySortedBy nat_cmp) (sym (keys-replace nat_cmp (by_pid es) k w)) (by_pid_sorted es)) (λ q.
+    h q
+    ∙ ap (λ b. cond b (Some w) (lookup (nat_eq q) es)) (unsigned_ties k q) ∙ ap (λ o. cond (eq_by_cmp nat_cmp k q) (Some w) o) (by_pid_get es q)
+    ∙ sym (get-replace nat_cmp_total exact_unsigned (by_pid es) k w q (subst IsSome (by_pid_get es k) there)))
+    ∙ ap (λ m. replace nat_cmp m k w) same
+
 -- what a process becomes through a reference
 pub written : (es after : List (ℕ × Task)) (now : Map ℕ Task) (k : ℕ) (x w v : Task) → by_pid es ≡ now → Some x ≡ lookup (nat_eq k) es → after ≡ set_value (nat_eq k) es w → w ≡ v → by_pid after ≡ replace nat_cmp now k v
 written es after now k x w v same found is to =
     ap by_pid is
-    ∙ by_look_ups (set_value (nat_eq k) es w) (replace nat_cmp (by_pid es) k w) (subst (IsStrictlySortedBy nat_cmp) (sym (keys-replace nat_cmp (by_pid es) k w)) (by_pid_sorted es)) (λ q.
-    lookup-set_value nat_eq_equiv (nat_eq k) (λ a b t. nat_eq_equiv.congr k a b t) q w es (subst IsSome found refl)
-    ∙ ap (λ b. cond b (Some w) (lookup (nat_eq q) es)) (unsigned_ties k q) ∙ ap (λ o. cond (eq_by_cmp nat_cmp k q) (Some w) o) (by_pid_get es q)
-    ∙ sym (get-replace nat_cmp_total exact_unsigned (by_pid es) k w q (subst IsSome (found ∙ by_pid_get es k) refl)))
-    ∙ ap (λ m. replace nat_cmp m k w) same ∙ ap (replace nat_cmp now k) to
+    ∙ rewritten es (set_value (nat_eq k) es w) now k w same (subst IsSome found refl) (λ q. lookup-set_value nat_eq_equiv (nat_eq k) (λ a b t. nat_eq_equiv.congr k a b t) q w es (subst IsSome found refl))
+    ∙ ap (replace nat_cmp now k) to
 
 -- what is written is what was there
 pub written_same : (es after : List (ℕ × Task)) (now : Map ℕ Task) (k : ℕ) (w x : Task) → by_pid es ≡ now → Some x ≡ lookup (nat_eq k) es → after ≡ set_value (nat_eq k) es w → w ≡ x → by_pid after ≡ now

@@ -2,6 +2,7 @@
 
 ghost use Rattle.std.specs.Prelude.{◌≡◌, ◌+◌, ◌<◌, ◌≤◌, ◌++◌, [], map, length, slice_get, IsSome, vec_len, vec_capacity};
 ghost use Rattle.std.specs.List.{AllByRecursion};
+ghost use Rattle.nm_engine.specs.Held.{AreHeld};
 ghost use Rattle.nm_engine.specs.Copies.{with_copies, CanCopy, HasBoth, emptied, jobs_of, refilled, CanRefill};
 ghost use Rattle.nm_engine.specs.Finishing.{all_done, done_in, told_in, frame_at, CanDo};
 ghost use Rattle.nm_types.specs.Map.{get, page_cmp};
@@ -43,6 +44,7 @@ pub(super) fn copy_pages<
     requires populated { AllByRecursion (HasBoth frames.old) moves.now }
     requires empty { jobs.items ≡ [] }
     requires few { length moves.now ≤ vec_capacity jobs }
+    requires held { AreHeld held.now.tables moves.now }
 
     // What is left to do
     requires due { AllByRecursion (CanDo held.now.spaces.place (emptied frames.old moves.now))

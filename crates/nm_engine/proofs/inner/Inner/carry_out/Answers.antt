@@ -8,6 +8,7 @@ use Rattle.nm_engine.specs.AddressSpaces.{SpacesView}
 use Rattle.nm_engine.specs.Moves.{CanRemap, all_moved}
 use Rattle.nm_engine.proofs.Together.Copies.{copies_apart}
 use Rattle.nm_engine.proofs.Tied.Held.{held_is_taken, frames_stay, takes_below}
+use Rattle.nm_engine.proofs.Tied.Unreached.{names_another}
 use Rattle.nm_engine.specs.Answering.{due_shown}
 use Rattle.nm_engine.specs.Copies.{CanCopy, HasBoth, emptied, with_copies}
 use Rattle.nm_model.specs.definitions.Early.{all_made, with_fronts, tos}
@@ -70,6 +71,21 @@ copy_pages-answers-requires-clause-populated g c κs within =
     let h = prepared y k i.online i.totals.moved i.totals.failed t moves dues c.args.self.now c.self.view_is c.self.invariant c.vacate_each.ensures.shelf
     c.requires.target c.requires.taken c.requires.sound c.requires.moves c.requires.due c.vacate_each.ensures.populated in
     subst (λ (v : FramesView). AllByRecursion (HasBoth v.frames) moves) (sym c.vacate_each.ensures.vacated) (both_whole y k i.online i.totals.moved i.totals.failed t moves dues h)
+
+pub copy_pages-answers-requires-clause-held : goal.copy_pages-answers-requires-clause-held
+copy_pages-answers-requires-clause-held g c κs within f pid v named =
+    let i = c.self.inside in
+    let y = i.spaces in
+    let k : FramesView = i.frames in
+    let moves = c.args.moves.now in
+    let t = c.args.target in
+    let dues = map (due_shown c.args.accesses.now) c.args.dues.items in
+    let h = prepared y k i.online i.totals.moved i.totals.failed t moves dues c.args.self.now c.self.view_is c.self.invariant c.vacate_each.ensures.shelf
+    c.requires.target c.requires.taken c.requires.sound c.requires.moves c.requires.due c.vacate_each.ensures.populated in
+    let z = c.replace-spaces.result in
+    names_another [] moves z (sight_in (get nat_cmp z.processes pid) v) f
+    (subst (λ (z : SpacesView). CanRemap z moves) (sym c.replace-spaces.ensures.value) (remap y k i.online i.totals.moved i.totals.failed t moves dues h))
+    (sym (c.hold-held.ensures.entries [] pid v) ∙ named)
 
 pub vacate_each-requires-clause-populated : goal.vacate_each-requires-clause-populated
 vacate_each-requires-clause-populated g c =

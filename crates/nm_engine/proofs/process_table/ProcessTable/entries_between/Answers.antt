@@ -14,11 +14,11 @@ use Rattle.nm_engine.proofs.process_table.ProcessTable.entries_between.Goals as 
 pub returns-in_default : goal.returns-in_default
 returns-in_default g c =
     c.new-entries.ensures.items
-    ∙ ap (λ (o : Option Task). between c.args.first c.args.end (unwrap_or (option_map task_table o) [])) (sym (none_found c.self.inside.tasks.entries c.args.self.now c.args.pid c.self.view_is c.in_default.ensures.value))
+    ∙ ap (λ (o : Option Task). between c.args.first c.args.end (unwrap_or (option_map task_table o) [])) (sym (none_found c.self.inside.tasks.entries c.args.self.now c.args.pid c.self.view_is c.in_default.ensures))
 
 pub returns : goal.returns
 returns g c =
-    let found = sym (found_value c.self.inside.tasks.entries c.args.self.now c.args.pid c.in-Some.task.now c.self.view_is c.in-Some.ensures.value ∙ ap Some (sym c.task.view_is)) in
+    let found = sym (found_value c.self.inside.tasks.entries c.args.self.now c.args.pid c.in-Some.task.now c.self.view_is c.in-Some.ensures ∙ ap Some (sym c.task.view_is)) in
     c.in_ok-list_between.ensures.all
     ∙ ap (λ es. es ++ entries_between nat_cmp (Included c.args.first) (Excluded c.args.end) c.task.inside.table) c.new-entries.ensures.items
     ∙ ranged c.task.inside.table c.args.first c.args.end

@@ -9,7 +9,7 @@ use Rattle.nm_engine.proofs.process_table.ProcessTable.first_from.Goals as goal
 
 -- the process that was found
 found : (g : Over) (c : goal.After-first_from g) → Some (record { info = c.branch.inside.info; table = c.branch.inside.table }) ≡ get nat_cmp c.args.self.now c.args.pid
-found g c = sym (found_value c.self.inside.tasks.entries c.args.self.now c.args.pid c.in_ok-get.field-0.now c.self.view_is c.in_ok-get.ensures.value ∙ ap Some (sym c.branch.view_is))
+found g c = sym (found_value c.self.inside.tasks.entries c.args.self.now c.args.pid c.in_ok-task_of.field-0.now c.self.view_is c.in_ok-task_of.ensures ∙ ap Some (sym c.branch.view_is))
 
 pub returns-clause-some : goal.returns-clause-some
 returns-clause-some g c = subst (λ (o : Option Task). IfSome c.first_from.result (λ e. (c.args.at ≤ e.0) × (entry_in o e.0 ≡ Some e.1))) (found g c) c.first_from.ensures.some
@@ -25,6 +25,6 @@ of_none : {X P : Type 0} (o : Option X) → P → IfNone o P
 of_none None p = p
 of_none (Some x) p = tt
 
-pub returns-in_err-get-clause-none : goal.returns-in_err-get-clause-none
-returns-in_err-get-clause-none g c =
-    of_none c.from_residual.result (λ v h. ap (λ (o : Option Task). entry_in o v) (none_found c.self.inside.tasks.entries c.args.self.now c.args.pid c.self.view_is c.in_err-get.ensures.value))
+pub returns-in_err-task_of-clause-none : goal.returns-in_err-task_of-clause-none
+returns-in_err-task_of-clause-none g c =
+    of_none c.from_residual.result (λ v h. ap (λ (o : Option Task). entry_in o v) (none_found c.self.inside.tasks.entries c.args.self.now c.args.pid c.self.view_is c.in_err-task_of.ensures))

@@ -8,4 +8,4 @@ use Rattle.nm_engine.proofs.process_table.ProcessTable.info.Goals as goal
 
 pub returns : goal.returns
 returns g c =
-    subst (λ (o : Option Task). c.map.result ≡ option_map task_info o) (c.get.ensures.value ∙ looked c.self.inside.tasks.entries c.args.self.now c.args.pid c.self.view_is) (search rules)
+    subst (λ (o : Option Task). c.map.result ≡ option_map task_info o) (c.task_of.ensures ∙ looked c.self.inside.tasks.entries c.args.self.now c.args.pid c.self.view_is) (search rules)
