@@ -15,3 +15,4 @@ pub mod Does
 pub mod Undo
 pub mod Answering
 pub mod Finishing
+pub mod Orders

@@ -170,7 +170,8 @@ impl<A: Allocator + Copy> Frames<A> {
         count: usize,
     ) -> Result<Vec<FrameId, A>, AllocError>
         requires { node < node_count self.now.layout }
-        ensures { IfOk result (λ frames. frames.items ≡ take count (free_on self.now node)) }
+        ensures front { IfOk result (λ frames. frames.items ≡ take count (free_on self.now node)) }
+        ensures asked { OnErr result (0 < count) }
     {
         let count = count.min(self.nodes.free_count(node));
         front_of(alloc, &self.nodes, node, count)
@@ -229,6 +230,7 @@ impl<A: Allocator + Copy> Frames<A> {
         ensures same { self.new ≡ record (self.old) { frames = self.new.frames } }
         ensures populated { OnOk result
             (AllByRecursion (IsPopulated self.new.frames) (tos moves.now)) }
+        ensures asked { OnErr result (0 < length moves.now) }
         ensures shelf { HasAllFrames self.new }
     {
         populate_each(&mut self.frames, alloc, moves)
@@ -266,6 +268,7 @@ impl<A: Allocator + Copy> Frames<A> {
     pub(crate) fn reserve(&mut self, count: usize) -> Result<(), AllocError>
         ensures room { OnOk result (length self.new.vacated + count ≤ self.new.room) }
         ensures same { self.new ≡ record (self.old) { room = self.new.room } }
+        ensures asked { OnErr result (0 < length self.old.vacated + count) }
     {
         self.vacated.reserve(count)?;
         self.jobs.reserve(self.vacated.len() + count)
@@ -465,6 +468,7 @@ fn populate_each<A: Allocator + Copy>(
     requires home { (f : ℕ) → f < length frames.old → IsHome frames.old f }
     ensures kept { KeepsBytes frames.old frames.new }
     ensures populated { OnOk result (AllByRecursion (IsPopulated frames.new) (tos moves.now)) }
+    ensures asked { OnErr result (0 < length moves.now) }
 {
     for taken in moves {
         populate(frames, alloc, taken.to)?;

@@ -25,10 +25,12 @@ ghost use Rattle.nm_model.specs.definitions.Seen.{located_between, placed_on};
 ghost use Rattle.nm_model.specs.definitions.Sound.{audited};
 ghost use Rattle.nm_model.specs.definitions.Status.{node_status};
 ghost use Rattle.nm_model.specs.definitions.Sound.{IsSound};
+ghost use Rattle.nm_engine.specs.Orders.{EndsSo};
 ghost use Rattle.nm_engine.specs.Does.{Makes, Alters, Tells, Accesses, AsksLast};
 
 use crate::answered::Flown;
 use crate::inner::Inner;
+use crate::laws::interleavings;
 use crate::{Located, ProcessInfo};
 use nm_areas::Line;
 use nm_crew::{Crew, Gate};
@@ -368,9 +370,20 @@ impl<A: Allocator + Copy + Send + Sync> Machine<A> {
             ≡ (run self.old requests.now.target requests.now.wanted.items
             (map access_shown accesses.now)).state) }
 
+        // Whatever order the events of such a run take
+        ensures orders { IfOk result
+            (λ flown. EndsSo self.old requests.now.target requests.now.wanted.items
+            (map access_shown accesses.now) (record {
+              state = self.new;
+              statuses = flown.statuses.items;
+              answers = map answer_shown flown.answers.items ∷ [];
+            })) }
+
         // Without memory
         ensures err { OnErr result (self.new ≡ self.old) }
+        ensures asked { OnErr result (0 < length requests.now.wanted.items + length accesses.now) }
     {
+        interleavings();
         let plan = self.inner.plan(crew, requests)?;
         let moves = plan.moves();
         self.inner.reserve(moves.len())?;

@@ -47,7 +47,7 @@ not_taken (t ∷ moves) y p f can at stays =
     let apart : (t.to == f) ≡ false = ne_eqb t.to f (λ e. can.2 p (at ∙ ap Some (sym e))) in
     let other : p ≡ t.page → ⊥ = λ e. both_ways _ stays (ap (λ b. b || is_left moves f) (eq-eqb t.from f (some_is (sym can.0 ∙ ap (get page_cmp y.place) (sym e) ∙ at)))) in
     let rest : is_left moves f ≡ false =
-        elim (t.from == f) as (λ b. (b || is_left moves f) ≡ false → is_left moves f ≡ false) [ true ↦ λ h. absurd (both_ways true h refl) | false ↦ λ h. h ] stays
+    elim (t.from == f) as (λ b. (b || is_left moves f) ≡ false → is_left moves f ≡ false) [ true ↦ λ h. absurd (both_ways true h refl) | false ↦ λ h. h ] stays
     in
     ap (λ b. b || is_taken moves f) apart ∙ not_taken moves (with_moved y t.page t.to) p f can.3 (place_other y.place t.page p t.to f other at) rest
 

@@ -1,7 +1,7 @@
 //! Accesses that processes make while the pages of a run move: whatever has to be allocated for them is allocated
 //! before.
 
-ghost use Rattle.std.specs.Prelude.{◌≡◌, ◌≤◌, ◌<◌, List, [], Some, map, length, slice_get, vec_len, IfOk, OnOk, OnErr};
+ghost use Rattle.std.specs.Prelude.{◌≡◌, ◌≤◌, ◌<◌, List, [], Some, map, length, slice_get, ◌+◌, vec_len, IfOk, OnOk, OnErr};
 ghost use Rattle.std.specs.List.{AllByRecursion, list_any};
 ghost use Rattle.nm_types.specs.declared.page.Page.{Page};
 ghost use Rattle.nm_types.specs.declared.access.Access.{Access as Asked};
@@ -60,6 +60,7 @@ impl<A: Allocator + Copy> Inner<A> {
 
         // Without memory
         ensures err { OnErr result (self.new ≡ self.old) }
+        ensures asked { OnErr result (0 < length moves.now + length accesses.now) }
     {
         self.take_frames(target, moves)?;
         match self.prepare(moves, accesses) {
@@ -90,6 +91,7 @@ impl<A: Allocator + Copy> Inner<A> {
 
         // Without memory
         ensures err { OnErr result (self.new ≡ self.old) }
+        ensures asked { OnErr result (0 < length moves.now) }
     {
         self.frames.populate_each(self.alloc, moves)?;
         self.frames.take_for(target, moves);
@@ -120,6 +122,7 @@ impl<A: Allocator + Copy> Inner<A> {
 
         // Without memory
         ensures err { OnErr result (self.new ≡ self.old) }
+        ensures asked { OnErr result (0 < length accesses.now) }
     {
         let mut dues = Vec::with_capacity(self.alloc, accesses.len())?;
         if accesses.is_empty() {

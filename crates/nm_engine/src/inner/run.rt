@@ -1,6 +1,6 @@
 //! Runs: pages that move to one node, one after another.
 
-ghost use Rattle.std.specs.Prelude.{◌≡◌, ◌+◌, ◌<◌, ◌≤◌, ◌^◌, [], map, length, IfOk, OnOk, vec_len, vec_capacity};
+ghost use Rattle.std.specs.Prelude.{◌≡◌, ◌+◌, ◌<◌, ◌≤◌, ◌^◌, [], map, length, IfOk, OnOk, OnErr, vec_len, vec_capacity};
 ghost use Rattle.std.specs.List.{AllByRecursion};
 ghost use Rattle.nm_types.specs.Layout.{node_count};
 ghost use Rattle.nm_runs.specs.Shown.{class_shown, ShowsItsFrames};
@@ -30,6 +30,7 @@ impl<A: Allocator + Copy + Send + Sync> Inner<A> {
     pub(crate) fn reserve(&mut self, count: usize) -> Result<(), AllocError>
         ensures room { OnOk result (length self.new.left + count ≤ self.new.room) }
         ensures same { self.new ≡ record (self.old) { room = self.new.room } }
+        ensures asked { OnErr result (0 < length self.old.left + count) }
     {
         self.frames.reserve(count)
     }
@@ -42,8 +43,9 @@ impl<A: Allocator + Copy + Send + Sync> Inner<A> {
     ) -> Result<Plan<A>, AllocError>
         requires target { requests.now.target < node_count self.now.state.layout }
         requires alike { HasOneAll requests.now.wanted.items }
-        ensures { IfOk result
+        ensures plan { IfOk result
             (λ plan. IsPlanOf self.now.state requests.now.target requests.now.wanted.items plan) }
+        ensures asked { OnErr result (0 < length requests.now.wanted.items) }
     {
         prove!(self.frames.node_count() <= 64);
         let target = requests.target;
@@ -160,11 +162,12 @@ fn classes<
 ) -> Result<Vec<Class, A>, AllocError>
     requires target { run.now.target < 2 ^ 31 }
     requires frames { ShowsItsFrames geometry.now (V.seen_at view.now) (V.placed_at view.now) }
-    ensures { IfOk result
+    ensures classes { IfOk result
         (λ classes. classes.items
         ≡ map
         (class_shown geometry.now (V.seen_at view.now)
         (V.placed_at view.now) run.now.target) run.now.wanted.items) }
+    ensures asked { OnErr result (0 < length run.now.wanted.items) }
 {
     match crew.runtime() {
         Some(rt) => classify(rt, alloc, geometry, view, run),

@@ -12,8 +12,8 @@ front_of-requires-clause-node g c = seen_node _ c.args.self.now c.args.node c.se
 pub front_of-requires-clause-count : goal.front_of-requires-clause-count
 front_of-requires-clause-count g c = omega (arith, c.min-count.ensures, c.free_count.ensures.count)
 
-pub returns : goal.returns
-returns g c =
+pub returns-clause-front : goal.returns-clause-front
+returns-clause-front g c =
     let list = list_of c.self.inside.nodes c.args.node in
     let many = c.min-count.ensures ∙ ap (λ n. min c.args.count n) c.free_count.ensures.count in
     let all = ap (λ n. take n list) many ∙ take_min c.args.count list ∙ ap (λ (v : FramesView). take c.args.count (free_on v c.args.node)) c.self.view_is in

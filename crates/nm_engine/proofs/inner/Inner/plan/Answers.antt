@@ -1,5 +1,8 @@
-use Rattle.std.proofs.Common.{◌≡◌, ◌≤◌, ap, sym, subst, ◌∙◌, length, arith, take, map}
+use Rattle.std.proofs.Common.{◌≡◌, ◌≤◌, ◌<◌, ap, sym, subst, ◌∙◌, length, arith, take, map}
+use Rattle.std.specs.Prelude.{OnErr}
+use Rattle.std.proofs.lemmas.List.{length-map}
 use Rattle.std.proofs.lemmas.Result.{IfOk-weaker}
+use Rattle.nm_areas.proofs.Counted.{err_always}
 use Rattle.nm_types.specs.Layout.{Layout, node_count}
 use Rattle.nm_types.specs.State.{State, free_list}
 use Rattle.nm_model.specs.definitions.Seen.{look_in, look_at_place}
@@ -24,19 +27,31 @@ plan-requires g c =
     let same = ap (λ (x : MidRun). node_count x.state.layout) c.self.view_is in
     omega (arith, c.requires.target, c.node_count.ensures.few, c.node_count.ensures.count, same)
 
-pub returns : goal.returns
-returns g c =
+pub returns-clause-plan : goal.returns-clause-plan
+returns-clause-plan g c =
     let i = c.self.inside in
     let s : State = shown_by i.spaces i.frames i.online i.totals.moved i.totals.failed in
     let t = c.args.requests.now.target in
     let ws = c.args.requests.now.wanted.items in
     let classes : c.as_slice.result.now ≡ map (status_or_move s t) ws =
-    c.as_slice.ensures.value ∙ c.in_ok-classes.ensures
+    c.as_slice.ensures.value ∙ c.in_ok-classes.ensures.classes
     ∙ ap (λ (l : Layout). map (class_shown l (λ pid v. look_in s.processes s.areas s.place s.pins pid v) (λ p. look_at_place s.processes s.pins p (get page_cmp s.place p)) t) ws) c.geometry.ensures
     ∙ classes_by_view s t ws c.self.invariant.sound.order.processes in
     let front : c.as_slice-2.result.now ≡ take (length c.as_slice.result.now) (free_list s t) =
-    c.as_slice-2.ensures.value ∙ c.in_ok-front.ensures ∙ ap (λ n. take n (free_list s t)) (c.len.ensures ∙ sym c.as_slice.ensures.len) in
+    c.as_slice-2.ensures.value ∙ c.in_ok-front.ensures.front ∙ ap (λ n. take n (free_list s t)) (c.len.ensures ∙ sym c.as_slice.ensures.len) in
     let few : length c.as_slice.result.now ≤ length c.as_slice.result.now = omega arith in
     IfOk-weaker c.plan.result _ _ (λ plan h. subst (λ (x : MidRun). IsPlanOf x.state t ws plan) c.self.view_is
     (is_plan_of s t ws plan c.self.invariant.sound.order.processes (c.self.invariant.sound.frames.own t) c.requires.alike
     (h ∙ planned_is s t (length c.as_slice.result.now) c.as_slice.result.now c.as_slice-2.result.now ws classes front few))) c.plan.ensures.plan
+
+-- there are as many classes as requests
+pub returns-in_err-front-clause-asked : goal.returns-in_err-front-clause-asked
+returns-in_err-front-clause-asked g c =
+    let ws = c.args.requests.now.wanted.items in
+    let many = ap length c.in_ok-classes.ensures.classes ∙ length-map ws _ in
+    err_always c.from_residual-in_err-front.result (omega (arith, c.in_err-front.ensures.asked, c.len.ensures, many))
+
+pub returns-clause-asked : goal.returns-clause-asked
+returns-clause-asked g c =
+    let ws = c.args.requests.now.wanted.items in
+    subst (λ n. OnErr c.plan.result (0 < n)) (ap length c.as_slice.ensures.value ∙ ap length c.in_ok-classes.ensures.classes ∙ length-map ws _) c.plan.ensures.asked

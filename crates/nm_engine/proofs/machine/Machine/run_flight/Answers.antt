@@ -1,8 +1,13 @@
-use Rattle.std.proofs.Common.{List, map, length, ap, sym, subst, ◌∙◌, arith}
+use Rattle.std.proofs.Common.{◌≡◌, ℕ, ◌+◌, ◌<◌, List, [], ◌∷◌, map, length, ap, sym, subst, ◌∙◌, arith}
+use Rattle.std.specs.Prelude.{ℤ}
 use Rattle.std.specs.List.{AllByRecursion}
 use Rattle.nm_types.specs.Layout.{node_count}
 use Rattle.nm_types.specs.State.{State}
+use Rattle.nm_types.specs.declared.request.Wanted.{Wanted}
 use Rattle.nm_types.specs.declared.taken.Taken.{Taken}
+use Rattle.nm_areas.proofs.Counted.{err_always}
+use Rattle.nm_laws.specs.Interleavings.{IsRun}
+use Rattle.nm_model.specs.definitions.Decide.{Planned}
 use Rattle.nm_model.specs.views.Asked.{access_shown}
 use Rattle.nm_engine.specs.Answering.{answer_shown, due_shown}
 use Rattle.nm_model.specs.definitions.Early.{Due, all_made, without_fronts, with_fronts, tos, IsDue}
@@ -10,9 +15,9 @@ use Rattle.nm_model.specs.definitions.Touch.{AllAnswered}
 use Rattle.nm_laws.specs.Laws.{with_moves}
 use Rattle.nm_engine.specs.MidRun.{MidRun}
 use Rattle.nm_laws.specs.Moves.{CanMove, IsPlanOf}
-use Rattle.nm_model.specs.definitions.Run.{run}
+use Rattle.nm_model.specs.definitions.Run.{Ran, run}
 use Rattle.nm_model.specs.definitions.Sound.{IsSound}
-use Rattle.nm_model.specs.definitions.Touch.{Access}
+use Rattle.nm_model.specs.definitions.Touch.{Access, AccessAnswer}
 use Rattle.nm_laws.proofs.Early.Flown.{run_state, run_answers}
 use Rattle.nm_laws.proofs.Early.Phases.{pages_of, touched_all, given_back, planned_phases}
 use Rattle.nm_laws.proofs.Early.Ready.{all_layout}
@@ -35,7 +40,7 @@ carry_out-answers-requires-clause-sound g c κs within =
     let moves : List Taken = c.moves-moves.result.now in
     let accesses : List Access = map (access_shown {A = g.row.A.Denot}) c.args.accesses.now in
     let at = ap (λ (x : MidRun). x.state) c.in_ok-reserve.ensures.same ∙ c.self.view_is in
-    let plan = subst (λ (x : State). IsPlanOf x t ws c.in_ok-plan.plan) c.self.view_is c.in_ok-plan.ensures in
+    let plan = subst (λ (x : State). IsPlanOf x t ws c.in_ok-plan.plan) c.self.view_is c.in_ok-plan.ensures.plan in
     let ready = planned_phases r t moves accesses c.args.self.now ws c.in_ok-plan.plan at plan c.moves-moves.ensures c.in_ok-dues.ensures.sound c.requires.target in
     subst (λ (x : State). IsSound (with_fronts x t (tos moves))) (sym c.in_ok-dues.ensures.state) ready.1.back
 
@@ -47,7 +52,7 @@ carry_out-answers-requires-clause-moves g c κs within =
     let moves : List Taken = c.moves-moves.result.now in
     let accesses : List Access = map (access_shown {A = g.row.A.Denot}) c.args.accesses.now in
     let at = ap (λ (x : MidRun). x.state) c.in_ok-reserve.ensures.same ∙ c.self.view_is in
-    let plan = subst (λ (x : State). IsPlanOf x t ws c.in_ok-plan.plan) c.self.view_is c.in_ok-plan.ensures in
+    let plan = subst (λ (x : State). IsPlanOf x t ws c.in_ok-plan.plan) c.self.view_is c.in_ok-plan.ensures.plan in
     let ready = planned_phases r t moves accesses c.args.self.now ws c.in_ok-plan.plan at plan c.moves-moves.ensures c.in_ok-dues.ensures.sound c.requires.target in
     subst (λ (x : State). CanMove (with_fronts x t (tos moves)) t moves) (sym c.in_ok-dues.ensures.state) ready.1.can
 
@@ -59,7 +64,7 @@ carry_out-answers-requires-clause-due g c κs within =
     let moves : List Taken = c.moves-moves.result.now in
     let accesses : List Access = map (access_shown {A = g.row.A.Denot}) c.args.accesses.now in
     let at = ap (λ (x : MidRun). x.state) c.in_ok-reserve.ensures.same ∙ c.self.view_is in
-    let plan = subst (λ (x : State). IsPlanOf x t ws c.in_ok-plan.plan) c.self.view_is c.in_ok-plan.ensures in
+    let plan = subst (λ (x : State). IsPlanOf x t ws c.in_ok-plan.plan) c.self.view_is c.in_ok-plan.ensures.plan in
     let ready = planned_phases r t moves accesses c.args.self.now ws c.in_ok-plan.plan at plan c.moves-moves.ensures c.in_ok-dues.ensures.sound c.requires.target in
     subst (λ (ds : List Due). AllByRecursion (IsDue (pages_of moves) c.begin.new.self.state) ds) (sym c.in_ok-dues.ensures.dues)
     (subst (λ (x : State). AllByRecursion (IsDue (pages_of moves) x) (touched_all r t moves accesses).dues) (sym c.in_ok-dues.ensures.state) ready.1.due)
@@ -72,7 +77,7 @@ returns-clause-answers g c =
     let moves : List Taken = c.moves-moves.result.now in
     let accesses : List Access = map (access_shown {A = g.row.A.Denot}) c.args.accesses.now in
     let at = ap (λ (x : MidRun). x.state) c.in_ok-reserve.ensures.same ∙ c.self.view_is in
-    let plan = subst (λ (x : State). IsPlanOf x t ws c.in_ok-plan.plan) c.self.view_is c.in_ok-plan.ensures in
+    let plan = subst (λ (x : State). IsPlanOf x t ws c.in_ok-plan.plan) c.self.view_is c.in_ok-plan.ensures.plan in
     let ready = planned_phases r t moves accesses c.args.self.now ws c.in_ok-plan.plan at plan c.moves-moves.ensures c.in_ok-dues.ensures.sound c.requires.target in
     let early = touched_all r t moves accesses in
     let made : List Due → State → AllAnswered = λ ds x. all_made (with_moves (with_fronts x t (tos moves)) t moves) ds in
@@ -88,7 +93,7 @@ returns-clause-state g c =
     let moves : List Taken = c.moves-moves.result.now in
     let accesses : List Access = map (access_shown {A = g.row.A.Denot}) c.args.accesses.now in
     let at = ap (λ (x : MidRun). x.state) c.in_ok-reserve.ensures.same ∙ c.self.view_is in
-    let plan = subst (λ (x : State). IsPlanOf x t ws c.in_ok-plan.plan) c.self.view_is c.in_ok-plan.ensures in
+    let plan = subst (λ (x : State). IsPlanOf x t ws c.in_ok-plan.plan) c.self.view_is c.in_ok-plan.ensures.plan in
     let ready = planned_phases r t moves accesses c.args.self.now ws c.in_ok-plan.plan at plan c.moves-moves.ensures c.in_ok-dues.ensures.sound c.requires.target in
     let made : List Due → State → AllAnswered = λ ds x. all_made (with_moves (with_fronts x t (tos moves)) t moves) ds in
     let early = touched_all r t moves accesses in
@@ -97,3 +102,30 @@ returns-clause-state g c =
     (c.carry_out-answers.ensures.state ∙ ap (λ (x : State). (made (map (due_shown c.args.accesses.now) c.in_ok-dues.dues.items) x).state) c.in_ok-dues.ensures.state ∙ ap (λ (ds : List Due). (made ds early.state).state) c.in_ok-dues.ensures.dues)
     c.carry_out-answers.ensures.left c.statuses.ensures
     ∙ ap (λ (s : State). (run s t ws accesses).state) at
+
+-- a run with what is told of its parts
+as_told : (r : Ran) (s : State) (statuses : List ℤ) (answers : List (List AccessAnswer)) → s ≡ r.state → statuses ≡ r.statuses → answers ≡ r.answers
+    → r ≡ record { state = s; statuses = statuses; answers = answers }
+as_told r s statuses answers a b c = λ i. record { state = sym a i; statuses = sym b i; answers = sym c i }
+
+-- the law of all orders says that of the run by the definitions, which is what the engine has done
+pub returns-clause-orders : goal.returns-clause-orders
+returns-clause-orders g c m events n starts unfolds same ended =
+    let s = c.args.self.now in
+    let t = c.args.requests.now.target in
+    let ws = c.args.requests.now.wanted.items in
+    let accesses : List Access = map (access_shown {A = g.row.A.Denot}) c.args.accesses.now in
+    let plan = subst (λ (x : State). IsPlanOf x t ws c.in_ok-plan.plan) c.self.view_is c.in_ok-plan.ensures.plan in
+    let done = as_told (run s t ws accesses) _ _ _ (returns-clause-state g c) (c.into_statuses.ensures ∙ sym plan.agrees.statuses) (returns-clause-answers g c) in
+    subst (λ (r : Ran). IsRun n r) ((λ i. run (starts i) t ws (same i)) ∙ done) (c.interleavings.ensures.orders m t ws events n unfolds ended)
+
+-- memory that is asked for moves, or for accesses, is asked for none where nothing is requested
+asked_for : (s : State) (t : ℕ) (ws : List Wanted) (p : Planned) (moves : List Taken) (n : ℕ) → IsPlanOf s t ws p → moves ≡ p.taken → 0 < length moves + n → 0 < length ws + n
+asked_for s t [] p moves n plan same h = subst (λ (ms : List Taken). 0 < length ms + n) (same ∙ ap (λ (q : Planned). q.taken) plan.planned) h
+asked_for s t (w ∷ ws) p moves n plan same h = omega arith
+
+pub returns-in_err-dues-clause-asked : goal.returns-in_err-dues-clause-asked
+returns-in_err-dues-clause-asked g c =
+    let t = c.args.requests.now.target in
+    let ws = c.args.requests.now.wanted.items in
+    err_always c.from_residual-in_err-dues.result (asked_for _ t ws c.in_ok-plan.plan c.moves-moves.result.now (length c.args.accesses.now) c.in_ok-plan.ensures.plan c.moves-moves.ensures c.in_err-dues.ensures.asked)
