@@ -1,7 +1,7 @@
 //! A batch of pages to move: whether they may go to their nodes, and its runs, one after another, with the accesses
 //! made meanwhile.
 
-ghost use Rattle.std.specs.Prelude.{◌≡◌, ◌<◌, ◌≤◌, ◌/◌, [], All, EachIndex, IfOk, OnOk, length, slice_index, vec_capacity, map};
+ghost use Rattle.std.specs.Prelude.{◌≡◌, ◌+◌, ◌<◌, ◌≤◌, ◌/◌, [], All, EachIndex, IfOk, OnErr, OnOk, length, slice_index, vec_capacity, map};
 ghost use Rattle.std.specs.List.{sum_by};
 ghost use Rattle.nm_types.specs.Layout.{node_count};
 ghost use Rattle.nm_types.specs.declared.request.Wanted.TheVariants.{At};
@@ -126,7 +126,7 @@ pub(crate) fn move_runs<
 
 /// Moves the pages of a batch, run after run, with at most `limit` entries in each run. The runs and lists are made
 /// before the first run starts, so that memory for them cannot be refused halfway. An error means that the host is out
-/// of memory, and says after how many runs.
+/// of memory, and says after how many runs; a batch of no pages and no accesses takes none.
 #[tactic(auto, using(crate::proofs::Trails::first_state))]
 pub(crate) fn move_batch<
     R: Threads + Wait + Sync,
@@ -147,9 +147,17 @@ pub(crate) fn move_batch<
     requires nodes { EachIndex nodes.now
         (λ k. slice_index nodes.now k < node_count machine.old.layout) }
     requires paired { length pages.now ≡ length nodes.now }
-    ensures { Moves result machine.old machine.new
+    ensures moves { Moves result machine.old machine.new
         (cut_within limit (requests_of pid all pages.now nodes.now)) (shown_during during.now) }
+    ensures asked { OnErr result (0 < length pages.now + length during.now) }
 {
+    if pages.is_empty() && during.is_empty() {
+        return Ok(Moved {
+            failed: 0,
+            statuses: Vec::new(alloc),
+            answers: Vec::new(alloc),
+        });
+    }
     let requests = requests_of(alloc, pid, all, pages, nodes)?;
     let runs = cut_within(alloc, requests.as_slice(), limit)?;
     let statuses = Vec::with_capacity(alloc, pages.len())?;

@@ -1,6 +1,6 @@
 //! Batches and passes: all requests go to one node after another, until they have found a free frame.
 
-ghost use Rattle.std.specs.Prelude.{◌≡◌, ◌^◌, ◌<◌, ◌≤◌, ℕ, false, true, All, Any, [], IfOk, IfNone, IfSome, Some, length, vec_capacity};
+ghost use Rattle.std.specs.Prelude.{◌≡◌, ◌^◌, ◌<◌, ◌≤◌, ℕ, false, true, All, Any, [], IfOk, OnErr, IfNone, IfSome, Some, length, vec_capacity};
 ghost use Rattle.std.specs.List.{AllByRecursion};
 ghost use Rattle.std.specs.Ordering.{int_eq};
 ghost use Rattle.nm_types.specs.declared.errno.Errno.TheVariants.{Enomem};
@@ -324,8 +324,9 @@ pub(crate) fn make_passes<
     requires passes { length nodes.now ≤ 64 }
     requires alike { HasOneAll wanted.items }
     requires pages { length wanted.items ≤ 2 ^ 52 }
-    ensures { MakesRuns policy_set result machine.old machine.new
+    ensures runs { MakesRuns policy_set result machine.old machine.new
         (passes limit machine.old nodes.now wanted.items) }
+    ensures asked { OnErr result (0 < length wanted.items) }
 {
     let mut left = Left {
         wanted,

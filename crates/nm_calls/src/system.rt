@@ -1,6 +1,7 @@
 //! A system: a machine, its limit on runs and its workers, and the calls that processes make.
 
-ghost use Rattle.std.specs.Prelude.{◌≡◌, ◌<◌, ◌≤◌, true, [], IfOk, length, map};
+ghost use Rattle.std.specs.Prelude.{Bool, Err, IfOk, [], length, map, true, ℕ, ◌+◌, ◌<◌, ◌≡◌, ◌≤◌};
+ghost use Rattle.nm_calls.specs.declared.call_error.CallError.TheVariants.{HostMemory};
 ghost use Rattle.nm_model.specs.definitions.Sound.{audited};
 ghost use Rattle.nm_model.specs.definitions.Sound.{IsSound};
 ghost use Rattle.nm_engine.specs.Answering.{answer_shown};
@@ -282,10 +283,13 @@ impl<A: Allocator + Copy + Send + Sync> System<A> {
         gate: &G,
     ) -> Result<Moved<A>, CallError>
         requires paired { length pages.now ≡ length nodes.now }
-        ensures { Does
+        ensures done { Does
             (λ moved. Statuses moved.failed moved.statuses.items
             (map answer_shown moved.answers.items)) result self.old self.new
             (MovePages caller pid pages.now nodes.now flags (shown_during during.now)) }
+        ensures asked { (runs : ℕ) (policy_set : Bool) →
+            result ≡ Err (HostMemory runs policy_set) →
+            0 < length pages.now + length during.now }
     {
         let permit = permit_of(&self.machine, caller, pid, flags)?;
         let Permit {

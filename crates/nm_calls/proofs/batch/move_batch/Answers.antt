@@ -21,16 +21,16 @@ move_runs-requires-clause-room g c κs within =
     let fit = entries_fit c.args.limit c.args.pid c.args.all c.args.pages.now c.args.nodes.now c.as_slice-runs.result.now c.requires.some runs in
     omega (arith, fit, c.in_ok-statuses.ensures.capacity)
 
-pub returns-in_err-requests : goal.returns-in_err-requests
-returns-in_err-requests g c = none_moved _ _ _ _ c.from_residual.ensures.1
+pub returns-in_err-requests-clause-moves : goal.returns-in_err-requests-clause-moves
+returns-in_err-requests-clause-moves g c = none_moved _ _ _ _ c.from_residual.ensures.1
 
-pub returns-in_err-runs : goal.returns-in_err-runs
-returns-in_err-runs g c = none_moved _ _ _ _ c.from_residual-in_err-runs.ensures.1
+pub returns-in_err-runs-clause-moves : goal.returns-in_err-runs-clause-moves
+returns-in_err-runs-clause-moves g c = none_moved _ _ _ _ c.from_residual-in_err-runs.ensures.1
 
-pub returns-in_err-statuses : goal.returns-in_err-statuses
-returns-in_err-statuses g c = none_moved _ _ _ _ c.from_residual-in_err-statuses.ensures.1
+pub returns-in_err-statuses-clause-moves : goal.returns-in_err-statuses-clause-moves
+returns-in_err-statuses-clause-moves g c = none_moved _ _ _ _ c.from_residual-in_err-statuses.ensures.1
 
-pub returns : goal.returns
-returns g c =
+pub returns-clause-moves : goal.returns-clause-moves
+returns-clause-moves g c =
     let runs = ap stretches_of c.as_slice-runs.ensures.value ∙ c.in_ok-runs.ensures.runs ∙ ap (cut_within c.args.limit) (c.as_slice.ensures.value ∙ c.in_ok-requests.ensures) in
     moved_same c.move_runs.result _ _ _ _ _ _ runs refl c.move_runs.ensures

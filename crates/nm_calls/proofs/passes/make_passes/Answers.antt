@@ -8,8 +8,8 @@ use Rattle.nm_model.specs.definitions.Run.{HasOneAll}
 use Rattle.nm_calls.proofs.Passing.{HavePassed, more_passed, all_passed, passes_none, passes_at, few_runs, some_run_of, to_node_length, counted_later, stopped_later, alike_left, fewer_left, runs_layout, nothing_is, something_is}
 use Rattle.nm_calls.proofs.passes.make_passes.Goals as goal
 
-pub returns-then-is_empty : goal.returns-then-is_empty
-returns-then-is_empty g c =
+pub returns-then-is_empty-clause-runs : goal.returns-then-is_empty-clause-runs
+returns-then-is_empty-clause-runs g c =
     let x = c.args in
     let left = c.loop-node.left.wanted in
     let ns = drop c.loop-node.node-index x.nodes.now in
@@ -27,8 +27,8 @@ later-requires g c =
     counted_later c.in-Err.error c.loop-node.machine c.next_pass.new.machine (cut_within x.limit es) _ c.loop-node.made c.in-Err.ensures.runs
     (omega (arith, runs, len, c.loop-node.invariant.few, c.loop-node.invariant.counted, c.loop-node-test.true, c.requires.passes))
 
-pub returns-in-Err : goal.returns-in-Err
-returns-in-Err g c =
+pub returns-in-Err-clause-runs : goal.returns-in-Err-clause-runs
+returns-in-Err-clause-runs g c =
     let x = c.args in
     let node = c.node-item.result in
     let ws = c.loop-node.left.wanted.items in
@@ -82,6 +82,7 @@ loop-node-preserved g c =
       nodes = ap (λ t. node_count t.layout) state ∙ ap node_count (runs_layout 0 s runs) ∙ inv.nodes;
       alike = subst HasOneAll (sym kept) (alike_left ws made.statuses inv.alike);
       few = omega (arith, less, left, inv.few);
+      fewer = omega (arith, less, left, inv.fewer);
       counted = omega (arith, count, few, len, inv.few, inv.counted);
       passed = subst (λ l. HavePassed x.machine.now all l new (c.loop-node.made + c.in-Ok.next.runs)) rest
           (subst (λ n. HavePassed x.machine.now all behind new (c.loop-node.made + n)) (sym count) more);
@@ -91,3 +92,9 @@ loop-node-preserved g c =
 pub next_pass-requires-clause-pages : goal.next_pass-requires-clause-pages
 next_pass-requires-clause-pages g c κs within =
     something_is _ _ c.loop-node.left.wanted.ok.0 (sym c.is_empty.ensures ∙ c.if-is_empty.false)
+
+-- what is left when memory is refused was among what was asked for
+pub returns-in-Err-clause-asked : goal.returns-in-Err-clause-asked
+returns-in-Err-clause-asked g c =
+    let some : 0 < length c.loop-node.left.wanted.items = something_is _ _ c.loop-node.left.wanted.ok.0 (sym c.is_empty.ensures ∙ c.if-is_empty.false) in
+    omega (arith, some, c.loop-node.invariant.fewer)

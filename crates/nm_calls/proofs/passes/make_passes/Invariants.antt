@@ -11,6 +11,7 @@ invariant-loop-node g l = record {
   nodes : node_count l.machine.layout ≡ node_count l.fn.machine.layout;
   alike : HasOneAll l.left.wanted.items;
   few : length l.left.wanted.items ≤ 2 ^ 52;
+  fewer : length l.left.wanted.items ≤ length l.fn.wanted.items;
   counted : l.made ≤ l.node-index * 2 ^ 52;
   passed : HavePassed l.fn.machine (passes l.limit l.fn.machine l.nodes l.fn.wanted.items) (passes l.limit l.machine (drop l.node-index l.nodes) l.left.wanted.items) l.machine l.made;
   left : IsLeft l.machine l.left;

@@ -1,0 +1,104 @@
+//! Plays a trace step by step, as another program asks: the first line of standard input is the top of a trace, and each
+//! further line is a step, as JSON. The reply to a step is its lines of the report and an empty line, on standard output.
+//!
+//! A line that is no step has the reply `fault: ` and what is wrong, and an empty line; the session is as before. Ends
+//! with status 0 where the input ends, 2 where its first line is no top of a trace, 3 where the host is out of memory,
+//! and 4 where a stream fails, with one line on standard error for the last three.
+#![tactic(auto)]
+
+use nm_crew::OpenGate;
+use nm_trace::{Session, TraceError};
+use std::alloc::Global;
+use std::io::{BufRead, BufReader, ErrorKind, Write};
+use std::process::ExitCode;
+use std::sync::Wait;
+use std::thread::Threads;
+
+/// Why a session ends before its input does.
+enum End {
+    /// The first line is no top of a trace.
+    BadTop(TraceError),
+    /// The host is out of memory.
+    HostMemory,
+    /// A stream failed.
+    Stream,
+}
+
+/// Reads the next line, with its end, in place of what is in the list. False where the input has ended.
+fn next_line(input: &mut impl BufRead, line: &mut Vec<u8>) -> Result<bool, End> {
+    line.clear();
+    match input.read_until(b'\n', line) {
+        Ok(count) => Ok(count > 0),
+        Err(error) => match error.kind() {
+            ErrorKind::OutOfMemory => Err(End::HostMemory),
+            _ => Err(End::Stream),
+        },
+    }
+}
+
+/// Makes a step, and writes its reply.
+fn reply(
+    rt: &(impl Threads + Wait + Sync),
+    heap: Global,
+    session: &mut Session<Global>,
+    step: &[u8],
+    out: &mut impl Write,
+) -> Result<(), End> {
+    let written = match session.step(rt, heap, step, &OpenGate) {
+        Ok(lines) => out.write_all(lines.as_slice()),
+        Err(TraceError::HostMemory(_)) => return Err(End::HostMemory),
+        Err(fault) => writeln!(out, "fault: {fault}"),
+    };
+    if written.is_err() || out.write_all(b"\n").is_err() || out.flush().is_err() {
+        return Err(End::Stream);
+    }
+    Ok(())
+}
+
+/// Replies to each line until the input ends.
+fn talk(
+    rt: &(impl Threads + Wait + Sync),
+    heap: Global,
+    input: &mut impl BufRead,
+    out: &mut impl Write,
+) -> Result<(), End> {
+    let mut line = Vec::new(heap);
+    next_line(input, &mut line)?;
+    let mut session = match Session::open(heap, heap, line.as_slice(), 1) {
+        Ok(session) => session,
+        Err(TraceError::HostMemory(_)) => return Err(End::HostMemory),
+        Err(fault) => return Err(End::BadTop(fault)),
+    };
+    for _ in 0..u64::MAX {
+        if !next_line(input, &mut line)? {
+            return Ok(());
+        }
+        reply(rt, heap, &mut session, line.as_slice(), out)?;
+    }
+    Ok(())
+}
+
+fn main(rt: HostRuntime) -> ExitCode {
+    let heap = rt.alloc();
+    let mut err = rt.stderr();
+    let ended = match BufReader::new(heap, rt.stdin()) {
+        Ok(mut input) => talk(&rt, heap, &mut input, &mut rt.stdout()),
+        Err(_) => Err(End::HostMemory),
+    };
+    let status = match ended {
+        Ok(()) => 0,
+        Err(End::BadTop(fault)) => {
+            let _ = writeln!(err, "numatrace_session: {fault}");
+            2
+        }
+        Err(End::HostMemory) => {
+            let _ = writeln!(err, "numatrace_session: host memory refused");
+            3
+        }
+        Err(End::Stream) => {
+            let _ = writeln!(err, "numatrace_session: a stream failed");
+            4
+        }
+    };
+    ExitCode::from(status)
+}
