@@ -8,6 +8,7 @@ pub mod Private
 pub mod Lost
 pub mod Gone
 pub mod Letting
+pub mod Untouched
 pub mod Roomy
 pub mod Values
 pub mod Steps

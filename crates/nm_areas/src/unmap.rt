@@ -10,7 +10,7 @@ ghost use Rattle.nm_areas.specs.Coverage.{IsCoverage};
 ghost use Rattle.nm_model.specs.definitions.Areas.{is_shared};
 ghost use Rattle.nm_model.specs.definitions.Areas.{AllShown, AreasAreApart, HasIndices, PrivateIsOnce, shows_segment};
 ghost use Rattle.nm_model.specs.definitions.Areas.{pages_from};
-ghost use Rattle.nm_model.specs.definitions.AreaRefusal.{remove_refusal};
+ghost use Rattle.nm_model.specs.definitions.AreaRefusal.{overlaps, remove_refusal};
 ghost use Rattle.nm_model.specs.definitions.Areas.{IsAlone, all_lost, frames_lost, lost, others, page_outside, pages_of_area, pages_of_own, place_left, removed, without_own};
 ghost use Rattle.nm_types.specs.declared.area.Segment.{Segment};
 ghost use Rattle.nm_types.specs.Map.{Map, get, page_cmp, spot_cmp, without};
@@ -33,8 +33,8 @@ impl<A: Allocator + Copy> Areas<A> {
     /// address order, each page at its lowest address.
     ///
     /// Errors: EINVAL if the address is not a multiple of 4,096, `pages` is 0, or the pages end past 2^47. Allocates
-    /// only if the call is not refused; the returned list has room for at most as many pages as have frames, and at
-    /// most as many as the range has.
+    /// only if the call is not refused and an area of the process covers a page of the range; the returned list has
+    /// room for at most as many pages as have frames, and at most as many as the range has.
     pub fn remove(
         &mut self,
         pid: Pid,
@@ -47,6 +47,8 @@ impl<A: Allocator + Copy> Areas<A> {
 
         // Without memory
         ensures memory { result ≡ Err MachineError.HostMemory → remove_refusal addr pages ≡ None }
+        ensures asked { result ≡ Err MachineError.HostMemory →
+            list_any (overlaps pid (addr / 4096) (addr / 4096 + pages)) self.old.areas ≡ true }
 
         // On success
         ensures pages { OnOk result
@@ -60,6 +62,9 @@ impl<A: Allocator + Copy> Areas<A> {
         let Some(first) = range_start(addr, pages) else {
             return Err(MachineError::Refused(Errno::Einval));
         };
+        if self.table.is_free(pid, first, pages) {
+            return Ok(Vec::new(self.alloc));
+        }
         let end = Vpn::new(first.number() + pages);
         let most = self.places.len().min(pages as usize);
         let mut freed = Vec::with_capacity(self.alloc, most)?;

@@ -1,4 +1,4 @@
-use Rattle.std.proofs.Common.{◌≡◌, ℕ, ◌+◌, ◌/◌, not, length, refl, ap, sym, subst, ◌∙◌, arith}
+use Rattle.std.proofs.Common.{◌≡◌, ℕ, ◌+◌, ◌/◌, Bool, true, false, not, length, refl, ap, sym, subst, ◌∙◌, arith}
 use Rattle.std.specs.Prelude.{Some, None, if◌then◌else◌}
 use Rattle.std.specs.List.{AllByRecursion}
 use Rattle.std.specs.List.Sorted.{IsStrictlySortedBy}
@@ -18,7 +18,18 @@ use Rattle.nm_model.specs.definitions.Areas.{removed, frames_lost, others, page_
 use Rattle.nm_model.proofs.areas.Shown.{left_shows}
 use Rattle.nm_areas.proofs.Roomy.{few_own}
 use Rattle.nm_areas.proofs.Letting.{cut_indices, cut_shown, now_left, after_is, after_mapped, lost_is}
+use Rattle.std.specs.List.{list_any}
+use Rattle.nm_model.specs.definitions.AreaRefusal.{overlaps}
+use Rattle.nm_areas.proofs.Untouched.{not_false, same_removed, none_lost, none_hidden}
 use Rattle.nm_areas.proofs.areas.Areas.remove.Goals as goal
+
+-- where the range is not free, an area overlaps it
+taken : (m n : Mapped) (pid addr pages first : ℕ) (free : Bool) → m ≡ n → first ≡ addr / 4096 → free ≡ not (list_any (overlaps pid first (first + pages)) m.areas) → free ≡ false
+    → list_any (overlaps pid (addr / 4096) (addr / 4096 + pages)) n.areas ≡ true
+taken m n pid addr pages first free same at told h =
+    ap (λ (x : Mapped). list_any (overlaps pid (addr / 4096) (addr / 4096 + pages)) x.areas) (sym same)
+    ∙ ap (λ (k : ℕ). list_any (overlaps pid k (k + pages)) m.areas) (sym at)
+    ∙ not_false free (list_any (overlaps pid first (first + pages)) m.areas) told h
 
 pub lose_all-requires-clause-indices : goal.lose_all-requires-clause-indices
 lose_all-requires-clause-indices g c =
@@ -180,3 +191,48 @@ drop_own-requires-clause-named g c = subst (λ (t : Table). IsStrictlySortedBy n
 pub returns-clause-room : goal.returns-clause-room
 returns-clause-room g c =
     omega (arith, c.lose_all.ensures.room, c.in_ok-freed.ensures.exact, c.min-most.ensures, c.len.ensures.len, ap (λ (m : Mapped). length m.place) c.self.view_is)
+
+-- ---- no area in the range
+
+pub returns-then-is_free-clause-done : goal.returns-then-is_free-clause-done
+returns-then-is_free-clause-done g c =
+    let range = c.in-Some.ensures.some in
+    let before = mapped c.self.inside.table c.self.inside.places.entries in (
+      ap (λ b. if not b then Some Einval else None) range.1,
+      sym c.self.view_is
+          ∙ same_removed c.self.inside.table c.self.inside.places.entries c.self.invariant.0 c.args.pid c.in-Some.first (c.in-Some.first + c.args.pages) (omega (arith, range.2)) (sym c.if-is_free.true ∙ c.is_free.ensures)
+          ∙ ap (λ (n : ℕ). removed before c.args.pid n (n + c.args.pages)) range.0
+          ∙ ap (λ (m : Mapped). removed m c.args.pid (c.args.addr / 4096) (c.args.addr / 4096 + c.args.pages)) c.self.view_is,
+    )
+
+pub returns-then-is_free-clause-pages : goal.returns-then-is_free-clause-pages
+returns-then-is_free-clause-pages g c q v =
+    let range = c.in-Some.ensures.some in
+    let areas = c.self.inside.table.areas in
+    ap (λ (m : Mapped). page_at m.areas q v) (sym c.self.view_is)
+    ∙ none_hidden c.self.inside.table c.self.inside.places.entries c.self.invariant.0 c.args.pid c.in-Some.first (c.in-Some.first + c.args.pages) (omega (arith, range.2)) (sym c.if-is_free.true ∙ c.is_free.ensures) q v
+    ∙ ap (λ (n : ℕ). page_outside areas c.args.pid n (n + c.args.pages) q v) range.0
+    ∙ ap (λ (m : Mapped). page_outside m.areas c.args.pid (c.args.addr / 4096) (c.args.addr / 4096 + c.args.pages) q v) c.self.view_is
+
+pub returns-then-is_free-clause-freed : goal.returns-then-is_free-clause-freed
+returns-then-is_free-clause-freed g c =
+    let range = c.in-Some.ensures.some in
+    let before = mapped c.self.inside.table c.self.inside.places.entries in
+    c.new.ensures.items
+    ∙ none_lost c.self.inside.table c.self.inside.places.entries c.self.invariant.0 c.args.pid c.in-Some.first (c.in-Some.first + c.args.pages) (omega (arith, range.2)) (sym c.if-is_free.true ∙ c.is_free.ensures)
+    ∙ ap (λ (n : ℕ). frames_lost before c.args.pid n (n + c.args.pages)) range.0
+    ∙ ap (λ (m : Mapped). frames_lost m c.args.pid (c.args.addr / 4096) (c.args.addr / 4096 + c.args.pages)) c.self.view_is
+
+-- ---- memory is asked for only where an area overlaps the range
+
+pub returns-in_err-freed-clause-asked : goal.returns-in_err-freed-clause-asked
+returns-in_err-freed-clause-asked g c = λ _.
+    taken (mapped c.self.inside.table c.self.inside.places.entries) c.args.self.now c.args.pid c.args.addr c.args.pages c.in-Some.first c.is_free.result c.self.view_is c.in-Some.ensures.some.0 c.is_free.ensures c.if-is_free.false
+
+pub returns-in_err-split_steps-clause-asked : goal.returns-in_err-split_steps-clause-asked
+returns-in_err-split_steps-clause-asked g c = λ _.
+    taken (mapped c.self.inside.table c.self.inside.places.entries) c.args.self.now c.args.pid c.args.addr c.args.pages c.in-Some.first c.is_free.result c.self.view_is c.in-Some.ensures.some.0 c.is_free.ensures c.if-is_free.false
+
+pub returns-in_default-cut-clause-asked : goal.returns-in_default-cut-clause-asked
+returns-in_default-cut-clause-asked g c = λ _.
+    taken (mapped c.self.inside.table c.self.inside.places.entries) c.args.self.now c.args.pid c.args.addr c.args.pages c.in-Some.first c.is_free.result c.self.view_is c.in-Some.ensures.some.0 c.is_free.ensures c.if-is_free.false
