@@ -29,7 +29,7 @@ pub set_online-requires-after_bounds : goal.set_online-requires-after_bounds
 set_online-requires-after_bounds g c κs within =
     let s = c.args.machine.now in
     let runs = passes c.args.limit s c.as_slice-2.result.now c.in_ok-wanted.wanted.items in
-    subst (λ n. c.args.node < n) (sym (ap (λ t. node_count t.layout) c.in_default.ensures ∙ ap node_count (runs_layout 0 s runs))) c.requires.node
+    subst (λ n. c.args.node < n) (sym (ap (λ t. node_count t.layout) c.in_default.ensures.runs ∙ ap node_count (runs_layout 0 s runs))) c.requires.node
 
 pub returns-in_err-pages : goal.returns-in_err-pages
 returns-in_err-pages g c = none_emptied _ _ _ _ c.from_residual.ensures.1
@@ -41,18 +41,18 @@ pub returns-in_err-wanted : goal.returns-in_err-wanted
 returns-in_err-wanted g c = none_emptied _ _ _ _ c.from_residual-in_err-wanted.ensures.1
 
 pub returns-in-Err : goal.returns-in-Err
-returns-in-Err g c = keeps_stopped c.in-Err.error _ _ _ _ _ (runs_of c.args.limit c.args.machine.now c.args.node _ _ _ c.requires.online (c.as_slice.ensures.value ∙ c.in_ok-pages.ensures.list) (c.as_slice-2.ensures.value ∙ c.in_ok-nodes.ensures.order) c.in_ok-wanted.ensures) c.in-Err.ensures
+returns-in-Err g c = keeps_stopped c.in-Err.error _ _ _ _ _ (runs_of c.args.limit c.args.machine.now c.args.node _ _ _ c.requires.online (c.as_slice.ensures.value ∙ c.in_ok-pages.ensures.list) (c.as_slice-2.ensures.value ∙ c.in_ok-nodes.ensures.order) c.in_ok-wanted.ensures) c.in-Err.ensures.runs
 
 pub returns-then-some_on : goal.returns-then-some_on
 returns-then-some_on g c =
     let s = c.args.machine.now in
     let runs = runs_of c.args.limit s c.args.node _ _ _ c.requires.online (c.as_slice.ensures.value ∙ c.in_ok-pages.ensures.list) (c.as_slice-2.ensures.value ∙ c.in_ok-nodes.ensures.order) c.in_ok-wanted.ensures in
-    let made = c.in_default.ensures ∙ ap (λ rs. (runs_from 0 s rs []).state) runs in
+    let made = c.in_default.ensures.runs ∙ ap (λ rs. (runs_from 0 s rs []).state) runs in
     (still_found s c.make_passes.new.machine _ c.args.node c.as_slice-3.result.now true c.requires.online (c.as_slice-3.ensures.value ∙ c.in_ok-pages.ensures.list) made (sym c.some_on.ensures ∙ c.if-some_on.true), refl, made)
 
 pub returns : goal.returns
 returns g c =
     let s = c.args.machine.now in
     let runs = runs_of c.args.limit s c.args.node _ _ _ c.requires.online (c.as_slice.ensures.value ∙ c.in_ok-pages.ensures.list) (c.as_slice-2.ensures.value ∙ c.in_ok-nodes.ensures.order) c.in_ok-wanted.ensures in
-    let made = c.in_default.ensures ∙ ap (λ rs. (runs_from 0 s rs []).state) runs in
+    let made = c.in_default.ensures.runs ∙ ap (λ rs. (runs_from 0 s rs []).state) runs in
     (still_found s c.make_passes.new.machine _ c.args.node c.as_slice-3.result.now false c.requires.online (c.as_slice-3.ensures.value ∙ c.in_ok-pages.ensures.list) made (sym c.some_on.ensures ∙ c.if-some_on.false), c.set_online.ensures ∙ ap (λ t. set_online t c.args.node false) made)
