@@ -1,11 +1,12 @@
 #!/bin/sh
 # Makes a release of the built program and tries it where there is no kit: the archive is unpacked, and its install run, in a root
 # that has only a shell, some tools and the C library, and the package is installed into one. Then install and the scripts in this
-# clone are tried. With --twins CLONE it only compares the program with that of another clone, and prints the checksum of both; with
+# clone are tried. With --twins CLONE it only compares the programs with those of another clone, and prints their checksums; with
 # --twins alone it makes that clone, and builds there, which may take as long as ./build does.
 set -eu
 cd "$(dirname "$0")/.."
 program=crates/numatrace/out/numatrace
+session=crates/numatrace_session/out/numatrace_session
 fail() {
     echo "tests/release.sh: $1" >&2
     exit 1
@@ -13,7 +14,7 @@ fail() {
 note() {
     echo "tests/release.sh: $1" >&2
 }
-[ -x "$program" ] || fail "there is no program: run ./build first"
+for each in "$program" "$session"; do [ -x "$each" ] || fail "there is no program $each: run ./build first"; done
 there=$(mktemp -d)
 trap 'rm -rf "$there"' EXIT
 trap 'exit 130' HUP INT TERM
@@ -26,8 +27,10 @@ twins() {
         git ls-files -z | tar --null -T - -cf - | tar -C "$other" -xf -
         "$other/build" < /dev/null
     fi
-    cmp "$program" "$other/$program" || fail "the programs of two clones differ"
-    echo "one program in two folders: sha256 $(sha256sum < "$program" | cut -c 1-64)"
+    for each in "$program" "$session"; do
+        cmp "$each" "$other/$each" || fail "the programs of two clones differ"
+        echo "one program in two folders: sha256 $(sha256sum < "$each" | cut -c 1-64)"
+    done
 }
 case ${1-} in
 '') ;;
@@ -74,19 +77,29 @@ expect_report() {
     cmp -s "$there/out" "$report" || fail "$* writes a different report"
     [ ! -s "$there/err" ] || fail "$* says: $(cat "$there/err")"
 }
+# Plays it step by step, and expects the same lines, each step's with an empty one after them.
+expect_replies() {
+    sed '1s/,"steps":\[$/}/; $s/\]}$//; s/,$//' "$trace" > "$there/lines"
+    "$@" < "$there/lines" > "$there/out" 2> "$there/err" || fail "$* ends with $?: $(cat "$there/err")"
+    sed 's/$/\n/' "$report" | cmp -s "$there/out" - || fail "$* writes different replies"
+}
 
 make_root
 ! enter /bin/sh -c 'command -v rt || command -v python3' > "$there/out" || fail "the root has a kit"
 tar -C "$root" -xzf "dist/$name.tar.gz"
 expect_report enter "/$name/bin/numatrace"
+expect_replies enter "/$name/bin/numatrace-session"
 enter "/$name/install" --prefix '/opt/a prefix' > "$there/out" || fail "install of a release fails in the root"
 expect_report enter '/opt/a prefix/bin/numatrace'
+expect_replies enter '/opt/a prefix/bin/numatrace-session'
 rm -r "${root:?}/$name"
 expect_report enter '/opt/a prefix/bin/numatrace' --workers 64
 tar -C "$root" -xzf "dist/$name.tar.gz"
 enter "/$name/install" --uninstall --prefix '/opt/a prefix'
 [ -z "$(find "$root/opt" -mindepth 1)" ] || fail "--uninstall leaves something of a release: $(find "$root/opt")"
-grep -q "^sha256:   $(sha256sum < "$program" | cut -c 1-64)$" "$root/$name/PROVENANCE" || fail "PROVENANCE has a different sum"
+for each in "$program" "$session"; do
+    grep -q "^sha256:   $(sha256sum < "$each" | cut -c 1-64)$" "$root/$name/PROVENANCE" || fail "PROVENANCE has a different sum"
+done
 rm -r "${root:?}/$name"
 
 # The package puts the command and the man page in place, and its removal takes them away.
@@ -104,14 +117,19 @@ Description: the C library that was copied
 END
 dpkg_there -i "$package"
 expect_report enter /usr/bin/numatrace
+expect_replies enter /usr/bin/numatrace-session
 if command -v man > /dev/null; then
     [ "$(MANPATH=$root/usr/share/man man -w numatrace)" = "$root/usr/share/man/man1/numatrace.1.gz" ] || fail "man does not find the page of the package"
     MANPATH=$root/usr/share/man man --warnings numatrace > "$there/out" 2> "$there/err" || fail "man cannot show the page"
     grep -q -- '--workers' "$there/out" || fail "man shows a different page"
     [ ! -s "$there/err" ] || fail "man says: $(cat "$there/err")"
+    MANPATH=$root/usr/share/man man --warnings numatrace-session > "$there/out" 2> "$there/err" || fail "man cannot show the page for sessions"
+    [ ! -s "$there/err" ] || fail "man says of the page for sessions: $(cat "$there/err")"
 else
-    note "there is no command man, so only the file of the page is compared"
-    gzip -dc "$root/usr/share/man/man1/numatrace.1.gz" | cmp - docs/numatrace.1 || fail "the package has no man page"
+    note "there is no command man, so only the files of the pages are compared"
+    for page in numatrace numatrace-session; do
+        gzip -dc "$root/usr/share/man/man1/$page.1.gz" | cmp - "docs/$page.1" || fail "the package has no man page of $page"
+    done
 fi
 dpkg_there -r numatrace
 left=$(find "$root" -path "$root/var" -prune -o -name '*numatrace*' -print)
@@ -122,6 +140,7 @@ prefix=$there/prefix
 mkdir -p "$prefix/bin"
 ./install --prefix "$prefix" > "$there/out"
 expect_report "$prefix/bin/numatrace"
+expect_replies "$prefix/bin/numatrace-session"
 ln -s "$prefix/bin/numatrace" "$there/link"
 expect_report "$there/link"
 ./install --prefix "$prefix" > "$there/out" || fail "install over an earlier one fails"

@@ -14,7 +14,9 @@ fail() {
 # The version is in the file VERSION, and in places that cannot read a file.
 version=$(cat VERSION)
 grep -qxF "const VERSION: &str = \"$version\";" crates/nm_words/src/words.rt || fail "the program's version is not $version"
-grep -q "^\.TH NUMATRACE 1 [0-9-]* \"numatrace $version\" " docs/numatrace.1 || fail "the man page's version is not $version"
+for page in numatrace numatrace-session; do
+    grep -qi "^\.TH $page 1 [0-9-]* \"numatrace $version\" " "docs/$page.1" || fail "the version of docs/$page.1 is not $version"
+done
 [ "$(sed -n 's/^## \([0-9][0-9.]*\).*/\1/p' CHANGELOG.md | head -n 1)" = "$version" ] || fail "the latest version in CHANGELOG.md is not $version"
 
 # ---- The script numatrace
@@ -64,7 +66,7 @@ err "
 record() {
     printf '#!/bin/sh\nexit 0\n' > "$there/bin/rt"
     chmod +x "$there/bin/rt"
-    (cd "$clone" && PATH="$there/bin:$PATH" ./build 2> "$there/told") || fail "a build with nothing to do fails: $(cat "$there/told")"
+    (cd "$clone" && PATH="$there/bin:$PATH" ./build --first 2> "$there/told") || fail "a build with nothing to do fails: $(cat "$there/told")"
 }
 echo 'Handles allowed: none.' > "$clone/HANDLES"
 record
@@ -97,7 +99,7 @@ grep -q 'no Rattle kit .*\./release' "$there/err" || fail "without the kit it do
 
 # The first call shows what an unproved build reports, on standard error, and then passes on the built program's report.
 printf '#!/bin/sh\necho "unproved $*"\ncat\necho noise >&2\n' > "$there/bin/rt"
-printf '#!/bin/sh\ncp "%s" "%s"\n' "$there/stand_in" "$program" > "$clone/build"
+printf '#!/bin/sh\n[ "$*" = --first ] && cp "%s" "%s"\n' "$there/stand_in" "$program" > "$clone/build"
 status=0
 printf 'input' | PATH="$there/bin:$PATH" "$clone/numatrace" --one > "$there/out" 2> "$there/err" || status=$?
 [ "$status" = 4 ] || fail "the first call's status is $status and not the program's"
@@ -123,7 +125,7 @@ done
 [ "$name" != "$FAILS" ] || { echo "a goal is open"; exit 1; }
 mkdir -p "crates/$name/out/rlib"
 echo "$name" > "crates/$name/out/rlib/stamp"
-[ "$1" = lib ] || { echo program > crates/numatrace/out/numatrace && chmod +x crates/numatrace/out/numatrace; }
+[ "$1" = lib ] || { echo program > "crates/$name/out/$name" && chmod +x "crates/$name/out/$name"; }
 echo "ends $name" >> "$NOTES"
 END
     chmod +x "$there/bin/rt"
@@ -133,7 +135,7 @@ all=$there/all
 mkdir "$all"
 cp -R build crates.txt HANDLES "$all/"
 for crate in crates/*/; do mkdir -p "$all/$crate/src"; done
-: > "$all/crates/numatrace/stdin"
+for crate in numatrace numatrace_session; do : | tee "$all/crates/$crate/stdin" > "$all/crates/$crate/src/main.rt"; done
 build_all() {
     : > "$there/notes"
     FAILS=$1 SLOW=$2 NOTES="$there/notes" ALL="$all" PATH="$there/bin:$PATH" "$all/build" 2> "$there/err"
@@ -146,15 +148,32 @@ expect_kept() {
     [ "$(cat "$all/crates/nm_crew/out/kept")$(count room)" = kept0 ] || fail "$1"
 }
 
-# Each crate of the program is proved once, after those below it; no room is left, and no crate is proved that the program does not need.
+# Each crate of the programs is proved once, after those below it, that of sessions last; no room is left, and no crate is proved that
+# the programs do not need.
 build_all '' '' || fail "a build fails: $(cat "$there/err" "$there/notes")"
 proved=$(count stamp)
 [ "$(grep -c '^begins' "$there/notes")" = "$proved" ] || fail "a crate is proved more than once"
 [ "$(count room)" = 0 ] || fail "a build leaves a room"
 [ ! -e "$all/crates/nm_checks/out" ] || fail "a build proves what the program does not depend on"
-[ -x "$all/crates/numatrace/out/numatrace" ] || fail "a build makes no program"
-grep -q ' the kit$' "$all/crates/numatrace/out/numatrace.sources" || fail "a build does not note sources and kit"
-[ "$("$all/build" --sources)" = same ] || fail "the sources that were built are not recognized"
+[ "$(tail -n 3 "$there/notes" | tr '\n' ' ')" = "ends numatrace begins numatrace_session ends numatrace_session " ] ||
+    fail "a build does not make the program for sessions last: $(tail -n 4 "$there/notes")"
+for program in numatrace numatrace_session; do
+    [ -x "$all/crates/$program/out/$program" ] || fail "a build makes no program $program"
+    grep -q ' the kit$' "$all/crates/$program/out/$program.sources" || fail "a build does not note sources and kit of $program"
+    [ "$("$all/build" --sources "$program")" = same ] || fail "the sources that were built are not recognized"
+done
+
+# The first call's build makes no program for sessions; and where that fails, numatrace is there and known.
+rm -r "$all/crates/numatrace_session/out"
+: > "$there/notes"
+env FAILS= SLOW= NOTES="$there/notes" ALL="$all" PATH="$there/bin:$PATH" "$all/build" --first 2> "$there/err" || fail "build --first fails"
+[ ! -e "$all/crates/numatrace_session/out" ] || fail "build --first makes the program for sessions"
+status=0
+build_all numatrace_session '' || status=$?
+[ "$status $("$all/build" --sources) $("$all/build" --sources numatrace_session)" = '1 same unknown' ] ||
+    fail "a build without the program for sessions ends with $status, or forgets numatrace"
+grep -q 'the program numatrace_session was not built' "$there/err" || fail "such a build says: $(cat "$there/err")"
+build_all '' '' || fail "the program for sessions is not built anew"
 
 # One that fails says which crate was not proved and where it says why, and keeps what was proved, the failed one's as well.
 rm -r "$all"/crates/nm_crew/out/rlib

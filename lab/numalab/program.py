@@ -1,4 +1,4 @@
-"""Finding the proved program, and having it play a trace. Every report comes from it."""
+"""Finding the built programs, and having numatrace play a trace. Every report comes from it."""
 import os
 import shutil
 import subprocess
@@ -9,8 +9,7 @@ from .progress import Progress
 from .traces import Bad
 
 HERE = os.path.dirname(os.path.abspath(__file__))
-BUILT = os.path.join(os.path.dirname(os.path.dirname(HERE)), "crates", "numatrace", "out", "numatrace")
-NONE = "there is no program numatrace: ./build makes it, and --program PATH or the variable NUMATRACE names another"
+CRATES = os.path.join(os.path.dirname(os.path.dirname(HERE)), "crates")
 
 
 class Failed(RuntimeError):
@@ -21,17 +20,19 @@ def usable(path):
     return os.path.isfile(path) and os.access(path, os.X_OK)
 
 
-def found(asked=None):
-    """The path of the program: the one that is asked for, that of the variable NUMATRACE, the one that this repository has
-    built, or the one on the PATH."""
-    for named in (asked, os.environ.get("NUMATRACE")):
+def found(asked=None, name="numatrace", command="numatrace", variable="NUMATRACE"):
+    """The path of a program: the one that is asked for, that of the variable, the one that this repository has built, or the
+    command on the PATH."""
+    for named in (asked, os.environ.get(variable)):
         if named:
             if not usable(named):
                 raise Bad(f"there is no program {named}")
             return os.path.abspath(named)
-    path = BUILT if usable(BUILT) else shutil.which("numatrace")
+    built = os.path.join(CRATES, name, "out", name)
+    path = built if usable(built) else shutil.which(command)
     if path is None:
-        raise Bad(NONE)
+        word = "--program PATH" if name == "numatrace" else "program="
+        raise Bad(f"there is no program {name}: ./build makes it, and {word} or the variable {variable} names another")
     return path
 
 
