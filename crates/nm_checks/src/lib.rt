@@ -15,3 +15,5 @@ mod tables;
 mod traces;
 #[cfg(test)]
 mod trails;
+#[cfg(test)]
+mod views;
