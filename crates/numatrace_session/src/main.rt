@@ -1,5 +1,6 @@
 //! Plays a trace step by step, as another program asks: the first line of standard input is the top of a trace, and each
-//! further line is a step, as JSON. The reply to a step is its lines of the report and an empty line, on standard output.
+//! further line is a step, as JSON. The reply to a step is its lines of the report and an empty line, on standard output;
+//! it is written before the program waits for the next line.
 //!
 //! A line that is no step has the reply `fault: ` and what is wrong, and an empty line; the session is as before. Ends
 //! with status 0 where the input ends, 2 where its first line is no top of a trace, 3 where the host is out of memory,
@@ -9,12 +10,13 @@
 use nm_crew::OpenGate;
 use nm_trace::{Session, TraceError};
 use std::alloc::Global;
-use std::io::{BufRead, BufReader, ErrorKind, Write};
+use std::io::{BufRead, BufReader, BufWriter, ErrorKind, Read, Write};
 use std::process::ExitCode;
 use std::sync::Wait;
 use std::thread::Threads;
 
 /// Why a session ends before its input does.
+#[derive(Drop)]
 enum End {
     /// The first line is no top of a trace.
     BadTop(TraceError),
@@ -49,17 +51,17 @@ fn reply(
         Err(TraceError::HostMemory(_)) => return Err(End::HostMemory),
         Err(fault) => writeln!(out, "fault: {fault}"),
     };
-    if written.is_err() || out.write_all(b"\n").is_err() || out.flush().is_err() {
+    if written.is_err() || out.write_all(b"\n").is_err() {
         return Err(End::Stream);
     }
     Ok(())
 }
 
-/// Replies to each line until the input ends.
+/// Replies to each line until the input ends. Replies wait as long as further lines are there already.
 fn talk(
     rt: &(impl Threads + Wait + Sync),
     heap: Global,
-    input: &mut impl BufRead,
+    input: &mut BufReader<impl Read, Global>,
     out: &mut impl Write,
 ) -> Result<(), End> {
     let mut line = Vec::new(heap);
@@ -74,18 +76,37 @@ fn talk(
             return Ok(());
         }
         reply(rt, heap, &mut session, line.as_slice(), out)?;
+        if !input.buffer().contains(&b'\n') && out.flush().is_err() {
+            return Err(End::Stream);
+        }
     }
     Ok(())
+}
+
+/// Replies to what is read, and writes all replies, however the session ends.
+fn serve(
+    rt: &(impl Threads + Wait + Sync),
+    heap: Global,
+    from: impl Read + Drop,
+    to: impl Write + Drop,
+) -> Result<(), End> {
+    let Ok(mut input) = BufReader::new(heap, from) else {
+        return Err(End::HostMemory);
+    };
+    let Ok(mut out) = BufWriter::new(heap, to) else {
+        return Err(End::HostMemory);
+    };
+    let ended = talk(rt, heap, &mut input, &mut out);
+    if out.flush().is_err() {
+        return Err(End::Stream);
+    }
+    ended
 }
 
 fn main(rt: HostRuntime) -> ExitCode {
     let heap = rt.alloc();
     let mut err = rt.stderr();
-    let ended = match BufReader::new(heap, rt.stdin()) {
-        Ok(mut input) => talk(&rt, heap, &mut input, &mut rt.stdout()),
-        Err(_) => Err(End::HostMemory),
-    };
-    let status = match ended {
+    let status = match serve(&rt, heap, rt.stdin(), rt.stdout()) {
         Ok(()) => 0,
         Err(End::BadTop(fault)) => {
             let _ = writeln!(err, "numatrace_session: {fault}");
