@@ -11,13 +11,8 @@ use Rattle.nm_model.specs.definitions.Areas.{is_shared}
 -- an area, and whether its segment is shared
 abbrev pub line_of : Map ℕ Segment → Placed → Line
 line_of segments a =
-    record {
-      first = a.0.1;
-      pages = a.1.pages;
-      policy = a.1.policy;
-      page = a.1.page;
-      shared = is_shared segments a.1.page.segment;
-    }
+    let shared = is_shared segments a.1.page.segment in
+    record { first = a.0.1; pages = a.1.pages; policy = a.1.policy; page = a.1.page; shared = shared }
 
 -- the areas of a process, in address order
 abbrev pub lines_of : Map ℕ Segment → Map (ℕ × ℕ) Area → ℕ → List Line

@@ -107,7 +107,7 @@ leaving_differ : (s : State) (pid : ℕ) (ps : List Pair) → IsDistinct nat_eq 
 unfolding IsDistinct
 leaving_differ s pid [] h = tt
 leaving_differ s pid (p ∷ ps) h =
-    differ-append (pages_on s pid p.from) (leaving s pid ps) (differ_filtered (λ e. is_on s p.from e.1) (pages_seen s pid) (once_differs (pages_in (sights s pid)))) (leaving_differ s pid ps h.1)
+    differ-append (pages_on s pid p.from) (leaving s pid ps) (differ_filtered (λ e. is_on s p.from e.1) (pages_seen s pid) (once_differs (pages_in (sights s.processes pid)))) (leaving_differ s pid ps h.1)
     (all_map (λ e. is_on s p.from e.1 ≡ true) (λ e. AllByRecursion (Differs e) (leaving s pid ps)) (pages_on s pid p.from)
     (λ e on. all_map (λ f. is_on s p.from f.1 ≡ false) (Differs e) (leaving s pid ps) (λ f off. apart s p.from e f on off) (none_on s pid p.from ps h.0)) (all_on s p.from (pages_seen s pid)))
 

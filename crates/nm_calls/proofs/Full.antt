@@ -3,9 +3,10 @@ use Rattle.std.proofs.Common.{arith, ⊎_elim, ◌≡◌, ℕ, zero, suc, ℤ, �
 use Rattle.std.proofs.lemmas.List.{length-map, append-nil, map-append, get_or-set_other, drop_all}
 use Rattle.std.proofs.lemmas.Bool.{eq-eqb, cases_lt}
 use Rattle.std.proofs.lemmas.Grind.{div_ceil_times}
-use Rattle.std.specs.Prelude.{Option, Some, None, pos, ◌==◌, if◌then◌else◌}
+use Rattle.std.specs.Prelude.{Option, Some, None, Result, Ok, Err, pos, ◌==◌, if◌then◌else◌}
 use Rattle.std.specs.List.{AllByRecursion, filter, flat_map, fold, zip}
 use Rattle.std.specs.Ordering.{int_eq}
+use Rattle.nm_types.specs.declared.errno.Errno.{Errno}
 use Rattle.nm_types.specs.declared.errno.Errno.TheVariants.{Eacces, Ebusy, Enomem}
 use Rattle.nm_types.specs.declared.page.Page.{Page}
 use Rattle.nm_types.specs.declared.sight.Sight.{Sight}
@@ -18,8 +19,8 @@ use Rattle.nm_types.specs.declared.request.Class.{Class}
 use Rattle.nm_types.specs.declared.request.Class.TheVariants.{Status, Move}
 use Rattle.nm_types.specs.declared.request.Wanted.{Wanted}
 use Rattle.nm_types.specs.declared.request.Wanted.TheVariants.{At as Spot, Whole}
-use Rattle.nm_model.specs.definitions.Seen.{sight_at, is_pinned}
-use Rattle.nm_model.specs.definitions.Status.{code, others_see, page_status, sight_status, status_under, status_or_move}
+use Rattle.nm_model.specs.definitions.Seen.{sight_at, is_pinned, page_or_error, page_seen}
+use Rattle.nm_model.specs.definitions.Status.{code, others_see, page_status, seen_status, status_or_move}
 use Rattle.nm_model.specs.definitions.Cut.{Stretch, in_front, cut, all_to}
 use Rattle.nm_model.specs.definitions.Cut.{pieces_in, pieces, within, cut_within}
 use Rattle.nm_model.specs.definitions.Run.{Decision, moved_page, decided, one, Progress, each, with_free, with_all_free, left, failures, added, counted, Ran, run}
@@ -45,17 +46,14 @@ page_other s target kept p (Some frame) =
       ]
     ]
 
-sight_other : (s : State) (target pid : ℕ) (all : Bool) (o : Option Sight) → IsOther (sight_status s target pid all o)
-sight_other s target pid all None = refl
-sight_other s target pid all (Some ZeroPage) = refl
-sight_other s target pid all (Some (Sees p)) = page_other s target (others_see s pid p && not all) p (get page_cmp s.place p)
-
-under_other : (s : State) (target pid : ℕ) (all : Bool) (p : Option Page) (o : Option Sight) → IsOther (status_under s target pid all p o)
-under_other s target pid all None o = refl
-under_other s target pid all (Some shown) o = sight_other s target pid all o
+seen_other : (s : State) (target pid : ℕ) (all : Bool) (p : Option Page) (o : Option Sight) → IsOther (seen_status s target pid all (page_or_error p o))
+seen_other s target pid all None o = refl
+seen_other s target pid all (Some shown) None = refl
+seen_other s target pid all (Some shown) (Some ZeroPage) = refl
+seen_other s target pid all (Some shown) (Some (Sees p)) = page_other s target (others_see s pid p && not all) p (get page_cmp s.place p)
 
 status_other : (s : State) (target : ℕ) (w : Wanted) → IsOther (status_or_move s target w)
-status_other s target (Spot pid v all) = under_other s target pid all (page_at s.areas pid v) (sight_at s pid v)
+status_other s target (Spot pid v all) = seen_other s target pid all (page_at s.areas pid v) (sight_at s pid v)
 status_other s target (Whole p) = page_other s target false p (get page_cmp s.place p)
 
 -- what a request asks for depends neither on the free frames nor on the totals
@@ -266,19 +264,13 @@ page_moves s node next kept p None h away = h
 page_moves s node next kept p (Some frame) h away =
     moves_by_tests node next p frame (node_of s.layout frame == node) (node_of s.layout frame == next) kept (is_pinned s p) h away
 
-sight_moves : (s : State) (node next pid : ℕ) (all : Bool) (o : Option Sight) → ((page : Page) × (from : ℕ) × (sight_status s node pid all o ≡ Move page from)) → (sight_status s next pid all o ≡ Status (pos next) → ⊥)
-    → (page : Page) × (from : ℕ) × (sight_status s next pid all o ≡ Move page from)
-sight_moves s node next pid all None h away = h
-sight_moves s node next pid all (Some ZeroPage) h away = h
-sight_moves s node next pid all (Some (Sees p)) h away = page_moves s node next (others_see s pid p && not all) p (get page_cmp s.place p) h away
-
-under_moves : (s : State) (node next pid : ℕ) (all : Bool) (p : Option Page) (o : Option Sight) → ((page : Page) × (from : ℕ) × (status_under s node pid all p o ≡ Move page from)) → (status_under s next pid all p o ≡ Status (pos next) → ⊥)
-    → (page : Page) × (from : ℕ) × (status_under s next pid all p o ≡ Move page from)
-under_moves s node next pid all None o h away = h
-under_moves s node next pid all (Some shown) o h away = sight_moves s node next pid all o h away
+seen_moves : (s : State) (node next pid : ℕ) (all : Bool) (r : Result Page Errno) → ((page : Page) × (from : ℕ) × (seen_status s node pid all r ≡ Move page from)) → (seen_status s next pid all r ≡ Status (pos next) → ⊥)
+    → (page : Page) × (from : ℕ) × (seen_status s next pid all r ≡ Move page from)
+seen_moves s node next pid all (Err e) h away = h
+seen_moves s node next pid all (Ok p) h away = page_moves s node next (others_see s pid p && not all) p (get page_cmp s.place p) h away
 
 pub moves_elsewhere : MovesElsewhere
-moves_elsewhere s node next (Spot pid v all) h away = under_moves s node next pid all (page_at s.areas pid v) (sight_at s pid v) h away
+moves_elsewhere s node next (Spot pid v all) h away = seen_moves s node next pid all (page_seen s pid v) h away
 moves_elsewhere s node next (Whole p) h away = page_moves s node next false p (get page_cmp s.place p) h away
 
 pub all_elsewhere_move : (s : State) (node next : ℕ) (ws : List Wanted) → AllByRecursion (WouldMove s node) ws → AllByRecursion (λ w. StandsOn s next w → ⊥) ws → AllByRecursion (WouldMove s next) ws

@@ -3,12 +3,13 @@ use Rattle.std.proofs.Common.{arith, ◌≡◌, ℕ, ◌+◌, ◌<◌, ◌≤◌
 use Rattle.std.proofs.lemmas.Bool.{eqb-true, eq-eqb}
 use Rattle.std.proofs.lemmas.List.{take_more}
 use Rattle.std.proofs.lemmas.List.Elements.{All-push, recursion_from_All}
-use Rattle.std.specs.Prelude.{Option, Some, None, IfSome, Any, pos, ◌==◌, if◌then◌else◌}
-use Rattle.std.specs.Option.{option_map}
+use Rattle.std.specs.Prelude.{Option, Some, None, Result, Ok, Err, IfSome, Any, pos, ◌==◌, if◌then◌else◌}
+use Rattle.std.specs.Option.{unwrap_or, option_map}
 use Rattle.std.specs.List.{AllByRecursion}
 use Rattle.std.specs.Ordering.{nat_cmp}
 use Rattle.std.specs.BTreeSet.{insert_key}
-use Rattle.nm_types.specs.declared.errno.Errno.TheVariants.{Eacces, Ebusy}
+use Rattle.nm_types.specs.declared.errno.Errno.{Errno}
+use Rattle.nm_types.specs.declared.errno.Errno.TheVariants.{Enoent, Eacces, Ebusy}
 use Rattle.nm_types.specs.declared.page.Page.{Page}
 use Rattle.nm_types.specs.declared.sight.Sight.{Sight}
 use Rattle.nm_types.specs.declared.sight.Sight.TheVariants.{ZeroPage, Sees}
@@ -22,9 +23,9 @@ use Rattle.nm_types.specs.declared.request.Class.{Class}
 use Rattle.nm_types.specs.declared.request.Class.TheVariants.{Status, Move}
 use Rattle.nm_types.specs.declared.request.Wanted.{Wanted}
 use Rattle.nm_types.specs.declared.request.Wanted.TheVariants.{At as Spot, Whole}
-use Rattle.nm_model.specs.definitions.Seen.{sight_at, is_pinned, look_at_place, look_by_sight, look_behind}
-use Rattle.nm_model.specs.definitions.Status.{code, others_see, page_status, sight_status, status_under}
-use Rattle.nm_model.specs.definitions.Status.{node_of_look, node_status}
+use Rattle.nm_model.specs.definitions.Seen.{is_pinned, page_seen}
+use Rattle.nm_model.specs.definitions.Status.{code, others_see, page_status, seen_status}
+use Rattle.nm_model.specs.definitions.Status.{node_or_error, node_status}
 use Rattle.nm_model.specs.definitions.Touch.{has_free}
 use Rattle.nm_model.specs.definitions.Run.{counted}
 use Rattle.nm_calls.specs.Full.{StandsOn, StandAmong, EachHasSome, AreStanding, HasFailed, WouldMove}
@@ -45,22 +46,17 @@ page_stands s target kept p (Some frame) h =
     let node = node_of s.layout frame in
     ap (λ n. Some n) (stands_by_tests target p frame node (node == target) kept (is_pinned s p) refl h)
 
-look_stands : (s : State) (target : ℕ) (kept : Bool) (p : Page) (o : Option ℕ) → page_status s target kept p o ≡ Status (pos target) → node_of_look s.layout (look_at_place s.processes s.pins p o) ≡ pos target
-look_stands s target kept p None h = cc
-look_stands s target kept p (Some frame) h = ap pos (some_is (page_stands s target kept p (Some frame) h))
+frame_stands : (s : State) (target : ℕ) (kept : Bool) (p : Page) (o : Option ℕ) → page_status s target kept p o ≡ Status (pos target) → unwrap_or (option_map (λ frame. pos (node_of s.layout frame)) o) (code Enoent) ≡ pos target
+frame_stands s target kept p None h = cc
+frame_stands s target kept p (Some frame) h = ap pos (some_is (page_stands s target kept p (Some frame) h))
 
-sight_stands : (s : State) (target pid : ℕ) (all : Bool) (o : Option Sight) → sight_status s target pid all o ≡ Status (pos target) → node_of_look s.layout (look_by_sight s.processes s.place s.pins o) ≡ pos target
-sight_stands s target pid all None h = cc
-sight_stands s target pid all (Some ZeroPage) h = cc
-sight_stands s target pid all (Some (Sees p)) h = look_stands s target (others_see s pid p && not all) p (get page_cmp s.place p) h
-
-under_stands : (s : State) (target pid : ℕ) (all : Bool) (shown : Option Page) (o : Option Sight) → status_under s target pid all shown o ≡ Status (pos target) → node_of_look s.layout (look_behind s.processes s.place s.pins shown o) ≡ pos target
-under_stands s target pid all None o h = cc
-under_stands s target pid all (Some shown) o h = sight_stands s target pid all o h
+seen_stands : (s : State) (target pid : ℕ) (all : Bool) (r : Result Page Errno) → seen_status s target pid all r ≡ Status (pos target) → node_or_error s r ≡ pos target
+seen_stands s target pid all (Err e) h = cc
+seen_stands s target pid all (Ok p) h = frame_stands s target (others_see s pid p && not all) p (get page_cmp s.place p) h
 
 -- a page requested by address is where its status says
 pub spot_stands : (s : State) (target pid v : ℕ) (all : Bool) → StandsOn s target (Spot pid v all) → node_status s pid v ≡ pos target
-spot_stands s target pid v all h = under_stands s target pid all (page_at s.areas pid v) (sight_at s pid v) h
+spot_stands s target pid v all h = seen_stands s target pid all (page_seen s pid v) h
 
 -- a page requested by name is where its frame is
 pub whole_stands : (s : State) (target : ℕ) (p : Page) → StandsOn s target (Whole p) → option_map (node_of s.layout) (get page_cmp s.place p) ≡ Some target
@@ -78,21 +74,16 @@ page_there : (s : State) (target : ℕ) (kept : Bool) (p : Page) (o : Option ℕ
 page_there s target kept p None h = cc
 page_there s target kept p (Some frame) h = stands_at target (node_of s.layout frame) _ (some_is h)
 
-look_there : (s : State) (target : ℕ) (kept : Bool) (p : Page) (o : Option ℕ) → node_of_look s.layout (look_at_place s.processes s.pins p o) ≡ pos target → page_status s target kept p o ≡ Status (pos target)
-look_there s target kept p None h = cc
-look_there s target kept p (Some frame) h = let same : node_of s.layout frame ≡ target = cc in stands_at target (node_of s.layout frame) _ same
+frame_there : (s : State) (target : ℕ) (kept : Bool) (p : Page) (o : Option ℕ) → unwrap_or (option_map (λ frame. pos (node_of s.layout frame)) o) (code Enoent) ≡ pos target → page_status s target kept p o ≡ Status (pos target)
+frame_there s target kept p None h = cc
+frame_there s target kept p (Some frame) h = let same : node_of s.layout frame ≡ target = cc in stands_at target (node_of s.layout frame) _ same
 
-sight_there : (s : State) (target pid : ℕ) (all : Bool) (o : Option Sight) → node_of_look s.layout (look_by_sight s.processes s.place s.pins o) ≡ pos target → sight_status s target pid all o ≡ Status (pos target)
-sight_there s target pid all None h = cc
-sight_there s target pid all (Some ZeroPage) h = cc
-sight_there s target pid all (Some (Sees p)) h = look_there s target (others_see s pid p && not all) p (get page_cmp s.place p) h
-
-under_there : (s : State) (target pid : ℕ) (all : Bool) (shown : Option Page) (o : Option Sight) → node_of_look s.layout (look_behind s.processes s.place s.pins shown o) ≡ pos target → status_under s target pid all shown o ≡ Status (pos target)
-under_there s target pid all None o h = cc
-under_there s target pid all (Some shown) o h = sight_there s target pid all o h
+seen_there : (s : State) (target pid : ℕ) (all : Bool) (r : Result Page Errno) → node_or_error s r ≡ pos target → seen_status s target pid all r ≡ Status (pos target)
+seen_there s target pid all (Err e) h = cc
+seen_there s target pid all (Ok p) h = frame_there s target (others_see s pid p && not all) p (get page_cmp s.place p) h
 
 pub spot_there : (s : State) (target pid v : ℕ) (all : Bool) → node_status s pid v ≡ pos target → StandsOn s target (Spot pid v all)
-spot_there s target pid v all h = under_there s target pid all (page_at s.areas pid v) (sight_at s pid v) h
+spot_there s target pid v all h = seen_there s target pid all (page_seen s pid v) h
 
 pub whole_there : (s : State) (target : ℕ) (p : Page) → option_map (node_of s.layout) (get page_cmp s.place p) ≡ Some target → StandsOn s target (Whole p)
 whole_there s target p h = page_there s target false p (get page_cmp s.place p) h

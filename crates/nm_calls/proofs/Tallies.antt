@@ -68,7 +68,7 @@ other_is on i node h = get_or-set_other on i node _ 0 (λ e. h (sym e))
 -- `pages` pages are counted, and these are left
 pub record Counted (s : State) (all rest : List Located) (pages most : ℕ) (on : List ℕ) : Type 0 where
   pub as_many : pages + length rest ≡ length all
-  pub greatest : fold (λ most p. max most (length (users s p.page))) most rest ≡ most_users s all
+  pub greatest : fold (λ most p. max most (length (users s.processes p.page))) most rest ≡ most_users s all
   pub nodes : length on ≡ 64
   pub few : (node : ℕ) → node < 64 → slice_index on node ≤ pages
   pub on_each : (node : ℕ) → node < 64 → slice_index on node + count_on rest node ≡ count_on all node
@@ -85,13 +85,13 @@ greater a b = elim (cases_order b a) [
 pub none_counted : (s : State) (all rest : List Located) → all ≡ rest → Counted s all rest 0 0 (replicate 64 0)
 none_counted s all rest e = record {
   as_many = let n : length rest ≡ length all = ap length (sym e) in omega (arith, n);
-  greatest = ap (λ ps. fold (λ most p. max most (length (users s p.page))) 0 ps) (sym e);
+  greatest = ap (λ ps. fold (λ most p. max most (length (users s.processes p.page))) 0 ps) (sym e);
   nodes = refl;
   few = λ node lt. let none : slice_index (replicate 64 0) node ≡ 0 = get_or-replicate 64 node 0 0 lt in omega (arith, none);
   on_each = λ node lt. let none : slice_index (replicate 64 0) node ≡ 0 = get_or-replicate 64 node 0 0 lt in let same : count_on rest node ≡ count_on all node = ap (λ ps. count_on ps node) (sym e) in omega (arith, none, same);
 }
 
-pub one_counted : (s : State) (all rest : List Located) (pages most : ℕ) (on : List ℕ) (p : Located) (behind : List Located) (most' : ℕ) → rest ≡ p ∷ behind → p.node < 64 → most' ≡ ord_max nat_cmp most (length (users s p.page))
+pub one_counted : (s : State) (all rest : List Located) (pages most : ℕ) (on : List ℕ) (p : Located) (behind : List Located) (most' : ℕ) → rest ≡ p ∷ behind → p.node < 64 → most' ≡ ord_max nat_cmp most (length (users s.processes p.page))
     → Counted s all rest pages most on → Counted s all behind (pages + 1) most' (slice_set on p.node (slice_index_or on p.node 0 + 1))
 one_counted s all rest pages most on p behind most' e lt is h =
     let new = slice_set on p.node (slice_index_or on p.node 0 + 1) in
@@ -99,8 +99,8 @@ one_counted s all rest pages most on p behind most' e lt is h =
     λ node. ap (λ ps. slice_index on node + count_on ps node) e ∙ ap (λ n. slice_index on node + n) (count_one (λ q. q.node == node) p behind) in
     record {
       as_many = let n : length rest ≡ suc (length behind) = ap length e in omega (arith, h.as_many, n);
-      greatest = ap (λ m. fold (λ most p. max most (length (users s p.page))) m behind) (is ∙ greater most (length (users s p.page)))
-          ∙ ap (λ ps. fold (λ most p. max most (length (users s p.page))) most ps) (sym e) ∙ h.greatest;
+      greatest = ap (λ m. fold (λ most p. max most (length (users s.processes p.page))) m behind) (is ∙ greater most (length (users s.processes p.page)))
+          ∙ ap (λ ps. fold (λ most p. max most (length (users s.processes p.page))) most ps) (sym e) ∙ h.greatest;
       nodes = length-set on p.node _ ∙ h.nodes;
       few = λ node below. elim (p.node == node) as (λ b. (p.node == node) ≡ b → slice_index new node ≤ pages + 1) [
         | true ↦ λ b. let here = here_is on p.node node lt h.nodes (eqb-true p.node node b) in let was = h.few node below in omega (arith, here, was)

@@ -57,7 +57,7 @@ count_on pages node = count_by (λ p. p.node == node) pages
 
 -- the greatest number of processes that see any of these pages
 abbrev pub most_users : State → List Located → ℕ
-most_users s pages = fold (λ most p. max most (length (users s p.page))) 0 pages
+most_users s pages = fold (λ most p. max most (length (users s.processes p.page))) 0 pages
 
 -- a word and a number, unless the number is too small to be shown
 abbrev pub told_from : ℕ → List ℕ → ℕ → List ℕ

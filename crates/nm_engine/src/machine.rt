@@ -499,7 +499,7 @@ impl<A: Allocator + Copy + Send + Sync> Machine<A> {
         requires placed { (page : Page) × (get page_cmp self.now.place page ≡ Some frame) }
         ensures users { (page : Page) →
             get page_cmp self.now.place page ≡ Some frame →
-            result ≡ length (users self.now page) }
+            result ≡ length (users self.now.processes page) }
     {
         self.inner.users_in(frame)
     }

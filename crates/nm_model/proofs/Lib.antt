@@ -1,1 +1,2 @@
 pub mod areas
+pub mod looks

@@ -25,7 +25,7 @@ use Rattle.nm_model.specs.definitions.PageTables.{sight_of, page_here}
 use Rattle.nm_model.specs.definitions.Seen.{located, located_in, in_frame}
 use Rattle.nm_model.specs.definitions.PageTables.{Task, entry_at}
 use Rattle.nm_engine.specs.ProcessTable.{entries_in, names}
-use Rattle.nm_model.specs.definitions.Seen.{between, sights_in}
+use Rattle.nm_model.specs.definitions.Seen.{between, sights}
 use Rattle.nm_engine.specs.Tied.{IsTied}
 use Rattle.nm_engine.proofs.Seen.Walked.{found_in, sorted_of, range_shown, few_between}
 
@@ -147,7 +147,7 @@ module _ (y : SpacesView) (tasks : Map ℕ Task) (m : Mapped) (r : Mappers) (pid
       omega (arith, few_behind g y.place y.areas pid es, ap length range, few)
 
   -- all entries of a range, listed
-  pub all_listed : (g : Layout) (first end : ℕ) (es : Map ℕ Entry) → es ≡ between first end (entries_in tasks pid) → pages_in g y.place y.areas pid es ≡ located_in g y.place (between first end (sights_in (get nat_cmp y.processes pid)))
+  pub all_listed : (g : Layout) (first end : ℕ) (es : Map ℕ Entry) → es ≡ between first end (entries_in tasks pid) → pages_in g y.place y.areas pid es ≡ located_in g y.place (between first end (sights y.processes pid))
   all_listed g first end es range =
       ap (pages_in g y.place y.areas pid) range
       ∙ ap (λ (z : SpacesView). located_in g y.place (with_values (sight_of z.areas pid) (between first end (entries_in tasks pid)))) (sym is)

@@ -38,7 +38,7 @@ use Rattle.nm_types.specs.declared.seen.Seen.{Seen}
 use Rattle.nm_types.specs.declared.seen.Seen.TheVariants.{NoArea, Absent, Zero, At}
 use Rattle.nm_model.specs.definitions.Sound.{IsSoundMidRun}
 use Rattle.nm_engine.specs.Tied.{IsTied}
-use Rattle.nm_model.specs.definitions.Seen.{between, sights_in}
+use Rattle.nm_model.specs.definitions.Seen.{between, sights}
 
 is_low : (first k : ℕ) → first ≤ k → nat_le first k ≡ true
 is_low first k h = grind (arith, h)
@@ -172,6 +172,9 @@ pub found_in : (o : Option Task) (v : ℕ) → entry_in o v ≡ get nat_cmp (unw
 found_in None v = refl
 found_in (Some t) v = refl
 
+abbrev sights_in : Option Process → Map ℕ Sight
+sights_in o = unwrap_or (option_map (λ (p : Process). p.sees) o) []
+
 shown_of : (areas : Map (ℕ × ℕ) Area) (pid : ℕ) (o : Option Task) → sights_in (option_map (process_of areas pid) o) ≡ with_values (sight_of areas pid) (unwrap_or (option_map task_table o) [])
 shown_of areas pid None = refl
 shown_of areas pid (Some t) = refl
@@ -191,18 +194,18 @@ between_values F (e ∷ m) first end =
     ]
 
 module _ (y : SpacesView) (tasks : Map ℕ Task) (m : Mapped) (r : Mappers) (pid : ℕ) (is : spaces_view tasks m r ≡ y) (h : IsTied tasks m r) where
-  pub sees_shown : sights_in (get nat_cmp y.processes pid) ≡ with_values (sight_of m.areas pid) (entries_in tasks pid)
+  pub sees_shown : sights y.processes pid ≡ with_values (sight_of m.areas pid) (entries_in tasks pid)
   sees_shown =
-      ap (λ (y : SpacesView). sights_in (get nat_cmp y.processes pid)) (sym is)
+      ap (λ (y : SpacesView). sights y.processes pid) (sym is)
       ∙ ap sights_in (get-values exact_unsigned (process_of m.areas) tasks pid)
       ∙ shown_of m.areas pid (get nat_cmp tasks pid)
 
-  pub range_shown : (first end : ℕ) → between first end (sights_in (get nat_cmp y.processes pid)) ≡ with_values (sight_of m.areas pid) (between first end (entries_in tasks pid))
+  pub range_shown : (first end : ℕ) → between first end (sights y.processes pid) ≡ with_values (sight_of m.areas pid) (between first end (entries_in tasks pid))
   range_shown first end = ap (between first end) sees_shown ∙ between_values (sight_of m.areas pid) (entries_in tasks pid) first end
 
   -- what is seen first, by the first entry
   pub next_sight : (first end v : ℕ) (e : Entry) (sight : Sight) → first ≤ v → v < end → entry_at tasks pid v ≡ Some e → ((w : ℕ) → first ≤ w → w < v → entry_at tasks pid w ≡ None) → sight_of m.areas pid v e ≡ sight
-      → between first end (sights_in (get nat_cmp y.processes pid)) ≡ (v, sight) ∷ between (v + 1) end (sights_in (get nat_cmp y.processes pid))
+      → between first end (sights y.processes pid) ≡ (v, sight) ∷ between (v + 1) end (sights y.processes pid)
   next_sight first end v e sight low high there none shows =
       range_shown first end
       ∙ ap (with_values (sight_of m.areas pid)) (next_between (entries_in tasks pid) first end v e (sorted_of tasks pid (get nat_cmp tasks pid) h.tables refl)
@@ -211,7 +214,7 @@ module _ (y : SpacesView) (tasks : Map ℕ Task) (m : Mapped) (r : Mappers) (pid
       ∙ ap (λ es. (v, sight) ∷ es) (sym (range_shown (v + 1) end))
 
   -- nothing is seen where no entry is
-  pub no_sight : (first end : ℕ) → ((w : ℕ) → first ≤ w → w < end → entry_at tasks pid w ≡ None) → between first end (sights_in (get nat_cmp y.processes pid)) ≡ []
+  pub no_sight : (first end : ℕ) → ((w : ℕ) → first ≤ w → w < end → entry_at tasks pid w ≡ None) → between first end (sights y.processes pid) ≡ []
   no_sight first end none =
       range_shown first end
       ∙ ap (with_values (sight_of m.areas pid)) (none_between (entries_in tasks pid) first end (sorted_of tasks pid (get nat_cmp tasks pid) h.tables refl)
@@ -242,7 +245,7 @@ module _ (s : State) (l : List ℕ) (p : Page) (h : IsSoundMidRun s l) (unplaced
         | false ↦ λ b. refl
       ] refl
 
-  pub nobody_sees : users s p ≡ []
+  pub nobody_sees : users s.processes p ≡ []
   nobody_sees =
       none_of (sees_page p) s.processes (all_from_get nat_cmp_total exact_unsigned (λ pid q. sees_page p q ≡ false) s.processes h.order.processes (λ pid q found.
       unseen p q.sees (all_from_get nat_cmp_total exact_unsigned (λ v x. is_sight_of p x ≡ false) q.sees (All-get nat_cmp (λ (q : Process). IsStrictlySortedBy nat_cmp (keys_of q.sees)) s.processes pid q h.order.sees found)
@@ -256,11 +259,11 @@ counted Zero = 0
 counted (At p frame processes pinned) = processes
 
 -- a look at a page counts the processes that see it
-pub counts_users : (s : State) (l : List ℕ) (p : Page) (o : Option ℕ) → IsSoundMidRun s l → get page_cmp s.place p ≡ o → counted (look_at_place s.processes s.pins p o) ≡ length (users s p)
+pub counts_users : (s : State) (l : List ℕ) (p : Page) (o : Option ℕ) → IsSoundMidRun s l → get page_cmp s.place p ≡ o → counted (look_at_place s.processes s.pins p o) ≡ length (users s.processes p)
 counts_users s l p None h e = sym (ap length (nobody_sees s l p h e))
 counts_users s l p (Some frame) h e = refl
 
 -- the same of a look at what the parts show
 pub counted_here : (s now : MidRun) (p : Page) (seen : Seen) → s ≡ now → IsSoundMidRun s.state s.left → seen ≡ look_at_place s.state.processes s.state.pins p (get page_cmp s.state.place p) → counted seen ≡ length (users now.state p)
 counted_here s now p seen is h look =
-    ap counted look ∙ counts_users s.state s.left p (get page_cmp s.state.place p) h refl ∙ ap (λ (x : MidRun). length (users x.state p)) is
+    ap counted look ∙ counts_users s.state s.left p (get page_cmp s.state.place p) h refl ∙ ap (λ (x : MidRun). length (users x.state.processes p)) is

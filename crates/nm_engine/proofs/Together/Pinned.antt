@@ -6,9 +6,9 @@ use Rattle.nm_types.specs.declared.page.Page.{Page}
 use Rattle.nm_types.specs.declared.errno.Errno.{Errno}
 use Rattle.nm_types.specs.declared.errno.Errno.TheVariants.{Esrch, Ebusy, Einval}
 use Rattle.nm_types.specs.declared.sight.Sight.TheVariants.{Sees}
-use Rattle.nm_types.specs.Map.{get, replace, page_cmp}
+use Rattle.nm_types.specs.Map.{replace, page_cmp}
 use Rattle.nm_types.specs.State.{State}
-use Rattle.nm_model.specs.definitions.Seen.{sight_at, pins_of, look}
+use Rattle.nm_model.specs.definitions.Seen.{sight_at, pins_of, page_seen}
 use Rattle.nm_model.specs.definitions.Effect.{with_pins, pin, unpin}
 use Rattle.nm_model.specs.definitions.Effect.{is_unknown, pins_refusal, pin_refusal, unpin_refusal}
 use Rattle.nm_engine.specs.Does.{Alters}
@@ -17,7 +17,8 @@ use Rattle.nm_engine.specs.Frames.{FramesView}
 use Rattle.nm_engine.specs.Shown.{shown_by}
 use Rattle.nm_model.specs.definitions.Sound.{IsSoundMidRun}
 use Rattle.nm_engine.specs.MidRun.{MidRun, IsKept}
-use Rattle.nm_laws.proofs.Soundness.Called.{repinned_sound, few_pins, look_there}
+use Rattle.nm_laws.proofs.Soundness.Called.{repinned_sound, few_pins}
+use Rattle.nm_model.proofs.looks.{sees_page}
 use Rattle.nm_engine.proofs.Together.Touches.{inside, outside}
 
 module _ (y z : SpacesView) (k : FramesView) (online : List ℕ) (moved failed : ℕ) (page : Page) (n : ℕ) (kept : IsKept (shown_by y k online moved failed) k.vacated y.frames) where
@@ -47,15 +48,15 @@ err_then (Ok done) f p = tt
 err_then (Err e) f p = f p
 
 -- a page that a process sees at an address, stated for the value and shown by the fields
-module _ (s : State) (l : List ℕ) (room : ℕ) (x : MidRun) (is : record { state = s; left = l; room = room } ≡ x) (pid address : ℕ) (page : Page) (frame : ℕ) (sound : IsSoundMidRun s l)
-    (known : is_unknown x.state pid ≡ false) (seen : sight_at x.state pid (address / 4096) ≡ Some (Sees page)) (placed : get page_cmp x.state.place page ≡ Some frame) where
+module _ (s : State) (l : List ℕ) (room : ℕ) (x : MidRun) (is : record { state = s; left = l; room = room } ≡ x) (pid address : ℕ) (page : Page) (sound : IsSoundMidRun s l)
+    (known : is_unknown x.state pid ≡ false) (seen : sight_at x.state pid (address / 4096) ≡ Some (Sees page)) where
   seen_inside : sight_at s pid (address / 4096) ≡ Some (Sees page)
   seen_inside = inside s l room x is (λ s. sight_at s pid (address / 4096) ≡ Some (Sees page)) seen
 
-  refusal_there : (is_bad : ℕ → Bool) (bad : Errno) → (if is_unknown s pid then Some Esrch else pins_refusal s is_bad bad (look s pid (address / 4096))) ≡ (if is_bad (pins_of s page) then Some bad else None)
+  refusal_there : (is_bad : ℕ → Bool) (bad : Errno) → (if is_unknown s pid then Some Esrch else pins_refusal s is_bad bad (page_seen s pid (address / 4096))) ≡ (if is_bad (pins_of s page) then Some bad else None)
   refusal_there is_bad bad =
-      ap (λ b. if b then Some Esrch else pins_refusal s is_bad bad (look s pid (address / 4096))) (inside s l room x is (λ s. is_unknown s pid ≡ false) known)
-      ∙ ap (pins_refusal s is_bad bad) (look_there s l pid (address / 4096) page frame sound seen_inside (inside s l room x is (λ s. get page_cmp s.place page ≡ Some frame) placed))
+      ap (λ b. if b then Some Esrch else pins_refusal s is_bad bad (page_seen s pid (address / 4096))) (inside s l room x is (λ s. is_unknown s pid ≡ false) known)
+      ∙ ap (pins_refusal s is_bad bad) (sees_page s l pid (address / 4096) page sound seen_inside)
 
   pin_inside : (t : State) (r : Result (Unit {0}) Errno) → OnOk r (pins_of s page < 65535) → OnOk r (t ≡ record s { pins = replace page_cmp s.pins page (pins_of s page + 1) })
       → IfErr r (λ e. (e ≡ Ebusy) × (65535 ≤ pins_of s page)) → OnErr r (t ≡ s) → Alters r s t (pin_refusal s pid address) (pin s pid address)

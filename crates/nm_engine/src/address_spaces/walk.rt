@@ -6,8 +6,8 @@ ghost use Rattle.std.specs.Result.{OnErr};
 ghost use Rattle.nm_areas.specs.Lines.{lines_of};
 ghost use Rattle.nm_model.specs.definitions.PageTables.{page_here};
 ghost use Rattle.nm_model.specs.definitions.Seen.{located_in, in_frame, IsOver};
-ghost use Rattle.nm_model.specs.definitions.Seen.{between, sights_in};
-ghost use Rattle.nm_model.specs.definitions.Seen.{users_in};
+ghost use Rattle.nm_model.specs.definitions.Seen.{between, sights};
+ghost use Rattle.nm_model.specs.definitions.Seen.{users};
 ghost use Rattle.nm_types.specs.Layout.{frame_count, node_count};
 ghost use Rattle.nm_types.specs.Map.{get, page_cmp};
 ghost use Rattle.nm_types.specs.State.{Placed, area_over, page_at, page_of};
@@ -39,11 +39,11 @@ impl<A: Allocator + Copy> AddressSpaces<A> {
 
     /// The first thing that a process sees from one page number up to another, with its page number.
     pub(crate) fn sight_from(&self, pid: Pid, first: Vpn, end: Vpn) -> Option<(Vpn, Sight)>
-        ensures some { IfSome result (λ e. between first end (sights_in (get nat_cmp self.now.processes pid))
-            ≡ (e.0, e.1) ∷ between (e.0 + 1) end (sights_in (get nat_cmp self.now.processes pid))) }
+        ensures some { IfSome result (λ e. between first end (sights self.now.processes pid)
+            ≡ (e.0, e.1) ∷ between (e.0 + 1) end (sights self.now.processes pid)) }
         ensures range { IfSome result (λ e. (first ≤ e.0) × (e.0 < end)) }
         ensures none { IfNone result
-            (between first end (sights_in (get nat_cmp self.now.processes pid)) ≡ []) }
+            (between first end (sights self.now.processes pid) ≡ []) }
     {
         let (vpn, entry) = self.tasks.first_from(pid, first)?;
         if vpn.number() >= end.number() {
@@ -72,7 +72,7 @@ impl<A: Allocator + Copy> AddressSpaces<A> {
         ensures pages { IfOk result
             (λ pages. pages.items
             ≡ located_in geometry.now self.now.place
-            (between first end (sights_in (get nat_cmp self.now.processes pid)))) }
+            (between first end (sights self.now.processes pid))) }
         ensures placed { IfOk result
             (λ pages. All (λ e. get page_cmp self.now.place e.page ≡ Some e.frame) pages.items) }
         ensures nodes { IfOk result
@@ -141,7 +141,7 @@ impl<A: Allocator + Copy> AddressSpaces<A> {
         requires { (page : Page) × (get page_cmp self.now.place page ≡ Some frame) }
         ensures { (page : Page) →
             get page_cmp self.now.place page ≡ Some frame →
-            result ≡ length (users_in self.now.processes page) }
+            result ≡ length (users self.now.processes page) }
     {
         self.rmap.processes(frame)
     }

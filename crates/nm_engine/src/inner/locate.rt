@@ -36,7 +36,7 @@ impl<A: Allocator + Copy> Inner<A> {
         requires { (page : Page) × (get page_cmp self.now.state.place page ≡ Some frame) }
         ensures { (page : Page) →
             get page_cmp self.now.state.place page ≡ Some frame →
-            result ≡ length (users self.now.state page) }
+            result ≡ length (users self.now.state.processes page) }
     {
         self.spaces.users_in(frame)
     }

@@ -4,7 +4,7 @@ ghost use Rattle.nm_engine.specs.Does.{Alters};
 ghost use Rattle.nm_model.specs.definitions.Effect.{pin, unpin};
 ghost use Rattle.nm_engine.specs.MidRun.{with_state};
 ghost use Rattle.nm_model.specs.definitions.Effect.{is_unknown, pin_refusal, pins_refusal, unpin_refusal};
-ghost use Rattle.nm_model.specs.definitions.Seen.{look, sight_at};
+ghost use Rattle.nm_model.specs.definitions.Seen.{page_seen, sight_at};
 ghost use Rattle.nm_types.specs.Map.{get, page_cmp};
 ghost use Rattle.nm_types.specs.declared.errno.Errno.{Errno};
 ghost use Rattle.nm_types.specs.declared.errno.Errno.TheVariants.{Esrch};
@@ -29,7 +29,7 @@ impl<A: Allocator + Copy> Inner<A> {
         ensures err { IfErr result
             (λ e. (is_bad : ℕ → Bool) (bad : Errno) →
             (if is_unknown self.now.state pid then Some Esrch else pins_refusal self.now.state is_bad bad
-            (look self.now.state pid (addr / 4096)))
+            (page_seen self.now.state pid (addr / 4096)))
             ≡ Some e) }
     {
         if self.spaces.info(pid).is_none() {

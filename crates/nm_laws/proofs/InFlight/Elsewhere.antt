@@ -1,19 +1,18 @@
 -- A page that is to move is not on the target.
 use Rattle.std.proofs.Common.{◌≡◌, ℕ, Bool, true, false, not, ◌&&◌, refl}
-use Rattle.std.specs.Prelude.{Option, Some, None, pos, ◌==◌, if◌then◌else◌}
+use Rattle.std.specs.Prelude.{Option, Some, None, Result, Ok, Err, pos, ◌==◌, if◌then◌else◌}
+use Rattle.nm_types.specs.declared.errno.Errno.{Errno}
 use Rattle.nm_types.specs.declared.errno.Errno.TheVariants.{Eacces, Ebusy}
 use Rattle.nm_types.specs.declared.page.Page.{Page}
 use Rattle.nm_types.specs.Map.{get, page_cmp}
 use Rattle.nm_types.specs.Layout.{node_of}
-use Rattle.nm_types.specs.declared.sight.Sight.{Sight}
-use Rattle.nm_types.specs.declared.sight.Sight.TheVariants.{ZeroPage, Sees}
-use Rattle.nm_types.specs.State.{State, page_at}
+use Rattle.nm_types.specs.State.{State}
 use Rattle.nm_types.specs.declared.request.Class.{Class}
 use Rattle.nm_types.specs.declared.request.Class.TheVariants.{Status, Move}
 use Rattle.nm_types.specs.declared.request.Wanted.{Wanted}
 use Rattle.nm_types.specs.declared.request.Wanted.TheVariants.{At as Spot, Whole}
-use Rattle.nm_model.specs.definitions.Seen.{sight_at, is_pinned}
-use Rattle.nm_model.specs.definitions.Status.{code, others_see, page_status, sight_status, status_under, status_or_move}
+use Rattle.nm_model.specs.definitions.Seen.{is_pinned, page_seen}
+use Rattle.nm_model.specs.definitions.Status.{code, others_see, page_status, seen_status, status_or_move}
 
 abbrev pub IsElsewhere : State → ℕ → Class → Type 0
 IsElsewhere s target (Status status) = Unit {0}
@@ -30,15 +29,10 @@ page_elsewhere s target kept p (Some frame) =
       ]
     ] refl
 
-sight_elsewhere : (s : State) (target pid : ℕ) (all : Bool) (o : Option Sight) → IsElsewhere s target (sight_status s target pid all o)
-sight_elsewhere s target pid all None = tt
-sight_elsewhere s target pid all (Some ZeroPage) = tt
-sight_elsewhere s target pid all (Some (Sees p)) = page_elsewhere s target (others_see s pid p && not all) p (get page_cmp s.place p)
-
-under_elsewhere : (s : State) (target pid : ℕ) (all : Bool) (p : Option Page) (o : Option Sight) → IsElsewhere s target (status_under s target pid all p o)
-under_elsewhere s target pid all None o = tt
-under_elsewhere s target pid all (Some shown) o = sight_elsewhere s target pid all o
+seen_elsewhere : (s : State) (target pid : ℕ) (all : Bool) (r : Result Page Errno) → IsElsewhere s target (seen_status s target pid all r)
+seen_elsewhere s target pid all (Err e) = tt
+seen_elsewhere s target pid all (Ok p) = page_elsewhere s target (others_see s pid p && not all) p (get page_cmp s.place p)
 
 pub status_elsewhere : (s : State) (target : ℕ) (w : Wanted) → IsElsewhere s target (status_or_move s target w)
-status_elsewhere s target (Spot pid v all) = under_elsewhere s target pid all (page_at s.areas pid v) (sight_at s pid v)
+status_elsewhere s target (Spot pid v all) = seen_elsewhere s target pid all (page_seen s pid v)
 status_elsewhere s target (Whole p) = page_elsewhere s target false p (get page_cmp s.place p)

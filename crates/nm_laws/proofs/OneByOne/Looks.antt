@@ -16,8 +16,8 @@ use Rattle.nm_types.specs.declared.sight.Sight.TheVariants.{ZeroPage, Sees}
 use Rattle.nm_types.specs.State.{Process, State, page_at}
 use Rattle.nm_types.specs.declared.request.Wanted.{Wanted}
 use Rattle.nm_types.specs.declared.request.Wanted.TheVariants.{At as Spot, Whole}
-use Rattle.nm_model.specs.definitions.Seen.{sight_in, sight_at, is_sight_of, sees_page, users, look_at_page, look_at_sight, look_under}
-use Rattle.nm_model.specs.definitions.Status.{others_see, page_status, sight_status, status_under, status_or_move, class_of_look, class_of}
+use Rattle.nm_model.specs.definitions.Seen.{sight_in, sight_at, is_sight_of, sees_page, users, look_at_page, look_under, page_or_error}
+use Rattle.nm_model.specs.definitions.Status.{others_see, page_status, seen_status, status_or_move, class_of_look, class_of}
 use Rattle.std.proofs.lemmas.Map.Lookups.{exact_unsigned}
 use Rattle.nm_types.specs.declared.errno.Errno.TheVariants.{Eacces, Ebusy}
 use Rattle.nm_types.specs.Layout.{node_of}
@@ -96,36 +96,32 @@ others (u ∷ w ∷ us) pid s h =
     ] refl
 
 pub look_tells : (s : State) (pid : ℕ) (p : Page) (o : Option Process) (v : ℕ) → IsStrictlySortedBy nat_cmp (keys_of s.processes) → get nat_cmp s.processes pid ≡ o → sight_in o v ≡ Some (Sees p)
-    → nat_lt 1 (length (users s p)) ≡ others_see s pid p
+    → nat_lt 1 (length (users s.processes p)) ≡ others_see s pid p
 look_tells s pid p None v order h k = cc
 look_tells s pid p (Some q) v order h k =
-    others (users s p) pid (chosen_in_order (sees_page p) s.processes order) (is_chosen (sees_page p) s.processes pid q h (sees_it q.sees v p k))
+    others (users s.processes p) pid (chosen_in_order (sees_page p) s.processes order) (is_chosen (sees_page p) s.processes pid q h (sees_it q.sees v p k))
 
-page_tells : (s : State) (target : ℕ) (all : Bool) (kept : Bool) (p : Page) (o : Option ℕ) → (nat_lt 1 (length (users s p)) && not all) ≡ kept
+page_tells : (s : State) (target : ℕ) (all : Bool) (kept : Bool) (p : Page) (o : Option ℕ) → (nat_lt 1 (length (users s.processes p)) && not all) ≡ kept
     → class_of_look s.layout target all (look_at_page s p o) ≡ page_status s target kept p o
 page_tells s target all kept p None h = refl
 page_tells s target all kept p (Some frame) h =
     ap (λ b. if node_of s.layout frame == target then Status (pos target) else (if b then Status (code Eacces) else (if is_pinned s p then Status (code Ebusy) else Move p frame))) h
 
-sight_tells : (s : State) (target pid v : ℕ) (all : Bool) (o : Option Sight) → IsStrictlySortedBy nat_cmp (keys_of s.processes) → sight_at s pid v ≡ o
-    → class_of_look s.layout target all (look_at_sight s o) ≡ sight_status s target pid all o
-sight_tells s target pid v all None order h = refl
-sight_tells s target pid v all (Some ZeroPage) order h = refl
-sight_tells s target pid v all (Some (Sees p)) order h =
+seen_tells : (s : State) (target pid v : ℕ) (all : Bool) (p : Option Page) (o : Option Sight) → IsStrictlySortedBy nat_cmp (keys_of s.processes) → sight_at s pid v ≡ o
+    → class_of_look s.layout target all (look_under s p o) ≡ seen_status s target pid all (page_or_error p o)
+seen_tells s target pid v all None o order h = refl
+seen_tells s target pid v all (Some shown) None order h = refl
+seen_tells s target pid v all (Some shown) (Some ZeroPage) order h = refl
+seen_tells s target pid v all (Some shown) (Some (Sees p)) order h =
     page_tells s target all _ p (get page_cmp s.place p) (ap (λ b. b && not all) (look_tells s pid p (get nat_cmp s.processes pid) v order refl h))
-
-under_tells : (s : State) (target pid v : ℕ) (all : Bool) (p : Option Page) → IsStrictlySortedBy nat_cmp (keys_of s.processes)
-    → class_of_look s.layout target all (look_under s p (sight_at s pid v)) ≡ status_under s target pid all p (sight_at s pid v)
-under_tells s target pid v all None order = refl
-under_tells s target pid v all (Some shown) order = sight_tells s target pid v all (sight_at s pid v) order refl
 
 none_other : (b : Bool) → (b && not true) ≡ false
 none_other true = refl
 none_other false = refl
 
 pub looks_suffice : (s : State) (target : ℕ) (w : Wanted) → IsStrictlySortedBy nat_cmp (keys_of s.processes) → class_of s target w ≡ status_or_move s target w
-looks_suffice s target (Spot pid v all) order = under_tells s target pid v all (page_at s.areas pid v) order
-looks_suffice s target (Whole p) order = page_tells s target true false p (get page_cmp s.place p) (none_other (nat_lt 1 (length (users s p))))
+looks_suffice s target (Spot pid v all) order = seen_tells s target pid v all (page_at s.areas pid v) (sight_at s pid v) order refl
+looks_suffice s target (Whole p) order = page_tells s target true false p (get page_cmp s.place p) (none_other (nat_lt 1 (length (users s.processes p))))
 
 -- no more processes see a page than there are
 few_chosen : (test : Process → Bool) (ps : Map ℕ Process) → length (chosen test ps) ≤ length ps

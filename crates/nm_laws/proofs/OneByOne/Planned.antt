@@ -45,9 +45,9 @@ of_page : (s : State) (target : ℕ) (all : Bool) (p : Page) (o : Option ℕ) �
 unfolding OfPage
 of_page s target all p None = tt
 of_page s target all p (Some frame) =
-    elim (node_of s.layout frame == target) as (λ b. OfPage p (if b then Status (pos target) else (if nat_lt 1 (length (users s p)) && not all then Status (code Eacces) else (if is_pinned s p then Status (code Ebusy) else Move p frame)))) [
+    elim (node_of s.layout frame == target) as (λ b. OfPage p (if b then Status (pos target) else (if nat_lt 1 (length (users s.processes p)) && not all then Status (code Eacces) else (if is_pinned s p then Status (code Ebusy) else Move p frame)))) [
       | true ↦ tt
-      | false ↦ elim (nat_lt 1 (length (users s p)) && not all) as (λ b. OfPage p (if b then Status (code Eacces) else (if is_pinned s p then Status (code Ebusy) else Move p frame))) [
+      | false ↦ elim (nat_lt 1 (length (users s.processes p)) && not all) as (λ b. OfPage p (if b then Status (code Eacces) else (if is_pinned s p then Status (code Ebusy) else Move p frame))) [
         | true ↦ tt
         | false ↦ elim (is_pinned s p) as (λ b. OfPage p (if b then Status (code Ebusy) else Move p frame)) [ true ↦ tt | false ↦ refl ]
       ]
@@ -55,7 +55,7 @@ of_page s target all p (Some frame) =
 
 on_target : (s : State) (target : ℕ) (all : Bool) (p : Page) (frame : ℕ) → node_of s.layout frame ≡ target → page_class s target all p (Some frame) ≡ Status (pos target)
 on_target s target all p frame own =
-    ap (λ b. if b then Status (pos target) else (if nat_lt 1 (length (users s p)) && not all then Status (code Eacces) else (if is_pinned s p then Status (code Ebusy) else Move p frame))) (eq-eqb _ _ own)
+    ap (λ b. if b then Status (pos target) else (if nat_lt 1 (length (users s.processes p)) && not all then Status (code Eacces) else (if is_pinned s p then Status (code Ebusy) else Move p frame))) (eq-eqb _ _ own)
 
 -- where a page is, and where it was at the start
 abbrev Stands : State → ℕ → Bool → Option ℕ → Option ℕ → Type 0

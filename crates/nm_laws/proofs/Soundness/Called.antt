@@ -21,8 +21,7 @@ use Rattle.nm_types.specs.declared.sight.Sight.{Sight}
 use Rattle.nm_types.specs.declared.sight.Sight.TheVariants.{ZeroPage, Sees}
 use Rattle.nm_types.specs.State.{Process, State, covers, area_over, page_of, page_shown, page_at}
 use Rattle.nm_types.proofs.Cases.{true_false, none_some, some_none, some_is, none_is_not}
-use Rattle.nm_model.specs.definitions.Seen.{sight_in, sight_at, pins_of, users, is_pinned, look, look_under, look_at_page}
-use Rattle.nm_types.specs.declared.seen.Seen.TheVariants.{At}
+use Rattle.nm_model.specs.definitions.Seen.{sight_in, sight_at, pins_of, page_seen}
 use Rattle.nm_model.specs.definitions.Areas.{is_shared}
 use Rattle.nm_model.specs.definitions.Effect.{spawn, attach, map_new, with_pins, pin, unpin, covers_page, is_covered}
 use Rattle.nm_model.specs.definitions.AreaRefusal.{is_room}
@@ -30,6 +29,7 @@ use Rattle.nm_model.specs.definitions.Effect.{first_error, is_unknown, pins_refu
 use Rattle.nm_model.specs.definitions.Sound.{HasPages, IsWhole, IsSoundMidRun, IsSound}
 use Rattle.nm_types.proofs.Maps.{equal, get-set, spot_cmp_total}
 use Rattle.nm_types.proofs.Keys.{keys-replace, All-set, All-replace, All-get, sorted-set, few-set}
+use Rattle.nm_model.proofs.looks.{sees_page}
 use Rattle.nm_model.proofs.areas.Apart.{NoneOverlaps, all_from_none, all_then, apart-set, apart_from_new, area_over-set, covers_parts, each_set, is_covered-set, one_more, same_key}
 
 -- whether a segment is shared
@@ -137,11 +137,6 @@ few_pins s l p h =
       | Some n ↦ λ o. All-get page_cmp (λ n. n ≤ 65535) s.pins p n h.pins.few o
     ] refl
 
--- the page that a process sees at an address, as a look finds it
-pub look_there : (s : State) (l : List ℕ) (pid v : ℕ) (p : Page) (frame : ℕ) → IsSoundMidRun s l → sight_at s pid v ≡ Some (Sees p) → get page_cmp s.place p ≡ Some frame → look s pid v ≡ At p frame (length (users s p)) (is_pinned s p)
-look_there s l pid v p frame h seen placed =
-    ap (λ o. look_under s o (sight_at s pid v)) (h.shown pid v p seen).0 ∙ ap (look_under s (Some p)) seen ∙ ap (look_at_page s p) placed
-
 not_full : (n : ℕ) → (if nat_le 65535 n then Some Ebusy else None) ≡ None → n + 1 ≤ 65535
 not_full n h =
     elim (nat_le 65535 n) as (λ b. nat_le 65535 n ≡ b → (if b then Some Ebusy else None) ≡ None → n + 1 ≤ 65535) [
@@ -157,14 +152,9 @@ pinned_sound : (s : State) (pid address : ℕ) (o : Option Sight) → IsSound s 
 pinned_sound s pid address None h e fine = h
 pinned_sound s pid address (Some ZeroPage) h e fine = h
 pinned_sound s pid address (Some (Sees p)) h e fine =
-    let placed = h.shown pid (address / 4096) p e in
-    let told = if_known (is_unknown s pid) (pins_refusal s (nat_le 65535) Ebusy (look s pid (address / 4096))) fine in
-    elim (get page_cmp s.place p) as (λ o. get page_cmp s.place p ≡ o → IsSome o → IsSound (with_pins s (Some (Sees p)) (λ n. n + 1))) [
-      | None ↦ λ o k. absurd (none_is_not ℕ k)
-      | Some frame ↦ λ o k.
-          repinned_sound s [] p (pins_of s p + 1) h
-          (not_full (pins_of s p) (sym (ap (pins_refusal s (nat_le 65535) Ebusy) (look_there s [] pid (address / 4096) p frame h e o)) ∙ told))
-    ] refl placed.1
+    let told = if_known (is_unknown s pid) (pins_refusal s (nat_le 65535) Ebusy (page_seen s pid (address / 4096))) fine in
+    repinned_sound s [] p (pins_of s p + 1) h
+    (not_full (pins_of s p) (sym (ap (pins_refusal s (nat_le 65535) Ebusy) (sees_page s [] pid (address / 4096) p h e)) ∙ told))
 
 pub pin_sound : (s : State) (pid address : ℕ) → IsSound s → pin_refusal s pid address ≡ None → IsSound (pin s pid address)
 pin_sound s pid address h fine = pinned_sound s pid address (sight_at s pid (address / 4096)) h refl fine

@@ -174,11 +174,9 @@ over_with areas a q v = if covers a q v then Some a else area_over areas q v
 -- a new segment, and an area over all of it, are added
 abbrev pub inserted : Mapped → ℕ → ℕ → ℕ → Bool → Mapped
 inserted m pid address pages shared =
-    record m {
-      areas = set spot_cmp m.areas (pid, address / 4096) (new_area m.next 0 pages);
-      segments = set nat_cmp m.segments m.next (record { pages = pages; shared = shared });
-      next = suc m.next;
-    }
+    let areas = set spot_cmp m.areas (pid, address / 4096) (new_area m.next 0 pages) in
+    let segments = set nat_cmp m.segments m.next (record { pages = pages; shared = shared }) in
+    record m { areas = areas; segments = segments; next = suc m.next }
 
 -- the areas of a process are split at both ends of a range, and those inside get this policy
 abbrev pub with_policy : Mapped → ℕ → ℕ → ℕ → Policy → Mapped

@@ -7,12 +7,12 @@ use Rattle.nm_types.specs.declared.sight.Sight.{Sight}
 use Rattle.nm_types.specs.declared.sight.Sight.TheVariants.{ZeroPage, Sees}
 use Rattle.nm_types.specs.State.{Process, State, Placed}
 use Rattle.nm_types.specs.declared.process.ProcessInfo.{ProcessInfo}
-use Rattle.std.specs.Prelude.{◌+◌, ◌-◌, ◌/◌, ◌^◌, ◌==◌, List, Option, Some, None, if◌then◌else◌, not, ◌&&◌, ◌∷◌, length}
+use Rattle.std.specs.Prelude.{◌+◌, ◌-◌, ◌/◌, ◌^◌, ◌==◌, List, Option, Some, None, Result, Ok, Err, if◌then◌else◌, not, ◌&&◌, ◌∷◌, length}
 use Rattle.std.specs.BTreeSet.{insert_key}
 use Rattle.nm_types.specs.declared.page.Page.{Page}
 use Rattle.nm_types.specs.Nodes.{up_from, without_node}
 use Rattle.nm_types.specs.Layout.{Layout, node_count}
-use Rattle.nm_model.specs.definitions.Seen.{sight_at, pins_of, look}
+use Rattle.nm_model.specs.definitions.Seen.{sight_at, pins_of, page_seen}
 -- re-exported: the pages that areas show, and parts of areas
 pub use Rattle.nm_model.specs.definitions.Areas.{pages_from, pages_between, before, behind, parts_outside, covers_page, is_covered}
 use Rattle.nm_model.specs.definitions.Areas.{Mapped, attached, inserted, areas_left, segments_left, pages_gone, with_policy}
@@ -20,9 +20,7 @@ use Rattle.nm_model.specs.definitions.Frames.{all_frames}
 use Rattle.nm_model.specs.definitions.Run.{with_free}
 use Rattle.std.specs.Option.{is_some, unwrap_or}
 use Rattle.nm_types.specs.declared.errno.Errno.{Errno}
-use Rattle.nm_types.specs.declared.errno.Errno.TheVariants.{Enoent, Esrch, Enomem, Efault, Ebusy, Einval}
-use Rattle.nm_types.specs.declared.seen.Seen.{Seen}
-use Rattle.nm_types.specs.declared.seen.Seen.TheVariants.{NoArea, Absent, Zero, At}
+use Rattle.nm_types.specs.declared.errno.Errno.TheVariants.{Esrch, Enomem, Ebusy, Einval}
 use Rattle.nm_types.specs.declared.area.Area.{Area}
 -- re-exported: how the first error is found, and what ranges are
 pub use Rattle.nm_model.specs.definitions.AreaRefusal.{first_error, is_range, overlaps, is_stretch}
@@ -105,9 +103,8 @@ map_new s pid address pages shared = with_areas_of s (inserted (areas_of s) pid 
 
 -- the number of pins of what is seen is changed, if that is a page
 abbrev pub with_pins : State → Option Sight → (ℕ → ℕ) → State
-with_pins s None change = s
-with_pins s (Some ZeroPage) change = s
 with_pins s (Some (Sees p)) change = record s { pins = replace page_cmp s.pins p (change (pins_of s p)) }
+with_pins s sight change = s
 
 -- the page that is seen gets another pin
 abbrev pub pin : State → ℕ → ℕ → State
@@ -121,11 +118,8 @@ unpin s pid address = with_pins s (sight_at s pid (address / 4096)) (λ n. n - 1
 abbrev pub released_from : State → Page → Option ℕ → State
 released_from s p None = s
 released_from s p (Some frame) =
-    with_free (record s {
-      place = without page_cmp s.place p;
-      bytes = without page_cmp s.bytes p;
-      pins = without page_cmp s.pins p;
-    }) frame
+    let bytes = without page_cmp s.bytes p in
+    with_free (record s { place = without page_cmp s.place p; bytes = bytes; pins = without page_cmp s.pins p }) frame
 
 -- a page that no area covers loses its frame, which becomes free
 abbrev pub released : State → Page → State
@@ -146,9 +140,7 @@ unmap s pid address pages = dropped s pid (address / 4096) (address / 4096 + pag
 
 -- a process unmaps all that it has, and is removed
 abbrev pub exit : State → ℕ → State
-exit s pid =
-    let t = dropped s pid 0 (2 ^ 35) in
-    record t { processes = without nat_cmp t.processes pid }
+exit s pid = let t = dropped s pid 0 (2 ^ 35) in record t { processes = without nat_cmp t.processes pid }
 
 -- whether no process has this pid
 abbrev pub is_unknown : State → ℕ → Bool
@@ -190,26 +182,24 @@ unmap_refusal s pid address pages =
 abbrev pub exit_refusal : State → ℕ → Option Errno
 exit_refusal s pid = first_error ((is_unknown s pid, Esrch) ∷ (shows_pinned s.areas s.pins pid 0 (2 ^ 35), Ebusy) ∷ [])
 
--- EFAULT: no area, or the page of zeros; ENOENT: nothing touched there; else this error, for these numbers of pins
-abbrev pub pins_refusal : State → (ℕ → Bool) → Errno → Seen → Option Errno
-pins_refusal s is_bad e NoArea = Some Efault
-pins_refusal s is_bad e Absent = Some Enoent
-pins_refusal s is_bad e Zero = Some Efault
-pins_refusal s is_bad e (At p frame processes pinned) = if is_bad (pins_of s p) then Some e else None
+-- no page is seen, and why not; else this error, for these numbers of pins
+abbrev pub pins_refusal : State → (ℕ → Bool) → Errno → Result Page Errno → Option Errno
+pins_refusal s is_bad e (Err none) = Some none
+pins_refusal s is_bad e (Ok p) = if is_bad (pins_of s p) then Some e else None
 
 -- ESRCH: no such process; EFAULT: no area, or the page of zeros; ENOENT: nothing touched there; EBUSY: the page has
 -- 65,535 pins
 abbrev pub pin_refusal : State → ℕ → ℕ → Option Errno
 pin_refusal s pid address =
     if is_unknown s pid then Some Esrch
-    else pins_refusal s (nat_le 65535) Ebusy (look s pid (address / 4096))
+    else pins_refusal s (nat_le 65535) Ebusy (page_seen s pid (address / 4096))
 
 -- ESRCH: no such process; EFAULT: no area, or the page of zeros; ENOENT: nothing touched there; EINVAL: the page has no
 -- pin
 abbrev pub unpin_refusal : State → ℕ → ℕ → Option Errno
 unpin_refusal s pid address =
     if is_unknown s pid then Some Esrch
-    else pins_refusal s (λ n. n == 0) Einval (look s pid (address / 4096))
+    else pins_refusal s (λ n. n == 0) Einval (page_seen s pid (address / 4096))
 
 -- EINVAL: no such node
 abbrev pub list_refusal : State → ℕ → Option Errno

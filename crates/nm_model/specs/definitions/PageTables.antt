@@ -11,6 +11,7 @@ use Rattle.nm_types.specs.declared.entry.Entry.{Entry}
 use Rattle.nm_types.specs.declared.entry.Entry.TheVariants.{Zero, Frame, Held}
 use Rattle.nm_types.specs.declared.process.ProcessInfo.{ProcessInfo}
 use Rattle.nm_types.specs.declared.area.Area.{Area}
+use Rattle.nm_model.specs.definitions.Seen.{sights}
 
 -- a process with its page table
 pub record Task : Type 0 where
@@ -59,6 +60,4 @@ entry_of place (Sees p) = unwrap_or (option_map Frame (get page_cmp place p)) Ze
 
 -- the entries of a process by page number
 abbrev pub entries_of : State → ℕ → List (ℕ × Entry)
-entries_of s pid =
-    let sees : Map ℕ Sight = unwrap_or (option_map (λ process. process.sees) (get nat_cmp s.processes pid)) [] in
-    with_values (λ v sight. entry_of s.place sight) sees
+entries_of s pid = with_values (λ v sight. entry_of s.place sight) (sights s.processes pid)

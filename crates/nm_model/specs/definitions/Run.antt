@@ -27,11 +27,8 @@ pub record Decision : Type 0 where
 abbrev pub moved_page : State → ℕ → Page → ℕ → List ℕ → Decision
 moved_page s target page from [] = record { state = s; status = code Enomem; taken = [] }
 moved_page s target page from (frame ∷ rest) =
-    record {
-      state = record s { place = set page_cmp s.place page frame; free = slice_set s.free target rest };
-      status = pos target;
-      taken = record { page = page; from = from; to = frame } ∷ [];
-    }
+    let t = record s { place = set page_cmp s.place page frame; free = slice_set s.free target rest } in
+    record { state = t; status = pos target; taken = record { page = page; from = from; to = frame } ∷ [] }
 
 -- a request of this class is carried out
 abbrev pub decided : State → ℕ → Class → Decision
@@ -108,11 +105,9 @@ abbrev pub run : State → ℕ → List Wanted → List Access → Ran
 run s target ws accesses =
     let moves = each s target ws in
     let during = all_in_flight moves.state (map (λ t. t.page) moves.taken) accesses in
-    record {
-      state = counted (with_all_free during.state (left moves.taken)) (length moves.taken) (failures moves.statuses);
-      statuses = moves.statuses;
-      answers = during.answers ∷ [];
-    }
+    let freed = with_all_free during.state (left moves.taken) in
+    let t = counted freed (length moves.taken) (failures moves.statuses) in
+    record { state = t; statuses = moves.statuses; answers = during.answers ∷ [] }
 
 -- the accesses that name this run, in order
 abbrev pub accesses_of : ℕ → List (ℕ × Access) → List Access

@@ -1,5 +1,5 @@
 -- What processes see, and where these pages are.
-use Rattle.std.specs.Prelude.{ℕ, nat_lt, Bool, false, List, length, Option, Some, None, nat_le, ◌&&◌, []}
+use Rattle.std.specs.Prelude.{ℕ, nat_lt, Bool, false, List, length, Option, Some, None, Result, Ok, Err, nat_le, ◌&&◌, []}
 use Rattle.std.specs.Option.{unwrap_or, option_map}
 use Rattle.std.specs.List.{list_any, filter, flat_map}
 use Rattle.std.specs.Map.{keys_of}
@@ -8,6 +8,8 @@ use Rattle.nm_types.specs.declared.page.Page.{Page}
 use Rattle.nm_types.specs.declared.seen.Seen.{Seen}
 use Rattle.nm_types.specs.declared.seen.Seen.TheVariants.{NoArea, Absent, Zero, At}
 use Rattle.nm_types.specs.declared.area.Area.{Area}
+use Rattle.nm_types.specs.declared.errno.Errno.{Errno}
+use Rattle.nm_types.specs.declared.errno.Errno.TheVariants.{Enoent, Efault}
 use Rattle.nm_types.specs.Map.{Map, page_cmp, same_page, get}
 use Rattle.nm_types.specs.declared.sight.Sight.{Sight}
 use Rattle.nm_types.specs.declared.sight.Sight.TheVariants.{ZeroPage, Sees}
@@ -35,29 +37,32 @@ abbrev pub sees_page : Page → Process → Bool
 sees_page p process = list_any (λ e. is_sight_of p e.1) process.sees
 
 -- those of these processes that see a page, each once
-abbrev pub users_in : Map ℕ Process → Page → List ℕ
-users_in processes p = keys_of (filter (λ e. sees_page p e.1) processes)
-
--- the processes that see a page, each once
-abbrev pub users : State → Page → List ℕ
-users s p = users_in s.processes p
-
--- the number of pins of a page, among the pins of all pages
-abbrev pub pins_among : Map Page ℕ → Page → ℕ
-pins_among pins p = unwrap_or (get page_cmp pins p) 0
+abbrev pub users : Map ℕ Process → Page → List ℕ
+users processes p = keys_of (filter (λ e. sees_page p e.1) processes)
 
 -- the number of pins of a page
 abbrev pub pins_of : State → Page → ℕ
-pins_of s p = pins_among s.pins p
+pins_of s p = unwrap_or (get page_cmp s.pins p) 0
 
 -- whether a page has a pin
 abbrev pub is_pinned : State → Page → Bool
 is_pinned s p = nat_lt 0 (pins_of s p)
 
+-- the page that is seen where this page is shown; EFAULT: no area, or the page of zeros; ENOENT: nothing touched there
+abbrev pub page_or_error : Option Page → Option Sight → Result Page Errno
+page_or_error (Some shown) (Some (Sees p)) = Ok p
+page_or_error (Some shown) None = Err Enoent
+page_or_error shown sight = Err Efault
+
+-- the page that a process sees at a page number, or the error
+abbrev pub page_seen : State → ℕ → ℕ → Result Page Errno
+page_seen s pid v = page_or_error (page_at s.areas pid v) (sight_at s pid v)
+
 -- a look at a page with this frame, if any
 abbrev pub look_at_place : Map ℕ Process → Map Page ℕ → Page → Option ℕ → Seen
 look_at_place processes pins p None = Absent
-look_at_place processes pins p (Some frame) = At p frame (length (users_in processes p)) (nat_lt 0 (pins_among pins p))
+look_at_place processes pins p (Some frame) =
+    At p frame (length (users processes p)) (nat_lt 0 (unwrap_or (get page_cmp pins p) 0))
 
 -- the same in a state
 abbrev pub look_at_page : State → Page → Option ℕ → Seen
@@ -104,17 +109,9 @@ frame_seen s pid v = frame_of s.place (sight_at s pid v)
 abbrev pub between : {V : Type 0} → ℕ → ℕ → Map ℕ V → Map ℕ V
 between first end m = filter (λ e. nat_le first e.0 && nat_lt e.0 end) m
 
--- what a process sees, if there is such a process
-abbrev pub sights_in : Option Process → Map ℕ Sight
-sights_in process = unwrap_or (option_map (λ (p : Process). p.sees) process) []
-
--- what a process sees, by page number
-abbrev pub sights : State → ℕ → Map ℕ Sight
-sights s pid = sights_in (get nat_cmp s.processes pid)
-
--- what a process sees from one page number up to another
-abbrev pub sights_between : State → ℕ → ℕ → ℕ → Map ℕ Sight
-sights_between s pid first end = between first end (sights s pid)
+-- what a process sees, by page number, if there is such a process
+abbrev pub sights : Map ℕ Process → ℕ → Map ℕ Sight
+sights processes pid = unwrap_or (option_map (λ (p : Process). p.sees) (get nat_cmp processes pid)) []
 
 -- a page seen at a page number, if it has a frame
 abbrev pub in_frame : Layout → ℕ → Page → Option ℕ → List Located
@@ -132,7 +129,7 @@ located_in g place sees = flat_map (λ e. located g place e.0 e.1) sees
 
 -- the pages that a process sees from one page number up to another, by page number, with their frames and nodes
 abbrev pub located_between : State → ℕ → ℕ → ℕ → List Located
-located_between s pid first end = located_in s.layout s.place (sights_between s pid first end)
+located_between s pid first end = located_in s.layout s.place (between first end (sights s.processes pid))
 
 -- the pages on a node, by segment and index
 abbrev pub placed_on : State → ℕ → List Page

@@ -1,5 +1,6 @@
 -- The status of a request, and of a look at a page.
-use Rattle.std.specs.Prelude.{ℕ, ◌-◌, ℤ, pos, negsuc, Bool, true, false, not, ◌&&◌, nat_lt, ◌==◌, Option, Some, None, if◌then◌else◌}
+use Rattle.std.specs.Prelude.{ℕ, ◌-◌, ℤ, pos, negsuc, Bool, true, false, not, ◌&&◌, nat_lt, ◌==◌, Option, Some, None, Result, Ok, Err, if◌then◌else◌}
+use Rattle.std.specs.Option.{unwrap_or, option_map}
 use Rattle.std.specs.List.{list_any}
 use Rattle.nm_types.specs.declared.page.Page.{Page}
 use Rattle.nm_types.specs.declared.seen.Seen.{Seen}
@@ -9,14 +10,12 @@ use Rattle.nm_types.specs.declared.errno.Errno.TheVariants.{Enoent, Eacces, Efau
 use Rattle.nm_types.specs.Names.{number_of}
 use Rattle.nm_types.specs.Map.{page_cmp, get}
 use Rattle.nm_types.specs.Layout.{Layout, node_of}
-use Rattle.nm_types.specs.declared.sight.Sight.{Sight}
-use Rattle.nm_types.specs.declared.sight.Sight.TheVariants.{ZeroPage, Sees}
-use Rattle.nm_types.specs.State.{State, page_at}
+use Rattle.nm_types.specs.State.{State}
 use Rattle.nm_types.specs.declared.request.Class.{Class}
 use Rattle.nm_types.specs.declared.request.Class.TheVariants.{Status, Move}
 use Rattle.nm_types.specs.declared.request.Wanted.{Wanted}
 use Rattle.nm_types.specs.declared.request.Wanted.TheVariants.{At as Spot, Whole}
-use Rattle.nm_model.specs.definitions.Seen.{sight_at, users, is_pinned, look_at_page, look}
+use Rattle.nm_model.specs.definitions.Seen.{users, is_pinned, page_seen, look_at_page, look}
 
 -- the status of a page that does not move because of an error: the error's number with a minus sign
 abbrev pub code : Errno → ℤ
@@ -24,7 +23,7 @@ code e = negsuc (number_of e - 1)
 
 -- whether a process other than this one sees the page
 abbrev pub others_see : State → ℕ → Page → Bool
-others_see s pid p = list_any (λ user. not (user == pid)) (users s p)
+others_see s pid p = list_any (λ user. not (user == pid)) (users s.processes p)
 
 -- a page with this frame: it is on the target, may not move because of other processes or a pin, or is to move
 abbrev pub page_status : State → ℕ → Bool → Page → Option ℕ → Class
@@ -33,21 +32,14 @@ page_status s target kept p (Some frame) =
     if node_of s.layout frame == target then Status (pos target)
     else (if kept then Status (code Eacces) else (if is_pinned s p then Status (code Ebusy) else Move p frame))
 
--- what is seen: nothing yet, the page of zeros, or a page, which stays for other processes unless `all` is set
-abbrev pub sight_status : State → ℕ → ℕ → Bool → Option Sight → Class
-sight_status s target pid all None = Status (code Enoent)
-sight_status s target pid all (Some ZeroPage) = Status (code Efault)
-sight_status s target pid all (Some (Sees p)) =
-    page_status s target (others_see s pid p && not all) p (get page_cmp s.place p)
-
--- if there is no area, there is nothing to move
-abbrev pub status_under : State → ℕ → ℕ → Bool → Option Page → Option Sight → Class
-status_under s target pid all None sight = Status (code Efault)
-status_under s target pid all (Some shown) sight = sight_status s target pid all sight
+-- what is seen: no page, and why not, or a page, which stays for other processes unless `all` is set
+abbrev pub seen_status : State → ℕ → ℕ → Bool → Result Page Errno → Class
+seen_status s target pid all (Err e) = Status (code e)
+seen_status s target pid all (Ok p) = page_status s target (others_see s pid p && not all) p (get page_cmp s.place p)
 
 -- the first case that holds of a request: its status, or the page that is to move
 abbrev pub status_or_move : State → ℕ → Wanted → Class
-status_or_move s target (Spot pid v all) = status_under s target pid all (page_at s.areas pid v) (sight_at s pid v)
+status_or_move s target (Spot pid v all) = seen_status s target pid all (page_seen s pid v)
 status_or_move s target (Whole p) = page_status s target false p (get page_cmp s.place p)
 
 -- the same, from a look that counts the processes that see the page
@@ -65,13 +57,12 @@ abbrev pub class_of : State → ℕ → Wanted → Class
 class_of s target (Spot pid v all) = class_of_look s.layout target all (look s pid v)
 class_of s target (Whole p) = class_of_look s.layout target true (look_at_page s p (get page_cmp s.place p))
 
--- the node of the page that a look shows, or why it shows none
-abbrev pub node_of_look : Layout → Seen → ℤ
-node_of_look g NoArea = code Efault
-node_of_look g Absent = code Enoent
-node_of_look g Zero = code Efault
-node_of_look g (At p frame processes pinned) = pos (node_of g frame)
+-- the node of a page that is seen, or why none is
+abbrev pub node_or_error : State → Result Page Errno → ℤ
+node_or_error s (Err e) = code e
+node_or_error s (Ok p) =
+    unwrap_or (option_map (λ frame. pos (node_of s.layout frame)) (get page_cmp s.place p)) (code Enoent)
 
 -- the status of a page number of a process if no target is named
 abbrev pub node_status : State → ℕ → ℕ → ℤ
-node_status s pid v = node_of_look s.layout (look s pid v)
+node_status s pid v = node_or_error s (page_seen s pid v)

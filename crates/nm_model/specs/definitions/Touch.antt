@@ -3,6 +3,7 @@ use Rattle.std.specs.Prelude.{ℕ, ◌+◌, ◌/◌, ◌%◌, ◌==◌, nat_lt, 
 use Rattle.std.specs.Prelude.{replicate, slice_index, slice_index_or, slice_set, Option, Some, None, Result, Ok, Err}
 use Rattle.std.specs.Prelude.{if◌then◌else◌, not}
 use Rattle.std.specs.Option.{unwrap_or}
+use Rattle.std.specs.Result.{result_err}
 use Rattle.std.specs.Ordering.{nat_cmp}
 use Rattle.nm_types.specs.declared.page.Page.{Page}
 use Rattle.nm_types.specs.declared.errno.Errno.{Errno}
@@ -45,14 +46,9 @@ spot_of s (Some process) pid address len =
 abbrev pub spot : State → ℕ → ℕ → ℕ → Result Spot Errno
 spot s pid address len = spot_of s (get nat_cmp s.processes pid) pid address len
 
--- the error, if there is one
-abbrev pub error_in : {X : Type 0} → Result X Errno → Option Errno
-error_in (Ok x) = None
-error_in (Err e) = Some e
-
 -- the refusals of a read or a write of `len` bytes before it looks for a frame: all except ENOMEM
 abbrev pub spot_refusal : State → ℕ → ℕ → ℕ → Option Errno
-spot_refusal s pid address len = error_in (spot s pid address len)
+spot_refusal s pid address len = result_err (spot s pid address len)
 
 -- what the process sees at this page number is set
 abbrev pub with_sight : State → Spot → Sight → State
@@ -63,11 +59,8 @@ with_sight s at sight =
 -- a page gets this frame, with zeros in it
 abbrev pub with_page : State → Page → ℕ → State
 with_page s page frame =
-    record s {
-      place = set page_cmp s.place page frame;
-      bytes = set page_cmp s.bytes page (replicate 4096 0);
-      pins = set page_cmp s.pins page 0;
-    }
+    let zeros = set page_cmp s.bytes page (replicate 4096 0) in
+    record s { place = set page_cmp s.place page frame; bytes = zeros; pins = set page_cmp s.pins page 0 }
 
 -- a node's front frame is taken
 abbrev pub without_front : State → ℕ → State
@@ -149,8 +142,7 @@ abbrev pub with_bytes : State → Option Sight → ℕ → List ℕ → State
 with_bytes s (Some (Sees page)) i new =
     let old = unwrap_or (get page_cmp s.bytes page) [] in
     record s { bytes = replace page_cmp s.bytes page (overwrite old i new) }
-with_bytes s (Some ZeroPage) i new = s
-with_bytes s None i new = s
+with_bytes s sight i new = s
 
 -- the write after its touch, or its refusal
 abbrev pub write_after : State → ℕ → ℕ → List ℕ → Result State Errno → Answered

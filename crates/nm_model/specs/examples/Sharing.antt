@@ -26,7 +26,7 @@ TwoAddressesAreOneProcess =
 -- a page that another process sees stays ...
 abbrev pub SharedPageStays : Type 0
 SharedPageStays =
-    (users seen_by_two (record { segment = 0; index = 0 }) ≡ 1 ∷ 2 ∷ [])
+    (users seen_by_two.processes (record { segment = 0; index = 0 }) ≡ 1 ∷ 2 ∷ [])
     × (told (batch seen_by_two (to (0x20000 ∷ []) 1) [])
     ≡ record {
       answer = 0;

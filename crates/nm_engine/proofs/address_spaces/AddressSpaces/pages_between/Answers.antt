@@ -3,7 +3,7 @@ use Rattle.std.proofs.lemmas.List.Elements.{All-push}
 use Rattle.std.specs.Ordering.{nat_cmp}
 use Rattle.nm_types.specs.Layout.{node_count}
 use Rattle.nm_types.specs.Map.{get, page_cmp}
-use Rattle.nm_model.specs.definitions.Seen.{between, sights_in}
+use Rattle.nm_model.specs.definitions.Seen.{between, sights}
 use Rattle.std.specs.Prelude.{All, Some, IfSome}
 use Rattle.nm_model.specs.definitions.PageTables.{sight_of}
 use Rattle.nm_model.specs.definitions.Seen.{IsOver, located}
@@ -122,7 +122,7 @@ returns-clause-placed g c =
     ended c.args.geometry.now y.place y.areas c.args.pid es c.loop-vpn.vpn-index c.loop-vpn.pages.items _ c.loop-vpn-test.false c.loop-vpn.invariant.pages
     ∙ all_listed y x.tasks x.areas x.rmap c.args.pid c.self.view_is c.self.invariant c.args.geometry.now c.args.first c.args.end es range in
     let P : Located → Type 0 = λ e. get page_cmp y.place e.page ≡ Some e.frame in
-    subst (All P) (sym is) (λ k d low. all_at P _ k d (all_in_place c.args.geometry.now y.place (between c.args.first c.args.end (sights_in (get nat_cmp y.processes c.args.pid)))) low)
+    subst (All P) (sym is) (λ k d low. all_at P _ k d (all_in_place c.args.geometry.now y.place (between c.args.first c.args.end (sights y.processes c.args.pid))) low)
 
 pub returns-clause-few : goal.returns-clause-few
 returns-clause-few g c =

@@ -13,4 +13,5 @@ returns-in-At g c =
     to_z_pos w32 c.number-in-At.result small
     ∙ ap (λ n. pos n) (c.number-in-At.ensures ∙ c.node_of.ensures.node)
     ∙ ap (node_of_look c.self.inside.frames.layout) c.in-At.ensures.look
+    ∙ look_tells_node (here c.self.inside) c.args.pid c.args.vpn
     ∙ ap (λ (x : MidRun). node_status x.state c.args.pid c.args.vpn) c.self.view_is

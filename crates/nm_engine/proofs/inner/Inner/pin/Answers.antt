@@ -15,5 +15,5 @@ returns-clause-done g c =
     let i = c.self.inside in
     let to = λ (w : SpacesView). shown_by w i.frames i.online i.totals.moved i.totals.failed in
     let page = c.in_ok-page in
-    pin_alters _ _ _ c.args.self.now c.self.view_is c.args.pid c.args.addr page.page page.frame c.self.invariant.sound page.ensures.known page.ensures.seen page.ensures.placed (to c.pin.new.self) c.pin.result
+    pin_alters _ _ _ c.args.self.now c.self.view_is c.args.pid c.args.addr page.page c.self.invariant.sound page.ensures.known page.ensures.seen (to c.pin.new.self) c.pin.result
     c.pin.ensures.room (ok_then c.pin.result (ap to) c.pin.ensures.ok) c.pin.ensures.full (err_then c.pin.result (ap to) c.pin.ensures.err)

@@ -15,5 +15,5 @@ returns-clause-done g c =
     let i = c.self.inside in
     let to = λ (w : SpacesView). shown_by w i.frames i.online i.totals.moved i.totals.failed in
     let page = c.in_ok-page in
-    unpin_alters _ _ _ c.args.self.now c.self.view_is c.args.pid c.args.addr page.page page.frame c.self.invariant.sound page.ensures.known page.ensures.seen page.ensures.placed (to c.unpin.new.self) c.unpin.result
+    unpin_alters _ _ _ c.args.self.now c.self.view_is c.args.pid c.args.addr page.page c.self.invariant.sound page.ensures.known page.ensures.seen (to c.unpin.new.self) c.unpin.result
     c.unpin.ensures.pinned (ok_then c.unpin.result (ap to) c.unpin.ensures.ok) c.unpin.ensures.none (err_then c.unpin.result (ap to) c.unpin.ensures.err)
