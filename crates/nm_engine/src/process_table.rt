@@ -1,6 +1,6 @@
 //! The table of processes.
 
-ghost use Rattle.std.specs.Prelude.{ℕ, ◌≡◌, ◌≤◌, ◌<◌, nat_eq, slice_get, [], length, Some, None, IsSome, IfSome, IfNone, IfOk, OnOk, OnErr};
+ghost use Rattle.std.specs.Prelude.{ℕ, ◌≡◌, ◌≤◌, ◌<◌, nat_eq, true, slice_get, [], length, Some, None, IsSome, IfSome, IfNone, IfOk, OnOk, OnErr};
 ghost use Rattle.std.specs.Option.{option_copied, option_map};
 ghost use Rattle.std.specs.List.Sorted.{IsStrictlySortedBy};
 ghost use Rattle.std.specs.Map.{keys_of, lookup};
@@ -195,7 +195,8 @@ fn task_of<A: Allocator + Copy>(tasks: &Tasks<A>, pid: Pid) -> Option<&process::
 }
 
 /// Where the process with this pid stands among the others, if there is one. Mostly pids are given one after another,
-/// and processes stand in the order in which they came: so this looks there first, and only then hashes the pid.
+/// and processes stand in the order in which they came: so this looks there first, then one place further, where it
+/// stands if one other came out of turn, and only then hashes the pid.
 fn place_of<A: Allocator + Copy>(tasks: &Tasks<A>, pid: Pid) -> Option<usize>
     ensures within { IfSome result (λ i. i < length tasks.now.entries) }
     ensures key { IfSome result (λ i. slice_get (keys_of tasks.now.entries) i ≡ Some pid) }
@@ -205,8 +206,25 @@ fn place_of<A: Allocator + Copy>(tasks: &Tasks<A>, pid: Pid) -> Option<usize>
 {
     let (first, _) = tasks.first()?;
     let near = pid.number().wrapping_sub(first.number()) as usize;
-    match tasks.get_index(near) {
-        Some((there, _)) if *there == pid => Some(near),
-        _ => tasks.get_index_of(&pid),
+    if stands_at(tasks, near, pid) {
+        return Some(near);
+    }
+    if stands_at(tasks, near + 1, pid) {
+        return Some(near + 1);
+    }
+    tasks.get_index_of(&pid)
+}
+
+/// Whether the process with this pid stands at a place among the others.
+#[inline]
+fn stands_at<A: Allocator + Copy>(tasks: &Tasks<A>, place: usize, pid: Pid) -> bool
+    ensures within { result ≡ true → place < length tasks.now.entries }
+    ensures key { result ≡ true → slice_get (keys_of tasks.now.entries) place ≡ Some pid }
+    ensures value { result ≡ true →
+        slice_get (values tasks.now) place ≡ lookup (nat_eq pid) tasks.now.entries }
+{
+    match tasks.get_index(place) {
+        Some((there, _)) => *there == pid,
+        None => false,
     }
 }

@@ -96,6 +96,7 @@ impl<T: Subtree<A>, A: Allocator + Copy> Subtree<A> for Branch<T, A> {
         Ok(Branch::One(T::number_of(block), part))
     }
 
+    #[inline]
     fn get(&self, block: u64) -> Option<Slot> {
         match self {
             Branch::One(number, part) => {

@@ -47,6 +47,7 @@ impl<A: Allocator + Copy> Index<A> {
     }
 
     /// The slot of a block.
+    #[inline]
     pub(crate) fn get(&self, block: u64) -> Option<Slot>
         ensures slot { result ≡ get nat_cmp self.now block }
         ensures ordered { IsStrictlySortedBy nat_cmp (keys_of self.now) }
