@@ -10,7 +10,7 @@ use Rattle.nm_types.specs.State.{State}
 use Rattle.nm_model.specs.definitions.Cut.{Stretch}
 use Rattle.nm_model.specs.definitions.Touch.{Access, AccessAnswer}
 use Rattle.nm_model.specs.definitions.Touch.{in_flight, all_in_flight}
-use Rattle.nm_model.specs.definitions.Run.{each, run}
+use Rattle.nm_model.specs.definitions.Run.{each_request, run}
 use Rattle.nm_model.specs.definitions.Run.{accesses_of, runs_from}
 use Rattle.nm_steps.specs.Calls.{Call, MovePages}
 use Rattle.nm_calls.specs.Answers.{Answer, Statuses}
@@ -25,7 +25,7 @@ all_length : (s : State) (moved : List Page) (accesses : List Access) → length
 all_length s moved [] = refl
 all_length s moved (a ∷ accesses) = ap suc (all_length (in_flight s moved a).state moved accesses)
 
--- there are answers for each run ..
+-- there are answers for each_request run ..
 runs_count : (k : ℕ) (s : State) (rs : List Stretch) (accesses : List (ℕ × Access)) → length (runs_from k s rs accesses).answers ≡ length rs
 runs_count k s [] accesses = refl
 runs_count k s (r ∷ rs) accesses = ap suc (runs_count (k + 1) (run s r.target r.wanted (accesses_of k accesses)).state rs accesses)
@@ -34,7 +34,7 @@ runs_count k s (r ∷ rs) accesses = ap suc (runs_count (k + 1) (run s r.target 
 each_has : (k : ℕ) (s : State) (rs : List Stretch) (accesses : List (ℕ × Access)) (j : ℕ) → j < length rs → length (list_at (runs_from k s rs accesses).answers j) ≡ length (accesses_of (k + j) accesses)
 each_has k s [] accesses j lt = absurd (omega (arith, lt))
 each_has k s (r ∷ rs) accesses zero lt =
-    let moves = each s r.target r.wanted in
+    let moves = each_request s r.target r.wanted in
     let here : k ≡ k + 0 = omega arith in
     all_length moves.state (map (λ t. t.page) moves.taken) (accesses_of k accesses) ∙ ap (λ n. length (accesses_of n accesses)) here
 each_has k s (r ∷ rs) accesses (suc j) lt =
@@ -54,7 +54,7 @@ named_count k ((run, a) ∷ rest) =
     ∙ (ap (λ n. cond (run == k) 1 0 + n) (named_count k rest)
     ∙ sym (one_more k run (runs_named rest) (run == k) refl)))
 
--- answers that are as many for each run as accesses name it
+-- answers that are as many for each_request run as accesses name it
 abbrev IsEnough : List (List AccessAnswer) → List ℕ → Type 0
 IsEnough left runs = (k : ℕ) → k < length left → length (list_at left k) ≡ count_by (λ r. r == k) runs
 

@@ -13,7 +13,7 @@ use Rattle.nm_calls.specs.declared.call_error.CallError.TheVariants.{Refused, Ho
 use Rattle.nm_steps.specs.Calls.{Call, Mbind}
 use Rattle.nm_calls.specs.Answers.{Refusal, Failed}
 use Rattle.nm_calls.specs.Systems.{SystemState, in_state}
-use Rattle.nm_calls.specs.Binding.{mbind_refusal, binding, mbind_runs, policed, tells_late, still_strays}
+use Rattle.nm_calls.specs.Binding.{mbind_refusal, binding, mbind_runs, policed, tells_late, has_stray}
 use Rattle.nm_calls.specs.Outcome.{refused, refused_at_once, start, started, sets_policy, runs_asked, accesses_asked, runs_of, runs_unless, ended, outcome, late_answer, leaves, states_of, trail}
 use Rattle.nm_calls.specs.Does.{Does, LeavesSome}
 use Rattle.nm_calls.specs.Making.{Stops, Binds}
@@ -56,7 +56,7 @@ module _ (y : SystemState) (caller addr len mode : ℕ) (nodes : List ℕ) (flag
 
   -- where the pages stray, or do not
   answered : (late : Bool) (new : State) → mbind_refusal y.state caller addr len mode nodes flags ≡ None
-      → (tells_late flags && still_strays y.state (runs_from 0 first runs []).state (binding y.state caller addr len mode nodes)) ≡ late → new ≡ (runs_from 0 first runs []).state
+      → (tells_late flags && has_stray y.state (runs_from 0 first runs []).state (binding y.state caller addr len mode nodes)) ≡ late → new ≡ (runs_from 0 first runs []).state
       → outcome y asks ≡ record { answer = late_answer late; system = in_state y new }
   unfolding refused runs_asked start ended accesses_asked
   answered late new h strays is =

@@ -23,14 +23,14 @@ use Rattle.nm_model.specs.definitions.Seen.{sight_at, is_pinned, page_or_error, 
 use Rattle.nm_model.specs.definitions.Status.{code, others_see, page_status, seen_status, status_or_move}
 use Rattle.nm_model.specs.definitions.Cut.{Stretch, in_front, cut, all_to}
 use Rattle.nm_model.specs.definitions.Cut.{pieces_in, pieces, within, cut_within}
-use Rattle.nm_model.specs.definitions.Run.{Decision, moved_page, decided, one, Progress, each, with_free, with_all_free, left, failures, added, counted, Ran, run}
+use Rattle.nm_model.specs.definitions.Run.{Decision, moved_page, decision, one_request, Progress, each_request, with_free, with_all_free, left, failures, total_after, with_counts, Ran, run}
 use Rattle.nm_model.specs.definitions.Run.{runs_from}
 use Rattle.nm_laws.proofs.InFlight.Elsewhere.{IsElsewhere, status_elsewhere}
 use Rattle.nm_calls.specs.Passes.{without_frame}
 use Rattle.nm_calls.specs.Full.{StandsOn, WouldMove, pass, rounded_up, FullNodeTakesNone, LeftWouldMove, MovesElsewhere, RunsGoByLength, NextPassTakesNone}
 use Rattle.nm_calls.proofs.Lengths.{each_layout, run_length}
 
--- the status of a page that does not move is not that of one without a frame
+-- the status of a page that does not move is not that of one_request without a frame
 abbrev IsOther : Class → Type 0
 IsOther (Status status) = int_eq status (code Enomem) ≡ false
 IsOther (Move page from) = Unit {0}
@@ -65,7 +65,7 @@ class_freed : (s : State) (frames : List ℕ) (target : ℕ) (w : Wanted) → st
 class_freed s [] target w = refl
 class_freed s (frame ∷ frames) target w = class_freed (with_free s frame) frames target w ∙ class_free s frame target w
 
-pub class_counted : (s : State) (m n target : ℕ) (w : Wanted) → status_or_move (counted s m n) target w ≡ status_or_move s target w
+pub class_counted : (s : State) (m n target : ℕ) (w : Wanted) → status_or_move (with_counts s m n) target w ≡ status_or_move s target w
 class_counted s m n target (Spot pid v all) = refl
 class_counted s m n target (Whole p) = refl
 
@@ -87,37 +87,37 @@ LeavesOthers s target p = AllByRecursion (λ f. (node_of s.layout f == target) �
 -- what follows a request
 abbrev then_each : ℕ → List Wanted → Decision → Progress
 then_each target ws now =
-    let rest = each now.state target ws in
+    let rest = each_request now.state target ws in
     record { state = rest.state; statuses = now.status ∷ rest.statuses; taken = now.taken ++ rest.taken }
 
-leaves_taking : (s : State) (target : ℕ) (ws : List Wanted) (page : Page) (from : ℕ) (frames : List ℕ) → (node_of s.layout from == target) ≡ false → ((t : State) → LeavesOthers t target (each t target ws))
+leaves_taking : (s : State) (target : ℕ) (ws : List Wanted) (page : Page) (from : ℕ) (frames : List ℕ) → (node_of s.layout from == target) ≡ false → ((t : State) → LeavesOthers t target (each_request t target ws))
     → LeavesOthers s target (then_each target ws (moved_page s target page from frames))
 leaves_taking s target ws page from [] h rest = rest s
 leaves_taking s target ws page from (frame ∷ frames) h rest = (h, rest (moved_page s target page from (frame ∷ frames)).state)
 
-leaves_deciding : (s : State) (target : ℕ) (ws : List Wanted) (c : Class) → IsElsewhere s target c → ((t : State) → LeavesOthers t target (each t target ws)) → LeavesOthers s target (then_each target ws (decided s target c))
+leaves_deciding : (s : State) (target : ℕ) (ws : List Wanted) (c : Class) → IsElsewhere s target c → ((t : State) → LeavesOthers t target (each_request t target ws)) → LeavesOthers s target (then_each target ws (decision s target c))
 leaves_deciding s target ws (Status status) h rest = rest s
 leaves_deciding s target ws (Move page from) h rest = leaves_taking s target ws page from (free_list s target) h rest
 
-each_leaves : (s : State) (target : ℕ) (ws : List Wanted) → LeavesOthers s target (each s target ws)
+each_leaves : (s : State) (target : ℕ) (ws : List Wanted) → LeavesOthers s target (each_request s target ws)
 each_leaves s target [] = tt
 each_leaves s target (w ∷ ws) =
     leaves_deciding s target ws (status_or_move s target w) (status_elsewhere s target w) (λ t. each_leaves t target ws)
 
 -- a node without a free frame takes nothing
-none_decided : (s : State) (target : ℕ) (c : Class) → free_list s target ≡ [] → ((decided s target c).state ≡ s) × ((decided s target c).taken ≡ [])
+none_decided : (s : State) (target : ℕ) (c : Class) → free_list s target ≡ [] → ((decision s target c).state ≡ s) × ((decision s target c).taken ≡ [])
 none_decided s target (Status status) none = (refl, refl)
 none_decided s target (Move page from) none =
     (ap (λ l. (moved_page s target page from l).state) none, ap (λ l. (moved_page s target page from l).taken) none)
 
-none_taken : (s : State) (target : ℕ) (ws : List Wanted) → free_list s target ≡ [] → ((each s target ws).state ≡ s) × ((each s target ws).taken ≡ [])
+none_taken : (s : State) (target : ℕ) (ws : List Wanted) → free_list s target ≡ [] → ((each_request s target ws).state ≡ s) × ((each_request s target ws).taken ≡ [])
 none_taken s target [] none = (refl, refl)
 none_taken s target (w ∷ ws) none =
-    let now = one s target w in
+    let now = one_request s target w in
     let first = none_decided s target (status_or_move s target w) none in
     let rest = none_taken s target ws none in (
-      ap (λ t. (each t target ws).state) first.0 ∙ rest.0,
-      ap (λ l. l ++ (each now.state target ws).taken) first.1 ∙ ap (λ t. (each t target ws).taken) first.0 ∙ rest.1,
+      ap (λ t. (each_request t target ws).state) first.0 ∙ rest.0,
+      ap (λ l. l ++ (each_request now.state target ws).taken) first.1 ∙ ap (λ t. (each_request t target ws).taken) first.0 ∙ rest.1,
     )
 
 -- what is wanted would move to a node, which has no free frame
@@ -133,7 +133,7 @@ with_rest b w z ws zs =
 abbrev LeftWaits : ℕ → List Wanted → Progress → Type 0
 LeftWaits target ws p = AllByRecursion (Waits p.state target) (without_frame ws p.statuses)
 
-waits_taking : (s : State) (target : ℕ) (w : Wanted) (ws : List Wanted) (page : Page) (from : ℕ) (frames : List ℕ) → status_or_move s target w ≡ Move page from → free_list s target ≡ frames → ((t : State) → LeftWaits target ws (each t target ws))
+waits_taking : (s : State) (target : ℕ) (w : Wanted) (ws : List Wanted) (page : Page) (from : ℕ) (frames : List ℕ) → status_or_move s target w ≡ Move page from → free_list s target ≡ frames → ((t : State) → LeftWaits target ws (each_request t target ws))
     → LeftWaits target (w ∷ ws) (then_each target ws (moved_page s target page from frames))
 waits_taking s target w ws page from [] is none rest =
     let same = (none_taken s target ws none).0 in
@@ -141,14 +141,14 @@ waits_taking s target w ws page from [] is none rest =
     (subst (λ t. Waits t target w) (sym same) here, rest s)
 waits_taking s target w ws page from (frame ∷ frames) is some rest = rest (moved_page s target page from (frame ∷ frames)).state
 
-waits_deciding : (s : State) (target : ℕ) (w : Wanted) (ws : List Wanted) (c : Class) → status_or_move s target w ≡ c → IsOther c → ((t : State) → LeftWaits target ws (each t target ws))
-    → LeftWaits target (w ∷ ws) (then_each target ws (decided s target c))
+waits_deciding : (s : State) (target : ℕ) (w : Wanted) (ws : List Wanted) (c : Class) → status_or_move s target w ≡ c → IsOther c → ((t : State) → LeftWaits target ws (each_request t target ws))
+    → LeftWaits target (w ∷ ws) (then_each target ws (decision s target c))
 waits_deciding s target w ws (Status status) is other rest =
-    let moves = each s target ws in
+    let moves = each_request s target ws in
     subst (λ b. AllByRecursion (Waits moves.state target) (with_rest b w status ws moves.statuses)) (sym other) (rest s)
 waits_deciding s target w ws (Move page from) is other rest = waits_taking s target w ws page from (free_list s target) is refl rest
 
-each_waits : (s : State) (target : ℕ) (ws : List Wanted) → LeftWaits target ws (each s target ws)
+each_waits : (s : State) (target : ℕ) (ws : List Wanted) → LeftWaits target ws (each_request s target ws)
 each_waits s target [] = tt
 each_waits s target (w ∷ ws) =
     waits_deciding s target w ws (status_or_move s target w) refl (status_other s target w) (λ t. each_waits t target ws)
@@ -158,13 +158,13 @@ all_still P Q [] f h = tt
 all_still P Q (w ∷ ws) f h = (f w h.0, all_still P Q ws f h.1)
 
 -- .. and after its end
-ended_waits : (s : State) (frames : List ℕ) (m n target : ℕ) (w : Wanted) → AllByRecursion (λ f. (node_of s.layout f == target) ≡ false) frames → Waits s target w → Waits (counted (with_all_free s frames) m n) target w
+ended_waits : (s : State) (frames : List ℕ) (m n target : ℕ) (w : Wanted) → AllByRecursion (λ f. (node_of s.layout f == target) ≡ false) frames → Waits s target w → Waits (with_counts (with_all_free s frames) m n) target w
 ended_waits s frames m n target w others h =
     ((h.0.0, h.0.1, class_counted (with_all_free s frames) m n target w ∙ class_freed s frames target w ∙ h.0.2), all_elsewhere s frames target others ∙ h.1)
 
 run_waits : (s : State) (target : ℕ) (ws : List Wanted) → AllByRecursion (Waits (run s target ws []).state target) (without_frame ws (run s target ws []).statuses)
 run_waits s target ws =
-    let moves = each s target ws in
+    let moves = each_request s target ws in
     let others = subst (λ g. AllByRecursion (λ f. (node_of g f == target) ≡ false) (left moves.taken)) (sym (each_layout s target ws)) (each_leaves s target ws) in
     all_still (Waits moves.state target) (Waits (run s target ws []).state target) (without_frame ws moves.statuses)
     (λ w. ended_waits moves.state (left moves.taken) (length moves.taken) (failures moves.statuses) target w others) (each_waits s target ws)
@@ -172,13 +172,13 @@ run_waits s target ws =
 -- what waits waits on after a run for the same node
 waits_on : (s : State) (target : ℕ) (ws : List Wanted) (w : Wanted) → Waits s target w → Waits (run s target ws []).state target w
 waits_on s target ws w h =
-    let moves = each s target ws in
+    let moves = each_request s target ws in
     let none = none_taken s target ws h.1 in
     let same : with_all_free moves.state (left moves.taken) ≡ s = ap (λ l. with_all_free moves.state (left l)) none.1 ∙ none.0 in
-    let here : Waits (counted s (length moves.taken) (failures moves.statuses)) target w = ended_waits s [] (length moves.taken) (failures moves.statuses) target w tt h in
-    subst (λ t. Waits (counted t (length moves.taken) (failures moves.statuses)) target w) (sym same) here
+    let here : Waits (with_counts s (length moves.taken) (failures moves.statuses)) target w = ended_waits s [] (length moves.taken) (failures moves.statuses) target w tt h in
+    subst (λ t. Waits (with_counts t (length moves.taken) (failures moves.statuses)) target w) (sym same) here
 
--- runs for one node
+-- runs for one_request node
 abbrev to_node : ℕ → List (List Wanted) → List Stretch
 to_node t wss = map (λ ws. record { target = t; wanted = ws }) wss
 
@@ -187,7 +187,7 @@ runs_wait_on k s target [] w h = h
 runs_wait_on k s target (ws ∷ wss) w h =
     runs_wait_on (k + 1) (run s target ws []).state target wss w (waits_on s target ws w h)
 
--- what is left of two parts is left of one or the other
+-- what is left of two parts is left of one_request or the other
 all_parted : (P : Wanted → Type 0) (xs : List Wanted) (zs : List ℤ) (ys : List Wanted) (us : List ℤ) → length xs ≡ length zs → AllByRecursion P (without_frame xs zs) → AllByRecursion P (without_frame ys us) → AllByRecursion P (without_frame (xs ++ ys) (zs ++ us))
 all_parted P [] [] ys us same h k = k
 all_parted P [] (z ∷ zs) ys us same h k = let e : ⊥ = omega (arith, same) in absurd e
@@ -211,7 +211,7 @@ runs_wait k s target (ws ∷ wss) =
     (all_still (Waits now.state target) (Waits rest.state target) (without_frame ws now.statuses) (runs_wait_on (k + 1) now.state target wss) (run_waits s target ws))
     (runs_wait (k + 1) now.state target wss)
 
--- a batch for one node is one stretch, which is cut into pieces
+-- a batch for one_request node is one_request stretch, which is cut into pieces
 cut_one : (node : ℕ) (w : Wanted) (ws : List Wanted) → cut (all_to node (w ∷ ws)) ≡ record { target = node; wanted = w ∷ ws } ∷ []
 cut_one node w [] = refl
 cut_one node w (v ∷ vs) =
@@ -247,7 +247,7 @@ left_would_move limit s node ws some =
     let made = pass limit s node ws in
     all_still (Waits made.state node) (WouldMove made.state node) (without_frame ws made.statuses) (λ w h. h.0) (pass_waits limit s node ws some)
 
--- a page that would move to one node would move to another, by the tests of both
+-- a page that would move to one_request node would move to another, by the tests of both
 moves_by_tests : (node next : ℕ) (p : Page) (frame : ℕ) (here there kept pinned : Bool)
     → ((page : Page) × (from : ℕ) × ((if here then Status (pos node) else (if kept then Status (code Eacces) else (if pinned then Status (code Ebusy) else Move p frame))) ≡ Move page from))
     → ((if there then Status (pos next) else (if kept then Status (code Eacces) else (if pinned then Status (code Ebusy) else Move p frame))) ≡ Status (pos next) → ⊥)
@@ -298,10 +298,10 @@ fail_after (w ∷ ws) n =
 all_fail : (ws : List Wanted) → failures (no_frame ws) ≡ length ws
 all_fail ws = let e : 0 + length ws ≡ length ws = omega arith in fail_after ws 0 ∙ e
 
-each_fails : (s : State) (node : ℕ) (ws : List Wanted) → free_list s node ≡ [] → AllByRecursion (WouldMove s node) ws → each s node ws ≡ record { state = s; statuses = no_frame ws; taken = [] }
+each_fails : (s : State) (node : ℕ) (ws : List Wanted) → free_list s node ≡ [] → AllByRecursion (WouldMove s node) ws → each_request s node ws ≡ record { state = s; statuses = no_frame ws; taken = [] }
 each_fails s node [] none h = refl
 each_fails s node (w ∷ ws) none h =
-    let short : one s node w ≡ record { state = s; status = code Enomem; taken = [] } = ap (decided s node) h.0.2 ∙ ap (moved_page s node h.0.0 h.0.1) none in
+    let short : one_request s node w ≡ record { state = s; status = code Enomem; taken = [] } = ap (decision s node) h.0.2 ∙ ap (moved_page s node h.0.0 h.0.1) none in
     let add : Progress → Progress = λ rest. record { state = rest.state; statuses = code Enomem ∷ rest.statuses; taken = rest.taken } in
     ap (then_each node ws) short ∙ ap add (each_fails s node ws none h.1)
 
@@ -309,28 +309,28 @@ each_fails s node (w ∷ ws) none h =
 abbrev then_run : Progress → Ran
 then_run moves =
     record {
-      state = counted (with_all_free moves.state (left moves.taken)) (length moves.taken) (failures moves.statuses);
+      state = with_counts (with_all_free moves.state (left moves.taken)) (length moves.taken) (failures moves.statuses);
       statuses = moves.statuses;
       answers = [] ∷ [];
     }
 
-run_fails : (s : State) (node : ℕ) (ws : List Wanted) → free_list s node ≡ [] → AllByRecursion (WouldMove s node) ws → run s node ws [] ≡ record { state = counted s 0 (length ws); statuses = no_frame ws; answers = [] ∷ [] }
+run_fails : (s : State) (node : ℕ) (ws : List Wanted) → free_list s node ≡ [] → AllByRecursion (WouldMove s node) ws → run s node ws [] ≡ record { state = with_counts s 0 (length ws); statuses = no_frame ws; answers = [] ∷ [] }
 run_fails s node ws none h =
-    let total : ℕ → Ran = λ n. record { state = counted s 0 n; statuses = no_frame ws; answers = [] ∷ [] } in
+    let total : ℕ → Ran = λ n. record { state = with_counts s 0 n; statuses = no_frame ws; answers = [] ∷ [] } in
     ap then_run (each_fails s node ws none h) ∙ ap total (all_fail ws)
 
-counted_again : (s : State) (n m : ℕ) → counted (counted s 0 n) 0 m ≡ counted s 0 (n + m)
+counted_again : (s : State) (n m : ℕ) → with_counts (with_counts s 0 n) 0 m ≡ with_counts s 0 (n + m)
 counted_again s n m =
-    let moved : added (added s.moved 0) 0 ≡ added s.moved 0 = omega arith in
-    let failed : added (added s.failed n) m ≡ added s.failed (n + m) = omega arith in
-    ap (λ x. record s { moved = x; failed = added (added s.failed n) m }) moved ∙ ap (λ x. record s { moved = added s.moved 0; failed = x }) failed
+    let moved : total_after (total_after s.moved 0) 0 ≡ total_after s.moved 0 = omega arith in
+    let failed : total_after (total_after s.failed n) m ≡ total_after s.failed (n + m) = omega arith in
+    ap (λ x. record s { moved = x; failed = total_after (total_after s.failed n) m }) moved ∙ ap (λ x. record s { moved = total_after s.moved 0; failed = x }) failed
 
 -- this many have failed, and these of them last
 abbrev Fail : State → ℕ → List Wanted → Ran → Type 0
-Fail s n ws made = (made.state ≡ counted s 0 n) × (made.statuses ≡ no_frame ws)
+Fail s n ws made = (made.state ≡ with_counts s 0 n) × (made.statuses ≡ no_frame ws)
 
-then_fail : (k : ℕ) (s t : State) (node n m : ℕ) (ws : List Wanted) (wss : List (List Wanted)) → run t node ws [] ≡ record { state = counted s 0 n; statuses = no_frame ws; answers = [] ∷ [] }
-    → Fail s m (flat wss) (runs_from (k + 1) (counted s 0 n) (to_node node wss) []) → Fail s m (ws ++ flat wss) (runs_from k t (to_node node (ws ∷ wss)) [])
+then_fail : (k : ℕ) (s t : State) (node n m : ℕ) (ws : List Wanted) (wss : List (List Wanted)) → run t node ws [] ≡ record { state = with_counts s 0 n; statuses = no_frame ws; answers = [] ∷ [] }
+    → Fail s m (flat wss) (runs_from (k + 1) (with_counts s 0 n) (to_node node wss) []) → Fail s m (ws ++ flat wss) (runs_from k t (to_node node (ws ∷ wss)) [])
 then_fail k s t node n m ws wss first rest =
     let after : Ran → Ran = λ now. runs_from (k + 1) now.state (to_node node wss) [] in (
       ap (λ (now : Ran). (after now).state) first ∙ rest.0,
@@ -341,11 +341,11 @@ all_front : (P : Wanted → Type 0) (xs ys : List Wanted) → AllByRecursion P (
 all_front P [] ys h = (tt, h)
 all_front P (x ∷ xs) ys h = let rest = all_front P xs ys h.1 in ((h.0, rest.0), rest.1)
 
-runs_fail : (k : ℕ) (s : State) (node n : ℕ) (wss : List (List Wanted)) → free_list s node ≡ [] → AllByRecursion (WouldMove s node) (flat wss) → Fail s (n + length (flat wss)) (flat wss) (runs_from k (counted s 0 n) (to_node node wss) [])
-runs_fail k s node n [] none h = let e : n ≡ n + 0 = omega arith in (ap (counted s 0) e, refl)
+runs_fail : (k : ℕ) (s : State) (node n : ℕ) (wss : List (List Wanted)) → free_list s node ≡ [] → AllByRecursion (WouldMove s node) (flat wss) → Fail s (n + length (flat wss)) (flat wss) (runs_from k (with_counts s 0 n) (to_node node wss) [])
+runs_fail k s node n [] none h = let e : n ≡ n + 0 = omega arith in (ap (with_counts s 0) e, refl)
 runs_fail k s node n (ws ∷ wss) none h =
     let parts = all_front (WouldMove s node) ws (flat wss) h in
-    let t = counted s 0 n in
+    let t = with_counts s 0 n in
     let still = all_still (WouldMove s node) (WouldMove t node) ws (λ w e. (e.0, e.1, class_counted s 0 n node w ∙ e.2)) parts.0 in
     let m = length ws in
     let count : State → Ran = λ u. record { state = u; statuses = no_frame ws; answers = [] ∷ [] } in
@@ -380,7 +380,7 @@ next_pass_takes_none limit s node next wanted some has none away =
     full_node_takes_none limit first.state next ws some has none
     (all_elsewhere_move first.state node next ws (left_would_move limit s node wanted some) away)
 
--- this many pieces hold this many, and one fewer would not
+-- this many pieces hold this many, and one_request fewer would not
 abbrev Hold : ℕ → ℕ → ℕ → Type 0
 Hold limit n k = (n ≤ k * limit) × (k * limit < n + limit)
 
@@ -401,7 +401,7 @@ pieces_hold limit (w ∷ ws) (suc n) some enough =
     let none : k * limit ≡ 0 = ap (λ l. length (pieces_in limit l n) * limit) (drop_all limit (w ∷ ws) short) ∙ omega arith in
     let both : Hold limit (length (w ∷ ws)) (suc k) = (omega (arith, one_more, short), omega (arith, one_more, none)) in both) (cases_lt limit (length (w ∷ ws)))
 
--- there is one such number
+-- there is one_request such number
 one_number : (limit n k q : ℕ) → Hold limit n k → Hold limit n q → k ≡ q
 one_number limit n k q h g =
     ⊎_elim (λ (less : k < q). let z : ⊥ = apart k q less h.0 g.1 in absurd z)

@@ -12,15 +12,15 @@ use Rattle.nm_types.specs.declared.request.Wanted.{Wanted}
 use Rattle.nm_model.specs.definitions.Status.{status_or_move}
 use Rattle.nm_model.specs.definitions.Seen.{sight_at}
 use Rattle.nm_model.specs.definitions.Touch.{Access, Read, Write, Held, Answered, access, touch, read_after, write_after, with_bytes}
-use Rattle.nm_model.specs.definitions.Touch.{is_held, spot_of_access, in_flight, all_in_flight}
+use Rattle.nm_model.specs.definitions.Touch.{is_held, site_of_access, in_flight, all_in_flight}
 use Rattle.nm_laws.proofs.Early.Seen.{Shows, touch_shows}
-use Rattle.nm_model.specs.definitions.Run.{one, each, run, decided, moved_page, with_free, with_all_free, left}
+use Rattle.nm_model.specs.definitions.Run.{one_request, each_request, run, decision, moved_page, with_free, with_all_free, left}
 
-each_length : (s : State) (target : ℕ) (ws : List Wanted) → length (each s target ws).statuses ≡ length ws
+each_length : (s : State) (target : ℕ) (ws : List Wanted) → length (each_request s target ws).statuses ≡ length ws
 each_length s target [] = refl
-each_length s target (w ∷ ws) = ap suc (each_length (one s target w).state target ws)
+each_length s target (w ∷ ws) = ap suc (each_length (one_request s target w).state target ws)
 
--- a run gives a status for each request
+-- a run gives a status for each_request request
 pub run_length : (s : State) (target : ℕ) (ws : List Wanted) (accesses : List Access) → length (run s target ws accesses).statuses ≡ length ws
 run_length s target ws accesses = each_length s target ws
 
@@ -28,13 +28,13 @@ moved_layout : (s : State) (target : ℕ) (page : Page) (from : ℕ) (free : Lis
 moved_layout s target page from [] = refl
 moved_layout s target page from (frame ∷ rest) = refl
 
-decided_layout : (s : State) (target : ℕ) (class : Class) → (decided s target class).state.layout ≡ s.layout
+decided_layout : (s : State) (target : ℕ) (class : Class) → (decision s target class).state.layout ≡ s.layout
 decided_layout s target (Status status) = refl
 decided_layout s target (Move page from) = moved_layout s target page from (free_list s target)
 
-pub each_layout : (s : State) (target : ℕ) (ws : List Wanted) → (each s target ws).state.layout ≡ s.layout
+pub each_layout : (s : State) (target : ℕ) (ws : List Wanted) → (each_request s target ws).state.layout ≡ s.layout
 each_layout s target [] = refl
-each_layout s target (w ∷ ws) = each_layout (one s target w).state target ws ∙ decided_layout s target (status_or_move s target w)
+each_layout s target (w ∷ ws) = each_layout (one_request s target w).state target ws ∙ decided_layout s target (status_or_move s target w)
 
 freed_layout : (s : State) (frames : List ℕ) → (with_all_free s frames).layout ≡ s.layout
 freed_layout s [] = refl
@@ -67,11 +67,11 @@ flight_layout : (moved : List Page) (accesses : List Access) (s : State) → (al
 flight_layout moved [] s = refl
 flight_layout moved (a ∷ accesses) s =
     flight_layout moved accesses (in_flight s moved a).state
-    ∙ elim (is_held moved (spot_of_access s a)) as (λ b. (state_of (if b then record { state = s; answer = Held } else access s a)).layout ≡ s.layout) [ true ↦ refl | false ↦ access_layout s a ]
+    ∙ elim (is_held moved (site_of_access s a)) as (λ b. (state_of (if b then record { state = s; answer = Held } else access s a)).layout ≡ s.layout) [ true ↦ refl | false ↦ access_layout s a ]
 
 -- a run keeps the nodes
 pub run_layout : (s : State) (target : ℕ) (ws : List Wanted) (accesses : List Access) → (run s target ws accesses).state.layout ≡ s.layout
 run_layout s target ws accesses =
-    let moves = each s target ws in
+    let moves = each_request s target ws in
     let moved = map (λ t. t.page) moves.taken in
     freed_layout (all_in_flight moves.state moved accesses).state (left moves.taken) ∙ flight_layout moved accesses moves.state ∙ each_layout s target ws

@@ -17,7 +17,7 @@ use Rattle.nm_types.specs.declared.located.Located.{Located}
 use Rattle.nm_model.specs.definitions.Effect.{with_areas_of}
 use Rattle.nm_model.specs.definitions.Run.{IsByAddress, HasOneAll}
 use Rattle.nm_calls.specs.Passes.{passes}
-use Rattle.nm_calls.specs.Binding.{spots, each_to, nodes_tried, runs_by}
+use Rattle.nm_calls.specs.Binding.{requests_at, each_to, nodes_tried, runs_by}
 use Rattle.nm_calls.specs.Making.{nodes_named}
 use Rattle.nm_calls.proofs.Lists.{of_member}
 
@@ -72,20 +72,20 @@ turns_alike pid all ts = inl (all, each ts)
     each [] = tt
     each (t ∷ ts) = (refl, each ts)
 
-pub spots_alike : (pid : ℕ) (all : Bool) (ls : List Located) → HasOneAll (spots pid all ls)
+pub spots_alike : (pid : ℕ) (all : Bool) (ls : List Located) → HasOneAll (requests_at pid all ls)
 spots_alike pid all ls = inl (all, each ls)
   where
-    each : (ls : List Located) → AllByRecursion (IsByAddress all) (spots pid all ls)
+    each : (ls : List Located) → AllByRecursion (IsByAddress all) (requests_at pid all ls)
     each [] = tt
     each (l ∷ ls) = (refl, each ls)
 
-pub spots_length : (pid : ℕ) (all : Bool) (ls : List Located) → length (spots pid all ls) ≡ length ls
+pub spots_length : (pid : ℕ) (all : Bool) (ls : List Located) → length (requests_at pid all ls) ≡ length ls
 spots_length pid all [] = refl
 spots_length pid all (l ∷ ls) = ap suc (spots_length pid all ls)
 
 -- a policy other than INTERLEAVE has passes, whatever the areas
 pub passes_by : (s : State) (m : Mapped) (limit : ℕ) (policy : Policy) (home pid : ℕ) (all : Bool) (pages : List Located) → ((nodes : List ℕ) → policy ≡ Interleave nodes → ⊥)
-    → passes limit (with_areas_of s m) (nodes_tried s home policy) (spots pid all pages) ≡ runs_by limit (with_areas_of s m) policy home pid all pages
+    → passes limit (with_areas_of s m) (nodes_tried s home policy) (requests_at pid all pages) ≡ runs_by limit (with_areas_of s m) policy home pid all pages
 passes_by s m limit Default home pid all pages h = refl
 passes_by s m limit (Preferred node) home pid all pages h = refl
 passes_by s m limit (Bind nodes) home pid all pages h = refl

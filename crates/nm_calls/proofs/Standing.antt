@@ -27,7 +27,7 @@ use Rattle.nm_model.specs.definitions.Seen.{is_pinned, page_seen}
 use Rattle.nm_model.specs.definitions.Status.{code, others_see, page_status, seen_status}
 use Rattle.nm_model.specs.definitions.Status.{node_or_error, node_status}
 use Rattle.nm_model.specs.definitions.Touch.{has_free}
-use Rattle.nm_model.specs.definitions.Run.{counted}
+use Rattle.nm_model.specs.definitions.Run.{with_counts}
 use Rattle.nm_calls.specs.Full.{StandsOn, StandAmong, EachHasSome, AreStanding, HasFailed, WouldMove}
 use Rattle.nm_calls.proofs.Full.{class_counted, all_elsewhere_move}
 use Rattle.nm_calls.proofs.Passing.{nothing_is}
@@ -135,24 +135,24 @@ none_free s node h = nothing_is (free_list s node) (length (free_list s node)) r
     not_false true e = refl
     not_false false e = cc
 
--- failures that are counted change nothing of this
-among_counted : (s : State) (m n : ℕ) (nodes : List ℕ) (ws : List Wanted) → StandAmong s nodes ws → StandAmong (counted s m n) nodes ws
+-- failures that are with_counts change nothing of this
+among_counted : (s : State) (m n : ℕ) (nodes : List ℕ) (ws : List Wanted) → StandAmong s nodes ws → StandAmong (with_counts s m n) nodes ws
 among_counted s m n nodes ws among k d lt node few on =
     let w = get_or ws k d in
     among k d lt node few (sym (class_counted s m n node w) ∙ on)
 
-pub some_counted : (s : State) (m n : ℕ) (nodes : List ℕ) (ws : List Wanted) → EachHasSome s nodes ws → EachHasSome (counted s m n) nodes ws
+pub some_counted : (s : State) (m n : ℕ) (nodes : List ℕ) (ws : List Wanted) → EachHasSome s nodes ws → EachHasSome (with_counts s m n) nodes ws
 some_counted s m n nodes ws some = λ node h.
     let one = some node h in
     (one.0, one.1, one.2, one.3, class_counted s m n node one.1 ∙ one.4)
 
-pub standing_counted : (s : State) (m n : ℕ) (nodes : List ℕ) (ws : List Wanted) → AreStanding s nodes ws → AreStanding (counted s m n) nodes ws
+pub standing_counted : (s : State) (m n : ℕ) (nodes : List ℕ) (ws : List Wanted) → AreStanding s nodes ws → AreStanding (with_counts s m n) nodes ws
 standing_counted s m n nodes ws are = record {
   all = among_counted s m n nodes ws are.all;
   some = some_counted s m n nodes ws are.some;
 }
 
-pub move_counted : (s : State) (m n node : ℕ) (ws : List Wanted) → AllByRecursion (WouldMove s node) ws → AllByRecursion (WouldMove (counted s m n) node) ws
+pub move_counted : (s : State) (m n node : ℕ) (ws : List Wanted) → AllByRecursion (WouldMove s node) ws → AllByRecursion (WouldMove (with_counts s m n) node) ws
 move_counted s m n node [] h = tt
 move_counted s m n node (w ∷ ws) h =
     ((h.0.0, h.0.1, class_counted s m n node w ∙ h.0.2), move_counted s m n node ws h.1)

@@ -8,7 +8,7 @@ use Rattle.nm_types.specs.declared.request.Wanted.{Wanted}
 use Rattle.nm_types.specs.declared.request.Wanted.TheVariants.{At as Spot, Whole}
 use Rattle.nm_model.specs.definitions.Status.{status_or_move}
 use Rattle.nm_model.specs.definitions.Cut.{Stretch, all_to}
-use Rattle.nm_model.specs.definitions.Run.{Decision, moved_page, decided, one, Progress, each, with_free, with_all_free, left, failures, counted, Ran, run}
+use Rattle.nm_model.specs.definitions.Run.{Decision, moved_page, decision, one_request, Progress, each_request, with_free, with_all_free, left, failures, with_counts, Ran, run}
 use Rattle.nm_model.specs.definitions.Run.{runs_from}
 use Rattle.nm_model.specs.definitions.Cut.{cut_within}
 use Rattle.nm_calls.specs.Passes.{without_frame, passes}
@@ -31,24 +31,24 @@ moved_same : (online : List ℕ) (s : State) (target : ℕ) (page : Page) (from 
 moved_same online s target page from [] = refl
 moved_same online s target page from (frame ∷ rest) = refl
 
-decided_same : (online : List ℕ) (s : State) (target : ℕ) (c : Class) → decided (with_online online s) target c ≡ decision_with online (decided s target c)
+decided_same : (online : List ℕ) (s : State) (target : ℕ) (c : Class) → decision (with_online online s) target c ≡ decision_with online (decision s target c)
 decided_same online s target (Status status) = refl
 decided_same online s target (Move page from) = moved_same online s target page from (free_list s target)
 
-one_same : (online : List ℕ) (s : State) (target : ℕ) (w : Wanted) → one (with_online online s) target w ≡ decision_with online (one s target w)
+one_same : (online : List ℕ) (s : State) (target : ℕ) (w : Wanted) → one_request (with_online online s) target w ≡ decision_with online (one_request s target w)
 one_same online s target w =
-    ap (decided (with_online online s) target) (class_same online s target w) ∙ decided_same online s target (status_or_move s target w)
+    ap (decision (with_online online s) target) (class_same online s target w) ∙ decided_same online s target (status_or_move s target w)
 
 -- what follows a request
 abbrev then_each : ℕ → List Wanted → Decision → Progress
 then_each target ws now =
-    let rest = each now.state target ws in
+    let rest = each_request now.state target ws in
     record { state = rest.state; statuses = now.status ∷ rest.statuses; taken = now.taken ++ rest.taken }
 
-each_same : (online : List ℕ) (s : State) (target : ℕ) (ws : List Wanted) → each (with_online online s) target ws ≡ progress_with online (each s target ws)
+each_same : (online : List ℕ) (s : State) (target : ℕ) (ws : List Wanted) → each_request (with_online online s) target ws ≡ progress_with online (each_request s target ws)
 each_same online s target [] = refl
 each_same online s target (w ∷ ws) =
-    let now = one s target w in
+    let now = one_request s target w in
     let add : Progress → Progress = λ rest. record { state = rest.state; statuses = now.status ∷ rest.statuses; taken = now.taken ++ rest.taken } in
     ap (then_each target ws) (one_same online s target w) ∙ ap add (each_same online now.state target ws)
 
@@ -60,15 +60,15 @@ freed_same online s (frame ∷ frames) = freed_same online (with_free s frame) f
 abbrev then_run : Progress → Ran
 then_run moves =
     record {
-      state = counted (with_all_free moves.state (left moves.taken)) (length moves.taken) (failures moves.statuses);
+      state = with_counts (with_all_free moves.state (left moves.taken)) (length moves.taken) (failures moves.statuses);
       statuses = moves.statuses;
       answers = [] ∷ [];
     }
 
 run_same : (online : List ℕ) (s : State) (target : ℕ) (ws : List Wanted) → run (with_online online s) target ws [] ≡ ran_with online (run s target ws [])
 run_same online s target ws =
-    let moves = each s target ws in
-    let total : State → Ran = λ t. record { state = counted t (length moves.taken) (failures moves.statuses); statuses = moves.statuses; answers = [] ∷ [] } in
+    let moves = each_request s target ws in
+    let total : State → Ran = λ t. record { state = with_counts t (length moves.taken) (failures moves.statuses); statuses = moves.statuses; answers = [] ∷ [] } in
     ap then_run (each_same online s target ws) ∙ ap total (freed_same online moves.state (left moves.taken))
 
 -- what follows a run

@@ -13,10 +13,10 @@ use Rattle.nm_calls.specs.Permission.{owner_of, info_at, query_refusal}
 use Rattle.std.specs.Prelude.{◌≡◌, ◌<◌, ◌==◌, count_by, [], ◌∷◌, ◌++◌, take, drop, length, slice_index_or, slice_set, Vec}
 use Rattle.std.specs.declared.vec.IntoIter.{IntoIter}
 use Rattle.nm_types.specs.declared.access.Access.{Access as Asked}
-use Rattle.nm_engine.specs.declared.answered.AccessAnswer.{AccessAnswer as Given}
+use Rattle.nm_engine.specs.declared.answers.AccessAnswer.{AccessAnswer as Given}
 use Rattle.nm_model.specs.definitions.Touch.{Access, AccessAnswer}
 use Rattle.nm_model.specs.views.Asked.{access_shown}
-use Rattle.nm_engine.specs.Answering.{answer_shown}
+use Rattle.nm_engine.specs.views.Accesses.{answer_shown}
 use Rattle.nm_model.specs.definitions.Run.{accesses_of}
 
 -- the nodes that a process may use, if it exists

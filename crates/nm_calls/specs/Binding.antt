@@ -91,8 +91,8 @@ abbrev pub strays_between : State → ℕ → ℕ → ℕ → Policy → List Lo
 strays_between s pid first end policy = filter (λ l. not (follows policy l.node)) (located_between s pid first end)
 
 -- the pages seen in the range that do not follow the policy, in address order, each at its lowest address
-abbrev pub astray : State → Binding → List Located
-astray s b = once (strays_between s b.pid b.first b.end b.policy)
+abbrev pub stray_pages : State → Binding → List Located
+stray_pages s b = once (strays_between s b.pid b.first b.end b.policy)
 
 -- the nodes that a process may use; none if there is no such process
 abbrev pub allowed_to : Option ProcessInfo → List ℕ
@@ -121,7 +121,7 @@ mode_refusal s (Some caller) mode nodes flags =
 
 -- whether MPOL_MF_STRICT is given without a flag to move, and a page does not follow the policy
 abbrev pub is_strictly_refused : State → Binding → ℕ → Bool
-is_strictly_refused s b flags = is_strict flags && not (moves flags) && not (length (astray s b) == 0)
+is_strictly_refused s b flags = is_strict flags && not (moves flags) && not (length (stray_pages s b) == 0)
 
 -- EINVAL: a bad address or length; EFAULT: a page without an area; EIO: a page that does not follow the policy
 abbrev pub range_refusal : State → ℕ → ℕ → ℕ → Policy → ℕ → Option Errno
@@ -136,10 +136,10 @@ mbind_refusal s caller address len mode nodes flags =
     earlier (mode_refusal s (info_at s caller) mode nodes flags) (range_refusal s caller address len policy flags)
 
 -- requests for pages, each at the page number where a process sees it
-abbrev pub spots : ℕ → Bool → List Located → List Wanted
-spots pid all pages = map (λ l. At pid l.vpn all) pages
+abbrev pub requests_at : ℕ → Bool → List Located → List Wanted
+requests_at pid all pages = map (λ l. At pid l.vpn all) pages
 
--- pages, as strays
+-- pages, as is_stray
 abbrev pub strays_of : List Located → List Stray
 strays_of pages = map (λ l. record { vpn = l.vpn; page = l.page }) pages
 
@@ -159,11 +159,11 @@ nodes_tried s home Local = []
 abbrev pub runs_by : ℕ → State → Policy → ℕ → ℕ → Bool → List Located → List Stretch
 runs_by limit s (Interleave nodes) home pid all pages =
     cut_within limit (each_to pid all (by_turns nodes (strays_of pages)))
-runs_by limit s policy home pid all pages = passes limit s (nodes_tried s home policy) (spots pid all pages)
+runs_by limit s policy home pid all pages = passes limit s (nodes_tried s home policy) (requests_at pid all pages)
 
 -- the pages to move: none without a flag to move
 abbrev pub listed : State → Binding → ℕ → List Located
-listed s b flags = if moves flags then astray s b else []
+listed s b flags = if moves flags then stray_pages s b else []
 
 -- the runs of a call
 abbrev pub mbind_runs : ℕ → State → Binding → ℕ → List Stretch
@@ -171,17 +171,17 @@ mbind_runs limit s b flags =
     runs_by limit s b.policy (home_of (info_at s b.pid)) b.pid (moves_all flags) (listed s b flags)
 
 -- whether a listed page, where it is in this state, does not follow the policy
-abbrev pub strays : State → Policy → Located → Bool
-strays s policy l =
+abbrev pub is_stray : State → Policy → Located → Bool
+is_stray s policy l =
     unwrap_or (option_map (λ frame. not (follows policy (node_of s.layout frame))) (get page_cmp s.place l.page)) false
 
 -- whether a page that did not follow the policy before the moves does not follow it after them
-abbrev pub still_strays : State → State → Binding → Bool
-still_strays old new b = list_any (strays new b.policy) (astray old b)
+abbrev pub has_stray : State → State → Binding → Bool
+has_stray old new b = list_any (is_stray new b.policy) (stray_pages old b)
 
 -- no page is listed twice
 abbrev pub NoStrayIsListedTwice : Type 0
-NoStrayIsListedTwice = (s : State) (b : Binding) → IsDistinct same_page (map (λ l. l.page) (astray s b))
+NoStrayIsListedTwice = (s : State) (b : Binding) → IsDistinct same_page (map (λ l. l.page) (stray_pages s b))
 
 -- whether the flags ask for moves, and for an error if a page does not follow after them
 abbrev pub tells_late : ℕ → Bool

@@ -9,7 +9,7 @@ use Rattle.nm_types.specs.declared.request.Wanted.{Wanted}
 use Rattle.nm_model.specs.definitions.Status.{status_or_move}
 use Rattle.nm_model.specs.definitions.Cut.{all_to}
 use Rattle.nm_model.specs.definitions.Cut.{cut_within}
-use Rattle.nm_model.specs.definitions.Run.{Ran, counted}
+use Rattle.nm_model.specs.definitions.Run.{Ran, with_counts}
 use Rattle.nm_model.specs.definitions.Run.{runs_from}
 use Rattle.nm_calls.specs.Passes.{without_frame}
 
@@ -36,7 +36,7 @@ FullNodeTakesNone =
     (limit : ℕ) (s : State) (node : ℕ) (wanted : List Wanted) → 0 < limit → 0 < length wanted → free_list s node ≡ []
     → AllByRecursion (WouldMove s node) wanted →
     let made = pass limit s node wanted in
-    (made.state ≡ counted s 0 (length wanted)) × (without_frame wanted made.statuses ≡ wanted)
+    (made.state ≡ with_counts s 0 (length wanted)) × (without_frame wanted made.statuses ≡ wanted)
 
 -- the pages that a pass leaves without a frame would still move to its node
 abbrev pub LeftWouldMove : Type 0
@@ -64,7 +64,7 @@ NextPassTakesNone =
     let left = without_frame wanted first.statuses in
     0 < length left → free_list first.state next ≡ [] → AllByRecursion (λ w. StandsOn first.state next w → ⊥) left →
     let made = pass limit first.state next left in
-    (made.state ≡ counted first.state 0 (length left)) × (without_frame left made.statuses ≡ left)
+    (made.state ≡ with_counts first.state 0 (length left)) × (without_frame left made.statuses ≡ left)
 
 -- a pass has found no free frame for any of these
 abbrev pub HasFailed : State → List Wanted → Type 0

@@ -18,7 +18,7 @@ use Rattle.nm_calls.specs.declared.call_error.CallError.{CallError}
 use Rattle.nm_calls.specs.declared.call_error.CallError.TheVariants.{Refused, HostMemory}
 use Rattle.nm_calls.specs.Passes.{passes}
 use Rattle.nm_calls.specs.Full.{HasFailed, AreStanding}
-use Rattle.nm_calls.specs.Binding.{still_strays, tells_late}
+use Rattle.nm_calls.specs.Binding.{has_stray, tells_late}
 use Rattle.nm_calls.specs.Offlining.{still_on}
 use Rattle.nm_calls.specs.Outcome.{states_of}
 
@@ -74,7 +74,7 @@ IsCounted (HostMemory k policy_set) made = made + k < 2 ^ 64
 abbrev pub Fails : CallError → State → State → State → Binding → List Stretch → ℕ → Type 0
 Fails (Refused e) old set new b runs flags =
     let made = runs_from 0 set runs [] in
-    ((tells_late flags && still_strays old made.state b) ≡ true) × (e ≡ Eio) × (new ≡ made.state)
+    ((tells_late flags && has_stray old made.state b) ≡ true) × (e ≡ Eio) × (new ≡ made.state)
 Fails (HostMemory k policy_set) old set new b runs flags =
     ((k ≡ 0) × (policy_set ≡ false) × (new ≡ old)) ⊎ Stops true (HostMemory k policy_set) set new runs
 
@@ -82,7 +82,7 @@ Fails (HostMemory k policy_set) old set new b runs flags =
 abbrev pub Binds : {T : Type 0} → Result T CallError → State → State → State → Binding → List Stretch → ℕ → Type 0
 Binds (Ok done) old set new b runs flags =
     let made = runs_from 0 set runs [] in
-    ((tells_late flags && still_strays old made.state b) ≡ false) × (new ≡ made.state)
+    ((tells_late flags && has_stray old made.state b) ≡ false) × (new ≡ made.state)
 Binds (Err e) old set new b runs flags = Fails e old set new b runs flags
 
 -- a page stays; or the host runs out of memory, before the first run or for one of the runs

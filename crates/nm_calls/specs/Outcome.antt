@@ -4,7 +4,7 @@ use Rattle.nm_types.specs.declared.errno.Errno.{Errno}
 use Rattle.nm_types.specs.State.{State, free_list}
 use Rattle.nm_model.specs.definitions.Cut.{Stretch}
 use Rattle.nm_model.specs.definitions.Cut.{cut_within}
-use Rattle.nm_model.specs.definitions.Touch.{Access, read, write, spot_refusal}
+use Rattle.nm_model.specs.definitions.Touch.{Access, read, write, site_refusal}
 use Rattle.nm_model.specs.definitions.Touch as engine
 use Rattle.nm_model.specs.definitions.Effect.{set_online, spawn, map_new, attach, unmap, exit, pin, unpin}
 use Rattle.nm_model.specs.definitions.Effect.{spawn_refusal, map_refusal, attach_refusal, unmap_refusal, exit_refusal, pin_refusal, unpin_refusal, list_refusal, entries_refusal}
@@ -21,7 +21,7 @@ use Rattle.nm_types.specs.declared.errno.Errno.TheVariants.{Eio, Ebusy}
 use Rattle.nm_calls.specs.Batch.{move_refusal, requests_of}
 use Rattle.nm_calls.specs.Batch.{runs_named, in_order}
 use Rattle.nm_calls.specs.Migrating.{migrate_refusal, migration}
-use Rattle.nm_calls.specs.Binding.{mbind_refusal, policed, binding, mbind_runs, still_strays, tells_late}
+use Rattle.nm_calls.specs.Binding.{mbind_refusal, policed, binding, mbind_runs, has_stray, tells_late}
 use Rattle.nm_calls.specs.Offlining.{offline_refusal, offline_runs, still_on, online_refusal}
 use Rattle.nm_calls.specs.Systems.{SystemState, in_state}
 
@@ -67,8 +67,8 @@ refused s (NumaMaps pid) = entries_refusal s pid
 
 -- the refusals that a call checks before it allocates: all except the lack of a free frame for an access
 unfoldable pub refused_at_once : State → Call → Option Errno
-refused_at_once s (ReadBytes pid addr len) = spot_refusal s pid addr len
-refused_at_once s (WriteBytes pid addr bytes) = spot_refusal s pid addr (length bytes)
+refused_at_once s (ReadBytes pid addr len) = site_refusal s pid addr len
+refused_at_once s (WriteBytes pid addr bytes) = site_refusal s pid addr (length bytes)
 refused_at_once s call = refused s call
 
 -- the state before the first run of a call that is not refused, with the policy of mbind set
@@ -135,7 +135,7 @@ ended y (MigratePages caller pid old new) made = leaves y (Failed (answer_of mad
 ended y (Query caller pid pages flags) made =
     leaves y (Statuses 0 (statuses_of y.state (owner_of caller pid) pages) []) y.state
 ended y (Mbind caller addr len mode nodes flags) made =
-    let strays = still_strays y.state made.state (binding y.state caller addr len mode nodes) in
+    let strays = has_stray y.state made.state (binding y.state caller addr len mode nodes) in
     leaves y (late_answer (tells_late flags && strays)) made.state
 ended y (Offline node) made = emptied y node made.state (still_on y.state made.state node)
 ended y (Online node) made = leaves y Done (set_online y.state node true)

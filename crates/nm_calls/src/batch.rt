@@ -14,7 +14,7 @@ ghost use Rattle.nm_calls.specs.Does.{Moves};
 ghost use Rattle.nm_steps.specs.Views.{shown_during};
 ghost use Rattle.nm_calls.specs.Batch.{runs_named, in_order, left_shown, AreByRun};
 ghost use Rattle.nm_model.specs.views.Asked.{access_shown};
-ghost use Rattle.nm_engine.specs.Answering.{answer_shown};
+ghost use Rattle.nm_engine.specs.views.Accesses.{answer_shown};
 
 use crate::answer::Moved;
 use crate::call_error::CallError;

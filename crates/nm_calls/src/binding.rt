@@ -7,7 +7,7 @@ ghost use Rattle.nm_runs.specs.Targets.{Checks};
 ghost use Rattle.nm_model.specs.definitions.Effect.{policy_refusal, set_policy};
 ghost use Rattle.nm_calls.specs.Permission.{info_at};
 ghost use Rattle.nm_calls.specs.Permission.{usable};
-ghost use Rattle.nm_calls.specs.Binding.{preferred, policy_of, is_misfit, is_bad_set, moves, astray, strays, mode_refusal, range_of, range_refusal, allowed_to, home_of, is_strict, listed, mbind_runs, mbind_refusal, binding};
+ghost use Rattle.nm_calls.specs.Binding.{preferred, policy_of, is_misfit, is_bad_set, moves, stray_pages, is_stray, mode_refusal, range_of, range_refusal, allowed_to, home_of, is_strict, listed, mbind_runs, mbind_refusal, binding};
 ghost use Rattle.nm_calls.specs.Making.{nodes_named, Binds};
 
 use crate::call_error::CallError;
@@ -247,7 +247,7 @@ fn is_late<A: Allocator + Copy + Send + Sync>(
     pages: &[Located],
     flags: MoveFlags,
 ) -> bool
-    ensures { result ≡ (is_strict flags && list_any (strays machine.now policy.now) pages.now) }
+    ensures { result ≡ (is_strict flags && list_any (is_stray machine.now policy.now) pages.now) }
 {
     flags.is_strict() && some_stray(machine, policy, pages)
 }

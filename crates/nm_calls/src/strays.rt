@@ -3,7 +3,7 @@
 ghost use Rattle.std.specs.Prelude.{◌≡◌, ◌+◌, ◌-◌, ◌<◌, ◌≤◌, not, [], ◌∷◌, IfOk, IfSome, IfNone, None, length};
 ghost use Rattle.std.specs.List.{filter, list_any};
 ghost use Rattle.nm_model.specs.definitions.Order.{follows};
-ghost use Rattle.nm_calls.specs.Binding.{strays_between, once, astray, strays, binding};
+ghost use Rattle.nm_calls.specs.Binding.{strays_between, once, stray_pages, is_stray, binding};
 
 use crate::binding::Binding;
 use nm_engine::{Located, Machine};
@@ -51,7 +51,7 @@ fn strays_among<A: Allocator + Copy>(
     pages: &[Located],
 ) -> Result<Vec<Located, A>, AllocError>
     ensures { IfOk result
-        (λ strays. strays.items
+        (λ is_stray. is_stray.items
         ≡ filter (λ (page : Located). not (follows policy.now page.node)) pages.now) }
 {
     pages
@@ -83,7 +83,7 @@ pub(crate) fn astray<A: Allocator + Copy + Send + Sync>(
     machine: &Machine<A>,
     binding: Binding,
 ) -> Result<Vec<Located, A>, AllocError>
-    ensures list { IfOk result (λ pages. pages.items ≡ astray machine.now binding) }
+    ensures list { IfOk result (λ pages. pages.items ≡ stray_pages machine.now binding) }
     ensures few { IfOk result (λ pages. length pages.items ≤ binding.end - binding.first) }
 {
     let Binding {
@@ -103,7 +103,7 @@ fn strays_now<A: Allocator + Copy + Send + Sync>(
     policy: &Policy,
     found: &Located,
 ) -> bool
-    ensures { result ≡ strays machine.now policy.now found.now }
+    ensures { result ≡ is_stray machine.now policy.now found.now }
 {
     match machine.node_of_page(found.page) {
         Some(node) => !follows(*policy, node),
@@ -117,7 +117,7 @@ pub(crate) fn some_stray<A: Allocator + Copy + Send + Sync>(
     policy: &Policy,
     pages: &[Located],
 ) -> bool
-    ensures { result ≡ list_any (strays machine.now policy.now) pages.now }
+    ensures { result ≡ list_any (is_stray machine.now policy.now) pages.now }
 {
     pages.iter().any(|found| strays_now(machine, policy, found))
 }

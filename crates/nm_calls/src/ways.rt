@@ -10,7 +10,7 @@ ghost use Rattle.nm_types.specs.declared.request.Wanted.TheVariants.{At};
 ghost use Rattle.nm_model.specs.definitions.Areas.{Mapped};
 ghost use Rattle.nm_model.specs.definitions.Effect.{with_areas_of};
 ghost use Rattle.nm_calls.specs.Passes.{passes};
-ghost use Rattle.nm_calls.specs.Binding.{spots, strays_of, each_to, runs_by, nodes_tried, strays, binding};
+ghost use Rattle.nm_calls.specs.Binding.{requests_at, strays_of, each_to, runs_by, nodes_tried, is_stray, binding};
 ghost use Rattle.nm_calls.specs.Making.{runs_in, CanGo, nodes_named, MakesRuns};
 
 use crate::binding::Binding;
@@ -51,7 +51,7 @@ fn spots<A: Allocator + Copy>(
     all: bool,
     pages: &[Located],
 ) -> Result<Vec<Wanted, A>, AllocError>
-    ensures { IfOk result (λ wanted. wanted.items ≡ spots pid all pages.now) }
+    ensures { IfOk result (λ wanted. wanted.items ≡ requests_at pid all pages.now) }
 {
     pages
         .iter()
@@ -71,7 +71,7 @@ fn stray_of(page: &Located) -> Stray
 
 /// Pages as strays.
 fn strays_of<A: Allocator + Copy>(alloc: A, pages: &[Located]) -> Result<Vec<Stray, A>, AllocError>
-    ensures { IfOk result (λ strays. strays.items ≡ strays_of pages.now) }
+    ensures { IfOk result (λ is_stray. is_stray.items ≡ strays_of pages.now) }
 {
     pages.iter().map(|page| stray_of(page)).collect(alloc)
 }

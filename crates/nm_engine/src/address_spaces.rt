@@ -14,7 +14,7 @@ ghost use Rattle.nm_model.specs.definitions.Seen.{sight_in, look_in, look_at_pla
 ghost use Rattle.nm_runs.specs.Shown.{HasFrameBelow};
 ghost use Rattle.nm_model.specs.definitions.Effect.{info_of, untouched};
 ghost use Rattle.nm_model.specs.definitions.PageTables.{entry_of};
-ghost use Rattle.nm_engine.specs.AddressSpaces.{no_spaces, with_seen, with_new_page, pins_here, with_pins_of};
+ghost use Rattle.nm_engine.specs.views.AddressSpaces.{no_spaces, with_seen, with_new_page, pins_here, with_pins_of};
 
 mod areas;
 mod back;
@@ -40,8 +40,8 @@ pub(crate) struct AddressSpaces<A: Allocator + Copy> {
 }
 
 impl<A: Allocator + Copy> Model for AddressSpaces<A> {
-    ghost use Rattle.nm_engine.specs.AddressSpaces.{SpacesView, spaces_view};
-    ghost use Rattle.nm_engine.specs.Tied.{IsTied};
+    ghost use Rattle.nm_engine.specs.views.AddressSpaces.{SpacesView, spaces_view};
+    ghost use Rattle.nm_engine.specs.definitions.Tied.{IsTied};
 
     ghost Value = { SpacesView };
 

@@ -6,25 +6,25 @@ ghost use Rattle.nm_types.specs.Nodes.{is_in};
 ghost use Rattle.nm_model.specs.definitions.Touch.{has_free};
 ghost use Rattle.nm_model.specs.definitions.Frames.{list_of, with_list, appended, prepended};
 ghost use Rattle.std.specs.List.{AllByRecursion};
-ghost use Rattle.nm_engine.specs.Held.{AreHeld};
-ghost use Rattle.nm_engine.specs.Copies.{CanCopy, HasBoth, with_copies, emptied};
-ghost use Rattle.nm_model.specs.definitions.Early.{tos};
-ghost use Rattle.nm_engine.specs.Finishing.{all_done, CanDo};
-ghost use Rattle.nm_engine.specs.Answering.{answer_shown, due_shown, HasRoom};
+ghost use Rattle.nm_engine.specs.views.Held.{AreHeld};
+ghost use Rattle.nm_engine.specs.views.Copies.{CanCopy, HasBoth, with_copies, emptied};
+ghost use Rattle.nm_model.specs.definitions.BeforeCopy.{frames_taken};
+ghost use Rattle.nm_engine.specs.definitions.AfterCopy.{all_stored_after_copy, CanDo};
+ghost use Rattle.nm_engine.specs.views.Accesses.{answer_shown, pending_shown, HasRoom};
 ghost use Rattle.nm_model.specs.definitions.Run.{left};
 ghost use Rattle.nm_model.specs.definitions.Frames.{IsHome, bytes_of, overwrite};
 ghost use Rattle.nm_model.specs.definitions.Sound.{is_audited, numbered};
 ghost use Rattle.nm_model.specs.definitions.Frames.{all_frames};
-ghost use Rattle.nm_engine.specs.Frames.{HasAllFrames, KeepsBytes, free_on, pool_of, all_freed, CanFree, CanReturn, with_freed};
+ghost use Rattle.nm_engine.specs.views.Frames.{HasAllFrames, KeepsBytes, free_on, pool_of, all_freed, CanFree, CanReturn, with_freed};
 ghost use Rattle.nm_frames.specs.Populated.{IsPopulated};
 ghost use Rattle.nm_model.specs.definitions.Memory.{stretch_of};
 
 mod copying;
 
 use crate::address_spaces::held::HeldSpaces;
-use crate::answered::AccessAnswer;
+use crate::answers::AccessAnswer;
 use crate::audit;
-use crate::inner::due::Due;
+use crate::inner::pending_access::PendingAccess;
 use copying::copy_pages;
 use nm_crew::{Crew, Gate};
 use nm_frames::{CopyJob, FrameStore};
@@ -55,7 +55,7 @@ impl<A: Allocator + Copy> Model for Frames<A> {
     ghost use Rattle.std.specs.Prelude.{◌≡◌, [], min, vec_capacity};
     ghost use Rattle.std.specs.List.{AllByRecursion};
     ghost use Rattle.nm_frames.specs.Populated.{IsPopulated};
-    ghost use Rattle.nm_engine.specs.Frames.{FramesView, HasAllFrames};
+    ghost use Rattle.nm_engine.specs.views.Frames.{FramesView, HasAllFrames};
 
     ghost Value = { FramesView };
 
@@ -225,11 +225,11 @@ impl<A: Allocator + Copy> Frames<A> {
     /// Gives the frames that pages of moves take their bytes in memory, as far as they lack them. An error means that the
     /// host is out of memory.
     pub(crate) fn populate_each(&mut self, alloc: A, moves: &[Taken]) -> Result<(), AllocError>
-        requires { AllByRecursion (λ frame. frame < frame_count self.old.layout) (tos moves.now) }
+        requires { AllByRecursion (λ frame. frame < frame_count self.old.layout) (frames_taken moves.now) }
         ensures kept { KeepsBytes self.old.frames self.new.frames }
         ensures same { self.new ≡ record (self.old) { frames = self.new.frames } }
         ensures populated { OnOk result
-            (AllByRecursion (IsPopulated self.new.frames) (tos moves.now)) }
+            (AllByRecursion (IsPopulated self.new.frames) (frames_taken moves.now)) }
         ensures asked { OnErr result (0 < length moves.now) }
         ensures shelf { HasAllFrames self.new }
     {
@@ -286,12 +286,12 @@ impl<A: Allocator + Copy> Frames<A> {
     pub(crate) fn take_for(&mut self, node: NodeId, moves: &[Taken])
         requires node { node < node_count self.old.layout }
         requires room { length self.old.vacated + length moves.now ≤ self.old.room }
-        requires populated { AllByRecursion (IsPopulated self.old.frames) (tos moves.now) }
+        requires populated { AllByRecursion (IsPopulated self.old.frames) (frames_taken moves.now) }
         ensures taken { self.new
             ≡ record (self.old) {
               free = slice_set self.old.free node
                   (drop (length moves.now) (free_on self.old node));
-              vacated = self.old.vacated ++ tos moves.now;
+              vacated = self.old.vacated ++ frames_taken moves.now;
             } }
         ensures shelf { HasAllFrames self.old }
     {
@@ -302,11 +302,11 @@ impl<A: Allocator + Copy> Frames<A> {
     /// Puts the frames taken for these moves back at the front of the list of the node that they came from.
     pub(crate) fn give_back(&mut self, node: NodeId, moves: &[Taken])
         requires node { node < node_count self.old.layout }
-        requires can { CanReturn (pool_of self.old) node (tos moves.now) }
+        requires can { CanReturn (pool_of self.old) node (frames_taken moves.now) }
         ensures given { self.new
             ≡ record (self.old) {
               free = slice_set self.old.free node
-                  (tos moves.now ++ free_on self.old node);
+                  (frames_taken moves.now ++ free_on self.old node);
               vacated = [];
             } }
         ensures shelf { HasAllFrames self.old }
@@ -374,7 +374,7 @@ impl<A: Allocator + Copy + Send + Sync> Frames<A> {
         moves: &[Taken],
         held: &HeldSpaces<A>,
         accesses: &[Access<A>],
-        dues: Vec<Due<A>, A>,
+        dues: Vec<PendingAccess<A>, A>,
         answers: Vec<AccessAnswer<A>, A>,
     ) -> Vec<AccessAnswer<A>, A>
         // The moves
@@ -385,7 +385,7 @@ impl<A: Allocator + Copy + Send + Sync> Frames<A> {
 
         // What is left to do
         requires due { AllByRecursion (CanDo held.now.spaces.place (emptied self.old.frames moves.now))
-            (map (due_shown accesses.now) dues.items) }
+            (map (pending_shown accesses.now) dues.items) }
         requires room { AllByRecursion HasRoom dues.items }
 
         // The list for the answers
@@ -395,14 +395,14 @@ impl<A: Allocator + Copy + Send + Sync> Frames<A> {
         // Afterwards
         ensures frames { self.new
             ≡ record (self.old) {
-              frames = (all_done held.now.spaces.place
+              frames = (all_stored_after_copy held.now.spaces.place
                   (with_copies self.old.frames moves.now)
-                  (map (due_shown accesses.now) dues.items)).store;
+                  (map (pending_shown accesses.now) dues.items)).store;
               room = self.new.room;
             } }
         ensures answers { map answer_shown result.items
-            ≡ (all_done held.now.spaces.place (with_copies self.old.frames moves.now)
-            (map (due_shown accesses.now) dues.items)).answers }
+            ≡ (all_stored_after_copy held.now.spaces.place (with_copies self.old.frames moves.now)
+            (map (pending_shown accesses.now) dues.items)).answers }
     {
         let jobs = mem::replace(&mut self.jobs, Vec::new(alloc));
         let (jobs, answers) = copy_pages(
@@ -464,10 +464,10 @@ fn populate_each<A: Allocator + Copy>(
     alloc: A,
     moves: &[Taken],
 ) -> Result<(), AllocError>
-    requires frames { AllByRecursion (λ frame. frame < length frames.old) (tos moves.now) }
+    requires frames { AllByRecursion (λ frame. frame < length frames.old) (frames_taken moves.now) }
     requires home { (f : ℕ) → f < length frames.old → IsHome frames.old f }
     ensures kept { KeepsBytes frames.old frames.new }
-    ensures populated { OnOk result (AllByRecursion (IsPopulated frames.new) (tos moves.now)) }
+    ensures populated { OnOk result (AllByRecursion (IsPopulated frames.new) (frames_taken moves.now)) }
     ensures asked { OnErr result (0 < length moves.now) }
 {
     for taken in moves {
@@ -489,8 +489,8 @@ fn take_fronts<A: Allocator + Copy>(nodes: &mut NodePool<A>, node: NodeId, count
 /// Puts the frames taken for these moves back at the front of the node's list.
 fn return_tos<A: Allocator + Copy>(nodes: &mut NodePool<A>, node: NodeId, moves: &[Taken])
     requires node { node < length nodes.old.lists }
-    requires can { CanReturn nodes.old node (tos moves.now) }
-    ensures { nodes.new ≡ with_list nodes.old node (tos moves.now ++ list_of nodes.old node) }
+    requires can { CanReturn nodes.old node (frames_taken moves.now) }
+    ensures { nodes.new ≡ with_list nodes.old node (frames_taken moves.now ++ list_of nodes.old node) }
 {
     let mut left = moves.len();
     while left > 0 {
@@ -502,7 +502,7 @@ fn return_tos<A: Allocator + Copy>(nodes: &mut NodePool<A>, node: NodeId, moves:
 /// Appends the frames that the pages of these moves take to a list that has room for them.
 fn push_tos<A: Allocator + Copy>(taken: &mut Vec<FrameId, A>, moves: &[Taken])
     requires { vec_len taken.old + length moves.now ≤ vec_capacity taken.old }
-    ensures items { taken.new.items ≡ taken.old.items ++ tos moves.now }
+    ensures items { taken.new.items ≡ taken.old.items ++ frames_taken moves.now }
     ensures room { vec_capacity taken.new ≡ vec_capacity taken.old }
 {
     for t in moves {

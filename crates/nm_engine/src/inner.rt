@@ -5,17 +5,17 @@ ghost use Rattle.nm_types.specs.Nodes.{up_from};
 ghost use Rattle.nm_model.specs.definitions.Effect.{new_machine};
 
 mod areas;
-pub(crate) mod due;
 mod flight;
 mod locate;
 mod nodes;
 mod online;
+pub(crate) mod pending_access;
 mod pins;
 mod process;
 mod query;
-mod resolved;
 mod run;
 mod touch;
+mod touch_site;
 mod undo;
 
 use crate::address_spaces::AddressSpaces;
@@ -37,8 +37,8 @@ pub(crate) struct Inner<A: Allocator + Copy> {
 }
 
 impl<A: Allocator + Copy> Model for Inner<A> {
-    ghost use Rattle.nm_engine.specs.Shown.{shown_by};
-    ghost use Rattle.nm_engine.specs.MidRun.{MidRun, IsKept};
+    ghost use Rattle.nm_engine.specs.views.Shown.{shown_by};
+    ghost use Rattle.nm_engine.specs.views.MidRun.{MidRun, IsKept};
 
     ghost Value = { MidRun };
 

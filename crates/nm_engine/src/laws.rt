@@ -1,6 +1,6 @@
 //! Laws of the definitions alone, and worked examples. Each function does nothing, and its contract is the law.
 
-ghost use Rattle.nm_engine.specs.Examples.Undoing.{TouchesAreTakenBack, SharedPageKeepsItsFrame};
+ghost use Rattle.nm_engine.specs.examples.Undoing.{TouchesAreTakenBack, SharedPageKeepsItsFrame};
 
 pub use nm_laws::examples::{
     batches_move_pages, examples_start_sound, moving_pages_are_held, nodes_are_tried_by_distance,

@@ -2,7 +2,7 @@
 #![tactic(auto)]
 
 mod address_spaces;
-mod answered;
+mod answers;
 mod audit;
 mod frames;
 mod inner;
@@ -12,7 +12,7 @@ mod process;
 mod process_table;
 mod view;
 
-pub use answered::{AccessAnswer, Flown};
+pub use answers::{AccessAnswer, RunAnswer};
 pub use inner::failures;
 pub use machine::{Machine, Totals};
 pub use nm_areas::Line;

@@ -10,10 +10,10 @@ ghost use Rattle.nm_types.specs.Layout.{node_count, node_of};
 ghost use Rattle.nm_types.specs.Nodes.{is_in};
 ghost use Rattle.nm_types.specs.State.{free_list};
 ghost use Rattle.nm_model.specs.definitions.Effect.{info_of};
-ghost use Rattle.nm_model.specs.definitions.Touch.{Bytes, Done, has_free, read, write, spot_refusal};
-ghost use Rattle.nm_model.specs.definitions.Run.{counted, run, HasOneAll};
+ghost use Rattle.nm_model.specs.definitions.Touch.{Bytes, Done, has_free, read, write, site_refusal};
+ghost use Rattle.nm_model.specs.definitions.Run.{with_counts, run, HasOneAll};
 ghost use Rattle.nm_model.specs.views.Asked.{access_shown};
-ghost use Rattle.nm_engine.specs.Answering.{answer_shown};
+ghost use Rattle.nm_engine.specs.views.Accesses.{answer_shown};
 ghost use Rattle.nm_model.specs.definitions.Effect.{new_machine, set_online, spawn, map_new, attach, pin, unpin, unmap, exit};
 ghost use Rattle.nm_model.specs.definitions.Effect.{spawn_refusal, map_refusal, attach_refusal, pin_refusal, unpin_refusal, unmap_refusal, exit_refusal, list_refusal, entries_refusal};
 ghost use Rattle.nm_model.specs.definitions.Effect.{policy_refusal, set_policy};
@@ -25,10 +25,10 @@ ghost use Rattle.nm_model.specs.definitions.Seen.{located_between, placed_on};
 ghost use Rattle.nm_model.specs.definitions.Sound.{audited};
 ghost use Rattle.nm_model.specs.definitions.Status.{node_status};
 ghost use Rattle.nm_model.specs.definitions.Sound.{IsSound};
-ghost use Rattle.nm_engine.specs.Orders.{EndsSo};
-ghost use Rattle.nm_engine.specs.Does.{Makes, Alters, Tells, Accesses, AsksLast};
+ghost use Rattle.nm_engine.specs.definitions.Orders.{EndsSo};
+ghost use Rattle.nm_engine.specs.definitions.Does.{Makes, Alters, Tells, Accesses, AsksLast};
 
-use crate::answered::Flown;
+use crate::answers::RunAnswer;
 use crate::inner::Inner;
 use crate::laws::interleavings;
 use crate::{Located, ProcessInfo};
@@ -307,7 +307,7 @@ impl<A: Allocator + Copy + Send + Sync> Machine<A> {
     pub fn read(&mut self, pid: Pid, addr: u64, len: u64) -> Result<Vec<u8, A>, MachineError>
         ensures answer { Accesses result (λ bytes. Bytes bytes.items) self.old self.new
             (read self.old pid addr len) }
-        ensures memory { AsksLast result (spot_refusal self.old pid addr len) }
+        ensures memory { AsksLast result (site_refusal self.old pid addr len) }
     {
         self.inner.read(pid, addr, len)
     }
@@ -320,7 +320,7 @@ impl<A: Allocator + Copy + Send + Sync> Machine<A> {
     pub fn write(&mut self, pid: Pid, addr: u64, bytes: &[u8]) -> Result<(), MachineError>
         ensures answer { Accesses result (λ done. Done) self.old self.new
             (write self.old pid addr bytes.now) }
-        ensures memory { AsksLast result (spot_refusal self.old pid addr (length bytes.now)) }
+        ensures memory { AsksLast result (site_refusal self.old pid addr (length bytes.now)) }
         ensures asked { result ≡ Err MachineError.HostMemory →
             (page : Page) →
             sight_at self.old pid (addr / 4096) ≡ Some (Sees page) →
@@ -352,7 +352,7 @@ impl<A: Allocator + Copy + Send + Sync> Machine<A> {
         crew: &Crew<R, G>,
         requests: &Run<A>,
         accesses: &[Access<A>],
-    ) -> Result<Flown<A>, AllocError>
+    ) -> Result<RunAnswer<A>, AllocError>
         requires target { requests.now.target < node_count self.old.layout }
         requires alike { HasOneAll requests.now.wanted.items }
 
@@ -393,7 +393,7 @@ impl<A: Allocator + Copy + Send + Sync> Machine<A> {
             .inner
             .carry_out(crew, requests.target, moves, accesses, dues, answers);
         self.inner.end_run(plan.statuses());
-        Ok(Flown {
+        Ok(RunAnswer {
             statuses: plan.into_statuses(),
             answers,
         })
@@ -402,7 +402,7 @@ impl<A: Allocator + Copy + Send + Sync> Machine<A> {
     /// Counts this many requests as failed, and does nothing else: what a run does if none of its requests finds a free
     /// frame.
     pub fn count_failures(&mut self, requests: usize)
-        ensures { self.new ≡ counted self.old 0 requests }
+        ensures { self.new ≡ with_counts self.old 0 requests }
     {
         self.inner.count(0, requests);
     }

@@ -8,7 +8,7 @@ ghost use Rattle.indexmap.specs.IndexMap.{values};
 ghost use Rattle.std.specs.Ordering.{nat_cmp};
 ghost use Rattle.nm_types.specs.Map.{get, set, replace, without};
 ghost use Rattle.nm_model.specs.definitions.PageTables.{Task};
-ghost use Rattle.nm_engine.specs.ProcessTable.{new_task, task_info, task_table, entries_in, IsThere, without_entry, replaced};
+ghost use Rattle.nm_engine.specs.views.ProcessTable.{new_task, task_info, task_table, entries_in, IsThere, without_entry, replaced};
 ghost use Rattle.nm_model.specs.definitions.PageTables.{entry_at, with_entry};
 ghost use Rattle.nm_model.specs.definitions.Seen.{between};
 
@@ -34,7 +34,7 @@ impl<A: Allocator + Copy> Model for ProcessTable<A> {
     ghost use Rattle.std.specs.Prelude.{ℕ};
     ghost use Rattle.nm_types.specs.Map.{Map};
     ghost use Rattle.nm_model.specs.definitions.PageTables.{Task};
-    ghost use Rattle.nm_engine.specs.ProcessTable.{by_pid};
+    ghost use Rattle.nm_engine.specs.views.ProcessTable.{by_pid};
 
     ghost Value = { Map ℕ Task };
 

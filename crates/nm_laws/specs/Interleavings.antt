@@ -8,7 +8,7 @@ use Rattle.nm_types.specs.declared.entry.Entry.{Entry}
 use Rattle.nm_model.specs.definitions.Frames.{IsHome}
 use Rattle.nm_types.specs.declared.request.Wanted.{Wanted}
 use Rattle.nm_model.specs.definitions.PageTables.{entry_at, sight_of, entry_of}
-use Rattle.nm_model.specs.definitions.Touch.{Access, Held, spot_of_access, is_held, in_flight}
+use Rattle.nm_model.specs.definitions.Touch.{Access, Held, site_of_access, is_held, in_flight}
 use Rattle.nm_model.specs.definitions.Run.{Ran, run}
 use Rattle.nm_model.specs.definitions.Sound.{IsSound}
 use Rattle.nm_laws.specs.Laws.{moves_all}
@@ -70,4 +70,4 @@ EveryBufferIsInOneHand =
 abbrev pub HeldIsExact : Type 0
 HeldIsExact =
     (s : State) (moved : List Page) (a : Access) →
-    ((in_flight s moved a).answer ≡ Held) ↔ IsTrue (is_held moved (spot_of_access s a))
+    ((in_flight s moved a).answer ≡ Held) ↔ IsTrue (is_held moved (site_of_access s a))

@@ -21,12 +21,12 @@ use Rattle.nm_types.specs.declared.taken.Taken.{Taken}
 use Rattle.nm_model.specs.definitions.Decide.{Decisions, decide}
 use Rattle.nm_model.specs.definitions.Memory.{mem}
 use Rattle.nm_model.specs.definitions.Touch.{Access, Write, AccessAnswer, Done, read, write, access}
-use Rattle.nm_model.specs.definitions.Run.{Progress, each, with_all_free, run, accesses_of, runs_from, batch}
+use Rattle.nm_model.specs.definitions.Run.{Progress, each_request, with_all_free, run, accesses_of, runs_from, batch}
 use Rattle.nm_model.specs.definitions.Sound.{audited, OwnsItsFree, IsSoundMidRun, IsSound}
 use Rattle.nm_model.specs.definitions.Effect.{new_machine, spawn, map_new, attach, pin, unpin, unmap, exit}
 use Rattle.nm_model.specs.definitions.Effect.{spawn_refusal, map_refusal, attach_refusal, pin_refusal, set_policy}
 
--- on a sound machine each frame is in exactly one place
+-- on a sound machine each_request frame is in exactly one place
 abbrev pub SoundIsAudited : Type 0
 SoundIsAudited = (s : State) → IsSound s → audited s ≡ true
 
@@ -46,7 +46,7 @@ LooksAreBounded =
 abbrev pub DecidingKeepsMemory : Type 0
 DecidingKeepsMemory =
     (s : State) (target : ℕ) (ws : List Wanted) (pid address : ℕ) →
-    mem (each s target ws).state pid address ≡ mem s pid address
+    mem (each_request s target ws).state pid address ≡ mem s pid address
 
 -- nor does freeing frames
 abbrev pub FreeingKeepsMemory : Type 0
@@ -155,7 +155,7 @@ PlanIsOneByOne =
     (s : State) (target : ℕ) (all : Bool) (ws : List Wanted) →
     IsStrictlySortedBy nat_cmp (keys_of s.processes) → OwnsItsFree s.layout s.free target →
     AllByRecursion (λ w. moves_all w ≡ all) ws →
-    Agrees s target (each s target ws) (decide (map (status_or_move s target) ws) [] (free_list s target) target)
+    Agrees s target (each_request s target ws) (decide (map (status_or_move s target) ws) [] (free_list s target) target)
 
 -- reads and writes keep a machine sound, also during a run that has left these frames
 abbrev pub AccessIsSound : Type 0

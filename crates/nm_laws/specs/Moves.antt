@@ -7,10 +7,10 @@ use Rattle.nm_types.specs.declared.taken.Taken.{Taken}
 use Rattle.nm_model.specs.definitions.Decide.{Planned, planned}
 use Rattle.nm_types.specs.declared.request.Wanted.{Wanted}
 use Rattle.nm_model.specs.definitions.Status.{status_or_move}
-use Rattle.nm_model.specs.definitions.Run.{each}
+use Rattle.nm_model.specs.definitions.Run.{each_request}
 use Rattle.nm_laws.specs.Laws.{Agrees, with_move}
 
--- each of these pages in turn leaves its frame, which is on another node, for the front frame of the target
+-- each_request of these pages in turn leaves its frame, which is on another node, for the front frame of the target
 abbrev pub CanMove : State → ℕ → List Taken → Type 0
 CanMove s target [] = Unit {0}
 CanMove s target (t ∷ taken) =
@@ -20,5 +20,5 @@ CanMove s target (t ∷ taken) =
 -- the plan of requests from their classes at the start, which gives what deciding them one after another does
 pub record IsPlanOf (s : State) (target : ℕ) (ws : List Wanted) (p : Planned) : Type 0 where
   pub planned : p ≡ planned (map (status_or_move s target) ws) (free_list s target) target
-  pub agrees : Agrees s target (each s target ws) (record { statuses = p.statuses; taken = p.taken })
+  pub agrees : Agrees s target (each_request s target ws) (record { statuses = p.statuses; taken = p.taken })
   pub can : CanMove s target p.taken

@@ -4,7 +4,7 @@ ghost use Rattle.nm_model.specs.examples.Interleaved.{StartIsRead, BothOrdersEnd
 ghost use Rattle.nm_model.specs.examples.Starts.{StartsAreSound};
 ghost use Rattle.nm_model.specs.examples.Moving.{ThreePagesMove, MovedPageReads, EmptyBatchDoesNothing, OnePageTwiceMovesOnce, ShortageStopsTwoOfFour, LaterRunTakesFrameOfEarlier, EarlierRunFindsNone, PageGoesAndComesHome};
 ghost use Rattle.nm_model.specs.examples.Sharing.{TwoAddressesAreOneProcess, SharedPageStays, SharedPageIsOnTarget, SharedPageMovesForBoth};
-ghost use Rattle.nm_model.specs.examples.Letting.{OnlyTheMovingPageIsHeld, EachHasItsStatus, PinnedPageKeepsItsArea, UnmappedPagesAreFree, LastAreaFreesThePage};
+ghost use Rattle.nm_model.specs.examples.Unmapping.{OnlyTheMovingPageIsHeld, EachHasItsStatus, PinnedPageKeepsItsArea, UnmappedPagesAreFree, LastAreaFreesThePage};
 ghost use Rattle.nm_model.specs.examples.Setting.{MiddlePageIsSplitOff, NewPagesFollowThePolicy, LengthsRoundUp, AreasAreNotMerged, OthersKeepTheirAreas, RangesAreRefused};
 ghost use Rattle.nm_model.specs.examples.Deciding.{NodesAreOrderedByDistance, PolicyOrdersTheNodes, PlanResolvesRepeats, PlanWithoutFrames, PlanWithoutRequests};
 

@@ -3,7 +3,7 @@
 ghost use Rattle.nm_laws.specs.Laws.{DecidingKeepsMemory, FreeingKeepsMemory, BatchKeepsMemory, RunKeepsMemory, RunsKeepMemory, ReadingKeepsMemory, WritingIsExact, PolicyKeepsMemory, LooksSuffice, LooksAreBounded, SoundIsAudited, PlanIsOneByOne, AccessIsSound, RunIsSound, BatchIsSound, NewIsSound, SpawnIsSound, MapIsSound, AttachIsSound, PinIsSound, UnpinIsSound, PolicyIsSound, UnmapIsSound, ExitIsSound};
 ghost use Rattle.nm_laws.specs.Interleavings.{EverySoundStateIsRead, EveryRunCanEnd, EveryOrderIsTheRun, EveryBufferIsInOneHand, HeldIsExact};
 ghost use Rattle.nm_laws.specs.Phases.{TouchesComeFirst, MovesComeLater};
-ghost use Rattle.nm_model.specs.examples.Early.{PagesAreReadyFirst};
+ghost use Rattle.nm_model.specs.examples.BeforeCopy.{PagesAreReadyFirst};
 
 /// No move changes a byte that a process reads: neither a single move nor a batch. Nor does a read or a policy. Where
 /// accesses are made while pages move, each byte is that of the last write made there, or else the same as before.

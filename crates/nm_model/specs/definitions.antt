@@ -3,7 +3,7 @@ pub mod AreaRefusal
 pub mod Areas
 pub mod Cut
 pub mod Decide
-pub mod Early
+pub mod BeforeCopy
 pub mod Effect
 pub mod Events
 pub mod Frames

@@ -1,9 +1,9 @@
 -- The machines and processes of the worked examples.
-pub mod Early
+pub mod BeforeCopy
 pub mod Interleaved
 pub mod Moving
 pub mod Sharing
-pub mod Letting
+pub mod Unmapping
 pub mod Deciding
 pub mod Setting
 pub mod Starts

@@ -7,8 +7,8 @@ use Rattle.std.specs.Prelude.{slice_index}
 use Rattle.hex.specs.Hex.{encode_with, encode_lower}
 use Rattle.nm_model.specs.definitions.Touch.{AccessAnswer}
 use Rattle.nm_model.specs.views.Asked.{access_shown}
-use Rattle.nm_engine.specs.Answering.{answer_shown}
-use Rattle.nm_engine.specs.declared.answered.AccessAnswer.{AccessAnswer as Given}
+use Rattle.nm_engine.specs.views.Accesses.{answer_shown}
+use Rattle.nm_engine.specs.declared.answers.AccessAnswer.{AccessAnswer as Given}
 use Rattle.nm_steps.specs.declared.call.InFlight.{InFlight}
 use Rattle.nm_steps.specs.Views.{shown_during}
 use Rattle.nm_trace.specs.Report.{access_line, access_lines}

@@ -11,7 +11,7 @@ ghost use Rattle.nm_calls.specs.Views.{answer_of};
 ghost use Rattle.nm_trace.specs.Report.{word_of, listed, signed_listed, entry_text, frame_text, totals_text, lines_behind, answer_text, line_of, text_of, access_lines, answers_in, access_word, access_line};
 ghost use Rattle.nm_trace.specs.Waiting.{Puts};
 ghost use Rattle.nm_model.specs.views.Asked.{access_shown};
-ghost use Rattle.nm_engine.specs.Answering.{answer_shown};
+ghost use Rattle.nm_engine.specs.views.Accesses.{answer_shown};
 
 use crate::block::Block;
 use crate::telling::TellingWriter;

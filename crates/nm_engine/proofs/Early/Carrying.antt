@@ -13,20 +13,20 @@ use Rattle.nm_types.specs.State.{State}
 use Rattle.nm_types.proofs.Maps.{page_cmp_total, keys-values}
 use Rattle.nm_model.specs.definitions.Frames.{Store, IsHome, overwrite}
 use Rattle.nm_types.specs.declared.taken.Taken.{Taken}
-use Rattle.nm_engine.specs.AddressSpaces.{SpacesView, with_moved, table_of}
+use Rattle.nm_engine.specs.views.AddressSpaces.{SpacesView, with_moved, table_of}
 use Rattle.nm_frames.specs.Populated.{IsPopulated}
-use Rattle.nm_engine.specs.Copies.{without_both, emptied, with_copies, CanCopy, HasBoth}
-use Rattle.nm_engine.specs.Frames.{FramesView, HasAllFrames, free_on}
+use Rattle.nm_engine.specs.views.Copies.{without_both, emptied, with_copies, CanCopy, HasBoth}
+use Rattle.nm_engine.specs.views.Frames.{FramesView, HasAllFrames, free_on}
 use Rattle.nm_model.specs.definitions.Touch.{AllAnswered}
 use Rattle.nm_laws.specs.Laws.{with_moves}
-use Rattle.nm_engine.specs.MidRun.{MidRun, IsKept}
+use Rattle.nm_engine.specs.views.MidRun.{MidRun, IsKept}
 use Rattle.nm_laws.specs.Moves.{CanMove}
-use Rattle.nm_engine.specs.Moves.{CanRemap, all_moved}
+use Rattle.nm_engine.specs.definitions.Moves.{CanRemap, all_moved}
 use Rattle.nm_model.specs.definitions.Run.{left}
-use Rattle.nm_engine.specs.Shown.{shown_by, paged_frames}
+use Rattle.nm_engine.specs.views.Shown.{shown_by, paged_frames}
 use Rattle.nm_model.specs.definitions.Sound.{times, IsSoundMidRun, IsSound}
-use Rattle.nm_model.specs.definitions.Early.{Due, Known, ToRead, ToWrite, at_page, with_written, made, all_made, tos, with_fronts, IsInside, IsDue}
-use Rattle.nm_engine.specs.Finishing.{Finished, all_done, IsIn, CanDo}
+use Rattle.nm_model.specs.definitions.BeforeCopy.{PendingAccess, Known, ToRead, ToWrite, at_page, with_written, after_copy, all_after_copy, frames_taken, with_fronts, IsInside, IsPending}
+use Rattle.nm_engine.specs.definitions.AfterCopy.{StoreAfterCopy, all_stored_after_copy, IsIn, CanDo}
 use Rattle.nm_laws.proofs.Soundness.Frames.{here, times_cons}
 use Rattle.nm_laws.proofs.Soundness.Once.{counted_place}
 use Rattle.nm_engine.proofs.Together.Carried.{by_parts, all_carried, all_taken, tos_are, IsCarried, is_carried, carried_copy}
@@ -70,16 +70,16 @@ written_sound s l p at new fits h =
       few = h.few;
     }
 
-made_sound : (s : State) (l : List ℕ) (d : Due) → IsInside d → IsSoundMidRun s l → IsSoundMidRun (made s d) l
+made_sound : (s : State) (l : List ℕ) (d : PendingAccess) → IsInside d → IsSoundMidRun s l → IsSoundMidRun (after_copy s d) l
 made_sound s l (Known answer) inside h = h
 made_sound s l (ToRead page at len) inside h = h
 made_sound s l (ToWrite page at new) inside h = written_sound s l page at new inside h
 
-all_made_sound : (dues : List Due) (s : State) (l : List ℕ) → AllByRecursion IsInside dues → IsSoundMidRun s l → IsSoundMidRun (all_made s dues).state l
+all_made_sound : (dues : List PendingAccess) (s : State) (l : List ℕ) → AllByRecursion IsInside dues → IsSoundMidRun s l → IsSoundMidRun (all_after_copy s dues).state l
 all_made_sound [] s l inside h = h
-all_made_sound (d ∷ dues) s l inside h = all_made_sound dues (made s d) l inside.1 (made_sound s l d inside.0 h)
+all_made_sound (d ∷ dues) s l inside h = all_made_sound dues (after_copy s d) l inside.1 (made_sound s l d inside.0 h)
 
-all_inside : (dues : List Due) (moved : List Page) (s : State) → AllByRecursion (IsDue moved s) dues → AllByRecursion IsInside dues
+all_inside : (dues : List PendingAccess) (moved : List Page) (s : State) → AllByRecursion (IsPending moved s) dues → AllByRecursion IsInside dues
 all_inside [] moved s due = tt
 all_inside (d ∷ dues) moved s due = (due.0.2, all_inside dues moved s due.1)
 
@@ -104,17 +104,17 @@ one_here f = ap (λ b. cond b 1 0) (Rattle.std.proofs.Common.eq-eqb f f refl)
 none_here : (f g : ℕ) (xs : List ℕ) → times f (g ∷ xs) ≡ 0 → f ≢ g
 none_here f g xs none e = let one : here f g ≡ 1 = ap (here f) (sym e) ∙ one_here f in omega (arith, none, one, times_cons f g xs)
 
-populated_meanwhile : (taken : List Taken) (store : Store) (f : ℕ) → times f (left taken) ≡ 0 → times f (tos taken) ≡ 0 → IsPopulated store f → IsPopulated (emptied store taken) f
+populated_meanwhile : (taken : List Taken) (store : Store) (f : ℕ) → times f (left taken) ≡ 0 → times f (frames_taken taken) ≡ 0 → IsPopulated store f → IsPopulated (emptied store taken) f
 populated_meanwhile [] store f from to whole = whole
 populated_meanwhile (t ∷ taken) store f from to whole =
-    populated_meanwhile taken (without_both store t) f (omega (arith, from, times_cons f t.from (left taken))) (omega (arith, to, times_cons f t.to (tos taken)))
-    (stays_populated store t f (none_here f t.from (left taken) from) (none_here f t.to (tos taken) to) whole)
+    populated_meanwhile taken (without_both store t) f (omega (arith, from, times_cons f t.from (left taken))) (omega (arith, to, times_cons f t.to (frames_taken taken)))
+    (stays_populated store t f (none_here f t.from (left taken) from) (none_here f t.to (frames_taken taken) to) whole)
 
-home_meanwhile : (taken : List Taken) (store : Store) (f : ℕ) → times f (left taken) ≡ 0 → times f (tos taken) ≡ 0 → IsHome store f → IsHome (emptied store taken) f
+home_meanwhile : (taken : List Taken) (store : Store) (f : ℕ) → times f (left taken) ≡ 0 → times f (frames_taken taken) ≡ 0 → IsHome store f → IsHome (emptied store taken) f
 home_meanwhile [] store f from to home = home
 home_meanwhile (t ∷ taken) store f from to home =
-    home_meanwhile taken (without_both store t) f (omega (arith, from, times_cons f t.from (left taken))) (omega (arith, to, times_cons f t.to (tos taken)))
-    (stays_home store t f (none_here f t.from (left taken) from) (none_here f t.to (tos taken) to) home)
+    home_meanwhile taken (without_both store t) f (omega (arith, from, times_cons f t.from (left taken))) (omega (arith, to, times_cons f t.to (frames_taken taken)))
+    (stays_home store t f (none_here f t.from (left taken) from) (none_here f t.to (frames_taken taken) to) home)
 
 none_more : (a b c : ℕ) (t : Bool) → a + b + c ≡ cond t 1 0 → 1 ≤ a → c ≡ 0
 none_more a b c true e h = omega (arith, e, h)
@@ -126,10 +126,10 @@ placed_apart s l p f h placed = none_more (times f (values_of s.place)) (sum_by 
 
 -- ---- all at once
 
-module _ (y : SpacesView) (k : FramesView) (online : List ℕ) (moved failed target : ℕ) (taken : List Taken) (dues : List Due) where
+module _ (y : SpacesView) (k : FramesView) (online : List ℕ) (moved failed target : ℕ) (taken : List Taken) (dues : List PendingAccess) where
   -- the frames as if those that are taken were still a node's
   abbrev pub given : FramesView
-  given = record k { free = slice_set k.free target (tos taken ++ free_on k target); vacated = [] }
+  given = record k { free = slice_set k.free target (frames_taken taken ++ free_on k target); vacated = [] }
 
   -- the pages moved, and copied
   abbrev pub spaces_then : SpacesView
@@ -139,11 +139,11 @@ module _ (y : SpacesView) (k : FramesView) (online : List ℕ) (moved failed tar
   frames_then = record k { frames = with_copies k.frames taken; vacated = left taken }
 
   -- .. as the calls leave the frames, one after another
-  pub copied_frames : (v w : FramesView) (z : SpacesView) → v ≡ record k { vacated = left taken } → z ≡ spaces_then → w ≡ record v { frames = (all_done z.place (with_copies v.frames taken) dues).store; room = w.room }
-      → w ≡ record k { frames = (all_done spaces_then.place (with_copies k.frames taken) dues).store; vacated = left taken; room = w.room }
+  pub copied_frames : (v w : FramesView) (z : SpacesView) → v ≡ record k { vacated = left taken } → z ≡ spaces_then → w ≡ record v { frames = (all_stored_after_copy z.place (with_copies v.frames taken) dues).store; room = w.room }
+      → w ≡ record k { frames = (all_stored_after_copy spaces_then.place (with_copies k.frames taken) dues).store; vacated = left taken; room = w.room }
   copied_frames v w z vacated remapped copied =
-      copied ∙ ap (λ (x : FramesView). record x { frames = (all_done z.place (with_copies x.frames taken) dues).store; room = w.room }) vacated
-      ∙ ap (λ (x : SpacesView). record k { frames = (all_done x.place (with_copies k.frames taken) dues).store; vacated = left taken; room = w.room }) remapped
+      copied ∙ ap (λ (x : FramesView). record x { frames = (all_stored_after_copy z.place (with_copies x.frames taken) dues).store; room = w.room }) vacated
+      ∙ ap (λ (x : SpacesView). record k { frames = (all_stored_after_copy x.place (with_copies k.frames taken) dues).store; vacated = left taken; room = w.room }) remapped
 
   abbrev pub state_given : State
   state_given = shown_by y given online moved failed
@@ -151,18 +151,18 @@ module _ (y : SpacesView) (k : FramesView) (online : List ℕ) (moved failed tar
   -- what holds before
   pub record IsPrepared : Type 0 where
     pub kept : IsKept (shown_by y k online moved failed) k.vacated y.frames
-    pub reserved : k.vacated ≡ tos taken
+    pub reserved : k.vacated ≡ frames_taken taken
     pub shelf : HasAllFrames k
     pub inside : target < length k.free
     pub back : IsSound state_given
     pub can : CanMove state_given target taken
-    pub due : AllByRecursion (IsDue (pages_of taken) (shown_by y k online moved failed)) dues
+    pub due : AllByRecursion (IsPending (pages_of taken) (shown_by y k online moved failed)) dues
     pub populated : AllByRecursion (IsPopulated k.frames) k.vacated
 
   -- by what is known of the machine
   pub prepared : (x : MidRun) → record { state = shown_by y k online moved failed; left = k.vacated; room = k.room } ≡ x → IsKept (shown_by y k online moved failed) k.vacated y.frames → HasAllFrames k
-      → target < node_count x.state.layout → x.left ≡ tos taken → IsSound (with_fronts (x.state) target (tos taken)) → CanMove (with_fronts (x.state) target (tos taken)) target taken
-      → AllByRecursion (IsDue (pages_of taken) (x.state)) dues → AllByRecursion (IsPopulated k.frames) k.vacated → IsPrepared
+      → target < node_count x.state.layout → x.left ≡ frames_taken taken → IsSound (with_fronts (x.state) target (frames_taken taken)) → CanMove (with_fronts (x.state) target (frames_taken taken)) target taken
+      → AllByRecursion (IsPending (pages_of taken) (x.state)) dues → AllByRecursion (IsPopulated k.frames) k.vacated → IsPrepared
   prepared x is kept shelf inside taken_now sound can due populated =
       let same = ap (λ (z : MidRun). node_count z.state.layout) is in
       record {
@@ -170,30 +170,30 @@ module _ (y : SpacesView) (k : FramesView) (online : List ℕ) (moved failed tar
         reserved = ap (λ (z : MidRun). z.left) is ∙ taken_now;
         shelf = shelf;
         inside = omega (arith, same, shelf.lists, inside);
-        back = subst (λ (z : MidRun). IsSound (with_fronts (z.state) target (tos taken))) (sym is) sound;
-        can = subst (λ (z : MidRun). CanMove (with_fronts (z.state) target (tos taken)) target taken) (sym is) can;
-        due = subst (λ (z : MidRun). AllByRecursion (IsDue (pages_of taken) (z.state)) dues) (sym is) due;
+        back = subst (λ (z : MidRun). IsSound (with_fronts (z.state) target (frames_taken taken))) (sym is) sound;
+        can = subst (λ (z : MidRun). CanMove (with_fronts (z.state) target (frames_taken taken)) target taken) (sym is) can;
+        due = subst (λ (z : MidRun). AllByRecursion (IsPending (pages_of taken) (z.state)) dues) (sym is) due;
         populated = populated;
       }
 
   -- the frames that pages leave have their bytes in memory
   lefts : IsSound state_given → CanMove state_given target taken → AllByRecursion (IsPopulated k.frames) (left taken)
   lefts sound can =
-      let on : AllByRecursion (λ f. node_of k.layout f ≡ target) (tos taken) =
+      let on : AllByRecursion (λ f. node_of k.layout f ≡ target) (frames_taken taken) =
       subst (AllByRecursion (λ f. node_of k.layout f ≡ target)) (sym (tos_are taken state_given target can)) (all_taken (length taken) (free_on given target) k.layout target (sound.frames.own target)) in
       left_populated taken state_given target k.frames sound.bytes.whole (all_leave taken state_given target on can)
 
   pub lefts_populated : (x : MidRun) → record { state = shown_by y k online moved failed; left = k.vacated; room = k.room } ≡ x
-      → IsSound (with_fronts (x.state) target (tos taken)) → CanMove (with_fronts (x.state) target (tos taken)) target taken → AllByRecursion (IsPopulated k.frames) (left taken)
+      → IsSound (with_fronts (x.state) target (frames_taken taken)) → CanMove (with_fronts (x.state) target (frames_taken taken)) target taken → AllByRecursion (IsPopulated k.frames) (left taken)
   lefts_populated x is sound can =
-      lefts (subst (λ (z : MidRun). IsSound (with_fronts (z.state) target (tos taken))) (sym is) sound) (subst (λ (z : MidRun). CanMove (with_fronts (z.state) target (tos taken)) target taken) (sym is) can)
+      lefts (subst (λ (z : MidRun). IsSound (with_fronts (z.state) target (frames_taken taken))) (sym is) sound) (subst (λ (z : MidRun). CanMove (with_fronts (z.state) target (frames_taken taken)) target taken) (sym is) can)
 
   module _ (h : IsPrepared) where
     shelf_given : HasAllFrames given
-    shelf_given = record { lists = length-set k.free target (tos taken ++ free_on k target) ∙ h.shelf.lists; buffers = h.shelf.buffers; home = h.shelf.home }
+    shelf_given = record { lists = length-set k.free target (frames_taken taken ++ free_on k target) ∙ h.shelf.lists; buffers = h.shelf.buffers; home = h.shelf.home }
 
     inside_given : target < length given.free
-    inside_given = omega (arith, h.inside, length-set k.free target (tos taken ++ free_on k target))
+    inside_given = omega (arith, h.inside, length-set k.free target (frames_taken taken ++ free_on k target))
 
     kept_given : IsKept state_given [] y.frames
     kept_given = record { sound = h.back; as_many = h.kept.as_many }
@@ -222,7 +222,7 @@ module _ (y : SpacesView) (k : FramesView) (online : List ℕ) (moved failed tar
     -- frames that no move names are home and have their bytes in memory
     abbrev Beside : Store → Type 0
     Beside store =
-        (f : ℕ) → times f (left taken) ≡ 0 → times f (tos taken) ≡ 0 → IsHome k.frames f → IsPopulated k.frames f → IsHome store f × IsPopulated store f
+        (f : ℕ) → times f (left taken) ≡ 0 → times f (frames_taken taken) ≡ 0 → IsHome k.frames f → IsPopulated k.frames f → IsHome store f × IsPopulated store f
 
     -- the page of what is left to do is in a frame that is home meanwhile
     page_in : (store : Store) → Beside store
@@ -237,13 +237,13 @@ module _ (y : SpacesView) (k : FramesView) (online : List ℕ) (moved failed tar
         record { frame = f; placed = placed; home = there.0; populated = there.1; inside = fits }
 
     one_can : (store : Store) → Beside store
-        → (d : Due) → IsDue (pages_of taken) (shown_by y k online moved failed) d → CanDo spaces_then.place store d
+        → (d : PendingAccess) → IsPending (pages_of taken) (shown_by y k online moved failed) d → CanDo spaces_then.place store d
     one_can store homes (Known answer) due = tt
     one_can store homes (ToRead page at len) due = page_in store homes page at len (get page_cmp y.place page) refl due.0 due.1 due.2
     one_can store homes (ToWrite page at new) due = page_in store homes page at (length new) (get page_cmp y.place page) refl due.0 due.1 due.2
 
     all_can : (store : Store) → Beside store
-        → (ds : List Due) → AllByRecursion (IsDue (pages_of taken) (shown_by y k online moved failed)) ds → AllByRecursion (CanDo spaces_then.place store) ds
+        → (ds : List PendingAccess) → AllByRecursion (IsPending (pages_of taken) (shown_by y k online moved failed)) ds → AllByRecursion (CanDo spaces_then.place store) ds
     all_can store homes [] due = tt
     all_can store homes (d ∷ ds) due = (one_can store homes d due.0, all_can store homes ds due.1)
 
@@ -253,18 +253,18 @@ module _ (y : SpacesView) (k : FramesView) (online : List ℕ) (moved failed tar
     can_after : AllByRecursion (CanDo spaces_then.place (with_copies k.frames taken)) dues
     can_after = all_can (with_copies k.frames taken) (λ f from to home whole. (copies_home taken k.frames f home, copies_populated taken k.frames f both_whole whole)) dues h.due
 
-    abbrev pub finished : Finished
-    finished = all_done spaces_then.place (with_copies k.frames taken) dues
+    abbrev pub finished : StoreAfterCopy
+    finished = all_stored_after_copy spaces_then.place (with_copies k.frames taken) dues
 
-    both : finished_as spaces_then.processes (table_of spaces_then) online moved failed (paged_frames spaces_then frames_then) kept_then.sound.order.place kept_then.sound.apart finished ≡ all_made (with_moves state_given target taken) dues
+    both : finished_as spaces_then.processes (table_of spaces_then) online moved failed (paged_frames spaces_then frames_then) kept_then.sound.order.place kept_then.sound.apart finished ≡ all_after_copy (with_moves state_given target taken) dues
     both =
         all_done_shows spaces_then.processes (table_of spaces_then) online moved failed (paged_frames spaces_then frames_then) kept_then.sound.order.place kept_then.sound.apart dues (with_copies k.frames taken) can_after
-        ∙ ap (λ (s : State). all_made s dues) shows
+        ∙ ap (λ (s : State). all_after_copy s dues) shows
 
-    pub finished_shows : (z : FramesView) → z ≡ record k { frames = finished.store; vacated = left taken; room = z.room } → shown_by spaces_then z online moved failed ≡ (all_made (with_moves state_given target taken) dues).state
+    pub finished_shows : (z : FramesView) → z ≡ record k { frames = finished.store; vacated = left taken; room = z.room } → shown_by spaces_then z online moved failed ≡ (all_after_copy (with_moves state_given target taken) dues).state
     finished_shows z is = ap (λ (x : FramesView). shown_by spaces_then x online moved failed) is ∙ ap (λ (x : AllAnswered). x.state) both
 
-    pub finished_told : finished.answers ≡ (all_made (with_moves state_given target taken) dues).answers
+    pub finished_told : finished.answers ≡ (all_after_copy (with_moves state_given target taken) dues).answers
     finished_told = ap (λ (x : AllAnswered). x.answers) both
 
     pub finished_kept : (z : FramesView) → z ≡ record k { frames = finished.store; vacated = left taken; room = z.room } → IsKept (shown_by spaces_then z online moved failed) z.vacated spaces_then.frames

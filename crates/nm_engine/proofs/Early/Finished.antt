@@ -15,14 +15,14 @@ use Rattle.nm_types.proofs.Cases.{some_is}
 use Rattle.nm_types.proofs.Maps.{page_cmp_total, exact_page, equal, get-values, agree}
 use Rattle.nm_model.specs.views.Table.{Table}
 use Rattle.nm_model.specs.definitions.Frames.{Store, IsHome, bytes_of, overwrite}
-use Rattle.nm_engine.specs.Frames.{PagedFrames}
+use Rattle.nm_engine.specs.views.Frames.{PagedFrames}
 use Rattle.nm_model.specs.definitions.Memory.{stretch_of}
 use Rattle.nm_model.specs.definitions.Touch.{AllAnswered}
-use Rattle.nm_engine.specs.Shown.{shown, bytes_in}
+use Rattle.nm_engine.specs.views.Shown.{shown, bytes_in}
 use Rattle.nm_model.specs.definitions.Sound.{PlacesAreApart}
 use Rattle.nm_model.specs.definitions.Touch.{AccessAnswer, Bytes}
-use Rattle.nm_model.specs.definitions.Early.{Due, Known, ToRead, ToWrite, at_page, made, told, all_made}
-use Rattle.nm_engine.specs.Finishing.{frame_at, done_in, told_in, Finished, all_done, CanDo}
+use Rattle.nm_model.specs.definitions.BeforeCopy.{PendingAccess, Known, ToRead, ToWrite, at_page, after_copy, answer_after_copy, all_after_copy}
+use Rattle.nm_engine.specs.definitions.AfterCopy.{frame_at, store_after_copy, answer_from_store, StoreAfterCopy, all_stored_after_copy, CanDo}
 use Rattle.nm_engine.proofs.Together.Copies.{home_set}
 use Rattle.nm_engine.proofs.Early.Refilled.{all_can_then}
 
@@ -59,7 +59,7 @@ module _ (processes : Map ℕ Process) (table : Table) (online : List ℕ) (move
     frame_is : (p : Page) (f : ℕ) → get page_cmp x.place p ≡ Some f → frame_at x.place p ≡ f
     frame_is p f placed = ap (λ o. unwrap_or o 0) placed
 
-    done_shows : (store : Store) (d : Due) → CanDo x.place store d → with_store x (done_in x.place store d) ≡ made (with_store x store) d
+    done_shows : (store : Store) (d : PendingAccess) → CanDo x.place store d → with_store x (store_after_copy x.place store d) ≡ after_copy (with_store x store) d
     done_shows store (Known answer) can = refl
     done_shows store (ToRead page at len) can = refl
     done_shows store (ToWrite page at new) can =
@@ -67,7 +67,7 @@ module _ (processes : Map ℕ Process) (table : Table) (online : List ℕ) (move
         ∙ ap (λ (b : Map Page (List ℕ)). record (with_store x store) { bytes = b })
         (written_bytes x.place store page can.frame (λ old. overwrite old at new) sorted apart can.placed can.home.in_range)
 
-    told_shows : (store : Store) (d : Due) → CanDo x.place store d → told_in x.place store d ≡ told (with_store x store) d
+    told_shows : (store : Store) (d : PendingAccess) → CanDo x.place store d → answer_from_store x.place store d ≡ answer_after_copy (with_store x store) d
     told_shows store (Known answer) can = refl
     told_shows store (ToWrite page at new) can = refl
     told_shows store (ToRead page at len) can =
@@ -76,22 +76,22 @@ module _ (processes : Map ℕ Process) (table : Table) (online : List ℕ) (move
         ∙ sym (ap (λ o. Bytes (stretch_of (unwrap_or o []) at len)) bytes)
 
     -- both, one after another
-    abbrev pub finished_as : Finished → AllAnswered
+    abbrev pub finished_as : StoreAfterCopy → AllAnswered
     finished_as e = record { state = with_store x e.store; answers = e.answers }
 
-    pub all_done_shows : (dues : List Due) (store : Store) → AllByRecursion (CanDo x.place store) dues → finished_as (all_done x.place store dues) ≡ all_made (with_store x store) dues
+    pub all_done_shows : (dues : List PendingAccess) (store : Store) → AllByRecursion (CanDo x.place store) dues → finished_as (all_stored_after_copy x.place store dues) ≡ all_after_copy (with_store x store) dues
     all_done_shows [] store can = refl
     all_done_shows (d ∷ dues) store can =
-        let next = done_in x.place store d in
-        ap (told_first (told_in x.place store d)) (all_done_shows dues next (all_can_then x.place store d dues can.0 can.1) ∙ ap (λ (s : State). all_made s dues) (done_shows store d can.0))
-        ∙ ap (λ a. told_first a (all_made (made (with_store x store) d) dues)) (told_shows store d can.0)
+        let next = store_after_copy x.place store d in
+        ap (told_first (answer_from_store x.place store d)) (all_done_shows dues next (all_can_then x.place store d dues can.0 can.1) ∙ ap (λ (s : State). all_after_copy s dues) (done_shows store d can.0))
+        ∙ ap (λ a. told_first a (all_after_copy (after_copy (with_store x store) d) dues)) (told_shows store d can.0)
       where
         told_first : AccessAnswer → AllAnswered → AllAnswered
         told_first a rest = record { state = rest.state; answers = a ∷ rest.answers }
 
 -- ---- as many frames have bytes then, and those that were home are
 
-pub done_as_many : (place : Map Page ℕ) (dues : List Due) (store : Store) → length (all_done place store dues).store ≡ length store
+pub done_as_many : (place : Map Page ℕ) (dues : List PendingAccess) (store : Store) → length (all_stored_after_copy place store dues).store ≡ length store
 done_as_many place [] store = refl
 done_as_many place (Known answer ∷ dues) store = done_as_many place dues store
 done_as_many place (ToRead page at len ∷ dues) store = done_as_many place dues store
@@ -99,7 +99,7 @@ done_as_many place (ToWrite page at new ∷ dues) store =
     let f = frame_at place page in
     done_as_many place dues (slice_set store f (Some (overwrite (bytes_of store f) at new))) ∙ length-set store f (Some (overwrite (bytes_of store f) at new))
 
-pub done_home : (place : Map Page ℕ) (dues : List Due) (store : Store) (q : ℕ) → IsHome store q → IsHome (all_done place store dues).store q
+pub done_home : (place : Map Page ℕ) (dues : List PendingAccess) (store : Store) (q : ℕ) → IsHome store q → IsHome (all_stored_after_copy place store dues).store q
 done_home place [] store q home = home
 done_home place (Known answer ∷ dues) store q home = done_home place dues store q home
 done_home place (ToRead page at len ∷ dues) store q home = done_home place dues store q home

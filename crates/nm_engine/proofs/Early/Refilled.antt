@@ -11,11 +11,11 @@ use Rattle.nm_frames.specs.declared.job.CopyJob.{CopyJob}
 use Rattle.nm_frames.specs.Job.{copied}
 use Rattle.nm_model.specs.definitions.Frames.{Store, IsHome, IsOut, bytes_of, overwrite}
 use Rattle.nm_types.specs.declared.taken.Taken.{Taken}
-use Rattle.nm_engine.specs.Copies.{with_buf, with_copies, with_job, emptied, jobs_of, refilled, CanCopy, CanRefill}
+use Rattle.nm_engine.specs.views.Copies.{with_buf, with_copies, with_job, emptied, jobs_of, refilled, CanCopy, CanRefill}
 use Rattle.nm_model.specs.definitions.Memory.{stretch_of}
 use Rattle.nm_model.specs.definitions.Touch.{AccessAnswer, Bytes}
-use Rattle.nm_model.specs.definitions.Early.{Due, Known, ToRead, ToWrite}
-use Rattle.nm_engine.specs.Finishing.{frame_at, done_in, told_in, Finished, all_done, CanDo}
+use Rattle.nm_model.specs.definitions.BeforeCopy.{PendingAccess, Known, ToRead, ToWrite}
+use Rattle.nm_engine.specs.definitions.AfterCopy.{frame_at, store_after_copy, answer_from_store, StoreAfterCopy, all_stored_after_copy, CanDo}
 use Rattle.nm_engine.proofs.Together.Free.{home_bytes}
 use Rattle.nm_engine.proofs.Together.Copies.{can_refill, home_set, refilled_is}
 use Rattle.nm_engine.proofs.Together.Populated.{written_populated}
@@ -33,7 +33,7 @@ still_out store f q bytes apart out = record {
 }
 
 -- what can be done can be done after something else
-can_beside : (place : Map Page ℕ) (store : Store) (f i : ℕ) (new : List ℕ) (d : Due) → i + length new ≤ 4096 → CanDo place store d → CanDo place (slice_set store f (Some (overwrite (bytes_of store f) i new))) d
+can_beside : (place : Map Page ℕ) (store : Store) (f i : ℕ) (new : List ℕ) (d : PendingAccess) → i + length new ≤ 4096 → CanDo place store d → CanDo place (slice_set store f (Some (overwrite (bytes_of store f) i new))) d
 can_beside place store f i new (Known answer) fits can = tt
 can_beside place store f i new (ToRead page j len) fits can = record {
   frame = can.frame;
@@ -50,16 +50,16 @@ can_beside place store f i new (ToWrite page j other) fits can = record {
   inside = can.inside;
 }
 
-can_then : (place : Map Page ℕ) (store : Store) (d e : Due) → CanDo place store d → CanDo place store e → CanDo place (done_in place store d) e
+can_then : (place : Map Page ℕ) (store : Store) (d e : PendingAccess) → CanDo place store d → CanDo place store e → CanDo place (store_after_copy place store d) e
 can_then place store (Known answer) e first can = can
 can_then place store (ToRead page i len) e first can = can
 can_then place store (ToWrite page i new) e first can = can_beside place store (frame_at place page) i new e first.inside can
 
-pub all_can_then : (place : Map Page ℕ) (store : Store) (d : Due) (dues : List Due) → CanDo place store d → AllByRecursion (CanDo place store) dues → AllByRecursion (CanDo place (done_in place store d)) dues
+pub all_can_then : (place : Map Page ℕ) (store : Store) (d : PendingAccess) (dues : List PendingAccess) → CanDo place store d → AllByRecursion (CanDo place store) dues → AllByRecursion (CanDo place (store_after_copy place store d)) dues
 all_can_then place store d [] first can = tt
 all_can_then place store d (e ∷ dues) first can = (can_then place store d e first can.0, all_can_then place store d dues first can.1)
 
-abbrev told_first : AccessAnswer → Finished → Finished
+abbrev told_first : AccessAnswer → StoreAfterCopy → StoreAfterCopy
 told_first a rest = record { store = rest.store; answers = a ∷ rest.answers }
 
 module _ {A : Type 0} where
@@ -98,12 +98,12 @@ module _ {A : Type 0} where
       }
 
   -- what is done before the bytes of jobs come back is done after
-  record IsAfter (place : Map Page ℕ) (jobs : List (CopyJob A)) (store : Store) (d : Due) : Type 0 where
-    pub later : refilled (done_in place store d) jobs ≡ done_in place (refilled store jobs) d
-    pub can : CanRefill (done_in place store d) jobs
-    pub told : told_in place store d ≡ told_in place (refilled store jobs) d
+  record IsAfter (place : Map Page ℕ) (jobs : List (CopyJob A)) (store : Store) (d : PendingAccess) : Type 0 where
+    pub later : refilled (store_after_copy place store d) jobs ≡ store_after_copy place (refilled store jobs) d
+    pub can : CanRefill (store_after_copy place store d) jobs
+    pub told : answer_from_store place store d ≡ answer_from_store place (refilled store jobs) d
 
-  after : (place : Map Page ℕ) (jobs : List (CopyJob A)) (store : Store) (d : Due) → CanRefill store jobs → CanDo place store d → IsAfter place jobs store d
+  after : (place : Map Page ℕ) (jobs : List (CopyJob A)) (store : Store) (d : PendingAccess) → CanRefill store jobs → CanDo place store d → IsAfter place jobs store d
   after place jobs store (Known answer) can doable = record { later = refl; can = can; told = refl }
   after place jobs store (ToRead page i len) can doable =
       let there : frame_at place page ≡ doable.frame = ap (λ o. unwrap_or o 0) doable.placed in
@@ -121,37 +121,37 @@ module _ {A : Type 0} where
         told = refl;
       }
 
-  abbrev back : List (CopyJob A) → Finished → Finished
+  abbrev back : List (CopyJob A) → StoreAfterCopy → StoreAfterCopy
   back jobs x = record x { store = refilled (x.store) jobs }
 
-  pub all_after : (dues : List Due) (place : Map Page ℕ) (jobs : List (CopyJob A)) (store : Store) → CanRefill store jobs → AllByRecursion (CanDo place store) dues
-      → (back jobs (all_done place store dues) ≡ all_done place (refilled store jobs) dues) × CanRefill (all_done place store dues).store jobs
+  pub all_after : (dues : List PendingAccess) (place : Map Page ℕ) (jobs : List (CopyJob A)) (store : Store) → CanRefill store jobs → AllByRecursion (CanDo place store) dues
+      → (back jobs (all_stored_after_copy place store dues) ≡ all_stored_after_copy place (refilled store jobs) dues) × CanRefill (all_stored_after_copy place store dues).store jobs
   all_after [] place jobs store can doable = (refl, can)
   all_after (d ∷ dues) place jobs store can doable =
       let now = after place jobs store d can doable.0 in
-      let rest = all_after dues place jobs (done_in place store d) now.can (all_can_then place store d dues doable.0 doable.1) in (
-        ap (told_first (told_in place store d)) (rest.0 ∙ ap (λ (x : Store). all_done place x dues) now.later)
-            ∙ ap (λ a. told_first a (all_done place (done_in place (refilled store jobs) d) dues)) now.told,
+      let rest = all_after dues place jobs (store_after_copy place store d) now.can (all_can_then place store d dues doable.0 doable.1) in (
+        ap (told_first (answer_from_store place store d)) (rest.0 ∙ ap (λ (x : Store). all_stored_after_copy place x dues) now.later)
+            ∙ ap (λ a. told_first a (all_stored_after_copy place (store_after_copy place (refilled store jobs) d) dues)) now.told,
         rest.1,
       )
 
   -- the bytes of the moves of a run, copied and back home once that is done: as if they had been copied first
-  pub record IsHomeAgain (place : Map Page ℕ) (dues : List Due) (taken : List Taken) (store now : Store) (jobs : List (CopyJob A)) : Type 0 where
+  pub record IsHomeAgain (place : Map Page ℕ) (dues : List PendingAccess) (taken : List Taken) (store now : Store) (jobs : List (CopyJob A)) : Type 0 where
     pub can : CanRefill now jobs
-    pub is : refilled now jobs ≡ (all_done place (with_copies store taken) dues).store
-    pub told : (all_done place (emptied store taken) dues).answers ≡ (all_done place (with_copies store taken) dues).answers
+    pub is : refilled now jobs ≡ (all_stored_after_copy place (with_copies store taken) dues).store
+    pub told : (all_stored_after_copy place (emptied store taken) dues).answers ≡ (all_stored_after_copy place (with_copies store taken) dues).answers
 
-  pub home_again : (place : Map Page ℕ) (dues : List Due) (taken : List Taken) (k : ℕ) (store now : Store) (jobs : List (CopyJob A)) → CanCopy store taken → AllByRecursion (CanDo place (emptied store taken)) dues
-      → now ≡ (all_done place (emptied store taken) dues).store → jobs ≡ map copied (jobs_of k store taken) → IsHomeAgain place dues taken store now jobs
+  pub home_again : (place : Map Page ℕ) (dues : List PendingAccess) (taken : List Taken) (k : ℕ) (store now : Store) (jobs : List (CopyJob A)) → CanCopy store taken → AllByRecursion (CanDo place (emptied store taken)) dues
+      → now ≡ (all_stored_after_copy place (emptied store taken) dues).store → jobs ≡ map copied (jobs_of k store taken) → IsHomeAgain place dues taken store now jobs
   home_again place dues taken k store now jobs can doable there are =
       let out = emptied store taken in
       let given : List (CopyJob A) = map copied (jobs_of k store taken) in
       let after = all_after dues place given out (can_refill A taken k store can) doable in
-      let same = ap (λ (x : Store). all_done place x dues) (refilled_is A taken k store can) in
+      let same = ap (λ (x : Store). all_stored_after_copy place x dues) (refilled_is A taken k store can) in
       record {
-        can = subst (λ (x : Store). CanRefill x jobs) (sym there) (subst (λ (js : List (CopyJob A)). CanRefill (all_done place out dues).store js) (sym are) after.1);
+        can = subst (λ (x : Store). CanRefill x jobs) (sym there) (subst (λ (js : List (CopyJob A)). CanRefill (all_stored_after_copy place out dues).store js) (sym are) after.1);
         is =
-            ap (λ (x : Store). refilled x jobs) there ∙ ap (λ (js : List (CopyJob A)). refilled (all_done place out dues).store js) are
-            ∙ ap (λ (x : Finished). x.store) (after.0 ∙ same);
-        told = ap (λ (x : Finished). x.answers) (after.0 ∙ same);
+            ap (λ (x : Store). refilled x jobs) there ∙ ap (λ (js : List (CopyJob A)). refilled (all_stored_after_copy place out dues).store js) are
+            ∙ ap (λ (x : StoreAfterCopy). x.store) (after.0 ∙ same);
+        told = ap (λ (x : StoreAfterCopy). x.answers) (after.0 ∙ same);
       }

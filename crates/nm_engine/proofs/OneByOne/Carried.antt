@@ -20,7 +20,7 @@ use Rattle.nm_runs.specs.Shown.{class_shown, HasFrameBelow, ShowsItsFrames}
 use Rattle.nm_model.specs.definitions.Status.{status_or_move}
 use Rattle.nm_types.specs.declared.taken.Taken.{Taken}
 use Rattle.nm_model.specs.definitions.Decide.{Choice, Decisions, has_moved, take_front, decide, shortage, Planned, planned}
-use Rattle.nm_model.specs.definitions.Run.{moved_page, decided, each, left, counted, with_all_free, failures, run, IsByAddress, IsByPage, HasOneAll}
+use Rattle.nm_model.specs.definitions.Run.{moved_page, decision, each_request, left, with_counts, with_all_free, failures, run, IsByAddress, IsByPage, HasOneAll}
 use Rattle.std.proofs.lemmas.List.{length-map}
 use Rattle.nm_model.specs.definitions.Sound.{times, FramesAreOnce, OwnsItsFree}
 use Rattle.nm_laws.specs.Laws.{Agrees, moves_all, with_move, with_moves}
@@ -33,10 +33,10 @@ use Rattle.nm_laws.proofs.OneByOne.Placed.{ClassIsPlaced, status_placed, ClassIs
 
 -- what can be done after a request
 abbrev Later : List Wanted → ℕ → Type 0
-Later ws target = (s : State) → CanMove s target (each s target ws).taken
+Later ws target = (s : State) → CanMove s target (each_request s target ws).taken
 
 page_can : (s : State) (target : ℕ) (p : Page) (from : ℕ) (ws : List Wanted) → get page_cmp s.place p ≡ Some from → node_of s.layout from ≢ target → Later ws target → (front : List ℕ) → free_list s target ≡ front
-    → CanMove s target ((moved_page s target p from front).taken ++ (each (moved_page s target p from front).state target ws).taken)
+    → CanMove s target ((moved_page s target p from front).taken ++ (each_request (moved_page s target p from front).state target ws).taken)
 page_can s target p from ws placed away later [] e = later s
 page_can s target p from ws placed away later (frame ∷ rest) e =
     let t : Taken = record { page = p; from = from; to = frame } in
@@ -44,10 +44,10 @@ page_can s target p from ws placed away later (frame ∷ rest) e =
       placed,
       ap (λ (fs : List ℕ). slice_get fs 0) e,
       away,
-      subst (λ (fs : List ℕ). CanMove (after (drop 1 fs)) target (each (moved_page s target p from (frame ∷ rest)).state target ws).taken) (sym e) (later (moved_page s target p from (frame ∷ rest)).state),
+      subst (λ (fs : List ℕ). CanMove (after (drop 1 fs)) target (each_request (moved_page s target p from (frame ∷ rest)).state target ws).taken) (sym e) (later (moved_page s target p from (frame ∷ rest)).state),
     )
 
-class_can : (s : State) (target : ℕ) (c : Class) (ws : List Wanted) → ClassIsPlaced s c → ClassIsAway s target c → Later ws target → CanMove s target ((decided s target c).taken ++ (each (decided s target c).state target ws).taken)
+class_can : (s : State) (target : ℕ) (c : Class) (ws : List Wanted) → ClassIsPlaced s c → ClassIsAway s target c → Later ws target → CanMove s target ((decision s target c).taken ++ (each_request (decision s target c).state target ws).taken)
 class_can s target (Status status) ws placed away later = later s
 class_can s target (Move p from) ws placed away later = page_can s target p from ws placed away later (free_list s target) refl
 
@@ -153,17 +153,17 @@ is_plan_of s target ws p order own alike is =
     let both : Planned → Decisions = λ q. record { statuses = q.statuses; taken = q.taken } in
     record {
       planned = is;
-      agrees = subst (λ (q : Planned). Agrees s target (each s target ws) (both q)) (sym is) agrees;
+      agrees = subst (λ (q : Planned). Agrees s target (each_request s target ws) (both q)) (sym is) agrees;
       can = subst (CanMove s target) (agrees.taken ∙ sym (ap (λ (q : Planned). q.taken) is)) (each_can ws target s);
     }
 
 -- a run by its plan is the run
 pub run_by_plan : (s t : State) (target : ℕ) (ws : List Wanted) (p : Planned) (moves : List Taken) (l : List ℕ) (statuses : List ℤ) → IsPlanOf s target ws p → moves ≡ p.taken → statuses ≡ p.statuses
-    → t ≡ with_moves s target moves → l ≡ left moves → counted (with_all_free t l) (length l) (failures statuses) ≡ (run s target ws []).state
+    → t ≡ with_moves s target moves → l ≡ left moves → with_counts (with_all_free t l) (length l) (failures statuses) ≡ (run s target ws []).state
 run_by_plan s t target ws p moves l statuses h taken told state kept =
-    let now = each s target ws in
+    let now = each_request s target ws in
     let same : moves ≡ now.taken = taken ∙ sym h.agrees.taken in
-    ap (λ (u : State). counted (with_all_free u l) (length l) (failures statuses)) (state ∙ ap (with_moves s target) taken ∙ sym h.agrees.state)
-    ∙ ap (λ (xs : List ℕ). counted (with_all_free now.state xs) (length xs) (failures statuses)) (kept ∙ ap (λ (ts : List Taken). left ts) same)
-    ∙ ap (λ n. counted (with_all_free now.state (left now.taken)) n (failures statuses)) (length-map now.taken (λ (t : Taken). t.from))
-    ∙ ap (λ (ss : List ℤ). counted (with_all_free now.state (left now.taken)) (length now.taken) (failures ss)) (told ∙ sym h.agrees.statuses)
+    ap (λ (u : State). with_counts (with_all_free u l) (length l) (failures statuses)) (state ∙ ap (with_moves s target) taken ∙ sym h.agrees.state)
+    ∙ ap (λ (xs : List ℕ). with_counts (with_all_free now.state xs) (length xs) (failures statuses)) (kept ∙ ap (λ (ts : List Taken). left ts) same)
+    ∙ ap (λ n. with_counts (with_all_free now.state (left now.taken)) n (failures statuses)) (length-map now.taken (λ (t : Taken). t.from))
+    ∙ ap (λ (ss : List ℤ). with_counts (with_all_free now.state (left now.taken)) (length now.taken) (failures ss)) (told ∙ sym h.agrees.statuses)

@@ -20,13 +20,13 @@ use Rattle.nm_types.specs.declared.entry.Entry.{Entry}
 use Rattle.nm_model.specs.definitions.Areas.{Mapped}
 use Rattle.nm_rmap.specs.Mappers.{Mappers}
 use Rattle.nm_types.specs.declared.located.Located.{Located}
-use Rattle.nm_engine.specs.AddressSpaces.{SpacesView, spaces_view}
+use Rattle.nm_engine.specs.views.AddressSpaces.{SpacesView, spaces_view}
 use Rattle.nm_model.specs.definitions.PageTables.{sight_of, page_here}
 use Rattle.nm_model.specs.definitions.Seen.{located, located_in, in_frame}
 use Rattle.nm_model.specs.definitions.PageTables.{Task, entry_at}
-use Rattle.nm_engine.specs.ProcessTable.{entries_in, names}
+use Rattle.nm_engine.specs.views.ProcessTable.{entries_in, names}
 use Rattle.nm_model.specs.definitions.Seen.{between, sights}
-use Rattle.nm_engine.specs.Tied.{IsTied}
+use Rattle.nm_engine.specs.definitions.Tied.{IsTied}
 use Rattle.nm_engine.proofs.Seen.Walked.{found_in, sorted_of, range_shown, few_between}
 
 -- the pages behind entries of a process

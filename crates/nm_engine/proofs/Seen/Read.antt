@@ -8,9 +8,9 @@ use Rattle.nm_types.specs.State.{Process}
 use Rattle.nm_model.specs.definitions.Frames.{bytes_of}
 use Rattle.nm_model.specs.definitions.Seen.{sight_at, frame_seen}
 use Rattle.nm_model.specs.definitions.Memory.{byte_of, mem_range, stretch_of}
-use Rattle.nm_engine.specs.Frames.{PagedFrames}
+use Rattle.nm_engine.specs.views.Frames.{PagedFrames}
 use Rattle.nm_model.specs.views.Table.{Table}
-use Rattle.nm_engine.specs.Shown.{shown}
+use Rattle.nm_engine.specs.views.Shown.{shown}
 use Rattle.nm_model.specs.definitions.Sound.{IsSoundMidRun}
 use Rattle.nm_types.proofs.Maps.{exact_page, get-values}
 use Rattle.nm_laws.proofs.Seen.Frames.{page_of_frame}

@@ -29,15 +29,15 @@ use Rattle.nm_types.specs.declared.entry.Entry.{Entry}
 use Rattle.nm_model.specs.definitions.Areas.{Mapped}
 use Rattle.nm_rmap.specs.Mappers.{Mappers}
 use Rattle.nm_model.specs.definitions.PageTables.{Task, entry_in, entry_at}
-use Rattle.nm_engine.specs.ProcessTable.{task_table, entries_in}
-use Rattle.nm_engine.specs.MidRun.{MidRun}
-use Rattle.nm_engine.specs.AddressSpaces.{SpacesView, spaces_view}
+use Rattle.nm_engine.specs.views.ProcessTable.{task_table, entries_in}
+use Rattle.nm_engine.specs.views.MidRun.{MidRun}
+use Rattle.nm_engine.specs.views.AddressSpaces.{SpacesView, spaces_view}
 use Rattle.nm_model.specs.definitions.PageTables.{sight_of, process_of, page_here}
 use Rattle.nm_model.specs.definitions.Seen.{sight_in, sight_at, is_sight_of, sees_page, users, look_at_place}
 use Rattle.nm_types.specs.declared.seen.Seen.{Seen}
 use Rattle.nm_types.specs.declared.seen.Seen.TheVariants.{NoArea, Absent, Zero, At}
 use Rattle.nm_model.specs.definitions.Sound.{IsSoundMidRun}
-use Rattle.nm_engine.specs.Tied.{IsTied}
+use Rattle.nm_engine.specs.definitions.Tied.{IsTied}
 use Rattle.nm_model.specs.definitions.Seen.{between, sights}
 
 is_low : (first k : ℕ) → first ≤ k → nat_le first k ≡ true

@@ -19,10 +19,10 @@ use Rattle.nm_model.specs.views.Table.{Table}
 use Rattle.nm_model.specs.definitions.Areas.{areas_left, pages_gone, place_left, lost, with_its_frame, all_lost, frames_lost}
 use Rattle.nm_model.specs.definitions.Effect.{is_covered, released_from, released, dropped}
 use Rattle.nm_model.specs.definitions.Sound.{times, FramesAreOnce, IsSoundMidRun}
-use Rattle.nm_engine.specs.AddressSpaces.{SpacesView, mapped_of, table_of, without_range}
-use Rattle.nm_engine.specs.Frames.{FramesView, PagedFrames, with_freed, pool_of, CanFree}
-use Rattle.nm_engine.specs.Shown.{bytes_in, shown, paged_frames, shown_by}
-use Rattle.nm_engine.specs.MidRun.{IsKept}
+use Rattle.nm_engine.specs.views.AddressSpaces.{SpacesView, mapped_of, table_of, without_range}
+use Rattle.nm_engine.specs.views.Frames.{FramesView, PagedFrames, with_freed, pool_of, CanFree}
+use Rattle.nm_engine.specs.views.Shown.{bytes_in, shown, paged_frames, shown_by}
+use Rattle.nm_engine.specs.views.MidRun.{IsKept}
 use Rattle.std.proofs.lemmas.Map.Entries.{sum_by-remove_entry}
 use Rattle.nm_types.proofs.Cases.{some_none, none_is_not}
 use Rattle.nm_laws.proofs.Soundness.Frames.{here, times_push}

@@ -24,10 +24,10 @@ use Rattle.nm_types.specs.declared.entry.Entry.TheVariants.{Zero, Frame, Held}
 use Rattle.nm_model.specs.definitions.Areas.{Mapped}
 use Rattle.nm_rmap.specs.Mappers.{Mappers, mappers_of, without_mapper}
 use Rattle.nm_model.specs.definitions.PageTables.{Task, entry_at, entry_in}
-use Rattle.nm_engine.specs.ProcessTable.{names, without_entry, cleared_between, cleared}
-use Rattle.nm_engine.specs.AddressSpaces.{SpacesView, spaces_view}
+use Rattle.nm_engine.specs.views.ProcessTable.{names, without_entry, cleared_between, cleared}
+use Rattle.nm_engine.specs.views.AddressSpaces.{SpacesView, spaces_view}
 use Rattle.nm_model.specs.definitions.PageTables.{process_of, sight_of}
-use Rattle.nm_engine.specs.Tied.{IsTied, IsCleared, IsLess, IsWithout, has_spot, is_between}
+use Rattle.nm_engine.specs.definitions.Tied.{IsTied, IsCleared, IsLess, IsWithout, has_spot, is_between}
 use Rattle.nm_types.proofs.Maps.{equal, agree, get-values, get-replace, spot_cmp_total, with_values-without}
 use Rattle.nm_types.proofs.Keys.{keys-replace, sorted-without, All-get}
 use Rattle.nm_engine.proofs.Tied.Tabled.{same_tables}

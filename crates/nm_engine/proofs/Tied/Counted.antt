@@ -24,9 +24,9 @@ use Rattle.nm_types.specs.declared.entry.Entry.TheVariants.{Zero, Frame, Held}
 use Rattle.nm_model.specs.definitions.Areas.{Mapped}
 use Rattle.nm_rmap.specs.Mappers.{Mappers, mappers_of, pids, process_count}
 use Rattle.nm_model.specs.definitions.PageTables.{Task, entry_at, entry_in}
-use Rattle.nm_engine.specs.ProcessTable.{names}
+use Rattle.nm_engine.specs.views.ProcessTable.{names}
 use Rattle.nm_model.specs.definitions.PageTables.{process_of, sight_of, page_here}
-use Rattle.nm_engine.specs.Tied.{IsTied, has_spot}
+use Rattle.nm_engine.specs.definitions.Tied.{IsTied, has_spot}
 use Rattle.nm_types.proofs.Maps.{keys-values, equal, get-values, page_cmp_total, exact_page, spot_cmp_total}
 use Rattle.nm_types.proofs.Keys.{All-get}
 use Rattle.nm_engine.proofs.Tied.Remapped.{same_spot, exact_spot, TableInOrder}

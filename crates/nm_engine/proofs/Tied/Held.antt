@@ -27,11 +27,11 @@ use Rattle.nm_model.specs.definitions.RunMachine.{Job, job_from}
 use Rattle.nm_model.specs.definitions.Seen.{sight_in}
 use Rattle.nm_laws.proofs.InFlight.Values.{values_same, entries_show, changed_at}
 use Rattle.nm_rmap.specs.Mappers.{Mappers, mappers_of, carried}
-use Rattle.nm_engine.specs.AddressSpaces.{SpacesView, spaces_view, with_moved}
-use Rattle.nm_engine.specs.Held.{AreApart, entry_here, held_for, on_their_way, is_taken}
-use Rattle.nm_engine.specs.Moves.{CanRemap, all_moved}
-use Rattle.nm_engine.specs.ProcessTable.{names, IsThere, with_other_entry, replaced, replaced_in, all_replaced, remapped}
-use Rattle.nm_engine.specs.Tied.{IsTied, AreInOrder, has_spot}
+use Rattle.nm_engine.specs.views.AddressSpaces.{SpacesView, spaces_view, with_moved}
+use Rattle.nm_engine.specs.views.Held.{AreApart, entry_here, held_for, on_their_way, is_taken}
+use Rattle.nm_engine.specs.definitions.Moves.{CanRemap, all_moved}
+use Rattle.nm_engine.specs.views.ProcessTable.{names, IsThere, with_other_entry, replaced, replaced_in, all_replaced, remapped}
+use Rattle.nm_engine.specs.definitions.Tied.{IsTied, AreInOrder, has_spot}
 use Rattle.nm_engine.proofs.Tied.New.{entry_again, seen_here}
 use Rattle.nm_engine.proofs.Tied.Moved.{IsSpare, frame_held, move_tied, move_shows}
 use Rattle.nm_engine.proofs.Tied.Remapped.{TableInOrder, same_spot, all_from_has, all_there_stay, entry_at-replaced}

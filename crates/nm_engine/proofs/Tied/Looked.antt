@@ -12,11 +12,11 @@ use Rattle.nm_model.specs.definitions.Seen.{sight_in, look_at_place, look_by_sig
 use Rattle.nm_types.specs.declared.entry.Entry.{Entry}
 use Rattle.nm_model.specs.definitions.Areas.{Mapped}
 use Rattle.nm_rmap.specs.Mappers.{Mappers}
-use Rattle.nm_engine.specs.AddressSpaces.{SpacesView, spaces_view}
+use Rattle.nm_engine.specs.views.AddressSpaces.{SpacesView, spaces_view}
 use Rattle.nm_model.specs.definitions.PageTables.{sight_of, page_here}
 use Rattle.nm_model.specs.definitions.PageTables.{Task, entry_at}
-use Rattle.nm_engine.specs.ProcessTable.{names}
-use Rattle.nm_engine.specs.Tied.{IsTied}
+use Rattle.nm_engine.specs.views.ProcessTable.{names}
+use Rattle.nm_engine.specs.definitions.Tied.{IsTied}
 use Rattle.nm_engine.proofs.Tied.New.{seen_here, seen_page}
 
 module _ (y : SpacesView) (tasks : Map ℕ Task) (m : Mapped) (r : Mappers) (pid v : ℕ) (page : Page) (is : spaces_view tasks m r ≡ y) (at : Some page ≡ page_at y.areas pid v) where

@@ -29,10 +29,10 @@ use Rattle.nm_model.specs.definitions.Areas.{Mapped}
 use Rattle.nm_model.specs.definitions.AreaRefusal.{first_error, is_range, is_room, is_stretch, insert_refusal, stretch_refusal, range_refusal, overlaps}
 use Rattle.nm_rmap.specs.Mappers.{Mappers}
 use Rattle.nm_model.specs.definitions.PageTables.{Task, entry_at, entry_in}
-use Rattle.nm_engine.specs.ProcessTable.{names}
-use Rattle.nm_engine.specs.AddressSpaces.{SpacesView, spaces_view, pins_in, mapped_of, with_mapped}
+use Rattle.nm_engine.specs.views.ProcessTable.{names}
+use Rattle.nm_engine.specs.views.AddressSpaces.{SpacesView, spaces_view, pins_in, mapped_of, with_mapped}
 use Rattle.nm_model.specs.definitions.PageTables.{process_of, sight_of, page_here}
-use Rattle.nm_engine.specs.Tied.{IsTied}
+use Rattle.nm_engine.specs.definitions.Tied.{IsTied}
 use Rattle.nm_types.proofs.Maps.{agree}
 use Rattle.nm_types.proofs.Keys.{All-get}
 use Rattle.nm_engine.proofs.Tied.Remapped.{TableInOrder}

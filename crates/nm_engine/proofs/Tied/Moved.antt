@@ -16,9 +16,9 @@ use Rattle.nm_model.specs.definitions.Areas.{Mapped}
 use Rattle.nm_model.specs.definitions.Areas.{with_frame}
 use Rattle.nm_rmap.specs.Mappers.{Mappers, mappers_of, frame_pins, carried}
 use Rattle.nm_model.specs.definitions.PageTables.{Task, entry_at}
-use Rattle.nm_engine.specs.ProcessTable.{names, remapped}
-use Rattle.nm_engine.specs.AddressSpaces.{SpacesView, spaces_view, pins_in, with_moved}
-use Rattle.nm_engine.specs.Tied.{IsTied, has_spot}
+use Rattle.nm_engine.specs.views.ProcessTable.{names, remapped}
+use Rattle.nm_engine.specs.views.AddressSpaces.{SpacesView, spaces_view, pins_in, with_moved}
+use Rattle.nm_engine.specs.definitions.Tied.{IsTied, has_spot}
 use Rattle.nm_types.proofs.Maps.{equal, get-set, page_cmp_total, exact_page, spot_cmp_total, with_values-moved, keys-set}
 use Rattle.nm_engine.proofs.Tied.Remapped.{mappers_mapped, entry_at-remapped, remapped_shows, keys-remapped, order-remapped}
 

@@ -24,10 +24,10 @@ use Rattle.nm_types.specs.declared.process.ProcessInfo.{ProcessInfo}
 use Rattle.nm_model.specs.definitions.PageTables.{entry_of}
 use Rattle.nm_model.specs.definitions.Effect.{info_of, untouched}
 use Rattle.nm_model.specs.definitions.PageTables.{Task, entry_at, entry_in}
-use Rattle.nm_engine.specs.ProcessTable.{new_task, task_info, task_table, names}
-use Rattle.nm_engine.specs.AddressSpaces.{SpacesView, spaces_view}
+use Rattle.nm_engine.specs.views.ProcessTable.{new_task, task_info, task_table, names}
+use Rattle.nm_engine.specs.views.AddressSpaces.{SpacesView, spaces_view}
 use Rattle.nm_model.specs.definitions.PageTables.{process_of, sight_of, page_here}
-use Rattle.nm_engine.specs.Tied.{IsTied, has_spot}
+use Rattle.nm_engine.specs.definitions.Tied.{IsTied, has_spot}
 use Rattle.nm_types.proofs.Maps.{equal, get-set, get-values, all_from_get, with_values-set}
 use Rattle.nm_types.proofs.Keys.{All-set, All-get, sorted-set}
 use Rattle.nm_engine.proofs.Tied.Remapped.{TableInOrder}

@@ -12,8 +12,8 @@ use Rattle.nm_types.specs.Map.{Map, get, set, replace, with_values, page_cmp}
 use Rattle.nm_model.specs.definitions.Areas.{Mapped}
 use Rattle.nm_rmap.specs.Mappers.{Mappers, frame_pins, with_pins}
 use Rattle.nm_model.specs.definitions.PageTables.{Task}
-use Rattle.nm_engine.specs.AddressSpaces.{SpacesView, spaces_view, pins_in, pins_here, with_pins_of}
-use Rattle.nm_engine.specs.Tied.{IsTied}
+use Rattle.nm_engine.specs.views.AddressSpaces.{SpacesView, spaces_view, pins_in, pins_here, with_pins_of}
+use Rattle.nm_engine.specs.definitions.Tied.{IsTied}
 use Rattle.nm_types.proofs.Maps.{keys-values, get-values, page_cmp_total, exact_page, with_values-set, set_agree, set_same, replace_is_set}
 
 -- the pins of a page are its frame's

@@ -12,7 +12,7 @@ use Rattle.indexmap.proofs.CallerLemmas.{updates-with_value_at}
 use Rattle.nm_types.specs.Map.{Map, replace}
 use Rattle.nm_types.proofs.Cases.{some_is}
 use Rattle.nm_model.specs.definitions.PageTables.{Task}
-use Rattle.nm_engine.specs.ProcessTable.{by_pid}
+use Rattle.nm_engine.specs.views.ProcessTable.{by_pid}
 use Rattle.nm_engine.proofs.Tied.Tabled.{rewritten}
 
 module _ {V : Type 0} (es : List (ℕ × V)) where

@@ -14,9 +14,9 @@ use Rattle.nm_types.specs.Map.{Map, get, replace, with_values, spot_cmp}
 use Rattle.nm_types.specs.declared.entry.Entry.{Entry}
 use Rattle.nm_types.specs.declared.entry.Entry.TheVariants.{Zero, Frame, Held}
 use Rattle.nm_model.specs.definitions.PageTables.{Task, entry_at, entry_in}
-use Rattle.nm_engine.specs.ProcessTable.{names, IsThere, with_other_entry, replaced, replaced_in, remapped}
+use Rattle.nm_engine.specs.views.ProcessTable.{names, IsThere, with_other_entry, replaced, replaced_in, remapped}
 use Rattle.nm_model.specs.definitions.PageTables.{process_of, sight_of}
-use Rattle.nm_engine.specs.Tied.{has_spot}
+use Rattle.nm_engine.specs.definitions.Tied.{has_spot}
 use Rattle.nm_types.proofs.Maps.{equal, spot_cmp_total, with_values-replace_alike, get-replace}
 use Rattle.nm_types.proofs.Keys.{keys-replace, All-replace, All-get}
 

@@ -28,10 +28,10 @@ use Rattle.nm_rmap.specs.Mappers.{Mappers, mappers_of, frame_pins}
 use Rattle.nm_model.specs.definitions.Effect.{shows_pinned}
 use Rattle.nm_model.specs.definitions.Effect.{blind_between}
 use Rattle.nm_model.specs.definitions.PageTables.{Task, entry_at}
-use Rattle.nm_engine.specs.ProcessTable.{names, cleared_between, cleared}
-use Rattle.nm_engine.specs.AddressSpaces.{SpacesView, spaces_view, pins_in, without_range}
+use Rattle.nm_engine.specs.views.ProcessTable.{names, cleared_between, cleared}
+use Rattle.nm_engine.specs.views.AddressSpaces.{SpacesView, spaces_view, pins_in, without_range}
 use Rattle.nm_model.specs.definitions.PageTables.{process_of, sight_of}
-use Rattle.nm_engine.specs.Tied.{IsTied, IsCleared, has_spot, is_between}
+use Rattle.nm_engine.specs.definitions.Tied.{IsTied, IsCleared, has_spot, is_between}
 use Rattle.nm_types.proofs.Maps.{equal, agree, get-values, exact_page, page_cmp_total, with_values-without}
 use Rattle.nm_types.proofs.Keys.{sorted-without, All-get}
 use Rattle.nm_laws.proofs.Soundness.Allocated.{area_covers}

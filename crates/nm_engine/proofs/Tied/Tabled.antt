@@ -22,7 +22,7 @@ use Rattle.nm_types.proofs.Cases.{some_is}
 use Rattle.nm_types.proofs.Maps.{equal, get-set, get-replace}
 use Rattle.nm_types.proofs.Keys.{sorted-set, sorted-without, keys-replace}
 use Rattle.nm_model.specs.definitions.PageTables.{Task}
-use Rattle.nm_engine.specs.ProcessTable.{by_pid}
+use Rattle.nm_engine.specs.views.ProcessTable.{by_pid}
 
 both : (a b : Bool) → T a → T b → T (a && b)
 both true true g h = tt

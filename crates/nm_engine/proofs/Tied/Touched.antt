@@ -26,9 +26,9 @@ use Rattle.nm_model.specs.definitions.Areas.{Mapped, with_frame, without_frame}
 use Rattle.nm_rmap.specs.Mappers.{Mappers, mappers_of, frame_pins, with_mapper, without_mapper, with_spot, without_spot}
 use Rattle.nm_model.specs.definitions.Effect.{seeing}
 use Rattle.nm_model.specs.definitions.PageTables.{Task, entry_at, entry_in, with_entry, process_of, sight_of, page_here}
-use Rattle.nm_engine.specs.ProcessTable.{names}
-use Rattle.nm_engine.specs.AddressSpaces.{SpacesView, spaces_view, pins_in, with_seen}
-use Rattle.nm_engine.specs.Tied.{IsTied, has_spot}
+use Rattle.nm_engine.specs.views.ProcessTable.{names}
+use Rattle.nm_engine.specs.views.AddressSpaces.{SpacesView, spaces_view, pins_in, with_seen}
+use Rattle.nm_engine.specs.definitions.Tied.{IsTied, has_spot}
 use Rattle.nm_types.proofs.Maps.{equal, get-set, get-replace, get-values, page_cmp_total, exact_page, spot_cmp_total, with_values-set, with_values-replace, without-set}
 use Rattle.nm_types.proofs.Keys.{keys-replace, All-replace, All-get, sorted-set}
 use Rattle.nm_engine.proofs.Tied.Remapped.{is_mapped, same_spot, exact_spot, TableInOrder}

@@ -15,9 +15,9 @@ use Rattle.nm_model.specs.definitions.Events.{held_by, laid_for}
 use Rattle.nm_model.specs.definitions.Frames.{Store}
 use Rattle.nm_model.specs.definitions.PageTables.{entry_of}
 use Rattle.nm_model.specs.definitions.RunMachine.{Job, job_from}
-use Rattle.nm_engine.specs.AddressSpaces.{SpacesView, with_moved}
-use Rattle.nm_engine.specs.Held.{is_left, is_taken}
-use Rattle.nm_engine.specs.Moves.{CanRemap}
+use Rattle.nm_engine.specs.views.AddressSpaces.{SpacesView, with_moved}
+use Rattle.nm_engine.specs.views.Held.{is_left, is_taken}
+use Rattle.nm_engine.specs.definitions.Moves.{CanRemap}
 use Rattle.nm_engine.proofs.Tied.Moved.{place_other}
 
 frames_same : {f g : ℕ} → Frame f ≡ Frame g → f ≡ g

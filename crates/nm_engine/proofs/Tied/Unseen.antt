@@ -23,10 +23,10 @@ use Rattle.nm_model.specs.definitions.Areas.{Mapped}
 use Rattle.nm_model.specs.definitions.Areas.{without_frame}
 use Rattle.nm_rmap.specs.Mappers.{Mappers, mappers_of, frame_pins}
 use Rattle.nm_model.specs.definitions.PageTables.{Task, entry_at, entry_in, with_entry}
-use Rattle.nm_engine.specs.ProcessTable.{names, without_entry, replaced, replaced_in}
-use Rattle.nm_engine.specs.AddressSpaces.{SpacesView, spaces_view, pins_in, with_seen, without_seen, without_page}
+use Rattle.nm_engine.specs.views.ProcessTable.{names, without_entry, replaced, replaced_in}
+use Rattle.nm_engine.specs.views.AddressSpaces.{SpacesView, spaces_view, pins_in, with_seen, without_seen, without_page}
 use Rattle.nm_model.specs.definitions.PageTables.{process_of, sight_of, page_here}
-use Rattle.nm_engine.specs.Tied.{IsTied, IsWithout, has_spot}
+use Rattle.nm_engine.specs.definitions.Tied.{IsTied, IsWithout, has_spot}
 use Rattle.nm_laws.proofs.Soundness.Released.{get-without, other_placed}
 use Rattle.nm_engine.proofs.Tied.Cleared.{get_left, and_true}
 use Rattle.nm_engine.proofs.Tied.Remapped.{same_spot, exact_spot, TableInOrder}

@@ -11,7 +11,7 @@ use Rattle.nm_model.specs.definitions.Areas.{Mapped}
 use Rattle.nm_rmap.specs.Mappers.{Mappers}
 use Rattle.nm_rmap.specs.Mappers.{frame_pins as pins_of_frame}
 use Rattle.nm_model.specs.definitions.PageTables.{Task}
-use Rattle.nm_engine.specs.AddressSpaces.{SpacesView, spaces_view, pins_here}
+use Rattle.nm_engine.specs.views.AddressSpaces.{SpacesView, spaces_view, pins_here}
 use Rattle.nm_types.specs.State.{Placed, area_over, page_of, page_shown, page_at}
 use Rattle.nm_types.proofs.Cases.{none_some, some_is, true_false}
 use Rattle.nm_model.specs.definitions.Effect.{pages_from, pages_between}

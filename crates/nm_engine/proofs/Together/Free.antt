@@ -12,9 +12,9 @@ use Rattle.nm_types.specs.Nodes.{is_in}
 use Rattle.nm_model.specs.definitions.Frames.{Store, IsHome, bytes_of, all_frames}
 use Rattle.nm_model.specs.definitions.Frames as pool
 use Rattle.nm_model.specs.definitions.Sound.{times, FramesAreOnce, IsSoundMidRun}
-use Rattle.nm_engine.specs.AddressSpaces.{SpacesView}
-use Rattle.nm_engine.specs.Shown.{paged_frames, shown_by}
-use Rattle.nm_engine.specs.Frames.{FramesView, HasAllFrames, PagedFrames, with_freed, CanFree, pool_of}
+use Rattle.nm_engine.specs.views.AddressSpaces.{SpacesView}
+use Rattle.nm_engine.specs.views.Shown.{paged_frames, shown_by}
+use Rattle.nm_engine.specs.views.Frames.{FramesView, HasAllFrames, PagedFrames, with_freed, CanFree, pool_of}
 use Rattle.nm_engine.proofs.Together.Paged.{IsStocked, free_of}
 use Rattle.nm_laws.proofs.Soundness.Frames.{here, times_cons, frame_freed, left_below}
 use Rattle.nm_laws.proofs.Soundness.Once.{counted_place}

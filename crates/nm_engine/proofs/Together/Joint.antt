@@ -6,11 +6,11 @@ use Rattle.nm_types.specs.Map.{get, page_cmp}
 use Rattle.nm_types.specs.Layout.{frame_count}
 use Rattle.nm_types.specs.State.{Process}
 use Rattle.nm_model.specs.definitions.Frames.{bytes_of}
-use Rattle.nm_engine.specs.AddressSpaces.{SpacesView, with_moved, with_new_page}
-use Rattle.nm_engine.specs.Frames.{FramesView, HasAllFrames, free_on}
+use Rattle.nm_engine.specs.views.AddressSpaces.{SpacesView, with_moved, with_new_page}
+use Rattle.nm_engine.specs.views.Frames.{FramesView, HasAllFrames, free_on}
 use Rattle.nm_engine.proofs.Together.Paged.{IsStocked, stock_page, restock_page}
-use Rattle.nm_engine.specs.Shown.{paged_frames, shown_by}
-use Rattle.nm_engine.specs.MidRun.{IsKept}
+use Rattle.nm_engine.specs.views.Shown.{paged_frames, shown_by}
+use Rattle.nm_engine.specs.views.MidRun.{IsKept}
 use Rattle.nm_laws.proofs.Soundness.Counted.{index_front}
 use Rattle.nm_engine.proofs.Together.Free.{place_below, front_below, apart_from_front, stocked_is}
 

@@ -20,10 +20,10 @@ use Rattle.nm_model.specs.definitions.Effect.{first_error, is_unknown, spawn_ref
 use Rattle.nm_types.specs.declared.process.ProcessInfo.{ProcessInfo}
 use Rattle.nm_model.specs.definitions.Sound.{IsSoundMidRun, IsSound}
 use Rattle.nm_model.specs.views.Table.{Table}
-use Rattle.nm_engine.specs.Frames.{FramesView, PagedFrames}
-use Rattle.nm_engine.specs.AddressSpaces.{SpacesView, no_spaces}
-use Rattle.nm_engine.specs.Shown.{shown, shown_by}
-use Rattle.nm_engine.specs.MidRun.{IsKept}
+use Rattle.nm_engine.specs.views.Frames.{FramesView, PagedFrames}
+use Rattle.nm_engine.specs.views.AddressSpaces.{SpacesView, no_spaces}
+use Rattle.nm_engine.specs.views.Shown.{shown, shown_by}
+use Rattle.nm_engine.specs.views.MidRun.{IsKept}
 use Rattle.nm_model.specs.definitions.Effect.{info_of}
 use Rattle.nm_laws.proofs.Soundness.Called.{spawn_sound}
 use Rattle.nm_laws.proofs.Soundness.New.{new_sound}

@@ -10,19 +10,19 @@ use Rattle.nm_types.specs.declared.request.Class.{Class}
 use Rattle.nm_types.specs.declared.request.Class.TheVariants.{Status, Move}
 use Rattle.nm_types.specs.declared.request.Wanted.{Wanted}
 use Rattle.nm_model.specs.definitions.Status.{status_or_move}
-use Rattle.nm_model.specs.definitions.Run.{moved_page, decided, one, each, left, failures, with_all_free, added, counted}
-use Rattle.nm_engine.specs.Frames.{PagedFrames}
+use Rattle.nm_model.specs.definitions.Run.{moved_page, decision, one_request, each_request, left, failures, with_all_free, total_after, with_counts}
+use Rattle.nm_engine.specs.views.Frames.{PagedFrames}
 use Rattle.nm_model.specs.definitions.Memory.{stretch_of}
 use Rattle.nm_engine.proofs.Together.Paged.{IsStocked, free_of, restock_page, free_all}
 use Rattle.nm_model.specs.views.Table.{Table}
-use Rattle.nm_engine.specs.Shown.{shown}
+use Rattle.nm_engine.specs.views.Shown.{shown}
 use Rattle.nm_model.specs.definitions.Sound.{IsSoundMidRun}
-use Rattle.nm_engine.specs.MidRun.{IsKept}
+use Rattle.nm_engine.specs.views.MidRun.{IsKept}
 use Rattle.nm_laws.proofs.Soundness.Frames.{left-append}
 use Rattle.nm_laws.proofs.Soundness.Moved.{decided_sound, freed_sound, counted_sound}
 use Rattle.nm_engine.proofs.Together.Shows.{restocked_shows, freed_shows}
 
--- the bytes from one place up to another
+-- the bytes from one_request place up to another
 pub stretch_step : (bytes : List ℕ) (k end : ℕ) → k < end → stretch_of bytes k (end - k) ≡ slice_index bytes k ∷ stretch_of bytes (k + 1) (end - (k + 1))
 stretch_step bytes k end lt =
     let n : end - k ≡ suc (end - (k + 1)) = omega (arith, lt) in
@@ -65,22 +65,22 @@ some_front [] x e = cc
 some_front (y ∷ xs) x e = omega arith
 
 -- the frame that a page leaves
-pub move_left : (s : State) (page : Page) (from target : ℕ) → 0 < length (free_list s target) → from ∷ [] ≡ left (decided s target (Move page from)).taken
+pub move_left : (s : State) (page : Page) (from target : ℕ) → 0 < length (free_list s target) → from ∷ [] ≡ left (decision s target (Move page from)).taken
 move_left s page from target some = sym (ap (λ fs. left (moved_page s target page from fs).taken) (front_there (free_list s target) some))
 
 module _ (tasks : Map ℕ Process) (m : Table) (x : PagedFrames) (online : List ℕ) (moved failed : ℕ) where
   -- a run's end
-  pub end_shows : (y : PagedFrames) (n k total failures : ℕ) → y ≡ free_all x → total ≡ added moved n → failures ≡ added failed k
-      → shown tasks m y online total failures ≡ counted (with_all_free (shown tasks m x online moved failed) x.vacated) n k
+  pub end_shows : (y : PagedFrames) (n k total failures : ℕ) → y ≡ free_all x → total ≡ total_after moved n → failures ≡ total_after failed k
+      → shown tasks m y online total failures ≡ with_counts (with_all_free (shown tasks m x online moved failed) x.vacated) n k
   end_shows y n k total failures freed t f =
       let s = with_all_free (shown tasks m x online moved failed) x.vacated in
       let same : shown tasks m (free_all x) online moved failed ≡ s = freed_shows tasks m x online moved failed in
       ap (λ y. shown tasks m y online total failures) freed
       ∙ ap (λ (s : State). record s { moved = total; failed = failures }) same
-      ∙ ap (λ n. record s { moved = n; failed = failures }) (t ∙ ap (λ (s : State). added s.moved n) same)
-      ∙ ap (λ k. record s { moved = added s.moved n; failed = k }) (f ∙ ap (λ (s : State). added s.failed k) same)
+      ∙ ap (λ n. record s { moved = n; failed = failures }) (t ∙ ap (λ (s : State). total_after s.moved n) same)
+      ∙ ap (λ k. record s { moved = total_after s.moved n; failed = k }) (f ∙ ap (λ (s : State). total_after s.failed k) same)
 
-  pub end_kept : {c : ℕ} (y : PagedFrames) (n k total failures : ℕ) → y ≡ free_all x → total ≡ added moved n → failures ≡ added failed k
+  pub end_kept : {c : ℕ} (y : PagedFrames) (n k total failures : ℕ) → y ≡ free_all x → total ≡ total_after moved n → failures ≡ total_after failed k
       → IsKept (shown tasks m x online moved failed) x.vacated c → IsKept (shown tasks m y online total failures) y.vacated c
   end_kept y n k total failures freed t f h =
       let s = shown tasks m x online moved failed in
@@ -92,7 +92,7 @@ module _ (tasks : Map ℕ Process) (m : Table) (x : PagedFrames) (online : List 
 
   -- a page that moves
   pub move_shows : (y : PagedFrames) (page : Page) (from target : ℕ) → IsStocked x → get page_cmp x.place page ≡ Some from → 0 < length (free_of x target) → y ≡ restock_page x page from target
-      → shown tasks m y online moved failed ≡ (decided (shown tasks m x online moved failed) target (Move page from)).state
+      → shown tasks m y online moved failed ≡ (decision (shown tasks m x online moved failed) target (Move page from)).state
   move_shows y page from target h placed some is =
       let front = front_there (free_of x target) some in
       ap (λ y. shown tasks m y online moved failed) is
@@ -103,20 +103,20 @@ module _ (tasks : Map ℕ Process) (m : Table) (x : PagedFrames) (online : List 
       → IsKept (shown tasks m x online moved failed) x.vacated c → IsKept (shown tasks m y online moved failed) y.vacated c
   move_kept y page from target paged_frames placed some is h =
       let s = shown tasks m x online moved failed in
-      let left_now : x.vacated ++ left (decided s target (Move page from)).taken ≡ y.vacated =
+      let left_now : x.vacated ++ left (decision s target (Move page from)).taken ≡ y.vacated =
       ap (λ l. x.vacated ++ l) (sym (move_left s page from target some)) ∙ sym (ap (λ (y : PagedFrames). y.vacated) is) in
       record {
         sound = subst (λ t. IsSoundMidRun t y.vacated) (sym (move_shows y page from target paged_frames placed some is))
-            (subst (λ l. IsSoundMidRun (decided s target (Move page from)).state l) left_now (decided_sound s x.vacated target (Move page from) h.sound placed));
+            (subst (λ l. IsSoundMidRun (decision s target (Move page from)).state l) left_now (decided_sound s x.vacated target (Move page from) h.sound placed));
         as_many = h.as_many ∙ sym (ap (λ (y : PagedFrames). frame_count y.layout) is);
       }
 
--- a request leaves the nodes as they are, and at most one frame
+-- a request leaves the nodes as they are, and at most one_request frame
 page_layout : (s : State) (target : ℕ) (p : Page) (from : ℕ) (fs : List ℕ) → (moved_page s target p from fs).state.layout ≡ s.layout
 page_layout s target p from [] = refl
 page_layout s target p from (f ∷ fs) = refl
 
-pub decided_layout : (s : State) (target : ℕ) (c : Class) → (decided s target c).state.layout ≡ s.layout
+pub decided_layout : (s : State) (target : ℕ) (c : Class) → (decision s target c).state.layout ≡ s.layout
 decided_layout s target (Status status) = refl
 decided_layout s target (Move p from) = page_layout s target p from (free_list s target)
 
@@ -124,30 +124,30 @@ page_leaves : (s : State) (target : ℕ) (p : Page) (from : ℕ) (fs : List ℕ)
 page_leaves s target p from [] = omega arith
 page_leaves s target p from (f ∷ fs) = omega arith
 
-pub decided_leaves : (s : State) (target : ℕ) (c : Class) → length (left (decided s target c).taken) ≤ 1
+pub decided_leaves : (s : State) (target : ℕ) (c : Class) → length (left (decision s target c).taken) ≤ 1
 decided_leaves s target (Status status) = omega arith
 decided_leaves s target (Move p from) = page_leaves s target p from (free_list s target)
 
 -- the first of several requests, and those after it
 pub record Step (s : State) (l : List ℕ) (before : List ℤ) (target : ℕ) (ws rest : List Wanted) (t : State) (m : List ℕ) (told : List ℤ) : Type 0 where
-  pub state : (each t target rest).state ≡ (each s target ws).state
-  pub left : m ++ left (each t target rest).taken ≡ l ++ left (each s target ws).taken
-  pub statuses : told ++ (each t target rest).statuses ≡ before ++ (each s target ws).statuses
+  pub state : (each_request t target rest).state ≡ (each_request s target ws).state
+  pub left : m ++ left (each_request t target rest).taken ≡ l ++ left (each_request s target ws).taken
+  pub statuses : told ++ (each_request t target rest).statuses ≡ before ++ (each_request s target ws).statuses
   pub layout : t.layout ≡ s.layout
   pub frames : length m ≤ length l + 1
   pub one_less : length ws ≡ length rest + 1
 
 pub step : (s : State) (l : List ℕ) (before : List ℤ) (target : ℕ) (ws : List Wanted) (w : Wanted) (rest : List Wanted) (t : State) (m : List ℕ) (told : List ℤ) (status : ℤ) → ws ≡ w ∷ rest
-    → t ≡ (one s target w).state → m ≡ l ++ left (one s target w).taken → told ≡ before ++ status ∷ [] → status ≡ (one s target w).status → Step s l before target ws rest t m told
+    → t ≡ (one_request s target w).state → m ≡ l ++ left (one_request s target w).taken → told ≡ before ++ status ∷ [] → status ≡ (one_request s target w).status → Step s l before target ws rest t m told
 step s l before target ws w rest t m told status first state kept pushed is =
-    let now = one s target w in
-    let later = each now.state target rest in
+    let now = one_request s target w in
+    let later = each_request now.state target rest in
     record {
-      state = ap (λ u. (each u target rest).state) state ∙ sym (ap (λ xs. (each s target xs).state) first);
-      left = ap (λ u. m ++ left (each u target rest).taken) state ∙ ap (λ xs. xs ++ left later.taken) kept ∙ append_assoc l (left now.taken) (left later.taken)
-          ∙ ap (λ xs. l ++ xs) (sym (left-append now.taken later.taken)) ∙ sym (ap (λ xs. l ++ left (each s target xs).taken) first);
-      statuses = ap (λ u. told ++ (each u target rest).statuses) state ∙ ap (λ xs. xs ++ later.statuses) pushed ∙ append_assoc before (status ∷ []) later.statuses
-          ∙ ap (λ x. before ++ x ∷ later.statuses) is ∙ sym (ap (λ xs. before ++ (each s target xs).statuses) first);
+      state = ap (λ u. (each_request u target rest).state) state ∙ sym (ap (λ xs. (each_request s target xs).state) first);
+      left = ap (λ u. m ++ left (each_request u target rest).taken) state ∙ ap (λ xs. xs ++ left later.taken) kept ∙ append_assoc l (left now.taken) (left later.taken)
+          ∙ ap (λ xs. l ++ xs) (sym (left-append now.taken later.taken)) ∙ sym (ap (λ xs. l ++ left (each_request s target xs).taken) first);
+      statuses = ap (λ u. told ++ (each_request u target rest).statuses) state ∙ ap (λ xs. xs ++ later.statuses) pushed ∙ append_assoc before (status ∷ []) later.statuses
+          ∙ ap (λ x. before ++ x ∷ later.statuses) is ∙ sym (ap (λ xs. before ++ (each_request s target xs).statuses) first);
       layout = ap (λ (u : State). u.layout) state ∙ decided_layout s target (status_or_move s target w);
       frames =
           let len : length m ≡ length l + length (left now.taken) = ap length kept ∙ length-append l (left now.taken) in

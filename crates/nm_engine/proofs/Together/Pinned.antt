@@ -11,12 +11,12 @@ use Rattle.nm_types.specs.State.{State}
 use Rattle.nm_model.specs.definitions.Seen.{sight_at, pins_of, page_seen}
 use Rattle.nm_model.specs.definitions.Effect.{with_pins, pin, unpin}
 use Rattle.nm_model.specs.definitions.Effect.{is_unknown, pins_refusal, pin_refusal, unpin_refusal}
-use Rattle.nm_engine.specs.Does.{Alters}
-use Rattle.nm_engine.specs.AddressSpaces.{SpacesView, with_pins_of}
-use Rattle.nm_engine.specs.Frames.{FramesView}
-use Rattle.nm_engine.specs.Shown.{shown_by}
+use Rattle.nm_engine.specs.definitions.Does.{Alters}
+use Rattle.nm_engine.specs.views.AddressSpaces.{SpacesView, with_pins_of}
+use Rattle.nm_engine.specs.views.Frames.{FramesView}
+use Rattle.nm_engine.specs.views.Shown.{shown_by}
 use Rattle.nm_model.specs.definitions.Sound.{IsSoundMidRun}
-use Rattle.nm_engine.specs.MidRun.{MidRun, IsKept}
+use Rattle.nm_engine.specs.views.MidRun.{MidRun, IsKept}
 use Rattle.nm_laws.proofs.Soundness.Called.{repinned_sound, few_pins}
 use Rattle.nm_model.proofs.looks.{sees_page}
 use Rattle.nm_engine.proofs.Together.Touches.{inside, outside}

@@ -16,17 +16,17 @@ use Rattle.nm_types.proofs.Cases.{some_is}
 use Rattle.nm_types.proofs.Maps.{page_cmp_total, get-set}
 use Rattle.nm_frames.specs.Populated.{IsPopulated, populated}
 use Rattle.nm_model.specs.definitions.Frames.{Store, IsHome, bytes_of, overwrite}
-use Rattle.nm_model.specs.definitions.Early.{Due, Known, ToRead, ToWrite, IsInside, tos}
+use Rattle.nm_model.specs.definitions.BeforeCopy.{PendingAccess, Known, ToRead, ToWrite, IsInside, frames_taken}
 use Rattle.nm_model.specs.definitions.Run.{left}
 use Rattle.nm_laws.specs.Laws.{with_move}
 use Rattle.nm_laws.specs.Moves.{CanMove}
 use Rattle.nm_laws.proofs.Early.Kept.{beside}
-use Rattle.nm_engine.specs.Copies.{HasBoth, with_copy, with_copies}
-use Rattle.nm_engine.specs.Finishing.{frame_at, all_done, CanDo}
-use Rattle.nm_engine.specs.AddressSpaces.{SpacesView}
-use Rattle.nm_engine.specs.Frames.{FramesView, KeepsBytes}
-use Rattle.nm_engine.specs.MidRun.{MidRun, IsKept}
-use Rattle.nm_engine.specs.Shown.{bytes_in, shown_by}
+use Rattle.nm_engine.specs.views.Copies.{HasBoth, with_copy, with_copies}
+use Rattle.nm_engine.specs.definitions.AfterCopy.{frame_at, all_stored_after_copy, CanDo}
+use Rattle.nm_engine.specs.views.AddressSpaces.{SpacesView}
+use Rattle.nm_engine.specs.views.Frames.{FramesView, KeepsBytes}
+use Rattle.nm_engine.specs.views.MidRun.{MidRun, IsKept}
+use Rattle.nm_engine.specs.views.Shown.{bytes_in, shown_by}
 use Rattle.nm_model.specs.definitions.Sound.{IsSoundMidRun}
 use Rattle.nm_engine.proofs.Together.Copies.{home_set}
 
@@ -126,7 +126,7 @@ copies_populated [] s q both whole = whole
 copies_populated (t ∷ taken) s q both whole =
     copies_populated taken (with_copy s t) q (froms_then taken s t both.0.0 both.1) (set_populated s t.to q (bytes_of s t.from) both.0.0 whole)
 
-done_populated : (place : Map Page ℕ) (dues : List Due) (s : Store) (q : ℕ) → AllByRecursion IsInside dues → IsPopulated s q → IsPopulated (all_done place s dues).store q
+done_populated : (place : Map Page ℕ) (dues : List PendingAccess) (s : Store) (q : ℕ) → AllByRecursion IsInside dues → IsPopulated s q → IsPopulated (all_stored_after_copy place s dues).store q
 done_populated place [] s q inside whole = whole
 done_populated place (Known answer ∷ dues) s q inside whole = done_populated place dues s q inside.1 whole
 done_populated place (ToRead page at len ∷ dues) s q inside whole = done_populated place dues s q inside.1 whole
@@ -134,15 +134,15 @@ done_populated place (ToWrite page at new ∷ dues) s q inside whole =
     let f = frame_at place page in
     done_populated place dues (slice_set s f (Some (overwrite (bytes_of s f) at new))) q inside.1 (written_populated s f q at new inside.0 whole)
 
-can_inside : (place : Map Page ℕ) (s : Store) (dues : List Due) → AllByRecursion (CanDo place s) dues → AllByRecursion IsInside dues
+can_inside : (place : Map Page ℕ) (s : Store) (dues : List PendingAccess) → AllByRecursion (CanDo place s) dues → AllByRecursion IsInside dues
 can_inside place s [] can = tt
 can_inside place s (Known answer ∷ dues) can = (tt, can_inside place s dues can.1)
 can_inside place s (ToRead page at len ∷ dues) can = (can.0.inside, can_inside place s dues can.1)
 can_inside place s (ToWrite page at new ∷ dues) can = (can.0.inside, can_inside place s dues can.1)
 
 -- frames that have their bytes in memory have them once pages are copied and accesses made
-pub after_populated : (fs : List ℕ) (place : Map Page ℕ) (dues : List Due) (taken : List Taken) (out s : Store) → AllByRecursion (HasBoth s) taken → AllByRecursion (CanDo place out) dues → AllByRecursion (IsPopulated s) fs
-    → AllByRecursion (IsPopulated (all_done place (with_copies s taken) dues).store) fs
+pub after_populated : (fs : List ℕ) (place : Map Page ℕ) (dues : List PendingAccess) (taken : List Taken) (out s : Store) → AllByRecursion (HasBoth s) taken → AllByRecursion (CanDo place out) dues → AllByRecursion (IsPopulated s) fs
+    → AllByRecursion (IsPopulated (all_stored_after_copy place (with_copies s taken) dues).store) fs
 after_populated [] place dues taken out s both can all = tt
 after_populated (f ∷ fs) place dues taken out s both can all = (
   done_populated place dues (with_copies s taken) f (can_inside place out dues can) (copies_populated taken s f both all.0),
@@ -180,7 +180,7 @@ leave_before (u ∷ taken) s target t there all =
     all.0.1 (ap (node_of s.layout) (sym to) ∙ there) in
     ((sym (beside s.place t.page u.page t.to apart) ∙ all.0.0, all.0.1), leave_before taken s target t there all.1)
 
-pub all_leave : (taken : List Taken) (s : State) (target : ℕ) → AllByRecursion (λ f. node_of s.layout f ≡ target) (tos taken) → CanMove s target taken → AllByRecursion (Leaves s target) taken
+pub all_leave : (taken : List Taken) (s : State) (target : ℕ) → AllByRecursion (λ f. node_of s.layout f ≡ target) (frames_taken taken) → CanMove s target taken → AllByRecursion (Leaves s target) taken
 all_leave [] s target on can = tt
 all_leave (t ∷ taken) s target on can = ((can.0, can.2), leave_before taken s target t on.0 (all_leave taken (with_move target s t) target on.1 can.3))
 
@@ -188,7 +188,7 @@ pub left_populated : (taken : List Taken) (s : State) (target : ℕ) (store : St
 left_populated [] s target store whole all = tt
 left_populated (t ∷ taken) s target store whole all = (place_populated store s.place t.page t.from whole all.0.0, left_populated taken s target store whole all.1)
 
-pub both_populated : (taken : List Taken) (store : Store) → AllByRecursion (IsPopulated store) (left taken) → AllByRecursion (IsPopulated store) (tos taken) → AllByRecursion (HasBoth store) taken
+pub both_populated : (taken : List Taken) (store : Store) → AllByRecursion (IsPopulated store) (left taken) → AllByRecursion (IsPopulated store) (frames_taken taken) → AllByRecursion (HasBoth store) taken
 both_populated [] store froms fronts = tt
 both_populated (t ∷ taken) store froms fronts = ((froms.0, fronts.0), both_populated taken store froms.1 fronts.1)
 

@@ -8,12 +8,12 @@ use Rattle.nm_types.specs.declared.machine_error.MachineError.TheVariants.{Refus
 use Rattle.nm_types.specs.Does.{Makes}
 use Rattle.nm_model.specs.definitions.Areas.{inserted, attached, with_policy}
 use Rattle.nm_model.specs.definitions.Areas.{Mapped}
-use Rattle.nm_engine.specs.AddressSpaces.{SpacesView, mapped_of, table_of, with_mapped}
-use Rattle.nm_engine.specs.Frames.{FramesView}
-use Rattle.nm_engine.specs.Shown.{shown_by, paged_frames}
+use Rattle.nm_engine.specs.views.AddressSpaces.{SpacesView, mapped_of, table_of, with_mapped}
+use Rattle.nm_engine.specs.views.Frames.{FramesView}
+use Rattle.nm_engine.specs.views.Shown.{shown_by, paged_frames}
 use Rattle.nm_model.specs.definitions.Effect.{map_refusal, attach_refusal}
 use Rattle.nm_model.specs.definitions.Sound.{IsSound}
-use Rattle.nm_engine.specs.MidRun.{IsKept}
+use Rattle.nm_engine.specs.views.MidRun.{IsKept}
 use Rattle.nm_engine.proofs.Together.Kept.{kept_mapped}
 use Rattle.nm_laws.proofs.Soundness.Called.{map_sound, attach_sound}
 use Rattle.nm_laws.proofs.Soundness.Policed.{policy_sound}

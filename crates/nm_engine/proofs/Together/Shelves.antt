@@ -5,7 +5,7 @@ use Rattle.std.specs.List.{AllByRecursion}
 use Rattle.nm_types.specs.Layout.{node_count, frame_count}
 use Rattle.nm_model.specs.definitions.Frames.{Store, IsHome}
 use Rattle.nm_model.specs.definitions.Frames.{Pool}
-use Rattle.nm_engine.specs.Frames.{FramesView, HasAllFrames, KeepsBytes, CanFree, pool_of}
+use Rattle.nm_engine.specs.views.Frames.{FramesView, HasAllFrames, KeepsBytes, CanFree, pool_of}
 use Rattle.nm_engine.proofs.Together.Copies.{home_set}
 
 -- what holds of the view `v` holds of the fields `k` behind it

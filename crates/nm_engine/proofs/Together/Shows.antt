@@ -16,10 +16,10 @@ use Rattle.nm_model.specs.definitions.Frames.{Store, bytes_of, overwrite}
 use Rattle.nm_model.specs.definitions.Touch.{with_page, without_front}
 use Rattle.nm_model.specs.definitions.Run.{with_free, with_all_free}
 use Rattle.nm_model.specs.definitions.Sound.{PlacesAreApart}
-use Rattle.nm_engine.specs.Frames.{PagedFrames, with_freed}
+use Rattle.nm_engine.specs.views.Frames.{PagedFrames, with_freed}
 use Rattle.nm_engine.proofs.Together.Paged.{IsStocked, free_of, stock_page, restock_page, free_all}
 use Rattle.nm_model.specs.views.Table.{Table}
-use Rattle.nm_engine.specs.Shown.{bytes_in, shown}
+use Rattle.nm_engine.specs.views.Shown.{bytes_in, shown}
 use Rattle.nm_types.proofs.Maps.{page_cmp_total, exact_page, get-values, with_values-set, with_values-moved, set_agree, set_same, replace_is_set}
 use Rattle.nm_laws.proofs.Soundness.Once.{places_are_apart}
 use Rattle.nm_engine.proofs.Together.Free.{place_below, front_below, apart_from_front}

@@ -13,16 +13,16 @@ use Rattle.nm_types.specs.Map.{Map, get, set, replace, page_cmp}
 use Rattle.nm_types.specs.State.{Process, State, Placed, covers, area_over, page_of}
 use Rattle.nm_model.specs.definitions.Seen.{sight_in, sight_at, frame_seen}
 use Rattle.nm_model.specs.definitions.Order.{first_touch_order}
-use Rattle.nm_engine.specs.declared.inner.resolved.Resolved.{Resolved}
+use Rattle.nm_engine.specs.declared.inner.touch_site.TouchSite.{TouchSite}
 use Rattle.nm_types.specs.declared.process.ProcessInfo.{ProcessInfo}
 use Rattle.nm_model.specs.definitions.Effect.{info_of, seeing}
 use Rattle.nm_model.specs.definitions.Areas.{is_shared}
-use Rattle.nm_model.specs.definitions.Touch.{Spot, spot, spot_of, spot_over, shown_at, first_free, allocated, filled, with_sight, with_bytes, touched_entry, touched, touch}
-use Rattle.nm_engine.specs.Frames.{PagedFrames}
+use Rattle.nm_model.specs.definitions.Touch.{AccessSite, site, site_of, site_over, shown_at, first_free, allocated, filled, with_sight, with_bytes, touched_entry, touched, touch}
+use Rattle.nm_engine.specs.views.Frames.{PagedFrames}
 use Rattle.nm_engine.proofs.Together.Paged.{IsStocked, free_of, stock_page}
 use Rattle.nm_model.specs.views.Table.{Table}
-use Rattle.nm_engine.specs.Shown.{shown}
-use Rattle.nm_engine.specs.MidRun.{MidRun, IsKept, spot_at, IsResolved}
+use Rattle.nm_engine.specs.views.Shown.{shown}
+use Rattle.nm_engine.specs.views.MidRun.{MidRun, IsKept, spot_at, IsSiteOf}
 use Rattle.nm_model.specs.definitions.Frames.{bytes_of, overwrite}
 use Rattle.nm_types.proofs.Maps.{page_cmp_total, get-set}
 use Rattle.std.specs.Cmp.{tied_itself}
@@ -40,7 +40,7 @@ inside s left room y is P h = subst (λ (z : MidRun). P z.state) (sym is) h
 pub outside : (s : State) (left : List ℕ) (room : ℕ) (y : MidRun) → record { state = s; left = left; room = room } ≡ y → (P : State → Type 0) → P s → P y.state
 outside s left room y is P h = subst (λ (z : MidRun). P z.state) is h
 
-pub spot_there : (s : State) (t : Resolved) (p : Process) (a : Placed) → IsResolved s t p a → IsSpot s (spot_at t p a)
+pub spot_there : (s : State) (t : TouchSite) (p : Process) (a : Placed) → IsSiteOf s t p a → IsSpot s (spot_at t p a)
 spot_there s t p a h = record { process = h.known; area = h.over }
 
 pub not_none : {V : Type 0} (P : Type 0) (o : Option V) → IsSome o → IfNone o P
@@ -64,8 +64,8 @@ no_front (f ∷ frames) h some = cc
 pub found_free : (free : List (List ℕ)) (order : List ℕ) (node : ℕ) → first_free free order ≡ Some node → 0 < length (slice_index_or free node [])
 found_free free order node h = some_length _ (has_front free order node h)
 
-module _ {c : ℕ} (tasks : Map ℕ Process) (m : Table) (x : PagedFrames) (online : List ℕ) (moved failed : ℕ) (l : List ℕ) (t : Resolved) (p : Process) (a : Placed)
-    (kept : IsKept (shown tasks m x online moved failed) l c) (touched : IsResolved (shown tasks m x online moved failed) t p a) where
+module _ {c : ℕ} (tasks : Map ℕ Process) (m : Table) (x : PagedFrames) (online : List ℕ) (moved failed : ℕ) (l : List ℕ) (t : TouchSite) (p : Process) (a : Placed)
+    (kept : IsKept (shown tasks m x online moved failed) l c) (touched : IsSiteOf (shown tasks m x online moved failed) t p a) where
   -- the process sees something else
   pub seen_kept : (sight : Sight) (new : Map ℕ Process) → new ≡ replace nat_cmp tasks t.pid (seeing p t.vpn sight) → Fits (shown tasks m x online moved failed) (spot_at t p a) sight
       → ((q : Page) → sight_at (shown tasks m x online moved failed) t.pid t.vpn ≡ Some (Sees q) → ⊥) → IsKept (shown new m x online moved failed) l c
@@ -147,19 +147,19 @@ mapped_some f None w h = cc
 mapped_some f (Some v) w h = (v, refl, some_is h)
 
 pub spot_found : (s : State) (pid address len : ℕ) (p : Process) (a : Placed) → get nat_cmp s.processes pid ≡ Some p → (len == 0) ≡ false → nat_lt 4096 (address % 4096 + len) ≡ false
-    → area_over s.areas pid (address / 4096) ≡ Some a → spot s pid address len ≡ Ok (record { pid = pid; process = p; area = a; vpn = address / 4096 })
+    → area_over s.areas pid (address / 4096) ≡ Some a → site s pid address len ≡ Ok (record { pid = pid; process = p; area = a; vpn = address / 4096 })
 spot_found s pid address len p a known some inside over =
-    ap (λ o. spot_of s o pid address len) known
-    ∙ ap (λ b. if b || nat_lt 4096 (address % 4096 + len) then Err Einval else spot_over pid p (address / 4096) (area_over s.areas pid (address / 4096))) some
-    ∙ ap (λ b. if b then Err Einval else spot_over pid p (address / 4096) (area_over s.areas pid (address / 4096))) inside
-    ∙ ap (spot_over pid p (address / 4096)) over
+    ap (λ o. site_of s o pid address len) known
+    ∙ ap (λ b. if b || nat_lt 4096 (address % 4096 + len) then Err Einval else site_over pid p (address / 4096) (area_over s.areas pid (address / 4096))) some
+    ∙ ap (λ b. if b then Err Einval else site_over pid p (address / 4096) (area_over s.areas pid (address / 4096))) inside
+    ∙ ap (site_over pid p (address / 4096)) over
 
 -- where an area is over a page number of a process, bytes inside the page are touched there
 pub touched_there : (s : State) (pid address len v first index : ℕ) (info : ProcessInfo) (area : Area) → option_map info_of (get nat_cmp s.processes pid) ≡ Some info → (len ≡ 0 → ⊥)
     → len ≤ 4096 - address % 4096 → v ≡ address / 4096 → Some ((pid, first), area) ≡ area_over s.areas pid v → index ≡ area.page.index + (v - first)
     → (p : Process) × (a : Placed)
-    × (spot s pid address len ≡ Ok (spot_at (record { pid = pid; info = info; vpn = v; page = record { segment = area.page.segment; index = index }; policy = area.policy }) p a))
-    × IsResolved s (record { pid = pid; info = info; vpn = v; page = record { segment = area.page.segment; index = index }; policy = area.policy }) p a
+    × (site s pid address len ≡ Ok (spot_at (record { pid = pid; info = info; vpn = v; page = record { segment = area.page.segment; index = index }; policy = area.policy }) p a))
+    × IsSiteOf s (record { pid = pid; info = info; vpn = v; page = record { segment = area.page.segment; index = index }; policy = area.policy }) p a
 touched_there s pid address len v first index info area known some within at over is =
     let p = mapped_some info_of (get nat_cmp s.processes pid) info known in
     let a : Placed = ((pid, first), area) in
@@ -172,7 +172,7 @@ touched_there s pid address len v first index info area known some within at ove
       record { known = p.1; info = p.2; over = sym over; policy = refl; page = ap (λ i. record { segment = area.page.segment; index = i }) (sym is) },
     )
 
-pub touch_is : (s t : State) (pid address len : ℕ) (writes : Bool) (at : Spot) → spot s pid address len ≡ Ok at → touched_entry s at writes (get nat_cmp at.process.sees at.vpn) ≡ Ok t → touch s pid address len writes ≡ Ok t
+pub touch_is : (s t : State) (pid address len : ℕ) (writes : Bool) (at : AccessSite) → site s pid address len ≡ Ok at → touched_entry s at writes (get nat_cmp at.process.sees at.vpn) ≡ Ok t → touch s pid address len writes ≡ Ok t
 touch_is s t pid address len writes at e h = ap (touched s writes) e ∙ h
 
 -- bytes that are written into the frame of the page that is seen

@@ -26,21 +26,21 @@ use Rattle.nm_model.specs.definitions.Seen.{sight_in, sight_at}
 use Rattle.nm_model.specs.definitions.Areas.{is_shared}
 use Rattle.nm_model.specs.definitions.Frames.{prepended}
 use Rattle.nm_model.specs.definitions.Order.{first_touch_order}
-use Rattle.nm_engine.specs.declared.inner.resolved.Resolved.{Resolved}
+use Rattle.nm_engine.specs.declared.inner.touch_site.TouchSite.{TouchSite}
 use Rattle.nm_engine.specs.declared.inner.undo.Undo.{Undo}
 use Rattle.nm_model.specs.definitions.Frames.{bytes_of}
-use Rattle.nm_engine.specs.AddressSpaces.{SpacesView, with_before, without_page}
-use Rattle.nm_engine.specs.Frames.{FramesView, CanFree, pool_of}
-use Rattle.nm_engine.specs.MidRun.{IsKept, IsResolved, spot_at}
-use Rattle.nm_engine.specs.Shown.{shown_by}
+use Rattle.nm_engine.specs.views.AddressSpaces.{SpacesView, with_before, without_page}
+use Rattle.nm_engine.specs.views.Frames.{FramesView, CanFree, pool_of}
+use Rattle.nm_engine.specs.views.MidRun.{IsKept, IsSiteOf, spot_at}
+use Rattle.nm_engine.specs.views.Shown.{shown_by}
 use Rattle.nm_model.specs.definitions.Seen.{frame_of, frame_seen}
 use Rattle.nm_model.specs.definitions.Sound.{holders, IsSoundMidRun}
 use Rattle.nm_model.specs.definitions.Effect.{seeing_before}
 use Rattle.nm_types.specs.declared.machine_error.MachineError.{MachineError}
 use Rattle.nm_types.specs.declared.machine_error.MachineError.TheVariants as error
-use Rattle.nm_engine.specs.Does.{Touches}
-use Rattle.nm_model.specs.definitions.Touch.{Spot, shown_at, with_sight, first_free, allocated, filled, joined, touched_entry}
-use Rattle.nm_engine.specs.Undo.{seen_before, given_back, undone, all_undone, IsGiven, IsUndoable, CanUndo, IsStillUndone, given_now, noted, with_undo}
+use Rattle.nm_engine.specs.definitions.Does.{Touches}
+use Rattle.nm_model.specs.definitions.Touch.{AccessSite, shown_at, with_sight, first_free, allocated, filled, joined, touched_entry}
+use Rattle.nm_engine.specs.definitions.Undo.{seen_before, given_back, undone, all_undone, IsGiven, IsUndoable, CanUndo, IsStillUndone, given_now, noted, with_undo}
 use Rattle.nm_laws.proofs.Seen.Sights.{IsSpot, page_at_spot, sight_here}
 use Rattle.nm_laws.proofs.Soundness.Allocated.{placed_front}
 use Rattle.nm_laws.proofs.Soundness.Once.{counted_place}
@@ -114,7 +114,7 @@ free_back sizes free node f rest front own below =
 
 -- ---- what a process saw
 
-module _ (s : State) (at : Spot) (i : IsSpot s at) (x : Sight) where
+module _ (s : State) (at : AccessSite) (i : IsSpot s at) (x : Sight) where
   found_now : get nat_cmp (with_sight s at x).processes at.pid ≡ Some (record (at.process) { sees = set nat_cmp at.process.sees at.vpn x })
   found_now =
       let new : Process = record (at.process) { sees = set nat_cmp at.process.sees at.vpn x } in
@@ -139,7 +139,7 @@ ok_is e = cc
 err_ok : {e : Errno} {t : State} → Err e ≡ okay t → ⊥
 err_ok e = cc
 
-module _ (s : State) (l : List ℕ) (at : Spot) (h : IsSoundMidRun s l) (i : IsSpot s at) where
+module _ (s : State) (l : List ℕ) (at : AccessSite) (h : IsSoundMidRun s l) (i : IsSpot s at) where
   sees_sorted : IsStrictlySortedBy nat_cmp (keys_of at.process.sees)
   sees_sorted = All-get nat_cmp (λ q. IsStrictlySortedBy nat_cmp (keys_of q.sees)) s.processes at.pid at.process h.order.sees i.process
 
@@ -292,14 +292,14 @@ module _ (s : State) (l : List ℕ) (at : Spot) (h : IsSoundMidRun s l) (i : IsS
             subst (λ o. IsTakenBack s l new (noted at.pid at.vpn (shown_at at) (Some ZeroPage) (get page_cmp s.place (shown_at at)) o)) (sym nothing) (sym is)
       ] found
 
-zero_unplaced : (s : State) (l : List ℕ) (at : Spot) → IsSoundMidRun s l → IsSpot s at → sight_at s at.pid at.vpn ≡ Some ZeroPage → get page_cmp s.place (shown_at at) ≡ None
+zero_unplaced : (s : State) (l : List ℕ) (at : AccessSite) → IsSoundMidRun s l → IsSpot s at → sight_at s at.pid at.vpn ≡ Some ZeroPage → get page_cmp s.place (shown_at at) ≡ None
 zero_unplaced s l at h i e =
     let zero = h.zeros at.pid at.vpn e in
     let same : zero.0 ≡ shown_at at = some_is (sym zero.1 ∙ page_at_spot s at i) in
     private_unplaced s l at h i (zero_sees e) (ap (λ (q : Page). is_shared s.segments q.segment) (sym same) ∙ zero.2)
 
 -- whatever was seen
-touch_back : (s : State) (l : List ℕ) (at : Spot) (writes : Bool) (o : Option Sight) (new : State) (frame : Option ℕ) → IsSoundMidRun s l → IsSpot s at → sight_at s at.pid at.vpn ≡ o
+touch_back : (s : State) (l : List ℕ) (at : AccessSite) (writes : Bool) (o : Option Sight) (new : State) (frame : Option ℕ) → IsSoundMidRun s l → IsSpot s at → sight_at s at.pid at.vpn ≡ o
     → touched_entry s at writes o ≡ Ok new → frame ≡ frame_seen new at.pid at.vpn
     → IsTakenBack s l new (noted at.pid at.vpn (shown_at at) o (get page_cmp s.place (shown_at at)) frame)
 unfolding IsTakenBack
@@ -308,7 +308,7 @@ touch_back s l at writes (Some ZeroPage) new frame h i e found seen = zero_back 
 touch_back s l at writes (Some (Sees q)) new frame h i e found seen = sym (ok_is found)
 
 -- the same of a touch that was looked up
-pub touched_back : (s : State) (l : List ℕ) (t : Resolved) (p : Process) (a : Placed) (writes : Bool) (new : State) (frame : Option ℕ) → IsSoundMidRun s l → IsResolved s t p a
+pub touched_back : (s : State) (l : List ℕ) (t : TouchSite) (p : Process) (a : Placed) (writes : Bool) (new : State) (frame : Option ℕ) → IsSoundMidRun s l → IsSiteOf s t p a
     → touched_entry s (spot_at t p a) writes (get nat_cmp p.sees t.vpn) ≡ Ok new → frame ≡ frame_seen new t.pid t.vpn
     → IsTakenBack s l new (noted t.pid t.vpn t.page (sight_at s t.pid t.vpn) (get page_cmp s.place t.page) frame)
 touched_back s l t p a writes new frame h r found seen =

@@ -7,7 +7,7 @@ use Rattle.nm_types.specs.declared.errno.Errno.{Errno}
 use Rattle.nm_types.specs.declared.machine_error.MachineError.{MachineError}
 use Rattle.nm_types.specs.declared.machine_error.MachineError.TheVariants as error
 use Rattle.nm_types.specs.State.{State}
-use Rattle.nm_engine.specs.Does.{AsksLast, Makes, Touches}
+use Rattle.nm_engine.specs.definitions.Does.{AsksLast, Makes, Touches}
 
 -- a call that is not refused may ask for memory
 pub may_ask : {T : Type 0} (r : Result T MachineError) (refusal : Option Errno) → refusal ≡ None → AsksLast r refusal

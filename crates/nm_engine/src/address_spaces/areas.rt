@@ -13,9 +13,9 @@ ghost use Rattle.nm_model.specs.definitions.AreaRefusal.{insert_refusal, stretch
 ghost use Rattle.nm_model.specs.definitions.Areas.{removed, frames_lost};
 ghost use Rattle.nm_model.specs.definitions.Effect.{shows_pinned};
 ghost use Rattle.nm_model.specs.definitions.PageTables.{entry_at};
-ghost use Rattle.nm_engine.specs.ProcessTable.{names, cleared};
-ghost use Rattle.nm_engine.specs.Tied.{IsCleared};
-ghost use Rattle.nm_engine.specs.AddressSpaces.{mapped_of, with_mapped, without_range};
+ghost use Rattle.nm_engine.specs.views.ProcessTable.{names, cleared};
+ghost use Rattle.nm_engine.specs.definitions.Tied.{IsCleared};
+ghost use Rattle.nm_engine.specs.views.AddressSpaces.{mapped_of, with_mapped, without_range};
 
 use crate::address_spaces::AddressSpaces;
 use crate::process_table::ProcessTable;

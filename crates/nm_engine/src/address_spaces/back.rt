@@ -7,9 +7,9 @@ ghost use Rattle.nm_types.specs.Map.{get, page_cmp};
 ghost use Rattle.nm_types.specs.State.{Process};
 ghost use Rattle.nm_model.specs.definitions.Seen.{sight_in};
 ghost use Rattle.nm_model.specs.definitions.PageTables.{entry_at};
-ghost use Rattle.nm_engine.specs.ProcessTable.{names};
-ghost use Rattle.nm_engine.specs.Tied.{IsWithout};
-ghost use Rattle.nm_engine.specs.AddressSpaces.{pins_here, with_before, with_seen, without_seen, without_page};
+ghost use Rattle.nm_engine.specs.views.ProcessTable.{names};
+ghost use Rattle.nm_engine.specs.definitions.Tied.{IsWithout};
+ghost use Rattle.nm_engine.specs.views.AddressSpaces.{pins_here, with_before, with_seen, without_seen, without_page};
 
 use crate::address_spaces::AddressSpaces;
 use crate::process_table::ProcessTable;

@@ -11,11 +11,11 @@ ghost use Rattle.nm_model.specs.definitions.Events.{arrived, held_by, laid_for, 
 ghost use Rattle.nm_model.specs.definitions.Frames.{Store};
 ghost use Rattle.nm_model.specs.definitions.PageTables.{entry_at};
 ghost use Rattle.nm_rmap.specs.Mappers.{mappers_of};
-ghost use Rattle.nm_engine.specs.AddressSpaces.{with_moved};
-ghost use Rattle.nm_engine.specs.Held.{AreApart, entry_here, held_for, on_their_way, is_taken};
-ghost use Rattle.nm_engine.specs.Moves.{CanRemap, all_moved};
-ghost use Rattle.nm_engine.specs.ProcessTable.{IsThere, all_replaced, names};
-ghost use Rattle.nm_engine.specs.Tied.{has_spot, AreInOrder};
+ghost use Rattle.nm_engine.specs.views.AddressSpaces.{with_moved};
+ghost use Rattle.nm_engine.specs.views.Held.{AreApart, entry_here, held_for, on_their_way, is_taken};
+ghost use Rattle.nm_engine.specs.definitions.Moves.{CanRemap, all_moved};
+ghost use Rattle.nm_engine.specs.views.ProcessTable.{IsThere, all_replaced, names};
+ghost use Rattle.nm_engine.specs.definitions.Tied.{has_spot, AreInOrder};
 
 use crate::address_spaces::AddressSpaces;
 use crate::process_table::ProcessTable;
@@ -39,8 +39,8 @@ pub(crate) struct HeldSpaces<A: Allocator + Copy> {
 
 impl<A: Allocator + Copy> Model for HeldSpaces<A> {
     ghost use Rattle.nm_model.specs.definitions.Events.{arrived, with_entries};
-    ghost use Rattle.nm_engine.specs.Held.{HeldView, held_view};
-    ghost use Rattle.nm_engine.specs.Tied.{IsTied};
+    ghost use Rattle.nm_engine.specs.views.Held.{HeldView, held_view};
+    ghost use Rattle.nm_engine.specs.definitions.Tied.{IsTied};
 
     ghost Value = { HeldView };
 

@@ -2,16 +2,16 @@
 
 ghost use Rattle.std.specs.Prelude.{◌≡◌, ◌+◌, ◌<◌, ◌≤◌, ◌++◌, [], map, length, slice_get, IsSome, vec_len, vec_capacity};
 ghost use Rattle.std.specs.List.{AllByRecursion};
-ghost use Rattle.nm_engine.specs.Held.{AreHeld};
-ghost use Rattle.nm_engine.specs.Copies.{with_copies, CanCopy, HasBoth, emptied, jobs_of, refilled, CanRefill};
-ghost use Rattle.nm_engine.specs.Finishing.{all_done, done_in, told_in, frame_at, CanDo};
+ghost use Rattle.nm_engine.specs.views.Held.{AreHeld};
+ghost use Rattle.nm_engine.specs.views.Copies.{with_copies, CanCopy, HasBoth, emptied, jobs_of, refilled, CanRefill};
+ghost use Rattle.nm_engine.specs.definitions.AfterCopy.{all_stored_after_copy, store_after_copy, answer_from_store, frame_at, CanDo};
 ghost use Rattle.nm_types.specs.Map.{get, page_cmp};
-ghost use Rattle.nm_engine.specs.Answering.{answer_shown, due_shown, written_by, HasRoom};
+ghost use Rattle.nm_engine.specs.views.Accesses.{answer_shown, pending_shown, written_by, HasRoom};
 
 use crate::address_spaces::held::HeldSpaces;
-use crate::answered::AccessAnswer;
+use crate::answers::AccessAnswer;
 use crate::frames::copy_bytes;
-use crate::inner::due::Due;
+use crate::inner::pending_access::PendingAccess;
 use nm_crew::{Crew, Gate};
 use nm_frames::{CopyJob, FrameStore};
 use nm_plan::Taken;
@@ -36,7 +36,7 @@ pub(super) fn copy_pages<
     mut jobs: Vec<CopyJob<A>, A>,
     held: &HeldSpaces<A>,
     accesses: &[Access<A>],
-    dues: Vec<Due<A>, A>,
+    dues: Vec<PendingAccess<A>, A>,
     answers: Vec<AccessAnswer<A>, A>,
 ) -> (Vec<CopyJob<A>, A>, Vec<AccessAnswer<A>, A>)
     // The moves
@@ -48,7 +48,7 @@ pub(super) fn copy_pages<
 
     // What is left to do
     requires due { AllByRecursion (CanDo held.now.spaces.place (emptied frames.old moves.now))
-        (map (due_shown accesses.now) dues.items) }
+        (map (pending_shown accesses.now) dues.items) }
     requires room { AllByRecursion HasRoom dues.items }
 
     // The list for the answers
@@ -57,11 +57,11 @@ pub(super) fn copy_pages<
 
     // Afterwards
     ensures frames { frames.new
-        ≡ (all_done held.now.spaces.place (with_copies frames.old moves.now)
-        (map (due_shown accesses.now) dues.items)).store }
+        ≡ (all_stored_after_copy held.now.spaces.place (with_copies frames.old moves.now)
+        (map (pending_shown accesses.now) dues.items)).store }
     ensures answers { map answer_shown result.1.items
-        ≡ (all_done held.now.spaces.place (with_copies frames.old moves.now)
-        (map (due_shown accesses.now) dues.items)).answers }
+        ≡ (all_stored_after_copy held.now.spaces.place (with_copies frames.old moves.now)
+        (map (pending_shown accesses.now) dues.items)).answers }
     ensures empty { result.0.items ≡ [] }
 {
     take_out_each(frames, moves, &mut jobs);
@@ -72,16 +72,16 @@ pub(super) fn copy_pages<
         jobs,
         move || -> (FrameStore<A>, Vec<AccessAnswer<A>, A>)
             requires due { AllByRecursion (CanDo held.now.spaces.place store)
-                (map (due_shown accesses.now) dues.items) }
+                (map (pending_shown accesses.now) dues.items) }
             requires room { AllByRecursion HasRoom dues.items }
             requires unanswered { answers.items ≡ [] }
             requires space { vec_len dues ≤ vec_capacity answers }
             ensures store { result.0
-                ≡ (all_done held.entry.now.spaces.place store
-                (map (due_shown accesses.entry.now) dues.items)).store }
+                ≡ (all_stored_after_copy held.entry.now.spaces.place store
+                (map (pending_shown accesses.entry.now) dues.items)).store }
             ensures answers { map answer_shown result.1.items
-                ≡ (all_done held.entry.now.spaces.place store
-                (map (due_shown accesses.entry.now) dues.items)).answers }
+                ≡ (all_stored_after_copy held.entry.now.spaces.place store
+                (map (pending_shown accesses.entry.now) dues.items)).answers }
         { finish(store, held, accesses, dues, answers, gate) },
     );
     *frames = store;
@@ -134,13 +134,13 @@ fn finish<A: Allocator + Copy, G: Gate>(
     mut store: FrameStore<A>,
     held: &HeldSpaces<A>,
     accesses: &[Access<A>],
-    dues: Vec<Due<A>, A>,
+    dues: Vec<PendingAccess<A>, A>,
     mut answers: Vec<AccessAnswer<A>, A>,
     gate: &G,
 ) -> (FrameStore<A>, Vec<AccessAnswer<A>, A>)
     // What is left to do
     requires due { AllByRecursion (CanDo held.now.spaces.place store)
-        (map (due_shown accesses.now) dues.items) }
+        (map (pending_shown accesses.now) dues.items) }
     requires room { AllByRecursion HasRoom dues.items }
 
     // The list for the answers
@@ -149,9 +149,9 @@ fn finish<A: Allocator + Copy, G: Gate>(
 
     // Afterwards
     ensures store { result.0
-        ≡ (all_done held.now.spaces.place store (map (due_shown accesses.now) dues.items)).store }
+        ≡ (all_stored_after_copy held.now.spaces.place store (map (pending_shown accesses.now) dues.items)).store }
     ensures answers { map answer_shown result.1.items
-        ≡ (all_done held.now.spaces.place store (map (due_shown accesses.now) dues.items)).answers }
+        ≡ (all_stored_after_copy held.now.spaces.place store (map (pending_shown accesses.now) dues.items)).answers }
 {
     for due in dues {
         gate.access(answers.len());
@@ -166,17 +166,17 @@ fn finish_one<A: Allocator + Copy>(
     store: &mut FrameStore<A>,
     held: &HeldSpaces<A>,
     accesses: &[Access<A>],
-    due: Due<A>,
+    due: PendingAccess<A>,
 ) -> AccessAnswer<A>
-    requires due { CanDo held.now.spaces.place store.old (due_shown accesses.now due) }
+    requires due { CanDo held.now.spaces.place store.old (pending_shown accesses.now due) }
     requires room { HasRoom due }
-    ensures store { store.new ≡ done_in held.now.spaces.place store.old (due_shown accesses.now due) }
+    ensures store { store.new ≡ store_after_copy held.now.spaces.place store.old (pending_shown accesses.now due) }
     ensures answer { answer_shown result
-        ≡ told_in held.now.spaces.place store.old (due_shown accesses.now due) }
+        ≡ answer_from_store held.now.spaces.place store.old (pending_shown accesses.now due) }
 {
     match due {
-        Due::Known(answer) => answer,
-        Due::Read {
+        PendingAccess::Known(answer) => answer,
+        PendingAccess::Read {
             page,
             at,
             len,
@@ -185,7 +185,7 @@ fn finish_one<A: Allocator + Copy>(
             copy_bytes(store, frame_of(held, page), at, len, &mut bytes);
             AccessAnswer::Bytes(bytes)
         }
-        Due::Write { page, at, access } => {
+        PendingAccess::Write { page, at, access } => {
             store.write(frame_of(held, page), at, written_by(accesses, access));
             AccessAnswer::Done
         }

@@ -1,10 +1,10 @@
 //! Adding, splitting and removing areas.
 
-ghost use Rattle.nm_engine.specs.Does.{AsksLast, Makes};
+ghost use Rattle.nm_engine.specs.definitions.Does.{AsksLast, Makes};
 ghost use Rattle.nm_model.specs.definitions.Effect.{attach, dropped, map_new, unmap};
-ghost use Rattle.nm_engine.specs.Frames.{CanFree, pool_of, with_freed};
+ghost use Rattle.nm_engine.specs.views.Frames.{CanFree, pool_of, with_freed};
 ghost use Rattle.nm_runs.specs.Targets.{Checks};
-ghost use Rattle.nm_engine.specs.MidRun.{with_state};
+ghost use Rattle.nm_engine.specs.views.MidRun.{with_state};
 ghost use Rattle.nm_model.specs.definitions.Effect.{policy_refusal, set_policy};
 ghost use Rattle.nm_model.specs.definitions.Effect.{attach_refusal, is_range, is_unknown, map_refusal, shows_pinned, unmap_refusal};
 ghost use Rattle.nm_types.specs.declared.errno.Errno.{Errno};

@@ -10,15 +10,15 @@ ghost use Rattle.nm_types.specs.Map.{same_page};
 ghost use Rattle.nm_laws.specs.Moves.{CanMove};
 ghost use Rattle.nm_model.specs.definitions.Sound.{IsSound};
 ghost use Rattle.nm_model.specs.definitions.Touch.{Read, Write};
-ghost use Rattle.nm_engine.specs.MidRun.{with_state};
-ghost use Rattle.nm_model.specs.definitions.Early.{early, all_early, without_fronts, with_fronts, tos};
-ghost use Rattle.nm_engine.specs.Undo.{IsStillUndone};
+ghost use Rattle.nm_engine.specs.views.MidRun.{with_state};
+ghost use Rattle.nm_model.specs.definitions.BeforeCopy.{before_copy, all_before_copy, without_fronts, with_fronts, frames_taken};
+ghost use Rattle.nm_engine.specs.definitions.Undo.{IsStillUndone};
 ghost use Rattle.nm_model.specs.views.Asked.{access_shown};
-ghost use Rattle.nm_engine.specs.Answering.{due_shown, written_by, HasRoom};
+ghost use Rattle.nm_engine.specs.views.Accesses.{pending_shown, written_by, HasRoom};
 
-use crate::answered::AccessAnswer;
+use crate::answers::AccessAnswer;
 use crate::inner::Inner;
-use crate::inner::due::Due;
+use crate::inner::pending_access::PendingAccess;
 use crate::inner::touch::push_zeros;
 use crate::inner::undo::Undo;
 use nm_plan::Taken;
@@ -35,7 +35,7 @@ impl<A: Allocator + Copy> Inner<A> {
         target: NodeId,
         moves: &[Taken],
         accesses: &[Access<A>],
-    ) -> Result<Vec<Due<A>, A>, AllocError>
+    ) -> Result<Vec<PendingAccess<A>, A>, AllocError>
         requires target { target < node_count self.old.state.layout }
         requires room { length moves.now ≤ self.old.room }
         requires none { self.old.left ≡ [] }
@@ -44,15 +44,15 @@ impl<A: Allocator + Copy> Inner<A> {
         // On success
         ensures state { OnOk result
             (self.new.state
-            ≡ (all_early (without_fronts self.old.state target (length moves.now))
+            ≡ (all_before_copy (without_fronts self.old.state target (length moves.now))
             (map (λ t. t.page) moves.now) (map access_shown accesses.now)).state) }
         ensures dues { IfOk result
-            (λ dues. map (due_shown accesses.now) dues.items
-            ≡ (all_early (without_fronts self.old.state target (length moves.now))
+            (λ dues. map (pending_shown accesses.now) dues.items
+            ≡ (all_before_copy (without_fronts self.old.state target (length moves.now))
             (map (λ t. t.page) moves.now) (map access_shown accesses.now)).dues) }
         ensures ready { IfOk result (λ dues. AllByRecursion HasRoom dues.items) }
         ensures len { IfOk result (λ dues. vec_len dues ≡ length accesses.now) }
-        ensures left { OnOk result (self.new.left ≡ tos moves.now) }
+        ensures left { OnOk result (self.new.left ≡ frames_taken moves.now) }
         ensures room { OnOk result (self.new.room ≡ self.old.room) }
 
         // In any case
@@ -83,7 +83,7 @@ impl<A: Allocator + Copy> Inner<A> {
         // On success
         ensures state { OnOk result
             (self.new.state ≡ without_fronts self.old.state target (length moves.now)) }
-        ensures left { OnOk result (self.new.left ≡ tos moves.now) }
+        ensures left { OnOk result (self.new.left ≡ frames_taken moves.now) }
         ensures room { OnOk result (self.new.room ≡ self.old.room) }
 
         // In any case
@@ -104,15 +104,15 @@ impl<A: Allocator + Copy> Inner<A> {
         &mut self,
         moves: &[Taken],
         accesses: &[Access<A>],
-    ) -> Result<Vec<Due<A>, A>, AllocError>
+    ) -> Result<Vec<PendingAccess<A>, A>, AllocError>
         // On success
         ensures state { OnOk result
             (self.new.state
-            ≡ (all_early self.old.state (map (λ t. t.page) moves.now)
+            ≡ (all_before_copy self.old.state (map (λ t. t.page) moves.now)
             (map access_shown accesses.now)).state) }
         ensures dues { IfOk result
-            (λ dues. map (due_shown accesses.now) dues.items
-            ≡ (all_early self.old.state (map (λ t. t.page) moves.now)
+            (λ dues. map (pending_shown accesses.now) dues.items
+            ≡ (all_before_copy self.old.state (map (λ t. t.page) moves.now)
             (map access_shown accesses.now)).dues) }
         ensures room { IfOk result (λ dues. AllByRecursion HasRoom dues.items) }
         ensures len { IfOk result (λ dues. vec_len dues ≡ length accesses.now) }
@@ -144,10 +144,10 @@ impl<A: Allocator + Copy> Inner<A> {
 
     /// Puts back the frames taken for moves to a node, if the pages have not moved.
     fn give_back(&mut self, target: NodeId, moves: &[Taken])
-        requires taken { self.old.left ≡ tos moves.now }
-        requires sound { IsSound (with_fronts (self.old.state) target (tos moves.now)) }
+        requires taken { self.old.left ≡ frames_taken moves.now }
+        requires sound { IsSound (with_fronts (self.old.state) target (frames_taken moves.now)) }
         requires inside { target < node_count self.old.state.layout }
-        ensures state { self.new.state ≡ with_fronts (self.old.state) target (tos moves.now) }
+        ensures state { self.new.state ≡ with_fronts (self.old.state) target (frames_taken moves.now) }
         ensures left { self.new.left ≡ [] }
         ensures room { self.new.room ≡ self.old.room }
     {
@@ -161,16 +161,16 @@ impl<A: Allocator + Copy> Inner<A> {
         access: &Access<A>,
         number: usize,
         undos: &mut Vec<Undo, A>,
-    ) -> Result<Due<A>, AllocError>
+    ) -> Result<PendingAccess<A>, AllocError>
         // On success
         ensures state { OnOk result
             (self.new.state
-            ≡ (early self.old.state moving.now.keys (access_shown access.now)).state) }
+            ≡ (before_copy self.old.state moving.now.keys (access_shown access.now)).state) }
         ensures due { IfOk result
             (λ due. (accesses : List (Asked _)) →
             slice_get accesses number ≡ Some access.now →
-            due_shown accesses due
-            ≡ (early self.old.state moving.now.keys (access_shown access.now)).due) }
+            pending_shown accesses due
+            ≡ (before_copy self.old.state moving.now.keys (access_shown access.now)).due) }
         ensures room { IfOk result (λ due. HasRoom due) }
 
         // Nothing else changes
@@ -198,14 +198,14 @@ impl<A: Allocator + Copy> Inner<A> {
         addr: u64,
         len: u64,
         undos: &mut Vec<Undo, A>,
-    ) -> Result<Due<A>, AllocError>
+    ) -> Result<PendingAccess<A>, AllocError>
         // On success
         ensures state { OnOk result
-            (self.new.state ≡ (early self.old.state moving.now.keys (Read pid addr len)).state) }
+            (self.new.state ≡ (before_copy self.old.state moving.now.keys (Read pid addr len)).state) }
         ensures due { IfOk result
             (λ due. (accesses : List (Asked _)) →
-            due_shown accesses due
-            ≡ (early self.old.state moving.now.keys (Read pid addr len)).due) }
+            pending_shown accesses due
+            ≡ (before_copy self.old.state moving.now.keys (Read pid addr len)).due) }
         ensures room { IfOk result (λ due. HasRoom due) }
 
         // Nothing else changes
@@ -219,15 +219,15 @@ impl<A: Allocator + Copy> Inner<A> {
     {
         let resolved = match self.resolve(pid, addr, len) {
             Ok(resolved) => resolved,
-            Err(error) => return Ok(Due::Known(AccessAnswer::Refused(error))),
+            Err(error) => return Ok(PendingAccess::Known(AccessAnswer::Refused(error))),
         };
         if moving.contains(&resolved.page) {
-            return Ok(Due::Known(AccessAnswer::Held));
+            return Ok(PendingAccess::Known(AccessAnswer::Held));
         }
         let len = len as usize;
         let mut bytes = Vec::with_capacity(self.alloc, len)?;
         match self.touch_noted(resolved, false, undos) {
-            Ok(Some(_)) => Ok(Due::Read {
+            Ok(Some(_)) => Ok(PendingAccess::Read {
                 page: resolved.page,
                 at: Vpn::offset(addr),
                 len,
@@ -235,9 +235,11 @@ impl<A: Allocator + Copy> Inner<A> {
             }),
             Ok(None) => {
                 push_zeros(&mut bytes, len);
-                Ok(Due::Known(AccessAnswer::Bytes(bytes)))
+                Ok(PendingAccess::Known(AccessAnswer::Bytes(bytes)))
             }
-            Err(MachineError::Refused(error)) => Ok(Due::Known(AccessAnswer::Refused(error))),
+            Err(MachineError::Refused(error)) => Ok(PendingAccess::Known(AccessAnswer::Refused(
+                error,
+            ))),
             Err(MachineError::HostMemory) => Err(AllocError),
         }
     }
@@ -251,16 +253,16 @@ impl<A: Allocator + Copy> Inner<A> {
         bytes: &[u8],
         number: usize,
         undos: &mut Vec<Undo, A>,
-    ) -> Result<Due<A>, AllocError>
+    ) -> Result<PendingAccess<A>, AllocError>
         // On success
         ensures state { OnOk result
             (self.new.state
-            ≡ (early self.old.state moving.now.keys (Write pid addr bytes.now)).state) }
+            ≡ (before_copy self.old.state moving.now.keys (Write pid addr bytes.now)).state) }
         ensures due { IfOk result
             (λ due. (accesses : List (Asked _)) →
             written_by (slice_get accesses number) ≡ bytes.now →
-            due_shown accesses due
-            ≡ (early self.old.state moving.now.keys (Write pid addr bytes.now)).due) }
+            pending_shown accesses due
+            ≡ (before_copy self.old.state moving.now.keys (Write pid addr bytes.now)).due) }
         ensures room { IfOk result (λ due. HasRoom due) }
 
         // Nothing else changes
@@ -274,18 +276,20 @@ impl<A: Allocator + Copy> Inner<A> {
     {
         let resolved = match self.resolve(pid, addr, bytes.len() as u64) {
             Ok(resolved) => resolved,
-            Err(error) => return Ok(Due::Known(AccessAnswer::Refused(error))),
+            Err(error) => return Ok(PendingAccess::Known(AccessAnswer::Refused(error))),
         };
         if moving.contains(&resolved.page) {
-            return Ok(Due::Known(AccessAnswer::Held));
+            return Ok(PendingAccess::Known(AccessAnswer::Held));
         }
         match self.touch_noted(resolved, true, undos) {
-            Ok(_) => Ok(Due::Write {
+            Ok(_) => Ok(PendingAccess::Write {
                 page: resolved.page,
                 at: Vpn::offset(addr),
                 access: number,
             }),
-            Err(MachineError::Refused(error)) => Ok(Due::Known(AccessAnswer::Refused(error))),
+            Err(MachineError::Refused(error)) => Ok(PendingAccess::Known(AccessAnswer::Refused(
+                error,
+            ))),
             Err(MachineError::HostMemory) => Err(AllocError),
         }
     }

@@ -2,7 +2,7 @@
 
 ghost use Rattle.std.specs.Prelude.{All, Err, IfNone, IfOk, IfSome, Some, [], length, option_map, ◌+◌, ◌-◌, ◌<◌, ◌∷◌, ◌≡◌, ◌≤◌};
 ghost use Rattle.nm_areas.specs.Lines.{lines_of};
-ghost use Rattle.nm_engine.specs.Does.{AsksLast, Tells};
+ghost use Rattle.nm_engine.specs.definitions.Does.{AsksLast, Tells};
 ghost use Rattle.nm_model.specs.definitions.Seen.{located, located_between};
 ghost use Rattle.nm_model.specs.definitions.Effect.{entries_refusal};
 ghost use Rattle.nm_model.specs.definitions.Seen.{users};

@@ -7,7 +7,7 @@ ghost use Rattle.std.specs.Ordering.{nat_cmp};
 ghost use Rattle.std.specs.Prelude.{All, IfOk, if◌then◌else◌, length, ◌<◌, ◌==◌, ◌≡◌, ◌≤◌};
 ghost use Rattle.nm_model.specs.definitions.Effect.{set_online};
 ghost use Rattle.nm_model.specs.definitions.Seen.{placed_on};
-ghost use Rattle.nm_engine.specs.MidRun.{with_state};
+ghost use Rattle.nm_engine.specs.views.MidRun.{with_state};
 ghost use Rattle.nm_types.specs.Layout.{frame_count, node_count, node_of};
 ghost use Rattle.nm_types.specs.Nodes.{IsNodeSet, without_node};
 

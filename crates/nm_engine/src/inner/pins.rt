@@ -1,8 +1,8 @@
 //! Pins.
 
-ghost use Rattle.nm_engine.specs.Does.{Alters};
+ghost use Rattle.nm_engine.specs.definitions.Does.{Alters};
 ghost use Rattle.nm_model.specs.definitions.Effect.{pin, unpin};
-ghost use Rattle.nm_engine.specs.MidRun.{with_state};
+ghost use Rattle.nm_engine.specs.views.MidRun.{with_state};
 ghost use Rattle.nm_model.specs.definitions.Effect.{is_unknown, pin_refusal, pins_refusal, unpin_refusal};
 ghost use Rattle.nm_model.specs.definitions.Seen.{page_seen, sight_at};
 ghost use Rattle.nm_types.specs.Map.{get, page_cmp};

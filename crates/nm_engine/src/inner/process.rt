@@ -1,8 +1,8 @@
 //! Adding and removing processes.
 
-ghost use Rattle.nm_engine.specs.Does.{AsksLast, Makes};
+ghost use Rattle.nm_engine.specs.definitions.Does.{AsksLast, Makes};
 ghost use Rattle.nm_model.specs.definitions.Effect.{exit, spawn};
-ghost use Rattle.nm_engine.specs.MidRun.{with_state};
+ghost use Rattle.nm_engine.specs.views.MidRun.{with_state};
 ghost use Rattle.nm_model.specs.definitions.Effect.{exit_refusal, spawn_refusal};
 ghost use Rattle.nm_types.specs.Layout.{node_count};
 ghost use Rattle.nm_types.specs.declared.errno.Errno.{Errno};

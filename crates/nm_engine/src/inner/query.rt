@@ -2,7 +2,7 @@
 
 ghost use Rattle.nm_model.specs.definitions.Status.{node_status};
 ghost use Rattle.nm_model.specs.definitions.Sound.{audited};
-ghost use Rattle.nm_engine.specs.Does.{AsksLast, Tells};
+ghost use Rattle.nm_engine.specs.definitions.Does.{AsksLast, Tells};
 ghost use Rattle.nm_model.specs.definitions.PageTables.{entries_of};
 ghost use Rattle.nm_model.specs.definitions.Effect.{entries_refusal, list_refusal};
 ghost use Rattle.nm_model.specs.definitions.Sound.{IsSound};

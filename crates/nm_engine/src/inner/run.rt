@@ -6,15 +6,15 @@ ghost use Rattle.nm_types.specs.Layout.{node_count};
 ghost use Rattle.nm_runs.specs.Shown.{class_shown, ShowsItsFrames};
 ghost use Rattle.nm_laws.specs.Laws.{with_moves};
 ghost use Rattle.nm_laws.specs.Moves.{CanMove, IsPlanOf};
-ghost use Rattle.nm_model.specs.definitions.Run.{left, HasOneAll, with_all_free, failures, counted};
+ghost use Rattle.nm_model.specs.definitions.Run.{left, HasOneAll, with_all_free, failures, with_counts};
 ghost use Rattle.nm_model.specs.definitions.Sound.{IsSound};
-ghost use Rattle.nm_model.specs.definitions.Early.{with_fronts, tos, all_made, IsDue};
-ghost use Rattle.nm_engine.specs.Answering.{answer_shown, due_shown, HasRoom};
+ghost use Rattle.nm_model.specs.definitions.BeforeCopy.{with_fronts, frames_taken, all_after_copy, IsPending};
+ghost use Rattle.nm_engine.specs.views.Accesses.{answer_shown, pending_shown, HasRoom};
 
 use crate::address_spaces::AddressSpaces;
-use crate::answered::AccessAnswer;
+use crate::answers::AccessAnswer;
 use crate::inner::Inner;
-use crate::inner::due::Due;
+use crate::inner::pending_access::PendingAccess;
 use crate::machine::Totals;
 use nm_crew::{Crew, Gate};
 use nm_plan::{Plan, Taken, plan};
@@ -69,20 +69,20 @@ impl<A: Allocator + Copy + Send + Sync> Inner<A> {
         target: NodeId,
         moves: &[Taken],
         accesses: &[Access<A>],
-        dues: Vec<Due<A>, A>,
+        dues: Vec<PendingAccess<A>, A>,
         answers: Vec<AccessAnswer<A>, A>,
     ) -> Vec<AccessAnswer<A>, A>
         // The moves
         requires target { target < node_count self.old.state.layout }
         requires few { length moves.now ≤ self.old.room }
-        requires taken { self.old.left ≡ tos moves.now }
-        requires sound { IsSound (with_fronts (self.old.state) target (tos moves.now)) }
+        requires taken { self.old.left ≡ frames_taken moves.now }
+        requires sound { IsSound (with_fronts (self.old.state) target (frames_taken moves.now)) }
         requires moves { CanMove
-            (with_fronts (self.old.state) target (tos moves.now)) target moves.now }
+            (with_fronts (self.old.state) target (frames_taken moves.now)) target moves.now }
 
         // What is left to do
-        requires due { AllByRecursion (IsDue (map (λ t. t.page) moves.now) self.old.state)
-            (map (due_shown accesses.now) dues.items) }
+        requires due { AllByRecursion (IsPending (map (λ t. t.page) moves.now) self.old.state)
+            (map (pending_shown accesses.now) dues.items) }
         requires room { AllByRecursion HasRoom dues.items }
 
         // The list for the answers
@@ -91,13 +91,13 @@ impl<A: Allocator + Copy + Send + Sync> Inner<A> {
 
         // Afterwards
         ensures state { self.new.state
-            ≡ (all_made
-            (with_moves (with_fronts (self.old.state) target (tos moves.now)) target moves.now)
-            (map (due_shown accesses.now) dues.items)).state }
+            ≡ (all_after_copy
+            (with_moves (with_fronts (self.old.state) target (frames_taken moves.now)) target moves.now)
+            (map (pending_shown accesses.now) dues.items)).state }
         ensures answers { map answer_shown result.items
-            ≡ (all_made
-            (with_moves (with_fronts (self.old.state) target (tos moves.now)) target moves.now)
-            (map (due_shown accesses.now) dues.items)).answers }
+            ≡ (all_after_copy
+            (with_moves (with_fronts (self.old.state) target (frames_taken moves.now)) target moves.now)
+            (map (pending_shown accesses.now) dues.items)).answers }
         ensures left { self.new.left ≡ left moves.now }
     {
         self.frames.vacate_each(moves);
@@ -113,7 +113,7 @@ impl<A: Allocator + Copy + Send + Sync> Inner<A> {
     /// Ends a run: its moves and failures are counted, and the frames that its pages left become free.
     pub(crate) fn end_run(&mut self, statuses: &[i32])
         ensures state { self.new.state
-            ≡ counted (with_all_free self.old.state self.old.left) (length self.old.left)
+            ≡ with_counts (with_all_free self.old.state self.old.left) (length self.old.left)
             (failures statuses.now) }
         ensures left { self.new.left ≡ [] }
     {
@@ -132,7 +132,7 @@ impl<A: Allocator + Copy + Send + Sync> Inner<A> {
 
     /// Adds to the totals.
     pub(crate) fn count(&mut self, moved: usize, failed: usize)
-        ensures state { self.new.state ≡ counted self.old.state moved failed }
+        ensures state { self.new.state ≡ with_counts self.old.state moved failed }
         ensures left { self.new.left ≡ self.old.left }
     {
         let Totals {

@@ -8,14 +8,14 @@ ghost use Rattle.nm_types.specs.Map.{get, page_cmp};
 ghost use Rattle.nm_types.specs.State.{Process, Placed};
 ghost use Rattle.nm_model.specs.definitions.Seen.{sight_at};
 ghost use Rattle.nm_model.specs.definitions.Order.{first_touch_order};
-ghost use Rattle.nm_model.specs.definitions.Touch.{Bytes, Done, spot, first_free, filled, joined, touched_entry, read, write, spot_refusal};
-ghost use Rattle.nm_engine.specs.MidRun.{spot_at, IsResolved, with_state};
-ghost use Rattle.nm_engine.specs.Does.{AsksLast, Touches, Accesses};
+ghost use Rattle.nm_model.specs.definitions.Touch.{Bytes, Done, site, first_free, filled, joined, touched_entry, read, write, site_refusal};
+ghost use Rattle.nm_engine.specs.views.MidRun.{spot_at, IsSiteOf, with_state};
+ghost use Rattle.nm_engine.specs.definitions.Does.{AsksLast, Touches, Accesses};
 ghost use Rattle.nm_model.specs.definitions.Seen.{frame_seen};
 
 use crate::ProcessInfo;
 use crate::inner::Inner;
-use crate::inner::resolved::Resolved;
+use crate::inner::touch_site::TouchSite;
 use nm_policy::first_touch_node;
 use nm_types::limits::PAGE_BYTES;
 use nm_types::{Errno, FrameId, MachineError, NodeId, Page, Pid, Policy, Sight, Vpn};
@@ -26,7 +26,7 @@ impl<A: Allocator + Copy> Inner<A> {
     pub(crate) fn read(&mut self, pid: Pid, addr: u64, len: u64) -> Result<Vec<u8, A>, MachineError>
         ensures answer { Accesses result (λ bytes. Bytes bytes.items) self.old.state self.new.state
             (read self.old.state pid addr len) }
-        ensures memory { AsksLast result (spot_refusal self.old.state pid addr len) }
+        ensures memory { AsksLast result (site_refusal self.old.state pid addr len) }
         ensures same { self.new ≡ with_state self.old self.new.state }
     {
         let resolved = self.resolve(pid, addr, len)?;
@@ -43,7 +43,7 @@ impl<A: Allocator + Copy> Inner<A> {
     pub(crate) fn write(&mut self, pid: Pid, addr: u64, bytes: &[u8]) -> Result<(), MachineError>
         ensures answer { Accesses result (λ done. Done) self.old.state self.new.state
             (write self.old.state pid addr bytes.now) }
-        ensures memory { AsksLast result (spot_refusal self.old.state pid addr (length bytes.now)) }
+        ensures memory { AsksLast result (site_refusal self.old.state pid addr (length bytes.now)) }
         ensures asked { result ≡ Err MachineError.HostMemory →
             (page : Page) →
             sight_at self.old.state pid (addr / 4096) ≡ Some (Sees page) →
@@ -59,18 +59,18 @@ impl<A: Allocator + Copy> Inner<A> {
     }
 
     /// Where `len` bytes of a process from `addr` on are, or the first refusal.
-    pub(crate) fn resolve(&self, pid: Pid, addr: u64, len: u64) -> Result<Resolved, Errno>
+    pub(crate) fn resolve(&self, pid: Pid, addr: u64, len: u64) -> Result<TouchSite, Errno>
         // On success
         ensures ok { IfOk result
             (λ t. (p : Process) × (a : Placed)
-            × (spot self.now.state pid addr len ≡ Ok (spot_at t p a))
-            × IsResolved self.now.state t p a) }
+            × (site self.now.state pid addr len ≡ Ok (spot_at t p a))
+            × IsSiteOf self.now.state t p a) }
         ensures pid { IfOk result (λ t. t.pid ≡ pid) }
         ensures page { IfOk result (λ t. t.vpn ≡ addr / 4096) }
         ensures inside { IfOk result (λ t. addr % 4096 + len ≤ 4096) }
 
         // On refusal
-        ensures err { IfErr result (λ errno. spot self.now.state pid addr len ≡ Err errno) }
+        ensures err { IfErr result (λ errno. site self.now.state pid addr len ≡ Err errno) }
     {
         let Some(info) = self.spaces.info(pid) else {
             return Err(Errno::Esrch);
@@ -87,7 +87,7 @@ impl<A: Allocator + Copy> Inner<A> {
             segment,
             index: index + (vpn.number() - first.number()),
         };
-        Ok(Resolved {
+        Ok(TouchSite {
             pid,
             info,
             vpn,
@@ -100,14 +100,14 @@ impl<A: Allocator + Copy> Inner<A> {
     /// sees, or None if that is the page of zeros. If it sees a page before, nothing is refused.
     pub(crate) fn touch(
         &mut self,
-        t: Resolved,
+        t: TouchSite,
         writes: bool,
     ) -> Result<Option<FrameId>, MachineError>
-        requires { (p : Process) × (a : Placed) × IsResolved self.old.state t p a }
+        requires { (p : Process) × (a : Placed) × IsSiteOf self.old.state t p a }
 
         // In any case
         ensures touches { (p : Process) (a : Placed) →
-            IsResolved self.old.state t p a →
+            IsSiteOf self.old.state t p a →
             Touches result self.old.state self.new.state
             (touched_entry self.old.state (spot_at t p a) writes (get nat_cmp p.sees t.vpn)) }
 
@@ -145,13 +145,13 @@ impl<A: Allocator + Copy> Inner<A> {
     }
 
     /// Makes the process see the page shown there, which gets a frame if it has none.
-    fn join(&mut self, t: Resolved) -> Result<FrameId, MachineError>
-        requires touched { (p : Process) × (a : Placed) × IsResolved self.old.state t p a }
+    fn join(&mut self, t: TouchSite) -> Result<FrameId, MachineError>
+        requires touched { (p : Process) × (a : Placed) × IsSiteOf self.old.state t p a }
         requires unseen { sight_at self.old.state t.pid t.vpn ≡ None }
 
         // In any case
         ensures touches { (p : Process) (a : Placed) →
-            IsResolved self.old.state t p a →
+            IsSiteOf self.old.state t p a →
             Touches result self.old.state self.new.state
             (joined self.old.state (spot_at t p a) (get page_cmp self.old.state.place t.page)) }
 
@@ -170,14 +170,14 @@ impl<A: Allocator + Copy> Inner<A> {
     }
 
     /// Gives the page the front frame of the first node in order that has one, and makes the process see it.
-    fn fill(&mut self, t: Resolved) -> Result<FrameId, MachineError>
-        requires touched { (p : Process) × (a : Placed) × IsResolved self.old.state t p a }
+    fn fill(&mut self, t: TouchSite) -> Result<FrameId, MachineError>
+        requires touched { (p : Process) × (a : Placed) × IsSiteOf self.old.state t p a }
         requires unplaced { get page_cmp self.old.state.place t.page ≡ None }
         requires unseen { (page : Page) → sight_at self.old.state t.pid t.vpn ≡ Some (Sees page) → ⊥ }
 
         // In any case
         ensures touches { (p : Process) (a : Placed) →
-            IsResolved self.old.state t p a →
+            IsSiteOf self.old.state t p a →
             Touches result self.old.state self.new.state (filled self.old.state (spot_at t p a)) }
 
         // On success

@@ -7,14 +7,14 @@ ghost use Rattle.nm_types.specs.Map.{get, page_cmp};
 ghost use Rattle.nm_types.specs.State.{Process, Placed, page_at};
 ghost use Rattle.nm_model.specs.definitions.Seen.{sight_at};
 ghost use Rattle.nm_model.specs.definitions.Touch.{touched_entry};
-ghost use Rattle.nm_engine.specs.MidRun.{spot_at, IsResolved, with_state};
-ghost use Rattle.nm_engine.specs.Does.{Touches};
+ghost use Rattle.nm_engine.specs.views.MidRun.{spot_at, IsSiteOf, with_state};
+ghost use Rattle.nm_engine.specs.definitions.Does.{Touches};
 ghost use Rattle.nm_model.specs.definitions.Seen.{frame_seen};
 ghost use Rattle.nm_model.specs.definitions.Sound.{IsSoundMidRun};
-ghost use Rattle.nm_engine.specs.Undo.{CanUndo, IsUndoable, IsStillUndone, undone, all_undone, noted, with_undo};
+ghost use Rattle.nm_engine.specs.definitions.Undo.{CanUndo, IsUndoable, IsStillUndone, undone, all_undone, noted, with_undo};
 
 use crate::inner::Inner;
-use crate::inner::resolved::Resolved;
+use crate::inner::touch_site::TouchSite;
 use nm_types::{FrameId, MachineError, Page, Pid, Sight, Vpn};
 use std::alloc::Allocator;
 
@@ -44,15 +44,15 @@ impl<A: Allocator + Copy> Inner<A> {
     /// it is refused, or the host is out of memory, nothing is noted.
     pub(crate) fn touch_noted(
         &mut self,
-        t: Resolved,
+        t: TouchSite,
         writes: bool,
         undos: &mut Vec<Undo, A>,
     ) -> Result<Option<FrameId>, MachineError>
-        requires { (p : Process) × (a : Placed) × IsResolved self.old.state t p a }
+        requires { (p : Process) × (a : Placed) × IsSiteOf self.old.state t p a }
 
         // The touch
         ensures touches { (p : Process) (a : Placed) →
-            IsResolved self.old.state t p a →
+            IsSiteOf self.old.state t p a →
             Touches result self.old.state self.new.state
             (touched_entry self.old.state (spot_at t p a) writes (get nat_cmp p.sees t.vpn)) }
         ensures frame { IfOk result (λ frame. frame ≡ frame_seen self.new.state t.pid t.vpn) }
@@ -79,7 +79,7 @@ impl<A: Allocator + Copy> Inner<A> {
     }
 
     /// What a touch finds.
-    fn before(&self, t: &Resolved) -> Before
+    fn before(&self, t: &TouchSite) -> Before
         requires { page_at self.now.state.areas t.now.pid t.now.vpn ≡ Some t.now.page }
         ensures is { result
             ≡ record {

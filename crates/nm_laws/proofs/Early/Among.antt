@@ -10,8 +10,8 @@ use Rattle.nm_types.specs.declared.errno.Errno.{Errno}
 use Rattle.nm_types.specs.Map.{page_cmp, same_page}
 use Rattle.nm_types.specs.State.{State}
 use Rattle.nm_types.proofs.Maps.{exact_page}
-use Rattle.nm_model.specs.definitions.Touch.{Spot, shown_at, Access, is_held, spot_of_access}
-use Rattle.nm_model.specs.definitions.Early.{Due, Early, held_early, access_early, early, AllEarly, all_early}
+use Rattle.nm_model.specs.definitions.Touch.{AccessSite, shown_at, Access, is_held, site_of_access}
+use Rattle.nm_model.specs.definitions.BeforeCopy.{PendingAccess, BeforeCopy, held_before_copy, access_before_copy, before_copy, AllBeforeCopy, all_before_copy}
 
 -- one more page
 pub one_more : (l : List Page) (p q : Page) → list_any (same_page q) (insert_key page_cmp l p) ≡ (same_page q p || list_any (same_page q) l)
@@ -35,18 +35,18 @@ one_more (x ∷ l) p q =
 
 -- the same pages hold the same accesses
 module _ (a b : List Page) (same : (p : Page) → list_any (same_page p) a ≡ list_any (same_page p) b) where
-  held_alike : (r : Result Spot Errno) → is_held a r ≡ is_held b r
+  held_alike : (r : Result AccessSite Errno) → is_held a r ≡ is_held b r
   held_alike (Err e) = refl
   held_alike (Ok at) = same (shown_at at)
 
-  early_alike : (s : State) (x : Access) → early s a x ≡ early s b x
-  early_alike s x = ap (λ c. if c then held_early s else access_early s x) (held_alike (spot_of_access s x))
+  early_alike : (s : State) (x : Access) → before_copy s a x ≡ before_copy s b x
+  early_alike s x = ap (λ c. if c then held_before_copy s else access_before_copy s x) (held_alike (site_of_access s x))
 
-  abbrev due_first : Due → AllEarly → AllEarly
+  abbrev due_first : PendingAccess → AllBeforeCopy → AllBeforeCopy
   due_first due rest = record { state = rest.state; dues = due ∷ rest.dues }
 
-  pub all_early_alike : (accesses : List Access) (s : State) → all_early s a accesses ≡ all_early s b accesses
+  pub all_early_alike : (accesses : List Access) (s : State) → all_before_copy s a accesses ≡ all_before_copy s b accesses
   all_early_alike [] s = refl
   all_early_alike (x ∷ accesses) s =
-      ap (λ (e : Early). due_first e.due (all_early e.state a accesses)) (early_alike s x)
-      ∙ ap (due_first (early s b x).due) (all_early_alike accesses (early s b x).state)
+      ap (λ (e : BeforeCopy). due_first e.due (all_before_copy e.state a accesses)) (early_alike s x)
+      ∙ ap (due_first (before_copy s b x).due) (all_early_alike accesses (before_copy s b x).state)

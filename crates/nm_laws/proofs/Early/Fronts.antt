@@ -8,7 +8,7 @@ use Rattle.std.proofs.lemmas.List.Sums.{sum_by-set, sum_by-append}
 use Rattle.nm_types.specs.Layout.{Layout, node_of}
 use Rattle.nm_types.specs.State.{State, free_list}
 use Rattle.nm_model.specs.definitions.Sound.{times, IsSoundMidRun}
-use Rattle.nm_model.specs.definitions.Early.{without_fronts, with_fronts}
+use Rattle.nm_model.specs.definitions.BeforeCopy.{without_fronts, with_fronts}
 use Rattle.nm_laws.proofs.Soundness.Frames.{OnceIn, here, own_set}
 use Rattle.nm_laws.proofs.Soundness.Moved.{other_places}
 

@@ -14,10 +14,10 @@ use Rattle.nm_types.proofs.Maps.{page_cmp_total, exact_page, equal, get-set}
 use Rattle.nm_model.specs.definitions.Seen.{sight_at, sight_in}
 use Rattle.nm_model.specs.definitions.Areas.{is_shared}
 use Rattle.nm_model.specs.definitions.Order.{first_touch_order}
-use Rattle.nm_model.specs.definitions.Touch.{Spot, shown_at, spot_over, spot_of, first_free, with_sight, allocated, filled, joined, touched_entry, touched, touch, Access, Read, Write}
-use Rattle.nm_model.specs.definitions.Touch.{is_held, spot_of_access}
+use Rattle.nm_model.specs.definitions.Touch.{AccessSite, shown_at, site_over, site_of, first_free, with_sight, allocated, filled, joined, touched_entry, touched, touch, Access, Read, Write}
+use Rattle.nm_model.specs.definitions.Touch.{is_held, site_of_access}
 use Rattle.nm_model.specs.definitions.Sound.{IsSoundMidRun}
-use Rattle.nm_model.specs.definitions.Early.{Early, held_early, early, read_early, write_early, access_early, all_early}
+use Rattle.nm_model.specs.definitions.BeforeCopy.{BeforeCopy, held_before_copy, before_copy, read_before_copy, write_before_copy, access_before_copy, all_before_copy}
 use Rattle.nm_laws.proofs.Seen.Sights.{IsSpot, page_at_spot}
 use Rattle.nm_laws.proofs.Seen.Ranges.{zero_has_none}
 use Rattle.nm_laws.proofs.Soundness.Touched.{StaysSound, touch_sound, private_unplaced}
@@ -36,7 +36,7 @@ unfoldable pub Keeps : State → Page → Result State Errno → Type 0
 Keeps s q (Err e) = Unit {0}
 Keeps s q (Ok t) = (get page_cmp t.place q ≡ get page_cmp s.place q) × (get page_cmp t.bytes q ≡ get page_cmp s.bytes q)
 
-module _ (s : State) (q : Page) (placed : IsSome (get page_cmp s.place q)) (at : Spot) (i : IsSpot s at) where
+module _ (s : State) (q : Page) (placed : IsSome (get page_cmp s.place q)) (at : AccessSite) (i : IsSpot s at) where
   other : get page_cmp s.place (shown_at at) ≡ None → q ≡ shown_at at → ⊥
   other none e = some_is_none (subst (λ o. IsSome o) (ap (get page_cmp s.place) e ∙ none) placed)
     where
@@ -84,19 +84,19 @@ module _ (s : State) (q : Page) (placed : IsSome (get page_cmp s.place q)) (at :
     entry_keeps writes (Some (Sees p)) e = (refl, refl)
 
 module _ (s : State) (q : Page) (placed : IsSome (get page_cmp s.place q)) (l : List ℕ) (h : IsSoundMidRun s l) where
-  over_keeps : (pid v : ℕ) (process : Process) (writes : Bool) (o : Option Placed) → get nat_cmp s.processes pid ≡ Some process → area_over s.areas pid v ≡ o → Keeps s q (touched s writes (spot_over pid process v o))
+  over_keeps : (pid v : ℕ) (process : Process) (writes : Bool) (o : Option Placed) → get nat_cmp s.processes pid ≡ Some process → area_over s.areas pid v ≡ o → Keeps s q (touched s writes (site_over pid process v o))
   unfolding Keeps
   over_keeps pid v process writes None p a = tt
   over_keeps pid v process writes (Some area) p a =
-      let at : Spot = record { pid = pid; process = process; area = area; vpn = v } in
+      let at : AccessSite = record { pid = pid; process = process; area = area; vpn = v } in
       let i : IsSpot s at = record { process = p; area = a } in
       entry_keeps s q placed at i l h writes (get nat_cmp process.sees v) (ap (λ o. sight_in o v) p)
 
-  process_keeps : (pid address len : ℕ) (writes : Bool) (o : Option Process) → get nat_cmp s.processes pid ≡ o → Keeps s q (touched s writes (spot_of s o pid address len))
+  process_keeps : (pid address len : ℕ) (writes : Bool) (o : Option Process) → get nat_cmp s.processes pid ≡ o → Keeps s q (touched s writes (site_of s o pid address len))
   unfolding Keeps
   process_keeps pid address len writes None e = tt
   process_keeps pid address len writes (Some process) e =
-      elim ((len == 0) || nat_lt 4096 (address % 4096 + len)) as (λ b. Keeps s q (touched s writes (if b then Err Einval else spot_over pid process (address / 4096) (area_over s.areas pid (address / 4096))))) [
+      elim ((len == 0) || nat_lt 4096 (address % 4096 + len)) as (λ b. Keeps s q (touched s writes (if b then Err Einval else site_over pid process (address / 4096) (area_over s.areas pid (address / 4096))))) [
         | true ↦ tt
         | false ↦ over_keeps pid (address / 4096) process writes (area_over s.areas pid (address / 4096)) e refl
       ]
@@ -111,33 +111,33 @@ pub record IsPlaced (q : Page) (o : Option ℕ) (b : Option (List ℕ)) (l : Lis
   pub place : get page_cmp s.place q ≡ o
   pub bytes : get page_cmp s.bytes q ≡ b
 
-abbrev state_of : Early → State
+abbrev state_of : BeforeCopy → State
 state_of e = e.state
 
 module _ (q : Page) (o : Option ℕ) (b : Option (List ℕ)) (l : List ℕ) where
   is_there : (s : State) → IsPlaced q o b l s → IsSome (get page_cmp s.place q)
   is_there s h = subst (λ o. IsSome o) (sym h.place) h.some
 
-  read_stays : (s : State) (pid address len : ℕ) (r : Result State Errno) → IsPlaced q o b l s → StaysSound s l r → Keeps s q r → IsPlaced q o b l (read_early s pid address len r).state
+  read_stays : (s : State) (pid address len : ℕ) (r : Result State Errno) → IsPlaced q o b l s → StaysSound s l r → Keeps s q r → IsPlaced q o b l (read_before_copy s pid address len r).state
   unfolding Keeps StaysSound
   read_stays s pid address len (Err e) h sound keeps = h
   read_stays s pid address len (Ok t) h sound keeps = record { sound = sound.0; some = h.some; place = keeps.0 ∙ h.place; bytes = keeps.1 ∙ h.bytes }
 
-  write_stays : (s : State) (pid address : ℕ) (new : List ℕ) (r : Result State Errno) → IsPlaced q o b l s → StaysSound s l r → Keeps s q r → IsPlaced q o b l (write_early s pid address new r).state
+  write_stays : (s : State) (pid address : ℕ) (new : List ℕ) (r : Result State Errno) → IsPlaced q o b l s → StaysSound s l r → Keeps s q r → IsPlaced q o b l (write_before_copy s pid address new r).state
   unfolding Keeps StaysSound
   write_stays s pid address new (Err e) h sound keeps = h
   write_stays s pid address new (Ok t) h sound keeps = record { sound = sound.0; some = h.some; place = keeps.0 ∙ h.place; bytes = keeps.1 ∙ h.bytes }
 
-  access_stays : (s : State) (a : Access) → IsPlaced q o b l s → IsPlaced q o b l (access_early s a).state
+  access_stays : (s : State) (a : Access) → IsPlaced q o b l s → IsPlaced q o b l (access_before_copy s a).state
   access_stays s (Read pid address len) h =
       read_stays s pid address len (touch s pid address len false) h (touch_sound s l pid address len false h.sound) (touch_keeps s q (is_there s h) l h.sound pid address len false)
   access_stays s (Write pid address new) h =
       write_stays s pid address new (touch s pid address (length new) true) h (touch_sound s l pid address (length new) true h.sound) (touch_keeps s q (is_there s h) l h.sound pid address (length new) true)
 
-  pub early_stays : (moved : List Page) (s : State) (a : Access) → IsPlaced q o b l s → IsPlaced q o b l (early s moved a).state
+  pub early_stays : (moved : List Page) (s : State) (a : Access) → IsPlaced q o b l s → IsPlaced q o b l (before_copy s moved a).state
   early_stays moved s a h =
-      elim (is_held moved (spot_of_access s a)) as (λ held. IsPlaced q o b l (state_of (if held then held_early s else access_early s a))) [ true ↦ h | false ↦ access_stays s a h ]
+      elim (is_held moved (site_of_access s a)) as (λ held. IsPlaced q o b l (state_of (if held then held_before_copy s else access_before_copy s a))) [ true ↦ h | false ↦ access_stays s a h ]
 
-  pub all_stay : (moved : List Page) (accesses : List Access) (s : State) → IsPlaced q o b l s → IsPlaced q o b l (all_early s moved accesses).state
+  pub all_stay : (moved : List Page) (accesses : List Access) (s : State) → IsPlaced q o b l s → IsPlaced q o b l (all_before_copy s moved accesses).state
   all_stay moved [] s h = h
-  all_stay moved (a ∷ accesses) s h = all_stay moved accesses (early s moved a).state (early_stays moved s a h)
+  all_stay moved (a ∷ accesses) s h = all_stay moved accesses (before_copy s moved a).state (early_stays moved s a h)

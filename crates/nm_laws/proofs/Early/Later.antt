@@ -18,10 +18,10 @@ use Rattle.nm_types.proofs.Keys.{some_from_keys}
 use Rattle.nm_model.specs.definitions.Seen.{sight_at}
 use Rattle.nm_model.specs.definitions.Frames.{overwrite}
 use Rattle.nm_model.specs.definitions.Memory.{byte_of, mem_range, stretch_of}
-use Rattle.nm_model.specs.definitions.Touch.{Spot, shown_at, touch, Access, Read, Write, AccessAnswer, Bytes, Done, Held, Answered, read_after, write_after, with_bytes, access}
-use Rattle.nm_model.specs.definitions.Touch.{is_held, spot_of_access, in_flight, AllAnswered, all_in_flight}
+use Rattle.nm_model.specs.definitions.Touch.{AccessSite, shown_at, touch, Access, Read, Write, AccessAnswer, Bytes, Done, Held, Answered, read_after, write_after, with_bytes, access}
+use Rattle.nm_model.specs.definitions.Touch.{is_held, site_of_access, in_flight, AllAnswered, all_in_flight}
 use Rattle.nm_model.specs.definitions.Sound.{IsSoundMidRun}
-use Rattle.nm_model.specs.definitions.Early.{Due, held_early, Known, ToRead, ToWrite, Early, due_read, due_write, read_early, write_early, access_early, early, AllEarly, all_early, at_page, made, told, all_made, Touches}
+use Rattle.nm_model.specs.definitions.BeforeCopy.{PendingAccess, held_before_copy, Known, ToRead, ToWrite, BeforeCopy, pending_read, pending_write, read_before_copy, write_before_copy, access_before_copy, before_copy, AllBeforeCopy, all_before_copy, at_page, after_copy, answer_after_copy, all_after_copy, Touches}
 use Rattle.nm_laws.proofs.Seen.Sights.{IsSpot, page_at_spot}
 use Rattle.nm_laws.proofs.Seen.Ranges.{range_here, zeros_here, parted, zero_has_none}
 use Rattle.nm_laws.proofs.Soundness.Touched.{StaysSound, touch_sound, access_sound, process_fits, private_unplaced}
@@ -70,7 +70,7 @@ module _ (t : State) (l : List ℕ) (h : IsSoundMidRun t l) (pid address : ℕ) 
   bytes_there p e i =
       elim (get page_cmp t.place p) as (λ o. IsSome o → byte_of t p o i ≡ slice_index (unwrap_or (get page_cmp t.bytes p) []) i) [ None ↦ λ some. cc | Some f ↦ λ some. refl ] (h.shown pid (address / 4096) p e).1
 
-  read_is : (len : ℕ) (o : Option Sight) → address % 4096 + len ≤ 4096 → IsSome o → sight_at t pid (address / 4096) ≡ o → Bytes (mem_range t pid address len) ≡ told t (due_read o (address % 4096) len)
+  read_is : (len : ℕ) (o : Option Sight) → address % 4096 + len ≤ 4096 → IsSome o → sight_at t pid (address / 4096) ≡ o → Bytes (mem_range t pid address len) ≡ answer_after_copy t (pending_read o (address % 4096) len)
   read_is len None fits some e = absurd (sight_none some)
   read_is len (Some ZeroPage) fits some e =
       let none = zero_has_none t l pid (address / 4096) h e in
@@ -80,7 +80,7 @@ module _ (t : State) (l : List ℕ) (h : IsSoundMidRun t l) (pid address : ℕ) 
       ap (λ a. Bytes (mem_range t pid a len)) (parted address)
       ∙ ap Bytes (range_here t pid (address / 4096) p at (unwrap_or (get page_cmp t.bytes p) []) (bytes_there p e) (address % 4096) len fits)
 
-  read_stays : (len : ℕ) (o : Option Sight) → t ≡ made t (due_read o (address % 4096) len)
+  read_stays : (len : ℕ) (o : Option Sight) → t ≡ after_copy t (pending_read o (address % 4096) len)
   read_stays len None = refl
   read_stays len (Some ZeroPage) = refl
   read_stays len (Some (Sees p)) = refl
@@ -94,7 +94,7 @@ module _ (t : State) (l : List ℕ) (h : IsSoundMidRun t l) (pid address : ℕ) 
       replace_is_set page_cmp_total exact_page t.bytes p (overwrite b i new) bytes_sorted (subst (λ o. IsSome o) (sym e) refl)
       ∙ sym (changed_is_set t.bytes p (λ old. overwrite old i new) b bytes_sorted e)
 
-  write_is : (new : List ℕ) (o : Option Sight) → sight_at t pid (address / 4096) ≡ o → with_bytes t o (address % 4096) new ≡ made t (due_write o (address % 4096) new)
+  write_is : (new : List ℕ) (o : Option Sight) → sight_at t pid (address / 4096) ≡ o → with_bytes t o (address % 4096) new ≡ after_copy t (pending_write o (address % 4096) new)
   write_is new None e = refl
   write_is new (Some ZeroPage) e = refl
   write_is new (Some (Sees p)) e =
@@ -102,40 +102,40 @@ module _ (t : State) (l : List ℕ) (h : IsSoundMidRun t l) (pid address : ℕ) 
       ap (λ (bs : Map Page (List ℕ)). record t { bytes = bs })
       (rewritten p (address % 4096) new (get page_cmp t.bytes p) (some_from_keys page_cmp t.place t.bytes p (sym h.bytes.same_pages) placed) refl)
 
-  write_told : (new : List ℕ) (o : Option Sight) → Done ≡ told t (due_write o (address % 4096) new)
+  write_told : (new : List ℕ) (o : Option Sight) → Done ≡ answer_after_copy t (pending_write o (address % 4096) new)
   write_told new None = refl
   write_told new (Some ZeroPage) = refl
   write_told new (Some (Sees p)) = refl
 
 -- an access by what its touch leaves to do
-abbrev pub at_once : Early → Answered
-at_once e = record { state = made e.state e.due; answer = told e.state e.due }
+abbrev pub at_once : BeforeCopy → Answered
+at_once e = record { state = after_copy e.state e.due; answer = answer_after_copy e.state e.due }
 
 read_at_once : (s : State) (l : List ℕ) (pid address len : ℕ) (r : Result State Errno) → StaysSound s l r → Shows s pid (address / 4096) r → ((t : State) → r ≡ Ok t → address % 4096 + len ≤ 4096)
-    → read_after s pid address len r ≡ at_once (read_early s pid address len r)
+    → read_after s pid address len r ≡ at_once (read_before_copy s pid address len r)
 unfolding StaysSound Shows
 read_at_once s l pid address len (Err e) sound shows fits = refl
 read_at_once s l pid address len (Ok t) sound shows fits =
     let o = sight_at t pid (address / 4096) in
     λ i. record { state = read_stays t l sound.0 pid address len o i; answer = read_is t l sound.0 pid address len o (fits t refl) shows.0 refl i }
 
-write_at_once : (s : State) (l : List ℕ) (pid address : ℕ) (new : List ℕ) (r : Result State Errno) → StaysSound s l r → write_after s pid address new r ≡ at_once (write_early s pid address new r)
+write_at_once : (s : State) (l : List ℕ) (pid address : ℕ) (new : List ℕ) (r : Result State Errno) → StaysSound s l r → write_after s pid address new r ≡ at_once (write_before_copy s pid address new r)
 unfolding StaysSound
 write_at_once s l pid address new (Err e) sound = refl
 write_at_once s l pid address new (Ok t) sound =
     let o = sight_at t pid (address / 4096) in
     λ i. record { state = write_is t l sound.0 pid address new o refl i; answer = write_told t l sound.0 pid address new o i }
 
-access_at_once : (s : State) (l : List ℕ) (a : Access) → IsSoundMidRun s l → access s a ≡ at_once (access_early s a)
+access_at_once : (s : State) (l : List ℕ) (a : Access) → IsSoundMidRun s l → access s a ≡ at_once (access_before_copy s a)
 access_at_once s l (Read pid address len) h =
     read_at_once s l pid address len (touch s pid address len false) (touch_sound s l pid address len false h) (touch_shows s pid address len false)
     (λ t e. process_fits s pid address len false (get nat_cmp s.processes pid) t e)
 access_at_once s l (Write pid address new) h =
     write_at_once s l pid address new (touch s pid address (length new) true) (touch_sound s l pid address (length new) true h)
 
-pub flight_at_once : (s : State) (l : List ℕ) (moved : List Page) (a : Access) → IsSoundMidRun s l → in_flight s moved a ≡ at_once (early s moved a)
+pub flight_at_once : (s : State) (l : List ℕ) (moved : List Page) (a : Access) → IsSoundMidRun s l → in_flight s moved a ≡ at_once (before_copy s moved a)
 flight_at_once s l moved a h =
-    elim (is_held moved (spot_of_access s a)) as (λ b. (if b then record { state = s; answer = Held } else access s a) ≡ at_once (if b then held_early s else access_early s a)) [
+    elim (is_held moved (site_of_access s a)) as (λ b. (if b then record { state = s; answer = Held } else access s a) ≡ at_once (if b then held_before_copy s else access_before_copy s a)) [
       | true ↦ refl
       | false ↦ access_at_once s l a h
     ]
@@ -145,7 +145,7 @@ state_of x = x.state
 
 flight_sound : (s : State) (l : List ℕ) (moved : List Page) (a : Access) → IsSoundMidRun s l → IsSoundMidRun (in_flight s moved a).state l
 flight_sound s l moved a h =
-    elim (is_held moved (spot_of_access s a)) as (λ b. IsSoundMidRun (state_of (if b then record { state = s; answer = Held } else access s a)) l) [ true ↦ h | false ↦ access_sound s l a h ]
+    elim (is_held moved (site_of_access s a)) as (λ b. IsSoundMidRun (state_of (if b then record { state = s; answer = Held } else access s a)) l) [ true ↦ h | false ↦ access_sound s l a h ]
 
 -- ---- the touches of later accesses beside bytes that are written
 
@@ -159,7 +159,7 @@ module _ (q : Page) (g : List ℕ → List ℕ) (o : Option ℕ) (b : Option (Li
   no_page : {p : Page} → None ≡ Some (Sees p) → ⊥
   no_page e = cc
 
-  spares : (s : State) (at : Spot) → IsPlaced q o b l s → IsSpot s at → Spares (λ m. m) (with_values (at_page q g)) s at
+  spares : (s : State) (at : AccessSite) → IsPlaced q o b l s → IsSpot s at → Spares (λ m. m) (with_values (at_page q g)) s at
   spares s at h i =
       let beside = λ (none : get page_cmp s.place (shown_at at) ≡ None). new_beside s.bytes q g (shown_at at) (replicate 4096 0) (apart s (shown_at at) h none) in
       record {
@@ -174,20 +174,20 @@ module _ (q : Page) (g : List ℕ → List ℕ) (o : Option ℕ) (b : Option (Li
       }
 
   pub all_beside : (moved : List Page) (accesses : List Access) (s : State) → IsPlaced q o b l s
-      → all_early (record s { bytes = with_values (at_page q g) s.bytes }) moved accesses ≡ (let e = all_early s moved accesses in record e { state = record (e.state) { bytes = with_values (at_page q g) e.state.bytes } })
+      → all_before_copy (record s { bytes = with_values (at_page q g) s.bytes }) moved accesses ≡ (let e = all_before_copy s moved accesses in record e { state = record (e.state) { bytes = with_values (at_page q g) e.state.bytes } })
   all_beside moved accesses s h =
       all_early_too (λ m. m) (with_values (at_page q g)) (IsPlaced q o b l) moved
       (λ s a k held at e. let i = found s a at e in (i, spares s at k i)) (λ s a k. early_stays q o b l moved s a k) accesses s h
 
--- later touches find what was made, and leave the answers as they are
-made_beside : (s : State) (l : List ℕ) (moved : List Page) (accesses : List Access) (d : Due) → IsSoundMidRun s l → Touches s d
-    → all_early (made s d) moved accesses ≡ (let e = all_early s moved accesses in record e { state = made e.state d })
+-- later touches find what was after_copy, and leave the answers as they are
+made_beside : (s : State) (l : List ℕ) (moved : List Page) (accesses : List Access) (d : PendingAccess) → IsSoundMidRun s l → Touches s d
+    → all_before_copy (after_copy s d) moved accesses ≡ (let e = all_before_copy s moved accesses in record e { state = after_copy e.state d })
 made_beside s l moved accesses (Known answer) h on = refl
 made_beside s l moved accesses (ToRead page at len) h on = refl
 made_beside s l moved accesses (ToWrite page at new) h on =
     all_beside page (λ old. overwrite old at new) (get page_cmp s.place page) (get page_cmp s.bytes page) l moved accesses s (record { sound = h; some = on; place = refl; bytes = refl })
 
-told_later : (s : State) (l : List ℕ) (moved : List Page) (accesses : List Access) (d : Due) → IsSoundMidRun s l → Touches s d → told s d ≡ told (all_early s moved accesses).state d
+told_later : (s : State) (l : List ℕ) (moved : List Page) (accesses : List Access) (d : PendingAccess) → IsSoundMidRun s l → Touches s d → answer_after_copy s d ≡ answer_after_copy (all_before_copy s moved accesses).state d
 told_later s l moved accesses (Known answer) h on = refl
 told_later s l moved accesses (ToWrite page at new) h on = refl
 told_later s l moved accesses (ToRead page at len) h on =
@@ -196,59 +196,59 @@ told_later s l moved accesses (ToRead page at len) h on =
 
 -- ---- where what is left to do is done
 
-read_touches : (t : State) (l : List ℕ) (pid v at len : ℕ) (o : Option Sight) → IsSoundMidRun t l → sight_at t pid v ≡ o → Touches t (due_read o at len)
+read_touches : (t : State) (l : List ℕ) (pid v at len : ℕ) (o : Option Sight) → IsSoundMidRun t l → sight_at t pid v ≡ o → Touches t (pending_read o at len)
 read_touches t l pid v at len None h e = tt
 read_touches t l pid v at len (Some ZeroPage) h e = tt
 read_touches t l pid v at len (Some (Sees p)) h e = (h.shown pid v p e).1
 
-write_touches : (t : State) (l : List ℕ) (pid v at : ℕ) (new : List ℕ) (o : Option Sight) → IsSoundMidRun t l → sight_at t pid v ≡ o → Touches t (due_write o at new)
+write_touches : (t : State) (l : List ℕ) (pid v at : ℕ) (new : List ℕ) (o : Option Sight) → IsSoundMidRun t l → sight_at t pid v ≡ o → Touches t (pending_write o at new)
 write_touches t l pid v at new None h e = tt
 write_touches t l pid v at new (Some ZeroPage) h e = tt
 write_touches t l pid v at new (Some (Sees p)) h e = (h.shown pid v p e).1
 
 -- sound, and what is left to do is done to a page that has a frame
-pub record IsReady (l : List ℕ) (e : Early) : Type 0 where
+pub record IsReady (l : List ℕ) (e : BeforeCopy) : Type 0 where
   pub sound : IsSoundMidRun e.state l
   pub on : Touches e.state e.due
 
-read_ready : (s : State) (l : List ℕ) (pid address len : ℕ) (r : Result State Errno) → IsSoundMidRun s l → StaysSound s l r → IsReady l (read_early s pid address len r)
+read_ready : (s : State) (l : List ℕ) (pid address len : ℕ) (r : Result State Errno) → IsSoundMidRun s l → StaysSound s l r → IsReady l (read_before_copy s pid address len r)
 unfolding StaysSound
 read_ready s l pid address len (Err e) h sound = record { sound = h; on = tt }
 read_ready s l pid address len (Ok t) h sound = record { sound = sound.0; on = read_touches t l pid (address / 4096) (address % 4096) len (sight_at t pid (address / 4096)) sound.0 refl }
 
-write_ready : (s : State) (l : List ℕ) (pid address : ℕ) (new : List ℕ) (r : Result State Errno) → IsSoundMidRun s l → StaysSound s l r → IsReady l (write_early s pid address new r)
+write_ready : (s : State) (l : List ℕ) (pid address : ℕ) (new : List ℕ) (r : Result State Errno) → IsSoundMidRun s l → StaysSound s l r → IsReady l (write_before_copy s pid address new r)
 unfolding StaysSound
 write_ready s l pid address new (Err e) h sound = record { sound = h; on = tt }
 write_ready s l pid address new (Ok t) h sound = record { sound = sound.0; on = write_touches t l pid (address / 4096) (address % 4096) new (sight_at t pid (address / 4096)) sound.0 refl }
 
-access_ready : (s : State) (l : List ℕ) (a : Access) → IsSoundMidRun s l → IsReady l (access_early s a)
+access_ready : (s : State) (l : List ℕ) (a : Access) → IsSoundMidRun s l → IsReady l (access_before_copy s a)
 access_ready s l (Read pid address len) h = read_ready s l pid address len (touch s pid address len false) h (touch_sound s l pid address len false h)
 access_ready s l (Write pid address new) h = write_ready s l pid address new (touch s pid address (length new) true) h (touch_sound s l pid address (length new) true h)
 
-pub early_ready : (s : State) (l : List ℕ) (moved : List Page) (a : Access) → IsSoundMidRun s l → IsReady l (early s moved a)
+pub early_ready : (s : State) (l : List ℕ) (moved : List Page) (a : Access) → IsSoundMidRun s l → IsReady l (before_copy s moved a)
 early_ready s l moved a h =
-    elim (is_held moved (spot_of_access s a)) as (λ b. IsReady l (if b then held_early s else access_early s a)) [ true ↦ record { sound = h; on = tt } | false ↦ access_ready s l a h ]
+    elim (is_held moved (site_of_access s a)) as (λ b. IsReady l (if b then held_before_copy s else access_before_copy s a)) [ true ↦ record { sound = h; on = tt } | false ↦ access_ready s l a h ]
 
 -- ---- the law
 
 -- what was left to do is done after all touches
-abbrev pub all_later : AllEarly → AllAnswered
-all_later e = all_made e.state e.dues
+abbrev pub all_later : AllBeforeCopy → AllAnswered
+all_later e = all_after_copy e.state e.dues
 
 -- an answer before others
 abbrev pub after_first : AccessAnswer → AllAnswered → AllAnswered
 after_first x more = record { state = more.state; answers = x ∷ more.answers }
 
-pub touches_first : (l : List ℕ) (moved : List Page) (accesses : List Access) (s : State) → IsSoundMidRun s l → all_in_flight s moved accesses ≡ all_later (all_early s moved accesses)
+pub touches_first : (l : List ℕ) (moved : List Page) (accesses : List Access) (s : State) → IsSoundMidRun s l → all_in_flight s moved accesses ≡ all_later (all_before_copy s moved accesses)
 touches_first l moved [] s h = refl
 touches_first l moved (a ∷ accesses) s h =
-    let now = early s moved a in
+    let now = before_copy s moved a in
     let ready = early_ready s l moved a h in
     let once = flight_at_once s l moved a h in
-    let next = made now.state now.due in
-    let rest = all_early now.state moved accesses in
+    let next = after_copy now.state now.due in
+    let rest = all_before_copy now.state moved accesses in
     ap (λ (x : Answered). after_first x.answer (all_in_flight x.state moved accesses)) once
-    ∙ ap (after_first (told now.state now.due))
+    ∙ ap (after_first (answer_after_copy now.state now.due))
     (touches_first l moved accesses next (subst (λ (x : Answered). IsSoundMidRun x.state l) once (flight_sound s l moved a h))
     ∙ ap all_later (made_beside now.state l moved accesses now.due ready.sound ready.on))
-    ∙ ap (λ (x : AccessAnswer). after_first x (all_made (made rest.state now.due) rest.dues)) (told_later now.state l moved accesses now.due ready.sound ready.on)
+    ∙ ap (λ (x : AccessAnswer). after_first x (all_after_copy (after_copy rest.state now.due) rest.dues)) (told_later now.state l moved accesses now.due ready.sound ready.on)

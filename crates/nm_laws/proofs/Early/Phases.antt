@@ -19,7 +19,7 @@ use Rattle.nm_laws.specs.Laws.{with_move, with_moves}
 use Rattle.nm_laws.specs.Moves.{CanMove, IsPlanOf}
 use Rattle.nm_model.specs.definitions.Run.{moved_page, left}
 use Rattle.nm_model.specs.definitions.Sound.{IsSoundMidRun, IsSound}
-use Rattle.nm_model.specs.definitions.Early.{AllEarly, all_early, all_made, with_places, without_fronts, with_fronts, tos, IsDue}
+use Rattle.nm_model.specs.definitions.BeforeCopy.{AllBeforeCopy, all_before_copy, all_after_copy, with_places, without_fronts, with_fronts, frames_taken, IsPending}
 use Rattle.nm_laws.proofs.Soundness.Moved.{decided_sound}
 use Rattle.nm_laws.proofs.Soundness.Counted.{front_is}
 use Rattle.nm_laws.proofs.Early.Kept.{all_stay}
@@ -40,7 +40,7 @@ moves_sound (t ∷ taken) s l target h can =
     subst (IsSoundMidRun (with_moves s target (t ∷ taken))) (append_assoc l (t.from ∷ []) (left taken)) (moves_sound taken (with_move target s t) (l ++ t.from ∷ []) target now can.3)
 
 -- the frames that moves take are the front ones
-pub tos_are : (taken : List Taken) (s : State) (target : ℕ) → target < length s.free → CanMove s target taken → tos taken ≡ take (length taken) (free_list s target)
+pub tos_are : (taken : List Taken) (s : State) (target : ℕ) → target < length s.free → CanMove s target taken → frames_taken taken ≡ take (length taken) (free_list s target)
 tos_are [] s target inside can = refl
 tos_are (t ∷ taken) s target inside can =
     let list = free_list s target in
@@ -59,7 +59,7 @@ still_stands s t target m same p f e =
     ∙ elim (is_eq (page_cmp p m.page)) as (λ b. cond b (Some m.to) (get page_cmp s.place p) ≡ Some f → cond b (Some m.to) (get page_cmp t.place p) ≡ Some f) [ true ↦ λ e. e | false ↦ λ e. same p f e ]
     (sym (get-set page_cmp_total s.place m.page m.to p) ∙ e)
 
-can_still : (taken : List Taken) (s t : State) (target : ℕ) (rest : List ℕ) → CanMove s target taken → t.layout ≡ s.layout → Stands s t → target < length t.free → free_list t target ≡ tos taken ++ rest → CanMove t target taken
+can_still : (taken : List Taken) (s t : State) (target : ℕ) (rest : List ℕ) → CanMove s target taken → t.layout ≡ s.layout → Stands s t → target < length t.free → free_list t target ≡ frames_taken taken ++ rest → CanMove t target taken
 can_still [] s t target rest can nodes same inside front = tt
 can_still (m ∷ taken) s t target rest can nodes same inside front = (
   same m.page m.from can.0,
@@ -69,20 +69,20 @@ can_still (m ∷ taken) s t target rest can nodes same inside front = (
       (get_or-set_same t.free target (drop 1 (free_list t target)) [] inside ∙ ap (λ (l : List ℕ). drop 1 l) front),
 )
 
-drop_tos : (taken : List Taken) (rest : List ℕ) → drop (length taken) (tos taken ++ rest) ≡ rest
+drop_tos : (taken : List Taken) (rest : List ℕ) → drop (length taken) (frames_taken taken ++ rest) ≡ rest
 drop_tos [] rest = refl
 drop_tos (t ∷ taken) rest = drop_tos taken rest
 
 -- frames that went back and are taken again
-pub again_list : (taken : List Taken) (free : List (List ℕ)) (target : ℕ) → target < length free → let given = slice_set free target (tos taken ++ slice_index_or free target []) in slice_set given target (drop (length taken) (slice_index_or given target [])) ≡ free
+pub again_list : (taken : List Taken) (free : List (List ℕ)) (target : ℕ) → target < length free → let given = slice_set free target (frames_taken taken ++ slice_index_or free target []) in slice_set given target (drop (length taken) (slice_index_or given target [])) ≡ free
 again_list taken free target inside =
     let l = slice_index_or free target [] in
-    let given = tos taken ++ l in
+    let given = frames_taken taken ++ l in
     set-set free target given (drop (length taken) (slice_index_or (slice_set free target given) target []))
     ∙ ap (λ (xs : List ℕ). slice_set free target xs) (ap (λ (xs : List ℕ). drop (length taken) xs) (get_or-set_same free target given [] inside) ∙ drop_tos taken l)
     ∙ set-get_or free target []
 
-again : (taken : List Taken) (s : State) (target : ℕ) → target < length s.free → without_fronts (with_fronts s target (tos taken)) target (length taken) ≡ s
+again : (taken : List Taken) (s : State) (target : ℕ) → target < length s.free → without_fronts (with_fronts s target (frames_taken taken)) target (length taken) ≡ s
 again taken s target inside = ap (λ free. record s { free = free }) (again_list taken s.free target inside)
 
 -- a run with accesses in flight
@@ -92,38 +92,38 @@ module _ (s : State) (target : ℕ) (taken : List Taken) (accesses : List Access
   fronts_taken = without_fronts s target (length taken)
 
   -- once all touches are made
-  abbrev pub touched_all : AllEarly
-  touched_all = all_early fronts_taken (pages_of taken) accesses
+  abbrev pub touched_all : AllBeforeCopy
+  touched_all = all_before_copy fronts_taken (pages_of taken) accesses
 
   -- the same with its frames given back
   abbrev pub given_back : State
-  given_back = with_fronts (touched_all.state) target (tos taken)
+  given_back = with_fronts (touched_all.state) target (frames_taken taken)
 
   pub record IsPhased : Type 0 where
-    pub sound : IsSoundMidRun (touched_all.state) (tos taken)
+    pub sound : IsSoundMidRun (touched_all.state) (frames_taken taken)
     pub back : IsSound given_back
     pub can : CanMove given_back target taken
-    pub due : AllByRecursion (IsDue (pages_of taken) (touched_all.state)) (touched_all.dues)
-    pub flight : all_in_flight (with_moves s target taken) (pages_of taken) accesses ≡ all_made (with_moves given_back target taken) (touched_all.dues)
+    pub due : AllByRecursion (IsPending (pages_of taken) (touched_all.state)) (touched_all.dues)
+    pub flight : all_in_flight (with_moves s target taken) (pages_of taken) accesses ≡ all_after_copy (with_moves given_back target taken) (touched_all.dues)
 
   pub phased : IsSound s → target < length s.free → CanMove s target taken → IsPhased
   phased h inside can =
       let moved = pages_of taken in
       let n = length taken in
-      let frames : tos taken ≡ take n (free_list s target) = tos_are taken s target inside can in
+      let frames : frames_taken taken ≡ take n (free_list s target) = tos_are taken s target inside can in
       let start = subst (IsSoundMidRun fronts_taken) (sym frames) (fronts_sound s target n inside h) in
-      let due = all_due (tos taken) moved accesses fronts_taken start in
+      let due = all_due (frames_taken taken) moved accesses fronts_taken start in
       let nodes : touched_all.state.layout ≡ s.layout = all_layout moved accesses fronts_taken in
       let within : target < length touched_all.state.free =
       let here = due.1.frames.lists in let there = h.frames.lists in let same = ap (λ (g : Layout). node_count g) nodes in omega (arith, here, there, same, inside) in
       let own = subst (AllByRecursion (λ f. node_of touched_all.state.layout f ≡ target)) (sym frames)
       (subst (λ (g : Layout). AllByRecursion (λ f. node_of g f ≡ target) (take n (free_list s target))) (sym nodes) (all_taken n (free_list s target) s.layout target (h.frames.own target))) in
-      let back = returned_sound touched_all.state target (tos taken) within own due.1 in
+      let back = returned_sound touched_all.state target (frames_taken taken) within own due.1 in
       let can_back : CanMove given_back target taken =
       can_still taken s given_back target (free_list touched_all.state target) can nodes
-      (λ p f e. (all_stay p (Some f) (get page_cmp s.bytes p) (tos taken) moved accesses fronts_taken (record { sound = start; some = refl; place = e; bytes = refl })).place)
-      (omega (arith, within, length-set touched_all.state.free target (tos taken ++ free_list touched_all.state target)))
-      (get_or-set_same touched_all.state.free target (tos taken ++ free_list touched_all.state target) [] within) in
+      (λ p f e. (all_stay p (Some f) (get page_cmp s.bytes p) (frames_taken taken) moved accesses fronts_taken (record { sound = start; some = refl; place = e; bytes = refl })).place)
+      (omega (arith, within, length-set touched_all.state.free target (frames_taken taken ++ free_list touched_all.state target)))
+      (get_or-set_same touched_all.state.free target (frames_taken taken ++ free_list touched_all.state target) [] within) in
       record {
         sound = due.1;
         back = back;
@@ -131,11 +131,11 @@ module _ (s : State) (target : ℕ) (taken : List Taken) (accesses : List Access
         due = due.0;
         flight =
             touches_first (left taken) moved accesses (with_moves s target taken) (moves_sound taken s [] target h can)
-            ∙ ap (λ (x : State). all_later (all_early x moved accesses)) (moves_are_places taken s target inside h.order.place can)
+            ∙ ap (λ (x : State). all_later (all_before_copy x moved accesses)) (moves_are_places taken s target inside h.order.place can)
             ∙ ap all_later (places_too moved taken (pages_among taken) accesses fronts_taken)
-            ∙ ap (λ (x : State). all_made (with_places x taken) touched_all.dues) (sym (again taken touched_all.state target within))
-            ∙ ap (λ (x : State). all_made x touched_all.dues) (sym (moves_are_places taken given_back target
-            (omega (arith, within, length-set touched_all.state.free target (tos taken ++ free_list touched_all.state target))) back.order.place can_back));
+            ∙ ap (λ (x : State). all_after_copy (with_places x taken) touched_all.dues) (sym (again taken touched_all.state target within))
+            ∙ ap (λ (x : State). all_after_copy x touched_all.dues) (sym (moves_are_places taken given_back target
+            (omega (arith, within, length-set touched_all.state.free target (frames_taken taken ++ free_list touched_all.state target))) back.order.place can_back));
       }
 
   -- a run that is planned on the same machine can be made so

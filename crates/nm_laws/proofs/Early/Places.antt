@@ -16,10 +16,10 @@ use Rattle.nm_types.specs.State.{State, free_list}
 use Rattle.nm_types.proofs.Keys.{sorted-set}
 use Rattle.nm_types.proofs.Maps.{page_cmp_total, exact_page, get-values}
 use Rattle.nm_types.specs.declared.taken.Taken.{Taken}
-use Rattle.nm_model.specs.definitions.Touch.{Spot, shown_at, Access, is_held}
+use Rattle.nm_model.specs.definitions.Touch.{AccessSite, shown_at, Access, is_held}
 use Rattle.nm_laws.specs.Laws.{with_move, with_moves}
 use Rattle.nm_laws.specs.Moves.{CanMove}
-use Rattle.nm_model.specs.definitions.Early.{AllEarly, all_early, at_page, with_place, with_places, without_fronts}
+use Rattle.nm_model.specs.definitions.BeforeCopy.{AllBeforeCopy, all_before_copy, at_page, with_place, with_places, without_fronts}
 use Rattle.nm_laws.proofs.Early.Beside.{Spares, all_early_too, found}
 use Rattle.nm_laws.proofs.Early.Later.{at_page_beside, new_beside, changed_is_set}
 
@@ -36,7 +36,7 @@ page_beside place q to p other =
     ∙ elim (get page_cmp place p) as (λ o. option_map (at_page q (λ from. to) p) o ≡ o) [ None ↦ refl | Some f ↦ ap Some (at_page_beside q (λ from. to) p f other) ]
 
 module _ (moved : List Page) where
-  place_spares : (t : Taken) → list_any (same_page t.page) moved ≡ true → (s : State) (at : Spot) → is_held moved (Ok at) ≡ false → Spares (with_values (at_page t.page (λ from. t.to))) (λ m. m) s at
+  place_spares : (t : Taken) → list_any (same_page t.page) moved ≡ true → (s : State) (at : AccessSite) → is_held moved (Ok at) ≡ false → Spares (with_values (at_page t.page (λ from. t.to))) (λ m. m) s at
   place_spares t among s at held =
       let other = not_moving (shown_at at) t.page moved among held in
       record {
@@ -47,17 +47,17 @@ module _ (moved : List Page) where
         absent = λ e private. refl;
       }
 
-  place_too : (t : Taken) → list_any (same_page t.page) moved ≡ true → (accesses : List Access) (s : State) → all_early (with_place s t) moved accesses ≡ (let e = all_early s moved accesses in record e { state = with_place (e.state) t })
+  place_too : (t : Taken) → list_any (same_page t.page) moved ≡ true → (accesses : List Access) (s : State) → all_before_copy (with_place s t) moved accesses ≡ (let e = all_before_copy s moved accesses in record e { state = with_place (e.state) t })
   place_too t among accesses s =
       all_early_too (with_values (at_page t.page (λ from. t.to))) (λ m. m) (λ s. Unit {0}) moved
       (λ s a k held at e. (found s a at e, place_spares t among s at (subst (λ r. is_held moved r ≡ false) e held))) (λ s a k. tt) accesses s tt
 
-  abbrev placed_after : List Taken → AllEarly → AllEarly
+  abbrev placed_after : List Taken → AllBeforeCopy → AllBeforeCopy
   placed_after taken e = record { state = with_places e.state taken; dues = e.dues }
 
   -- the moves of pages come before or after
   pub places_too : (taken : List Taken) → AllByRecursion (λ t. list_any (same_page t.page) moved ≡ true) taken → (accesses : List Access) (s : State)
-      → all_early (with_places s taken) moved accesses ≡ (let e = all_early s moved accesses in record e { state = with_places (e.state) taken })
+      → all_before_copy (with_places s taken) moved accesses ≡ (let e = all_before_copy s moved accesses in record e { state = with_places (e.state) taken })
   places_too [] all accesses s = refl
   places_too (t ∷ taken) all accesses s =
       places_too taken all.1 accesses (with_place s t) ∙ ap (placed_after taken) (place_too t all.0 accesses s)

@@ -11,7 +11,7 @@ use Rattle.nm_types.specs.State.{Process, State, Placed, area_over, free_list}
 use Rattle.nm_model.specs.definitions.Seen.{sight_at, sight_in}
 use Rattle.nm_model.specs.definitions.Areas.{is_shared}
 use Rattle.nm_model.specs.definitions.Order.{first_touch_order}
-use Rattle.nm_model.specs.definitions.Touch.{Spot, shown_at, spot_over, spot_of, first_free, with_sight, with_page, without_front, allocated, filled, joined, touched_entry, touched, touch}
+use Rattle.nm_model.specs.definitions.Touch.{AccessSite, shown_at, site_over, site_of, first_free, with_sight, with_page, without_front, allocated, filled, joined, touched_entry, touched, touch}
 use Rattle.nm_laws.proofs.Seen.Sights.{IsSpot, sight_here}
 
 -- if it is not refused, something is seen there, and areas and nodes are as before
@@ -19,7 +19,7 @@ unfoldable pub Shows : State → ℕ → ℕ → Result State Errno → Type 0
 Shows s pid v (Err e) = Unit {0}
 Shows s pid v (Ok t) = IsSome (sight_at t pid v) × (t.areas ≡ s.areas) × (t.layout ≡ s.layout)
 
-module _ (s : State) (at : Spot) (i : IsSpot s at) where
+module _ (s : State) (at : AccessSite) (i : IsSpot s at) where
   allocated_shows : (o : Option ℕ) → Shows s at.pid at.vpn (allocated s at o)
   unfolding Shows
   allocated_shows None = tt
@@ -50,18 +50,18 @@ module _ (s : State) (at : Spot) (i : IsSpot s at) where
   entry_shows writes (Some (Sees p)) e = (subst (λ o. IsSome o) (sym e) refl, refl, refl)
 
 module _ (s : State) where
-  over_shows : (pid v : ℕ) (process : Process) (writes : Bool) (o : Option Placed) → get nat_cmp s.processes pid ≡ Some process → area_over s.areas pid v ≡ o → Shows s pid v (touched s writes (spot_over pid process v o))
+  over_shows : (pid v : ℕ) (process : Process) (writes : Bool) (o : Option Placed) → get nat_cmp s.processes pid ≡ Some process → area_over s.areas pid v ≡ o → Shows s pid v (touched s writes (site_over pid process v o))
   unfolding Shows
   over_shows pid v process writes None p a = tt
   over_shows pid v process writes (Some area) p a =
-      let at : Spot = record { pid = pid; process = process; area = area; vpn = v } in
+      let at : AccessSite = record { pid = pid; process = process; area = area; vpn = v } in
       entry_shows s at (record { process = p; area = a }) writes (get nat_cmp process.sees v) (ap (λ o. sight_in o v) p)
 
-  process_shows : (pid address len : ℕ) (writes : Bool) (o : Option Process) → get nat_cmp s.processes pid ≡ o → Shows s pid (address / 4096) (touched s writes (spot_of s o pid address len))
+  process_shows : (pid address len : ℕ) (writes : Bool) (o : Option Process) → get nat_cmp s.processes pid ≡ o → Shows s pid (address / 4096) (touched s writes (site_of s o pid address len))
   unfolding Shows
   process_shows pid address len writes None e = tt
   process_shows pid address len writes (Some process) e =
-      elim ((len == 0) || nat_lt 4096 (address % 4096 + len)) as (λ b. Shows s pid (address / 4096) (touched s writes (if b then Err Einval else spot_over pid process (address / 4096) (area_over s.areas pid (address / 4096))))) [
+      elim ((len == 0) || nat_lt 4096 (address % 4096 + len)) as (λ b. Shows s pid (address / 4096) (touched s writes (if b then Err Einval else site_over pid process (address / 4096) (area_over s.areas pid (address / 4096))))) [
         | true ↦ tt
         | false ↦ over_shows pid (address / 4096) process writes (area_over s.areas pid (address / 4096)) e refl
       ]

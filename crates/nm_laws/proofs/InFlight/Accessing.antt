@@ -9,8 +9,8 @@ use Rattle.nm_model.specs.definitions.Memory.{mem_range}
 use Rattle.nm_model.specs.definitions.Seen.{sight_at}
 use Rattle.nm_types.specs.declared.entry.Entry.{Entry}
 use Rattle.nm_model.specs.definitions.Touch as state
-use Rattle.nm_model.specs.definitions.Touch.{Spot, spot, Access, Read, Write, Bytes, Done, Held, Refused, AccessAnswer}
-use Rattle.nm_model.specs.definitions.Touch.{spot_of_access, is_held, in_flight}
+use Rattle.nm_model.specs.definitions.Touch.{AccessSite, site, Access, Read, Write, Bytes, Done, Held, Refused, AccessAnswer}
+use Rattle.nm_model.specs.definitions.Touch.{site_of_access, is_held, in_flight}
 use Rattle.nm_model.specs.definitions.RunMachine.{RunMachine, state_of}
 use Rattle.nm_model.specs.definitions.Accesses.{is_held_at, touched, bytes_at, written_at, answered, read_after, write_after, made, accessed}
 use Rattle.nm_laws.proofs.InFlight.Midway.{IsMidway}
@@ -63,7 +63,7 @@ module _ (m : RunMachine) (moved : List Page) (h : IsMidway m moved) where
         layout = b.layout;
       }
 
-  read_made : (pid address len : ℕ) (r : Result Spot Errno) → ComesTo (state_of m) pid address len r → is_held_at m r ≡ false
+  read_made : (pid address len : ℕ) (r : Result AccessSite Errno) → ComesTo (state_of m) pid address len r → is_held_at m r ≡ false
       → Made m (read_after m pid address len (touched m false r)) moved (state.read_after (state_of m) pid address len (state.touched (state_of m) false r))
   unfolding ComesTo
   read_made pid address len (Err e) c free = only_answered (Refused e) (Refused e) refl
@@ -71,7 +71,7 @@ module _ (m : RunMachine) (moved : List Page) (h : IsMidway m moved) where
       read_both pid address len c.fits (touched m false (Ok at)) (state.touched (state_of m) false (Ok at))
       (subst (λ (z : ℕ × ℕ). Both m moved z.0 z.1 (touched m false (Ok at)) (state.touched (state_of m) false (Ok at))) (λ j. (c.pid_is j, c.vpn_is j)) (touched_both m moved h at c.spot false free))
 
-  write_made : (pid address : ℕ) (new : List ℕ) (r : Result Spot Errno) → ComesTo (state_of m) pid address (length new) r → is_held_at m r ≡ false
+  write_made : (pid address : ℕ) (new : List ℕ) (r : Result AccessSite Errno) → ComesTo (state_of m) pid address (length new) r → is_held_at m r ≡ false
       → Made m (write_after m pid address new (touched m true r)) moved (state.write_after (state_of m) pid address new (state.touched (state_of m) true r))
   unfolding ComesTo
   write_made pid address new (Err e) c free = only_answered (Refused e) (Refused e) refl
@@ -79,25 +79,25 @@ module _ (m : RunMachine) (moved : List Page) (h : IsMidway m moved) where
       write_both pid address new c.fits (touched m true (Ok at)) (state.touched (state_of m) true (Ok at))
       (subst (λ (z : ℕ × ℕ). Both m moved z.0 z.1 (touched m true (Ok at)) (state.touched (state_of m) true (Ok at))) (λ j. (c.pid_is j, c.vpn_is j)) (touched_both m moved h at c.spot true free))
 
-  made_is : (a : Access) → is_held_at m (spot_of_access (state_of m) a) ≡ false → Made m (made m a) moved (state.access (state_of m) a)
-  made_is (Read pid address len) free = read_made pid address len (spot (state_of m) pid address len) (comes_to (state_of m) pid address len) free
-  made_is (Write pid address new) free = write_made pid address new (spot (state_of m) pid address (length new)) (comes_to (state_of m) pid address (length new)) free
+  made_is : (a : Access) → is_held_at m (site_of_access (state_of m) a) ≡ false → Made m (made m a) moved (state.access (state_of m) a)
+  made_is (Read pid address len) free = read_made pid address len (site (state_of m) pid address len) (comes_to (state_of m) pid address len) free
+  made_is (Write pid address new) free = write_made pid address new (site (state_of m) pid address (length new)) (comes_to (state_of m) pid address (length new)) free
 
   -- an access is held alike
-  spot_alike : (pid address len : ℕ) (r : Result Spot Errno) → ComesTo (state_of m) pid address len r → is_held_at m r ≡ is_held moved r
+  spot_alike : (pid address len : ℕ) (r : Result AccessSite Errno) → ComesTo (state_of m) pid address len r → is_held_at m r ≡ is_held moved r
   unfolding ComesTo
   spot_alike pid address len (Err e) c = refl
   spot_alike pid address len (Ok at) c = held_alike m moved h at c.spot
 
-  held_is : (a : Access) → is_held_at m (spot_of_access (state_of m) a) ≡ is_held moved (spot_of_access (state_of m) a)
-  held_is (Read pid address len) = spot_alike pid address len (spot (state_of m) pid address len) (comes_to (state_of m) pid address len)
-  held_is (Write pid address new) = spot_alike pid address (length new) (spot (state_of m) pid address (length new)) (comes_to (state_of m) pid address (length new))
+  held_is : (a : Access) → is_held_at m (site_of_access (state_of m) a) ≡ is_held moved (site_of_access (state_of m) a)
+  held_is (Read pid address len) = spot_alike pid address len (site (state_of m) pid address len) (comes_to (state_of m) pid address len)
+  held_is (Write pid address new) = spot_alike pid address (length new) (site (state_of m) pid address (length new)) (comes_to (state_of m) pid address (length new))
 
-  cases : (a : Access) (b : Bool) → is_held_at m (spot_of_access (state_of m) a) ≡ b → Made m (cond b (answered m Held) (made m a)) moved (cond b (record { state = state_of m; answer = Held }) (state.access (state_of m) a))
+  cases : (a : Access) (b : Bool) → is_held_at m (site_of_access (state_of m) a) ≡ b → Made m (cond b (answered m Held) (made m a)) moved (cond b (record { state = state_of m; answer = Held }) (state.access (state_of m) a))
   cases a true e = only_answered Held Held refl
   cases a false e = made_is a e
 
   pub accessed_is : (a : Access) → Made m (accessed m a) moved (in_flight (state_of m) moved a)
   accessed_is a =
       subst (λ b. Made m (accessed m a) moved (cond b (record { state = state_of m; answer = Held }) (state.access (state_of m) a))) (held_is a)
-      (cases a (is_held_at m (spot_of_access (state_of m) a)) refl)
+      (cases a (is_held_at m (site_of_access (state_of m) a)) refl)

@@ -18,7 +18,7 @@ use Rattle.nm_model.specs.definitions.Frames.{Store, bytes_of}
 use Rattle.nm_types.specs.declared.request.Wanted.{Wanted}
 use Rattle.nm_types.specs.declared.taken.Taken.{Taken}
 use Rattle.nm_model.specs.definitions.PageTables.{entry_at, process_of, sight_of, entry_of}
-use Rattle.nm_model.specs.definitions.Run.{Progress, each, left}
+use Rattle.nm_model.specs.definitions.Run.{Progress, each_request, left}
 use Rattle.nm_model.specs.definitions.Sound.{times, IsSound, IsSoundMidRun}
 use Rattle.nm_laws.specs.Laws.{moves_all}
 use Rattle.nm_laws.proofs.Soundness.Frames.{here, times_cons}
@@ -167,7 +167,7 @@ one_at_most n false e = omega (arith, e)
 
 module _ (m : RunMachine) (target : ℕ) (wanted : List Wanted) (rest : IsAtRest m) (sound : IsSound (state_of m)) where
   abbrev p : Progress
-  p = each (state_of m) target wanted
+  p = each_request (state_of m) target wanted
 
   abbrev jobs : List Job
   jobs = jobs_of m.buf p.taken
@@ -301,9 +301,9 @@ module _ (m : RunMachine) (target : ℕ) (wanted : List Wanted) (rest : IsAtRest
         layout = refl;
       }
 
-pub begun_is : (m : RunMachine) (target : ℕ) (wanted : List Wanted) (all : Bool) → IsAtRest m → IsSound (state_of m) → AllByRecursion (λ w. moves_all w ≡ all) wanted → Begun m (begun m target wanted) (each (state_of m) target wanted)
+pub begun_is : (m : RunMachine) (target : ℕ) (wanted : List Wanted) (all : Bool) → IsAtRest m → IsSound (state_of m) → AllByRecursion (λ w. moves_all w ≡ all) wanted → Begun m (begun m target wanted) (each_request (state_of m) target wanted)
 begun_is m target wanted all rest sound alike =
     let agrees = plan_agrees (state_of m) target all wanted sound.order.processes (sound.frames.own target) alike in
     let d = plan m target wanted in
-    subst (λ taken. Begun m (laid m target wanted rest sound taken d.statuses) (each (state_of m) target wanted)) agrees.taken
+    subst (λ taken. Begun m (laid m target wanted rest sound taken d.statuses) (each_request (state_of m) target wanted)) agrees.taken
     (laid_begins m target wanted rest sound d.statuses (sym agrees.statuses))

@@ -18,7 +18,7 @@ use Rattle.nm_model.specs.definitions.Frames.{Store, bytes_of}
 use Rattle.nm_types.specs.declared.sight.Sight.{Sight}
 use Rattle.nm_types.specs.declared.sight.Sight.TheVariants.{ZeroPage, Sees}
 use Rattle.nm_model.specs.definitions.PageTables.{entry_at, entry_of, sight_of, process_of}
-use Rattle.nm_model.specs.definitions.Run.{with_free, with_all_free, counted, failures}
+use Rattle.nm_model.specs.definitions.Run.{with_free, with_all_free, with_counts, failures}
 use Rattle.nm_model.specs.definitions.Sound.{times}
 use Rattle.nm_laws.proofs.Soundness.Frames.{here, times_cons}
 use Rattle.nm_types.proofs.Maps.{page_cmp_total, exact_page, agree, get-values, keys-values}
@@ -237,7 +237,7 @@ module _ (m : RunMachine) (moved : List Page) (h : IsMidway m moved) where
       ] refl
 
   -- the end of a run, read as a state
-  pub ended_is : list_all (λ job. is_given job.stage) m.jobs ≡ true → state_of (ended m) ≡ counted (with_all_free (state_of m) (sources m.jobs)) (length m.jobs) (failures m.statuses)
+  pub ended_is : list_all (λ job. is_given job.stage) m.jobs ≡ true → state_of (ended m) ≡ with_counts (with_all_free (state_of m) (sources m.jobs)) (length m.jobs) (failures m.statuses)
   ended_is all =
       let buf = fold with_both m.buf m.jobs in
       let processes : with_values (process_of m.areas) (with_entries arrived m.tasks) ≡ with_values (process_of m.areas) m.tasks = entries_show arrived arrived_alike m.areas m.tasks in
@@ -246,7 +246,7 @@ module _ (m : RunMachine) (moved : List Page) (h : IsMidway m moved) where
       values_twice (λ (q : Page) f. bytes_of buf f) (λ (q : Page) f. goes_to m.jobs f) m.place
       ∙ sym (agree page_cmp_total exact_page (λ (q : Page) f. content m.buf m.jobs f) (λ (q : Page) f. bytes_of buf (goes_to m.jobs f)) m.place in_order (back_bytes all)) in
       (λ i. record (state_of (ended m)) { processes = processes i; place = place i; bytes = bytes i })
-      ∙ ap (λ s. counted s (length m.jobs) (failures m.statuses)) (sym (freed_is (sources m.jobs) (state_of m)))
+      ∙ ap (λ s. with_counts s (length m.jobs) (failures m.statuses)) (sym (freed_is (sources m.jobs) (state_of m)))
 
   -- every buffer is home
   pub ended_once : (f : ℕ) → f < frame_count m.layout → length (hands (ended m) f) ≡ 1

@@ -9,7 +9,7 @@ use Rattle.nm_types.specs.Map.{get, set, replace, with_values}
 use Rattle.nm_types.specs.State.{Process}
 use Rattle.nm_types.specs.declared.entry.Entry.{Entry}
 use Rattle.nm_model.specs.definitions.PageTables.{Task, entry_at, entry_in, with_entry, process_of, sight_of}
-use Rattle.nm_model.specs.definitions.Touch.{Spot, with_sight}
+use Rattle.nm_model.specs.definitions.Touch.{AccessSite, with_sight}
 use Rattle.nm_types.proofs.Maps.{equal, get-set, get-replace, get-values, with_values-set, with_values-replace}
 use Rattle.nm_laws.proofs.Seen.Sights.{IsSpot, is_here}
 use Rattle.nm_model.specs.definitions.RunMachine.{RunMachine, state_of}
@@ -23,10 +23,10 @@ unmap_some f None b h = cc
 unmap_some f (Some a) b h = (a, refl, some_is h)
 
 -- the process that is there has a table
-pub task_there : (m : RunMachine) (at : Spot) → IsSpot (state_of m) at → (t : Task) × (get nat_cmp m.tasks at.pid ≡ Some t) × (process_of m.areas at.pid t ≡ at.process)
+pub task_there : (m : RunMachine) (at : AccessSite) → IsSpot (state_of m) at → (t : Task) × (get nat_cmp m.tasks at.pid ≡ Some t) × (process_of m.areas at.pid t ≡ at.process)
 task_there m at i = unmap_some (process_of m.areas at.pid) (get nat_cmp m.tasks at.pid) at.process (sym (get-values exact_unsigned (process_of m.areas) m.tasks at.pid) ∙ i.process)
 
-module _ (m : RunMachine) (at : Spot) (i : IsSpot (state_of m) at) (e : Entry) where
+module _ (m : RunMachine) (at : AccessSite) (i : IsSpot (state_of m) at) (e : Entry) where
   set_is : (t : Task) → get nat_cmp m.tasks at.pid ≡ Some t → (with_entry_at m at e).tasks ≡ replace nat_cmp m.tasks at.pid (with_entry t at.vpn e)
   set_is t known = ap (λ o. set_in m.tasks o at.pid at.vpn e) known
 

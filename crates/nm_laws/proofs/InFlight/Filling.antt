@@ -18,7 +18,7 @@ use Rattle.nm_types.specs.declared.entry.Entry.{Entry}
 use Rattle.nm_types.specs.declared.entry.Entry.TheVariants.{Zero, Frame, Held}
 use Rattle.nm_model.specs.definitions.Seen.{sight_at}
 use Rattle.nm_model.specs.definitions.PageTables.{entry_at, sight_of, page_here, entry_of}
-use Rattle.nm_model.specs.definitions.Touch.{Spot, shown_at, with_sight, with_page, without_front}
+use Rattle.nm_model.specs.definitions.Touch.{AccessSite, shown_at, with_sight, with_page, without_front}
 use Rattle.nm_model.specs.definitions.Sound.{times, IsSoundMidRun}
 use Rattle.nm_types.proofs.Maps.{page_cmp_total, exact_page, equal, get-set, get-values, with_values-set, set_agree}
 use Rattle.nm_laws.proofs.Seen.Sights.{IsSpot, is_here, page_at_spot}
@@ -44,7 +44,7 @@ frame_zero e = cc
 held_zero : {f : ℕ} → Held f ≡ Zero → ⊥
 held_zero e = cc
 
-here_parts : (at : Spot) (q w : ℕ) → is_here at q w ≡ true → (q ≡ at.pid) × (w ≡ at.vpn)
+here_parts : (at : AccessSite) (q w : ℕ) → is_here at q w ≡ true → (q ≡ at.pid) × (w ≡ at.vpn)
 here_parts at q w =
     elim (is_eq (nat_cmp q at.pid)) as (λ b. is_eq (nat_cmp q at.pid) ≡ b → (b && is_eq (nat_cmp w at.vpn)) ≡ true → (q ≡ at.pid) × (w ≡ at.vpn)) [
       | true ↦ λ b c. (exact_unsigned q at.pid (equal _ b), exact_unsigned w at.vpn (equal _ c))
@@ -56,7 +56,7 @@ abbrev pub Fitting : Map Page ℕ → Map (ℕ × ℕ) Area → List Job → ℕ
 Fitting place areas jobs pid v e = e ≡ held_by jobs (entry_of place (sight_of areas pid v e))
 
 -- all entries are, after one more that is
-all_fit : (m : RunMachine) (at : Spot) (i : IsSpot (state_of m) at) (e : Entry) → Fitting m.place m.areas m.jobs at.pid at.vpn e
+all_fit : (m : RunMachine) (at : AccessSite) (i : IsSpot (state_of m) at) (e : Entry) → Fitting m.place m.areas m.jobs at.pid at.vpn e
     → ((q w : ℕ) (x : Entry) → entry_at m.tasks q w ≡ Some x → Fitting m.place m.areas m.jobs q w x)
     → (q w : ℕ) (x : Entry) → entry_at (with_entry_at m at e).tasks q w ≡ Some x → Fitting m.place m.areas m.jobs q w x
 all_fit m at i e fits old q w x h =
@@ -78,7 +78,7 @@ frame_fits place areas jobs pid v f p shown placed none =
     stays None h = refl
     stays (Some job) h = cc
 
-module _ (m : RunMachine) (moved : List Page) (h : IsMidway m moved) (at : Spot) (i : IsSpot (state_of m) at) where
+module _ (m : RunMachine) (moved : List Page) (h : IsMidway m moved) (at : AccessSite) (i : IsSpot (state_of m) at) where
   -- a new entry
   pub entered_midway : (e : Entry) → Fitting m.place m.areas m.jobs at.pid at.vpn e → IsSoundMidRun (with_sight (state_of m) at (sight_of m.areas at.pid at.vpn e)) (sources m.jobs) → IsMidway (with_entry_at m at e) moved
   entered_midway e fits sound =

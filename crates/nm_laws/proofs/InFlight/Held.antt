@@ -3,7 +3,7 @@ use Rattle.std.proofs.Common.{◌≡◌, ℕ, List, Bool, true, false, cond, ref
 use Rattle.std.specs.Prelude.{Result, Ok, Err, ◌↔◌, IsTrue}
 use Rattle.nm_types.specs.declared.errno.Errno.{Errno}
 use Rattle.nm_types.specs.State.{State}
-use Rattle.nm_model.specs.definitions.Touch.{Access, Read, Write, Held, read_after, write_after, access, spot_of_access, is_held}
+use Rattle.nm_model.specs.definitions.Touch.{Access, Read, Write, Held, read_after, write_after, access, site_of_access, is_held}
 use Rattle.nm_laws.specs.Interleavings.{HeldIsExact}
 
 read_not_held : (s : State) (pid address len : ℕ) (r : Result State Errno) → (read_after s pid address len r).answer ≡ Held → ⊥
@@ -23,4 +23,4 @@ cases s a true = (λ h. refl, λ h. refl)
 cases s a false = (λ h. absurd (access_not_held s a h), λ h. cc)
 
 pub held_is_exact : HeldIsExact
-held_is_exact s moved a = cases s a (is_held moved (spot_of_access s a))
+held_is_exact s moved a = cases s a (is_held moved (site_of_access s a))

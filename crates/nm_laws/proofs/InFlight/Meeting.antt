@@ -16,7 +16,7 @@ use Rattle.nm_model.specs.definitions.Order.{first_touch_order}
 use Rattle.nm_model.specs.definitions.Seen.{sight_in, sight_at}
 use Rattle.nm_model.specs.definitions.PageTables.{entry_at, sight_of, page_here}
 use Rattle.nm_model.specs.definitions.Touch as state
-use Rattle.nm_model.specs.definitions.Touch.{Spot, shown_at, spot, spot_of, spot_over, with_sight, first_free, is_held}
+use Rattle.nm_model.specs.definitions.Touch.{AccessSite, shown_at, site, site_of, site_over, with_sight, first_free, is_held}
 use Rattle.nm_model.specs.definitions.Areas.{is_shared}
 use Rattle.nm_types.proofs.Maps.{exact_page, get-values}
 use Rattle.nm_laws.proofs.Seen.Sights.{IsSpot, page_at_spot, with_sight_sound}
@@ -39,36 +39,36 @@ some_none e = cc
 -- ---- where an access comes to
 
 -- the process and the area are there, and the bytes are inside one page
-pub record IsThere (s : State) (pid address len : ℕ) (at : Spot) : Type 0 where
+pub record IsThere (s : State) (pid address len : ℕ) (at : AccessSite) : Type 0 where
   pub spot : IsSpot s at
   pub pid_is : at.pid ≡ pid
   pub vpn_is : at.vpn ≡ address / 4096
   pub fits : address % 4096 + len ≤ 4096
 
 -- if it is not refused
-unfoldable pub ComesTo : State → ℕ → ℕ → ℕ → Result Spot Errno → Type 0
+unfoldable pub ComesTo : State → ℕ → ℕ → ℕ → Result AccessSite Errno → Type 0
 ComesTo s pid address len (Err e) = Unit {0}
 ComesTo s pid address len (Ok at) = IsThere s pid address len at
 
 over_comes : (s : State) (pid address len : ℕ) (p : Process) (o : Option Placed) → get nat_cmp s.processes pid ≡ Some p → area_over s.areas pid (address / 4096) ≡ o → address % 4096 + len ≤ 4096
-    → ComesTo s pid address len (spot_over pid p (address / 4096) o)
+    → ComesTo s pid address len (site_over pid p (address / 4096) o)
 unfolding ComesTo
 over_comes s pid address len p None known over fits = tt
 over_comes s pid address len p (Some a) known over fits = record { spot = record { process = known; area = over }; pid_is = refl; vpn_is = refl; fits = fits }
 
-process_comes : (s : State) (pid address len : ℕ) (o : Option Process) → get nat_cmp s.processes pid ≡ o → ComesTo s pid address len (spot_of s o pid address len)
+process_comes : (s : State) (pid address len : ℕ) (o : Option Process) → get nat_cmp s.processes pid ≡ o → ComesTo s pid address len (site_of s o pid address len)
 unfolding ComesTo
 process_comes s pid address len None known = tt
 process_comes s pid address len (Some p) known =
-    elim (nat_lt 4096 (address % 4096 + len)) as (λ b. nat_lt 4096 (address % 4096 + len) ≡ b → ComesTo s pid address len (if (len == 0) || b then Err Einval else spot_over pid p (address / 4096) (area_over s.areas pid (address / 4096)))) [
-      | true ↦ λ b. subst (λ c. ComesTo s pid address len (if c then Err Einval else spot_over pid p (address / 4096) (area_over s.areas pid (address / 4096)))) (sym (or_right (len == 0) true refl)) tt
-      | false ↦ λ b. elim (len == 0) as (λ c. ComesTo s pid address len (if c || false then Err Einval else spot_over pid p (address / 4096) (area_over s.areas pid (address / 4096)))) [
+    elim (nat_lt 4096 (address % 4096 + len)) as (λ b. nat_lt 4096 (address % 4096 + len) ≡ b → ComesTo s pid address len (if (len == 0) || b then Err Einval else site_over pid p (address / 4096) (area_over s.areas pid (address / 4096)))) [
+      | true ↦ λ b. subst (λ c. ComesTo s pid address len (if c then Err Einval else site_over pid p (address / 4096) (area_over s.areas pid (address / 4096)))) (sym (or_right (len == 0) true refl)) tt
+      | false ↦ λ b. elim (len == 0) as (λ c. ComesTo s pid address len (if c || false then Err Einval else site_over pid p (address / 4096) (area_over s.areas pid (address / 4096)))) [
         | true ↦ tt
         | false ↦ over_comes s pid address len p (area_over s.areas pid (address / 4096)) known refl (ltb-false 4096 (address % 4096 + len) b)
       ]
     ] refl
 
-pub comes_to : (s : State) (pid address len : ℕ) → ComesTo s pid address len (spot s pid address len)
+pub comes_to : (s : State) (pid address len : ℕ) → ComesTo s pid address len (site s pid address len)
 comes_to s pid address len = process_comes s pid address len (get nat_cmp s.processes pid) refl
 
 -- ---- what it meets there
@@ -108,7 +108,7 @@ Both m moved pid v (Err e) (Ok t) = ⊥
 Both m moved pid v (Ok n) (Err x) = ⊥
 Both m moved pid v (Ok n) (Ok t) = Touched m n moved t pid v
 
-module _ (m : RunMachine) (moved : List Page) (h : IsMidway m moved) (at : Spot) (i : IsSpot (state_of m) at) where
+module _ (m : RunMachine) (moved : List Page) (h : IsMidway m moved) (at : AccessSite) (i : IsSpot (state_of m) at) where
   -- a page has a frame in the machine exactly if it has one in the state
   place_none : get page_cmp (state_of m).place (shown_at at) ≡ None → get page_cmp m.place (shown_at at) ≡ None
   place_none e = map_none (goes_to m.jobs) (get page_cmp m.place (shown_at at)) (sym (get-values exact_page (λ (q : Page) f. goes_to m.jobs f) m.place (shown_at at)) ∙ e)

@@ -8,7 +8,7 @@ use Rattle.nm_types.specs.declared.page.Page.{Page}
 use Rattle.nm_types.specs.Layout.{frame_count}
 use Rattle.nm_types.specs.State.{State}
 use Rattle.nm_model.specs.definitions.Touch.{Access, in_flight, all_in_flight, AllAnswered}
-use Rattle.nm_model.specs.definitions.Run.{each, with_all_free, counted, failures}
+use Rattle.nm_model.specs.definitions.Run.{each_request, with_all_free, with_counts, failures}
 use Rattle.nm_model.specs.definitions.RunMachine.{RunMachine, Job, Moving, Ended, state_of}
 use Rattle.nm_model.specs.definitions.Events.{Event, Begin, Draw, Give, Touch, End, after, accesses_in, drawn, given, ended, begun, hands, is_ready, is_moving, is_laid, is_given, is_with}
 use Rattle.nm_model.specs.definitions.Accesses.{accessed}
@@ -48,7 +48,7 @@ after_end (End ∷ events) m n p j h = absurd (refused _ _ n (ap (λ q. is_movin
 
 -- what the rest of a run makes of a machine in which this one's accesses were made
 record Finishes (m n : RunMachine) (d : AllAnswered) : Type 0 where
-  state : state_of n ≡ counted (with_all_free d.state (sources m.jobs)) (length m.jobs) (failures m.statuses)
+  state : state_of n ≡ with_counts (with_all_free d.state (sources m.jobs)) (length m.jobs) (failures m.statuses)
   statuses : n.statuses ≡ m.statuses
   answers : n.answers ≡ m.answers ++ d.answers
   settled : IsSettled n
@@ -66,7 +66,7 @@ module _ (m n : RunMachine) (moved : List Page) (h : IsMidway m moved) where
       let d : State → AllAnswered = λ s. all_in_flight s moved (accesses_in events) in
       let s = same_state m jobs same in
       record {
-        state = rest.state ∙ (λ i. counted (with_all_free (d (s i)).state (sources_same jobs m.jobs same i)) (length_same jobs m.jobs same i) (failures m.statuses));
+        state = rest.state ∙ (λ i. with_counts (with_all_free (d (s i)).state (sources_same jobs m.jobs same i)) (length_same jobs m.jobs same i) (failures m.statuses));
         statuses = rest.statuses;
         settled = rest.settled;
         answers = rest.answers ∙ ap (λ t. m.answers ++ (d t).answers) s;
@@ -92,7 +92,7 @@ finish (Touch a ∷ events) m n moved h leads end =
     let now = in_flight (state_of m) moved a in
     let d : State → AllAnswered = λ s. all_in_flight s moved (accesses_in events) in
     record {
-      state = rest.state ∙ (λ i. counted (with_all_free (d (made.state i)).state (sources (made.jobs i))) (length (made.jobs i)) (failures (made.statuses i)));
+      state = rest.state ∙ (λ i. with_counts (with_all_free (d (made.state i)).state (sources (made.jobs i))) (length (made.jobs i)) (failures (made.statuses i)));
       statuses = rest.statuses ∙ made.statuses;
       settled = rest.settled;
       answers = rest.answers ∙ (λ i. made.answers i ++ (d (made.state i)).answers) ∙ append_assoc m.answers (now.answer ∷ []) (d now.state).answers;
@@ -103,7 +103,7 @@ finish (End ∷ events) m n moved h leads end =
     let is = after_end events (ended m) n refl refl both.1 in
     let d : List Access → AllAnswered = λ xs. all_in_flight (state_of m) moved xs in
     record {
-      state = ap state_of (sym is.1) ∙ ended_is m moved h all ∙ ap (λ xs. counted (with_all_free (d xs).state (sources m.jobs)) (length m.jobs) (failures m.statuses)) (sym is.0);
+      state = ap state_of (sym is.1) ∙ ended_is m moved h all ∙ ap (λ xs. with_counts (with_all_free (d xs).state (sources m.jobs)) (length m.jobs) (failures m.statuses)) (sym is.0);
       statuses = ap (λ (k : RunMachine). k.statuses) (sym is.1);
       settled = subst IsSettled is.1 (ended_settled m moved h);
       answers = ap (λ (k : RunMachine). k.answers) (sym is.1) ∙ sym (append-nil m.answers) ∙ ap (λ xs. m.answers ++ (d xs).answers) (sym is.0);
@@ -113,18 +113,18 @@ pub every_order_is_the_run : EveryOrderIsTheRun
 every_order_is_the_run m target wanted events n h end =
     let first = begun_is m target wanted h.all h.rest h.sound h.alike in
     let k = begun m target wanted in
-    let p = each (state_of m) target wanted in
+    let p = each_request (state_of m) target wanted in
     let pages = map (λ t. t.page) p.taken in
     let rest = finish events k n pages first.midway (allowed _ _ n h.leads).1 end in
     let d : State → AllAnswered = λ s. all_in_flight s pages (accesses_in events) in
     record {
-      state = rest.state ∙ (λ i. counted (with_all_free (d (first.state i)).state (first.sources_are i)) (first.count i) (failures (first.statuses i)));
+      state = rest.state ∙ (λ i. with_counts (with_all_free (d (first.state i)).state (first.sources_are i)) (first.count i) (failures (first.statuses i)));
       statuses = rest.statuses ∙ first.statuses;
       answers = ap (λ xs. xs ∷ []) (rest.answers ∙ (λ i. first.answers i ++ (d (first.state i)).answers));
       settled = rest.settled;
     }
 
--- each buffer is in one place after each event
+-- each_request buffer is in one place after each_request event
 once_after : (events : List Event) (m n : RunMachine) (moved : List Page) → IsMidway m moved → after m events ≡ Some n → (f : ℕ) → f < frame_count m.layout → length (hands n f) ≡ 1
 once_after [] m n moved h leads f below = ap (λ k. length (hands k f)) (sym (some_is leads)) ∙ h.once f below
 once_after (Begin target wanted ∷ events) m n moved h leads f below = absurd (refused _ _ n (ap is_ready h.moving) leads)
@@ -142,4 +142,4 @@ once_after (End ∷ events) m n moved h leads f below =
 pub every_buffer_is_in_one_hand : EveryBufferIsInOneHand
 every_buffer_is_in_one_hand m target wanted events n h f below =
     let first = begun_is m target wanted h.all h.rest h.sound h.alike in
-    once_after events (begun m target wanted) n (map (λ t. t.page) (each (state_of m) target wanted).taken) first.midway (allowed _ _ n h.leads).1 f (subst (λ g. f < frame_count g) (sym first.layout) below)
+    once_after events (begun m target wanted) n (map (λ t. t.page) (each_request (state_of m) target wanted).taken) first.midway (allowed _ _ n h.leads).1 f (subst (λ g. f < frame_count g) (sym first.layout) below)

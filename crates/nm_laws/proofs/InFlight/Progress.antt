@@ -7,7 +7,7 @@ use Rattle.nm_types.specs.declared.page.Page.{Page}
 use Rattle.nm_model.specs.definitions.Frames.{Store}
 use Rattle.nm_types.specs.declared.taken.Taken.{Taken}
 use Rattle.nm_model.specs.definitions.Touch.{Access}
-use Rattle.nm_model.specs.definitions.Run.{each}
+use Rattle.nm_model.specs.definitions.Run.{each_request}
 use Rattle.nm_model.specs.definitions.RunMachine.{RunMachine, Job, InHand, Moving, Ended, state_of}
 use Rattle.nm_model.specs.definitions.Events.{Event, Draw, Give, Touch, End, after, is_allowed, effect, accesses_in, drawn, copied, given, ended, begun, plan, laid_for, is_ready, is_moving, is_laid, is_given, is_with}
 use Rattle.nm_model.specs.definitions.Accesses.{accessed}
@@ -46,7 +46,7 @@ touch_all (a ∷ accesses) m moved h =
 
 -- ---- the jobs
 
--- from a ticket on, each job is drawn and given
+-- from a ticket on, each_request job is drawn and given
 copying : ℕ → List Job → List Event
 copying k [] = End ∷ []
 copying k (job ∷ jobs) = Draw 0 ∷ Give 0 k ∷ copying (k + 1) jobs
@@ -133,7 +133,7 @@ unfolding AreGiven
 every_run_can_end m target wanted all accesses rest sound alike =
     let k = begun m target wanted in
     let first = begun_is m target wanted all rest sound alike in
-    let touched = touch_all accesses k (map (λ t. t.page) (each (state_of m) target wanted).taken) first.midway in
+    let touched = touch_all accesses k (map (λ t. t.page) (each_request (state_of m) target wanted).taken) first.midway in
     let n = touched.0 in
     let jobs : List Job = map (laid_for m.buf) (plan m target wanted).taken in
     let last = copy_all jobs [] n 0 touched.1.midway.moving tt (laid_jobs m.buf (plan m target wanted).taken) refl in

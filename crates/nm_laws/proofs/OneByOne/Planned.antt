@@ -21,7 +21,7 @@ use Rattle.nm_model.specs.definitions.Seen.{sight_at, users, is_pinned, look_at_
 use Rattle.nm_model.specs.definitions.Status.{code, status_or_move, class_of_look, class_of}
 use Rattle.nm_types.specs.declared.taken.Taken.{Taken}
 use Rattle.nm_model.specs.definitions.Decide.{Choice, Decisions, has_moved, take_front, choose, decide}
-use Rattle.nm_model.specs.definitions.Run.{Decision, Progress, moved_page, decided, each}
+use Rattle.nm_model.specs.definitions.Run.{Decision, Progress, moved_page, decision, each_request}
 use Rattle.nm_model.specs.definitions.Sound.{OwnsItsFree}
 use Rattle.nm_laws.specs.Laws.{Agrees, moves_all, with_moves}
 use Rattle.nm_types.proofs.Maps.{page_cmp_total, exact_page, equal, get-set}
@@ -180,7 +180,7 @@ append-nil (x ∷ xs) = ap (λ l. x ∷ l) (append-nil xs)
 -- one outcome, and then the requests that are left
 abbrev then_each : Decision → ℕ → List Wanted → Progress
 then_each now target ws =
-    let rest = each now.state target ws in
+    let rest = each_request now.state target ws in
     record { state = rest.state; statuses = now.status ∷ rest.statuses; taken = now.taken ++ rest.taken }
 
 abbrev then_decide : Choice → List Class → List Taken → ℕ → Decisions
@@ -192,14 +192,14 @@ then_decide now classes moved target =
 abbrev Rest : State → ℕ → Bool → List Wanted → Type 0
 Rest s target all ws =
     (m : Map Page ℕ) (f : List (List ℕ)) (moved : List Taken) → Midway s target all m f moved →
-    Agrees (midway s m f) target (each (midway s m f) target ws) (decide (map (status_or_move s target) ws) moved (slice_index_or f target []) target)
+    Agrees (midway s m f) target (each_request (midway s m f) target ws) (decide (map (status_or_move s target) ws) moved (slice_index_or f target []) target)
 
 module _ (s : State) (target : ℕ) (all : Bool) (ws : List Wanted) (rest : Rest s target all ws) (m : Map Page ℕ) (f : List (List ℕ)) (moved : List Taken) (i : Midway s target all m f moved) where
   -- nothing moves
   no_move : (status : ℤ) → Agrees (midway s m f) target
       (then_each (record { state = midway s m f; status = status; taken = [] }) target ws)
       (then_decide (record { status = status; taken = []; front = slice_index_or f target [] }) (map (status_or_move s target) ws) moved target)
-  no_move status = let r = subst (λ l. Agrees (midway s m f) target (each (midway s m f) target ws) (decide (map (status_or_move s target) ws) l (slice_index_or f target []) target)) (sym (append-nil moved)) (rest m f moved i) in record { statuses = ap (λ x. status ∷ x) r.statuses; taken = r.taken; state = r.state }
+  no_move status = let r = subst (λ l. Agrees (midway s m f) target (each_request (midway s m f) target ws) (decide (map (status_or_move s target) ws) l (slice_index_or f target []) target)) (sym (append-nil moved)) (rest m f moved i) in record { statuses = ap (λ x. status ∷ x) r.statuses; taken = r.taken; state = r.state }
 
   -- the page takes the front, or nothing is free
   takes : (p : Page) (from : ℕ) → page_class s target all p (get page_cmp s.place p) ≡ Move p from → (front : List ℕ) → slice_index_or f target [] ≡ front → Agrees (midway s m f) target
@@ -209,7 +209,7 @@ module _ (s : State) (target : ℕ) (all : Bool) (ws : List Wanted) (rest : Rest
       subst (λ l. Agrees (midway s m f) target (then_each (record { state = midway s m f; status = code Enomem; taken = [] }) target ws) (then_decide (record { status = code Enomem; taken = []; front = l }) (map (status_or_move s target) ws) moved target)) e (no_move (code Enomem))
   takes p from class (frame ∷ left) e =
       let t : Taken = record { page = p; from = from; to = frame } in
-      let r = subst (λ l. Agrees (midway s (set page_cmp m p frame) (slice_set f target left)) target (each (midway s (set page_cmp m p frame) (slice_set f target left)) target ws) (decide (map (status_or_move s target) ws) (moved ++ t ∷ []) l target))
+      let r = subst (λ l. Agrees (midway s (set page_cmp m p frame) (slice_set f target left)) target (each_request (midway s (set page_cmp m p frame) (slice_set f target left)) target ws) (decide (map (status_or_move s target) ws) (moved ++ t ∷ []) l target))
       (list_now f target frame left e)
       (rest (set page_cmp m p frame) (slice_set f target left) (moved ++ t ∷ [])
       (midway_same s target all (set page_cmp m p frame) (slice_set f target left) (t ∷ moved) (moved ++ t ∷ []) (moved_at_end moved t) (after_move s target all m f moved i p from frame left class e))) in
@@ -220,17 +220,17 @@ module _ (s : State) (target : ℕ) (all : Bool) (ws : List Wanted) (rest : Rest
       }
 
   step : (c now : Class) → Becomes target moved c now → IsItsClass s target all c → Agrees (midway s m f) target
-      (then_each (decided (midway s m f) target now) target ws)
+      (then_each (decision (midway s m f) target now) target ws)
       (then_decide (choose c moved (slice_index_or f target []) target) (map (status_or_move s target) ws) moved target)
   unfolding Becomes IsItsClass
   step (Status status) now becomes class =
-      subst (λ c. Agrees (midway s m f) target (then_each (decided (midway s m f) target c) target ws) (then_decide (choose (Status status) moved (slice_index_or f target []) target) (map (status_or_move s target) ws) moved target)) (sym becomes) (no_move status)
+      subst (λ c. Agrees (midway s m f) target (then_each (decision (midway s m f) target c) target ws) (then_decide (choose (Status status) moved (slice_index_or f target []) target) (map (status_or_move s target) ws) moved target)) (sym becomes) (no_move status)
   step (Move p from) now becomes class =
       elim (has_moved moved p) as (λ b. MatchBool b (now ≡ Status (pos target)) (now ≡ Move p from) → Agrees (midway s m f) target
-      (then_each (decided (midway s m f) target now) target ws)
+      (then_each (decision (midway s m f) target now) target ws)
       (then_decide (if b then record { status = pos target; taken = []; front = slice_index_or f target [] } else take_front p from (slice_index_or f target []) target) (map (status_or_move s target) ws) moved target)) [
-        | true ↦ λ is. subst (λ c. Agrees (midway s m f) target (then_each (decided (midway s m f) target c) target ws) (then_decide (record { status = pos target; taken = []; front = slice_index_or f target [] }) (map (status_or_move s target) ws) moved target)) (sym is) (no_move (pos target))
-        | false ↦ λ is. subst (λ c. Agrees (midway s m f) target (then_each (decided (midway s m f) target c) target ws) (then_decide (take_front p from (slice_index_or f target []) target) (map (status_or_move s target) ws) moved target)) (sym is) (takes p from class (slice_index_or f target []) refl)
+        | true ↦ λ is. subst (λ c. Agrees (midway s m f) target (then_each (decision (midway s m f) target c) target ws) (then_decide (record { status = pos target; taken = []; front = slice_index_or f target [] }) (map (status_or_move s target) ws) moved target)) (sym is) (no_move (pos target))
+        | false ↦ λ is. subst (λ c. Agrees (midway s m f) target (then_each (decision (midway s m f) target c) target ws) (then_decide (take_front p from (slice_index_or f target []) target) (map (status_or_move s target) ws) moved target)) (sym is) (takes p from class (slice_index_or f target []) refl)
       ] becomes
 
 no_true : false ≡ true → ⊥
@@ -245,6 +245,6 @@ agree s target all (w ∷ ws) order h = λ m f moved i.
     (subst (IsItsClass s target all) (looks_suffice s target w order) (its_class s target all w h.0))
 
 pub plan_agrees : (s : State) (target : ℕ) (all : Bool) (ws : List Wanted) → IsStrictlySortedBy nat_cmp (keys_of s.processes) → OwnsItsFree s.layout s.free target → AllByRecursion (λ w. moves_all w ≡ all) ws
-    → Agrees s target (each s target ws) (decide (map (status_or_move s target) ws) [] (free_list s target) target)
+    → Agrees s target (each_request s target ws) (decide (map (status_or_move s target) ws) [] (free_list s target) target)
 plan_agrees s target all ws order own h =
     agree s target all ws order h s.place s.free [] (record { places = λ q. refl; classes = λ q e. absurd (no_true e); own = own })

@@ -14,8 +14,8 @@ use Rattle.nm_model.specs.definitions.Seen.{sight_at}
 use Rattle.nm_model.specs.definitions.Cut.{Stretch}
 use Rattle.nm_model.specs.definitions.Memory.{mem}
 use Rattle.nm_model.specs.definitions.Touch.{Access, Read, Write, AccessAnswer, Done, Held, touch, read_after, with_bytes, write_after, access}
-use Rattle.nm_model.specs.definitions.Touch.{spot_of_access, is_held, in_flight, all_in_flight}
-use Rattle.nm_model.specs.definitions.Run.{moved_page, decided, one, each, with_free, with_all_free, left, run}
+use Rattle.nm_model.specs.definitions.Touch.{site_of_access, is_held, in_flight, all_in_flight}
+use Rattle.nm_model.specs.definitions.Run.{moved_page, decision, one_request, each_request, with_free, with_all_free, left, run}
 use Rattle.nm_model.specs.definitions.Run.{accesses_of, runs_from}
 use Rattle.nm_laws.specs.Laws.{written, all_written, runs_written, RunKeepsMemory, RunsKeepMemory}
 use Rattle.nm_model.specs.definitions.Sound.{IsSoundMidRun, IsSound}
@@ -32,13 +32,13 @@ moved_areas : (s : State) (target : ℕ) (page : Page) (from : ℕ) (front : Lis
 moved_areas s target page from [] = refl
 moved_areas s target page from (frame ∷ rest) = refl
 
-decided_areas : (s : State) (target : ℕ) (c : Class) → (decided s target c).state.areas ≡ s.areas
+decided_areas : (s : State) (target : ℕ) (c : Class) → (decision s target c).state.areas ≡ s.areas
 decided_areas s target (Status status) = refl
 decided_areas s target (Move page from) = moved_areas s target page from (free_list s target)
 
-each_areas : (s : State) (target : ℕ) (ws : List Wanted) → (each s target ws).state.areas ≡ s.areas
+each_areas : (s : State) (target : ℕ) (ws : List Wanted) → (each_request s target ws).state.areas ≡ s.areas
 each_areas s target [] = refl
-each_areas s target (w ∷ ws) = each_areas (one s target w).state target ws ∙ decided_areas s target (status_or_move s target w)
+each_areas s target (w ∷ ws) = each_areas (one_request s target w).state target ws ∙ decided_areas s target (status_or_move s target w)
 
 freed_areas : (frames : List ℕ) (s : State) → (with_all_free s frames).areas ≡ s.areas
 freed_areas [] s = refl
@@ -63,7 +63,7 @@ access_areas s (Write pid address new) = write_areas s pid address new (touch s 
 
 flight_areas : (s : State) (moved : List Page) (a : Access) → (in_flight s moved a).state.areas ≡ s.areas
 flight_areas s moved a =
-    elim (is_held moved (spot_of_access s a)) as (λ b. (if b then record { state = s; answer = Held } else access s a).state.areas ≡ s.areas) [
+    elim (is_held moved (site_of_access s a)) as (λ b. (if b then record { state = s; answer = Held } else access s a).state.areas ≡ s.areas) [
       | true ↦ refl
       | false ↦ access_areas s a
     ]
@@ -95,7 +95,7 @@ module _ (q at : ℕ) where
 
   flight_writes : (s : State) (l : List ℕ) (moved : List Page) (a : Access) → IsSoundMidRun s l → mem (in_flight s moved a).state q at ≡ written s.areas q at (mem s q at) a (in_flight s moved a).answer
   flight_writes s l moved a h =
-      elim (is_held moved (spot_of_access s a)) as (λ b. let now = if b then record { state = s; answer = Held } else access s a in mem now.state q at ≡ written s.areas q at (mem s q at) a now.answer) [
+      elim (is_held moved (site_of_access s a)) as (λ b. let now = if b then record { state = s; answer = Held } else access s a in mem now.state q at ≡ written s.areas q at (mem s q at) a now.answer) [
         | true ↦ held_writes s a
         | false ↦ access_writes s l a h
       ]
@@ -113,25 +113,25 @@ module _ (q at : ℕ) where
 
   module _ (s : State) (target : ℕ) (ws : List Wanted) (accesses : List Access) where
     pages : List Page
-    pages = map (λ t. t.page) (each s target ws).taken
+    pages = map (λ t. t.page) (each_request s target ws).taken
 
     run_areas : (run s target ws accesses).state.areas ≡ s.areas
     unfolding pages
     run_areas =
-        let moves = each s target ws in
+        let moves = each_request s target ws in
         freed_areas (left moves.taken) (all_in_flight moves.state pages accesses).state ∙ (flights_areas moves.state pages accesses ∙ each_areas s target ws)
 
-    during_writes : IsSound s → mem (run s target ws accesses).state q at ≡ all_written s.areas q at (mem s q at) accesses (all_in_flight (each s target ws).state pages accesses).answers
+    during_writes : IsSound s → mem (run s target ws accesses).state q at ≡ all_written s.areas q at (mem s q at) accesses (all_in_flight (each_request s target ws).state pages accesses).answers
     unfolding pages
     during_writes h =
-        let moves = each s target ws in
+        let moves = each_request s target ws in
         let during = all_in_flight moves.state pages accesses in
         frees_keep (left moves.taken) during.state q at
         ∙ (flights_write moves.state (left moves.taken) pages accesses (each_sound s [] target ws h)
         ∙ (ap (λ areas. all_written areas q at (mem moves.state q at) accesses during.answers) (each_areas s target ws)
         ∙ ap (λ byte. all_written s.areas q at byte accesses during.answers) (each_keeps s target ws q at)))
 
-    only_answers : {answers : List AccessAnswer} → (run s target ws accesses).answers ≡ answers ∷ [] → (all_in_flight (each s target ws).state pages accesses).answers ≡ answers
+    only_answers : {answers : List AccessAnswer} → (run s target ws accesses).answers ≡ answers ∷ [] → (all_in_flight (each_request s target ws).state pages accesses).answers ≡ answers
     unfolding pages
     only_answers is = cc
 

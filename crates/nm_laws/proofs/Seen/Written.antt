@@ -17,7 +17,7 @@ use Rattle.nm_model.specs.definitions.Order.{first_touch_order}
 use Rattle.nm_model.specs.definitions.Memory.{mem, byte_of}
 use Rattle.nm_model.specs.definitions.Areas.{is_shared}
 use Rattle.nm_model.specs.definitions.Frames.{overwrite}
-use Rattle.nm_model.specs.definitions.Touch.{Spot, Done, shown_at, spot_over, spot_of, first_free, allocated, filled, joined, touched_entry, touched, touch, with_page, without_front, with_bytes, write_after}
+use Rattle.nm_model.specs.definitions.Touch.{AccessSite, Done, shown_at, site_over, site_of, first_free, allocated, filled, joined, touched_entry, touched, touch, with_page, without_front, with_bytes, write_after}
 use Rattle.nm_model.specs.definitions.Sound.{IsSoundMidRun}
 use Rattle.nm_laws.specs.Laws.{is_one_page, is_within, WritingIsExact}
 use Rattle.nm_types.proofs.Keys.{some_from_keys}
@@ -32,7 +32,7 @@ Reaches : State → ℕ → ℕ → Result State Errno → Type 0
 Reaches s pid v (Err e) = Unit {0}
 Reaches s pid v (Ok t) = (t.areas ≡ s.areas) × ((p : Page) × (sight_at t pid v ≡ Some (Sees p)))
 
-module _ (s : State) (at : Spot) (i : IsSpot s at) where
+module _ (s : State) (at : AccessSite) (i : IsSpot s at) where
   allocated_reaches : (o : Option ℕ) → Reaches s at.pid at.vpn (allocated s at o)
   unfolding Reaches
   allocated_reaches None = tt
@@ -58,18 +58,18 @@ module _ (s : State) (at : Spot) (i : IsSpot s at) where
   entry_reaches (Some ZeroPage) e = filled_reaches
   entry_reaches (Some (Sees p)) e = (refl, (p, e))
 
-over_reaches : (s : State) (pid v : ℕ) (process : Process) (o : Option Placed) → get nat_cmp s.processes pid ≡ Some process → area_over s.areas pid v ≡ o → Reaches s pid v (touched s true (spot_over pid process v o))
+over_reaches : (s : State) (pid v : ℕ) (process : Process) (o : Option Placed) → get nat_cmp s.processes pid ≡ Some process → area_over s.areas pid v ≡ o → Reaches s pid v (touched s true (site_over pid process v o))
 unfolding Reaches
 over_reaches s pid v process None p a = tt
 over_reaches s pid v process (Some area) p a =
-    let at : Spot = record { pid = pid; process = process; area = area; vpn = v } in
+    let at : AccessSite = record { pid = pid; process = process; area = area; vpn = v } in
     entry_reaches s at (record { process = p; area = a }) (get nat_cmp process.sees v) (ap (λ o. sight_in o v) p)
 
-process_reaches : (s : State) (pid address len : ℕ) (o : Option Process) → get nat_cmp s.processes pid ≡ o → Reaches s pid (address / 4096) (touched s true (spot_of s o pid address len))
+process_reaches : (s : State) (pid address len : ℕ) (o : Option Process) → get nat_cmp s.processes pid ≡ o → Reaches s pid (address / 4096) (touched s true (site_of s o pid address len))
 unfolding Reaches
 process_reaches s pid address len None e = tt
 process_reaches s pid address len (Some process) e =
-    elim ((len == 0) || nat_lt 4096 (address % 4096 + len)) as (λ b. Reaches s pid (address / 4096) (touched s true (if b then Err Einval else spot_over pid process (address / 4096) (area_over s.areas pid (address / 4096))))) [
+    elim ((len == 0) || nat_lt 4096 (address % 4096 + len)) as (λ b. Reaches s pid (address / 4096) (touched s true (if b then Err Einval else site_over pid process (address / 4096) (area_over s.areas pid (address / 4096))))) [
       | true ↦ tt
       | false ↦ over_reaches s pid (address / 4096) process (area_over s.areas pid (address / 4096)) e refl
     ]

@@ -20,7 +20,7 @@ use Rattle.nm_types.specs.State.{State, Placed, free_list, page_at, page_of, cov
 use Rattle.nm_types.proofs.Cases.{true_false}
 use Rattle.nm_model.specs.definitions.Seen.{sight_at}
 use Rattle.nm_model.specs.definitions.Areas.{is_shared}
-use Rattle.nm_model.specs.definitions.Touch.{Spot, shown_at, with_sight, with_page}
+use Rattle.nm_model.specs.definitions.Touch.{AccessSite, shown_at, with_sight, with_page}
 use Rattle.nm_model.specs.definitions.Effect.{covers_page, is_covered}
 use Rattle.nm_model.specs.definitions.Sound.{times, IsWhole, IsSoundMidRun}
 use Rattle.nm_types.proofs.Maps.{page_cmp_total, exact_page, equal, get-set}
@@ -105,7 +105,7 @@ sees_zero e = cc
 zeros_whole : length {A = ℕ} (replicate 4096 0) ≡ 4096
 zeros_whole = length-replicate {A = ℕ} 4096 0
 
-pub placed_sound : (s : State) (l : List ℕ) (at : Spot) (node : ℕ) → IsSoundMidRun s l → IsSpot s at → ((p : Page) → sight_at s at.pid at.vpn ≡ Some (Sees p) → ⊥)
+pub placed_sound : (s : State) (l : List ℕ) (at : AccessSite) (node : ℕ) → IsSoundMidRun s l → IsSpot s at → ((p : Page) → sight_at s at.pid at.vpn ≡ Some (Sees p) → ⊥)
     → get page_cmp s.place (shown_at at) ≡ None → (length (free_list s node) == 0) ≡ false → IsSoundMidRun (with_sight (placed_front s node (free_list s node) (shown_at at)) at (Sees (shown_at at))) l
 placed_sound s l at node h i unseen unplaced some =
     let p = shown_at at in

@@ -10,7 +10,7 @@ use Rattle.nm_types.specs.declared.request.Class.{Class}
 use Rattle.nm_types.specs.declared.request.Class.TheVariants.{Status, Move}
 use Rattle.nm_types.specs.declared.request.Wanted.{Wanted}
 use Rattle.nm_model.specs.definitions.Status.{status_or_move}
-use Rattle.nm_model.specs.definitions.Run.{moved_page, decided, one, each, with_free, with_all_free, left, counted}
+use Rattle.nm_model.specs.definitions.Run.{moved_page, decision, one_request, each_request, with_free, with_all_free, left, with_counts}
 use Rattle.nm_model.specs.definitions.Sound.{AreNodes, FramesAreOnce, IsSoundMidRun}
 use Rattle.nm_types.proofs.Maps.{page_cmp_total, exact_page, keys-set}
 use Rattle.nm_types.proofs.Keys.{some_from_keys}
@@ -55,15 +55,15 @@ page_moved s l target p from (frame ∷ rest) h placed e =
     (keys-set page_cmp_total exact_page p s.place frame from h.order.place placed)
     (moved_frames s l target p from (frame ∷ rest) h.frames h.order.place placed e)
 
-pub decided_sound : (s : State) (l : List ℕ) (target : ℕ) (c : Class) → IsSoundMidRun s l → ClassIsPlaced s c → IsSoundMidRun (decided s target c).state (l ++ left (decided s target c).taken)
+pub decided_sound : (s : State) (l : List ℕ) (target : ℕ) (c : Class) → IsSoundMidRun s l → ClassIsPlaced s c → IsSoundMidRun (decision s target c).state (l ++ left (decision s target c).taken)
 decided_sound s l target (Status status) h placed = subst (IsSoundMidRun s) (sym (append-nil l)) h
 decided_sound s l target (Move p from) h placed = page_moved s l target p from (free_list s target) h placed refl
 
-pub each_sound : (s : State) (l : List ℕ) (target : ℕ) (ws : List Wanted) → IsSoundMidRun s l → IsSoundMidRun (each s target ws).state (l ++ left (each s target ws).taken)
+pub each_sound : (s : State) (l : List ℕ) (target : ℕ) (ws : List Wanted) → IsSoundMidRun s l → IsSoundMidRun (each_request s target ws).state (l ++ left (each_request s target ws).taken)
 each_sound s l target [] h = subst (IsSoundMidRun s) (sym (append-nil l)) h
 each_sound s l target (w ∷ ws) h =
-    let now = one s target w in
-    let rest = each now.state target ws in
+    let now = one_request s target w in
+    let rest = each_request now.state target ws in
     subst (IsSoundMidRun rest.state) (append_assoc l (left now.taken) (left rest.taken) ∙ ap (λ xs. l ++ xs) (sym (left-append now.taken rest.taken)))
     (each_sound now.state (l ++ left now.taken) target ws (decided_sound s l target (status_or_move s target w) h (status_placed s target w)))
 
@@ -95,5 +95,5 @@ freely_sound s l nodes moved failed are h =
       few = h.few;
     }
 
-pub counted_sound : (s : State) (l : List ℕ) (moved failed : ℕ) → IsSoundMidRun s l → IsSoundMidRun (counted s moved failed) l
-counted_sound s l moved failed h = freely_sound s l s.online (counted s moved failed).moved (counted s moved failed).failed h.online h
+pub counted_sound : (s : State) (l : List ℕ) (moved failed : ℕ) → IsSoundMidRun s l → IsSoundMidRun (with_counts s moved failed) l
+counted_sound s l moved failed h = freely_sound s l s.online (with_counts s moved failed).moved (with_counts s moved failed).failed h.online h

@@ -5,15 +5,15 @@ use Rattle.nm_types.specs.declared.page.Page.{Page}
 use Rattle.nm_types.specs.State.{State}
 use Rattle.nm_types.specs.declared.request.Wanted.{Wanted}
 use Rattle.nm_model.specs.definitions.Cut.{Request, Stretch, cut}
-use Rattle.nm_model.specs.definitions.Touch.{Access, Held, access, spot_of_access, is_held, in_flight, all_in_flight}
-use Rattle.nm_model.specs.definitions.Run.{each, with_all_free, left, failures, run, accesses_of, runs_from, batch}
+use Rattle.nm_model.specs.definitions.Touch.{Access, Held, access, site_of_access, is_held, in_flight, all_in_flight}
+use Rattle.nm_model.specs.definitions.Run.{each_request, with_all_free, left, failures, run, accesses_of, runs_from, batch}
 use Rattle.nm_model.specs.definitions.Sound.{IsSoundMidRun, IsSound}
 use Rattle.nm_laws.proofs.Soundness.Moved.{each_sound, freed_sound, counted_sound}
 use Rattle.nm_laws.proofs.Soundness.Touched.{access_sound}
 
 pub in_flight_sound : (s : State) (l : List ℕ) (moved : List Page) (a : Access) → IsSoundMidRun s l → IsSoundMidRun (in_flight s moved a).state l
 in_flight_sound s l moved a h =
-    elim (is_held moved (spot_of_access s a)) as (λ b. IsSoundMidRun (if b then record { state = s; answer = Held } else access s a).state l) [
+    elim (is_held moved (site_of_access s a)) as (λ b. IsSoundMidRun (if b then record { state = s; answer = Held } else access s a).state l) [
       | true ↦ h
       | false ↦ access_sound s l a h
     ]
@@ -24,7 +24,7 @@ all_in_flight_sound s l moved (a ∷ accesses) h = all_in_flight_sound (in_fligh
 
 pub run_sound : (s : State) (target : ℕ) (ws : List Wanted) (accesses : List Access) → IsSound s → IsSound (run s target ws accesses).state
 run_sound s target ws accesses h =
-    let moves = each s target ws in
+    let moves = each_request s target ws in
     let pages = map (λ t. t.page) moves.taken in
     let during = all_in_flight moves.state pages accesses in
     counted_sound (with_all_free during.state (left moves.taken)) [] (length moves.taken) (failures moves.statuses)

@@ -5,7 +5,7 @@ use Rattle.nm_model.specs.definitions.Touch.{Read, Write}
 use Rattle.nm_model.specs.definitions.Effect.{new_machine, map_new}
 use Rattle.nm_model.specs.definitions.Sound.{IsSound}
 use Rattle.nm_model.specs.examples.{A, B, C, D, E, two_nodes, three_nodes, one_process, with_second, wrote, three_pages, two_addresses, six_pages, seven_pages, shared_page, attached_by_two, four_of_five, to, on_two_of_three}
-use Rattle.nm_model.specs.examples.Letting.{one_of_each}
+use Rattle.nm_model.specs.examples.Unmapping.{one_of_each}
 use Rattle.nm_model.specs.examples.Starts.{StartsAreSound}
 use Rattle.nm_laws.proofs.Soundness.New.{new_sound}
 use Rattle.nm_laws.proofs.Soundness.Called.{spawn_sound, map_sound, attach_sound, pin_sound}

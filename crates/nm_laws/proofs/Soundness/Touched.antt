@@ -18,7 +18,7 @@ use Rattle.nm_model.specs.definitions.Seen.{sight_in, sight_at}
 use Rattle.nm_model.specs.definitions.Order.{first_touch_order}
 use Rattle.nm_model.specs.definitions.Areas.{is_shared}
 use Rattle.nm_model.specs.definitions.Frames.{overwrite}
-use Rattle.nm_model.specs.definitions.Touch.{Spot, shown_at, spot_over, spot_of, first_free, allocated, filled, joined, touched_entry, touched, touch, with_sight, Access, Read, Write, read_after, with_bytes, write_after, access, with_page, read}
+use Rattle.nm_model.specs.definitions.Touch.{AccessSite, shown_at, site_over, site_of, first_free, allocated, filled, joined, touched_entry, touched, touch, with_sight, Access, Read, Write, read_after, with_bytes, write_after, access, with_page, read}
 use Rattle.nm_model.specs.definitions.Sound.{IsSoundMidRun}
 use Rattle.nm_types.proofs.Keys.{keys-replace, All-replace, All-get, some_from_keys}
 use Rattle.nm_laws.proofs.Seen.Sights.{IsSpot, page_at_spot, with_sight_sound}
@@ -46,7 +46,7 @@ new_byte s p f i unplaced r =
       ]
     ] refl
 
-placed_keeps : (s : State) (at : Spot) (node : ℕ) → get page_cmp s.place (shown_at at) ≡ None → (q a : ℕ)
+placed_keeps : (s : State) (at : AccessSite) (node : ℕ) → get page_cmp s.place (shown_at at) ≡ None → (q a : ℕ)
     → mem (with_sight (placed_front s node (free_list s node) (shown_at at)) at (Sees (shown_at at))) q a ≡ mem s q a
 placed_keeps s at node unplaced q a =
     elim (page_at s.areas q (a / 4096)) as (λ o. option_map (λ r. byte_of (with_page s (shown_at at) (slice_index (free_list s node) 0)) r (get page_cmp (set page_cmp s.place (shown_at at) (slice_index (free_list s node) 0)) r) (a % 4096)) o
@@ -69,7 +69,7 @@ has_front free (n ∷ nodes) node h =
       | false ↦ λ b h. subst (λ k. (length (slice_index_or free k []) == 0) ≡ false) (some_is h) b
     ] refl h
 
-module _ (s : State) (l : List ℕ) (at : Spot) (h : IsSoundMidRun s l) (i : IsSpot s at) (unseen : (p : Page) → sight_at s at.pid at.vpn ≡ Some (Sees p) → ⊥) where
+module _ (s : State) (l : List ℕ) (at : AccessSite) (h : IsSoundMidRun s l) (i : IsSpot s at) (unseen : (p : Page) → sight_at s at.pid at.vpn ≡ Some (Sees p) → ⊥) where
   allocated_sound : (o : Option ℕ) → get page_cmp s.place (shown_at at) ≡ None → ((node : ℕ) → o ≡ Some node → (length (free_list s node) == 0) ≡ false) → StaysSound s l (allocated s at o)
   unfolding StaysSound
   allocated_sound None unplaced some = tt
@@ -113,7 +113,7 @@ module _ (s : State) (l : List ℕ) (at : Spot) (h : IsSoundMidRun s l) (i : IsS
   zero_sound writes private =
       elim writes as (λ w. StaysSound s l (if w then filled s at else Ok s)) [ true ↦ filled_sound (private_unplaced private) | false ↦ (h, λ q a. refl) ]
 
-sight_of_spot : (s : State) (at : Spot) → IsSpot s at → sight_at s at.pid at.vpn ≡ get nat_cmp at.process.sees at.vpn
+sight_of_spot : (s : State) (at : AccessSite) → IsSpot s at → sight_at s at.pid at.vpn ≡ get nat_cmp at.process.sees at.vpn
 sight_of_spot s at i = ap (λ o. sight_in o at.vpn) i.process
 
 zero_page : (p : Page) → Some ZeroPage ≡ Some (Sees p) → ⊥
@@ -122,7 +122,7 @@ zero_page p e = cc
 none_page : (p : Page) → None ≡ Some (Sees p) → ⊥
 none_page p e = cc
 
-entry_sound : (s : State) (l : List ℕ) (at : Spot) (writes : Bool) (o : Option Sight) → IsSoundMidRun s l → IsSpot s at → sight_at s at.pid at.vpn ≡ o → StaysSound s l (touched_entry s at writes o)
+entry_sound : (s : State) (l : List ℕ) (at : AccessSite) (writes : Bool) (o : Option Sight) → IsSoundMidRun s l → IsSpot s at → sight_at s at.pid at.vpn ≡ o → StaysSound s l (touched_entry s at writes o)
 unfolding StaysSound
 entry_sound s l at writes None h i e = absent_sound s l at h i (λ p k. none_page p (sym e ∙ k)) writes
 entry_sound s l at writes (Some ZeroPage) h i e =
@@ -132,19 +132,19 @@ entry_sound s l at writes (Some ZeroPage) h i e =
 entry_sound s l at writes (Some (Sees p)) h i e = (h, λ q a. refl)
 
 over_sound : (s : State) (l : List ℕ) (pid v : ℕ) (process : Process) (writes : Bool) (o : Option Placed) → IsSoundMidRun s l → get nat_cmp s.processes pid ≡ Some process → area_over s.areas pid v ≡ o
-    → StaysSound s l (touched s writes (spot_over pid process v o))
+    → StaysSound s l (touched s writes (site_over pid process v o))
 unfolding StaysSound
 over_sound s l pid v process writes None h p a = tt
 over_sound s l pid v process writes (Some area) h p a =
-    let at : Spot = record { pid = pid; process = process; area = area; vpn = v } in
+    let at : AccessSite = record { pid = pid; process = process; area = area; vpn = v } in
     let i : IsSpot s at = record { process = p; area = a } in
     entry_sound s l at writes (get nat_cmp process.sees v) h i (sight_of_spot s at i)
 
-process_sound : (s : State) (l : List ℕ) (pid address len : ℕ) (writes : Bool) (o : Option Process) → IsSoundMidRun s l → get nat_cmp s.processes pid ≡ o → StaysSound s l (touched s writes (spot_of s o pid address len))
+process_sound : (s : State) (l : List ℕ) (pid address len : ℕ) (writes : Bool) (o : Option Process) → IsSoundMidRun s l → get nat_cmp s.processes pid ≡ o → StaysSound s l (touched s writes (site_of s o pid address len))
 unfolding StaysSound
 process_sound s l pid address len writes None h e = tt
 process_sound s l pid address len writes (Some process) h e =
-    elim ((len == 0) || nat_lt 4096 (address % 4096 + len)) as (λ b. StaysSound s l (touched s writes (if b then Err Einval else spot_over pid process (address / 4096) (area_over s.areas pid (address / 4096))))) [
+    elim ((len == 0) || nat_lt 4096 (address % 4096 + len)) as (λ b. StaysSound s l (touched s writes (if b then Err Einval else site_over pid process (address / 4096) (area_over s.areas pid (address / 4096))))) [
       | true ↦ tt
       | false ↦ over_sound s l pid (address / 4096) process writes (area_over s.areas pid (address / 4096)) h e refl
     ]
@@ -206,11 +206,11 @@ write_after_sound s l pid address new (Ok t) h k fits = bytes_sound t l pid (add
 err_ok : {e : Errno} {t : State} → Err e ≡ Ok t → ⊥
 err_ok e = cc
 
-pub process_fits : (s : State) (pid address len : ℕ) (writes : Bool) (o : Option Process) (t : State) → touched s writes (spot_of s o pid address len) ≡ Ok t → address % 4096 + len ≤ 4096
+pub process_fits : (s : State) (pid address len : ℕ) (writes : Bool) (o : Option Process) (t : State) → touched s writes (site_of s o pid address len) ≡ Ok t → address % 4096 + len ≤ 4096
 process_fits s pid address len writes None t e = absurd (err_ok e)
 process_fits s pid address len writes (Some process) t e =
-    elim (nat_lt 4096 (address % 4096 + len)) as (λ b. nat_lt 4096 (address % 4096 + len) ≡ b → touched s writes (if (len == 0) || b then Err Einval else spot_over pid process (address / 4096) (area_over s.areas pid (address / 4096))) ≡ Ok t → address % 4096 + len ≤ 4096) [
-      | true ↦ λ b e. absurd (err_ok (sym (ap (λ c. touched s writes (if c then Err Einval else spot_over pid process (address / 4096) (area_over s.areas pid (address / 4096)))) (or_right (len == 0) true refl)) ∙ e))
+    elim (nat_lt 4096 (address % 4096 + len)) as (λ b. nat_lt 4096 (address % 4096 + len) ≡ b → touched s writes (if (len == 0) || b then Err Einval else site_over pid process (address / 4096) (area_over s.areas pid (address / 4096))) ≡ Ok t → address % 4096 + len ≤ 4096) [
+      | true ↦ λ b e. absurd (err_ok (sym (ap (λ c. touched s writes (if c then Err Einval else site_over pid process (address / 4096) (area_over s.areas pid (address / 4096)))) (or_right (len == 0) true refl)) ∙ e))
       | false ↦ λ b e. ltb-false 4096 (address % 4096 + len) b
     ] refl e
 

@@ -13,8 +13,8 @@ use Rattle.nm_model.specs.definitions.Frames.{Store, bytes_of, overwrite}
 use Rattle.nm_model.specs.definitions.PageTables.{Task, entry_at, with_entry}
 use Rattle.nm_model.specs.definitions.Memory.{stretch_of}
 use Rattle.nm_model.specs.definitions.Areas.{is_shared}
-use Rattle.nm_model.specs.definitions.Touch.{Spot, shown_at, spot, first_free, Access, Read, Write}
-use Rattle.nm_model.specs.definitions.Touch.{AccessAnswer, Bytes, Done, Held, Refused, spot_of_access}
+use Rattle.nm_model.specs.definitions.Touch.{AccessSite, shown_at, site, first_free, Access, Read, Write}
+use Rattle.nm_model.specs.definitions.Touch.{AccessAnswer, Bytes, Done, Held, Refused, site_of_access}
 use Rattle.nm_model.specs.definitions.RunMachine.{RunMachine, state_of}
 
 -- whether the buffer of a frame is out
@@ -28,14 +28,14 @@ is_leaving buf None = false
 is_leaving buf (Some f) = is_out (slice_index_or buf f None)
 
 -- an access is held if the entry there is; if there is no entry, it is held if the page shown there is on its way
-abbrev pub is_held_by : RunMachine → Spot → Option Entry → Bool
+abbrev pub is_held_by : RunMachine → AccessSite → Option Entry → Bool
 is_held_by m at (Some Zero) = false
 is_held_by m at (Some (Frame f)) = false
 is_held_by m at (Some (OnItsWay f)) = true
 is_held_by m at None = is_leaving m.buf (get page_cmp m.place (shown_at at))
 
 -- the same, unless the access is refused
-abbrev pub is_held_at : RunMachine → Result Spot Errno → Bool
+abbrev pub is_held_at : RunMachine → Result AccessSite Errno → Bool
 is_held_at m (Err e) = false
 is_held_at m (Ok at) = is_held_by m at (entry_at m.tasks at.pid at.vpn)
 
@@ -45,7 +45,7 @@ set_in tasks None pid v e = tasks
 set_in tasks (Some t) pid v e = replace nat_cmp tasks pid (with_entry t v e)
 
 -- the process's entry at this page number is set
-abbrev pub with_entry_at : RunMachine → Spot → Entry → RunMachine
+abbrev pub with_entry_at : RunMachine → AccessSite → Entry → RunMachine
 with_entry_at m at e = record m { tasks = set_in m.tasks (get nat_cmp m.tasks at.pid) at.pid at.vpn e }
 
 -- a page gets the front frame of a node, and its buffer is cleared
@@ -61,25 +61,25 @@ with_new_page m page node =
     }
 
 -- the page shown there gets the front frame of the node, and the entry names it; ENOMEM if there is no node
-abbrev pub allocated : RunMachine → Spot → Option ℕ → Result RunMachine Errno
+abbrev pub allocated : RunMachine → AccessSite → Option ℕ → Result RunMachine Errno
 allocated m at None = Err Enomem
 allocated m at (Some node) =
     Ok (with_entry_at (with_new_page m (shown_at at) node) at (Frame (slice_index (slice_index_or m.free node []) 0)))
 
 -- the same, with the first node in order that has a free frame
-abbrev pub filled : RunMachine → Spot → Result RunMachine Errno
+abbrev pub filled : RunMachine → AccessSite → Result RunMachine Errno
 filled m at =
     let process = at.process in
     let order = first_touch_order m.layout m.online process.home process.allowed at.area.1.policy (shown_at at).index in
     allocated m at (first_free m.free order)
 
 -- a page that others may show keeps its frame, or gets one
-abbrev pub joined : RunMachine → Spot → Option ℕ → Result RunMachine Errno
+abbrev pub joined : RunMachine → AccessSite → Option ℕ → Result RunMachine Errno
 joined m at (Some f) = Ok (with_entry_at m at (Frame f))
 joined m at None = filled m at
 
 -- a touch uses an entry that names a frame; the page of zeros serves reads of private pages
-abbrev pub touched_entry : RunMachine → Spot → Bool → Option Entry → Result RunMachine Errno
+abbrev pub touched_entry : RunMachine → AccessSite → Bool → Option Entry → Result RunMachine Errno
 touched_entry m at writes (Some (Frame f)) = Ok m
 touched_entry m at writes (Some (OnItsWay f)) = Ok m
 touched_entry m at writes (Some Zero) = if writes then filled m at else Ok m
@@ -88,7 +88,7 @@ touched_entry m at writes None =
     else (if writes then filled m at else Ok (with_entry_at m at Zero))
 
 -- the touch of an entry, unless the access is refused
-abbrev pub touched : RunMachine → Bool → Result Spot Errno → Result RunMachine Errno
+abbrev pub touched : RunMachine → Bool → Result AccessSite Errno → Result RunMachine Errno
 touched m writes (Err e) = Err e
 touched m writes (Ok at) = touched_entry m at writes (entry_at m.tasks at.pid at.vpn)
 
@@ -125,10 +125,10 @@ write_after m pid address new (Ok t) =
 -- a read or a write that is not held
 abbrev pub made : RunMachine → Access → RunMachine
 made m (Read pid address len) =
-    read_after m pid address len (touched m false (spot (state_of m) pid address len))
+    read_after m pid address len (touched m false (site (state_of m) pid address len))
 made m (Write pid address new) =
-    write_after m pid address new (touched m true (spot (state_of m) pid address (length new)))
+    write_after m pid address new (touched m true (site (state_of m) pid address (length new)))
 
 -- a read or a write. Where it goes and whether that is refused depends on no entry and no buffer
 abbrev pub accessed : RunMachine → Access → RunMachine
-accessed m a = if is_held_at m (spot_of_access (state_of m) a) then answered m Held else made m a
+accessed m a = if is_held_at m (site_of_access (state_of m) a) then answered m Held else made m a

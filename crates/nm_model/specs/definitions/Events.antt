@@ -15,7 +15,7 @@ use Rattle.nm_types.specs.declared.taken.Taken.{Taken}
 use Rattle.nm_model.specs.definitions.Decide.{Decisions, decide}
 use Rattle.nm_model.specs.definitions.PageTables.{Task}
 use Rattle.nm_model.specs.definitions.Touch.{Access}
-use Rattle.nm_model.specs.definitions.Run.{failures, added}
+use Rattle.nm_model.specs.definitions.Run.{failures, total_after}
 use Rattle.nm_model.specs.definitions.RunMachine.{Job, Stage, Laid, InHand, Given, Phase, Ready, Moving, Ended, RunMachine, job_from, goes_to}
 use Rattle.nm_model.specs.definitions.RunMachine.{state_of}
 use Rattle.nm_model.specs.definitions.Accesses.{accessed}
@@ -96,8 +96,8 @@ ended m =
       place = with_values (λ page f. goes_to m.jobs f) m.place;
       buf = fold with_both m.buf m.jobs;
       free = fold (freed m.layout) m.free (map (λ job. job.source.0) m.jobs);
-      moved = added m.moved (length m.jobs);
-      failed = added m.failed (failures m.statuses);
+      moved = total_after m.moved (length m.jobs);
+      failed = total_after m.failed (failures m.statuses);
       jobs = [];
     }
 

@@ -17,7 +17,7 @@ use Rattle.nm_model.specs.definitions.Touch.{Access, AccessAnswer, all_in_flight
 use Rattle.std.specs.Prelude.{◌==◌}
 use Rattle.nm_model.specs.definitions.Cut.{Request, Stretch, cut}
 
--- the state after a request, its status, and its move if there is one
+-- the state after a request, its status, and its move if there is one_request
 pub record Decision : Type 0 where
   pub state : State
   pub status : ℤ
@@ -31,13 +31,13 @@ moved_page s target page from (frame ∷ rest) =
     record { state = t; status = pos target; taken = record { page = page; from = from; to = frame } ∷ [] }
 
 -- a request of this class is carried out
-abbrev pub decided : State → ℕ → Class → Decision
-decided s target (Status status) = record { state = s; status = status; taken = [] }
-decided s target (Move page from) = moved_page s target page from (free_list s target)
+abbrev pub decision : State → ℕ → Class → Decision
+decision s target (Status status) = record { state = s; status = status; taken = [] }
+decision s target (Move page from) = moved_page s target page from (free_list s target)
 
--- one request is decided and carried out
-abbrev pub one : State → ℕ → Wanted → Decision
-one s target w = decided s target (status_or_move s target w)
+-- one_request request is decision and carried out
+abbrev pub one_request : State → ℕ → Wanted → Decision
+one_request s target w = decision s target (status_or_move s target w)
 
 -- the state after requests, their statuses, and the moves
 pub record Progress : Type 0 where
@@ -45,12 +45,12 @@ pub record Progress : Type 0 where
   pub statuses : List ℤ
   pub taken : List Taken
 
--- one request after another
-abbrev pub each : State → ℕ → List Wanted → Progress
-each s target [] = record { state = s; statuses = []; taken = [] }
-each s target (w ∷ ws) =
-    let now = one s target w in
-    let rest = each now.state target ws in
+-- one_request request after another
+abbrev pub each_request : State → ℕ → List Wanted → Progress
+each_request s target [] = record { state = s; statuses = []; taken = [] }
+each_request s target (w ∷ ws) =
+    let now = one_request s target w in
+    let rest = each_request now.state target ws in
     record { state = rest.state; statuses = now.status ∷ rest.statuses; taken = now.taken ++ rest.taken }
 
 -- a frame is appended to its own node's free list
@@ -59,7 +59,7 @@ with_free s frame =
     let node = node_of s.layout frame in
     record s { free = slice_set s.free node (free_list s node ++ frame ∷ []) }
 
--- one frame after another becomes free
+-- one_request frame after another becomes free
 abbrev pub with_all_free : State → List ℕ → State
 with_all_free s frames = fold with_free s frames
 
@@ -72,12 +72,12 @@ abbrev pub failures : List ℤ → ℕ
 failures statuses = count_by (λ status. int_eq status (code Ebusy) || int_eq status (code Enomem)) statuses
 
 -- a total, which stays at its greatest value
-abbrev pub added : ℕ → ℕ → ℕ
-added total n = min (total + n) (2 ^ 64 - 1)
+abbrev pub total_after : ℕ → ℕ → ℕ
+total_after total n = min (total + n) (2 ^ 64 - 1)
 
--- the totals with these numbers added
-abbrev pub counted : State → ℕ → ℕ → State
-counted s moved failed = record s { moved = added s.moved moved; failed = added s.failed failed }
+-- the totals with these numbers total_after
+abbrev pub with_counts : State → ℕ → ℕ → State
+with_counts s moved failed = record s { moved = total_after s.moved moved; failed = total_after s.failed failed }
 
 -- a request by address with this `all`: whether it moves a page that other processes also see
 abbrev pub IsByAddress : Bool → Wanted → Type 0
@@ -89,7 +89,7 @@ abbrev pub IsByPage : Wanted → Type 0
 IsByPage (Spot pid v all) = ⊥
 IsByPage (Whole page) = Unit {0}
 
--- all requests of a run are by address with one `all`, or all are by page
+-- all requests of a run are by address with one_request `all`, or all are by page
 abbrev pub HasOneAll : List Wanted → Type 0
 HasOneAll ws = ((all : Bool) × AllByRecursion (IsByAddress all) ws) ⊎ AllByRecursion IsByPage ws
 
@@ -97,23 +97,23 @@ HasOneAll ws = ((all : Bool) × AllByRecursion (IsByAddress all) ws) ⊎ AllByRe
 pub record Ran : Type 0 where
   pub state : State
   pub statuses : List ℤ
-  -- each run's answers to its accesses
+  -- each_request run's answers to its accesses
   pub answers : List (List AccessAnswer)
 
 -- a run: the requests, the accesses in flight, then the frames left become free, then the totals
 abbrev pub run : State → ℕ → List Wanted → List Access → Ran
 run s target ws accesses =
-    let moves = each s target ws in
+    let moves = each_request s target ws in
     let during = all_in_flight moves.state (map (λ t. t.page) moves.taken) accesses in
     let freed = with_all_free during.state (left moves.taken) in
-    let t = counted freed (length moves.taken) (failures moves.statuses) in
+    let t = with_counts freed (length moves.taken) (failures moves.statuses) in
     record { state = t; statuses = moves.statuses; answers = during.answers ∷ [] }
 
 -- the accesses that name this run, in order
 abbrev pub accesses_of : ℕ → List (ℕ × Access) → List Access
 accesses_of k accesses = map (λ a. a.1) (filter (λ a. a.0 == k) accesses)
 
--- one run after another, numbered from k on, each with its accesses
+-- one_request run after another, numbered from k on, each_request with its accesses
 abbrev pub runs_from : ℕ → State → List Stretch → List (ℕ × Access) → Ran
 runs_from k s [] accesses = record { state = s; statuses = []; answers = [] }
 runs_from k s (r ∷ rs) accesses =

@@ -20,38 +20,38 @@ use Rattle.nm_model.specs.definitions.Memory.{mem_range}
 use Rattle.std.specs.List.{list_any}
 
 -- a process, a page number, and its area over that
-pub record Spot : Type 0 where
+pub record AccessSite : Type 0 where
   pub pid : ℕ
   pub process : Process
   pub area : Placed
   pub vpn : ℕ
 
 -- the page that the area shows at the page number
-abbrev pub shown_at : Spot → Page
+abbrev pub shown_at : AccessSite → Page
 shown_at at = page_of at.area at.vpn
 
 -- this place, or EFAULT: no area covers the page number
-abbrev pub spot_over : ℕ → Process → ℕ → Option Placed → Result Spot Errno
-spot_over pid process v None = Err Efault
-spot_over pid process v (Some area) = Ok (record { pid = pid; process = process; area = area; vpn = v })
+abbrev pub site_over : ℕ → Process → ℕ → Option Placed → Result AccessSite Errno
+site_over pid process v None = Err Efault
+site_over pid process v (Some area) = Ok (record { pid = pid; process = process; area = area; vpn = v })
 
 -- this place, or the first refusal (ESRCH: no such process; EINVAL: no byte, or past the page's end; EFAULT: no area)
-abbrev pub spot_of : State → Option Process → ℕ → ℕ → ℕ → Result Spot Errno
-spot_of s None pid address len = Err Esrch
-spot_of s (Some process) pid address len =
+abbrev pub site_of : State → Option Process → ℕ → ℕ → ℕ → Result AccessSite Errno
+site_of s None pid address len = Err Esrch
+site_of s (Some process) pid address len =
     if (len == 0) || nat_lt 4096 (address % 4096 + len) then Err Einval
-    else spot_over pid process (address / 4096) (area_over s.areas pid (address / 4096))
+    else site_over pid process (address / 4096) (area_over s.areas pid (address / 4096))
 
 -- where `len` bytes of a process from an address on are, or the first refusal
-abbrev pub spot : State → ℕ → ℕ → ℕ → Result Spot Errno
-spot s pid address len = spot_of s (get nat_cmp s.processes pid) pid address len
+abbrev pub site : State → ℕ → ℕ → ℕ → Result AccessSite Errno
+site s pid address len = site_of s (get nat_cmp s.processes pid) pid address len
 
 -- the refusals of a read or a write of `len` bytes before it looks for a frame: all except ENOMEM
-abbrev pub spot_refusal : State → ℕ → ℕ → ℕ → Option Errno
-spot_refusal s pid address len = result_err (spot s pid address len)
+abbrev pub site_refusal : State → ℕ → ℕ → ℕ → Option Errno
+site_refusal s pid address len = result_err (site s pid address len)
 
 -- what the process sees at this page number is set
-abbrev pub with_sight : State → Spot → Sight → State
+abbrev pub with_sight : State → AccessSite → Sight → State
 with_sight s at sight =
     let process : Process = record (at.process) { sees = set nat_cmp at.process.sees at.vpn sight } in
     record s { processes = replace nat_cmp s.processes at.pid process }
@@ -76,26 +76,26 @@ first_free free [] = None
 first_free free (node ∷ nodes) = if length (slice_index_or free node []) == 0 then first_free free nodes else Some node
 
 -- the page takes the front frame of the node, and the process sees it; ENOMEM if there is no node
-abbrev pub allocated : State → Spot → Option ℕ → Result State Errno
+abbrev pub allocated : State → AccessSite → Option ℕ → Result State Errno
 allocated s at None = Err Enomem
 allocated s at (Some node) =
     let placed = with_page (without_front s node) (shown_at at) (slice_index (free_list s node) 0) in
     Ok (with_sight placed at (Sees (shown_at at)))
 
 -- the page gets the front frame of the first node in order that has one
-abbrev pub filled : State → Spot → Result State Errno
+abbrev pub filled : State → AccessSite → Result State Errno
 filled s at =
     let process = at.process in
     let order = first_touch_order s.layout s.online process.home process.allowed at.area.1.policy (shown_at at).index in
     allocated s at (first_free s.free order)
 
 -- a page that others may show keeps its frame, or gets one
-abbrev pub joined : State → Spot → Option ℕ → Result State Errno
+abbrev pub joined : State → AccessSite → Option ℕ → Result State Errno
 joined s at (Some frame) = Ok (with_sight s at (Sees (shown_at at)))
 joined s at None = filled s at
 
 -- a touch uses an entry that shows a page; the page of zeros serves reads of private pages
-abbrev pub touched_entry : State → Spot → Bool → Option Sight → Result State Errno
+abbrev pub touched_entry : State → AccessSite → Bool → Option Sight → Result State Errno
 touched_entry s at writes (Some (Sees page)) = Ok s
 touched_entry s at writes (Some ZeroPage) = if writes then filled s at else Ok s
 touched_entry s at writes None =
@@ -103,13 +103,13 @@ touched_entry s at writes None =
     else (if writes then filled s at else Ok (with_sight s at ZeroPage))
 
 -- the touch of an entry, unless the access is refused
-abbrev pub touched : State → Bool → Result Spot Errno → Result State Errno
+abbrev pub touched : State → Bool → Result AccessSite Errno → Result State Errno
 touched s writes (Err e) = Err e
 touched s writes (Ok at) = touched_entry s at writes (get nat_cmp at.process.sees at.vpn)
 
 -- what a read or a write of `len` bytes does before it reaches the bytes, or the first refusal
 abbrev pub touch : State → ℕ → ℕ → ℕ → Bool → Result State Errno
-touch s pid address len writes = touched s writes (spot s pid address len)
+touch s pid address len writes = touched s writes (site s pid address len)
 
 -- a read or a write
 pub data Access : Type 0 where
@@ -160,18 +160,18 @@ access s (Read pid address len) = read s pid address len
 access s (Write pid address new) = write s pid address new
 
 -- where an access finds its page, or its first refusal
-abbrev pub spot_of_access : State → Access → Result Spot Errno
-spot_of_access s (Read pid address len) = spot s pid address len
-spot_of_access s (Write pid address new) = spot s pid address (length new)
+abbrev pub site_of_access : State → Access → Result AccessSite Errno
+site_of_access s (Read pid address len) = site s pid address len
+site_of_access s (Write pid address new) = site s pid address (length new)
 
 -- whether the page there is one of these
-abbrev pub is_held : List Page → Result Spot Errno → Bool
+abbrev pub is_held : List Page → Result AccessSite Errno → Bool
 is_held moved (Err e) = false
 is_held moved (Ok at) = list_any (same_page (shown_at at)) moved
 
 -- an access to a page that moves is held and does nothing
 abbrev pub in_flight : State → List Page → Access → Answered
-in_flight s moved a = if is_held moved (spot_of_access s a) then record { state = s; answer = Held } else access s a
+in_flight s moved a = if is_held moved (site_of_access s a) then record { state = s; answer = Held } else access s a
 
 -- the state after accesses, and their answers
 pub record AllAnswered : Type 0 where

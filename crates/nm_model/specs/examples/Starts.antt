@@ -1,7 +1,7 @@
 -- The states that the worked examples start from.
 use Rattle.nm_model.specs.definitions.Sound.{IsSound}
 use Rattle.nm_model.specs.examples.{three_pages, two_addresses, six_pages, seven_pages, seen_by_two, attached_by_two, four_of_five, on_two_of_three}
-use Rattle.nm_model.specs.examples.Letting.{one_of_each}
+use Rattle.nm_model.specs.examples.Unmapping.{one_of_each}
 
 -- each is sound, so that the laws apply to it
 abbrev pub StartsAreSound : Type 0

@@ -1,5 +1,5 @@
 use Rattle.std.proofs.Common.{◌≡◌, ◌+◌, ◌++◌, ◌≤◌, drop, length, map, vec_capacity}
-use Rattle.nm_engine.specs.Answering.{answer_shown}
+use Rattle.nm_engine.specs.views.Accesses.{answer_shown}
 use Rattle.nm_steps.specs.Views.{shown_during}
 use Rattle.nm_calls.specs.Batch.{in_order, runs_named, left_shown}
 use Rattle.nm_calls.proofs.batch.in_order.Given as goal

@@ -1,6 +1,6 @@
 use Rattle.std.proofs.Common.{sym, subst, ap, ◌∙◌}
 use Rattle.std.specs.List.{AllByRecursion}
-use Rattle.nm_model.specs.definitions.Run.{counted}
+use Rattle.nm_model.specs.definitions.Run.{with_counts}
 use Rattle.nm_calls.specs.Passes.{without_frame}
 use Rattle.nm_calls.specs.Full.{AreStanding, WouldMove, pass, rounded_up}
 use Rattle.nm_calls.proofs.Full.{full_node_takes_none, left_would_move, runs_go_by_length}
@@ -14,7 +14,7 @@ returns-in-Some-clause-runs g c =
     let ws = x.left.wanted.items in
     let full = full_node_takes_none x.limit s x.node ws c.requires.some c.requires.pages c.in-Some.ensures.full c.in-Some.ensures.lost in
     let count = c.len-count.ensures ∙ x.left.wanted.ok.0 in (
-      c.count_failures.ensures ∙ ap (counted s 0) count ∙ sym full.0,
+      c.count_failures.ensures ∙ ap (with_counts s 0) count ∙ sym full.0,
       (
         c.div_ceil.ensures ∙ ap (λ n. rounded_up n x.limit) count ∙ sym (runs_go_by_length x.limit x.node ws c.requires.some),
         sym full.1,

@@ -1,5 +1,5 @@
 use Rattle.std.proofs.Common.{◌≡◌, drop}
-use Rattle.nm_engine.specs.Frames.{CanFree, with_freed}
+use Rattle.nm_engine.specs.views.Frames.{CanFree, with_freed}
 use Rattle.nm_engine.proofs.frames.free_frames.Given as goal
 
 abbrev pub invariant-loop-frame : goal.invariant-loop-frame

@@ -1,4 +1,4 @@
-use Rattle.nm_engine.specs.Frames.{KeepsBytes}
+use Rattle.nm_engine.specs.views.Frames.{KeepsBytes}
 use Rattle.nm_engine.proofs.frames.populate_behind.Given as goal
 
 abbrev pub invariant-loop-step : goal.invariant-loop-step

@@ -3,7 +3,7 @@ use Rattle.std.specs.Prelude.{slice_index_or, sum}
 use Rattle.nm_types.specs.Layout.{owner}
 use Rattle.nm_types.specs.Nodes.{is_in}
 use Rattle.nm_model.specs.definitions.Frames.{Pool, list_of, with_list, prepended}
-use Rattle.nm_model.specs.definitions.Early.{tos}
+use Rattle.nm_model.specs.definitions.BeforeCopy.{frames_taken}
 use Rattle.nm_engine.proofs.Early.Returned.{left_from, can_left, one_back, there_now}
 use Rattle.nm_engine.proofs.frames.return_tos.Goals as goal
 
@@ -20,7 +20,7 @@ prepend-requires-clause-taken g c =
     let node = c.args.node in
     let can = can_left c.args.moves.now c.loop-left.left c.index-moves-left.result p node c.loop-left-test.true c.loop-left.invariant.few c.requires.can in
     subst (λ (q : Pool). is_in (list_of q (owner q.sizes item)) item ≡ false) (sym c.loop-left.invariant.nodes)
-    (there_now p node (drop c.loop-left.left (tos c.args.moves.now) ++ list_of p node) item c.requires.node can.1 can.2)
+    (there_now p node (drop c.loop-left.left (frames_taken c.args.moves.now) ++ list_of p node) item c.requires.node can.1 can.2)
 
 pub loop-left-preserved : goal.loop-left-preserved
 loop-left-preserved g c =
@@ -30,7 +30,7 @@ loop-left-preserved g c =
     let can = can_left c.args.moves.now c.loop-left.left c.index-moves-left.result p node c.loop-left-test.true c.loop-left.invariant.few c.requires.can in
     record {
       nodes = c.prepend.ensures ∙ ap (λ (q : Pool). prepended q item) c.loop-left.invariant.nodes
-          ∙ one_back p node (drop c.loop-left.left (tos c.args.moves.now) ++ list_of p node) item c.requires.node can.1
+          ∙ one_back p node (drop c.loop-left.left (frames_taken c.args.moves.now) ++ list_of p node) item c.requires.node can.1
           ∙ ap (λ (xs : List ℕ). with_list p node (xs ++ list_of p node)) (sym (left_from c.args.moves.now c.loop-left.left c.index-moves-left.result c.loop-left-test.true c.loop-left.invariant.few));
       few = omega (arith, c.loop-left.invariant.few);
     }

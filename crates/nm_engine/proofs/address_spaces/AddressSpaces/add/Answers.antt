@@ -3,8 +3,8 @@ use Rattle.std.specs.Ordering.{nat_cmp}
 use Rattle.nm_types.specs.Map.{Map, set}
 use Rattle.nm_model.specs.definitions.Effect.{untouched}
 use Rattle.nm_model.specs.definitions.PageTables.{Task}
-use Rattle.nm_engine.specs.AddressSpaces.{SpacesView, spaces_view}
-use Rattle.nm_engine.specs.Tied.{IsTied}
+use Rattle.nm_engine.specs.views.AddressSpaces.{SpacesView, spaces_view}
+use Rattle.nm_engine.specs.definitions.Tied.{IsTied}
 use Rattle.nm_engine.proofs.Tied.Tabled.{on_ok, on_both}
 use Rattle.nm_engine.proofs.Tied.New.{no_task, added_tied, added_shows}
 use Rattle.nm_engine.proofs.address_spaces.AddressSpaces.add.Goals as goal

@@ -8,9 +8,9 @@ use Rattle.nm_model.specs.definitions.Areas.{Mapped}
 use Rattle.nm_model.specs.definitions.Areas.{with_frame, without_frame}
 use Rattle.nm_rmap.specs.Mappers.{Mappers, with_mapper, without_mapper}
 use Rattle.nm_model.specs.definitions.PageTables.{Task}
-use Rattle.nm_engine.specs.AddressSpaces.{SpacesView, spaces_view, with_seen, with_new_page}
+use Rattle.nm_engine.specs.views.AddressSpaces.{SpacesView, spaces_view, with_seen, with_new_page}
 use Rattle.nm_model.specs.definitions.PageTables.{process_of}
-use Rattle.nm_engine.specs.Tied.{IsTied}
+use Rattle.nm_engine.specs.definitions.Tied.{IsTied}
 use Rattle.nm_engine.proofs.Tied.Moved.{spare_in, place_new}
 use Rattle.nm_engine.proofs.Tied.Touched.{task_at, process_at, unmapped_at, page_tied, page_shows, place_tied, place_shows, mapper_undone, place_undone}
 use Rattle.nm_engine.proofs.address_spaces.AddressSpaces.allocate.Given.{Over}

@@ -1,6 +1,6 @@
 use Rattle.std.proofs.Common.{subst}
 use Rattle.std.specs.Prelude.{IfSome}
-use Rattle.nm_engine.specs.AddressSpaces.{SpacesView}
+use Rattle.nm_engine.specs.views.AddressSpaces.{SpacesView}
 use Rattle.nm_model.specs.definitions.Seen.{IsOver}
 use Rattle.nm_engine.proofs.Together.Found.{found_here, found_over}
 use Rattle.nm_engine.proofs.address_spaces.AddressSpaces.area_near.Goals as goal

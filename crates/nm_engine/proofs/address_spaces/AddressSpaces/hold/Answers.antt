@@ -3,7 +3,7 @@ use Rattle.std.specs.Option.{option_map}
 use Rattle.std.specs.Ordering.{nat_cmp}
 use Rattle.nm_types.specs.Map.{get}
 use Rattle.nm_model.specs.definitions.Seen.{sight_in}
-use Rattle.nm_engine.specs.Held.{on_their_way}
+use Rattle.nm_engine.specs.views.Held.{on_their_way}
 use Rattle.nm_engine.proofs.Tied.Held.{settled_arrived, entry_shown, begun_entries}
 use Rattle.nm_engine.proofs.address_spaces.AddressSpaces.hold.Goals as goal
 

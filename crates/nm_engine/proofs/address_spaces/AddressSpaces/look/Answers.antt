@@ -2,7 +2,7 @@ use Rattle.std.proofs.Common.{ap, sym, refl, ◌∙◌, eq-eqb}
 use Rattle.std.specs.Prelude.{Some, None}
 use Rattle.nm_model.specs.definitions.Seen.{look_at_place, look_by_sight}
 use Rattle.nm_model.specs.definitions.PageTables.{sight_of}
-use Rattle.nm_engine.specs.ProcessTable.{names}
+use Rattle.nm_engine.specs.views.ProcessTable.{names}
 use Rattle.nm_engine.proofs.Tied.Looked.{looked_there, looked_at, placed_there}
 use Rattle.nm_engine.proofs.address_spaces.AddressSpaces.look.Goals as goal
 

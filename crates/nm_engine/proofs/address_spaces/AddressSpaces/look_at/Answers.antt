@@ -2,7 +2,7 @@ use Rattle.std.proofs.Common.{ap, sym, ◌∙◌, length}
 use Rattle.std.specs.Prelude.{nat_lt}
 use Rattle.nm_types.specs.declared.seen.Seen.TheVariants.{At}
 use Rattle.nm_model.specs.definitions.Seen.{users}
-use Rattle.nm_engine.specs.AddressSpaces.{SpacesView}
+use Rattle.nm_engine.specs.views.AddressSpaces.{SpacesView}
 use Rattle.nm_engine.proofs.Tied.Counted.{users_counted}
 use Rattle.nm_engine.proofs.Tied.Moved.{placed_in}
 use Rattle.nm_engine.proofs.Tied.Pinned.{pins_shown}

@@ -6,8 +6,8 @@ use Rattle.nm_model.specs.definitions.Areas.{no_areas}
 use Rattle.nm_model.specs.definitions.Areas.{Mapped}
 use Rattle.nm_rmap.specs.Mappers.{Mappers}
 use Rattle.nm_model.specs.definitions.PageTables.{Task}
-use Rattle.nm_engine.specs.AddressSpaces.{spaces_view, no_spaces}
-use Rattle.nm_engine.specs.Tied.{IsTied}
+use Rattle.nm_engine.specs.views.AddressSpaces.{spaces_view, no_spaces}
+use Rattle.nm_engine.specs.definitions.Tied.{IsTied}
 use Rattle.nm_engine.proofs.Tied.New.{nothing_tied}
 use Rattle.nm_engine.proofs.address_spaces.AddressSpaces.new.Goals as goal
 

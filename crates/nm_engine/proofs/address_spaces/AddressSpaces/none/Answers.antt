@@ -3,7 +3,7 @@ use Rattle.nm_types.specs.Map.{Map}
 use Rattle.nm_model.specs.definitions.Areas.{Mapped, no_areas}
 use Rattle.nm_model.specs.definitions.PageTables.{Task}
 use Rattle.nm_rmap.specs.Mappers.{Mappers}
-use Rattle.nm_engine.specs.Tied.{IsTied}
+use Rattle.nm_engine.specs.definitions.Tied.{IsTied}
 use Rattle.nm_engine.proofs.Tied.New.{nothing_tied}
 use Rattle.nm_engine.proofs.address_spaces.AddressSpaces.none.Goals as goal
 

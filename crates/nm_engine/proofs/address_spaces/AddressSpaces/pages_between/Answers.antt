@@ -7,7 +7,7 @@ use Rattle.nm_model.specs.definitions.Seen.{between, sights}
 use Rattle.std.specs.Prelude.{All, Some, IfSome}
 use Rattle.nm_model.specs.definitions.PageTables.{sight_of}
 use Rattle.nm_model.specs.definitions.Seen.{IsOver, located}
-use Rattle.nm_engine.specs.ProcessTable.{names}
+use Rattle.nm_engine.specs.views.ProcessTable.{names}
 use Rattle.nm_types.specs.declared.located.Located.{Located}
 use Rattle.nm_engine.proofs.Seen.Listed.{pages_in, found_between, page_behind, frame_behind, located_behind, all_listed, few_listed, all_in_place, all_at, step, step_over, ended}
 use Rattle.nm_engine.proofs.address_spaces.AddressSpaces.pages_between.Goals as goal

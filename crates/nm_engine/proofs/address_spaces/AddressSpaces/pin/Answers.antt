@@ -1,7 +1,7 @@
 use Rattle.std.proofs.Common.{◌≡◌, ◌<◌, ◌≤◌, ◌+◌, ap, sym, subst, ◌∙◌}
 use Rattle.nm_rmap.specs.Mappers.{Mappers, frame_pins}
-use Rattle.nm_engine.specs.AddressSpaces.{spaces_view, pins_here, with_pins_of}
-use Rattle.nm_engine.specs.Tied.{IsTied}
+use Rattle.nm_engine.specs.views.AddressSpaces.{spaces_view, pins_here, with_pins_of}
+use Rattle.nm_engine.specs.definitions.Tied.{IsTied}
 use Rattle.nm_engine.proofs.Tied.Tabled.{on_ok, on_both, if_err}
 use Rattle.nm_engine.proofs.Tied.Moved.{placed_in}
 use Rattle.nm_engine.proofs.Tied.Pinned.{pins_shown, pins_tied, pins_shows}

@@ -4,9 +4,9 @@ use Rattle.nm_types.specs.Map.{Map}
 use Rattle.nm_model.specs.definitions.Areas.{Mapped}
 use Rattle.nm_model.specs.definitions.Areas.{areas_left, page_outside}
 use Rattle.nm_model.specs.definitions.PageTables.{Task}
-use Rattle.nm_engine.specs.ProcessTable.{cleared}
-use Rattle.nm_engine.specs.AddressSpaces.{SpacesView, spaces_view, without_range}
-use Rattle.nm_engine.specs.Tied.{IsTied, IsCleared}
+use Rattle.nm_engine.specs.views.ProcessTable.{cleared}
+use Rattle.nm_engine.specs.views.AddressSpaces.{SpacesView, spaces_view, without_range}
+use Rattle.nm_engine.specs.definitions.Tied.{IsTied, IsCleared}
 use Rattle.nm_engine.proofs.Tied.Removed.{unpinned_pages, removed_tied, removed_shows}
 use Rattle.nm_engine.proofs.address_spaces.AddressSpaces.remove.Given.{Over}
 use Rattle.nm_engine.proofs.address_spaces.AddressSpaces.remove.Goals as goal

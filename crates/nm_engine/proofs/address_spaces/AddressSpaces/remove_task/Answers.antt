@@ -1,6 +1,6 @@
 use Rattle.std.proofs.Common.{ap, ◌∙◌, sym, subst}
-use Rattle.nm_engine.specs.AddressSpaces.{spaces_view}
-use Rattle.nm_engine.specs.Tied.{IsTied}
+use Rattle.nm_engine.specs.views.AddressSpaces.{spaces_view}
+use Rattle.nm_engine.specs.definitions.Tied.{IsTied}
 use Rattle.nm_engine.proofs.Tied.Cleared.{left_tied, left_shows}
 use Rattle.nm_engine.proofs.address_spaces.AddressSpaces.remove_task.Goals as goal
 

@@ -5,8 +5,8 @@ use Rattle.nm_types.specs.Map.{Map}
 use Rattle.nm_types.specs.State.{page_at}
 use Rattle.nm_rmap.specs.Mappers.{Mappers, with_mapper, without_mapper}
 use Rattle.nm_model.specs.definitions.PageTables.{Task}
-use Rattle.nm_engine.specs.AddressSpaces.{SpacesView, spaces_view, with_seen}
-use Rattle.nm_engine.specs.Tied.{IsTied}
+use Rattle.nm_engine.specs.views.AddressSpaces.{SpacesView, spaces_view, with_seen}
+use Rattle.nm_engine.specs.definitions.Tied.{IsTied}
 use Rattle.nm_engine.proofs.Tied.Moved.{placed_in}
 use Rattle.nm_engine.proofs.Tied.Touched.{task_at, process_at, unmapped_at, page_tied, page_shows, mapper_undone}
 use Rattle.nm_engine.proofs.address_spaces.AddressSpaces.see.Given.{Over}

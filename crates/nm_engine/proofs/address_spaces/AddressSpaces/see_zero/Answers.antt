@@ -3,8 +3,8 @@ use Rattle.std.specs.Prelude.{IsSome}
 use Rattle.nm_types.specs.declared.sight.Sight.TheVariants.{ZeroPage}
 use Rattle.nm_types.specs.Map.{Map}
 use Rattle.nm_model.specs.definitions.PageTables.{Task}
-use Rattle.nm_engine.specs.AddressSpaces.{spaces_view, with_seen}
-use Rattle.nm_engine.specs.Tied.{IsTied}
+use Rattle.nm_engine.specs.views.AddressSpaces.{spaces_view, with_seen}
+use Rattle.nm_engine.specs.definitions.Tied.{IsTied}
 use Rattle.nm_engine.proofs.Tied.Tabled.{on_ok, on_both}
 use Rattle.nm_engine.proofs.Tied.Touched.{task_at, process_at, unmapped_at, zero_tied, zero_shows}
 use Rattle.nm_engine.proofs.address_spaces.AddressSpaces.see_zero.Goals as goal

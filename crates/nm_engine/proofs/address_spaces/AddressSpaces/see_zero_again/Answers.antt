@@ -2,8 +2,8 @@ use Rattle.std.proofs.Common.{ℕ, sym, subst, ap, ◌∙◌}
 use Rattle.nm_types.specs.declared.sight.Sight.TheVariants.{ZeroPage}
 use Rattle.nm_types.specs.Map.{Map}
 use Rattle.nm_model.specs.definitions.PageTables.{Task}
-use Rattle.nm_engine.specs.AddressSpaces.{spaces_view, with_seen}
-use Rattle.nm_engine.specs.Tied.{IsTied}
+use Rattle.nm_engine.specs.views.AddressSpaces.{spaces_view, with_seen}
+use Rattle.nm_engine.specs.definitions.Tied.{IsTied}
 use Rattle.nm_engine.proofs.Tied.Touched.{task_at, process_at}
 use Rattle.nm_engine.proofs.Tied.Unseen.{named_below, entry_there, zero_tied, zero_shows}
 use Rattle.nm_engine.proofs.address_spaces.AddressSpaces.see_zero_again.Goals as goal

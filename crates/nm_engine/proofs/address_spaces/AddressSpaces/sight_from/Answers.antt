@@ -2,7 +2,7 @@ use Rattle.std.proofs.Common.{◌≤◌, ◌∙◌, refl, sym, ap, eq-eqb, arith
 use Rattle.std.specs.Prelude.{Some}
 use Rattle.nm_types.proofs.Cases.{none_always}
 use Rattle.nm_model.specs.definitions.PageTables.{sight_of}
-use Rattle.nm_engine.specs.ProcessTable.{names}
+use Rattle.nm_engine.specs.views.ProcessTable.{names}
 use Rattle.nm_engine.proofs.Tied.New.{no_page}
 use Rattle.nm_engine.proofs.Seen.Walked.{next_sight, no_sight, page_shown_here}
 use Rattle.nm_engine.proofs.address_spaces.AddressSpaces.sight_from.Goals as goal

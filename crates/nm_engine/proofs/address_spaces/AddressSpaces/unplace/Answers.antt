@@ -2,8 +2,8 @@ use Rattle.std.proofs.Common.{sym, subst, ap, ◌∙◌}
 use Rattle.std.specs.Prelude.{IsSome}
 use Rattle.nm_types.specs.Map.{get, page_cmp}
 use Rattle.nm_model.specs.definitions.Areas.{Mapped}
-use Rattle.nm_engine.specs.AddressSpaces.{SpacesView, spaces_view}
-use Rattle.nm_engine.specs.Tied.{IsTied}
+use Rattle.nm_engine.specs.views.AddressSpaces.{SpacesView, spaces_view}
+use Rattle.nm_engine.specs.definitions.Tied.{IsTied}
 use Rattle.nm_engine.proofs.Tied.Moved.{placed_in}
 use Rattle.nm_engine.proofs.Tied.Pinned.{pins_shown}
 use Rattle.nm_engine.proofs.Tied.Unseen.{placed_some, unplaced_tied, unplaced_shows}

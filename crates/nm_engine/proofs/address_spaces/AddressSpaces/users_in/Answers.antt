@@ -1,6 +1,6 @@
 use Rattle.std.proofs.Common.{ap, ◌∙◌, length}
 use Rattle.nm_model.specs.definitions.Seen.{users}
-use Rattle.nm_engine.specs.AddressSpaces.{SpacesView}
+use Rattle.nm_engine.specs.views.AddressSpaces.{SpacesView}
 use Rattle.nm_engine.proofs.Tied.Counted.{users_counted}
 use Rattle.nm_engine.proofs.Tied.Moved.{placed_in}
 use Rattle.nm_engine.proofs.address_spaces.AddressSpaces.users_in.Goals as goal

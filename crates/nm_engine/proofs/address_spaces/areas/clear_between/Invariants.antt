@@ -1,6 +1,6 @@
 use Rattle.std.proofs.Common.{◌≡◌, ◌≤◌, ◌+◌, ◌-◌}
-use Rattle.nm_engine.specs.ProcessTable.{cleared}
-use Rattle.nm_engine.specs.Tied.{IsCleared}
+use Rattle.nm_engine.specs.views.ProcessTable.{cleared}
+use Rattle.nm_engine.specs.definitions.Tied.{IsCleared}
 use Rattle.nm_engine.proofs.address_spaces.areas.clear_between.Given as goal
 
 abbrev pub invariant-loop-vpn : goal.invariant-loop-vpn

@@ -2,8 +2,8 @@ use Rattle.std.proofs.Common.{ap, sym, subst, ◌∙◌, refl, eq-eqb}
 use Rattle.std.specs.Prelude.{Option, Some}
 use Rattle.nm_types.specs.declared.entry.Entry.{Entry}
 use Rattle.nm_model.specs.definitions.PageTables.{entry_at}
-use Rattle.nm_engine.specs.ProcessTable.{names}
-use Rattle.nm_engine.specs.Tied.{IsWithout}
+use Rattle.nm_engine.specs.views.ProcessTable.{names}
+use Rattle.nm_engine.specs.definitions.Tied.{IsWithout}
 use Rattle.nm_engine.proofs.Tied.Cleared.{less_zero, less_frame, less_held}
 use Rattle.nm_engine.proofs.Tied.Unseen.{without_none}
 use Rattle.nm_engine.proofs.address_spaces.back.drop_mapper.Goals as goal

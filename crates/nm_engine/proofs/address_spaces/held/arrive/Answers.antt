@@ -7,9 +7,9 @@ use Rattle.nm_types.specs.declared.taken.Taken.{Taken}
 use Rattle.nm_model.specs.definitions.Events.{arrived, with_entries}
 use Rattle.nm_model.specs.definitions.PageTables.{Task, entry_at}
 use Rattle.nm_rmap.specs.Mappers.{mappers_of}
-use Rattle.nm_engine.specs.Held.{is_taken}
-use Rattle.nm_engine.specs.ProcessTable.{IsThere, all_replaced, names}
-use Rattle.nm_engine.specs.Tied.{AreInOrder, has_spot}
+use Rattle.nm_engine.specs.views.Held.{is_taken}
+use Rattle.nm_engine.specs.views.ProcessTable.{IsThere, all_replaced, names}
+use Rattle.nm_engine.specs.definitions.Tied.{AreInOrder, has_spot}
 use Rattle.nm_engine.proofs.Tied.Held.{all_arrived, arrive_fewer, arrive_same, named_there, order_before, still_taken}
 use Rattle.nm_engine.proofs.Together.Paces.{drop_item}
 use Rattle.nm_engine.proofs.address_spaces.held.arrive.Given.{Over}

@@ -3,7 +3,7 @@ use Rattle.std.specs.Prelude.{Some}
 use Rattle.nm_types.specs.declared.entry.Entry.TheVariants.{Held}
 use Rattle.nm_model.specs.definitions.Events.{arrived, with_entries}
 use Rattle.nm_model.specs.definitions.PageTables.{entry_at}
-use Rattle.nm_engine.specs.Held.{is_taken}
+use Rattle.nm_engine.specs.views.Held.{is_taken}
 use Rattle.nm_engine.proofs.address_spaces.held.arrive.Given as goal
 
 -- those that are still held are on their way to the frames of moves that are left

@@ -1,6 +1,6 @@
 use Rattle.std.proofs.Common.{ap, subst, sym, ◌∙◌}
 use Rattle.std.specs.List.{AllByRecursion}
-use Rattle.nm_engine.specs.ProcessTable.{IsThere, all_replaced}
+use Rattle.nm_engine.specs.views.ProcessTable.{IsThere, all_replaced}
 use Rattle.nm_engine.proofs.Tied.Remapped.{all_there_stay}
 use Rattle.nm_engine.proofs.address_spaces.held.replace_each.Goals as goal
 

@@ -1,6 +1,6 @@
 use Rattle.std.proofs.Common.{◌≡◌}
 use Rattle.std.specs.List.{AllByRecursion}
-use Rattle.nm_engine.specs.ProcessTable.{IsThere, all_replaced}
+use Rattle.nm_engine.specs.views.ProcessTable.{IsThere, all_replaced}
 use Rattle.nm_engine.proofs.address_spaces.held.replace_each.Given as goal
 
 -- what is done and what is left are all

@@ -2,11 +2,11 @@ use Rattle.std.proofs.Common.{◌≤◌, arith, length, map, ap, sym, subst, ◌
 use Rattle.std.specs.Prelude.{min, vec_capacity}
 use Rattle.std.specs.List.{AllByRecursion}
 use Rattle.nm_model.specs.definitions.Frames.{Store, IsHome}
-use Rattle.nm_engine.specs.Answering.{due_shown}
+use Rattle.nm_engine.specs.views.Accesses.{pending_shown}
 use Rattle.nm_frames.specs.Populated.{IsPopulated}
-use Rattle.nm_engine.specs.Copies.{CanCopy, HasBoth, with_copies, emptied}
-use Rattle.nm_engine.specs.Finishing.{all_done, CanDo}
-use Rattle.nm_engine.specs.Frames.{FramesView}
+use Rattle.nm_engine.specs.views.Copies.{CanCopy, HasBoth, with_copies, emptied}
+use Rattle.nm_engine.specs.definitions.AfterCopy.{all_stored_after_copy, CanDo}
+use Rattle.nm_engine.specs.views.Frames.{FramesView}
 use Rattle.nm_engine.proofs.Together.Copies.{copies_as_many, copies_home}
 use Rattle.nm_engine.proofs.Early.Finished.{done_as_many, done_home}
 use Rattle.nm_engine.proofs.Together.Populated.{after_populated}
@@ -17,7 +17,7 @@ invariant_of-self g c =
     let is = c.copy_pages-jobs.ensures.frames in
     let k = c.self.inside in
     let moves = c.args.moves.now in
-    let dues = map (due_shown c.args.accesses.now) c.args.dues.items in
+    let dues = map (pending_shown c.args.accesses.now) c.args.dues.items in
     let place = c.args.held.now.spaces.place in
     let copied = with_copies k.frames moves in (
       c.self.invariant.0,
@@ -42,22 +42,22 @@ copy_pages-jobs-requires-clause-can g c κs within = subst (λ (k : FramesView).
 
 pub copy_pages-jobs-requires-clause-due : goal.copy_pages-jobs-requires-clause-due
 copy_pages-jobs-requires-clause-due g c κs within =
-    subst (λ (k : FramesView). AllByRecursion (CanDo c.args.held.now.spaces.place (emptied k.frames c.args.moves.now)) (map (due_shown c.args.accesses.now) c.args.dues.items)) (sym c.self.view_is) c.requires.due
+    subst (λ (k : FramesView). AllByRecursion (CanDo c.args.held.now.spaces.place (emptied k.frames c.args.moves.now)) (map (pending_shown c.args.accesses.now) c.args.dues.items)) (sym c.self.view_is) c.requires.due
 
 pub returns-clause-frames : goal.returns-clause-frames
 returns-clause-frames g c =
     let k = c.self.inside in
     let moves = c.args.moves.now in
-    let dues = map (due_shown c.args.accesses.now) c.args.dues.items in
+    let dues = map (pending_shown c.args.accesses.now) c.args.dues.items in
     let place = c.args.held.now.spaces.place in
     let room = min (vec_capacity k.vacated) (vec_capacity c.copy_pages-jobs.result.0) in
     let fields : Store → FramesView = λ s. record { layout = k.geometry; frames = s; free = k.nodes.lists; vacated = k.vacated.items; room = room } in
-    ap fields c.copy_pages-jobs.ensures.frames ∙ ap (λ (v : FramesView). record v { frames = (all_done place (with_copies v.frames moves) dues).store; room = room }) c.self.view_is
+    ap fields c.copy_pages-jobs.ensures.frames ∙ ap (λ (v : FramesView). record v { frames = (all_stored_after_copy place (with_copies v.frames moves) dues).store; room = room }) c.self.view_is
 
 pub returns-clause-answers : goal.returns-clause-answers
 returns-clause-answers g c =
-    let dues = map (due_shown c.args.accesses.now) c.args.dues.items in
-    c.copy_pages-jobs.ensures.answers ∙ ap (λ (v : FramesView). (all_done c.args.held.now.spaces.place (with_copies v.frames c.args.moves.now) dues).answers) c.self.view_is
+    let dues = map (pending_shown c.args.accesses.now) c.args.dues.items in
+    c.copy_pages-jobs.ensures.answers ∙ ap (λ (v : FramesView). (all_stored_after_copy c.args.held.now.spaces.place (with_copies v.frames c.args.moves.now) dues).answers) c.self.view_is
 
 pub copy_pages-jobs-requires-clause-few : goal.copy_pages-jobs-requires-clause-few
 copy_pages-jobs-requires-clause-few g c κs within =

@@ -2,7 +2,7 @@ use Rattle.std.proofs.Common.{length, ap, ◌∙◌, arith}
 use Rattle.std.proofs.lemmas.List.{take_all}
 use Rattle.std.proofs.lemmas.Result.{IfOk-weaker, on_err_weaker}
 use Rattle.nm_model.specs.definitions.Frames.{list_of}
-use Rattle.nm_engine.specs.Frames.{FramesView, free_on}
+use Rattle.nm_engine.specs.views.Frames.{FramesView, free_on}
 use Rattle.nm_engine.proofs.Together.Shelves.{seen_node}
 use Rattle.nm_engine.proofs.frames.Frames.free_list.Goals as goal
 

@@ -2,7 +2,7 @@ use Rattle.std.proofs.Common.{◌≡◌, ℕ, List, [], min, length, vec_capacit
 use Rattle.std.specs.List.{AllByRecursion}
 use Rattle.nm_frames.specs.Populated.{IsPopulated}
 use Rattle.nm_model.specs.definitions.Frames.{Pool}
-use Rattle.nm_engine.specs.Frames.{FramesView, CanFree, pool_of, with_freed, all_freed}
+use Rattle.nm_engine.specs.views.Frames.{FramesView, CanFree, pool_of, with_freed, all_freed}
 use Rattle.nm_engine.proofs.Together.Free.{lists_stay, sizes_stay}
 use Rattle.nm_engine.proofs.frames.Frames.free_vacated.Goals as goal
 

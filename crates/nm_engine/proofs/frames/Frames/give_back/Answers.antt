@@ -2,15 +2,15 @@ use Rattle.std.proofs.Common.{ℕ, List, ap, sym, subst, ◌∙◌}
 use Rattle.std.specs.List.{AllByRecursion}
 use Rattle.nm_frames.specs.Populated.{IsPopulated}
 use Rattle.nm_model.specs.definitions.Frames.{Pool}
-use Rattle.nm_model.specs.definitions.Early.{tos}
-use Rattle.nm_engine.specs.Frames.{FramesView, HasAllFrames, CanReturn, pool_of}
+use Rattle.nm_model.specs.definitions.BeforeCopy.{frames_taken}
+use Rattle.nm_engine.specs.views.Frames.{FramesView, HasAllFrames, CanReturn, pool_of}
 use Rattle.nm_engine.proofs.Together.Shelves.{seen_node, list_set}
 use Rattle.nm_engine.proofs.frames.Frames.give_back.Goals as goal
 
 pub return_tos-requires-clause-can : goal.return_tos-requires-clause-can
 return_tos-requires-clause-can g c =
-    let back = subst (λ (k : FramesView). CanReturn (pool_of k) c.args.node (tos c.args.moves.now)) (sym c.self.view_is) c.requires.can in
-    subst (λ (sizes : List ℕ). CanReturn (record { sizes = sizes; lists = c.self.inside.nodes.lists }) c.args.node (tos c.args.moves.now)) (sym c.self.invariant.0) back
+    let back = subst (λ (k : FramesView). CanReturn (pool_of k) c.args.node (frames_taken c.args.moves.now)) (sym c.self.view_is) c.requires.can in
+    subst (λ (sizes : List ℕ). CanReturn (record { sizes = sizes; lists = c.self.inside.nodes.lists }) c.args.node (frames_taken c.args.moves.now)) (sym c.self.invariant.0) back
 
 pub return_tos-requires-clause-node : goal.return_tos-requires-clause-node
 return_tos-requires-clause-node g c = seen_node _ c.args.self.now c.args.node c.self.view_is c.self.invariant.1 c.requires.node

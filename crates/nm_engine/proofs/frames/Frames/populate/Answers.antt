@@ -1,5 +1,5 @@
 use Rattle.std.proofs.Common.{subst, ap}
-use Rattle.nm_engine.specs.Frames.{FramesView, KeepsBytes}
+use Rattle.nm_engine.specs.views.Frames.{FramesView, KeepsBytes}
 use Rattle.nm_engine.proofs.Together.Shelves.{seen_below, every_home, store_kept}
 use Rattle.nm_engine.proofs.Together.Populated.{keeps_all}
 use Rattle.nm_engine.proofs.frames.Frames.populate.Goals as goal

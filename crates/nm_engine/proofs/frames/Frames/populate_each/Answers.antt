@@ -1,12 +1,12 @@
 use Rattle.std.proofs.Common.{subst, ap}
-use Rattle.nm_model.specs.definitions.Early.{tos}
-use Rattle.nm_engine.specs.Frames.{FramesView, KeepsBytes}
+use Rattle.nm_model.specs.definitions.BeforeCopy.{frames_taken}
+use Rattle.nm_engine.specs.views.Frames.{FramesView, KeepsBytes}
 use Rattle.nm_engine.proofs.Together.Shelves.{all_below, every_home, store_kept}
 use Rattle.nm_engine.proofs.Together.Populated.{keeps_all}
 use Rattle.nm_engine.proofs.frames.Frames.populate_each.Goals as goal
 
 pub populate_each-requires-clause-frames : goal.populate_each-requires-clause-frames
-populate_each-requires-clause-frames g c = all_below (tos c.args.moves.now) _ c.args.self.now c.self.view_is c.self.invariant.1 c.requires
+populate_each-requires-clause-frames g c = all_below (frames_taken c.args.moves.now) _ c.args.self.now c.self.view_is c.self.invariant.1 c.requires
 
 pub populate_each-requires-clause-home : goal.populate_each-requires-clause-home
 populate_each-requires-clause-home g c = every_home _ c.self.invariant.1

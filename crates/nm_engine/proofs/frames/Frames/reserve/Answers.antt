@@ -2,7 +2,7 @@ use Rattle.std.proofs.Common.{ℕ, List, min, ap, sym, subst, ◌∙◌, arith, 
 use Rattle.std.specs.List.{AllByRecursion}
 use Rattle.nm_frames.specs.Populated.{IsPopulated}
 use Rattle.std.proofs.lemmas.Result.{on_ok_weaker}
-use Rattle.nm_engine.specs.Frames.{FramesView}
+use Rattle.nm_engine.specs.views.Frames.{FramesView}
 use Rattle.nm_engine.proofs.frames.Frames.reserve.Goals as goal
 
 pub invariant_of-self : goal.invariant_of-self

@@ -1,6 +1,6 @@
 use Rattle.std.proofs.Common.{ap, subst, ◌∙◌}
 use Rattle.nm_model.specs.definitions.Frames.{Pool}
-use Rattle.nm_engine.specs.Frames.{HasAllFrames}
+use Rattle.nm_engine.specs.views.Frames.{HasAllFrames}
 use Rattle.nm_engine.proofs.Together.Shelves.{seen_node, list_set}
 use Rattle.nm_engine.proofs.frames.Frames.take_front.Goals as goal
 

@@ -1,7 +1,7 @@
 use Rattle.std.proofs.Common.{ℕ, List, ◌≤◌, ◌++◌, min, length, vec_capacity, ap, sym, subst, ◌∙◌, arith}
 use Rattle.std.specs.List.{AllByRecursion}
 use Rattle.nm_frames.specs.Populated.{IsPopulated}
-use Rattle.nm_engine.specs.Frames.{FramesView, HasAllFrames}
+use Rattle.nm_engine.specs.views.Frames.{FramesView, HasAllFrames}
 use Rattle.nm_model.specs.definitions.Run.{left}
 use Rattle.nm_engine.proofs.frames.Frames.vacate_each.Goals as goal
 

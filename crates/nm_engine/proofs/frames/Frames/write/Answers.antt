@@ -3,7 +3,7 @@ use Rattle.std.specs.List.{AllByRecursion}
 use Rattle.nm_frames.specs.Populated.{IsPopulated}
 use Rattle.std.specs.Prelude.{Some, slice_set}
 use Rattle.nm_model.specs.definitions.Frames.{Store, bytes_of, overwrite}
-use Rattle.nm_engine.specs.Frames.{FramesView, HasAllFrames}
+use Rattle.nm_engine.specs.views.Frames.{FramesView, HasAllFrames}
 use Rattle.nm_engine.proofs.Together.Shelves.{seen_home, bytes_set, frames_changed}
 use Rattle.nm_engine.proofs.Together.Populated.{all_written}
 use Rattle.nm_engine.proofs.frames.Frames.write.Goals as goal

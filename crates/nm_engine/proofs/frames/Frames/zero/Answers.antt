@@ -3,7 +3,7 @@ use Rattle.std.specs.Prelude.{Some, replicate, slice_set}
 use Rattle.std.specs.List.{AllByRecursion}
 use Rattle.std.proofs.lemmas.List.{length-replicate}
 use Rattle.nm_frames.specs.Populated.{IsPopulated}
-use Rattle.nm_engine.specs.Frames.{FramesView}
+use Rattle.nm_engine.specs.views.Frames.{FramesView}
 use Rattle.nm_engine.proofs.Together.Populated.{all_set}
 use Rattle.nm_model.specs.definitions.Frames.{Store}
 use Rattle.nm_engine.proofs.Together.Shelves.{seen_home, bytes_set, frames_changed}

@@ -1,6 +1,6 @@
 use Rattle.std.proofs.Common.{ap, sym, subst, ◌∙◌}
 use Rattle.nm_model.specs.definitions.Frames.{Store, IsOut}
-use Rattle.nm_engine.specs.Copies.{CanRefill, refilled, with_buf}
+use Rattle.nm_engine.specs.views.Copies.{CanRefill, refilled, with_buf}
 use Rattle.nm_engine.proofs.Together.Copies.{refilled_last, can_last}
 use Rattle.nm_engine.proofs.frames.copying.put_back_each.Goals as goal
 

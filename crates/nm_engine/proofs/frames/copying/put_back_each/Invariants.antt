@@ -1,6 +1,6 @@
 use Rattle.std.proofs.Common.{◌≡◌}
 use Rattle.std.specs.Prelude.{vec_len}
-use Rattle.nm_engine.specs.Copies.{CanRefill, refilled}
+use Rattle.nm_engine.specs.views.Copies.{CanRefill, refilled}
 use Rattle.nm_engine.proofs.frames.copying.put_back_each.Given as goal
 
 abbrev pub invariant-loop-job : goal.invariant-loop-job

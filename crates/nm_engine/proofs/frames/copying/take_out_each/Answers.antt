@@ -8,7 +8,7 @@ use Rattle.nm_frames.specs.declared.job.CopyJob.{CopyJob}
 use Rattle.nm_frames.specs.Populated.{IsPopulated}
 use Rattle.nm_model.specs.definitions.Frames.{Store, IsHome, bytes_of}
 use Rattle.nm_types.specs.declared.taken.Taken.{Taken}
-use Rattle.nm_engine.specs.Copies.{without_both, CanCopy, HasBoth, emptied, jobs_of}
+use Rattle.nm_engine.specs.views.Copies.{without_both, CanCopy, HasBoth, emptied, jobs_of}
 use Rattle.nm_engine.proofs.Together.Copies.{both_without}
 use Rattle.nm_engine.proofs.Together.Paces.{drop_item}
 use Rattle.nm_engine.proofs.frames.copying.take_out_each.Goals as goal

@@ -1,7 +1,7 @@
 use Rattle.std.proofs.Common.{◌≡◌, ◌≤◌, ◌+◌, ◌++◌, length, drop}
 use Rattle.std.specs.Prelude.{vec_len, vec_capacity}
 use Rattle.std.specs.List.{AllByRecursion}
-use Rattle.nm_engine.specs.Copies.{CanCopy, HasBoth, emptied, jobs_of}
+use Rattle.nm_engine.specs.views.Copies.{CanCopy, HasBoth, emptied, jobs_of}
 use Rattle.nm_engine.proofs.frames.copying.take_out_each.Given as goal
 
 abbrev pub invariant-loop-taken : goal.invariant-loop-taken

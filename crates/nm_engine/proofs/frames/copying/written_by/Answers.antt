@@ -1,6 +1,6 @@
 use Rattle.std.proofs.Common.{Some, length, refl, ap, sym, ◌∙◌}
 use Rattle.std.proofs.lemmas.Option.{slice_get_read}
-use Rattle.nm_engine.specs.Answering.{written_by}
+use Rattle.nm_engine.specs.views.Accesses.{written_by}
 use Rattle.nm_engine.proofs.frames.copying.written_by.Goals as goal
 
 pub returns-in-Some-Write : goal.returns-in-Some-Write

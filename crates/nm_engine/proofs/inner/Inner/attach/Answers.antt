@@ -1,8 +1,8 @@
 use Rattle.std.proofs.Common.{rules, ◌≡◌, [], ap, ◌∙◌}
 use Rattle.std.specs.Prelude.{None}
 use Rattle.nm_model.specs.definitions.Effect.{attach_refusal}
-use Rattle.nm_engine.specs.Shown.{shown_by}
-use Rattle.nm_engine.specs.MidRun.{MidRun}
+use Rattle.nm_engine.specs.views.Shown.{shown_by}
+use Rattle.nm_engine.specs.views.MidRun.{MidRun}
 use Rattle.nm_engine.proofs.Together.Remade.{nothing_made, kept_same, kept_attached}
 use Rattle.nm_engine.proofs.inner.Inner.attach.Goals as goal
 

@@ -1,8 +1,8 @@
 use Rattle.std.proofs.Common.{◌≡◌, [], ap, subst, ◌∙◌}
 use Rattle.std.proofs.lemmas.Result.{IfOk-from_err}
-use Rattle.nm_engine.specs.MidRun.{MidRun}
+use Rattle.nm_engine.specs.views.MidRun.{MidRun}
 use Rattle.nm_model.specs.definitions.Sound.{audited, is_audited, numbered}
-use Rattle.nm_engine.specs.Shown.{shown_by}
+use Rattle.nm_engine.specs.views.Shown.{shown_by}
 use Rattle.nm_model.specs.definitions.Sound.{IsSoundMidRun}
 use Rattle.nm_laws.proofs.Soundness.Sounded.{sound_is_audited}
 use Rattle.nm_engine.proofs.inner.Inner.audit.Goals as goal

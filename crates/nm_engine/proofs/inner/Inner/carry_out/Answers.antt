@@ -4,19 +4,19 @@ use Rattle.std.specs.Ordering.{nat_cmp}
 use Rattle.nm_types.specs.Map.{get}
 use Rattle.nm_types.specs.declared.taken.Taken.{Taken}
 use Rattle.nm_model.specs.definitions.Seen.{sight_in}
-use Rattle.nm_engine.specs.AddressSpaces.{SpacesView}
-use Rattle.nm_engine.specs.Moves.{CanRemap, all_moved}
+use Rattle.nm_engine.specs.views.AddressSpaces.{SpacesView}
+use Rattle.nm_engine.specs.definitions.Moves.{CanRemap, all_moved}
 use Rattle.nm_engine.proofs.Together.Copies.{copies_apart}
 use Rattle.nm_engine.proofs.Tied.Held.{held_is_taken, frames_stay, takes_below}
 use Rattle.nm_engine.proofs.Tied.Unreached.{names_another}
-use Rattle.nm_engine.specs.Answering.{due_shown}
-use Rattle.nm_engine.specs.Copies.{CanCopy, HasBoth, emptied, with_copies}
-use Rattle.nm_model.specs.definitions.Early.{all_made, with_fronts, tos}
-use Rattle.nm_engine.specs.Finishing.{all_done, CanDo}
-use Rattle.nm_engine.specs.Frames.{FramesView}
+use Rattle.nm_engine.specs.views.Accesses.{pending_shown}
+use Rattle.nm_engine.specs.views.Copies.{CanCopy, HasBoth, emptied, with_copies}
+use Rattle.nm_model.specs.definitions.BeforeCopy.{all_after_copy, with_fronts, frames_taken}
+use Rattle.nm_engine.specs.definitions.AfterCopy.{all_stored_after_copy, CanDo}
+use Rattle.nm_engine.specs.views.Frames.{FramesView}
 use Rattle.nm_laws.specs.Laws.{with_moves}
-use Rattle.nm_engine.specs.MidRun.{MidRun, IsKept}
-use Rattle.nm_engine.specs.Shown.{shown_by}
+use Rattle.nm_engine.specs.views.MidRun.{MidRun, IsKept}
+use Rattle.nm_engine.specs.views.Shown.{shown_by}
 use Rattle.nm_engine.proofs.Early.Carrying.{spaces_then, copied_frames, prepared, lefts_populated, both_whole, remap, can_copy, can_meanwhile, finished_shows, finished_told, finished_kept}
 use Rattle.nm_engine.proofs.inner.Inner.carry_out.Goals as goal
 
@@ -31,7 +31,7 @@ hold-held-requires-clause-moves g c =
     let k : FramesView = i.frames in
     let moves = c.args.moves.now in
     let t = c.args.target in
-    let dues = map (due_shown c.args.accesses.now) c.args.dues.items in
+    let dues = map (pending_shown c.args.accesses.now) c.args.dues.items in
     let h = prepared y k i.online i.totals.moved i.totals.failed t moves dues c.args.self.now c.self.view_is c.self.invariant c.vacate_each.ensures.shelf
     c.requires.target c.requires.taken c.requires.sound c.requires.moves c.requires.due c.vacate_each.ensures.populated in
     subst (λ (z : SpacesView). CanRemap z moves) (sym c.replace-spaces.ensures.value) (remap y k i.online i.totals.moved i.totals.failed t moves dues h)
@@ -43,7 +43,7 @@ hold-held-requires-clause-apart g c =
     let k : FramesView = i.frames in
     let moves = c.args.moves.now in
     let t = c.args.target in
-    let dues = map (due_shown c.args.accesses.now) c.args.dues.items in
+    let dues = map (pending_shown c.args.accesses.now) c.args.dues.items in
     let h = prepared y k i.online i.totals.moved i.totals.failed t moves dues c.args.self.now c.self.view_is c.self.invariant c.vacate_each.ensures.shelf
     c.requires.target c.requires.taken c.requires.sound c.requires.moves c.requires.due c.vacate_each.ensures.populated in
     copies_apart moves k.frames (can_copy y k i.online i.totals.moved i.totals.failed t moves dues h)
@@ -55,7 +55,7 @@ copy_pages-answers-requires-clause-can g c κs within =
     let k : FramesView = i.frames in
     let moves = c.args.moves.now in
     let t = c.args.target in
-    let dues = map (due_shown c.args.accesses.now) c.args.dues.items in
+    let dues = map (pending_shown c.args.accesses.now) c.args.dues.items in
     let h = prepared y k i.online i.totals.moved i.totals.failed t moves dues c.args.self.now c.self.view_is c.self.invariant c.vacate_each.ensures.shelf
     c.requires.target c.requires.taken c.requires.sound c.requires.moves c.requires.due c.vacate_each.ensures.populated in
     subst (λ (v : FramesView). CanCopy v.frames moves) (sym c.vacate_each.ensures.vacated) (can_copy y k i.online i.totals.moved i.totals.failed t moves dues h)
@@ -67,7 +67,7 @@ copy_pages-answers-requires-clause-populated g c κs within =
     let k : FramesView = i.frames in
     let moves = c.args.moves.now in
     let t = c.args.target in
-    let dues = map (due_shown c.args.accesses.now) c.args.dues.items in
+    let dues = map (pending_shown c.args.accesses.now) c.args.dues.items in
     let h = prepared y k i.online i.totals.moved i.totals.failed t moves dues c.args.self.now c.self.view_is c.self.invariant c.vacate_each.ensures.shelf
     c.requires.target c.requires.taken c.requires.sound c.requires.moves c.requires.due c.vacate_each.ensures.populated in
     subst (λ (v : FramesView). AllByRecursion (HasBoth v.frames) moves) (sym c.vacate_each.ensures.vacated) (both_whole y k i.online i.totals.moved i.totals.failed t moves dues h)
@@ -79,7 +79,7 @@ copy_pages-answers-requires-clause-held g c κs within f pid v named =
     let k : FramesView = i.frames in
     let moves = c.args.moves.now in
     let t = c.args.target in
-    let dues = map (due_shown c.args.accesses.now) c.args.dues.items in
+    let dues = map (pending_shown c.args.accesses.now) c.args.dues.items in
     let h = prepared y k i.online i.totals.moved i.totals.failed t moves dues c.args.self.now c.self.view_is c.self.invariant c.vacate_each.ensures.shelf
     c.requires.target c.requires.taken c.requires.sound c.requires.moves c.requires.due c.vacate_each.ensures.populated in
     let z = c.replace-spaces.result in
@@ -90,7 +90,7 @@ copy_pages-answers-requires-clause-held g c κs within f pid v named =
 pub vacate_each-requires-clause-populated : goal.vacate_each-requires-clause-populated
 vacate_each-requires-clause-populated g c =
     let i = c.self.inside in
-    let dues = map (due_shown c.args.accesses.now) c.args.dues.items in
+    let dues = map (pending_shown c.args.accesses.now) c.args.dues.items in
     lefts_populated i.spaces i.frames i.online i.totals.moved i.totals.failed c.args.target c.args.moves.now dues c.args.self.now c.self.view_is c.requires.sound c.requires.moves
 
 pub copy_pages-answers-requires-clause-due : goal.copy_pages-answers-requires-clause-due
@@ -100,7 +100,7 @@ copy_pages-answers-requires-clause-due g c κs within =
     let k : FramesView = i.frames in
     let moves = c.args.moves.now in
     let t = c.args.target in
-    let dues = map (due_shown c.args.accesses.now) c.args.dues.items in
+    let dues = map (pending_shown c.args.accesses.now) c.args.dues.items in
     let h = prepared y k i.online i.totals.moved i.totals.failed t moves dues c.args.self.now c.self.view_is c.self.invariant c.vacate_each.ensures.shelf
     c.requires.target c.requires.taken c.requires.sound c.requires.moves c.requires.due c.vacate_each.ensures.populated in
     subst (λ (z : SpacesView). AllByRecursion (CanDo z.place (emptied c.vacate_each.new.self.frames moves)) dues) (sym (on_way c.hold-held.result.spaces c.replace-spaces.result y moves c.hold-held.ensures.spaces c.replace-spaces.ensures.value))
@@ -113,7 +113,7 @@ settle-requires-clause-below g c =
     let k : FramesView = i.frames in
     let moves = c.args.moves.now in
     let t = c.args.target in
-    let dues = map (due_shown c.args.accesses.now) c.args.dues.items in
+    let dues = map (pending_shown c.args.accesses.now) c.args.dues.items in
     let h = prepared y k i.online i.totals.moved i.totals.failed t moves dues c.args.self.now c.self.view_is c.self.invariant c.vacate_each.ensures.shelf
     c.requires.target c.requires.taken c.requires.sound c.requires.moves c.requires.due c.vacate_each.ensures.populated in
     subst (λ n. AllByRecursion (λ (t : Taken). t.to < n) moves) (sym (ap (λ (z : SpacesView). z.frames) (on_way c.hold-held.result.spaces c.replace-spaces.result y moves c.hold-held.ensures.spaces c.replace-spaces.ensures.value) ∙ frames_stay moves y))
@@ -131,7 +131,7 @@ invariant_of-self g c =
     let k : FramesView = i.frames in
     let moves = c.args.moves.now in
     let t = c.args.target in
-    let dues = map (due_shown c.args.accesses.now) c.args.dues.items in
+    let dues = map (pending_shown c.args.accesses.now) c.args.dues.items in
     let h = prepared y k i.online i.totals.moved i.totals.failed t moves dues c.args.self.now c.self.view_is c.self.invariant c.vacate_each.ensures.shelf
     c.requires.target c.requires.taken c.requires.sound c.requires.moves c.requires.due c.vacate_each.ensures.populated in
     let w = c.copy_pages-answers.new.self in
@@ -145,13 +145,13 @@ returns-clause-state g c =
     let k : FramesView = i.frames in
     let moves = c.args.moves.now in
     let t = c.args.target in
-    let dues = map (due_shown c.args.accesses.now) c.args.dues.items in
+    let dues = map (pending_shown c.args.accesses.now) c.args.dues.items in
     let h = prepared y k i.online i.totals.moved i.totals.failed t moves dues c.args.self.now c.self.view_is c.self.invariant c.vacate_each.ensures.shelf
     c.requires.target c.requires.taken c.requires.sound c.requires.moves c.requires.due c.vacate_each.ensures.populated in
     let w = c.copy_pages-answers.new.self in
     let is = copied_frames y k i.online i.totals.moved i.totals.failed t moves dues c.vacate_each.new.self w c.hold-held.result.spaces c.vacate_each.ensures.vacated (on_way c.hold-held.result.spaces c.replace-spaces.result y moves c.hold-held.ensures.spaces c.replace-spaces.ensures.value) c.copy_pages-answers.ensures.frames in
     ap (λ (z : SpacesView). shown_by z w i.online i.totals.moved i.totals.failed) (c.settle.ensures ∙ on_way c.hold-held.result.spaces c.replace-spaces.result y moves c.hold-held.ensures.spaces c.replace-spaces.ensures.value) ∙ finished_shows y k i.online i.totals.moved i.totals.failed t moves dues h w is
-    ∙ ap (λ (x : MidRun). (all_made (with_moves (with_fronts (x.state) t (tos moves)) t moves) dues).state) c.self.view_is
+    ∙ ap (λ (x : MidRun). (all_after_copy (with_moves (with_fronts (x.state) t (frames_taken moves)) t moves) dues).state) c.self.view_is
 
 pub returns-clause-answers : goal.returns-clause-answers
 returns-clause-answers g c =
@@ -160,11 +160,11 @@ returns-clause-answers g c =
     let k : FramesView = i.frames in
     let moves = c.args.moves.now in
     let t = c.args.target in
-    let dues = map (due_shown c.args.accesses.now) c.args.dues.items in
+    let dues = map (pending_shown c.args.accesses.now) c.args.dues.items in
     let h = prepared y k i.online i.totals.moved i.totals.failed t moves dues c.args.self.now c.self.view_is c.self.invariant c.vacate_each.ensures.shelf
     c.requires.target c.requires.taken c.requires.sound c.requires.moves c.requires.due c.vacate_each.ensures.populated in
     c.copy_pages-answers.ensures.answers
-    ∙ ap (λ (v : FramesView). (all_done c.hold-held.result.spaces.place (with_copies v.frames moves) dues).answers) c.vacate_each.ensures.vacated
-    ∙ ap (λ (z : SpacesView). (all_done z.place (with_copies k.frames moves) dues).answers) (on_way c.hold-held.result.spaces c.replace-spaces.result y moves c.hold-held.ensures.spaces c.replace-spaces.ensures.value)
+    ∙ ap (λ (v : FramesView). (all_stored_after_copy c.hold-held.result.spaces.place (with_copies v.frames moves) dues).answers) c.vacate_each.ensures.vacated
+    ∙ ap (λ (z : SpacesView). (all_stored_after_copy z.place (with_copies k.frames moves) dues).answers) (on_way c.hold-held.result.spaces c.replace-spaces.result y moves c.hold-held.ensures.spaces c.replace-spaces.ensures.value)
     ∙ finished_told y k i.online i.totals.moved i.totals.failed t moves dues h
-    ∙ ap (λ (x : MidRun). (all_made (with_moves (with_fronts (x.state) t (tos moves)) t moves) dues).answers) c.self.view_is
+    ∙ ap (λ (x : MidRun). (all_after_copy (with_moves (with_fronts (x.state) t (frames_taken moves)) t moves) dues).answers) c.self.view_is

@@ -1,9 +1,9 @@
 use Rattle.std.proofs.Common.{length, ap, ◌∙◌, rules}
-use Rattle.nm_model.specs.definitions.Run.{with_all_free, counted, failures, added}
-use Rattle.nm_engine.specs.MidRun.{MidRun}
-use Rattle.nm_engine.specs.AddressSpaces.{table_of}
-use Rattle.nm_engine.specs.Frames.{FramesView}
-use Rattle.nm_engine.specs.Shown.{paged_frames}
+use Rattle.nm_model.specs.definitions.Run.{with_all_free, with_counts, failures, total_after}
+use Rattle.nm_engine.specs.views.MidRun.{MidRun}
+use Rattle.nm_engine.specs.views.AddressSpaces.{table_of}
+use Rattle.nm_engine.specs.views.Frames.{FramesView}
+use Rattle.nm_engine.specs.views.Shown.{paged_frames}
 use Rattle.nm_engine.proofs.Together.Paces.{end_shows, end_kept}
 use Rattle.nm_engine.proofs.Together.Free.{can_free}
 use Rattle.nm_engine.proofs.inner.Inner.end_run.Goals as goal
@@ -17,8 +17,8 @@ invariant_of-self g c =
     let k : FramesView = c.self.inside.frames in
     end_kept y.processes (table_of y) (paged_frames y k) c.self.inside.online c.self.inside.totals.moved c.self.inside.totals.failed
     (paged_frames y c.free_vacated.new.self) (length k.vacated) (failures c.args.statuses.now) _ _ (ap (paged_frames y) c.free_vacated.ensures)
-    (c.saturating_add.ensures ∙ ap (λ n. added c.self.inside.totals.moved n) c.vacated_count-moved.ensures)
-    (c.saturating_add-2.ensures ∙ ap (λ n. added c.self.inside.totals.failed n) c.failures-failed.ensures)
+    (c.saturating_add.ensures ∙ ap (λ n. total_after c.self.inside.totals.moved n) c.vacated_count-moved.ensures)
+    (c.saturating_add-2.ensures ∙ ap (λ n. total_after c.self.inside.totals.failed n) c.failures-failed.ensures)
     c.self.invariant
 
 pub returns-clause-state : goal.returns-clause-state
@@ -27,9 +27,9 @@ returns-clause-state g c =
     let k : FramesView = c.self.inside.frames in
     end_shows y.processes (table_of y) (paged_frames y k) c.self.inside.online c.self.inside.totals.moved c.self.inside.totals.failed
     (paged_frames y c.free_vacated.new.self) (length k.vacated) (failures c.args.statuses.now) _ _ (ap (paged_frames y) c.free_vacated.ensures)
-    (c.saturating_add.ensures ∙ ap (λ n. added c.self.inside.totals.moved n) c.vacated_count-moved.ensures)
-    (c.saturating_add-2.ensures ∙ ap (λ n. added c.self.inside.totals.failed n) c.failures-failed.ensures)
-    ∙ ap (λ (x : MidRun). counted (with_all_free x.state x.left) (length x.left) (failures c.args.statuses.now)) c.self.view_is
+    (c.saturating_add.ensures ∙ ap (λ n. total_after c.self.inside.totals.moved n) c.vacated_count-moved.ensures)
+    (c.saturating_add-2.ensures ∙ ap (λ n. total_after c.self.inside.totals.failed n) c.failures-failed.ensures)
+    ∙ ap (λ (x : MidRun). with_counts (with_all_free x.state x.left) (length x.left) (failures c.args.statuses.now)) c.self.view_is
 
 pub returns-clause-left : goal.returns-clause-left
 returns-clause-left g c = search rules

@@ -5,9 +5,9 @@ use Rattle.nm_types.specs.State.{State}
 use Rattle.nm_model.specs.definitions.Seen.{sight_in, sight_at}
 use Rattle.nm_model.specs.definitions.Effect.{dropped}
 use Rattle.nm_model.specs.definitions.Sound.{IsSoundMidRun, IsSound}
-use Rattle.nm_engine.specs.AddressSpaces.{SpacesView}
-use Rattle.nm_engine.specs.Shown.{shown_by}
-use Rattle.nm_engine.specs.MidRun.{MidRun, IsKept}
+use Rattle.nm_engine.specs.views.AddressSpaces.{SpacesView}
+use Rattle.nm_engine.specs.views.Shown.{shown_by}
+use Rattle.nm_engine.specs.views.MidRun.{MidRun, IsKept}
 use Rattle.nm_laws.proofs.Soundness.Dropped.{sees_none, exit_sound}
 use Rattle.nm_engine.proofs.Soundness.Gone.{sees_nothing}
 use Rattle.nm_engine.proofs.inner.Inner.exit.Goals as goal

@@ -9,10 +9,10 @@ use Rattle.nm_model.specs.definitions.Order.{first_touch_order}
 use Rattle.nm_model.specs.definitions.Touch.{filled, first_free}
 use Rattle.nm_types.specs.Layout.{frame_count}
 use Rattle.nm_frames.specs.Populated.{IsPopulated}
-use Rattle.nm_engine.specs.AddressSpaces.{SpacesView, table_of, with_new_page}
-use Rattle.nm_engine.specs.Frames.{FramesView, free_on}
-use Rattle.nm_engine.specs.Shown.{shown, shown_by, paged_frames}
-use Rattle.nm_engine.specs.MidRun.{MidRun, IsKept, IsResolved, spot_at}
+use Rattle.nm_engine.specs.views.AddressSpaces.{SpacesView, table_of, with_new_page}
+use Rattle.nm_engine.specs.views.Frames.{FramesView, free_on}
+use Rattle.nm_engine.specs.views.Shown.{shown, shown_by, paged_frames}
+use Rattle.nm_engine.specs.views.MidRun.{MidRun, IsKept, IsSiteOf, spot_at}
 use Rattle.nm_model.specs.definitions.Seen.{frame_of}
 use Rattle.nm_engine.proofs.Together.Joint.{kept_stocked, front_spare, stocked_both}
 use Rattle.nm_engine.proofs.Together.Populated.{same_shown, kept_again, view_again}
@@ -61,7 +61,7 @@ invariant_of-self-2 g c =
     let view = view_again c.self.inside.spaces c.self.inside.frames c.populate.new.self c.self.inside.online c.self.inside.totals.moved c.self.inside.totals.failed c.in_ok-populate.ensures.same c.in_ok-populate.ensures.kept c.args.self.now c.self.invariant c.self.view_is in
     let found = inside _ _ _ _ view (λ s. first_free s.free (first_touch_order s.layout s.online c.args.t.info.home c.args.t.info.allowed c.args.t.policy c.args.t.page.index) ≡ Some c.in-Some.node) (sym c.first_node.ensures ∙ c.in-Some.is) in
     let front : slice_get (free_on c.populate.new.self c.in-Some.node) 0 ≡ Some c.in-Some-front.frame = subst (λ (k : FramesView). slice_get (free_on k c.in-Some.node) 0 ≡ Some c.in-Some-front.frame) (sym c.in_ok-populate.ensures.same) (sym c.front.ensures.front ∙ c.in-Some-front.is) in
-    let touched = inside _ _ _ _ view (λ s. IsResolved s c.args.t c.requires.touched.0 c.requires.touched.1) c.requires.touched.2 in
+    let touched = inside _ _ _ _ view (λ s. IsSiteOf s c.args.t c.requires.touched.0 c.requires.touched.1) c.requires.touched.2 in
     let unplaced = inside _ _ _ _ view (λ s. get page_cmp s.place c.args.t.page ≡ None) c.requires.unplaced in
     let unseen = inside _ _ _ _ view (λ s. (q : Page) → sight_at s c.args.t.pid c.args.t.vpn ≡ Some (Sees q) → ⊥) c.requires.unseen in
     let is = c.in_ok-allocate.ensures.ok c.requires.touched.0 touched.known in
@@ -78,7 +78,7 @@ returns-clause-touches g c p a known =
     let view = view_again c.self.inside.spaces c.self.inside.frames c.populate.new.self c.self.inside.online c.self.inside.totals.moved c.self.inside.totals.failed c.in_ok-populate.ensures.same c.in_ok-populate.ensures.kept c.args.self.now c.self.invariant c.self.view_is in
     let found = inside _ _ _ _ view (λ s. first_free s.free (first_touch_order s.layout s.online c.args.t.info.home c.args.t.info.allowed c.args.t.policy c.args.t.page.index) ≡ Some c.in-Some.node) (sym c.first_node.ensures ∙ c.in-Some.is) in
     let front : slice_get (free_on c.populate.new.self c.in-Some.node) 0 ≡ Some c.in-Some-front.frame = subst (λ (k : FramesView). slice_get (free_on k c.in-Some.node) 0 ≡ Some c.in-Some-front.frame) (sym c.in_ok-populate.ensures.same) (sym c.front.ensures.front ∙ c.in-Some-front.is) in
-    let touched = inside _ _ _ _ view (λ s. IsResolved s c.args.t p a) known in
+    let touched = inside _ _ _ _ view (λ s. IsSiteOf s c.args.t p a) known in
     let unplaced = inside _ _ _ _ view (λ s. get page_cmp s.place c.args.t.page ≡ None) c.requires.unplaced in
     let is = c.in_ok-allocate.ensures.ok p touched.known in
     let to = stocked_both c.self.inside.spaces c.allocate.new.self c.populate.new.self c.take_front.new.self c.zero.new.self c.args.t.pid c.args.t.vpn p c.args.t.page c.in-Some.node c.in-Some-front.frame is c.take_front.ensures.rest c.zero.ensures front in
@@ -92,7 +92,7 @@ pub returns-clause-frame : goal.returns-clause-frame
 returns-clause-frame g c =
     let kept = kept_again c.self.inside.spaces c.self.inside.frames c.populate.new.self c.self.inside.online c.self.inside.totals.moved c.self.inside.totals.failed c.in_ok-populate.ensures.same c.in_ok-populate.ensures.kept c.self.invariant in
     let view = view_again c.self.inside.spaces c.self.inside.frames c.populate.new.self c.self.inside.online c.self.inside.totals.moved c.self.inside.totals.failed c.in_ok-populate.ensures.same c.in_ok-populate.ensures.kept c.args.self.now c.self.invariant c.self.view_is in
-    let touched = inside _ _ _ _ view (λ s. IsResolved s c.args.t c.requires.touched.0 c.requires.touched.1) c.requires.touched.2 in
+    let touched = inside _ _ _ _ view (λ s. IsSiteOf s c.args.t c.requires.touched.0 c.requires.touched.1) c.requires.touched.2 in
     let is = c.in_ok-allocate.ensures.ok c.requires.touched.0 touched.known in
     ap (λ (z : SpacesView). frame_of z.place (sight_in (get nat_cmp z.processes c.args.t.pid) c.args.t.vpn)) is
     ∙ ap (frame_of (with_new_page c.self.inside.spaces c.args.t.pid c.requires.touched.0 c.args.t.vpn c.args.t.page c.in-Some-front.frame).place) (sees_now c.self.inside.spaces.processes (table_of c.self.inside.spaces) (paged_frames c.self.inside.spaces c.populate.new.self) c.self.inside.online c.self.inside.totals.moved c.self.inside.totals.failed _ c.args.t c.requires.touched.0 c.requires.touched.1 kept touched _ (with_new_page c.self.inside.spaces c.args.t.pid c.requires.touched.0 c.args.t.vpn c.args.t.page c.in-Some-front.frame).processes refl)

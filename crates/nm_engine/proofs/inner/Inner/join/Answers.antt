@@ -5,11 +5,11 @@ use Rattle.nm_types.specs.declared.page.Page.{Page}
 use Rattle.nm_types.specs.declared.sight.Sight.TheVariants.{Sees}
 use Rattle.nm_types.specs.Map.{get, page_cmp}
 use Rattle.nm_model.specs.definitions.Seen.{sight_in, sight_at}
-use Rattle.nm_engine.specs.Does.{Touches}
+use Rattle.nm_engine.specs.definitions.Does.{Touches}
 use Rattle.nm_model.specs.definitions.Touch.{joined, with_sight}
-use Rattle.nm_engine.specs.AddressSpaces.{SpacesView, table_of, with_seen}
-use Rattle.nm_engine.specs.Shown.{shown_by, paged_frames}
-use Rattle.nm_engine.specs.MidRun.{MidRun, IsKept, IsResolved, spot_at, with_state}
+use Rattle.nm_engine.specs.views.AddressSpaces.{SpacesView, table_of, with_seen}
+use Rattle.nm_engine.specs.views.Shown.{shown_by, paged_frames}
+use Rattle.nm_engine.specs.views.MidRun.{MidRun, IsKept, IsSiteOf, spot_at, with_state}
 use Rattle.nm_model.specs.definitions.Seen.{frame_of}
 use Rattle.nm_engine.proofs.Together.Touches.{inside, outside, seen_kept, sees_now}
 use Rattle.nm_laws.proofs.Seen.Frames.{none_sees}
@@ -18,7 +18,7 @@ use Rattle.nm_engine.proofs.inner.Inner.join.Goals as goal
 
 pub invariant_of-self-2 : goal.invariant_of-self-2
 invariant_of-self-2 g c =
-    let touched = inside _ _ _ _ c.self.view_is (λ s. IsResolved s c.args.t c.requires.touched.0 c.requires.touched.1) c.requires.touched.2 in
+    let touched = inside _ _ _ _ c.self.view_is (λ s. IsSiteOf s c.args.t c.requires.touched.0 c.requires.touched.1) c.requires.touched.2 in
     let unseen = inside _ _ _ _ c.self.view_is (λ s. sight_at s c.args.t.pid c.args.t.vpn ≡ None) c.requires.unseen in
     let placed : get page_cmp c.self.inside.spaces.place c.args.t.page ≡ Some c.in-Some.frame = sym c.place.ensures.place ∙ c.in-Some.is in
     subst (λ (z : SpacesView). IsKept (shown_by z c.self.inside.frames c.self.inside.online c.self.inside.totals.moved c.self.inside.totals.failed) c.self.inside.frames.vacated z.frames) (sym (c.in_ok-see.ensures.ok c.requires.touched.0 touched.known))
@@ -27,7 +27,7 @@ invariant_of-self-2 g c =
 
 pub returns-clause-touches : goal.returns-clause-touches
 returns-clause-touches g c p a known =
-    let touched = inside _ _ _ _ c.self.view_is (λ s. IsResolved s c.args.t p a) known in
+    let touched = inside _ _ _ _ c.self.view_is (λ s. IsSiteOf s c.args.t p a) known in
     let placed : get page_cmp c.self.inside.spaces.place c.args.t.page ≡ Some c.in-Some.frame = sym c.place.ensures.place ∙ c.in-Some.is in
     ap (λ (y : MidRun). joined y.state (spot_at c.args.t p a) (get page_cmp y.state.place c.args.t.page)) (sym c.self.view_is)
     ∙ ap (joined (shown_by c.self.inside.spaces c.self.inside.frames c.self.inside.online c.self.inside.totals.moved c.self.inside.totals.failed) (spot_at c.args.t p a)) placed
@@ -36,7 +36,7 @@ returns-clause-touches g c p a known =
 
 pub returns-clause-frame : goal.returns-clause-frame
 returns-clause-frame g c =
-    let touched = inside _ _ _ _ c.self.view_is (λ s. IsResolved s c.args.t c.requires.touched.0 c.requires.touched.1) c.requires.touched.2 in
+    let touched = inside _ _ _ _ c.self.view_is (λ s. IsSiteOf s c.args.t c.requires.touched.0 c.requires.touched.1) c.requires.touched.2 in
     let is = c.in_ok-see.ensures.ok c.requires.touched.0 touched.known in
     ap (λ (z : SpacesView). frame_of z.place (sight_in (get nat_cmp z.processes c.args.t.pid) c.args.t.vpn)) is
     ∙ ap (frame_of c.self.inside.spaces.place) (sees_now c.self.inside.spaces.processes (table_of c.self.inside.spaces) (paged_frames c.self.inside.spaces c.self.inside.frames) c.self.inside.online c.self.inside.totals.moved c.self.inside.totals.failed _ c.args.t c.requires.touched.0 c.requires.touched.1 c.self.invariant touched (Sees c.args.t.page) (with_seen c.self.inside.spaces c.args.t.pid c.requires.touched.0 c.args.t.vpn (Sees c.args.t.page)).processes refl)

@@ -1,7 +1,7 @@
 use Rattle.std.proofs.Common.{◌<◌, ◌^◌, ap, ◌∙◌, arith, pos, w32}
 use Rattle.std.proofs.lemmas.Int.{to_z_pos}
 use Rattle.nm_model.specs.definitions.Status.{node_of_look, node_status}
-use Rattle.nm_engine.specs.MidRun.{MidRun}
+use Rattle.nm_engine.specs.views.MidRun.{MidRun}
 use Rattle.nm_engine.proofs.inner.Inner.node_status.Goals as goal
 
 pub overflow_cast-result : goal.overflow_cast-result

@@ -6,8 +6,8 @@ use Rattle.nm_types.specs.declared.page.Page.{Page}
 use Rattle.nm_types.specs.Map.{Map}
 use Rattle.nm_types.specs.Layout.{Layout, frame_count, node_of}
 use Rattle.nm_model.specs.definitions.Seen.{placed_on}
-use Rattle.nm_engine.specs.MidRun.{MidRun}
-use Rattle.nm_engine.specs.Shown.{shown_by}
+use Rattle.nm_engine.specs.views.MidRun.{MidRun}
+use Rattle.nm_engine.specs.views.Shown.{shown_by}
 use Rattle.nm_laws.proofs.Soundness.Placed.{places_below, placed_few}
 use Rattle.nm_engine.proofs.inner.Inner.pages_on.Goals as goal
 

@@ -10,8 +10,8 @@ use Rattle.nm_runs.specs.Shown.{class_shown, ShowsItsFrames}
 use Rattle.nm_model.specs.definitions.Status.{status_or_move}
 use Rattle.nm_types.specs.Map.{get, page_cmp}
 use Rattle.nm_laws.specs.Moves.{IsPlanOf}
-use Rattle.nm_engine.specs.MidRun.{MidRun}
-use Rattle.nm_engine.specs.Shown.{shown_by}
+use Rattle.nm_engine.specs.views.MidRun.{MidRun}
+use Rattle.nm_engine.specs.views.Shown.{shown_by}
 use Rattle.nm_engine.proofs.OneByOne.Carried.{shows_its_frames, classes_by_view, planned_is, is_plan_of}
 use Rattle.nm_engine.proofs.inner.Inner.plan.Goals as goal
 

@@ -6,10 +6,10 @@ use Rattle.std.proofs.lemmas.Option.{slice_get-get_or}
 use Rattle.std.specs.List.{AllByRecursion, slice_get}
 use Rattle.nm_types.specs.State.{State}
 use Rattle.nm_model.specs.views.Asked.{access_shown}
-use Rattle.nm_engine.specs.Answering.{due_shown, HasRoom}
-use Rattle.nm_model.specs.definitions.Early.{Due, AllEarly, early, all_early}
-use Rattle.nm_engine.specs.MidRun.{MidRun, with_state}
-use Rattle.nm_engine.specs.Undo.{CanUndo, all_undone}
+use Rattle.nm_engine.specs.views.Accesses.{pending_shown, HasRoom}
+use Rattle.nm_model.specs.definitions.BeforeCopy.{PendingAccess, AllBeforeCopy, before_copy, all_before_copy}
+use Rattle.nm_engine.specs.views.MidRun.{MidRun, with_state}
+use Rattle.nm_engine.specs.definitions.Undo.{CanUndo, all_undone}
 use Rattle.nm_laws.proofs.Early.Among.{all_early_alike}
 use Rattle.nm_laws.proofs.Early.Phases.{pages_of}
 use Rattle.nm_engine.proofs.Together.Paces.{drop_item}
@@ -23,10 +23,10 @@ pub loop-number-init : goal.loop-number-init
 loop-number-init g c =
     let none = c.in_ok-dues.ensures.items in
     let shown = map (access_shown {A = g.row.A.Denot}) c.args.accesses.now in
-    let all : AllEarly = all_early c.args.self.now.state c.in_ok-moving.moving.keys shown in
+    let all : AllBeforeCopy = all_before_copy c.args.self.now.state c.in_ok-moving.moving.keys shown in
     record {
       state = refl;
-      dues = ap (λ ds. map (due_shown c.args.accesses.now) ds ++ all.dues) none;
+      dues = ap (λ ds. map (pending_shown c.args.accesses.now) ds ++ all.dues) none;
       room = subst (AllByRecursion HasRoom) (sym none) tt;
       len = ap length none;
       within = omega arith;
@@ -77,20 +77,20 @@ loop-number-preserved g c =
     let at = drop_item accesses k a c.loop-number-test.true c.index-accesses-number.is in
     let here : slice_get accesses k ≡ Some a = slice_get-get_or accesses k a c.loop-number-test.true ∙ ap Some (sym c.index-accesses-number.is) in
     let due = c.in-Ok.ensures.due accesses here in
-    let told = map (due_shown accesses) c.loop-number.dues.items in
+    let told = map (pending_shown accesses) c.loop-number.dues.items in
     let items = c.push_reserved.ensures.items in
     let left = ap (λ (x : MidRun). x.left) c.loop-number.invariant.same in
     let can = c.touch_early.ensures.back (subst (λ (l : List ℕ). CanUndo s.state l c.loop-number.undos.items) (sym left) c.loop-number.invariant.back.0) in
     let more = ap length items ∙ length-append c.loop-number.dues.items _ in
     record {
-      state = ap (λ (x : State). (all_early x keys rest).state) c.in-Ok.ensures.state ∙ ap (λ xs. (all_early s.state keys (map (access_shown {A = g.row.A.Denot}) xs)).state) (sym at) ∙ c.loop-number.invariant.state;
+      state = ap (λ (x : State). (all_before_copy x keys rest).state) c.in-Ok.ensures.state ∙ ap (λ xs. (all_before_copy s.state keys (map (access_shown {A = g.row.A.Denot}) xs)).state) (sym at) ∙ c.loop-number.invariant.state;
       dues =
-          ap (λ ds. map (due_shown accesses) ds ++ (all_early n.state keys rest).dues) items
-          ∙ ap (λ ds. ds ++ (all_early n.state keys rest).dues) (map-append (due_shown accesses) c.loop-number.dues.items _)
+          ap (λ ds. map (pending_shown accesses) ds ++ (all_before_copy n.state keys rest).dues) items
+          ∙ ap (λ ds. ds ++ (all_before_copy n.state keys rest).dues) (map-append (pending_shown accesses) c.loop-number.dues.items _)
           ∙ append_assoc told _ _
-          ∙ ap (λ (x : State). told ++ due_shown accesses c.in-Ok.due ∷ (all_early x keys rest).dues) c.in-Ok.ensures.state
-          ∙ ap (λ (d : Due). told ++ d ∷ (all_early (early s.state keys (access_shown a)).state keys rest).dues) due
-          ∙ ap (λ xs. told ++ (all_early s.state keys (map (access_shown {A = g.row.A.Denot}) xs)).dues) (sym at) ∙ c.loop-number.invariant.dues;
+          ∙ ap (λ (x : State). told ++ pending_shown accesses c.in-Ok.due ∷ (all_before_copy x keys rest).dues) c.in-Ok.ensures.state
+          ∙ ap (λ (d : PendingAccess). told ++ d ∷ (all_before_copy (before_copy s.state keys (access_shown a)).state keys rest).dues) due
+          ∙ ap (λ xs. told ++ (all_before_copy s.state keys (map (access_shown {A = g.row.A.Denot}) xs)).dues) (sym at) ∙ c.loop-number.invariant.dues;
       room = subst (AllByRecursion HasRoom) (sym items) (all_and_one HasRoom c.loop-number.dues.items c.in-Ok.due c.loop-number.invariant.room c.in-Ok.ensures.room);
       len = omega (arith, more, c.loop-number.invariant.len);
       within = omega (arith, c.loop-number-test.true);
@@ -105,19 +105,19 @@ returns-clause-state g c =
     let keys = c.in_ok-moving.moving.keys in
     let shown = map (access_shown {A = g.row.A.Denot}) accesses in
     let ends = drop_of_length-le accesses (omega (arith, c.loop-number-test.false)) in
-    ap (λ xs. (all_early c.loop-number.self.state keys (map (access_shown {A = g.row.A.Denot}) xs)).state) (sym ends) ∙ c.loop-number.invariant.state
-    ∙ ap (λ (x : AllEarly). x.state) (all_early_alike keys (pages_of c.args.moves.now) c.in_ok-moving.ensures shown c.args.self.now.state)
+    ap (λ xs. (all_before_copy c.loop-number.self.state keys (map (access_shown {A = g.row.A.Denot}) xs)).state) (sym ends) ∙ c.loop-number.invariant.state
+    ∙ ap (λ (x : AllBeforeCopy). x.state) (all_early_alike keys (pages_of c.args.moves.now) c.in_ok-moving.ensures shown c.args.self.now.state)
 
 pub returns-clause-dues : goal.returns-clause-dues
 returns-clause-dues g c =
     let accesses = c.args.accesses.now in
     let keys = c.in_ok-moving.moving.keys in
     let shown = map (access_shown {A = g.row.A.Denot}) accesses in
-    let told = map (due_shown accesses) c.loop-number.dues.items in
+    let told = map (pending_shown accesses) c.loop-number.dues.items in
     let ends = drop_of_length-le accesses (omega (arith, c.loop-number-test.false)) in
     sym (append-nil told)
-    ∙ ap (λ xs. told ++ (all_early c.loop-number.self.state keys (map (access_shown {A = g.row.A.Denot}) xs)).dues) (sym ends) ∙ c.loop-number.invariant.dues
-    ∙ ap (λ (x : AllEarly). x.dues) (all_early_alike keys (pages_of c.args.moves.now) c.in_ok-moving.ensures shown c.args.self.now.state)
+    ∙ ap (λ xs. told ++ (all_before_copy c.loop-number.self.state keys (map (access_shown {A = g.row.A.Denot}) xs)).dues) (sym ends) ∙ c.loop-number.invariant.dues
+    ∙ ap (λ (x : AllBeforeCopy). x.dues) (all_early_alike keys (pages_of c.args.moves.now) c.in_ok-moving.ensures shown c.args.self.now.state)
 
 pub returns-clause-room : goal.returns-clause-room
 returns-clause-room g c = c.loop-number.invariant.room
@@ -138,13 +138,13 @@ no_access (x ∷ xs) is = absurd (grind (arith, nat_tests))
 pub returns-then-is_empty-clause-state : goal.returns-then-is_empty-clause-state
 returns-then-is_empty-clause-state g c =
     let none = no_access c.args.accesses.now (sym c.if-is_empty.true ∙ c.is_empty.ensures) in
-    ap (λ xs. (all_early c.args.self.now.state (pages_of c.args.moves.now) (map (access_shown {A = g.row.A.Denot}) xs)).state) (sym none)
+    ap (λ xs. (all_before_copy c.args.self.now.state (pages_of c.args.moves.now) (map (access_shown {A = g.row.A.Denot}) xs)).state) (sym none)
 
 pub returns-then-is_empty-clause-dues : goal.returns-then-is_empty-clause-dues
 returns-then-is_empty-clause-dues g c =
     let none = no_access c.args.accesses.now (sym c.if-is_empty.true ∙ c.is_empty.ensures) in
-    ap (map (due_shown c.args.accesses.now)) c.in_ok-dues.ensures.items
-    ∙ ap (λ xs. (all_early c.args.self.now.state (pages_of c.args.moves.now) (map (access_shown {A = g.row.A.Denot}) xs)).dues) (sym none)
+    ap (map (pending_shown c.args.accesses.now)) c.in_ok-dues.ensures.items
+    ∙ ap (λ xs. (all_before_copy c.args.self.now.state (pages_of c.args.moves.now) (map (access_shown {A = g.row.A.Denot}) xs)).dues) (sym none)
 
 pub returns-then-is_empty-clause-room : goal.returns-then-is_empty-clause-room
 returns-then-is_empty-clause-room g c = subst (AllByRecursion HasRoom) (sym c.in_ok-dues.ensures.items) tt

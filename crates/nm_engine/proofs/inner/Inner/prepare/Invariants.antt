@@ -2,18 +2,18 @@ use Rattle.std.proofs.Common.{◌≡◌, ◌≤◌, ◌++◌, map, length, drop}
 use Rattle.std.specs.Prelude.{vec_capacity}
 use Rattle.std.specs.List.{AllByRecursion}
 use Rattle.nm_model.specs.views.Asked.{access_shown}
-use Rattle.nm_engine.specs.Answering.{due_shown, HasRoom}
-use Rattle.nm_model.specs.definitions.Early.{AllEarly, all_early}
-use Rattle.nm_engine.specs.MidRun.{with_state}
-use Rattle.nm_engine.specs.Undo.{CanUndo, all_undone}
+use Rattle.nm_engine.specs.views.Accesses.{pending_shown, HasRoom}
+use Rattle.nm_model.specs.definitions.BeforeCopy.{AllBeforeCopy, all_before_copy}
+use Rattle.nm_engine.specs.views.MidRun.{with_state}
+use Rattle.nm_engine.specs.definitions.Undo.{CanUndo, all_undone}
 use Rattle.nm_engine.proofs.inner.Inner.prepare.Given as goal
 
 abbrev pub invariant-loop-number : goal.invariant-loop-number
 invariant-loop-number g l =
-    let rest : AllEarly = all_early l.self.state l.moving.keys (map access_shown (drop l.number l.accesses)) in
-    let all : AllEarly = all_early l.fn.self.state l.moving.keys (map access_shown l.accesses) in record {
+    let rest : AllBeforeCopy = all_before_copy l.self.state l.moving.keys (map access_shown (drop l.number l.accesses)) in
+    let all : AllBeforeCopy = all_before_copy l.fn.self.state l.moving.keys (map access_shown l.accesses) in record {
       state : rest.state ≡ all.state;
-      dues : map (due_shown l.accesses) l.dues.items ++ rest.dues ≡ all.dues;
+      dues : map (pending_shown l.accesses) l.dues.items ++ rest.dues ≡ all.dues;
       room : AllByRecursion HasRoom l.dues.items;
       len : length l.dues.items ≡ l.number;
       within : l.number ≤ length l.accesses;

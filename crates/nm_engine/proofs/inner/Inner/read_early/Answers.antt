@@ -5,9 +5,9 @@ use Rattle.nm_types.specs.declared.sight.Sight.TheVariants.{ZeroPage}
 use Rattle.nm_types.specs.Map.{same_page}
 use Rattle.nm_types.specs.State.{State}
 use Rattle.nm_model.specs.definitions.Seen.{sight_at}
-use Rattle.nm_model.specs.definitions.Early.{Early, Known, ToRead, due_read}
+use Rattle.nm_model.specs.definitions.BeforeCopy.{BeforeCopy, Known, ToRead, pending_read}
 use Rattle.nm_model.specs.definitions.Touch.{Bytes}
-use Rattle.nm_engine.specs.MidRun.{with_state}
+use Rattle.nm_engine.specs.views.MidRun.{with_state}
 use Rattle.nm_model.specs.definitions.Seen.{frame_seen}
 use Rattle.nm_engine.proofs.Early.Noted.{read_due, read_refused, read_held, read_goes}
 use Rattle.nm_engine.proofs.Together.Undone.{touches_err}
@@ -33,14 +33,14 @@ returns-in-Ok-Some-clause-state g c =
     let there = c.in-Ok.ensures.ok in
     let free = ap (λ p. list_any (same_page p) c.args.moving.now.keys) there.3.page ∙ sym c.contains.ensures ∙ c.if-contains.false in
     let goes = read_goes c.args.self.now.state c.args.moving.now.keys c.args.pid c.args.addr c.args.len _ (Ok c.touch_noted.new.self.state) there.2 free (c.in-Ok-Some.ensures.touches there.0 there.1 there.3) in
-    sym (ap (λ (e : Early). e.state) goes)
+    sym (ap (λ (e : BeforeCopy). e.state) goes)
 
 pub returns-in-Ok-None-clause-state : goal.returns-in-Ok-None-clause-state
 returns-in-Ok-None-clause-state g c =
     let there = c.in-Ok.ensures.ok in
     let free = ap (λ p. list_any (same_page p) c.args.moving.now.keys) there.3.page ∙ sym c.contains.ensures ∙ c.if-contains.false in
     let goes = read_goes c.args.self.now.state c.args.moving.now.keys c.args.pid c.args.addr c.args.len _ (Ok c.touch_noted.new.self.state) there.2 free (c.in-Ok-None.ensures.touches there.0 there.1 there.3) in
-    sym (ap (λ (e : Early). e.state) goes)
+    sym (ap (λ (e : BeforeCopy). e.state) goes)
 
 pub returns-in-Ok-None-clause-due : goal.returns-in-Ok-None-clause-due
 returns-in-Ok-None-clause-due g c accesses =
@@ -52,24 +52,24 @@ returns-in-Ok-None-clause-due g c accesses =
     let seen = subst (λ (o : Option ℕ). IfNone o (sight_at new c.in-Ok.resolved.pid c.in-Ok.resolved.vpn ≡ Some ZeroPage)) c.in-Ok-None.field-0-is c.in-Ok-None.ensures.zeros in
     let zeros = ap (λ (x : ℕ × ℕ). sight_at new x.0 x.1) (λ i. (sym c.in-Ok.ensures.pid i, sym c.in-Ok.ensures.page i)) ∙ seen in
     let told = c.push_zeros.ensures ∙ ap (λ (bs : List ℕ). bs ++ replicate c.args.len 0) c.in_ok-bytes.ensures.items in
-    ap (λ bs. Known (Bytes bs)) told ∙ sym (ap (λ (e : Early). e.due) goes ∙ ap (λ o. due_read o at c.args.len) zeros)
+    ap (λ bs. Known (Bytes bs)) told ∙ sym (ap (λ (e : BeforeCopy). e.due) goes ∙ ap (λ o. pending_read o at c.args.len) zeros)
 
 pub returns-in-Err-clause-state : goal.returns-in-Err-clause-state
 returns-in-Err-clause-state g c =
-    sym (ap (λ (e : Early). e.state) (read_refused c.args.self.now.state c.args.moving.now.keys c.args.pid c.args.addr c.args.len c.in-Err.error c.in-Err.ensures.err))
+    sym (ap (λ (e : BeforeCopy). e.state) (read_refused c.args.self.now.state c.args.moving.now.keys c.args.pid c.args.addr c.args.len c.in-Err.error c.in-Err.ensures.err))
 
 pub returns-in-Err-clause-due : goal.returns-in-Err-clause-due
 returns-in-Err-clause-due g c accesses =
-    sym (ap (λ (e : Early). e.due) (read_refused c.args.self.now.state c.args.moving.now.keys c.args.pid c.args.addr c.args.len c.in-Err.error c.in-Err.ensures.err))
+    sym (ap (λ (e : BeforeCopy). e.due) (read_refused c.args.self.now.state c.args.moving.now.keys c.args.pid c.args.addr c.args.len c.in-Err.error c.in-Err.ensures.err))
 
 pub returns-then-contains-clause-state : goal.returns-then-contains-clause-state
 returns-then-contains-clause-state g c =
     let there = c.in-Ok.ensures.ok in
     let held = ap (λ p. list_any (same_page p) c.args.moving.now.keys) there.3.page ∙ sym c.contains.ensures ∙ c.if-contains.true in
-    sym (ap (λ (e : Early). e.state) (read_held c.args.self.now.state c.args.moving.now.keys c.args.pid c.args.addr c.args.len _ there.2 held))
+    sym (ap (λ (e : BeforeCopy). e.state) (read_held c.args.self.now.state c.args.moving.now.keys c.args.pid c.args.addr c.args.len _ there.2 held))
 
 pub returns-then-contains-clause-due : goal.returns-then-contains-clause-due
 returns-then-contains-clause-due g c accesses =
     let there = c.in-Ok.ensures.ok in
     let held = ap (λ p. list_any (same_page p) c.args.moving.now.keys) there.3.page ∙ sym c.contains.ensures ∙ c.if-contains.true in
-    sym (ap (λ (e : Early). e.due) (read_held c.args.self.now.state c.args.moving.now.keys c.args.pid c.args.addr c.args.len _ there.2 held))
+    sym (ap (λ (e : BeforeCopy). e.due) (read_held c.args.self.now.state c.args.moving.now.keys c.args.pid c.args.addr c.args.len _ there.2 held))

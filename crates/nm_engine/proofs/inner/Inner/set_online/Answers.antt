@@ -2,8 +2,8 @@ use Rattle.std.proofs.Common.{◌<◌, sym, subst}
 use Rattle.std.specs.List.{AllByRecursion}
 use Rattle.std.proofs.lemmas.Map.Keys.{sorted_from_strictly_increasing}
 use Rattle.nm_types.specs.Layout.{node_count}
-use Rattle.nm_engine.specs.MidRun.{MidRun}
-use Rattle.nm_engine.specs.Shown.{shown_by}
+use Rattle.nm_engine.specs.views.MidRun.{MidRun}
+use Rattle.nm_engine.specs.views.Shown.{shown_by}
 use Rattle.nm_laws.proofs.Soundness.Online.{online_sound, changed_below}
 use Rattle.nm_engine.proofs.inner.Inner.set_online.Goals as goal
 

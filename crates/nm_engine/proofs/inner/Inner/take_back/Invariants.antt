@@ -1,7 +1,7 @@
 use Rattle.std.proofs.Common.{◌≡◌, length}
 use Rattle.std.specs.Prelude.{vec_capacity}
-use Rattle.nm_engine.specs.MidRun.{with_state}
-use Rattle.nm_engine.specs.Undo.{CanUndo, all_undone}
+use Rattle.nm_engine.specs.views.MidRun.{with_state}
+use Rattle.nm_engine.specs.definitions.Undo.{CanUndo, all_undone}
 use Rattle.nm_engine.proofs.inner.Inner.take_back.Given as goal
 
 abbrev pub invariant-loop-undo : goal.invariant-loop-undo

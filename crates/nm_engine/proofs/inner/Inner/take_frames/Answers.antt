@@ -1,11 +1,11 @@
 use Rattle.std.proofs.Common.{ap, sym, subst, ◌∙◌, arith, length}
 use Rattle.nm_types.specs.Layout.{node_count}
-use Rattle.nm_engine.specs.Frames.{FramesView}
-use Rattle.nm_engine.specs.MidRun.{MidRun}
+use Rattle.nm_engine.specs.views.Frames.{FramesView}
+use Rattle.nm_engine.specs.views.MidRun.{MidRun}
 use Rattle.nm_laws.specs.Moves.{CanMove}
 use Rattle.nm_areas.proofs.Counted.{err_always}
-use Rattle.nm_model.specs.definitions.Early.{without_fronts}
-use Rattle.nm_engine.specs.Shown.{shown_by}
+use Rattle.nm_model.specs.definitions.BeforeCopy.{without_fronts}
+use Rattle.nm_engine.specs.views.Shown.{shown_by}
 use Rattle.nm_types.specs.State.{State}
 use Rattle.nm_engine.proofs.Early.Taken.{taken_kept}
 use Rattle.nm_engine.proofs.Together.Carried.{tos_below}

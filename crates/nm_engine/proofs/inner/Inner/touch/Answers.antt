@@ -4,41 +4,41 @@ use Rattle.nm_types.specs.declared.page.Page.{Page}
 use Rattle.nm_types.specs.declared.sight.Sight.{Sight}
 use Rattle.nm_types.specs.State.{State, Process, Placed}
 use Rattle.nm_model.specs.definitions.Areas.{is_shared}
-use Rattle.nm_engine.specs.declared.inner.resolved.Resolved.{Resolved}
+use Rattle.nm_engine.specs.declared.inner.touch_site.TouchSite.{TouchSite}
 use Rattle.nm_model.specs.definitions.Touch.{shown_at, filled, joined, with_sight, touched_entry}
 use Rattle.nm_types.specs.declared.sight.Sight.TheVariants.{Sees, ZeroPage}
 use Rattle.nm_types.specs.Map.{get, page_cmp}
 use Rattle.std.specs.Ordering.{nat_cmp}
 use Rattle.nm_model.specs.definitions.Seen.{sight_in, sight_at}
-use Rattle.nm_engine.specs.Shown.{shown, shown_by}
-use Rattle.nm_engine.specs.MidRun.{MidRun, IsKept, IsResolved, spot_at, with_state}
+use Rattle.nm_engine.specs.views.Shown.{shown, shown_by}
+use Rattle.nm_engine.specs.views.MidRun.{MidRun, IsKept, IsSiteOf, spot_at, with_state}
 use Rattle.nm_model.specs.definitions.Seen.{frame_of, frame_seen}
 use Rattle.nm_engine.proofs.Together.Touches.{inside, outside, not_none, seen_kept, sees_now, private_here, private_unplaced_here, zero_unplaced}
 use Rattle.nm_laws.proofs.Seen.Frames.{none_sees, zero_sees}
-use Rattle.nm_engine.specs.AddressSpaces.{SpacesView, table_of, with_seen}
-use Rattle.nm_engine.specs.Shown.{paged_frames}
+use Rattle.nm_engine.specs.views.AddressSpaces.{SpacesView, table_of, with_seen}
+use Rattle.nm_engine.specs.views.Shown.{paged_frames}
 use Rattle.nm_engine.proofs.Tied.Tabled.{on_any}
 use Rattle.nm_engine.proofs.inner.HandedOn.{touch_handed_on, nothing_touched}
 use Rattle.nm_engine.proofs.inner.Inner.touch.Goals as goal
 
 -- what the process sees is what its entry says
-entry_is : (s : State) (t : Resolved) (p : Process) (a : Placed) → IsResolved s t p a → {o : Option Sight} → sight_at s t.pid t.vpn ≡ o → get nat_cmp p.sees t.vpn ≡ o
+entry_is : (s : State) (t : TouchSite) (p : Process) (a : Placed) → IsSiteOf s t p a → {o : Option Sight} → sight_at s t.pid t.vpn ≡ o → get nat_cmp p.sees t.vpn ≡ o
 entry_is s t p a h e = ap (λ q. sight_in q t.vpn) (sym h.known) ∙ e
 
 -- the touch of a page that the process sees already, or of the page of zeros
-entry_touched : (s : State) (t : Resolved) (p : Process) (a : Placed) (writes : Bool) (o : Option Sight) → IsResolved s t p a → sight_at s t.pid t.vpn ≡ o
+entry_touched : (s : State) (t : TouchSite) (p : Process) (a : Placed) (writes : Bool) (o : Option Sight) → IsSiteOf s t p a → sight_at s t.pid t.vpn ≡ o
     → touched_entry s (spot_at t p a) writes (get nat_cmp p.sees t.vpn) ≡ touched_entry s (spot_at t p a) writes o
 entry_touched s t p a writes o h e = ap (touched_entry s (spot_at t p a) writes) (entry_is s t p a h e)
 
-zero_touched : (s : State) (t : Resolved) (p : Process) (a : Placed) (writes : Bool) → IsResolved s t p a → sight_at s t.pid t.vpn ≡ Some ZeroPage → {b : Bool} → writes ≡ b
+zero_touched : (s : State) (t : TouchSite) (p : Process) (a : Placed) (writes : Bool) → IsSiteOf s t p a → sight_at s t.pid t.vpn ≡ Some ZeroPage → {b : Bool} → writes ≡ b
     → touched_entry s (spot_at t p a) writes (get nat_cmp p.sees t.vpn) ≡ (if b then filled s (spot_at t p a) else Ok s)
 zero_touched s t p a writes h e w = entry_touched s t p a writes (Some ZeroPage) h e ∙ ap (λ b. if b then filled s (spot_at t p a) else Ok s) w
 
 -- where it sees nothing, the page's segment decides
-shared_at : (s : State) (t : Resolved) (p : Process) (a : Placed) → IsResolved s t p a → {b : Bool} → is_shared s.segments t.page.segment ≡ b → is_shared s.segments (shown_at (spot_at t p a)).segment ≡ b
+shared_at : (s : State) (t : TouchSite) (p : Process) (a : Placed) → IsSiteOf s t p a → {b : Bool} → is_shared s.segments t.page.segment ≡ b → is_shared s.segments (shown_at (spot_at t p a)).segment ≡ b
 shared_at s t p a h e = ap (λ (q : Page). is_shared s.segments q.segment) h.page ∙ e
 
-shared_touched : (s : State) (t : Resolved) (p : Process) (a : Placed) (writes : Bool) → IsResolved s t p a → sight_at s t.pid t.vpn ≡ None → is_shared s.segments t.page.segment ≡ true
+shared_touched : (s : State) (t : TouchSite) (p : Process) (a : Placed) (writes : Bool) → IsSiteOf s t p a → sight_at s t.pid t.vpn ≡ None → is_shared s.segments t.page.segment ≡ true
     → touched_entry s (spot_at t p a) writes (get nat_cmp p.sees t.vpn) ≡ joined s (spot_at t p a) (get page_cmp s.place t.page)
 shared_touched s t p a writes h e shared =
     let at = spot_at t p a in
@@ -46,7 +46,7 @@ shared_touched s t p a writes h e shared =
     ∙ ap (λ b. if b then joined s at (get page_cmp s.place (shown_at at)) else (if writes then filled s at else Ok (with_sight s at ZeroPage))) (shared_at s t p a h shared)
     ∙ ap (λ (q : Page). joined s at (get page_cmp s.place q)) h.page
 
-private_touched : (s : State) (t : Resolved) (p : Process) (a : Placed) (writes : Bool) → IsResolved s t p a → sight_at s t.pid t.vpn ≡ None → is_shared s.segments t.page.segment ≡ false → {b : Bool} → writes ≡ b
+private_touched : (s : State) (t : TouchSite) (p : Process) (a : Placed) (writes : Bool) → IsSiteOf s t p a → sight_at s t.pid t.vpn ≡ None → is_shared s.segments t.page.segment ≡ false → {b : Bool} → writes ≡ b
     → touched_entry s (spot_at t p a) writes (get nat_cmp p.sees t.vpn) ≡ (if b then filled s (spot_at t p a) else Ok (with_sight s (spot_at t p a) ZeroPage))
 private_touched s t p a writes h e private w =
     let at = spot_at t p a in
@@ -56,21 +56,21 @@ private_touched s t p a writes h e private w =
 
 pub fill-requires-clause-unplaced : goal.fill-requires-clause-unplaced
 fill-requires-clause-unplaced g c =
-    let touched = inside _ _ _ _ c.self.view_is (λ s. IsResolved s c.args.t c.requires.0 c.requires.1) c.requires.2 in
+    let touched = inside _ _ _ _ c.self.view_is (λ s. IsSiteOf s c.args.t c.requires.0 c.requires.1) c.requires.2 in
     let sees : sight_at (shown c.self.inside.spaces.processes (table_of c.self.inside.spaces) (paged_frames c.self.inside.spaces c.self.inside.frames) c.self.inside.online c.self.inside.totals.moved c.self.inside.totals.failed) c.args.t.pid c.args.t.vpn ≡ Some ZeroPage = sym c.sight.ensures ∙ c.in-Some-ZeroPage.is ∙ ap Some c.in-Some-ZeroPage.field-0-is in
     ap (λ (y : MidRun). get page_cmp y.state.place c.args.t.page) (sym c.self.view_is)
     ∙ zero_unplaced c.self.inside.spaces.processes (table_of c.self.inside.spaces) (paged_frames c.self.inside.spaces c.self.inside.frames) c.self.inside.online c.self.inside.totals.moved c.self.inside.totals.failed _ c.args.t c.requires.0 c.requires.1 c.self.invariant touched sees
 
 pub fill-requires-then-writes-2-clause-unplaced : goal.fill-requires-then-writes-2-clause-unplaced
 fill-requires-then-writes-2-clause-unplaced g c =
-    let touched = inside _ _ _ _ c.self.view_is (λ s. IsResolved s c.args.t c.requires.0 c.requires.1) c.requires.2 in
+    let touched = inside _ _ _ _ c.self.view_is (λ s. IsSiteOf s c.args.t c.requires.0 c.requires.1) c.requires.2 in
     let sees : sight_at (shown c.self.inside.spaces.processes (table_of c.self.inside.spaces) (paged_frames c.self.inside.spaces c.self.inside.frames) c.self.inside.online c.self.inside.totals.moved c.self.inside.totals.failed) c.args.t.pid c.args.t.vpn ≡ None = sym c.sight.ensures ∙ c.in-None.is in
     ap (λ (y : MidRun). get page_cmp y.state.place c.args.t.page) (sym c.self.view_is)
     ∙ private_unplaced_here c.self.inside.spaces.processes (table_of c.self.inside.spaces) (paged_frames c.self.inside.spaces c.self.inside.frames) c.self.inside.online c.self.inside.totals.moved c.self.inside.totals.failed _ c.args.t c.requires.0 c.requires.1 c.self.invariant touched (none_sees sees) (sym c.is_shared.ensures ∙ c.if-is_shared.false)
 
 pub invariant_of-self-else-writes-2 : goal.invariant_of-self-else-writes-2
 invariant_of-self-else-writes-2 g c =
-    let touched = inside _ _ _ _ c.self.view_is (λ s. IsResolved s c.args.t c.requires.0 c.requires.1) c.requires.2 in
+    let touched = inside _ _ _ _ c.self.view_is (λ s. IsSiteOf s c.args.t c.requires.0 c.requires.1) c.requires.2 in
     let sees : sight_at (shown c.self.inside.spaces.processes (table_of c.self.inside.spaces) (paged_frames c.self.inside.spaces c.self.inside.frames) c.self.inside.online c.self.inside.totals.moved c.self.inside.totals.failed) c.args.t.pid c.args.t.vpn ≡ None = sym c.sight.ensures ∙ c.in-None.is in
     subst (λ (z : SpacesView). IsKept (shown_by z c.self.inside.frames c.self.inside.online c.self.inside.totals.moved c.self.inside.totals.failed) c.self.inside.frames.vacated z.frames) (sym (c.in_ok-see_zero-in-None.ensures.ok c.requires.0 touched.known))
     (seen_kept c.self.inside.spaces.processes (table_of c.self.inside.spaces) (paged_frames c.self.inside.spaces c.self.inside.frames) c.self.inside.online c.self.inside.totals.moved c.self.inside.totals.failed _ c.args.t c.requires.0 c.requires.1 c.self.invariant touched ZeroPage _ refl
@@ -83,7 +83,7 @@ returns-in-Some-Sees-clause-some g c writes =
 
 pub returns-in_ok-see_zero-in-None-clause-frame : goal.returns-in_ok-see_zero-in-None-clause-frame
 returns-in_ok-see_zero-in-None-clause-frame g c =
-    let touched = inside _ _ _ _ c.self.view_is (λ s. IsResolved s c.args.t c.requires.0 c.requires.1) c.requires.2 in
+    let touched = inside _ _ _ _ c.self.view_is (λ s. IsSiteOf s c.args.t c.requires.0 c.requires.1) c.requires.2 in
     let is = c.in_ok-see_zero-in-None.ensures.ok c.requires.0 touched.known in
     let seen = sees_now c.self.inside.spaces.processes (table_of c.self.inside.spaces) (paged_frames c.self.inside.spaces c.self.inside.frames) c.self.inside.online c.self.inside.totals.moved c.self.inside.totals.failed _ c.args.t c.requires.0 c.requires.1 c.self.invariant touched ZeroPage (with_seen c.self.inside.spaces c.args.t.pid c.requires.0 c.args.t.vpn ZeroPage).processes refl in
     sym (ap (λ (z : SpacesView). frame_of z.place (sight_in (get nat_cmp z.processes c.args.t.pid) c.args.t.vpn)) is ∙ ap (frame_of c.self.inside.spaces.place) seen)
@@ -95,7 +95,7 @@ returns-in-Some-Sees-clause-zeros g c =
 
 pub returns-in_ok-see_zero-in-None-clause-zeros : goal.returns-in_ok-see_zero-in-None-clause-zeros
 returns-in_ok-see_zero-in-None-clause-zeros g c =
-    let touched = inside _ _ _ _ c.self.view_is (λ s. IsResolved s c.args.t c.requires.0 c.requires.1) c.requires.2 in
+    let touched = inside _ _ _ _ c.self.view_is (λ s. IsSiteOf s c.args.t c.requires.0 c.requires.1) c.requires.2 in
     let is = c.in_ok-see_zero-in-None.ensures.ok c.requires.0 touched.known in
     let seen = sees_now c.self.inside.spaces.processes (table_of c.self.inside.spaces) (paged_frames c.self.inside.spaces c.self.inside.frames) c.self.inside.online c.self.inside.totals.moved c.self.inside.totals.failed _ c.args.t c.requires.0 c.requires.1 c.self.invariant touched ZeroPage (with_seen c.self.inside.spaces c.args.t.pid c.requires.0 c.args.t.vpn ZeroPage).processes refl in
     ap (λ (z : SpacesView). sight_in (get nat_cmp z.processes c.args.t.pid) c.args.t.vpn) is ∙ seen
@@ -164,7 +164,7 @@ returns-in_err-fill-in-None-clause-touches g c p a known =
 pub returns-in_ok-see_zero-in-None-clause-touches : goal.returns-in_ok-see_zero-in-None-clause-touches
 returns-in_ok-see_zero-in-None-clause-touches g c p a known =
     let i = c.self.inside in
-    let touched = inside _ _ _ _ c.self.view_is (λ s. IsResolved s c.args.t p a) known in
+    let touched = inside _ _ _ _ c.self.view_is (λ s. IsSiteOf s c.args.t p a) known in
     private_touched c.args.self.now.state c.args.t p a c.args.writes known
     (outside _ _ _ _ c.self.view_is (λ z. sight_at z c.args.t.pid c.args.t.vpn ≡ None) (sym c.sight.ensures ∙ c.in-None.is))
     (outside _ _ _ _ c.self.view_is (λ z. is_shared z.segments c.args.t.page.segment ≡ false) (sym c.is_shared.ensures ∙ c.if-is_shared.false)) c.if-writes-2.false
@@ -218,7 +218,7 @@ fill-requires-then-writes-2-clause-unseen g c = none_sees (outside _ _ _ _ c.sel
 
 pub see_zero-requires-clause-known : goal.see_zero-requires-clause-known
 see_zero-requires-clause-known g c =
-    let touched = inside _ _ _ _ c.self.view_is (λ s. IsResolved s c.args.t c.requires.0 c.requires.1) c.requires.2 in
+    let touched = inside _ _ _ _ c.self.view_is (λ s. IsSiteOf s c.args.t c.requires.0 c.requires.1) c.requires.2 in
     subst (λ (o : Option Process). IsSome o) (sym touched.known) refl
 
 pub see_zero-requires-clause-unseen : goal.see_zero-requires-clause-unseen

@@ -2,11 +2,11 @@ use Rattle.std.proofs.Common.{ℕ, ap, sym, subst, ◌∙◌, Option, IsSome}
 use Rattle.std.specs.Ordering.{nat_cmp}
 use Rattle.nm_types.specs.declared.page.Page.{Page}
 use Rattle.nm_types.specs.Map.{get, page_cmp}
-use Rattle.nm_engine.specs.Frames.{FramesView}
-use Rattle.nm_engine.specs.MidRun.{MidRun, with_state}
-use Rattle.nm_engine.specs.Shown.{shown_by}
+use Rattle.nm_engine.specs.views.Frames.{FramesView}
+use Rattle.nm_engine.specs.views.MidRun.{MidRun, with_state}
+use Rattle.nm_engine.specs.views.Shown.{shown_by}
 use Rattle.nm_model.specs.definitions.Sound.{IsSoundMidRun}
-use Rattle.nm_engine.specs.Undo.{IsGiven, seen_before, undone}
+use Rattle.nm_engine.specs.definitions.Undo.{IsGiven, seen_before, undone}
 use Rattle.nm_engine.proofs.Together.Undone.{place_kept, can_put_back, back_shows, back_kept}
 use Rattle.nm_engine.proofs.inner.Inner.undo.Goals as goal
 

@@ -1,16 +1,16 @@
 use Rattle.std.proofs.Common.{◌≡◌, ℕ, List, ◌/◌, ◌%◌, ◌∙◌, true, sym, ap, subst, length, Some, Ok}
 use Rattle.std.specs.Prelude.{slice_set}
 use Rattle.nm_model.specs.definitions.Frames.{bytes_of, overwrite}
-use Rattle.nm_engine.specs.Frames.{FramesView}
+use Rattle.nm_engine.specs.views.Frames.{FramesView}
 use Rattle.nm_model.specs.definitions.Touch.{Answered, write, write_after, with_bytes}
-use Rattle.nm_engine.specs.MidRun.{MidRun, IsKept}
-use Rattle.nm_engine.specs.Shown.{shown}
+use Rattle.nm_engine.specs.views.MidRun.{MidRun, IsKept}
+use Rattle.nm_engine.specs.views.Shown.{shown}
 use Rattle.nm_model.specs.definitions.Seen.{frame_seen}
 use Rattle.nm_model.specs.definitions.Seen.{sight_at}
 use Rattle.nm_engine.proofs.Together.Touches.{inside, touch_is, written_is, written_kept}
 use Rattle.nm_laws.proofs.Seen.Frames.{page_of_frame, place_in_range}
-use Rattle.nm_engine.specs.AddressSpaces.{table_of}
-use Rattle.nm_engine.specs.Shown.{paged_frames, shown_by}
+use Rattle.nm_engine.specs.views.AddressSpaces.{table_of}
+use Rattle.nm_engine.specs.views.Shown.{paged_frames, shown_by}
 use Rattle.nm_engine.proofs.Together.Joint.{kept_stocked}
 use Rattle.nm_engine.proofs.Together.Populated.{place_populated}
 use Rattle.nm_engine.proofs.inner.Inner.write.Goals as goal

@@ -3,8 +3,8 @@ use Rattle.std.specs.Prelude.{Option, None, IsSome}
 use Rattle.std.specs.List.{list_any}
 use Rattle.nm_types.specs.Map.{same_page}
 use Rattle.nm_types.specs.State.{State}
-use Rattle.nm_model.specs.definitions.Early.{ToWrite}
-use Rattle.nm_engine.specs.MidRun.{with_state}
+use Rattle.nm_model.specs.definitions.BeforeCopy.{ToWrite}
+use Rattle.nm_engine.specs.views.MidRun.{with_state}
 use Rattle.nm_model.specs.definitions.Seen.{frame_seen}
 use Rattle.nm_engine.proofs.Early.Noted.{write_due}
 use Rattle.nm_engine.proofs.Together.Undone.{touches_err}

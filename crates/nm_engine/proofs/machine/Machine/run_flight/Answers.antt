@@ -9,11 +9,11 @@ use Rattle.nm_areas.proofs.Counted.{err_always}
 use Rattle.nm_laws.specs.Interleavings.{IsRun}
 use Rattle.nm_model.specs.definitions.Decide.{Planned}
 use Rattle.nm_model.specs.views.Asked.{access_shown}
-use Rattle.nm_engine.specs.Answering.{answer_shown, due_shown}
-use Rattle.nm_model.specs.definitions.Early.{Due, all_made, without_fronts, with_fronts, tos, IsDue}
+use Rattle.nm_engine.specs.views.Accesses.{answer_shown, pending_shown}
+use Rattle.nm_model.specs.definitions.BeforeCopy.{PendingAccess, all_after_copy, without_fronts, with_fronts, frames_taken, IsPending}
 use Rattle.nm_model.specs.definitions.Touch.{AllAnswered}
 use Rattle.nm_laws.specs.Laws.{with_moves}
-use Rattle.nm_engine.specs.MidRun.{MidRun}
+use Rattle.nm_engine.specs.views.MidRun.{MidRun}
 use Rattle.nm_laws.specs.Moves.{CanMove, IsPlanOf}
 use Rattle.nm_model.specs.definitions.Run.{Ran, run}
 use Rattle.nm_model.specs.definitions.Sound.{IsSound}
@@ -42,7 +42,7 @@ carry_out-answers-requires-clause-sound g c κs within =
     let at = ap (λ (x : MidRun). x.state) c.in_ok-reserve.ensures.same ∙ c.self.view_is in
     let plan = subst (λ (x : State). IsPlanOf x t ws c.in_ok-plan.plan) c.self.view_is c.in_ok-plan.ensures.plan in
     let ready = planned_phases r t moves accesses c.args.self.now ws c.in_ok-plan.plan at plan c.moves-moves.ensures c.in_ok-dues.ensures.sound c.requires.target in
-    subst (λ (x : State). IsSound (with_fronts x t (tos moves))) (sym c.in_ok-dues.ensures.state) ready.1.back
+    subst (λ (x : State). IsSound (with_fronts x t (frames_taken moves))) (sym c.in_ok-dues.ensures.state) ready.1.back
 
 pub carry_out-answers-requires-clause-moves : goal.carry_out-answers-requires-clause-moves
 carry_out-answers-requires-clause-moves g c κs within =
@@ -54,7 +54,7 @@ carry_out-answers-requires-clause-moves g c κs within =
     let at = ap (λ (x : MidRun). x.state) c.in_ok-reserve.ensures.same ∙ c.self.view_is in
     let plan = subst (λ (x : State). IsPlanOf x t ws c.in_ok-plan.plan) c.self.view_is c.in_ok-plan.ensures.plan in
     let ready = planned_phases r t moves accesses c.args.self.now ws c.in_ok-plan.plan at plan c.moves-moves.ensures c.in_ok-dues.ensures.sound c.requires.target in
-    subst (λ (x : State). CanMove (with_fronts x t (tos moves)) t moves) (sym c.in_ok-dues.ensures.state) ready.1.can
+    subst (λ (x : State). CanMove (with_fronts x t (frames_taken moves)) t moves) (sym c.in_ok-dues.ensures.state) ready.1.can
 
 pub carry_out-answers-requires-clause-due : goal.carry_out-answers-requires-clause-due
 carry_out-answers-requires-clause-due g c κs within =
@@ -66,8 +66,8 @@ carry_out-answers-requires-clause-due g c κs within =
     let at = ap (λ (x : MidRun). x.state) c.in_ok-reserve.ensures.same ∙ c.self.view_is in
     let plan = subst (λ (x : State). IsPlanOf x t ws c.in_ok-plan.plan) c.self.view_is c.in_ok-plan.ensures.plan in
     let ready = planned_phases r t moves accesses c.args.self.now ws c.in_ok-plan.plan at plan c.moves-moves.ensures c.in_ok-dues.ensures.sound c.requires.target in
-    subst (λ (ds : List Due). AllByRecursion (IsDue (pages_of moves) c.begin.new.self.state) ds) (sym c.in_ok-dues.ensures.dues)
-    (subst (λ (x : State). AllByRecursion (IsDue (pages_of moves) x) (touched_all r t moves accesses).dues) (sym c.in_ok-dues.ensures.state) ready.1.due)
+    subst (λ (ds : List PendingAccess). AllByRecursion (IsPending (pages_of moves) c.begin.new.self.state) ds) (sym c.in_ok-dues.ensures.dues)
+    (subst (λ (x : State). AllByRecursion (IsPending (pages_of moves) x) (touched_all r t moves accesses).dues) (sym c.in_ok-dues.ensures.state) ready.1.due)
 
 pub returns-clause-answers : goal.returns-clause-answers
 returns-clause-answers g c =
@@ -80,9 +80,9 @@ returns-clause-answers g c =
     let plan = subst (λ (x : State). IsPlanOf x t ws c.in_ok-plan.plan) c.self.view_is c.in_ok-plan.ensures.plan in
     let ready = planned_phases r t moves accesses c.args.self.now ws c.in_ok-plan.plan at plan c.moves-moves.ensures c.in_ok-dues.ensures.sound c.requires.target in
     let early = touched_all r t moves accesses in
-    let made : List Due → State → AllAnswered = λ ds x. all_made (with_moves (with_fronts x t (tos moves)) t moves) ds in
-    run_answers r t ws c.in_ok-plan.plan moves accesses (all_made (with_moves (given_back r t moves accesses) t moves) early.dues) ready.0 c.moves-moves.ensures ready.1.flight (map (answer_shown {A = g.row.A.Denot}) c.carry_out-answers.result.items)
-    (c.carry_out-answers.ensures.answers ∙ ap (λ (x : State). (made (map (due_shown c.args.accesses.now) c.in_ok-dues.dues.items) x).answers) c.in_ok-dues.ensures.state ∙ ap (λ (ds : List Due). (made ds early.state).answers) c.in_ok-dues.ensures.dues)
+    let made : List PendingAccess → State → AllAnswered = λ ds x. all_after_copy (with_moves (with_fronts x t (frames_taken moves)) t moves) ds in
+    run_answers r t ws c.in_ok-plan.plan moves accesses (all_after_copy (with_moves (given_back r t moves accesses) t moves) early.dues) ready.0 c.moves-moves.ensures ready.1.flight (map (answer_shown {A = g.row.A.Denot}) c.carry_out-answers.result.items)
+    (c.carry_out-answers.ensures.answers ∙ ap (λ (x : State). (made (map (pending_shown c.args.accesses.now) c.in_ok-dues.dues.items) x).answers) c.in_ok-dues.ensures.state ∙ ap (λ (ds : List PendingAccess). (made ds early.state).answers) c.in_ok-dues.ensures.dues)
     ∙ ap (λ (s : State). (run s t ws accesses).answers) at
 
 pub returns-clause-state : goal.returns-clause-state
@@ -95,11 +95,11 @@ returns-clause-state g c =
     let at = ap (λ (x : MidRun). x.state) c.in_ok-reserve.ensures.same ∙ c.self.view_is in
     let plan = subst (λ (x : State). IsPlanOf x t ws c.in_ok-plan.plan) c.self.view_is c.in_ok-plan.ensures.plan in
     let ready = planned_phases r t moves accesses c.args.self.now ws c.in_ok-plan.plan at plan c.moves-moves.ensures c.in_ok-dues.ensures.sound c.requires.target in
-    let made : List Due → State → AllAnswered = λ ds x. all_made (with_moves (with_fronts x t (tos moves)) t moves) ds in
+    let made : List PendingAccess → State → AllAnswered = λ ds x. all_after_copy (with_moves (with_fronts x t (frames_taken moves)) t moves) ds in
     let early = touched_all r t moves accesses in
     c.end_run.ensures.state
-    ∙ run_state r t ws c.in_ok-plan.plan moves accesses (all_made (with_moves (given_back r t moves accesses) t moves) early.dues) ready.0 c.moves-moves.ensures ready.1.flight c.carry_out-answers.new.self.state c.carry_out-answers.new.self.left c.statuses.result.now
-    (c.carry_out-answers.ensures.state ∙ ap (λ (x : State). (made (map (due_shown c.args.accesses.now) c.in_ok-dues.dues.items) x).state) c.in_ok-dues.ensures.state ∙ ap (λ (ds : List Due). (made ds early.state).state) c.in_ok-dues.ensures.dues)
+    ∙ run_state r t ws c.in_ok-plan.plan moves accesses (all_after_copy (with_moves (given_back r t moves accesses) t moves) early.dues) ready.0 c.moves-moves.ensures ready.1.flight c.carry_out-answers.new.self.state c.carry_out-answers.new.self.left c.statuses.result.now
+    (c.carry_out-answers.ensures.state ∙ ap (λ (x : State). (made (map (pending_shown c.args.accesses.now) c.in_ok-dues.dues.items) x).state) c.in_ok-dues.ensures.state ∙ ap (λ (ds : List PendingAccess). (made ds early.state).state) c.in_ok-dues.ensures.dues)
     c.carry_out-answers.ensures.left c.statuses.ensures
     ∙ ap (λ (s : State). (run s t ws accesses).state) at
 

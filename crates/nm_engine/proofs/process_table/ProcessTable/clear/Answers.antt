@@ -5,7 +5,7 @@ use Rattle.nm_types.specs.Map.{Map}
 use Rattle.nm_types.proofs.Cases.{none_is_not}
 use Rattle.nm_types.specs.declared.entry.Entry.{Entry}
 use Rattle.nm_model.specs.definitions.PageTables.{Task}
-use Rattle.nm_engine.specs.ProcessTable.{without_entry}
+use Rattle.nm_engine.specs.views.ProcessTable.{without_entry}
 use Rattle.nm_engine.proofs.Tied.Tabled.{none_found, becomes}
 use Rattle.nm_engine.proofs.process_table.ProcessTable.clear.Goals as goal
 

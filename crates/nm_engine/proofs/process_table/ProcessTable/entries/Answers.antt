@@ -2,7 +2,7 @@ use Rattle.std.proofs.Common.{◌<◌, [], length, refl, ap, subst, sym, ◌∙�
 use Rattle.std.specs.Prelude.{Option, Some, IsSome}
 use Rattle.std.specs.Option.{unwrap_or, option_map}
 use Rattle.nm_model.specs.definitions.PageTables.{Task}
-use Rattle.nm_engine.specs.ProcessTable.{task_table}
+use Rattle.nm_engine.specs.views.ProcessTable.{task_table}
 use Rattle.nm_engine.proofs.Tied.Tabled.{found_value, none_found, on_any}
 use Rattle.nm_engine.proofs.process_table.ProcessTable.entries.Goals as goal
 

@@ -5,7 +5,7 @@ use Rattle.std.specs.Ordering.{nat_cmp}
 use Rattle.std.specs.BTreeMap.Range.{entries_between}
 use Rattle.std.specs.declared.ops.Bound.TheVariants.{Included, Excluded}
 use Rattle.nm_model.specs.definitions.PageTables.{Task}
-use Rattle.nm_engine.specs.ProcessTable.{task_table}
+use Rattle.nm_engine.specs.views.ProcessTable.{task_table}
 use Rattle.nm_model.specs.definitions.Seen.{between}
 use Rattle.nm_engine.proofs.Seen.Walked.{ranged}
 use Rattle.nm_engine.proofs.Tied.Tabled.{found_value, none_found}

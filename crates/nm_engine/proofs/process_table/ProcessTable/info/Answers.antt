@@ -2,7 +2,7 @@ use Rattle.std.proofs.Common.{◌≡◌, subst, ◌∙◌, rules}
 use Rattle.std.specs.Prelude.{Option}
 use Rattle.std.specs.Option.{option_map}
 use Rattle.nm_model.specs.definitions.PageTables.{Task}
-use Rattle.nm_engine.specs.ProcessTable.{task_info}
+use Rattle.nm_engine.specs.views.ProcessTable.{task_info}
 use Rattle.nm_engine.proofs.Tied.Tabled.{looked}
 use Rattle.nm_engine.proofs.process_table.ProcessTable.info.Goals as goal
 

@@ -5,7 +5,7 @@ use Rattle.nm_types.specs.Map.{Map, replace}
 use Rattle.nm_types.proofs.Cases.{none_is_not}
 use Rattle.nm_types.specs.declared.entry.Entry.{Entry}
 use Rattle.nm_model.specs.definitions.PageTables.{Task, entry_in}
-use Rattle.nm_engine.specs.ProcessTable.{with_other_entry, replaced_in}
+use Rattle.nm_engine.specs.views.ProcessTable.{with_other_entry, replaced_in}
 use Rattle.nm_engine.proofs.Tied.Places.{found_there, written_there}
 use Rattle.nm_engine.proofs.Tied.Tabled.{found_value, none_found}
 use Rattle.nm_engine.proofs.process_table.ProcessTable.replace.Goals as goal

@@ -9,10 +9,10 @@ use Rattle.nm_model.specs.definitions.Areas.{Mapped, with_frame}
 use Rattle.nm_model.specs.definitions.Events.{arrived, with_entries}
 use Rattle.nm_model.specs.definitions.PageTables.{Task, entry_at}
 use Rattle.nm_rmap.specs.Mappers.{Mappers, mappers_of, carried}
-use Rattle.nm_engine.specs.AddressSpaces.{spaces_view, with_moved}
-use Rattle.nm_engine.specs.Held.{HeldView, held_for}
-use Rattle.nm_engine.specs.ProcessTable.{IsThere, all_replaced}
-use Rattle.nm_engine.specs.Tied.{IsTied}
+use Rattle.nm_engine.specs.views.AddressSpaces.{spaces_view, with_moved}
+use Rattle.nm_engine.specs.views.Held.{HeldView, held_for}
+use Rattle.nm_engine.specs.views.ProcessTable.{IsThere, all_replaced}
+use Rattle.nm_engine.specs.definitions.Tied.{IsTied}
 use Rattle.nm_engine.proofs.Tied.Held.{named_there, hold_tied, hold_shows, hold_entries}
 use Rattle.nm_engine.proofs.Tied.Moved.{placed_in, spare_in, spare_without}
 use Rattle.nm_engine.proofs.address_spaces.held.HeldSpaces.hold_page.Given.{Over}

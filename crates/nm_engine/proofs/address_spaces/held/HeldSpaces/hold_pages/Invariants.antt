@@ -1,8 +1,8 @@
 use Rattle.std.proofs.Common.{◌≡◌, ℕ, drop}
 use Rattle.std.specs.Option.{option_map}
 use Rattle.nm_model.specs.definitions.PageTables.{entry_at}
-use Rattle.nm_engine.specs.Held.{on_their_way}
-use Rattle.nm_engine.specs.Moves.{CanRemap, all_moved}
+use Rattle.nm_engine.specs.views.Held.{on_their_way}
+use Rattle.nm_engine.specs.definitions.Moves.{CanRemap, all_moved}
 use Rattle.nm_engine.proofs.address_spaces.held.HeldSpaces.hold_pages.Given as goal
 
 abbrev pub invariant-loop-taken : goal.invariant-loop-taken

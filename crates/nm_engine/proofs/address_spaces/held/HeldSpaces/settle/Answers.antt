@@ -1,8 +1,8 @@
 use Rattle.std.proofs.Common.{ℕ, ap, sym, ◌∙◌}
 use Rattle.nm_types.specs.Map.{Map}
 use Rattle.nm_model.specs.definitions.PageTables.{Task, entry_at}
-use Rattle.nm_engine.specs.AddressSpaces.{spaces_view}
-use Rattle.nm_engine.specs.Held.{HeldView}
+use Rattle.nm_engine.specs.views.AddressSpaces.{spaces_view}
+use Rattle.nm_engine.specs.views.Held.{HeldView}
 use Rattle.nm_engine.proofs.Tied.Held.{shown_arrived}
 use Rattle.nm_engine.proofs.address_spaces.held.HeldSpaces.settle.Goals as goal
 

@@ -5,7 +5,7 @@ use Rattle.nm_engine.specs.declared.inner.undo.Undo.{Undo}
 use Rattle.nm_model.specs.definitions.Touch.{read}
 use Rattle.nm_model.specs.definitions.Effect.{map_new}
 use Rattle.nm_model.specs.examples.{A, B, one_process, wrote, attached_by_two, seen_by_two}
-use Rattle.nm_engine.specs.Undo.{all_undone, noted}
+use Rattle.nm_engine.specs.definitions.Undo.{all_undone, noted}
 
 -- two private pages that are not yet touched
 abbrev pub untouched_pages : State

@@ -18,7 +18,7 @@ pub enum AccessAnswer<A: Allocator + Copy> {
 
 /// The result of a run.
 #[derive(Debug, Drop)]
-pub struct Flown<A: Allocator + Copy> {
+pub struct RunAnswer<A: Allocator + Copy> {
     /// The status of each request, in order: the number of the node where its page is (0 to 63), or an error's number
     /// with a minus sign.
     pub statuses: Vec<i32, A>,

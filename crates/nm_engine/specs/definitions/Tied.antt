@@ -14,7 +14,7 @@ use Rattle.nm_model.specs.definitions.Areas.{Mapped}
 use Rattle.nm_rmap.specs.Mappers.{Mappers, mappers_of, frame_pins}
 use Rattle.nm_model.specs.definitions.PageTables.{Task}
 use Rattle.nm_model.specs.definitions.PageTables.{entry_at}
-use Rattle.nm_engine.specs.ProcessTable.{names}
+use Rattle.nm_engine.specs.views.ProcessTable.{names}
 
 -- whether a page number of a process is among these
 abbrev pub has_spot : List (ℕ × ℕ) → ℕ × ℕ → Bool

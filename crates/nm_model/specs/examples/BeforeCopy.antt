@@ -3,7 +3,7 @@ use Rattle.std.specs.Prelude.{◌≡◌, [], ◌∷◌}
 use Rattle.nm_types.specs.declared.page.Page.{Page}
 use Rattle.nm_model.specs.definitions.Touch.{Read, Write, Held}
 use Rattle.nm_model.specs.examples.{A, B, E, four_of_five}
-use Rattle.nm_model.specs.definitions.Early.{Known, ToRead, ToWrite, AllEarly, all_early, without_fronts}
+use Rattle.nm_model.specs.definitions.BeforeCopy.{Known, ToRead, ToWrite, AllBeforeCopy, all_before_copy, without_fronts}
 
 -- the pages of the first process's segment
 abbrev page_0 : Page
@@ -17,9 +17,9 @@ page_4 = record { segment = 0; index = 4 }
 
 -- the first page moves, and its new frame is taken; the second is read, and the last, which has no frame yet, is
 -- written
-abbrev pub while_one_moves : AllEarly
+abbrev pub while_one_moves : AllBeforeCopy
 while_one_moves =
-    all_early (without_fronts four_of_five 1 1) (page_0 ∷ []) (Read 1 A 1 ∷ Read 1 B 1 ∷ Write 1 E (0x65 ∷ []) ∷ [])
+    all_before_copy (without_fronts four_of_five 1 1) (page_0 ∷ []) (Read 1 A 1 ∷ Read 1 B 1 ∷ Write 1 E (0x65 ∷ []) ∷ [])
 
 -- the last page has the frame after the one that was taken; no byte has been read or written yet
 abbrev pub PagesAreReadyFirst : Type 0

@@ -4,7 +4,7 @@ use Rattle.std.specs.List.{fold}
 use Rattle.nm_types.specs.declared.page.Page.{Page}
 use Rattle.nm_types.specs.Map.{get, page_cmp}
 use Rattle.nm_types.specs.declared.taken.Taken.{Taken}
-use Rattle.nm_engine.specs.AddressSpaces.{SpacesView, with_moved}
+use Rattle.nm_engine.specs.views.AddressSpaces.{SpacesView, with_moved}
 
 -- one page after another gets its new frame
 abbrev pub all_moved : SpacesView → List Taken → SpacesView

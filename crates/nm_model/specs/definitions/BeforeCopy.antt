@@ -13,68 +13,68 @@ use Rattle.nm_model.specs.definitions.Frames.{overwrite}
 use Rattle.nm_types.specs.declared.taken.Taken.{Taken}
 use Rattle.nm_model.specs.definitions.Memory.{stretch_of}
 use Rattle.nm_model.specs.definitions.Touch.{Access, Read, Write, AccessAnswer, Bytes, Done, Held, Refused, touch}
-use Rattle.nm_model.specs.definitions.Touch.{AllAnswered, is_held, spot_of_access}
+use Rattle.nm_model.specs.definitions.Touch.{AllAnswered, is_held, site_of_access}
 
 -- what is left to do for an access after its touch
-pub data Due : Type 0 where
+pub data PendingAccess : Type 0 where
   -- nothing: its answer is known
-  Known : (answer : AccessAnswer) → Due
+  Known : (answer : AccessAnswer) → PendingAccess
   -- `len` bytes of the page from index `at` on are to be read
-  ToRead : (page : Page) (at len : ℕ) → Due
+  ToRead : (page : Page) (at len : ℕ) → PendingAccess
   -- these bytes are to be written there
-  ToWrite : (page : Page) (at : ℕ) (new : List ℕ) → Due
+  ToWrite : (page : Page) (at : ℕ) (new : List ℕ) → PendingAccess
 
 -- the state after a touch, and what is left to do
-pub record Early : Type 0 where
+pub record BeforeCopy : Type 0 where
   pub state : State
-  pub due : Due
+  pub due : PendingAccess
 
 -- a read of the page that is seen, or zeros if no page is seen
-abbrev pub due_read : Option Sight → ℕ → ℕ → Due
-due_read None at len = Known (Bytes (replicate len 0))
-due_read (Some ZeroPage) at len = Known (Bytes (replicate len 0))
-due_read (Some (Sees page)) at len = ToRead page at len
+abbrev pub pending_read : Option Sight → ℕ → ℕ → PendingAccess
+pending_read None at len = Known (Bytes (replicate len 0))
+pending_read (Some ZeroPage) at len = Known (Bytes (replicate len 0))
+pending_read (Some (Sees page)) at len = ToRead page at len
 
-abbrev pub due_write : Option Sight → ℕ → List ℕ → Due
-due_write None at new = Known Done
-due_write (Some ZeroPage) at new = Known Done
-due_write (Some (Sees page)) at new = ToWrite page at new
+abbrev pub pending_write : Option Sight → ℕ → List ℕ → PendingAccess
+pending_write None at new = Known Done
+pending_write (Some ZeroPage) at new = Known Done
+pending_write (Some (Sees page)) at new = ToWrite page at new
 
 -- what is left of a read after its touch, or its refusal
-abbrev pub read_early : State → ℕ → ℕ → ℕ → Result State Errno → Early
-read_early s pid address len (Err e) = record { state = s; due = Known (Refused e) }
-read_early s pid address len (Ok t) =
-    record { state = t; due = due_read (sight_at t pid (address / 4096)) (address % 4096) len }
+abbrev pub read_before_copy : State → ℕ → ℕ → ℕ → Result State Errno → BeforeCopy
+read_before_copy s pid address len (Err e) = record { state = s; due = Known (Refused e) }
+read_before_copy s pid address len (Ok t) =
+    record { state = t; due = pending_read (sight_at t pid (address / 4096)) (address % 4096) len }
 
 -- what is left of a write after its touch, or its refusal
-abbrev pub write_early : State → ℕ → ℕ → List ℕ → Result State Errno → Early
-write_early s pid address new (Err e) = record { state = s; due = Known (Refused e) }
-write_early s pid address new (Ok t) =
-    record { state = t; due = due_write (sight_at t pid (address / 4096)) (address % 4096) new }
+abbrev pub write_before_copy : State → ℕ → ℕ → List ℕ → Result State Errno → BeforeCopy
+write_before_copy s pid address new (Err e) = record { state = s; due = Known (Refused e) }
+write_before_copy s pid address new (Ok t) =
+    record { state = t; due = pending_write (sight_at t pid (address / 4096)) (address % 4096) new }
 
 -- the touch of an access that is not held
-abbrev pub access_early : State → Access → Early
-access_early s (Read pid address len) = read_early s pid address len (touch s pid address len false)
-access_early s (Write pid address new) = write_early s pid address new (touch s pid address (length new) true)
+abbrev pub access_before_copy : State → Access → BeforeCopy
+access_before_copy s (Read pid address len) = read_before_copy s pid address len (touch s pid address len false)
+access_before_copy s (Write pid address new) = write_before_copy s pid address new (touch s pid address (length new) true)
 
 -- an access that is held touches nothing
-abbrev pub held_early : State → Early
-held_early s = record { state = s; due = Known Held }
+abbrev pub held_before_copy : State → BeforeCopy
+held_before_copy s = record { state = s; due = Known Held }
 
 -- the touch of an access while these pages move
-abbrev pub early : State → List Page → Access → Early
-early s moved a = if is_held moved (spot_of_access s a) then held_early s else access_early s a
+abbrev pub before_copy : State → List Page → Access → BeforeCopy
+before_copy s moved a = if is_held moved (site_of_access s a) then held_before_copy s else access_before_copy s a
 
-pub record AllEarly : Type 0 where
+pub record AllBeforeCopy : Type 0 where
   pub state : State
-  pub dues : List Due
+  pub dues : List PendingAccess
 
 -- one touch after another
-abbrev pub all_early : State → List Page → List Access → AllEarly
-all_early s moved [] = record { state = s; dues = [] }
-all_early s moved (a ∷ accesses) =
-    let now = early s moved a in
-    let rest = all_early now.state moved accesses in
+abbrev pub all_before_copy : State → List Page → List Access → AllBeforeCopy
+all_before_copy s moved [] = record { state = s; dues = [] }
+all_before_copy s moved (a ∷ accesses) =
+    let now = before_copy s moved a in
+    let rest = all_before_copy now.state moved accesses in
     record { state = rest.state; dues = now.due ∷ rest.dues }
 
 -- changes the value of one page
@@ -87,23 +87,23 @@ with_written s page at new =
     record s { bytes = with_values (at_page page (λ old. overwrite old at new)) s.bytes }
 
 -- the state after what was left is done
-abbrev pub made : State → Due → State
-made s (Known answer) = s
-made s (ToRead page at len) = s
-made s (ToWrite page at new) = with_written s page at new
+abbrev pub after_copy : State → PendingAccess → State
+after_copy s (Known answer) = s
+after_copy s (ToRead page at len) = s
+after_copy s (ToWrite page at new) = with_written s page at new
 
 -- the answer of what was left to do
-abbrev pub told : State → Due → AccessAnswer
-told s (Known answer) = answer
-told s (ToRead page at len) = Bytes (stretch_of (unwrap_or (get page_cmp s.bytes page) []) at len)
-told s (ToWrite page at new) = Done
+abbrev pub answer_after_copy : State → PendingAccess → AccessAnswer
+answer_after_copy s (Known answer) = answer
+answer_after_copy s (ToRead page at len) = Bytes (stretch_of (unwrap_or (get page_cmp s.bytes page) []) at len)
+answer_after_copy s (ToWrite page at new) = Done
 
 -- one after another
-abbrev pub all_made : State → List Due → AllAnswered
-all_made s [] = record { state = s; answers = [] }
-all_made s (d ∷ dues) =
-    let rest = all_made (made s d) dues in
-    record { state = rest.state; answers = told s d ∷ rest.answers }
+abbrev pub all_after_copy : State → List PendingAccess → AllAnswered
+all_after_copy s [] = record { state = s; answers = [] }
+all_after_copy s (d ∷ dues) =
+    let rest = all_after_copy (after_copy s d) dues in
+    record { state = rest.state; answers = answer_after_copy s d ∷ rest.answers }
 
 -- a page is in the frame that it takes
 abbrev pub with_place : State → Taken → State
@@ -122,27 +122,27 @@ abbrev pub with_fronts : State → ℕ → List ℕ → State
 with_fronts s node frames = record s { free = slice_set s.free node (frames ++ free_list s node) }
 
 -- the frames that moves take
-abbrev pub tos : List Taken → List ℕ
-tos taken = map (λ t. t.to) taken
+abbrev pub frames_taken : List Taken → List ℕ
+frames_taken taken = map (λ t. t.to) taken
 
 -- what is left to do concerns a page that has a frame, if any
-abbrev pub Touches : State → Due → Type 0
+abbrev pub Touches : State → PendingAccess → Type 0
 Touches s (Known answer) = Unit {0}
 Touches s (ToRead page at len) = IsSome (get page_cmp s.place page)
 Touches s (ToWrite page at new) = IsSome (get page_cmp s.place page)
 
 -- its page is none of these
-abbrev pub IsBeside : List Page → Due → Type 0
+abbrev pub IsBeside : List Page → PendingAccess → Type 0
 IsBeside moved (Known answer) = Unit {0}
 IsBeside moved (ToRead page at len) = list_any (same_page page) moved ≡ false
 IsBeside moved (ToWrite page at new) = list_any (same_page page) moved ≡ false
 
 -- its bytes end within the page
-abbrev pub IsInside : Due → Type 0
+abbrev pub IsInside : PendingAccess → Type 0
 IsInside (Known answer) = Unit {0}
 IsInside (ToRead page at len) = at + len ≤ 4096
 IsInside (ToWrite page at new) = at + length new ≤ 4096
 
 -- what is left to do is inside a page that has a frame and is none of these
-abbrev pub IsDue : List Page → State → Due → Type 0
-IsDue moved s d = Touches s d × IsBeside moved d × IsInside d
+abbrev pub IsPending : List Page → State → PendingAccess → Type 0
+IsPending moved s d = Touches s d × IsBeside moved d × IsInside d

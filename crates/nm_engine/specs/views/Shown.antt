@@ -5,8 +5,8 @@ use Rattle.nm_types.specs.Map.{Map, with_values}
 use Rattle.nm_types.specs.State.{Process, State}
 use Rattle.nm_model.specs.views.Table.{Table}
 use Rattle.nm_model.specs.definitions.Frames.{Store, bytes_of}
-use Rattle.nm_engine.specs.AddressSpaces.{SpacesView, table_of}
-use Rattle.nm_engine.specs.Frames.{FramesView, PagedFrames}
+use Rattle.nm_engine.specs.views.AddressSpaces.{SpacesView, table_of}
+use Rattle.nm_engine.specs.views.Frames.{FramesView, PagedFrames}
 
 -- the bytes of each page that has a frame
 abbrev pub bytes_in : Store → Map Page ℕ → Map Page (List ℕ)

@@ -7,35 +7,35 @@ use Rattle.nm_frames.specs.Populated.{IsPopulated}
 use Rattle.nm_model.specs.definitions.Frames.{Store, IsHome, bytes_of, overwrite}
 use Rattle.nm_model.specs.definitions.Memory.{stretch_of}
 use Rattle.nm_model.specs.definitions.Touch.{AccessAnswer, Bytes, Done}
-use Rattle.nm_model.specs.definitions.Early.{Due, Known, ToRead, ToWrite}
+use Rattle.nm_model.specs.definitions.BeforeCopy.{PendingAccess, Known, ToRead, ToWrite}
 
 -- the frame of a page
 abbrev pub frame_at : Map Page ℕ → Page → ℕ
 frame_at place page = unwrap_or (get page_cmp place page) 0
 
 -- the bytes of frames after it is done
-abbrev pub done_in : Map Page ℕ → Store → Due → Store
-done_in place store (Known answer) = store
-done_in place store (ToRead page at len) = store
-done_in place store (ToWrite page at new) =
+abbrev pub store_after_copy : Map Page ℕ → Store → PendingAccess → Store
+store_after_copy place store (Known answer) = store
+store_after_copy place store (ToRead page at len) = store
+store_after_copy place store (ToWrite page at new) =
     let f = frame_at place page in slice_set store f (Some (overwrite (bytes_of store f) at new))
 
 -- the answer of what is left to do
-abbrev pub told_in : Map Page ℕ → Store → Due → AccessAnswer
-told_in place store (Known answer) = answer
-told_in place store (ToRead page at len) = Bytes (stretch_of (bytes_of store (frame_at place page)) at len)
-told_in place store (ToWrite page at new) = Done
+abbrev pub answer_from_store : Map Page ℕ → Store → PendingAccess → AccessAnswer
+answer_from_store place store (Known answer) = answer
+answer_from_store place store (ToRead page at len) = Bytes (stretch_of (bytes_of store (frame_at place page)) at len)
+answer_from_store place store (ToWrite page at new) = Done
 
-pub record Finished : Type 0 where
+pub record StoreAfterCopy : Type 0 where
   pub store : Store
   pub answers : List AccessAnswer
 
 -- one after another
-abbrev pub all_done : Map Page ℕ → Store → List Due → Finished
-all_done place store [] = record { store = store; answers = [] }
-all_done place store (d ∷ dues) =
-    let rest = all_done place (done_in place store d) dues in
-    record { store = rest.store; answers = told_in place store d ∷ rest.answers }
+abbrev pub all_stored_after_copy : Map Page ℕ → Store → List PendingAccess → StoreAfterCopy
+all_stored_after_copy place store [] = record { store = store; answers = [] }
+all_stored_after_copy place store (d ∷ dues) =
+    let rest = all_stored_after_copy place (store_after_copy place store d) dues in
+    record { store = rest.store; answers = answer_from_store place store d ∷ rest.answers }
 
 -- the page is in this frame, whose bytes are home and in memory, and `len` bytes from index `at` on are inside it
 pub record IsIn (place : Map Page ℕ) (store : Store) (page : Page) (at len : ℕ) : Type 0 where
@@ -46,7 +46,7 @@ pub record IsIn (place : Map Page ℕ) (store : Store) (page : Page) (at len : �
   pub inside : at + len ≤ 4096
 
 -- what is left can be done
-abbrev pub CanDo : Map Page ℕ → Store → Due → Type 0
+abbrev pub CanDo : Map Page ℕ → Store → PendingAccess → Type 0
 CanDo place store (Known answer) = Unit {0}
 CanDo place store (ToRead page at len) = IsIn place store page at len
 CanDo place store (ToWrite page at new) = IsIn place store page at (length new)

@@ -11,7 +11,7 @@ use Rattle.nm_model.specs.definitions.Areas.{Mapped}
 use Rattle.nm_model.specs.definitions.PageTables.{Task, entry_at, entry_of}
 use Rattle.nm_model.specs.definitions.Seen.{sight_in}
 use Rattle.nm_rmap.specs.Mappers.{Mappers}
-use Rattle.nm_engine.specs.AddressSpaces.{SpacesView, spaces_view}
+use Rattle.nm_engine.specs.views.AddressSpaces.{SpacesView, spaces_view}
 
 pub record HeldView : Type 0 where
   -- each process with its page table, by pid, in which the entries of pages on their way are held

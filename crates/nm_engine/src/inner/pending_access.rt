@@ -1,12 +1,12 @@
 //! What is left to do for an access in flight after its touch.
 
-use crate::answered::AccessAnswer;
+use crate::answers::AccessAnswer;
 use nm_types::Page;
 use std::alloc::Allocator;
 
 /// What is left to do for an access after its touch. None of it allocates.
 #[derive(Drop)]
-pub(crate) enum Due<A: Allocator + Copy> {
+pub(crate) enum PendingAccess<A: Allocator + Copy> {
     /// Nothing: its answer is known.
     Known(AccessAnswer<A>),
     /// Reading `len` bytes of a page, from index `at` on, into a list that has room for them.

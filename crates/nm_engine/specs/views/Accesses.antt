@@ -2,12 +2,12 @@
 use Rattle.std.specs.Prelude.{◌≡◌, ◌≤◌, ℕ, vec_capacity, List, [], slice_get, Option, Some, None}
 use Rattle.nm_types.specs.declared.access.Access.{Access as Asked}
 use Rattle.nm_types.specs.declared.access.Access.TheVariants as asked
-use Rattle.nm_engine.specs.declared.answered.AccessAnswer.{AccessAnswer as Given}
-use Rattle.nm_engine.specs.declared.answered.AccessAnswer.TheVariants as given
-use Rattle.nm_engine.specs.declared.inner.due.Due.{Due as Left}
-use Rattle.nm_engine.specs.declared.inner.due.Due.TheVariants as left
+use Rattle.nm_engine.specs.declared.answers.AccessAnswer.{AccessAnswer as Given}
+use Rattle.nm_engine.specs.declared.answers.AccessAnswer.TheVariants as given
+use Rattle.nm_engine.specs.declared.inner.pending_access.PendingAccess.{PendingAccess as Left}
+use Rattle.nm_engine.specs.declared.inner.pending_access.PendingAccess.TheVariants as left
 use Rattle.nm_model.specs.definitions.Touch.{AccessAnswer, Bytes, Done, Held, Refused}
-use Rattle.nm_model.specs.definitions.Early.{Due, Known, ToRead, ToWrite}
+use Rattle.nm_model.specs.definitions.BeforeCopy.{PendingAccess, Known, ToRead, ToWrite}
 
 module _ {A : Type 0} where
   -- an answer
@@ -24,10 +24,10 @@ module _ {A : Type 0} where
   written_by (Some (asked.Write pid addr bytes)) = bytes.items
 
   -- what is left to do for one of these accesses
-  abbrev pub due_shown : List (Asked A) → Left A → Due
-  due_shown accesses (left.Known answer) = Known (answer_shown answer)
-  due_shown accesses (left.Read page at len bytes) = ToRead page at len
-  due_shown accesses (left.Write page at k) = ToWrite page at (written_by (slice_get accesses k))
+  abbrev pub pending_shown : List (Asked A) → Left A → PendingAccess
+  pending_shown accesses (left.Known answer) = Known (answer_shown answer)
+  pending_shown accesses (left.Read page at len bytes) = ToRead page at len
+  pending_shown accesses (left.Write page at k) = ToWrite page at (written_by (slice_get accesses k))
 
   -- the list for the bytes has room for them
   abbrev pub HasRoom : Left A → Type 0

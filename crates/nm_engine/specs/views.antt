@@ -1,0 +1,9 @@
+-- What contracts see the values of the code as.
+pub mod Copies
+pub mod Frames
+pub mod Shown
+pub mod ProcessTable
+pub mod AddressSpaces
+pub mod Held
+pub mod MidRun
+pub mod Accesses
