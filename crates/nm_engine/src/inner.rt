@@ -21,7 +21,7 @@ mod undo;
 use crate::address_spaces::AddressSpaces;
 use crate::frames::Frames;
 use crate::machine::Totals;
-use nm_types::{Geometry, NodeId, NodeMask};
+use nm_types::{Geometry, NodeId, NodeMask, Pid, Vpn};
 pub use run::failures;
 use std::alloc::{AllocError, Allocator};
 use std::marker::Model;
@@ -33,6 +33,8 @@ pub(crate) struct Inner<A: Allocator + Copy> {
     pub(crate) frames: Frames<A>,
     pub(crate) online: NodeMask,
     pub(crate) totals: Totals,
+    /// Where a page was pinned last. Says nothing of whether it still has the pin.
+    last_pin: Option<(Pid, Vpn)>,
     pub(crate) alloc: A,
 }
 
@@ -66,6 +68,7 @@ impl<A: Allocator + Copy> Inner<A> {
                 moved: 0,
                 failed: 0,
             },
+            last_pin: None,
             alloc,
         })
     }

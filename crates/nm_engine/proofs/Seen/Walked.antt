@@ -264,6 +264,6 @@ counts_users s l p None h e = sym (ap length (nobody_sees s l p h e))
 counts_users s l p (Some frame) h e = refl
 
 -- the same of a look at what the parts show
-pub counted_here : (s now : MidRun) (p : Page) (seen : Seen) → s ≡ now → IsSoundMidRun s.state s.left → seen ≡ look_at_place s.state.processes s.state.pins p (get page_cmp s.state.place p) → counted seen ≡ length (users now.state p)
+pub counted_here : (s now : MidRun) (p : Page) (seen : Seen) → s ≡ now → IsSoundMidRun s.state s.left → seen ≡ look_at_place s.state.processes s.state.pins p (get page_cmp s.state.place p) → counted seen ≡ length (users now.state.processes p)
 counted_here s now p seen is h look =
     ap counted look ∙ counts_users s.state s.left p (get page_cmp s.state.place p) h refl ∙ ap (λ (x : MidRun). length (users x.state.processes p)) is

@@ -106,6 +106,23 @@ impl<A: Allocator + Copy> AddressSpaces<A> {
             .shows_counted(pid, first, end, self.rmap.pin_counts())
     }
 
+    /// Whether the page that an area of a process shows at a page number has a pin.
+    pub(crate) fn has_pin_at(&self, pid: Pid, vpn: Vpn) -> bool
+        ensures { result ≡ true →
+            (first end : ℕ) →
+            first ≤ vpn →
+            vpn < end →
+            shows_pinned self.now.areas self.now.pins pid first end ≡ true }
+    {
+        let Some(page) = self.page_at(pid, vpn) else {
+            return false;
+        };
+        match self.place(page) {
+            Some(frame) => self.rmap.pins(frame) > 0,
+            None => false,
+        }
+    }
+
     /// Unmaps `pages` pages of a process from an address on, none of which may have a pin: the process loses what it
     /// sees there, and the parts of its areas there. Returns the pages that no area covers, with the frames that they
     /// had, in address order.

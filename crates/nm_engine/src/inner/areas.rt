@@ -125,10 +125,7 @@ impl<A: Allocator + Copy> Inner<A> {
         let Some(first) = range_start(addr, pages) else {
             return Err(MachineError::Refused(Errno::Einval));
         };
-        if self
-            .spaces
-            .has_pinned(pid, first, Vpn::new(first.number() + pages))
-        {
+        if self.shows_pinned(pid, first, Vpn::new(first.number() + pages)) {
             return Err(MachineError::Refused(Errno::Ebusy));
         }
         self.let_go(pid, addr, pages)

@@ -3,13 +3,13 @@
 ghost use Rattle.nm_engine.specs.definitions.Does.{Alters};
 ghost use Rattle.nm_model.specs.definitions.Effect.{pin, unpin};
 ghost use Rattle.nm_engine.specs.views.MidRun.{with_state};
-ghost use Rattle.nm_model.specs.definitions.Effect.{is_unknown, pin_refusal, pins_refusal, unpin_refusal};
+ghost use Rattle.nm_model.specs.definitions.Effect.{is_unknown, pin_refusal, pins_refusal, shows_pinned, unpin_refusal};
 ghost use Rattle.nm_model.specs.definitions.Seen.{page_seen, sight_at};
 ghost use Rattle.nm_types.specs.Map.{get, page_cmp};
 ghost use Rattle.nm_types.specs.declared.errno.Errno.{Errno};
 ghost use Rattle.nm_types.specs.declared.errno.Errno.TheVariants.{Esrch};
 ghost use Rattle.nm_types.specs.declared.sight.Sight.TheVariants.{Sees};
-ghost use Rattle.std.specs.Prelude.{Bool, IfErr, IfOk, Some, false, if◌then◌else◌, ℕ, ◌+◌, ◌/◌, ◌<◌, ◌≡◌};
+ghost use Rattle.std.specs.Prelude.{Bool, IfErr, IfOk, Some, false, if◌then◌else◌, true, ℕ, ◌+◌, ◌/◌, ◌<◌, ◌≡◌, ◌≤◌};
 
 use crate::inner::Inner;
 use nm_types::{Errno, FrameId, Page, Pid, Seen, Vpn};
@@ -49,6 +49,7 @@ impl<A: Allocator + Copy> Inner<A> {
         ensures same { self.new ≡ with_state self.old self.new.state }
     {
         let (page, frame) = self.page_seen(pid, addr)?;
+        self.last_pin = Some((pid, Vpn::of_address(addr)));
         self.spaces.pin(page, frame)
     }
 
@@ -60,5 +61,30 @@ impl<A: Allocator + Copy> Inner<A> {
     {
         let (page, frame) = self.page_seen(pid, addr)?;
         self.spaces.unpin(page, frame)
+    }
+
+    /// Whether an area of a process shows a page with a pin from one page number up to another. Looks first where a page
+    /// was pinned last: what is refused again and again for that pin walks over nothing.
+    pub(crate) fn shows_pinned(&self, pid: Pid, first: Vpn, end: Vpn) -> bool
+        requires { first ≤ end }
+        ensures { result ≡ shows_pinned self.now.state.areas self.now.state.pins pid first end }
+    {
+        self.last_pin_is_in(pid, first, end) || self.spaces.has_pinned(pid, first, end)
+    }
+
+    /// Whether the page that was pinned last still has a pin, and is shown there in this range of the process.
+    fn last_pin_is_in(&self, pid: Pid, first: Vpn, end: Vpn) -> bool
+        ensures { result ≡ true →
+            shows_pinned self.now.state.areas self.now.state.pins pid first end ≡ true }
+    {
+        match self.last_pin {
+            Some((owner, vpn)) => {
+                owner == pid
+                    && vpn.number() >= first.number()
+                    && vpn.number() < end.number()
+                    && self.spaces.has_pin_at(pid, vpn)
+            }
+            None => false,
+        }
     }
 }

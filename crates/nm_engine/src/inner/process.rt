@@ -82,10 +82,7 @@ impl<A: Allocator + Copy> Inner<A> {
         if self.spaces.info(pid).is_none() {
             return Err(MachineError::Refused(Errno::Esrch));
         }
-        if self
-            .spaces
-            .has_pinned(pid, Vpn::new(0), Vpn::new(PAGE_NUMBERS))
-        {
+        if self.shows_pinned(pid, Vpn::new(0), Vpn::new(PAGE_NUMBERS)) {
             return Err(MachineError::Refused(Errno::Ebusy));
         }
         self.let_go(pid, 0, PAGE_NUMBERS)?;

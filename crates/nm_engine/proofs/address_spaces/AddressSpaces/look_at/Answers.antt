@@ -12,9 +12,9 @@ pub returns-clause-look : goal.returns-clause-look
 returns-clause-look g c =
     let x = c.self.inside in
     let placed = placed_in c.args.self.now x.tasks x.areas x.rmap c.args.page c.args.frame c.self.view_is c.requires in
-    let users =
+    let counted =
     c.processes.ensures ∙ users_counted x.tasks x.areas x.rmap c.self.invariant c.args.page c.args.frame placed
     ∙ ap (λ (y : SpacesView). length (users y.processes c.args.page)) c.self.view_is in
     let pins = c.pins.ensures.pins ∙ sym (pins_shown c.args.self.now x.tasks x.areas x.rmap c.args.page c.args.frame c.self.view_is c.requires) in
-    ap (λ n. At c.args.page c.args.frame n (nat_lt 0 c.pins.result)) users
+    ap (λ n. At c.args.page c.args.frame n (nat_lt 0 c.pins.result)) counted
     ∙ ap (λ n. At c.args.page c.args.frame (length (users c.args.self.now.processes c.args.page)) (nat_lt 0 n)) pins
