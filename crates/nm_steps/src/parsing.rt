@@ -1,8 +1,10 @@
 //! Steps in JSON: the call that each asks for.
 
-ghost use Rattle.std.specs.Prelude.{◌≡◌, ◌<◌, ◌++◌, ◌∷◌, [], OnOk, IfErr};
+ghost use Rattle.std.specs.Prelude.{◌≡◌, ◌<◌, ◌++◌, ◌∷◌, [], option_map, OnOk, IfErr, codes};
 ghost use Rattle.nm_steps.specs.Tree.{items_seen};
 ghost use Rattle.nm_model.specs.views.Asked.{access_shown};
+ghost use Rattle.nm_steps.specs.Calls as calls;
+ghost use Rattle.nm_steps.specs.Form.{small_at, place_at};
 ghost use Rattle.nm_steps.specs.Form as form;
 ghost use Rattle.nm_steps.specs.Views.{call_of, shown_during};
 ghost use Rattle.nm_steps.specs.Gives.{Gives};
@@ -183,18 +185,18 @@ fn unmap<A: Allocator + Copy + Send + Sync, V: JsonValue>(value: &V) -> Result<C
     })
 }
 
-#[tactic(auto, unfolding(crate::specs::Form::exit_of))]
 fn exit<A: Allocator + Copy + Send + Sync, V: JsonValue>(value: &V) -> Result<Call<A>, StepError>
-    ensures { Gives call_of result (form.exit_of (V.as_data value.now)) }
+    ensures { Gives call_of result
+        (option_map calls.Exit (small_at (codes "pid") (V.as_data value.now))) }
 {
     Ok(Call::Exit {
         pid: Pid::new(small(value, "pid")?),
     })
 }
 
-#[tactic(auto, unfolding(crate::specs::Form::pin_of))]
 fn pin<A: Allocator + Copy + Send + Sync, V: JsonValue>(value: &V) -> Result<Call<A>, StepError>
-    ensures { Gives call_of result (form.pin_of (V.as_data value.now)) }
+    ensures { Gives call_of result
+        (option_map (λ (pid, addr). calls.Pin pid addr) (place_at (V.as_data value.now))) }
 {
     Ok(Call::Pin {
         pid: Pid::new(small(value, "pid")?),
@@ -202,9 +204,9 @@ fn pin<A: Allocator + Copy + Send + Sync, V: JsonValue>(value: &V) -> Result<Cal
     })
 }
 
-#[tactic(auto, unfolding(crate::specs::Form::unpin_of))]
 fn unpin<A: Allocator + Copy + Send + Sync, V: JsonValue>(value: &V) -> Result<Call<A>, StepError>
-    ensures { Gives call_of result (form.unpin_of (V.as_data value.now)) }
+    ensures { Gives call_of result
+        (option_map (λ (pid, addr). calls.Unpin pid addr) (place_at (V.as_data value.now))) }
 {
     Ok(Call::Unpin {
         pid: Pid::new(small(value, "pid")?),
@@ -223,7 +225,8 @@ fn access_step<A: Allocator + Copy + Send + Sync>(access: Access<A>) -> Call<A>
 }
 
 fn read<A: Allocator + Copy + Send + Sync, V: JsonValue>(value: &V) -> Result<Call<A>, StepError>
-    ensures { Gives call_of result (form.read_of (V.as_data value.now)) }
+    ensures { Gives call_of result
+        (option_map form.access_step (form.read_access (V.as_data value.now))) }
 {
     Ok(access_step(read_access(value)?))
 }
@@ -232,7 +235,8 @@ fn write<A: Allocator + Copy + Send + Sync, V: JsonValue>(
     alloc: A,
     value: &V,
 ) -> Result<Call<A>, StepError>
-    ensures { Gives call_of result (form.write_of (V.as_data value.now)) }
+    ensures { Gives call_of result
+        (option_map form.access_step (form.write_access (V.as_data value.now))) }
 {
     Ok(access_step(write_access(alloc, value)?))
 }
@@ -306,18 +310,18 @@ fn mbind<A: Allocator + Copy + Send + Sync, V: JsonValue>(value: &V) -> Result<C
     }))
 }
 
-#[tactic(auto, unfolding(crate::specs::Form::offline_of))]
 fn offline<A: Allocator + Copy + Send + Sync, V: JsonValue>(value: &V) -> Result<Call<A>, StepError>
-    ensures { Gives call_of result (form.offline_of (V.as_data value.now)) }
+    ensures { Gives call_of result
+        (option_map calls.Offline (small_at (codes "node") (V.as_data value.now))) }
 {
     Ok(Call::Offline {
         node: NodeId::new(small(value, "node")?),
     })
 }
 
-#[tactic(auto, unfolding(crate::specs::Form::online_of))]
 fn online<A: Allocator + Copy + Send + Sync, V: JsonValue>(value: &V) -> Result<Call<A>, StepError>
-    ensures { Gives call_of result (form.online_of (V.as_data value.now)) }
+    ensures { Gives call_of result
+        (option_map calls.Online (small_at (codes "node") (V.as_data value.now))) }
 {
     Ok(Call::Online {
         node: NodeId::new(small(value, "node")?),
@@ -346,36 +350,35 @@ fn query<A: Allocator + Copy + Send + Sync, V: JsonValue>(
     }))
 }
 
-#[tactic(auto, unfolding(crate::specs::Form::free_of))]
 fn free<A: Allocator + Copy + Send + Sync, V: JsonValue>(value: &V) -> Result<Call<A>, StepError>
-    ensures { Gives call_of result (form.free_of (V.as_data value.now)) }
+    ensures { Gives call_of result
+        (option_map calls.FreeList (small_at (codes "node") (V.as_data value.now))) }
 {
     Ok(Call::FreeList {
         node: NodeId::new(small(value, "node")?),
     })
 }
 
-#[tactic(auto, unfolding(crate::specs::Form::pagemap_of))]
 fn pagemap<A: Allocator + Copy + Send + Sync, V: JsonValue>(value: &V) -> Result<Call<A>, StepError>
-    ensures { Gives call_of result (form.pagemap_of (V.as_data value.now)) }
+    ensures { Gives call_of result
+        (option_map calls.Pagemap (small_at (codes "pid") (V.as_data value.now))) }
 {
     Ok(Call::Pagemap {
         pid: Pid::new(small(value, "pid")?),
     })
 }
 
-#[tactic(auto, unfolding(crate::specs::Form::vmstat_of))]
 fn vmstat<A: Allocator + Copy + Send + Sync, V: JsonValue>(value: &V) -> Result<Call<A>, StepError>
-    ensures { Gives call_of result (form.vmstat_of (V.as_data value.now)) }
+    ensures { Gives call_of result (Some calls.Vmstat) }
 {
     Ok(Call::Vmstat)
 }
 
-#[tactic(auto, unfolding(crate::specs::Form::numa_maps_of))]
 fn numa_maps<A: Allocator + Copy + Send + Sync, V: JsonValue>(
     value: &V,
 ) -> Result<Call<A>, StepError>
-    ensures { Gives call_of result (form.numa_maps_of (V.as_data value.now)) }
+    ensures { Gives call_of result
+        (option_map calls.NumaMaps (small_at (codes "pid") (V.as_data value.now))) }
 {
     Ok(Call::NumaMaps {
         pid: Pid::new(small(value, "pid")?),
