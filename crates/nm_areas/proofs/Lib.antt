@@ -10,7 +10,8 @@ pub mod Gone
 pub mod Letting
 pub mod Untouched
 pub mod Roomy
-pub mod Values
+pub mod Listed
+pub mod Divided
 pub mod Steps
 pub mod Counted
 pub mod Stretches

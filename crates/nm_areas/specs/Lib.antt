@@ -3,3 +3,4 @@ pub mod Lines
 pub mod Shifted
 pub mod Coverage
 pub mod Rests
+pub mod Splits

@@ -2,8 +2,9 @@
 //! over private segments are not counted, since each page of those is shown only once.
 
 ghost use Rattle.std.specs.List.{AllByRecursion};
-ghost use Rattle.std.specs.Prelude.{IfNone, IfSome, OnErr, OnOk, ℕ, ◌+◌, ◌<◌, ◌^◌, ◌≡◌, ◌≤◌, if◌then◌else◌};
+ghost use Rattle.std.specs.Prelude.{IfNone, IfSome, OnErr, OnOk, OnSome, true, ℕ, ◌+◌, ◌<◌, ◌^◌, ◌≡◌, ◌≤◌, ◌⊎◌, if◌then◌else◌};
 ghost use Rattle.nm_areas.specs.Coverage.{IsCoverage, IsFlat, IsSteps, IsWith, covers_at, covers_of, ends_at, ends_of, of_shared, splits_at};
+ghost use Rattle.nm_areas.specs.Splits.{HasSplit};
 ghost use Rattle.nm_model.specs.definitions.Areas.{AreasAreApart, HasIndices, IsSomePages};
 ghost use Rattle.nm_model.specs.definitions.Areas.{others};
 ghost use Rattle.nm_types.specs.Map.{Map, same_page};
@@ -17,7 +18,7 @@ use std::alloc::{AllocError, Allocator};
 use std::collections::BTreeMap;
 
 /// Counts an area that is to be added to a table, if it is over a shared segment. An error means that the steps are
-/// still those of the table.
+/// still those of the table. Allocates only for a shared segment.
 pub(crate) fn count_in<A: Allocator + Copy>(
     table: &AreaTable<A>,
     steps: &mut BTreeMap<Page, Step, A>,
@@ -34,6 +35,7 @@ pub(crate) fn count_in<A: Allocator + Copy>(
 
     // Without memory
     ensures err { OnErr result (IsCoverage steps.new.entries table.now.segments table.now.areas) }
+    ensures asked { OnErr result (shared ≡ true) }
 {
     if !shared {
         return Ok(());
@@ -101,7 +103,7 @@ fn count_out_one<A: Allocator + Copy>(
 }
 
 /// Counts the new ends that appear when the areas of a process are split at two page numbers. An error means that the
-/// steps are still those of the table.
+/// steps are still those of the table. Allocates only if an area covers one of the page numbers and begins before it.
 pub(crate) fn split_steps<A: Allocator + Copy>(
     table: &AreaTable<A>,
     steps: &mut BTreeMap<Page, Step, A>,
@@ -124,6 +126,8 @@ pub(crate) fn split_steps<A: Allocator + Copy>(
 
     // Without memory
     ensures err { OnErr result (IsCoverage steps.new.entries table.now.segments table.now.areas) }
+    ensures asked { OnErr result
+        (HasSplit table.now.areas pid first ⊎ HasSplit table.now.areas pid end) }
 {
     // There are so few areas that no number in a step overflows.
     let areas = table.count();
@@ -159,7 +163,7 @@ pub(crate) fn join_steps<A: Allocator + Copy>(
 }
 
 /// Counts the new ends that appear when the areas of a process are split at a page number. An error means that nothing
-/// has changed.
+/// has changed. Allocates only if an area covers the page number and begins before it.
 fn split_step<A: Allocator + Copy>(
     table: &AreaTable<A>,
     steps: &mut BTreeMap<Page, Step, A>,
@@ -182,6 +186,7 @@ fn split_step<A: Allocator + Copy>(
 
     // Without memory
     ensures err { OnErr result (steps.new.entries ≡ steps.old.entries) }
+    ensures asked { OnErr result (HasSplit table.now.areas pid at) }
 {
     match table.split_page(pid, at) {
         Some(page) => mark(steps, page, 2),
@@ -223,6 +228,7 @@ impl<A: Allocator + Copy> AreaTable<A> {
             (λ page. (p : Page) →
             of_shared self.now.segments (splits_at self.now.areas pid at) p
             ≡ (if same_page page p then 2 else 0)) }
+        ensures split { OnSome result (HasSplit self.now.areas pid at) }
 
         // If there is none
         ensures none { IfNone result

@@ -6,8 +6,8 @@
 //! and none reaches the limit: there are fewer areas than 2^63.
 
 ghost use Rattle.std.specs.Option.{option_map};
-ghost use Rattle.std.specs.Prelude.{false, None, OnErr, OnOk, Some, ℕ, ◌+◌, ◌<◌, ◌^◌, ◌≡◌, ◌≤◌, if◌then◌else◌};
-ghost use Rattle.nm_areas.specs.Coverage.{IsFlat, IsSteps, covers_of, ends_of};
+ghost use Rattle.std.specs.Prelude.{false, None, OnErr, OnOk, Some, ℕ, ◌+◌, ◌<◌, ◌^◌, ◌≡◌, ◌≤◌, ◌⊎◌, if◌then◌else◌};
+ghost use Rattle.nm_areas.specs.Coverage.{IsFlat, IsSteps, covers_of, end_of, ends_of};
 ghost use Rattle.nm_model.specs.definitions.Areas.{page_in};
 ghost use Rattle.nm_areas.specs.Shifted.{shifted, shifted_in};
 ghost use Rattle.nm_areas.specs.Rests.{IsRest};
@@ -29,7 +29,7 @@ pub(crate) struct Step {
     pub(crate) ends: u64,
 }
 
-/// Counts an area. An error means that nothing has changed.
+/// Counts an area. An error means that nothing has changed. Allocates only if one of the area's ends has no step yet.
 pub(crate) fn cover<A: Allocator + Copy>(
     steps: &mut BTreeMap<Page, Step, A>,
     area: Area,
@@ -48,6 +48,9 @@ pub(crate) fn cover<A: Allocator + Copy>(
         IsFlat ends covers →
         ((p : Page) → (ends p < 2 ^ 63) × (covers p < 2 ^ 63)) →
         IsSteps steps.new.entries ends covers) }
+    ensures absent { OnErr result
+        ((get page_cmp steps.old.entries area.page ≡ None)
+        ⊎ (get page_cmp steps.old.entries (end_of area) ≡ None)) }
 {
     let Page { segment, index } = area.page;
     let past = index + area.pages;
@@ -87,7 +90,8 @@ pub(crate) fn uncover<A: Allocator + Copy>(steps: &mut BTreeMap<Page, Step, A>, 
     unmark(steps, Page { segment, index }, 1);
 }
 
-/// Counts `times` more areas that begin or end at a page. An error means that nothing has changed.
+/// Counts `times` more areas that begin or end at a page. An error means that nothing has changed. Allocates only if
+/// the page has no step yet.
 pub(crate) fn mark<A: Allocator + Copy>(
     steps: &mut BTreeMap<Page, Step, A>,
     page: Page,
@@ -102,6 +106,10 @@ pub(crate) fn mark<A: Allocator + Copy>(
         IsSteps steps.new.entries
         (λ p. ends p + (if same_page page p then times else 0)) covers) }
     ensures err { OnErr result (steps.new.entries ≡ steps.old.entries) }
+    ensures absent { OnErr result (get page_cmp steps.old.entries page ≡ None) }
+    ensures kept { (p : Page) →
+        get page_cmp steps.new.entries p ≡ None →
+        get page_cmp steps.old.entries p ≡ None }
 {
     let step = Step {
         covers: count_at(steps, page),

@@ -1,10 +1,10 @@
 //! The frames of pages.
 
-ghost use Rattle.std.specs.Prelude.{ℕ, ◌≡◌, ◌≤◌, ◌<◌, ◌+◌, ◌^◌, nat_lt, true, false, slice_index_or, None, Some, IsSome, IfSome, IfNone, IfOk, OnOk, OnErr};
+ghost use Rattle.std.specs.Prelude.{ℕ, ◌≡◌, ◌≤◌, ◌<◌, ◌+◌, ◌^◌, nat_lt, true, false, length, slice_index_or, None, Some, IsSome, IfSome, IfNone, IfOk, OnOk, OnErr};
 ghost use Rattle.std.specs.List.Sorted.{IsStrictlySortedBy};
 ghost use Rattle.std.specs.Map.{keys_of, values_of};
 ghost use Rattle.nm_types.specs.declared.page.Page.{Page};
-ghost use Rattle.nm_types.specs.Map.{get, page_cmp, with_values};
+ghost use Rattle.nm_types.specs.Map.{get, page_cmp};
 ghost use Rattle.nm_types.specs.State.{page_of, page_at};
 ghost use Rattle.nm_model.specs.definitions.Areas.{with_frame, moved, without_frame};
 ghost use Rattle.nm_model.specs.definitions.Areas.{IsMapped, mapped};
@@ -45,18 +45,20 @@ impl<A: Allocator + Copy> Areas<A> {
         shows_counted(&self.table, &self.places, pid, first, end, counts)
     }
 
-    /// The frames of all pages that have one, in page order. An error means that the host is out of memory.
+    /// The frames of all pages that have one, in page order. An error means that the host is out of memory; if no page
+    /// has a frame, the list takes none.
     pub fn frames(&self) -> Result<Vec<FrameId, A>, AllocError>
-        ensures { IfOk result (λ frames. frames.items ≡ values_of self.now.place) }
+        ensures frames { IfOk result (λ frames. frames.items ≡ values_of self.now.place) }
+        ensures asked { OnErr result (0 < length self.now.place) }
     {
         list_frames(self.alloc, &self.places)
     }
 
     /// The pages that have a frame, each with its frame, by segment and index. An error means that the host is out of
-    /// memory.
-    #[tactic(auto, using(crate::proofs::Values::same_values))]
+    /// memory; if no page has a frame, the list takes none.
     pub fn placed(&self) -> Result<Vec<(Page, FrameId), A>, AllocError>
-        ensures { IfOk result (λ placed. placed.items ≡ self.now.place) }
+        ensures placed { IfOk result (λ placed. placed.items ≡ self.now.place) }
+        ensures asked { OnErr result (0 < length self.now.place) }
     {
         list_placed(self.alloc, &self.places)
     }
@@ -207,9 +209,14 @@ fn list_frames<A: Allocator + Copy>(
     alloc: A,
     places: &BTreeMap<Page, FrameId, A>,
 ) -> Result<Vec<FrameId, A>, AllocError>
-    ensures { IfOk result (λ frames. frames.items ≡ values_of places.now.entries) }
+    ensures frames { IfOk result (λ frames. frames.items ≡ values_of places.now.entries) }
+    ensures asked { OnErr result (0 < length places.now.entries) }
 {
-    places.values().copied().collect(alloc)
+    let mut frames = Vec::with_capacity(alloc, places.len())?;
+    for frame in places.values() {
+        frames.push_reserved(*frame);
+    }
+    Ok(frames)
 }
 
 /// The pages that have a frame, each with its frame, in page order.
@@ -217,11 +224,12 @@ fn list_placed<A: Allocator + Copy>(
     alloc: A,
     places: &BTreeMap<Page, FrameId, A>,
 ) -> Result<Vec<(Page, FrameId), A>, AllocError>
-    ensures { IfOk result
-        (λ placed. placed.items ≡ with_values (λ page frame. frame) places.now.entries) }
+    ensures placed { IfOk result (λ placed. placed.items ≡ places.now.entries) }
+    ensures asked { OnErr result (0 < length places.now.entries) }
 {
-    places
-        .iter()
-        .map(|(page, frame)| (*page, *frame))
-        .collect(alloc)
+    let mut placed = Vec::with_capacity(alloc, places.len())?;
+    for (page, frame) in places.iter() {
+        placed.push_reserved((*page, *frame));
+    }
+    Ok(placed)
 }

@@ -3,11 +3,12 @@
 ghost use Rattle.std.specs.List.{AllByRecursion, flat_map};
 ghost use Rattle.std.specs.List.Sorted.{IsStrictlySortedBy};
 ghost use Rattle.std.specs.Map.{keys_of};
-ghost use Rattle.std.specs.Prelude.{None, OnErr, OnOk, Some, false, true, ℕ, ◌*◌, ◌+◌, ◌-◌, ◌<◌, ◌^◌, ◌≡◌, ◌≤◌, IfErr};
+ghost use Rattle.std.specs.Prelude.{None, OnErr, OnOk, Some, false, true, ℕ, ◌*◌, ◌+◌, ◌-◌, ◌/◌, ◌<◌, ◌^◌, ◌≡◌, ◌≤◌, ◌⊎◌, IfErr};
 ghost use Rattle.nm_types.specs.Does.{Makes};
+ghost use Rattle.nm_areas.specs.Splits.{HasSplit};
 ghost use Rattle.nm_model.specs.definitions.Areas.{with_policy};
 ghost use Rattle.nm_model.specs.definitions.Areas.{AreasAreApart, EndsLow, HasIndices, IsSomePages};
-ghost use Rattle.nm_model.specs.definitions.Areas.{is_mapped, painted, repoliced};
+ghost use Rattle.nm_model.specs.definitions.Areas.{is_mapped, pages_of, painted, repoliced};
 ghost use Rattle.nm_model.specs.definitions.AreaRefusal.{range_refusal};
 ghost use Rattle.nm_model.specs.views.Table.{with_areas};
 ghost use Rattle.nm_types.specs.Map.{spot_cmp, with_values};
@@ -42,7 +43,8 @@ impl<A: Allocator + Copy> Areas<A> {
     ///
     /// Errors, in order: EINVAL if the address is not a multiple of 4,096 or the pages end past 2^64 - 1; EFAULT if one
     /// of the pages has no area. A length of 0 is no page, and splits nothing. Allocates only if the call is not
-    /// refused and `len` is not 0.
+    /// refused, `len` is not 0, and one of the ends lies within an area of the process: a range of whole areas takes no
+    /// memory.
     pub fn split_policy(
         &mut self,
         pid: Pid,
@@ -54,6 +56,9 @@ impl<A: Allocator + Copy> Areas<A> {
             (with_policy self.old pid addr len policy) }
         ensures memory { result ≡ Err MachineError.HostMemory →
             (range_refusal self.old pid addr len ≡ None) × (0 < len) }
+        ensures asked { result ≡ Err MachineError.HostMemory →
+            HasSplit self.old.areas pid (addr / 4096)
+            ⊎ HasSplit self.old.areas pid (addr / 4096 + pages_of len) }
         ensures pages { (q v : ℕ) → page_at self.new.areas q v ≡ page_at self.old.areas q v }
     {
         let Some((first, count)) = whole_pages(addr, len) else {
@@ -94,7 +99,8 @@ impl<A: Allocator + Copy> AreaTable<A> {
     }
 
     /// Splits the process's areas at both ends of one or more pages from a page number on, and sets the policy of those
-    /// between. An error means that no area has changed.
+    /// between. An error means that no area has changed. Allocates only if an area covers one of the ends and begins
+    /// before it.
     pub(crate) fn set_policy(
         &mut self,
         pid: Pid,
@@ -117,6 +123,8 @@ impl<A: Allocator + Copy> AreaTable<A> {
 
         // Without memory
         ensures err { OnErr result (self.new ≡ self.old) }
+        ensures asked { OnErr result
+            (HasSplit self.old.areas pid first ⊎ HasSplit self.old.areas pid (first + count)) }
     {
         let end = Vpn::new(first.number() + count);
         self.cut(pid, first, end)?;

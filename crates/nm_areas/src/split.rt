@@ -3,7 +3,8 @@
 ghost use Rattle.std.specs.List.{AllByRecursion};
 ghost use Rattle.std.specs.List.Sorted.{IsStrictlySortedBy};
 ghost use Rattle.std.specs.Map.{keys_of};
-ghost use Rattle.std.specs.Prelude.{IfNone, IfOk, IfSome, None, OnErr, OnOk, Some, ◌+◌, ◌<◌, ◌≡◌};
+ghost use Rattle.std.specs.Prelude.{IfNone, IfOk, IfSome, None, OnErr, OnOk, Some, ◌+◌, ◌<◌, ◌≡◌, ◌⊎◌};
+ghost use Rattle.nm_areas.specs.Splits.{HasSplit};
 ghost use Rattle.nm_model.specs.definitions.Areas.{AreasAreApart, HasIndices, IsSomePages};
 ghost use Rattle.nm_model.specs.definitions.Areas.{split_at};
 ghost use Rattle.nm_model.specs.views.Table.{with_areas};
@@ -15,7 +16,8 @@ use nm_types::{Area, Page, Pid, Vpn};
 use std::alloc::{AllocError, Allocator};
 
 impl<A: Allocator + Copy> AreaTable<A> {
-    /// Splits the process's areas at two page numbers. An error means that no area has changed.
+    /// Splits the process's areas at two page numbers. An error means that no area has changed. Allocates only if an
+    /// area covers one of them and begins before it.
     pub(crate) fn cut(&mut self, pid: Pid, first: Vpn, end: Vpn) -> Result<(), AllocError>
         requires apart { AreasAreApart self.old.areas }
         requires whole { AllByRecursion IsSomePages self.old.areas }
@@ -28,6 +30,8 @@ impl<A: Allocator + Copy> AreaTable<A> {
 
         // Without memory
         ensures err { OnErr result (self.new ≡ self.old) }
+        ensures asked { OnErr result
+            (HasSplit self.old.areas pid first ⊎ HasSplit self.old.areas pid end) }
     {
         let cut = self.split(pid, first)?;
         if let Err(error) = self.split(pid, end) {
@@ -40,7 +44,8 @@ impl<A: Allocator + Copy> AreaTable<A> {
     }
 
     /// Splits the area of the process that covers a page number and begins before it, so that an area begins there.
-    /// Returns the area as it was, with its first page number, or None if there is nothing to split.
+    /// Returns the area as it was, with its first page number, or None if there is nothing to split; then it does not
+    /// allocate.
     fn split(&mut self, pid: Pid, at: Vpn) -> Result<Option<(Vpn, Area)>, AllocError>
         requires apart { AreasAreApart self.old.areas }
         requires whole { AllByRecursion IsSomePages self.old.areas }
@@ -55,6 +60,7 @@ impl<A: Allocator + Copy> AreaTable<A> {
 
         // Without memory
         ensures err { OnErr result (self.new ≡ self.old) }
+        ensures asked { OnErr result (HasSplit self.old.areas pid at) }
     {
         let Some((start, area)) = self.over(pid, at) else {
             return Ok(None);

@@ -1,6 +1,6 @@
 //! The page numbers that map one frame.
 
-ghost use Rattle.std.specs.Prelude.{◌≡◌, [], false, IfOk, OnOk, OnErr};
+ghost use Rattle.std.specs.Prelude.{◌≡◌, ◌<◌, [], false, length, IfOk, OnOk, OnErr};
 ghost use Rattle.std.specs.List.Sorted.{IsStrictlySortedBy};
 ghost use Rattle.nm_types.specs.Map.{spot_cmp};
 ghost use Rattle.nm_rmap.specs.Mappers.{with_spot, without_spot, is_mapper, has_process, process_count};
@@ -71,12 +71,13 @@ impl<A: Allocator + Copy> Mappings<A> {
         }
     }
 
-    /// A list of them, in order. An error means that the host is out of memory.
+    /// A list of them, in order. An error means that the host is out of memory; an empty list takes none.
     pub(crate) fn list(&self, alloc: A) -> Result<Vec<(Pid, Vpn), A>, AllocError>
         ensures all { IfOk result (λ mappings. mappings.items ≡ self.now) }
+        ensures asked { OnErr result (0 < length self.now) }
         ensures ordered { IsStrictlySortedBy spot_cmp self.now }
     {
-        self.tree.iter().copied().collect(alloc)
+        list_all(alloc, &self.tree)
     }
 
     /// The set of them, in order. Does not allocate.
@@ -103,4 +104,19 @@ fn has_process<A: Allocator + Copy>(tree: &BTreeSet<(Pid, Vpn), A>, pid: Pid) ->
         Some((owner, _)) => *owner == pid,
         None => false,
     }
+}
+
+/// All page numbers of a set, in order.
+fn list_all<A: Allocator + Copy>(
+    alloc: A,
+    tree: &BTreeSet<(Pid, Vpn), A>,
+) -> Result<Vec<(Pid, Vpn), A>, AllocError>
+    ensures all { IfOk result (λ spots. spots.items ≡ tree.now.keys) }
+    ensures asked { OnErr result (0 < length tree.now.keys) }
+{
+    let mut spots = Vec::with_capacity(alloc, tree.len())?;
+    for spot in tree.iter() {
+        spots.push_reserved(*spot);
+    }
+    Ok(spots)
 }

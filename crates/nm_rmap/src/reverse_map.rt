@@ -36,9 +36,11 @@ impl<A: Allocator + Copy> Model for ReverseMap<A> {
 }
 
 impl<A: Allocator + Copy> ReverseMap<A> {
-    /// Makes a map of `frames` frames without mappers and pins. An error means that the host is out of memory.
+    /// Makes a map of `frames` frames without mappers and pins. An error means that the host is out of memory; a map of
+    /// no frames takes none.
     pub fn new(alloc: A, frames: usize) -> Result<Self, AllocError>
-        ensures { IfOk result (λ map. map ≡ new_map frames) }
+        ensures ok { IfOk result (λ map. map ≡ new_map frames) }
+        ensures asked { OnErr result (0 < frames) }
     {
         let mut mappings = Vec::with_capacity(alloc, frames)?;
         let mut pins = Vec::with_capacity(alloc, frames)?;
@@ -86,10 +88,12 @@ impl<A: Allocator + Copy> ReverseMap<A> {
         self.mappings[frame.index()].remove(pid, vpn);
     }
 
-    /// The mappers of a frame, by pid and then by page number. An error means that the host is out of memory.
+    /// The mappers of a frame, by pid and then by page number. An error means that the host is out of memory; a frame
+    /// without mappers takes none.
     pub fn mappers(&self, frame: FrameId) -> Result<Vec<(Pid, Vpn), A>, AllocError>
         requires { frame < length self.now.mappings }
         ensures all { IfOk result (λ mappings. mappings.items ≡ mappers_of self.now frame) }
+        ensures asked { OnErr result (0 < length (mappers_of self.now frame)) }
         ensures ordered { IsStrictlySortedBy spot_cmp (mappers_of self.now frame) }
     {
         self.mappings[frame.index()].list(self.alloc)

@@ -20,3 +20,6 @@ returns-clause-ok g c =
     subst (IsWith c.cover.new.steps.entries segments areas c.args.area) (sym c.if-not-shared.false)
     (c.in_ok-cover.ensures.ok (of_shared segments (ends_at areas)) (of_shared segments (covers_at areas)) c.requires.steps (shared_flat segments areas)
     (λ p. let small = few p in (omega (arith, small.0, c.count-areas.ensures.small), omega (arith, small.1, c.count-areas.ensures.small))))
+
+pub returns-in_err-cover-clause-asked : goal.returns-in_err-cover-clause-asked
+returns-in_err-cover-clause-asked g c = err_always c.from_residual.result c.if-not-shared.false

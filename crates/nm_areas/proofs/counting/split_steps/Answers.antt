@@ -1,6 +1,6 @@
-use Rattle.std.proofs.Common.{◌+◌, arith, sym, subst}
+use Rattle.std.proofs.Common.{◌+◌, arith, inl, inr, sym, subst}
 use Rattle.nm_areas.specs.Coverage.{IsSteps, of_shared, ends_at, covers_at, splits_at}
-use Rattle.nm_areas.proofs.Counted.{splits_few}
+use Rattle.nm_areas.proofs.Counted.{err_always, splits_few}
 use Rattle.nm_areas.proofs.Masked.{masked_few, shared_flat, shared_few}
 use Rattle.nm_areas.proofs.Steps.{flat_more}
 use Rattle.nm_areas.proofs.counting.split_steps.Goals as goal
@@ -30,3 +30,9 @@ returns-clause-ok g c =
     let two = splits_few areas c.requires.apart a.pid a.first p in
     let fewer = masked_few segments (splits_at areas a.pid a.first) p in
     omega (arith, small, two, fewer, c.count-areas.ensures.small))
+
+pub returns-in_err-split_step-clause-asked : goal.returns-in_err-split_step-clause-asked
+returns-in_err-split_step-clause-asked g c = err_always c.from_residual.result (inl c.in_err-split_step.ensures.asked)
+
+pub returns-in_default-clause-asked : goal.returns-in_default-clause-asked
+returns-in_default-clause-asked g c = inr c.in_default.ensures.asked

@@ -1,4 +1,4 @@
-use Rattle.std.proofs.Common.{◌≡◌, ◌<◌, ◌∙◌, ap, subst, sym, ℕ}
+use Rattle.std.proofs.Common.{◌≡◌, ◌<◌, ◌∙◌, ap, inl, inr, subst, sym, ℕ}
 use Rattle.std.specs.Prelude.{Option, Some, IfSome}
 use Rattle.std.specs.List.{AllByRecursion}
 use Rattle.nm_types.specs.declared.area.Area.{Area}
@@ -9,7 +9,10 @@ use Rattle.nm_model.specs.definitions.Areas.{HasIndices}
 use Rattle.nm_model.specs.views.Table.{Table}
 use Rattle.nm_model.specs.definitions.Areas.{split_at}
 use Rattle.nm_model.specs.views.Table.{with_areas}
+use Rattle.nm_areas.specs.Splits.{HasSplit}
 use Rattle.nm_areas.proofs.Beginning.{same_back}
+use Rattle.nm_areas.proofs.Counted.{err_always}
+use Rattle.nm_areas.proofs.Divided.{still_split}
 use Rattle.nm_model.proofs.areas.Cut.{undone}
 use Rattle.nm_model.proofs.areas.Repoliced.{split_some, split_indices, split_apart}
 use Rattle.nm_areas.proofs.area_table.AreaTable.cut.Goals as goal
@@ -47,3 +50,13 @@ returns-in-Some-clause-err g c =
 pub returns-clause-ok : goal.returns-clause-ok
 returns-clause-ok g c =
     c.in_default.ensures.ok ∙ ap (λ (t : Table). with_areas t (split_at c.args.pid c.args.end t.areas)) c.in_ok-cut.ensures.ok
+
+-- ---- memory is asked for only where there is something to split
+
+pub returns-in_err-cut-clause-asked : goal.returns-in_err-cut-clause-asked
+returns-in_err-cut-clause-asked g c = err_always c.from_residual.result (inl c.in_err-cut.ensures.asked)
+
+pub returns-in-Some-clause-asked : goal.returns-in-Some-clause-asked
+returns-in-Some-clause-asked g c =
+    inr (still_split c.args.pid c.args.first c.args.end c.args.self.now.areas c.requires.whole c.requires.apart
+    (subst (λ (t : Table). HasSplit t.areas c.args.pid c.args.end) c.in_ok-cut.ensures.ok c.in-Err.ensures.asked))

@@ -4,6 +4,7 @@ use Rattle.nm_model.specs.views.Table.{Table}
 use Rattle.nm_model.specs.views.Table.{with_areas}
 use Rattle.nm_model.proofs.areas.Parted.{All-among}
 use Rattle.nm_areas.proofs.Beginning.{none_inside, same_front}
+use Rattle.nm_areas.proofs.Counted.{err_always}
 use Rattle.nm_model.proofs.areas.Cut.{split_nothing, over_facts, split_made}
 use Rattle.nm_areas.proofs.area_table.AreaTable.split.Goals as goal
 
@@ -48,3 +49,8 @@ returns-clause-ok g c =
     split_made c.args.pid c.args.at _ (c.number.result - c.number-2.result) _ c.args.self.now c.add.new.self c.put.new.self
     c.in-Some.ensures (omega (arith, facts.1, c.number.ensures, c.number-2.ensures)) (omega (arith, facts.1, c.if-front-eq0.false, c.number.ensures, c.number-2.ensures))
     c.requires.whole c.requires.apart c.in_ok-add.ensures.ordered c.in_ok-add.ensures.ok c.put.ensures
+
+pub returns-in_err-add-clause-asked : goal.returns-in_err-add-clause-asked
+returns-in_err-add-clause-asked g c =
+    let facts = over_facts c.args.pid c.args.at c.args.self.now.areas _ _ c.in-Some.ensures in
+    err_always c.from_residual.result (_, sym c.in-Some.ensures, omega (arith, facts.1, c.if-front-eq0.false, c.number.ensures, c.number-2.ensures))

@@ -57,3 +57,8 @@ returns-clause-some g c p =
     ∙ total_over (split_of a.pid a.at p) a.pid a.at (not_over a.pid a.at p) a.self.now.areas c.requires.apart e (sym c.in_ok-start.ensures)
     ∙ split_there a.pid a.at p e refl (omega (arith, facts.1, c.if-front-eq0.false, c.number.ensures, c.number-2.ensures)) facts.2
     ∙ ap (λ (n : ℕ). if same_page (page_in e.1.page.segment (e.1.page.index + n)) p then 2 else 0) same
+
+pub returns-clause-split : goal.returns-clause-split
+returns-clause-split g c =
+    let facts = over_facts c.args.pid c.args.at c.args.self.now.areas _ _ c.in_ok-start.ensures in
+    (_, sym c.in_ok-start.ensures, omega (arith, facts.1, c.if-front-eq0.false, c.number.ensures, c.number-2.ensures))

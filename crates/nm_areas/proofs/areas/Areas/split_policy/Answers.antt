@@ -1,4 +1,6 @@
-use Rattle.std.proofs.Common.{ℕ, ap, sym, subst, ◌∙◌, arith}
+use Rattle.std.proofs.Common.{ℕ, ◌≡◌, ap, sym, subst, ◌∙◌, arith}
+use Rattle.std.specs.Prelude.{◌⊎◌}
+use Rattle.nm_types.specs.declared.area.Area.{Area}
 use Rattle.nm_types.specs.declared.area.Segment.{Segment}
 use Rattle.nm_types.specs.Map.{Map}
 use Rattle.nm_areas.specs.Coverage.{IsCoverage}
@@ -7,8 +9,15 @@ use Rattle.nm_model.specs.views.Table.{Table}
 use Rattle.nm_model.specs.definitions.Areas.{Mapped}
 use Rattle.nm_model.proofs.areas.Shown.{repoliced_shows}
 use Rattle.nm_model.proofs.areas.Policed.{policed_mapped}
+use Rattle.nm_areas.specs.Splits.{HasSplit}
 use Rattle.nm_areas.proofs.Covered.{was_policed}
 use Rattle.nm_areas.proofs.areas.Areas.split_policy.Goals as goal
+
+-- where areas are split, in numbers of the call
+split_in : (areas own : Map (ℕ × ℕ) Area) (pid first end at past : ℕ) → areas ≡ own → first ≡ at → end ≡ past → HasSplit areas pid first ⊎ HasSplit areas pid end → HasSplit own pid at ⊎ HasSplit own pid past
+split_in areas own pid first end at past same begin stop there =
+    subst (λ (m : Map (ℕ × ℕ) Area). HasSplit m pid at ⊎ HasSplit m pid past) same
+    (subst (λ n. HasSplit areas pid n ⊎ HasSplit areas pid past) begin (subst (λ n. HasSplit areas pid first ⊎ HasSplit areas pid n) stop there))
 
 pub invariant_of-self-in-Ok : goal.invariant_of-self-in-Ok
 invariant_of-self-in-Ok g c =
@@ -26,3 +35,15 @@ returns-in-Ok-clause-pages g c q v =
     ap (λ (t : Table). page_at t.areas q v) c.in-Ok.ensures.ok
     ∙ repoliced_shows c.args.pid _ _ c.args.policy (omega (arith, c.in-Some.ensures.some.1, c.if-len-gt0.true)) c.self.inside.table.areas c.self.invariant.0.whole c.self.invariant.0.apart q v
     ∙ ap (λ (m : Mapped). page_at m.areas q v) c.self.view_is
+
+-- ---- memory is asked for only where there is something to split
+
+pub returns-in_err-split_steps-clause-asked : goal.returns-in_err-split_steps-clause-asked
+returns-in_err-split_steps-clause-asked g c = λ _.
+    let range = c.in-Some.ensures.some in
+    split_in c.self.inside.table.areas c.args.self.now.areas c.args.pid _ _ _ _ (ap (λ (m : Mapped). m.areas) c.self.view_is) range.0 (omega (arith, c.new-end.ensures, c.number.ensures, range.0, range.1)) c.in_err-split_steps.ensures.asked
+
+pub returns-in_default-set_policy-clause-asked : goal.returns-in_default-set_policy-clause-asked
+returns-in_default-set_policy-clause-asked g c = λ _.
+    let range = c.in-Some.ensures.some in
+    split_in c.self.inside.table.areas c.args.self.now.areas c.args.pid _ _ _ _ (ap (λ (m : Mapped). m.areas) c.self.view_is) range.0 (omega (arith, range.0, range.1)) c.in_default-set_policy.ensures.asked

@@ -43,7 +43,7 @@ invariant_of-result g c =
       sym (ap pinned_count c.loop.invariant.pins ∙ none_pinned n),
     )
 
-pub returns : goal.returns
-returns g c =
+pub returns-clause-ok : goal.returns-clause-ok
+returns-clause-ok g c =
     made c.loop.mappings.items c.loop.pins.items c.loop.counter c.args.frames c.loop.invariant.mappings c.loop.invariant.pins
     (at_end c.loop.counter c.args.frames c.loop.auto.counter-end c.loop-test.false)
