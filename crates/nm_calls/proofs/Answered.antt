@@ -14,12 +14,14 @@ use Rattle.nm_model.specs.definitions.Run.{each_request, run}
 use Rattle.nm_model.specs.definitions.Run.{accesses_of, runs_from}
 use Rattle.nm_steps.specs.Calls.{Call, MovePages}
 use Rattle.nm_calls.specs.Answers.{Answer, Statuses}
-use Rattle.nm_calls.specs.Batch.{list_at, runs_named, in_order}
+use Rattle.std.specs.Map.{keys_of}
+use Rattle.nm_calls.specs.Batch.{list_at, in_order}
 use Rattle.nm_calls.specs.Systems.{SystemState}
-use Rattle.nm_calls.specs.Outcome.{refused, start, runs_asked, runs_unless, accesses_asked, ended, unless}
+use Rattle.nm_calls.specs.Outcome.{refused, start, runs_asked, accesses_asked, ended, unless}
 use Rattle.nm_calls.specs.Laws.{EachAccessIsAnswered}
 use Rattle.nm_calls.proofs.Meanwhile.{first_asked, differ}
 use Rattle.nm_calls.proofs.Places.{one_more, shorter}
+use Rattle.nm_calls.proofs.Trails.{runs_unless}
 
 all_length : (s : State) (moved : List Page) (accesses : List Access) → length (all_in_flight s moved accesses).answers ≡ length accesses
 all_length s moved [] = refl
@@ -46,13 +48,13 @@ one_or_none true a rest = omega arith
 one_or_none false a rest = omega arith
 
 -- a run has as many accesses as name it
-named_count : (k : ℕ) (during : List (ℕ × Access)) → length (accesses_of k during) ≡ count_by (λ r. r == k) (runs_named during)
+named_count : (k : ℕ) (during : List (ℕ × Access)) → length (accesses_of k during) ≡ count_by (λ r. r == k) (keys_of during)
 named_count k [] = refl
 named_count k ((run, a) ∷ rest) =
     ap length (first_asked k run a rest (run == k) refl)
     ∙ (one_or_none (run == k) a (accesses_of k rest)
     ∙ (ap (λ n. cond (run == k) 1 0 + n) (named_count k rest)
-    ∙ sym (one_more k run (runs_named rest) (run == k) refl)))
+    ∙ sym (one_more k run (keys_of rest) (run == k) refl)))
 
 -- answers that are as many for each_request run as accesses name it
 abbrev IsEnough : List (List AccessAnswer) → List ℕ → Type 0
@@ -100,7 +102,7 @@ module _ (y : SystemState) (caller pid : ℕ) (pages nodes : List ℕ) (flags : 
   asks = MovePages caller pid pages nodes flags during
 
   answered : (o : Option Errno) (failed : ℕ) (statuses : List ℤ) (answers : List AccessAnswer)
-      → AllByRecursion (λ run. run < length (runs_unless o (runs_asked y asks))) (runs_named during)
+      → AllByRecursion (λ run. run < length (runs_unless o (runs_asked y asks))) (keys_of during)
       → (unless o y (ended y asks (runs_from 0 (start y asks) (runs_asked y asks) (accesses_asked asks)))).answer ≡ Statuses failed statuses answers
       → length answers ≡ length during
   unfolding ended start runs_asked accesses_asked listed
@@ -110,9 +112,9 @@ module _ (y : SystemState) (caller pid : ℕ) (pages nodes : List ℕ) (flags : 
       let made = runs_from 0 y.state runs during in
       let size : length made.answers ≡ length runs = runs_count 0 y.state runs during in
       sym (ap (λ answer. length (listed answer)) is)
-      ∙ (all_told (runs_named during) made.answers
-      (λ k lt. each_has 0 y.state runs during k (omega (arith, lt, size)) ∙ named_count (0 + k) during ∙ ap (λ n. count_by (λ r. r == n) (runs_named during)) (plus_zero k))
-      (all_few (length runs) (length made.answers) (runs_named during) (sym size) few)
+      ∙ (all_told (keys_of during) made.answers
+      (λ k lt. each_has 0 y.state runs during k (omega (arith, lt, size)) ∙ named_count (0 + k) during ∙ ap (λ n. count_by (λ r. r == n) (keys_of during)) (plus_zero k))
+      (all_few (length runs) (length made.answers) (keys_of during) (sym size) few)
       ∙ length-map during (λ (d : ℕ × Access). d.0))
 
 pub each_access_is_answered : EachAccessIsAnswered

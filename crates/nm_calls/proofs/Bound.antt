@@ -14,11 +14,12 @@ use Rattle.nm_steps.specs.Calls.{Call, Mbind}
 use Rattle.nm_calls.specs.Answers.{Refusal, Failed}
 use Rattle.nm_calls.specs.Systems.{SystemState, in_state}
 use Rattle.nm_calls.specs.Binding.{mbind_refusal, binding, mbind_runs, policed, tells_late, has_stray}
-use Rattle.nm_calls.specs.Outcome.{refused, refused_at_once, start, started, sets_policy, runs_asked, accesses_asked, runs_of, runs_unless, ended, outcome, late_answer, leaves, states_of, trail}
+use Rattle.nm_calls.specs.Outcome.{refused, refused_at_once, start, sets_policy, runs_asked, accesses_asked, runs_of, ended, outcome, leaves, states_of, trail}
 use Rattle.nm_calls.specs.Does.{Does, LeavesSome}
 use Rattle.nm_calls.specs.Making.{Stops, Binds}
-use Rattle.nm_calls.proofs.Trails.{states_are}
+use Rattle.nm_calls.proofs.Trails.{states_are, runs_unless, state_unless}
 use Rattle.nm_calls.proofs.Outcomes.{answers, refuses}
+use Rattle.nm_calls.proofs.Refusals.{late_answer}
 
 -- a length of 64 bits has at most 2^52 pages
 pub pages_few : (first len : ℕ) → len < 2 ^ 64 → first + pages_of len - first ≤ 2 ^ 52
@@ -52,7 +53,7 @@ module _ (y : SystemState) (caller addr len mode : ℕ) (nodes : List ℕ) (flag
 
   trail_is : mbind_refusal y.state caller addr len mode nodes flags ≡ None → trail y asks ≡ states_of first runs
   unfolding refused runs_asked start accesses_asked
-  trail_is h = ap (λ o. states_of (started o y.state first) (runs_unless o runs)) h
+  trail_is h = ap (λ o. states_of (state_unless o y.state first) (runs_unless o runs)) h
 
   -- where the pages stray, or do not
   answered : (late : Bool) (new : State) → mbind_refusal y.state caller addr len mode nodes flags ≡ None

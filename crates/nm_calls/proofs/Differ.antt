@@ -14,8 +14,9 @@ use Rattle.nm_policy.specs.declared.pairing.Pair.{Pair}
 use Rattle.nm_policy.proofs.Paired.{each_set_is_paired_in_order}
 use Rattle.nm_model.specs.definitions.Seen.{sights}
 use Rattle.nm_calls.specs.Migrating.{pages_in}
-use Rattle.nm_calls.specs.Migrating.{once, pages_seen, is_on, pages_on}
+use Rattle.nm_calls.specs.Migrating.{pages_seen, is_on, pages_on}
 use Rattle.nm_calls.specs.MigrateLaws.{EachPageIsListedOnce}
+use Rattle.nm_calls.proofs.Firsts.{once_valued}
 
 -- two page numbers with different pages
 abbrev Differs : ℕ × Page → ℕ × Page → Type 0
@@ -55,10 +56,10 @@ left_differs e (f ∷ es) =
       | false ↦ λ h. (h, rest)
     ] refl
 
-once_differs : (es : Map ℕ Page) → AllDiffer (once same_page es)
+once_differs : (es : Map ℕ Page) → AllDiffer (once_valued same_page es)
 once_differs [] = tt
 once_differs (e ∷ es) =
-    (left_differs e (once same_page es), differ_filtered (λ f. not (same_page e.1 f.1)) (once same_page es) (once_differs es))
+    (left_differs e (once_valued same_page es), differ_filtered (λ f. not (same_page e.1 f.1)) (once_valued same_page es) (once_differs es))
 
 -- a page is on one node
 on_one : (s : State) (n m : ℕ) (o : Option ℕ) → n ≢ m → unwrap_or (option_map (λ frame. node_of s.layout frame == n) o) false ≡ true → unwrap_or (option_map (λ frame. node_of s.layout frame == m) o) false ≡ false

@@ -25,10 +25,11 @@ use Rattle.nm_calls.specs.Migrating.{is_on}
 use Rattle.nm_calls.specs.Passes.{passes}
 use Rattle.nm_calls.specs.Systems.{SystemState, in_state}
 use Rattle.nm_calls.specs.Offlining.{offline_refusal, offline_runs, refuges, still_on}
-use Rattle.nm_calls.specs.Outcome.{refused, refused_at_once, start, started, sets_policy, runs_asked, accesses_asked, runs_of, runs_unless, ended, emptied, outcome, states_of, trail}
+use Rattle.nm_calls.specs.Outcome.{refused, refused_at_once, start, sets_policy, runs_asked, accesses_asked, runs_of, ended, emptied, outcome, states_of, trail}
 use Rattle.nm_calls.specs.Does.{Does, LeavesSome}
 use Rattle.nm_calls.specs.Making.{Stops, Empties}
 use Rattle.nm_calls.proofs.Outcomes.{answers}
+use Rattle.nm_calls.proofs.Trails.{runs_unless, state_unless}
 
 -- requests by page
 pub wholes_alike : (pages : List Page) → HasOneAll (map Whole pages)
@@ -89,7 +90,7 @@ module _ (y : SystemState) (node : ℕ) where
 
   trail_is : offline_refusal y.state node ≡ None → trail y asks ≡ states_of y.state runs
   unfolding refused runs_asked start accesses_asked
-  trail_is h = ap (λ o. states_of (started o y.state y.state) (runs_unless o runs)) h ∙ refl
+  trail_is h = ap (λ o. states_of (state_unless o y.state y.state) (runs_unless o runs)) h ∙ refl
 
   -- where a page stays, or none does
   answered : (stays : Bool) → offline_refusal y.state node ≡ None → still_on y.state (runs_from 0 y.state runs []).state node ≡ stays

@@ -6,7 +6,8 @@ use Rattle.nm_types.specs.Map.{same_page}
 use Rattle.nm_model.specs.definitions.Order.{follows}
 use Rattle.nm_types.specs.declared.located.Located.{Located}
 use Rattle.nm_model.specs.definitions.Seen.{located_between}
-use Rattle.nm_calls.specs.Binding.{once, NoStrayIsListedTwice}
+use Rattle.nm_calls.specs.Binding.{NoStrayIsListedTwice}
+use Rattle.nm_calls.proofs.Straying.{pages_once}
 
 -- a page, and those that are another one
 abbrev differs : Located → Located → Type 0
@@ -46,9 +47,9 @@ left_differs e (f ∷ es) =
       | false ↦ λ h. (h, rest)
     ] refl
 
-once_differs : (es : List Located) → AllDiffer (once es)
+once_differs : (es : List Located) → AllDiffer (pages_once es)
 once_differs [] = tt
-once_differs (e ∷ es) = (left_differs e (once es), differ_filtered (λ f. not (same_page e.page f.page)) (once es) (once_differs es))
+once_differs (e ∷ es) = (left_differs e (pages_once es), differ_filtered (λ f. not (same_page e.page f.page)) (pages_once es) (once_differs es))
 
 others_of : (e : Located) (es : List Located) → AllByRecursion (differs e) es → AllByRecursion (λ q. same_page e.page q ≡ false) (map {B = Page} (λ l. l.page) es)
 others_of e [] h = tt
@@ -62,4 +63,4 @@ pages_differ (e ∷ es) h = (others_of e es h.0, pages_differ es h.1)
 pub each_page_is_listed_once : NoStrayIsListedTwice
 each_page_is_listed_once s b =
     let stray = filter (λ l. not (follows b.policy l.node)) (located_between s b.pid b.first b.end) in
-    pages_differ (once stray) (once_differs stray)
+    pages_differ (pages_once stray) (once_differs stray)

@@ -21,10 +21,11 @@ use Rattle.nm_model.specs.definitions.Run.{IsByAddress}
 use Rattle.nm_calls.specs.Permission.{owner_of, info_at}
 use Rattle.nm_calls.specs.Permission.{usable}
 use Rattle.nm_steps.specs.Calls.{MigratePages}
-use Rattle.nm_calls.specs.Outcome.{refused, runs_asked, runs_unless}
+use Rattle.nm_calls.specs.Outcome.{refused, runs_asked}
 use Rattle.nm_calls.specs.MigrateLaws.{RunsGoToNodesOnline}
 use Rattle.nm_calls.proofs.Requests.{cut_targets}
 use Rattle.nm_calls.proofs.Reach.{usable_online}
+use Rattle.nm_calls.proofs.Trails.{runs_unless}
 use Rattle.nm_calls.specs.Migrating.{pages_on, migrate_list, migrated_by, migration}
 
 all-append : (P : Request → Type 0) (es fs : List Request) → AllByRecursion P es → AllByRecursion P fs → AllByRecursion P (es ++ fs)

@@ -8,8 +8,9 @@ use Rattle.nm_model.specs.definitions.Run.{runs_from}
 use Rattle.nm_steps.specs.Calls.{Call}
 use Rattle.nm_calls.specs.Answers.{Refusal}
 use Rattle.nm_calls.specs.Systems.{SystemState, in_state}
-use Rattle.nm_calls.specs.Outcome.{Outcome, refused, refused_at_once, start, started, sets_policy, runs_asked, runs_of, runs_unless, accesses_asked, ended, outcome, states_from, trail}
+use Rattle.nm_calls.specs.Outcome.{Outcome, refused, refused_at_once, start, sets_policy, runs_asked, runs_of, accesses_asked, ended, outcome, states_from, trail}
 use Rattle.nm_calls.specs.Does.{LeavesSome, HostLeaves}
+use Rattle.nm_calls.proofs.Trails.{runs_unless, state_unless}
 
 pub answers : (y : SystemState) (call : Call) (o : Outcome) → refused y.state call ≡ None → ended y call (runs_from 0 (start y call) (runs_asked y call) (accesses_asked call)) ≡ o → outcome y call ≡ o
 answers y call o none is = rw none is
@@ -29,7 +30,7 @@ some_left y call (r ∷ rs) runs s none asked from unset few is =
     let n : length (runs_of y call) ≡ suc (length rs) = ap (λ o. length (runs_unless o (runs_asked y call))) none ∙ ap length asked in
     let during = accesses_asked call in
     let there : slice_index_or (states_from 0 y.state (r ∷ rs) during) runs y.state ≡ slice_index_or (trail y call) runs y.state =
-    sym (ap (λ o. slice_index_or (states_from 0 (started o y.state (start y call)) (runs_unless o (runs_asked y call)) during) runs y.state) none
+    sym (ap (λ o. slice_index_or (states_from 0 (state_unless o y.state (start y call)) (runs_unless o (runs_asked y call)) during) runs y.state) none
     ∙ ap (λ s. slice_index_or (states_from 0 s (runs_asked y call) during) runs y.state) from ∙ ap (λ rs. slice_index_or (states_from 0 y.state rs during) runs y.state) asked) in
     inr (omega (arith, n, few), sym unset, ap (in_state y) (is ∙ there))
 

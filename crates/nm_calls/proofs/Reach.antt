@@ -1,22 +1,12 @@
 -- Nodes that a caller names.
-use Rattle.std.proofs.Common.{arith, ◌≡◌, ℕ, suc, Bool, true, false, not, ◌&&◌, ◌||◌, cond, List, [], ◌∷◌, length, refl, ap, ◌∙◌}
+use Rattle.std.proofs.Common.{arith, ◌≡◌, ℕ, suc, Bool, true, false, ◌&&◌, ◌||◌, cond, List, [], ◌∷◌, length, refl, ap, ◌∙◌}
 use Rattle.std.specs.Prelude.{◌<◌, nat_le}
 use Rattle.std.proofs.lemmas.Bool.{eqb-true, leb-false}
-use Rattle.std.specs.List.{AllByRecursion, filter, list_all}
+use Rattle.std.specs.List.{AllByRecursion, filter}
 use Rattle.nm_types.specs.Layout.{node_count}
 use Rattle.nm_types.specs.Nodes.{is_in}
 use Rattle.nm_types.specs.State.{State}
-use Rattle.nm_calls.specs.Permission.{names_missing_node, goes_beyond, usable, is_none}
-
--- a set goes beyond another one where it is not within it
-pub beyond_is : (allowed ns : List ℕ) → goes_beyond allowed ns ≡ not (list_all (is_in allowed) ns)
-beyond_is allowed [] = refl
-beyond_is allowed (n ∷ ns) =
-    ap (λ b. not (is_in allowed n) || b) (beyond_is allowed ns) ∙ either (is_in allowed n) (list_all (is_in allowed) ns)
-  where
-    either : (a b : Bool) → (not a || not b) ≡ not (a && b)
-    either true b = refl
-    either false b = refl
+use Rattle.nm_calls.specs.Permission.{names_missing_node, usable, is_none}
 
 -- what is online and allowed is what is allowed of what is online
 pub usable_is : (s : State) (allowed ns : List ℕ) → filter (is_in allowed) (filter (is_in s.online) ns) ≡ usable s allowed ns

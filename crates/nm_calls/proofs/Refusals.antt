@@ -9,7 +9,7 @@ use Rattle.nm_model.specs.definitions.Run.{runs_from}
 use Rattle.nm_steps.specs.Calls.{Call, Spawn, MapPages, Attach, Unmap, Exit, Pin, Unpin, ReadBytes, WriteBytes, MovePages, MigratePages, Query, FreeList, Pagemap, Vmstat, NumaMaps, Mbind, Offline, Online}
 use Rattle.nm_calls.specs.Answers.{Answer, Refusal, Done, Held, Failed, NewSegment, TheBytes, Statuses, Frames, Entries, TheTotals, Lines}
 use Rattle.nm_calls.specs.Systems.{SystemState}
-use Rattle.nm_calls.specs.Outcome.{refusal_in, shown, refused, start, runs_asked, accesses_asked, ended, unless, late_answer, emptied}
+use Rattle.nm_calls.specs.Outcome.{refusal_in, shown, refused, start, runs_asked, accesses_asked, ended, unless, emptied}
 use Rattle.std.specs.Prelude.{◌⊎◌, ◌&&◌, if◌then◌else◌}
 use Rattle.nm_types.specs.declared.errno.Errno.TheVariants.{Eio, Ebusy}
 use Rattle.nm_calls.specs.Binding.{binding, has_stray, tells_late}
@@ -57,6 +57,10 @@ error_of (Lines lines) = None
 
 no_error : (a : Answer) (e : Errno) → is_refusal a ≡ false → a ≡ Refusal e → ⊥
 no_error a e n is = true≢false (sym (ap is_refusal is) ∙ n)
+
+-- EIO, or the answer of a call without failures
+abbrev pub late_answer : Bool → Answer
+late_answer late = if late then Refusal Eio else Failed 0
 
 late_error : (strict strays : Bool) (e : Errno) → late_answer (strict && strays) ≡ Refusal e → (if strict then Some Eio else None) ≡ Some e
 late_error true true e h = ap error_of h

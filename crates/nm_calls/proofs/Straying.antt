@@ -10,20 +10,24 @@ use Rattle.std.proofs.lemmas.List.Elements.{filter-append}
 use Rattle.nm_types.specs.declared.page.Page.{Page}
 use Rattle.nm_types.specs.Map.{page_cmp, same_page}
 use Rattle.nm_types.specs.declared.located.Located.{Located}
-use Rattle.nm_calls.specs.Binding.{once}
+use Rattle.nm_calls.specs.Migrating.{once}
+
+-- pages without repetition
+abbrev pub pages_once : List Located → List Located
+pages_once = once (λ l m. same_page l.page m.page)
 
 -- whether a page is among some
 abbrev pub is_listed : List Located → Page → Bool
 is_listed ls p = list_any (λ l. same_page l.page p) ls
 
 -- one more, which is another page than the earlier ones, or is one of them and is left out
-once_more : (ls : List Located) (x : Located) → once (ls ++ x ∷ []) ≡ once ls ++ cond (is_listed ls x.page) [] (x ∷ [])
+once_more : (ls : List Located) (x : Located) → pages_once (ls ++ x ∷ []) ≡ pages_once ls ++ cond (is_listed ls x.page) [] (x ∷ [])
 once_more [] x = refl
 once_more (l ∷ ls) x =
     let kept : Located → Bool = λ m. not (same_page l.page m.page) in
     ap (λ ms. l ∷ filter kept ms) (once_more ls x)
-    ∙ ap (λ ms. l ∷ ms) (filter-append kept (once ls) (cond (is_listed ls x.page) [] (x ∷ [])))
-    ∙ ap (λ ms. l ∷ filter kept (once ls) ++ ms) (tail (same_page l.page x.page) (is_listed ls x.page) refl)
+    ∙ ap (λ ms. l ∷ ms) (filter-append kept (pages_once ls) (cond (is_listed ls x.page) [] (x ∷ [])))
+    ∙ ap (λ ms. l ∷ filter kept (pages_once ls) ++ ms) (tail (same_page l.page x.page) (is_listed ls x.page) refl)
   where
     tail : (a b : Bool) → same_page l.page x.page ≡ a → filter (λ m. not (same_page l.page m.page)) (cond b [] (x ∷ [])) ≡ cond (a || b) [] (x ∷ [])
     tail true true h = refl
@@ -35,7 +39,7 @@ once_more (l ∷ ls) x =
 pub record HaveListed (all left pages : List Located) (seen : BTreeSet Page) : Type 0 where
   pub done : List Located
   pub joined : done ++ left ≡ all
-  pub listed : pages ≡ once done
+  pub listed : pages ≡ pages_once done
   pub known : (p : Page) → contains page_cmp seen p ≡ is_listed done p
 
 cond_or : (b h : Bool) → cond b true h ≡ (h || (b || false))
@@ -57,7 +61,7 @@ one_listed all left rest pages seen new x h is updates first =
     record {
       done = h.done ++ x ∷ [];
       joined = append_assoc h.done (x ∷ []) rest ∙ ap (λ l. h.done ++ l) (sym is) ∙ h.joined;
-      listed = ap (λ l. l ++ x ∷ []) h.listed ∙ sym (once_more h.done x ∙ ap (λ b. once h.done ++ cond b [] (x ∷ [])) fresh);
+      listed = ap (λ l. l ++ x ∷ []) h.listed ∙ sym (once_more h.done x ∙ ap (λ b. pages_once h.done ++ cond b [] (x ∷ [])) fresh);
       known = more_known seen new h.done x updates h.known;
     }
 
@@ -68,14 +72,14 @@ one_again all left rest pages seen new x h is updates again =
     record {
       done = h.done ++ x ∷ [];
       joined = append_assoc h.done (x ∷ []) rest ∙ ap (λ l. h.done ++ l) (sym is) ∙ h.joined;
-      listed = h.listed ∙ sym (once_more h.done x ∙ ap (λ b. once h.done ++ cond b [] (x ∷ [])) there ∙ append-nil (once h.done));
+      listed = h.listed ∙ sym (once_more h.done x ∙ ap (λ b. pages_once h.done ++ cond b [] (x ∷ [])) there ∙ append-nil (pages_once h.done));
       known = more_known seen new h.done x updates h.known;
     }
 
 -- none is left
-pub all_listed : (all left pages : List Located) (seen : BTreeSet Page) → HaveListed all left pages seen → left ≡ [] → pages ≡ once all
+pub all_listed : (all left pages : List Located) (seen : BTreeSet Page) → HaveListed all left pages seen → left ≡ [] → pages ≡ pages_once all
 all_listed all left pages seen h none =
-    h.listed ∙ ap once (sym (append-nil h.done) ∙ ap (λ l. h.done ++ l) (sym none) ∙ h.joined)
+    h.listed ∙ ap pages_once (sym (append-nil h.done) ∙ ap (λ l. h.done ++ l) (sym none) ∙ h.joined)
 
 pub not_true : (b : Bool) → not b ≡ true → b ≡ false
 not_true true h = let z : ⊥ = cc in absurd z

@@ -26,8 +26,12 @@ use Rattle.nm_types.specs.Nodes.{up_from}
 use Rattle.nm_types.specs.State.{State}
 use Rattle.nm_types.specs.declared.located.Located.{Located}
 use Rattle.nm_calls.specs.declared.maps.Tally.{Tally}
-use Rattle.nm_calls.specs.Maps.{told_from, count_on, node_text, most_users, pages_text}
+use Rattle.nm_calls.specs.Maps.{told_from, node_text, most_users, pages_text}
 use Rattle.nm_calls.specs.Tallied.{nodes_text, counts_text, tally_text}
+
+-- how many pages are on a node
+abbrev pub count_on : List Located → ℕ → ℕ
+count_on pages node = count_by (λ p. p.node == node) pages
 
 same_up : (f g : ℕ → List ℕ) (n a : ℕ) → ((k : ℕ) → k < a + n → f k ≡ g k) → flat_map f (up_from a n) ≡ flat_map g (up_from a n)
 same_up f g zero a h = refl

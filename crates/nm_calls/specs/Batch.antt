@@ -1,15 +1,13 @@
 -- Batches of pages to move: what is refused, what is requested, and which accesses are made meanwhile.
-use Rattle.std.specs.Prelude.{ℕ, ◌/◌, Bool, List, map, Option, Some, None}
+use Rattle.std.specs.Prelude.{ℕ, ◌/◌, Bool, List, map, Option, option_and_then}
 use Rattle.std.specs.List.{zip}
-use Rattle.std.specs.Option.{option_map}
 use Rattle.nm_types.specs.declared.errno.Errno.{Errno}
 use Rattle.nm_types.specs.Layout.{node_count}
 use Rattle.nm_types.specs.State.{State}
 use Rattle.nm_types.specs.declared.request.Wanted.TheVariants.{At}
 use Rattle.nm_model.specs.definitions.Cut.{Request}
 use Rattle.nm_runs.specs.Targets.{earlier, first_refusal}
-use Rattle.nm_types.specs.declared.process.ProcessInfo.{ProcessInfo}
-use Rattle.nm_calls.specs.Permission.{owner_of, info_at, query_refusal}
+use Rattle.nm_calls.specs.Permission.{owner_of, allowed_at, query_refusal}
 use Rattle.std.specs.Prelude.{◌≡◌, ◌<◌, ◌==◌, count_by, [], ◌∷◌, ◌++◌, take, drop, length, slice_index_or, slice_set, Vec}
 use Rattle.std.specs.declared.vec.IntoIter.{IntoIter}
 use Rattle.nm_types.specs.declared.access.Access.{Access as Asked}
@@ -19,28 +17,16 @@ use Rattle.nm_model.specs.views.Asked.{access_shown}
 use Rattle.nm_engine.specs.views.Accesses.{answer_shown}
 use Rattle.nm_model.specs.definitions.Run.{accesses_of}
 
--- the nodes that a process may use, if it exists
-abbrev pub allowed_at : State → ℕ → Option (List ℕ)
-allowed_at s pid = option_map (λ (i : ProcessInfo). i.allowed) (info_at s pid)
-
--- the refusal of the first of these nodes that pages of a process with allowed nodes may not go to
-abbrev pub targets_refusal : State → Option (List ℕ) → List ℕ → Option Errno
-targets_refusal s None nodes = None
-targets_refusal s (Some allowed) nodes = first_refusal (node_count s.layout) s.online allowed nodes
-
--- the refusal of a move: that of a query, or else that of the first node that is refused
+-- the refusal of a move: that of a query, or else that of the first node that pages of the process may not go to
 abbrev pub move_refusal : State → ℕ → ℕ → List ℕ → ℕ → Option Errno
 move_refusal s caller pid nodes flags =
-    earlier (query_refusal s caller pid flags) (targets_refusal s (allowed_at s (owner_of caller pid)) nodes)
+    let of_nodes = λ (allowed : List ℕ). first_refusal (node_count s.layout) s.online allowed nodes in
+    earlier (query_refusal s caller pid flags) (option_and_then of_nodes (allowed_at s (owner_of caller pid)))
 
 -- the requests of a batch: each address of the process, with the node at the same index
 abbrev pub requests_of : ℕ → Bool → List ℕ → List ℕ → List Request
 requests_of pid all addresses nodes =
     map (λ e. record { target = e.1; wanted = At pid (e.0 / 4096) all }) (zip addresses nodes)
-
--- the numbers of the runs that accesses name, in order
-abbrev pub runs_named : List (ℕ × Access) → List ℕ
-runs_named during = map (λ d. d.0) during
 
 -- the list at an index, or an empty list if there is none
 abbrev pub list_at : {X : Type 0} → List (List X) → ℕ → List X

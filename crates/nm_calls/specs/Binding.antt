@@ -25,38 +25,24 @@ use Rattle.nm_model.specs.definitions.Seen.{located_between}
 use Rattle.nm_model.specs.definitions.Effect.{pages_of, policy_refusal, set_policy}
 use Rattle.nm_model.specs.definitions.Effect.{first_error}
 use Rattle.nm_calls.specs.declared.binding.Binding.{Binding}
-use Rattle.nm_calls.specs.Permission.{moves_all, info_at}
+use Rattle.nm_calls.specs.Migrating.{once}
+use Rattle.nm_calls.specs.Permission.{moves_all, info_at, allowed_at}
 use Rattle.nm_calls.specs.Passes.{passes}
 use Rattle.nm_calls.specs.Permission.{names_missing_node, usable, is_none}
-
--- the modes, by their numbers
-abbrev pub MPOL_DEFAULT : ℕ
-MPOL_DEFAULT = 0
-
-abbrev pub MPOL_PREFERRED : ℕ
-MPOL_PREFERRED = 1
-
-abbrev pub MPOL_BIND : ℕ
-MPOL_BIND = 2
-
-abbrev pub MPOL_INTERLEAVE : ℕ
-MPOL_INTERLEAVE = 3
-
-abbrev pub MPOL_LOCAL : ℕ
-MPOL_LOCAL = 4
 
 -- the lowest node is preferred, or the nearest if there is none
 abbrev pub preferred : List ℕ → Policy
 preferred [] = Local
 preferred (n ∷ ns) = Preferred n
 
--- the policy of a mode and a set of nodes
+-- the policy of a mode and a set of nodes. The modes of mbind(2) are MPOL_DEFAULT (0), MPOL_PREFERRED (1),
+-- MPOL_BIND (2), MPOL_INTERLEAVE (3) and MPOL_LOCAL (4)
 abbrev pub policy_of : ℕ → List ℕ → Policy
 policy_of mode nodes =
-    if mode == MPOL_PREFERRED then preferred nodes
-    else (if mode == MPOL_BIND then Bind nodes
-    else (if mode == MPOL_INTERLEAVE then Interleave nodes
-    else (if mode == MPOL_LOCAL then Local else Default)))
+    if mode == 1 then preferred nodes
+    else (if mode == 2 then Bind nodes
+    else (if mode == 3 then Interleave nodes
+    else (if mode == 4 then Local else Default)))
 
 -- whether MPOL_MF_STRICT (1) is among the flags
 abbrev pub is_strict : ℕ → Bool
@@ -66,25 +52,15 @@ is_strict flags = flags % 2 == 1
 abbrev pub moves : ℕ → Bool
 moves flags = (flags / 2 % 2 == 1) || moves_all flags
 
--- nodes for a mode that takes none, or no nodes for a mode that needs some
+-- no nodes for MPOL_BIND (2) or MPOL_INTERLEAVE (3), which need some; or nodes for MPOL_DEFAULT (0) or
+-- MPOL_LOCAL (4), which take none
 abbrev pub is_misfit : ℕ → List ℕ → Bool
-is_misfit mode nodes =
-    if is_none nodes then (mode == MPOL_BIND) || (mode == MPOL_INTERLEAVE)
-    else (mode == MPOL_DEFAULT) || (mode == MPOL_LOCAL)
+is_misfit mode nodes = if is_none nodes then (mode == 2) || (mode == 3) else (mode == 0) || (mode == 4)
 
 -- an unknown mode; nodes that do not fit it, or are not in the machine; or no node that can be used
 abbrev pub is_bad_set : State → List ℕ → ℕ → List ℕ → Bool
 is_bad_set s allowed mode nodes =
     nat_le 5 mode || is_misfit mode nodes || names_missing_node s nodes || (not (is_none nodes) && is_none (usable s allowed nodes))
-
--- an unknown flag, or such a mode or set
-abbrev pub is_invalid : State → List ℕ → ℕ → List ℕ → ℕ → Bool
-is_invalid s allowed mode nodes flags = nat_le 8 flags || is_bad_set s allowed mode nodes
-
--- pages without repetition
-abbrev pub once : List Located → List Located
-once [] = []
-once (l ∷ ls) = l ∷ filter (λ m. not (same_page l.page m.page)) (once ls)
 
 -- the pages seen from one page number up to another that do not follow a policy, in order of page number
 abbrev pub strays_between : State → ℕ → ℕ → ℕ → Policy → List Located
@@ -92,11 +68,11 @@ strays_between s pid first end policy = filter (λ l. not (follows policy l.node
 
 -- the pages seen in the range that do not follow the policy, in address order, each at its lowest address
 abbrev pub stray_pages : State → Binding → List Located
-stray_pages s b = once (strays_between s b.pid b.first b.end b.policy)
+stray_pages s b = once (λ l m. same_page l.page m.page) (strays_between s b.pid b.first b.end b.policy)
 
--- the nodes that a process may use; none if there is no such process
-abbrev pub allowed_to : Option ProcessInfo → List ℕ
-allowed_to caller = unwrap_or (option_map (λ (i : ProcessInfo). i.allowed) caller) []
+-- the policy that a caller asks for: it keeps those of its nodes that are online and allowed
+abbrev pub policy_asked : State → ℕ → ℕ → List ℕ → Policy
+policy_asked s caller mode nodes = policy_of mode (usable s (unwrap_or (allowed_at s caller) []) nodes)
 
 -- the home node of a process; node 0 if there is no such process
 abbrev pub home_of : Option ProcessInfo → ℕ
@@ -107,33 +83,30 @@ abbrev pub range_of : ℕ → ℕ → ℕ → Policy → Binding
 range_of pid address len policy =
     let first = address / 4096 in record { pid = pid; first = first; end = first + pages_of len; policy = policy }
 
--- what a call asks for; the policy keeps those of its nodes that are online and allowed
+-- what a call asks for
 abbrev pub binding : State → ℕ → ℕ → ℕ → ℕ → List ℕ → Binding
-binding s pid address len mode nodes =
-    range_of pid address len (policy_of mode (usable s (allowed_to (info_at s pid)) nodes))
+binding s pid address len mode nodes = range_of pid address len (policy_asked s pid mode nodes)
 
--- ESRCH: no such caller; EINVAL: bad arguments; EPERM: MPOL_MF_MOVE_ALL without privilege
+-- ESRCH: no such caller; EINVAL: an unknown flag, or a bad mode or set; EPERM: MPOL_MF_MOVE_ALL without privilege
 abbrev pub mode_refusal : State → Option ProcessInfo → ℕ → List ℕ → ℕ → Option Errno
 mode_refusal s None mode nodes flags = Some Esrch
 mode_refusal s (Some caller) mode nodes flags =
-    let invalid = is_invalid s caller.allowed mode nodes flags in
+    let invalid = nat_le 8 flags || is_bad_set s caller.allowed mode nodes in
     first_error ((invalid, Einval) ∷ (moves_all flags && not caller.privileged, Eperm) ∷ [])
 
--- whether MPOL_MF_STRICT is given without a flag to move, and a page does not follow the policy
-abbrev pub is_strictly_refused : State → Binding → ℕ → Bool
-is_strictly_refused s b flags = is_strict flags && not (moves flags) && not (length (stray_pages s b) == 0)
-
--- EINVAL: a bad address or length; EFAULT: a page without an area; EIO: a page that does not follow the policy
+-- EINVAL: a bad address or length; EFAULT: a page without an area; EIO: MPOL_MF_STRICT without a flag to move, and a
+-- page that does not follow the policy
 abbrev pub range_refusal : State → ℕ → ℕ → ℕ → Policy → ℕ → Option Errno
 range_refusal s caller address len policy flags =
-    let strict = is_strictly_refused s (range_of caller address len policy) flags in
+    let pages = stray_pages s (range_of caller address len policy) in
+    let strict = is_strict flags && not (moves flags) && not (length pages == 0) in
     earlier (policy_refusal s caller address len) (first_error ((strict, Eio) ∷ []))
 
 -- the refusal of the arguments, or else that of the range
 abbrev pub mbind_refusal : State → ℕ → ℕ → ℕ → ℕ → List ℕ → ℕ → Option Errno
 mbind_refusal s caller address len mode nodes flags =
-    let policy = policy_of mode (usable s (allowed_to (info_at s caller)) nodes) in
-    earlier (mode_refusal s (info_at s caller) mode nodes flags) (range_refusal s caller address len policy flags)
+    let range = range_refusal s caller address len (policy_asked s caller mode nodes) flags in
+    earlier (mode_refusal s (info_at s caller) mode nodes flags) range
 
 -- requests for pages, each at the page number where a process sees it
 abbrev pub requests_at : ℕ → Bool → List Located → List Wanted
@@ -149,11 +122,9 @@ each_to pid all targets = map (λ t. record { target = t.to; wanted = At pid t.v
 
 -- the nodes that a policy tries one after another for all pages; for BIND by distance from a home node
 abbrev pub nodes_tried : State → ℕ → Policy → List ℕ
-nodes_tried s home Default = []
 nodes_tried s home (Preferred node) = node ∷ []
 nodes_tried s home (Bind nodes) = filter (is_in nodes) (zonelist s.layout s.online home)
-nodes_tried s home (Interleave nodes) = []
-nodes_tried s home Local = []
+nodes_tried s home policy = []
 
 -- the runs that bring pages to where a policy wants them: by turns for INTERLEAVE, in passes for the others
 abbrev pub runs_by : ℕ → State → Policy → ℕ → ℕ → Bool → List Located → List Stretch
@@ -189,5 +160,4 @@ tells_late flags = is_strict flags && moves flags
 
 -- the state before the first run, with the policy set
 abbrev pub policed : State → ℕ → ℕ → ℕ → ℕ → List ℕ → State
-policed s caller address len mode nodes =
-    set_policy s caller address len (binding s caller address len mode nodes).policy
+policed s caller address len mode nodes = set_policy s caller address len (policy_asked s caller mode nodes)

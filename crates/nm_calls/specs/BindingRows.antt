@@ -13,7 +13,19 @@ use Rattle.nm_calls.specs.Answers.{Answer, Refusal, Failed}
 use Rattle.nm_calls.specs.Outcome.{Outcome, outcome, runs_of, after_runs}
 use Rattle.nm_calls.specs.Systems.{SystemState}
 use Rattle.nm_calls.specs.Maps.{set_text, numa_maps}
-use Rattle.nm_calls.specs.Binding.{MPOL_DEFAULT, MPOL_PREFERRED, MPOL_BIND, MPOL_INTERLEAVE}
+
+-- the modes, by their numbers
+abbrev pub MPOL_DEFAULT : ℕ
+MPOL_DEFAULT = 0
+
+abbrev pub MPOL_PREFERRED : ℕ
+MPOL_PREFERRED = 1
+
+abbrev pub MPOL_BIND : ℕ
+MPOL_BIND = 2
+
+abbrev pub MPOL_INTERLEAVE : ℕ
+MPOL_INTERLEAVE = 3
 
 -- a call of process 1, with an address, a length, a mode, nodes and flags
 pub record Asked : Type 0 where

@@ -1,5 +1,6 @@
 -- How a contract states that a call's answer and effect are those of its definition.
 use Rattle.std.specs.Prelude.{◌≡◌, ◌⊎◌, ℕ, ◌<◌, ◌≤◌, ◌-◌, Bool, false, List, length, map, slice_index_or, None, Result, Ok, Err}
+use Rattle.std.specs.Map.{keys_of}
 use Rattle.nm_types.specs.declared.errno.Errno.{Errno}
 use Rattle.nm_types.specs.State.{State}
 use Rattle.nm_model.specs.definitions.Cut.{Stretch}
@@ -11,7 +12,7 @@ use Rattle.nm_calls.specs.declared.call_error.CallError.TheVariants.{Refused, Ho
 use Rattle.nm_calls.specs.declared.answer.Moved.{Moved}
 use Rattle.nm_steps.specs.Calls.{Call}
 use Rattle.nm_calls.specs.Answers.{Answer, Refusal}
-use Rattle.nm_calls.specs.Batch.{runs_named, in_order}
+use Rattle.nm_calls.specs.Batch.{in_order}
 use Rattle.nm_calls.specs.Systems.{SystemState}
 use Rattle.nm_calls.specs.Outcome.{refused_at_once, outcome, sets_policy, runs_of, after_runs, states_from}
 
@@ -44,7 +45,7 @@ abbrev pub Moves : {A : Type 0} → Result (Moved A) CallError → State → Sta
 Moves (Ok moved) old new stretches during =
     let made = runs_from 0 old stretches during in
     (moved.statuses.items ≡ made.statuses) × (moved.failed ≡ answer_of made)
-    × (map answer_shown moved.answers.items ≡ in_order (runs_named during) made.answers) × (new ≡ made.state)
+    × (map answer_shown moved.answers.items ≡ in_order (keys_of during) made.answers) × (new ≡ made.state)
 Moves (Err (Refused e)) old new stretches during = ⊥
 Moves (Err (HostMemory runs policy_set)) old new stretches during =
     (policy_set ≡ false) × (runs ≤ length stretches - 1)

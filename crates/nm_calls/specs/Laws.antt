@@ -1,6 +1,7 @@
 -- What holds for every call.
 use Rattle.std.specs.Prelude.{◌≡◌, ◌⊎◌, ℕ, ◌<◌, ◌≤◌, ℤ, Bool, true, false, List, [], length, take, slice_index_or, Option, Some, None, if◌then◌else◌}
 use Rattle.std.specs.List.{AllByRecursion}
+use Rattle.std.specs.Map.{keys_of}
 use Rattle.nm_types.specs.declared.errno.Errno.{Errno}
 use Rattle.nm_types.specs.State.{State}
 use Rattle.nm_model.specs.definitions.Cut.{Stretch}
@@ -11,9 +12,9 @@ use Rattle.nm_model.specs.definitions.Sound.{IsSound}
 use Rattle.nm_laws.specs.Laws.{runs_written}
 use Rattle.nm_steps.specs.Calls.{Call, MapPages, Attach, Unmap, Exit, WriteBytes, MovePages, Mbind, Offline}
 use Rattle.nm_calls.specs.Answers.{Refusal, Statuses}
-use Rattle.nm_calls.specs.Batch.{runs_named, in_order, by_place}
+use Rattle.nm_calls.specs.Batch.{in_order, by_place}
 use Rattle.nm_calls.specs.Systems.{SystemState}
-use Rattle.nm_calls.specs.Outcome.{refused, start, started, outcome, runs_of, accesses_asked, trail}
+use Rattle.nm_calls.specs.Outcome.{started, outcome, runs_of, accesses_asked, trail}
 use Rattle.nm_calls.specs.Binding.{tells_late}
 use Rattle.nm_types.specs.declared.errno.Errno.TheVariants.{Eio, Ebusy}
 
@@ -34,7 +35,7 @@ RefusalsChangeNothing =
 abbrev pub TrailIsAfterRuns : Type 0
 TrailIsAfterRuns =
     (y : SystemState) (call : Call) (n : ℕ) (d : State) → n ≤ length (runs_of y call) →
-    let first = started (refused y.state call) y.state (start y call) in
+    let first = started y call in
     slice_index_or (trail y call) n d ≡ (runs_from 0 first (take n (runs_of y call)) (accesses_asked call)).state
 
 -- the answers to accesses in flight can be found by counting
@@ -48,7 +49,7 @@ EachAccessIsAnswered =
     (y : SystemState) (caller pid : ℕ) (pages nodes : List ℕ) (flags : ℕ) (during : List (ℕ × Access)) →
     (failed : ℕ) (statuses : List ℤ) (answers : List AccessAnswer) →
     let call = MovePages caller pid pages nodes flags during in
-    AllByRecursion (λ run. run < length (runs_of y call)) (runs_named during) →
+    AllByRecursion (λ run. run < length (runs_of y call)) (keys_of during) →
     (outcome y call).answer ≡ Statuses failed statuses answers → length answers ≡ length during
 
 -- a sound system stays sound, whatever call is made, and whether or not it is refused
@@ -68,7 +69,7 @@ writes_or_maps call = false
 -- as before the call
 abbrev pub byte_after : SystemState → Call → List Stretch → ℕ → ℕ → Option ℕ
 byte_after y call runs q at =
-    let made = runs_from 0 (started (refused y.state call) y.state (start y call)) runs (accesses_asked call) in
+    let made = runs_from 0 (started y call) runs (accesses_asked call) in
     runs_written y.state.areas q at (mem y.state q at) (accesses_asked call) 0 made.answers
 
 -- every other call changes no byte of any process except by writes in flight ...

@@ -39,21 +39,14 @@ policy_text (Bind nodes) = codes "bind:" ++ set_text nodes
 policy_text (Interleave nodes) = codes "interleave:" ++ set_text nodes
 policy_text Local = codes "local"
 
--- digits, padded with zeros to a width
-abbrev pub zero_filled : ℕ → List ℕ → List ℕ
-zero_filled width ds = replicate (width - length ds) 48 ++ ds
-
--- the address of a page, in at least eight hexadecimal digits: those of its page number, and three zeros
+-- the address of a page, in at least eight hexadecimal digits: those of its page number, padded with zeros to five,
+-- and three zeros
 abbrev pub address_text : ℕ → List ℕ
-address_text vpn = zero_filled 5 (digits 16 false vpn) ++ codes "000"
+address_text vpn = let ds = digits 16 false vpn in replicate (5 - length ds) 48 ++ ds ++ codes "000"
 
 -- the pages that a process sees in an area
 abbrev pub pages_of : State → ℕ → Line → List Located
 pages_of s pid line = located_between s pid line.first (line.first + line.pages)
-
--- how many pages are on a node
-abbrev pub count_on : List Located → ℕ → ℕ
-count_on pages node = count_by (λ p. p.node == node) pages
 
 -- the greatest number of processes that see any of these pages
 abbrev pub most_users : State → List Located → ℕ
@@ -65,7 +58,7 @@ told_from least word n = if nat_lt n least then [] else word ++ decimal n
 
 -- how many pages are on a node, if any are
 abbrev pub node_text : List Located → ℕ → List ℕ
-node_text pages node = told_from 1 (codes " N" ++ decimal node ++ codes "=") (count_on pages node)
+node_text ps node = told_from 1 (codes " N" ++ decimal node ++ codes "=") (count_by (λ p. p.node == node) ps)
 
 -- what is shown of the pages in an area, if there are any
 abbrev pub pages_text : State → List Located → List ℕ

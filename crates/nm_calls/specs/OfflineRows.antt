@@ -9,8 +9,7 @@ use Rattle.nm_model.specs.examples.{A, B, C, D, E, one_process, wrote, three_pag
 use Rattle.nm_steps.specs.Calls.{Call, MovePages, MigratePages, Mbind, Offline}
 use Rattle.nm_calls.specs.Answers.{Answer, Refusal, Done, Failed}
 use Rattle.nm_calls.specs.Outcome.{refused, outcome, trail, after_runs}
-use Rattle.nm_calls.specs.Binding.{MPOL_BIND}
-use Rattle.nm_calls.specs.BindingRows.{system_in, left_in, narrow}
+use Rattle.nm_calls.specs.BindingRows.{MPOL_BIND, system_in, left_in, narrow}
 use Rattle.nm_calls.specs.Maps.{numa_maps}
 use Rattle.nm_calls.specs.Offlining.{online_refusal}
 

@@ -1,5 +1,7 @@
 -- Which calls are refused, the answers of the others, and the state after each, also if the host runs out of memory.
 use Rattle.std.specs.Prelude.{ℕ, ℤ, ◌+◌, ◌/◌, Bool, true, false, ◌&&◌, if◌then◌else◌, List, [], ◌∷◌, length, map, slice_index_or, Option, Some, None}
+use Rattle.std.specs.Map.{keys_of}
+use Rattle.std.specs.Option.{is_some}
 use Rattle.nm_types.specs.declared.errno.Errno.{Errno}
 use Rattle.nm_types.specs.State.{State, free_list}
 use Rattle.nm_model.specs.definitions.Cut.{Stretch}
@@ -19,7 +21,7 @@ use Rattle.nm_calls.specs.Maps.{numa_maps}
 use Rattle.nm_calls.specs.Permission.{query_refusal, moves_all, owner_of}
 use Rattle.nm_types.specs.declared.errno.Errno.TheVariants.{Eio, Ebusy}
 use Rattle.nm_calls.specs.Batch.{move_refusal, requests_of}
-use Rattle.nm_calls.specs.Batch.{runs_named, in_order}
+use Rattle.nm_calls.specs.Batch.{in_order}
 use Rattle.nm_calls.specs.Migrating.{migrate_refusal, migration}
 use Rattle.nm_calls.specs.Binding.{mbind_refusal, policed, binding, mbind_runs, has_stray, tells_late}
 use Rattle.nm_calls.specs.Offlining.{offline_refusal, offline_runs, still_on, online_refusal}
@@ -27,10 +29,8 @@ use Rattle.nm_calls.specs.Systems.{SystemState, in_state}
 
 -- why an access is refused, if it is
 abbrev pub refusal_in : engine.AccessAnswer → Option Errno
-refusal_in (engine.Bytes bytes) = None
-refusal_in engine.Done = None
-refusal_in engine.Held = None
 refusal_in (engine.Refused e) = Some e
+refusal_in answer = None
 
 -- the answer to an access
 abbrev pub shown : engine.AccessAnswer → Answer
@@ -106,10 +106,6 @@ pub record Outcome : Type 0 where
 abbrev pub leaves : SystemState → Answer → State → Outcome
 leaves y answer s = record { answer = answer; system = in_state y s }
 
--- EIO, or the answer of a call without failures
-abbrev pub late_answer : Bool → Answer
-late_answer late = if late then Refusal Eio else Failed 0
-
 -- a node that a page stays on is still online; otherwise it is offline
 abbrev pub emptied : SystemState → ℕ → State → Bool → Outcome
 emptied y node s stays = if stays then leaves y (Refusal Ebusy) s else leaves y Done (set_online s node false)
@@ -130,13 +126,13 @@ ended y (ReadBytes pid addr len) made =
 ended y (WriteBytes pid addr bytes) made =
     let access = write y.state pid addr bytes in leaves y (shown access.answer) access.state
 ended y (MovePages caller pid pages nodes flags during) made =
-    leaves y (Statuses (answer_of made) made.statuses (in_order (runs_named during) made.answers)) made.state
+    leaves y (Statuses (answer_of made) made.statuses (in_order (keys_of during) made.answers)) made.state
 ended y (MigratePages caller pid old new) made = leaves y (Failed (answer_of made)) made.state
 ended y (Query caller pid pages flags) made =
     leaves y (Statuses 0 (statuses_of y.state (owner_of caller pid) pages) []) y.state
 ended y (Mbind caller addr len mode nodes flags) made =
     let strays = has_stray y.state made.state (binding y.state caller addr len mode nodes) in
-    leaves y (late_answer (tells_late flags && strays)) made.state
+    leaves y (if tells_late flags && strays then Refusal Eio else Failed 0) made.state
 ended y (Offline node) made = emptied y node made.state (still_on y.state made.state node)
 ended y (Online node) made = leaves y Done (set_online y.state node true)
 ended y (FreeList node) made = leaves y (Frames (free_list y.state node)) y.state
@@ -155,14 +151,9 @@ outcome y call =
     let made = runs_from 0 (start y call) (runs_asked y call) (accesses_asked call) in
     unless (refused y.state call) y (ended y call made)
 
--- these runs, or none if there is a refusal
-abbrev pub runs_unless : Option Errno → List Stretch → List Stretch
-runs_unless (Some e) runs = []
-runs_unless None runs = runs
-
 -- the runs of a call; none if it is refused
 abbrev pub runs_of : SystemState → Call → List Stretch
-runs_of y call = runs_unless (refused y.state call) (runs_asked y call)
+runs_of y call = if is_some (refused y.state call) then [] else runs_asked y call
 
 -- the states before, between and after runs numbered from k on, each with its accesses
 abbrev pub states_from : ℕ → State → List Stretch → List (ℕ × Access) → List State
@@ -174,15 +165,13 @@ states_from k s (r ∷ rs) accesses =
 abbrev pub states_of : State → List Stretch → List State
 states_of s rs = states_from 0 s rs []
 
--- the first state if there is a refusal, otherwise the second
-abbrev pub started : Option Errno → State → State → State
-started (Some e) s t = s
-started None s t = t
+-- the state before the first run of a call, with the policy of mbind set; as it was if the call is refused
+abbrev pub started : SystemState → Call → State
+started y call = if is_some (refused y.state call) then y.state else start y call
 
 -- the trail of a call: the states from before its first run, with the policy set, to after its last
 abbrev pub trail : SystemState → Call → List State
-trail y call =
-    states_from 0 (started (refused y.state call) y.state (start y call)) (runs_of y call) (accesses_asked call)
+trail y call = states_from 0 (started y call) (runs_of y call) (accesses_asked call)
 
 -- the system after the first `runs` runs of a call
 abbrev pub after_runs : SystemState → Call → ℕ → SystemState

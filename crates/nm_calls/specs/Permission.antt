@@ -14,10 +14,6 @@ use Rattle.std.specs.List.{list_any, filter}
 use Rattle.nm_types.specs.Layout.{node_count}
 use Rattle.nm_types.specs.Nodes.{is_in}
 
--- whether the flags have a bit other than MPOL_MF_MOVE (2) and MPOL_MF_MOVE_ALL (4)
-abbrev pub has_other_flags : ℕ → Bool
-has_other_flags flags = nat_le 8 flags || (flags % 2 == 1)
-
 -- whether MPOL_MF_MOVE_ALL is among the flags; without it they act as MPOL_MF_MOVE
 abbrev pub moves_all : ℕ → Bool
 moves_all flags = flags / 4 % 2 == 1
@@ -26,10 +22,10 @@ moves_all flags = flags / 4 % 2 == 1
 abbrev pub owner_of : ℕ → ℕ → ℕ
 owner_of caller pid = if pid == 0 then caller else pid
 
--- EINVAL: an unknown flag; EPERM: MPOL_MF_MOVE_ALL without privilege
+-- EINVAL: a flag other than MPOL_MF_MOVE (2) and MPOL_MF_MOVE_ALL (4); EPERM: MPOL_MF_MOVE_ALL without privilege
 abbrev pub flags_refusal : Bool → ℕ → Option Errno
 flags_refusal privileged flags =
-    first_error ((has_other_flags flags, Einval) ∷ (moves_all flags && not privileged, Eperm) ∷ [])
+    first_error ((nat_le 8 flags || (flags % 2 == 1), Einval) ∷ (moves_all flags && not privileged, Eperm) ∷ [])
 
 -- ESRCH: no such process; EPERM: a process of another user, without privilege
 abbrev pub right_refusal : ProcessInfo → Option ProcessInfo → Option Errno
@@ -45,6 +41,10 @@ asking_refusal (Some caller) owner flags = earlier (flags_refusal caller.privile
 abbrev pub info_at : State → ℕ → Option ProcessInfo
 info_at s pid = option_map info_of (get nat_cmp s.processes pid)
 
+-- the nodes that a process may use, if it exists
+abbrev pub allowed_at : State → ℕ → Option (List ℕ)
+allowed_at s pid = option_map (λ (i : ProcessInfo). i.allowed) (info_at s pid)
+
 -- the refusal of a query about a process's pages
 abbrev pub query_refusal : State → ℕ → ℕ → ℕ → Option Errno
 query_refusal s caller pid flags = asking_refusal (info_at s caller) (info_at s (owner_of caller pid)) flags
@@ -52,10 +52,6 @@ query_refusal s caller pid flags = asking_refusal (info_at s caller) (info_at s 
 -- whether a set has a node that the machine does not have
 abbrev pub names_missing_node : State → List ℕ → Bool
 names_missing_node s nodes = list_any (nat_le (node_count s.layout)) nodes
-
--- whether a set has a node that another set does not have
-abbrev pub goes_beyond : List ℕ → List ℕ → Bool
-goes_beyond allowed nodes = list_any (λ n. not (is_in allowed n)) nodes
 
 -- the online and allowed nodes of a set
 abbrev pub usable : State → List ℕ → List ℕ → List ℕ

@@ -12,7 +12,8 @@ ghost use Rattle.nm_model.specs.definitions.Run.{HasOneAll};
 ghost use Rattle.nm_calls.specs.Batch.{requests_of};
 ghost use Rattle.nm_calls.specs.Does.{Moves};
 ghost use Rattle.nm_steps.specs.Views.{shown_during};
-ghost use Rattle.nm_calls.specs.Batch.{runs_named, in_order, left_shown, AreByRun};
+ghost use Rattle.std.specs.Map.{keys_of};
+ghost use Rattle.nm_calls.specs.Batch.{in_order, left_shown, AreByRun};
 ghost use Rattle.nm_model.specs.views.Asked.{access_shown};
 ghost use Rattle.nm_engine.specs.views.Accesses.{answer_shown};
 
@@ -213,7 +214,7 @@ pub(crate) fn in_order<A: Allocator + Copy + Send + Sync>(
     requires empty { answers.items ≡ [] }
     requires room { length during.now ≤ vec_capacity answers }
     ensures { map answer_shown result.items
-        ≡ in_order (runs_named (shown_during during.now)) (map left_shown told.items) }
+        ≡ in_order (keys_of (shown_during during.now)) (map left_shown told.items) }
 {
     for asked in during {
         if let Some(left) = told.get_mut(asked.run) {

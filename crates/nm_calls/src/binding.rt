@@ -7,7 +7,7 @@ ghost use Rattle.nm_runs.specs.Targets.{Checks};
 ghost use Rattle.nm_model.specs.definitions.Effect.{policy_refusal, set_policy};
 ghost use Rattle.nm_calls.specs.Permission.{info_at};
 ghost use Rattle.nm_calls.specs.Permission.{usable};
-ghost use Rattle.nm_calls.specs.Binding.{preferred, policy_of, is_misfit, is_bad_set, moves, stray_pages, is_stray, mode_refusal, range_of, range_refusal, allowed_to, home_of, is_strict, listed, mbind_runs, mbind_refusal, binding};
+ghost use Rattle.nm_calls.specs.Binding.{preferred, policy_of, policy_asked, is_misfit, is_bad_set, moves, stray_pages, is_stray, mode_refusal, range_of, range_refusal, home_of, is_strict, listed, mbind_runs, mbind_refusal, binding};
 ghost use Rattle.nm_calls.specs.Making.{nodes_named, Binds};
 
 use crate::call_error::CallError;
@@ -127,9 +127,7 @@ fn asked_of<A: Allocator + Copy + Send + Sync>(
         (mode_refusal machine.now (info_at machine.now caller) mode nodes flags) }
 
     // On success
-    ensures policy { IfOk result
-        (λ asked. asked.policy
-        ≡ policy_of mode (usable machine.now (allowed_to (info_at machine.now caller)) nodes)) }
+    ensures policy { IfOk result (λ asked. asked.policy ≡ policy_asked machine.now caller mode nodes) }
     ensures home { IfOk result (λ asked. asked.home ≡ home_of (info_at machine.now caller)) }
     ensures flags { IfOk result (λ asked. asked.flags ≡ flags) }
     ensures nodes { IfOk result

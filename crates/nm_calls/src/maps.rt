@@ -1,9 +1,9 @@
 //! A process's areas as text.
 
-ghost use Rattle.std.specs.Prelude.{◌≡◌, ℕ, ◌+◌, ◌++◌, ◌∷◌, ◌<◌, ◌≤◌, ◌^◌, All, Some, IfOk, OnOk, length, map, string_bytes, slice_index};
+ghost use Rattle.std.specs.Prelude.{◌≡◌, ℕ, ◌+◌, ◌++◌, ◌∷◌, ◌<◌, ◌≤◌, ◌^◌, All, Some, IfOk, OnOk, length, map, string_bytes, slice_index, count_by, ◌==◌};
 ghost use Rattle.nm_types.specs.Layout.{node_count};
 ghost use Rattle.nm_types.specs.Map.{get, page_cmp};
-ghost use Rattle.nm_calls.specs.Maps.{stretches, stretch_text, set_text, policy_text, pages_of, count_on, most_users, area_text, lines_shown};
+ghost use Rattle.nm_calls.specs.Maps.{stretches, stretch_text, set_text, policy_text, pages_of, most_users, area_text, lines_shown};
 ghost use Rattle.nm_calls.specs.Tallied.{comma, told_on, nodes_text, tally_text};
 
 use crate::words::{push_address, push_number};
@@ -112,7 +112,8 @@ fn tally_of<A: Allocator + Copy + Send + Sync>(machine: &Machine<A>, pages: &[Lo
     requires nodes { All (λ (page : Located). page.node < node_count machine.now.layout) pages.now }
     ensures pages { result.pages ≡ length pages.now }
     ensures most { result.most ≡ most_users machine.now pages.now }
-    ensures on { (node : ℕ) → node < 64 → slice_index result.on node ≡ count_on pages.now node }
+    ensures on { (node : ℕ) → node < 64 →
+        slice_index result.on node ≡ count_by (λ p. p.node == node) pages.now }
 {
     let mut count = 0;
     let mut most = 0;
@@ -147,7 +148,7 @@ fn count_pages<A: Allocator + Copy + Send + Sync>(
     ensures on { IfOk result
         (λ tally. (node : ℕ) →
         node < 64 →
-        slice_index tally.on node ≡ count_on (pages_of machine.now pid area.now) node) }
+        slice_index tally.on node ≡ count_by (λ p. p.node == node) (pages_of machine.now pid area.now)) }
 {
     let first = area.first.number();
     let end = Vpn::new(first + area.pages);

@@ -39,14 +39,14 @@ pub(crate) struct Migration {
 
 /// Which of the nodes that a caller names the pages of a process may go to. Errors, in order: EPERM (a node that the
 /// process may not use, without privilege); EINVAL (no node that is online and allowed).
-#[tactic(auto, using(crate::proofs::Reach::beyond_is, crate::proofs::Reach::none_is))]
+#[tactic(auto, using(crate::proofs::Reach::none_is))]
 fn targets_of<A: Allocator + Copy + Send + Sync>(
     machine: &Machine<A>,
     privileged: bool,
     new: NodeMask,
     asked: ProcessInfo,
 ) -> Result<NodeMask, Errno>
-    ensures exact { Checks result (new_refusal machine.now privileged new (Some asked)) }
+    ensures exact { Checks result (new_refusal machine.now privileged new asked) }
     ensures targets { IfOk result (λ targets. targets ≡ usable machine.now asked.allowed new) }
 {
     if !new.is_subset(asked.allowed) && !privileged {

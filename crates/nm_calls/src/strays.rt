@@ -3,7 +3,9 @@
 ghost use Rattle.std.specs.Prelude.{◌≡◌, ◌+◌, ◌-◌, ◌<◌, ◌≤◌, not, [], ◌∷◌, IfOk, IfSome, IfNone, None, length};
 ghost use Rattle.std.specs.List.{filter, list_any};
 ghost use Rattle.nm_model.specs.definitions.Order.{follows};
-ghost use Rattle.nm_calls.specs.Binding.{strays_between, once, stray_pages, is_stray, binding};
+ghost use Rattle.nm_types.specs.Map.{same_page};
+ghost use Rattle.nm_calls.specs.Binding.{strays_between, stray_pages, is_stray, binding};
+ghost use Rattle.nm_calls.specs.Migrating.{once};
 
 use crate::binding::Binding;
 use nm_engine::{Located, Machine};
@@ -63,7 +65,8 @@ fn strays_among<A: Allocator + Copy>(
 
 /// The pages without repetition, each at its first place.
 fn once<A: Allocator + Copy>(alloc: A, pages: &[Located]) -> Result<Vec<Located, A>, AllocError>
-    ensures list { IfOk result (λ all. all.items ≡ once pages.now) }
+    ensures list { IfOk result
+        (λ all. all.items ≡ once (λ l m. same_page l.page m.page) pages.now) }
     ensures few { IfOk result (λ all. length all.items ≤ length pages.now) }
 {
     let mut seen = BTreeSet::new(alloc);

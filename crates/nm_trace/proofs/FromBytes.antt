@@ -9,7 +9,7 @@ use Rattle.nm_steps.specs.declared.trace_error.TraceError.{TraceError}
 use Rattle.nm_steps.specs.declared.trace_error.TraceError.TheVariants.{NotJson, BadMachine, BadStep, ReadFault, WriteFault, HostMemory}
 use Rattle.nm_steps.specs.Faults.{Plan, OfSomeBytes, trace_of, trace_within, trace_limit}
 use Rattle.nm_trace.specs.Report.{report_from}
-use Rattle.nm_trace.specs.Played.{AppendsFront, Plays, PlaysNew, Runs, IsSilent, WritesFront, report_of}
+use Rattle.nm_trace.specs.Played.{Plays, PlaysNew, Runs, IsSilent, WritesFront, report_of}
 use Rattle.nm_trace.proofs.InParts.{report_front}
 
 -- ---- a run
@@ -39,6 +39,10 @@ silent s t calls old new (Err WriteFault) p = tt
 silent s t calls old new (Err (HostMemory k)) p = λ z. subst (λ (j : ℕ). Appends old new (report_from 0 s (take j calls))) z p.1
 
 -- ---- a front of the report
+
+-- the written bytes, if known, grow by a prefix of the text
+abbrev AppendsFront : Option (List ℕ) → Option (List ℕ) → List ℕ → Type 0
+AppendsFront old new text = (front : List ℕ) × (rest : List ℕ) × (front ++ rest ≡ text) × Appends old new front
 
 -- nothing is a front of everything
 pub nothing : (trace : Result Plan TraceError) (old new : Option (List ℕ)) → Appends old new [] → WritesFront trace old new

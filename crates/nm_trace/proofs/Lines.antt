@@ -3,15 +3,17 @@ use Rattle.std.proofs.Common.{◌≡◌, ℕ, suc, ◌+◌, ◌<◌, ◌≤◌, 
 use Rattle.std.proofs.lemmas.List.{append-nil, drop_all, flat_map_more, take_more}
 use Rattle.std.proofs.Math.Seq.{take-add}
 use Rattle.std.specs.List.{flat_map}
-use Rattle.std.specs.Prelude.{slice_index}
+use Rattle.std.specs.Prelude.{slice_index, codes, decimal}
 use Rattle.hex.specs.Hex.{encode_with, encode_lower}
-use Rattle.nm_model.specs.definitions.Touch.{AccessAnswer}
+use Rattle.nm_model.specs.definitions.Touch.{Access, AccessAnswer}
 use Rattle.nm_model.specs.views.Asked.{access_shown}
 use Rattle.nm_engine.specs.views.Accesses.{answer_shown}
 use Rattle.nm_engine.specs.declared.answers.AccessAnswer.{AccessAnswer as Given}
 use Rattle.nm_steps.specs.declared.call.InFlight.{InFlight}
 use Rattle.nm_steps.specs.Views.{shown_during}
-use Rattle.nm_trace.specs.Report.{access_line, access_lines}
+use Rattle.nm_calls.specs.Outcome.{shown}
+use Rattle.nm_steps.specs.Form.{access_step}
+use Rattle.nm_trace.specs.Report.{word_of, answer_text, line_of, access_line, access_lines}
 
 -- the list up to a place, and the item there
 to_place : {X : Type 0} (xs : List X) (i : ℕ) (x : X) → i < length xs → x ≡ get_or xs i x → take (i + 1) xs ≡ take i xs ++ x ∷ []
@@ -63,6 +65,20 @@ more_digits xs i m rest piece behind is le =
     sym (ap encode_lower joined ∙ encode_append _ (take i xs) piece)
 
 -- ---- accesses
+
+grouped : (p a b c d e f : List ℕ) → ((p ++ a ++ b ++ c ++ d) ++ e) ++ f ≡ p ++ (a ++ b ++ c ++ d ++ e ++ f)
+grouped p a b c d e f =
+    let three = ap (λ t. t ++ c) (append_assoc p a b) ∙ append_assoc p (a ++ b) c in
+    let four = ap (λ t. t ++ d) three ∙ append_assoc p (a ++ b ++ c) d in
+    let five = ap (λ t. t ++ e) four ∙ append_assoc p (a ++ b ++ c ++ d) e in
+    ap (λ t. t ++ f) five ∙ append_assoc p (a ++ b ++ c ++ d ++ e) f
+
+-- the pieces of the line of an access, one after another
+pub access_line_is : (k j : ℕ) (access : Access) (answer : AccessAnswer)
+    → ((decimal k ++ codes "." ++ decimal j ++ codes " " ++ word_of (access_step access) ++ codes " ") ++ answer_text (shown answer)) ++ codes "\n" ≡ access_line k j access answer
+unfolding access_line line_of
+access_line_is k j access answer =
+    grouped (decimal k ++ codes ".") (decimal j) (codes " ") (word_of (access_step access)) (codes " ") (answer_text (shown answer)) (codes "\n")
 
 -- no lines, where no access is left
 pub no_access : (k j : ℕ) (answers : List AccessAnswer) → access_lines k j [] answers ≡ []

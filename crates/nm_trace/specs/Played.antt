@@ -6,13 +6,9 @@ use Rattle.nm_steps.specs.Calls.{Call}
 use Rattle.nm_calls.specs.Does.{HostLeaves}
 use Rattle.nm_trace.specs.declared.playing.Summary.{Summary}
 use Rattle.nm_steps.specs.declared.trace_error.TraceError.{TraceError}
-use Rattle.nm_steps.specs.declared.trace_error.TraceError.TheVariants.{NotJson, BadMachine, BadStep, ReadFault, WriteFault, HostMemory}
+use Rattle.nm_steps.specs.declared.trace_error.TraceError.TheVariants.{ReadFault, WriteFault, HostMemory}
 use Rattle.nm_steps.specs.Faults.{Plan}
 use Rattle.nm_trace.specs.Report.{report_from, state_after}
-
--- the written bytes, if known, grow by a prefix of the text
-abbrev pub AppendsFront : Option (List ℕ) → Option (List ℕ) → List ℕ → Type 0
-AppendsFront old new text = (front : List ℕ) × (rest : List ℕ) × (front ++ rest ≡ text) × Appends old new front
 
 -- the written bytes, if known, grow by a prefix of the text that is not all of it
 abbrev pub BreaksOff : Option (List ℕ) → Option (List ℕ) → List ℕ → Type 0
@@ -28,18 +24,15 @@ StopsAt s calls k t = (call : Call) × (slice_get calls k ≡ Some call) × Stop
 
 -- a play makes every call and writes the report on them; if the writer fails, some first calls were made, and the
 -- report on them breaks off; if the host has no memory for step k, the report on the steps before it is written, and
--- step k may have been made in part
+-- step k may have been made in part; there is no other fault
 abbrev pub Plays : SystemState → List Call → SystemState → Option (List ℕ) → Option (List ℕ) → Result Summary TraceError → Type 0
 Plays s calls t old new (Ok summary) =
     (summary.steps ≡ length calls) × (t ≡ state_after s calls) × Appends old new (report_from 0 s calls)
-Plays s calls t old new (Err NotJson) = ⊥
-Plays s calls t old new (Err BadMachine) = ⊥
-Plays s calls t old new (Err (BadStep k)) = ⊥
-Plays s calls t old new (Err ReadFault) = ⊥
 Plays s calls t old new (Err WriteFault) =
     (k : ℕ) × (k ≤ length calls) × ((t ≡ state_after s (take k calls)) ⊎ StopsAt s calls k t)
     × BreaksOff old new (report_from 0 s (take k calls))
 Plays s calls t old new (Err (HostMemory k)) = StopsAt s calls k t × Appends old new (report_from 0 s (take k calls))
+Plays s calls t old new (Err e) = ⊥
 
 -- the report on a trace: on its steps, from a new machine on
 abbrev pub report_of : Plan → List ℕ
@@ -49,27 +42,24 @@ report_of plan = report_from 0 (system_with plan.layout plan.run_limit) plan.cal
 abbrev pub PlaysNew : Plan → Option (List ℕ) → Option (List ℕ) → Result Summary TraceError → Type 0
 PlaysNew plan old new result = (t : SystemState) × Plays (system_with plan.layout plan.run_limit) plan.calls t old new result
 
--- a run from a trace's bytes: it returns their first fault, or plays the trace
+-- a run from a trace's bytes: it plays the trace, or returns their first fault. A read fault, and lack of memory before
+-- the first step, say nothing of them
 abbrev pub Runs : Result Plan TraceError → Option (List ℕ) → Option (List ℕ) → Result Summary TraceError → Type 0
 Runs trace old new (Ok summary) = (plan : Plan) × (trace ≡ Ok plan) × PlaysNew plan old new (Ok summary)
-Runs trace old new (Err NotJson) = trace ≡ Err NotJson
-Runs trace old new (Err BadMachine) = trace ≡ Err BadMachine
-Runs trace old new (Err (BadStep k)) = trace ≡ Err (BadStep k)
 Runs trace old new (Err ReadFault) = Unit {0}
 Runs trace old new (Err WriteFault) = (plan : Plan) × (trace ≡ Ok plan) × PlaysNew plan old new (Err WriteFault)
 Runs trace old new (Err (HostMemory k)) =
     (k ≡ 0) ⊎ ((plan : Plan) × (trace ≡ Ok plan) × PlaysNew plan old new (Err (HostMemory k)))
+Runs trace old new (Err e) = trace ≡ Err e
 
 -- if a fault comes before the first step, nothing was written
 abbrev pub IsSilent : TraceError → Option (List ℕ) → Option (List ℕ) → Type 0
-IsSilent NotJson old new = Appends old new []
-IsSilent BadMachine old new = Appends old new []
-IsSilent (BadStep k) old new = Appends old new []
-IsSilent ReadFault old new = Appends old new []
 IsSilent WriteFault old new = Unit {0}
 IsSilent (HostMemory k) old new = k ≡ 0 → Appends old new []
+IsSilent e old new = Appends old new []
 
 -- a prefix of the report was written; nothing if there is no report
 abbrev pub WritesFront : Result Plan TraceError → Option (List ℕ) → Option (List ℕ) → Type 0
-WritesFront (Ok plan) old new = AppendsFront old new (report_of plan)
+WritesFront (Ok plan) old new =
+    (front : List ℕ) × (rest : List ℕ) × (front ++ rest ≡ report_of plan) × Appends old new front
 WritesFront (Err e) old new = Appends old new []

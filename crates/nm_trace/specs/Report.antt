@@ -1,15 +1,17 @@
 -- The report on calls, and the state after them.
-use Rattle.std.specs.Prelude.{ℕ, ℤ, ◌+◌, List, [], ◌∷◌, ◌++◌, length, Option, Some, None, codes, decimal}
+use Rattle.std.specs.Prelude.{ℕ, ◌+◌, List, [], ◌∷◌, ◌++◌, length, Option, codes, decimal}
 use Rattle.std.specs.Fmt.{signed_decimal}
 use Rattle.std.specs.List.{flat_map}
+use Rattle.std.specs.Option.{unwrap_or, option_map}
 use Rattle.hex.specs.Hex.{encode_lower}
 use Rattle.nm_types.specs.Names.{name_of}
-use Rattle.nm_model.specs.definitions.Touch.{Access, Read, Write, AccessAnswer}
+use Rattle.nm_model.specs.definitions.Touch.{Access, AccessAnswer}
 use Rattle.nm_calls.specs.Maps.{address_text}
 use Rattle.nm_calls.specs.Systems.{SystemState}
 use Rattle.nm_steps.specs.Calls.{Call, Spawn, MapPages, Attach, Unmap, Exit, Pin, Unpin, ReadBytes, WriteBytes, MovePages, MigratePages, Query, FreeList, Pagemap, Vmstat, NumaMaps, Mbind, Offline, Online}
+use Rattle.nm_steps.specs.Form.{access_step}
 use Rattle.nm_calls.specs.Answers.{Answer, Refusal, Done, Held, NewSegment, TheBytes, Statuses, Failed, Frames, Entries, TheTotals, Lines}
-use Rattle.nm_calls.specs.Outcome.{Outcome, accesses_asked, outcome, shown}
+use Rattle.nm_calls.specs.Outcome.{accesses_asked, outcome, shown}
 
 -- the word for a call
 abbrev pub word_of : Call → List ℕ
@@ -33,31 +35,15 @@ word_of (Pagemap pid) = codes "pagemap"
 word_of Vmstat = codes "vmstat"
 word_of (NumaMaps pid) = codes "numa_maps"
 
--- numbers, each after a space
-abbrev pub listed : List ℕ → List ℕ
-listed ns = flat_map (λ n. 32 ∷ decimal n) ns
+-- items, each after a space
+abbrev pub spaced : {X : Type 0} → (X → List ℕ) → List X → List ℕ
+spaced text xs = flat_map (λ x. 32 ∷ text x) xs
 
-abbrev pub signed_listed : List ℤ → List ℕ
-signed_listed zs = flat_map (λ z. 32 ∷ signed_decimal z) zs
-
-abbrev pub frame_text : Option ℕ → List ℕ
-frame_text None = codes "zero"
-frame_text (Some frame) = decimal frame
-
--- an entry, after a space
+-- an entry: its address, and its frame or `zero`
 abbrev pub entry_text : ℕ × Option ℕ → List ℕ
-entry_text e = codes " " ++ address_text e.0 ++ codes "=" ++ frame_text e.1
+entry_text e = address_text e.0 ++ codes "=" ++ unwrap_or (option_map decimal e.1) (codes "zero")
 
--- the two totals, with their names in /proc/vmstat
-abbrev pub totals_text : ℕ → ℕ → List ℕ
-totals_text moved failed =
-    (codes "pgmigrate_success " ++ decimal moved) ++ (codes " pgmigrate_fail " ++ decimal failed)
-
--- lines, each after a line feed
-abbrev pub lines_behind : List (List ℕ) → List ℕ
-lines_behind lines = flat_map (λ line. 10 ∷ line) lines
-
--- an answer as text
+-- an answer as text; the two totals have their names in /proc/vmstat, and each line comes after a line feed
 unfoldable pub answer_text : Answer → List ℕ
 answer_text (Refusal errno) = codes "error " ++ name_of errno
 answer_text Done = codes "ok"
@@ -65,21 +51,20 @@ answer_text Held = codes "held"
 answer_text (NewSegment segment) = codes "segment=" ++ decimal segment
 answer_text (TheBytes bytes) = encode_lower bytes
 answer_text (Failed failed) = decimal failed
-answer_text (Statuses failed statuses answers) = decimal failed ++ codes ":" ++ signed_listed statuses
-answer_text (Frames frames) = decimal (length frames) ++ codes ":" ++ listed frames
-answer_text (Entries entries) = decimal (length entries) ++ codes ":" ++ flat_map entry_text entries
-answer_text (TheTotals moved failed) = totals_text moved failed
-answer_text (Lines lines) = decimal (length lines) ++ lines_behind lines
+answer_text (Statuses failed statuses answers) = decimal failed ++ codes ":" ++ spaced signed_decimal statuses
+answer_text (Frames frames) = decimal (length frames) ++ codes ":" ++ spaced decimal frames
+answer_text (Entries entries) = decimal (length entries) ++ codes ":" ++ spaced entry_text entries
+answer_text (TheTotals moved failed) =
+    (codes "pgmigrate_success " ++ decimal moved) ++ (codes " pgmigrate_fail " ++ decimal failed)
+answer_text (Lines lines) = decimal (length lines) ++ flat_map (λ line. 10 ∷ line) lines
 
--- the word for an access
-abbrev pub access_word : Access → List ℕ
-access_word (Read pid addr len) = codes "read"
-access_word (Write pid addr bytes) = codes "write"
+-- the line of step k, followed by those of an answer of several lines
+unfoldable pub line_of : ℕ → Call → Answer → List ℕ
+line_of k call answer = decimal k ++ codes " " ++ word_of call ++ codes " " ++ answer_text answer ++ codes "\n"
 
--- the line of access j of step k
+-- the line of access j of step k: that of a step j that makes the access, after the number of step k and a dot
 unfoldable pub access_line : ℕ → ℕ → Access → AccessAnswer → List ℕ
-access_line k j access answer =
-    decimal k ++ codes "." ++ decimal j ++ codes " " ++ access_word access ++ codes " " ++ answer_text (shown answer) ++ codes "\n"
+access_line k j access answer = decimal k ++ codes "." ++ line_of j (access_step access) (shown answer)
 
 -- the lines of the accesses of step k, each with the answer at its index, numbered from j on; if each access names a
 -- run that is made, there are as many answers as accesses
@@ -94,10 +79,6 @@ abbrev pub answers_in : Answer → List AccessAnswer
 answers_in (Statuses failed statuses answers) = answers
 answers_in answer = []
 
--- the line of step k, followed by those of an answer of several lines
-unfoldable pub line_of : ℕ → Call → Answer → List ℕ
-line_of k call answer = decimal k ++ codes " " ++ word_of call ++ codes " " ++ answer_text answer ++ codes "\n"
-
 -- the lines of step k: its own, and those of its accesses in flight
 unfoldable pub text_of : ℕ → Call → Answer → List ℕ
 text_of k call answer = line_of k call answer ++ access_lines k 0 (accesses_asked call) (answers_in answer)
@@ -106,8 +87,7 @@ text_of k call answer = line_of k call answer ++ access_lines k 0 (accesses_aske
 abbrev pub report_from : ℕ → SystemState → List Call → List ℕ
 report_from k s [] = []
 report_from k s (call ∷ calls) =
-    let o : Outcome = outcome s call in
-    text_of k call o.answer ++ report_from (k + 1) o.system calls
+    text_of k call (outcome s call).answer ++ report_from (k + 1) (outcome s call).system calls
 
 -- the state after these calls
 abbrev pub state_after : SystemState → List Call → SystemState

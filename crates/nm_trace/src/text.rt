@@ -1,14 +1,17 @@
 //! The answers of calls, as the lines of their steps.
 
-ghost use Rattle.std.specs.Prelude.{◌≡◌, ◌++◌, ◌≤◌, length, map, decimal, codes};
+ghost use Rattle.std.specs.Prelude.{◌≡◌, ◌++◌, ◌∷◌, ◌≤◌, length, map, decimal, codes};
+ghost use Rattle.std.specs.Fmt.{signed_decimal};
 ghost use Rattle.std.specs.List.{flat_map};
+ghost use Rattle.std.specs.Option.{unwrap_or, option_map};
 ghost use Rattle.hex.specs.Hex.{encode_lower};
 ghost use Rattle.nm_calls.specs.Answers.{Refusal};
 ghost use Rattle.nm_calls.specs.Maps.{lines_shown};
 ghost use Rattle.nm_calls.specs.Outcome.{accesses_asked, shown};
+ghost use Rattle.nm_steps.specs.Form.{access_step};
 ghost use Rattle.nm_steps.specs.Views.{call_of, shown_during};
 ghost use Rattle.nm_calls.specs.Views.{answer_of};
-ghost use Rattle.nm_trace.specs.Report.{word_of, listed, signed_listed, entry_text, frame_text, totals_text, lines_behind, answer_text, line_of, text_of, access_lines, answers_in, access_word, access_line};
+ghost use Rattle.nm_trace.specs.Report.{word_of, spaced, entry_text, answer_text, line_of, text_of, access_lines, answers_in, access_line};
 ghost use Rattle.nm_trace.specs.Waiting.{Puts};
 ghost use Rattle.nm_model.specs.views.Asked.{access_shown};
 ghost use Rattle.nm_engine.specs.views.Accesses.{answer_shown};
@@ -68,7 +71,7 @@ fn push_frames<W: TellingWriter, A: Allocator>(
     frames: &[FrameId],
 )
     ensures { Puts W.contents W.has_failed writer.old block.old writer.new block.new
-        (listed frames.now) }
+        (spaced decimal frames.now) }
 {
     let mut buffer = itoa::Buffer::new();
     for frame in frames {
@@ -84,7 +87,7 @@ fn push_statuses<W: TellingWriter, A: Allocator>(
     statuses: &[i32],
 )
     ensures { Puts W.contents W.has_failed writer.old block.old writer.new block.new
-        (signed_listed statuses.now) }
+        (spaced signed_decimal statuses.now) }
 {
     let mut buffer = itoa::Buffer::new();
     for status in statuses {
@@ -100,7 +103,7 @@ fn push_frame<W: TellingWriter, A: Allocator>(
     frame: Option<FrameId>,
 )
     ensures { Puts W.contents W.has_failed writer.old block.old writer.new block.new
-        (frame_text frame) }
+        (unwrap_or (option_map decimal frame) (codes "zero")) }
 {
     match frame {
         None => block.push_str(writer, "zero"),
@@ -118,7 +121,7 @@ fn push_entry<W: TellingWriter, A: Allocator>(
     entry: &PagemapEntry,
 )
     ensures { Puts W.contents W.has_failed writer.old block.old writer.new block.new
-        (entry_text (entry.now.vpn, entry.now.frame)) }
+        (codes " " ++ entry_text (entry.now.vpn, entry.now.frame)) }
 {
     let mut address = [0; ADDRESS_BYTES];
     block.push_str(writer, " ");
@@ -134,7 +137,7 @@ fn push_entries<W: TellingWriter, A: Allocator>(
     entries: &[PagemapEntry],
 )
     ensures { Puts W.contents W.has_failed writer.old block.old writer.new block.new
-        (flat_map entry_text (map (λ e. (e.vpn, e.frame)) entries.now)) }
+        (spaced entry_text (map (λ e. (e.vpn, e.frame)) entries.now)) }
 {
     for entry in entries {
         push_entry(block, writer, entry);
@@ -154,7 +157,8 @@ fn push_count<W: TellingWriter, A: Allocator>(block: &mut Block<A>, writer: &mut
 /// Puts the two totals, each after its name.
 fn push_totals<W: TellingWriter, A: Allocator>(block: &mut Block<A>, writer: &mut W, totals: Totals)
     ensures { Puts W.contents W.has_failed writer.old block.old writer.new block.new
-        (totals_text totals.moved totals.failed) }
+        ((codes "pgmigrate_success " ++ decimal totals.moved)
+        ++ (codes " pgmigrate_fail " ++ decimal totals.failed)) }
 {
     block.push_str(writer, "pgmigrate_success ");
     push_number(block, writer, totals.moved);
@@ -169,7 +173,7 @@ fn push_lines<W: TellingWriter, A: Allocator>(
     lines: &[String<A>],
 )
     ensures { Puts W.contents W.has_failed writer.old block.old writer.new block.new
-        (lines_behind (lines_shown lines.now)) }
+        (flat_map (λ line. 10 ∷ line) (lines_shown lines.now)) }
 {
     for line in lines {
         block.push_str(writer, "\n");
@@ -276,7 +280,7 @@ fn push_line<W: TellingWriter, A: Allocator + Copy + Send + Sync>(
 
 /// The word for an access.
 fn access_word<A: Allocator + Copy>(access: &Access<A>) -> &'static str
-    ensures { result.now ≡ access_word (access_shown access.now) }
+    ensures { result.now ≡ word_of (access_step (access_shown access.now)) }
 {
     match access {
         Access::Read { .. } => "read",
@@ -315,7 +319,7 @@ fn push_access_front<W: TellingWriter, A: Allocator + Copy>(
 )
     ensures { Puts W.contents W.has_failed writer.old block.old writer.new block.new
         (decimal step ++ codes "." ++ decimal j ++ codes " "
-        ++ access_word (access_shown access.now) ++ codes " ") }
+        ++ word_of (access_step (access_shown access.now)) ++ codes " ") }
 {
     let mut buffer = itoa::Buffer::new();
     block.push_str(writer, buffer.format(step));

@@ -4,7 +4,8 @@ use Rattle.std.proofs.lemmas.List.{map-append, length-map}
 use Rattle.nm_engine.specs.views.Accesses.{answer_shown}
 use Rattle.nm_engine.proofs.Together.Paces.{drop_item}
 use Rattle.nm_steps.specs.Views.{shown_during}
-use Rattle.nm_calls.specs.Batch.{runs_named, in_order, left_shown}
+use Rattle.std.specs.Map.{keys_of}
+use Rattle.nm_calls.specs.Batch.{in_order, left_shown}
 use Rattle.nm_calls.proofs.Meanwhile.{unmade_told, none_told, one_told, list_there, list_after}
 use Rattle.nm_calls.proofs.batch.in_order.Goals as goal
 use Rattle.nm_calls.proofs.batch.in_order.Goals.{in-Some+in-Some-next, in-Some+in_default-next, in_default}
@@ -24,10 +25,10 @@ loop-asked-preserved g c =
     let queues = c.loop-asked.told.items in
     let told = map answer_shown c.loop-asked.answers.items in
     let left = map left_shown queues in
-    let runs = runs_named (shown_during (drop (k + 1) during)) in
-    let all = in_order (runs_named (shown_during during)) (map left_shown c.args.told.items) in
+    let runs = keys_of (shown_during (drop (k + 1) during)) in
+    let all = in_order (keys_of (shown_during during)) (map left_shown c.args.told.items) in
     let is : told ++ in_order (asked.run ∷ runs) left ≡ all =
-    ap (λ ds. told ++ in_order (runs_named (shown_during ds)) left) (sym next) ∙ c.loop-asked.invariant.told in
+    ap (λ ds. told ++ in_order (keys_of (shown_during ds)) left) (sym next) ∙ c.loop-asked.invariant.told in
     elim c.match-get_mut.branch [
       | in-Some+in-Some-next w ↦
           let there = w.in-Some.ensures.item in

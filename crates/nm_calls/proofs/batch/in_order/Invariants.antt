@@ -1,11 +1,12 @@
 use Rattle.std.proofs.Common.{◌≡◌, ◌+◌, ◌++◌, ◌≤◌, drop, length, map, vec_capacity}
 use Rattle.nm_engine.specs.views.Accesses.{answer_shown}
 use Rattle.nm_steps.specs.Views.{shown_during}
-use Rattle.nm_calls.specs.Batch.{in_order, runs_named, left_shown}
+use Rattle.std.specs.Map.{keys_of}
+use Rattle.nm_calls.specs.Batch.{in_order, left_shown}
 use Rattle.nm_calls.proofs.batch.in_order.Given as goal
 
 abbrev pub invariant-loop-asked : goal.invariant-loop-asked
 invariant-loop-asked g l = record {
   room : length l.answers.items + length (drop l.asked-index l.during) ≤ vec_capacity l.answers;
-  told : map answer_shown l.answers.items ++ in_order (runs_named (shown_during (drop l.asked-index l.during))) (map left_shown l.told.items) ≡ in_order (runs_named (shown_during l.during)) (map left_shown l.fn.told.items);
+  told : map answer_shown l.answers.items ++ in_order (keys_of (shown_during (drop l.asked-index l.during))) (map left_shown l.told.items) ≡ in_order (keys_of (shown_during l.during)) (map left_shown l.fn.told.items);
 }

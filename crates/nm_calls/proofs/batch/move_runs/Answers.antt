@@ -7,7 +7,8 @@ use Rattle.nm_engine.specs.views.Accesses.{answer_shown}
 use Rattle.nm_model.specs.definitions.Run.{run, failures}
 use Rattle.nm_model.specs.definitions.Run.{accesses_of}
 use Rattle.nm_steps.specs.Views.{shown_during}
-use Rattle.nm_calls.specs.Batch.{runs_named, in_order, left_shown}
+use Rattle.std.specs.Map.{keys_of}
+use Rattle.nm_calls.specs.Batch.{in_order, left_shown}
 use Rattle.nm_calls.proofs.Lengths.{run_length, run_layout}
 use Rattle.nm_calls.proofs.Meanwhile.{list_there}
 use Rattle.nm_calls.proofs.Made.{none_moved}
@@ -91,7 +92,7 @@ returns g c =
     let during = shown_during c.args.during.now in
     let none = drop_all c.loop-k.k runs (omega (arith, c.loop-k-test.false)) in
     let made = all_run c.args.machine.now (stretches_of runs) (stretches_of (drop c.loop-k.k runs)) during c.loop-k.k c.loop-k.machine c.loop-k.statuses.items (map left_shown c.loop-k.told.items) (ap stretches_of none) c.loop-k.invariant.made in
-    (made.0, c.failures.ensures ∙ ap failures (c.as_slice-2.ensures.value ∙ made.0), c.in_order.ensures ∙ ap (in_order (runs_named during)) made.1, made.2)
+    (made.0, c.failures.ensures ∙ ap failures (c.as_slice-2.ensures.value ∙ made.0), c.in_order.ensures ∙ ap (in_order (keys_of during)) made.1, made.2)
 
 pub returns-in_err-accesses : goal.returns-in_err-accesses
 returns-in_err-accesses g c = none_moved _ _ _ _ c.from_residual.ensures.1

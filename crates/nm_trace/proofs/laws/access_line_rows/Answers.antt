@@ -1,11 +1,11 @@
 use Rattle.std.proofs.Common.{refl}
 use Rattle.std.specs.Fmt.{digits}
 use Rattle.hex.specs.Hex.{encode_with}
-use Rattle.nm_trace.specs.Report.{access_line, answer_text}
+use Rattle.nm_trace.specs.Report.{access_line, answer_text, line_of}
 use Rattle.nm_trace.proofs.laws.access_line_rows.Goals as goal
 
 pub returns : goal.returns
-unfolding access_line answer_text digits encode_with
+unfolding access_line line_of answer_text digits encode_with
 returns c = record {
   read = refl;
   write = refl;

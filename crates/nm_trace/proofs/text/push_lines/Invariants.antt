@@ -1,8 +1,8 @@
-use Rattle.std.proofs.Common.{take}
+use Rattle.std.proofs.Common.{◌∷◌, take}
+use Rattle.std.specs.List.{flat_map}
 use Rattle.nm_calls.specs.Maps.{lines_shown}
-use Rattle.nm_trace.specs.Report.{lines_behind}
 use Rattle.nm_trace.specs.Waiting.{Puts}
 use Rattle.nm_trace.proofs.text.push_lines.Given as goal
 
 abbrev pub invariant-loop-line : goal.invariant-loop-line
-invariant-loop-line g l = Puts g.W.Write.contents g.W.TellingWriter.has_failed l.fn.writer l.fn.block l.writer l.block (lines_behind (lines_shown (take l.line-index l.lines)))
+invariant-loop-line g l = Puts g.W.Write.contents g.W.TellingWriter.has_failed l.fn.writer l.fn.block l.writer l.block (flat_map (λ line. 10 ∷ line) (lines_shown (take l.line-index l.lines)))
