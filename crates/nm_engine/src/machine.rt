@@ -1,6 +1,7 @@
 //! The machine.
 
-ghost use Rattle.std.specs.Prelude.{◌≡◌, ◌<◌, ◌≤◌, ◌+◌, ◌-◌, ◌/◌, [], ◌∷◌, map, true, length, nat_le, All, Some, Err, IfOk, IfSome, IfNone, OnOk, OnErr, option_map};
+ghost use Rattle.nm_model.specs.definitions.AreaRefusal.{overlaps};
+ghost use Rattle.std.specs.Prelude.{◌≡◌, ◌<◌, ◌≤◌, ◌+◌, ◌-◌, ◌/◌, [], ◌∷◌, map, true, length, nat_le, All, Some, Err, IfOk, IfSome, IfNone, OnOk, OnErr, option_map, ◌^◌};
 ghost use Rattle.std.specs.List.{list_any};
 ghost use Rattle.std.specs.Ordering.{nat_cmp};
 ghost use Rattle.nm_types.specs.declared.page.Page.{Page};
@@ -251,22 +252,28 @@ impl<A: Allocator + Copy + Send + Sync> Machine<A> {
     /// frames, which become free in address order, each page at its lowest address.
     ///
     /// Errors, in order: ESRCH if there is no such process; EINVAL if the address is not a multiple of 4,096, `pages`
-    /// is 0, or the end is past 2^47; EBUSY if an area of the process shows a page with a pin there.
+    /// is 0, or the end is past 2^47; EBUSY if an area of the process shows a page with a pin there. Allocates only if
+    /// an area of the process is in the range.
     pub fn unmap(&mut self, pid: Pid, addr: u64, pages: u64) -> Result<(), MachineError>
         ensures done { Makes result self.old self.new (unmap_refusal self.old pid addr pages)
             (unmap self.old pid addr pages) }
         ensures memory { AsksLast result (unmap_refusal self.old pid addr pages) }
+        ensures asked { result ≡ Err MachineError.HostMemory →
+            list_any (overlaps pid (addr / 4096) (addr / 4096 + pages)) self.old.areas ≡ true }
     {
         self.inner.unmap(pid, addr, pages)
     }
 
     /// Ends a process: it loses all that it has, as by one `unmap`, and its pid may be used again.
     ///
-    /// Errors, in order: ESRCH if there is no such process; EBUSY if one of its areas shows a page with a pin.
+    /// Errors, in order: ESRCH if there is no such process; EBUSY if one of its areas shows a page with a pin. Allocates
+    /// only if the process has an area.
     pub fn exit(&mut self, pid: Pid) -> Result<(), MachineError>
         ensures done { Makes result self.old self.new (exit_refusal self.old pid)
             (exit self.old pid) }
         ensures memory { AsksLast result (exit_refusal self.old pid) }
+        ensures asked { result ≡ Err MachineError.HostMemory →
+            list_any (overlaps pid 0 (2 ^ 35)) self.old.areas ≡ true }
     {
         self.inner.exit(pid)
     }

@@ -1,7 +1,7 @@
 //! Adding, splitting and removing areas of address spaces.
 
 ghost use Rattle.std.specs.Prelude.{ℕ, true, false, ◌≡◌, ◌<◌, ◌≤◌, ◌+◌, ◌/◌, [], length, None, Some, Err, IfOk, OnOk, OnErr, IfErr};
-ghost use Rattle.std.specs.List.{AllByRecursion};
+ghost use Rattle.std.specs.List.{AllByRecursion, list_any};
 ghost use Rattle.std.specs.Map.{keys_of};
 ghost use Rattle.std.specs.Ordering.{nat_cmp};
 ghost use Rattle.std.specs.List.Sorted.{IsStrictlySortedBy};
@@ -9,7 +9,7 @@ ghost use Rattle.nm_types.specs.Map.{get, without};
 ghost use Rattle.nm_types.specs.State.{Process};
 ghost use Rattle.nm_types.specs.Does.{Makes};
 ghost use Rattle.nm_model.specs.definitions.Areas.{inserted, attached, with_policy};
-ghost use Rattle.nm_model.specs.definitions.AreaRefusal.{insert_refusal, stretch_refusal, range_refusal, remove_refusal};
+ghost use Rattle.nm_model.specs.definitions.AreaRefusal.{insert_refusal, stretch_refusal, range_refusal, remove_refusal, overlaps};
 ghost use Rattle.nm_model.specs.definitions.Areas.{removed, frames_lost};
 ghost use Rattle.nm_model.specs.definitions.Effect.{shows_pinned};
 ghost use Rattle.nm_model.specs.definitions.PageTables.{entry_at};
@@ -150,6 +150,8 @@ impl<A: Allocator + Copy> AddressSpaces<A> {
 
         // On an error
         ensures err { OnErr result (self.new ≡ self.old) }
+        ensures asked { result ≡ Err MachineError.HostMemory →
+            list_any (overlaps pid (addr / 4096) (addr / 4096 + pages)) self.old.areas ≡ true }
     {
         let freed = self.areas.remove(pid, addr, pages)?;
         let first = Vpn::of_address(addr);

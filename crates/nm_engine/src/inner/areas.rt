@@ -1,5 +1,7 @@
 //! Adding, splitting and removing areas.
 
+ghost use Rattle.nm_model.specs.definitions.AreaRefusal.{overlaps};
+ghost use Rattle.std.specs.List.{list_any};
 ghost use Rattle.nm_engine.specs.definitions.Does.{AsksLast, Makes};
 ghost use Rattle.nm_model.specs.definitions.Effect.{attach, dropped, map_new, unmap};
 ghost use Rattle.nm_engine.specs.views.Frames.{CanFree, pool_of, with_freed};
@@ -115,6 +117,8 @@ impl<A: Allocator + Copy> Inner<A> {
         ensures done { Makes result self.old.state self.new.state
             (unmap_refusal self.old.state pid addr pages) (unmap self.old.state pid addr pages) }
         ensures memory { AsksLast result (unmap_refusal self.old.state pid addr pages) }
+        ensures asked { result ≡ Err MachineError.HostMemory →
+            list_any (overlaps pid (addr / 4096) (addr / 4096 + pages)) self.old.state.areas ≡ true }
 
         // Nothing else changes
         ensures same { self.new ≡ with_state self.old self.new.state }
@@ -144,6 +148,8 @@ impl<A: Allocator + Copy> Inner<A> {
         // The result and the state
         ensures done { Makes result self.old.state self.new.state None
             (dropped self.old.state pid (addr / 4096) (addr / 4096 + pages)) }
+        ensures asked { result ≡ Err MachineError.HostMemory →
+            list_any (overlaps pid (addr / 4096) (addr / 4096 + pages)) self.old.state.areas ≡ true }
 
         // Nothing else changes
         ensures same { self.new ≡ with_state self.old self.new.state }

@@ -1,5 +1,6 @@
 //! Adding and removing processes.
 
+ghost use Rattle.nm_model.specs.definitions.AreaRefusal.{overlaps};
 ghost use Rattle.nm_engine.specs.definitions.Does.{AsksLast, Makes};
 ghost use Rattle.nm_model.specs.definitions.Effect.{exit, spawn};
 ghost use Rattle.nm_engine.specs.views.MidRun.{with_state};
@@ -8,7 +9,7 @@ ghost use Rattle.nm_types.specs.Layout.{node_count};
 ghost use Rattle.nm_types.specs.declared.errno.Errno.{Errno};
 ghost use Rattle.nm_types.specs.declared.errno.Errno.TheVariants.{Esrch};
 ghost use Rattle.std.specs.List.{list_any};
-ghost use Rattle.std.specs.Prelude.{Some, [], false, nat_le, true, ◌+◌, ◌<◌, ◌≡◌, ◌≤◌};
+ghost use Rattle.std.specs.Prelude.{Some, [], false, nat_le, true, ◌+◌, ◌<◌, ◌≡◌, ◌≤◌, Err, ◌^◌};
 
 use crate::ProcessInfo;
 use crate::inner::Inner;
@@ -75,6 +76,8 @@ impl<A: Allocator + Copy> Inner<A> {
         ensures done { Makes result self.old.state self.new.state (exit_refusal self.old.state pid)
             (exit self.old.state pid) }
         ensures memory { AsksLast result (exit_refusal self.old.state pid) }
+        ensures asked { result ≡ Err MachineError.HostMemory →
+            list_any (overlaps pid 0 (2 ^ 35)) self.old.state.areas ≡ true }
 
         // Nothing else changes
         ensures same { self.new ≡ with_state self.old self.new.state }
