@@ -6,9 +6,9 @@ ghost use Rattle.nm_board.specs.Tickets.{InTicketOrder};
 ghost use Rattle.nm_board.specs.Shown.{all_shares, without_ticket, Drew, HasEach, IsShort};
 
 use crate::hand::Hand;
-use crate::plays::{Counting, Drawing, Giving, Slot, Tickets};
-use crate::seats::{put_in, take_out};
+use crate::rule::{Counting, Drawing, Giving, Slot, Tickets};
 use crate::slots::{into_slots, refill, take_all};
+use crate::steps::{put_in, take_out};
 use crate::view::View;
 use atomic_table::{Refused, Table};
 use nm_frames::CopyJob;

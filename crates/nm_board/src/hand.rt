@@ -4,8 +4,8 @@ ghost use Rattle.std.specs.Prelude.{◌≡◌, ◌<◌, [], true};
 ghost use Rattle.nm_board.specs.Shown.{without, split_off, joined, HasEach, HasNoneTwice};
 
 use crate::board::{Board, GIVEN};
-use crate::plays::{Both, Looking, Slot};
-use crate::seats::cut;
+use crate::rule::{Both, Looking, Slot};
+use crate::steps::cut;
 use crate::view::View;
 use atomic_table::Seat;
 use std::alloc::Allocator;

@@ -2,13 +2,13 @@
 //! jobs come back in order.
 #![tactic(auto)]
 
-mod asking;
 mod board;
 mod hand;
 pub mod laws;
-mod plays;
-mod seats;
+mod report;
+mod rule;
 mod slots;
+mod steps;
 #[cfg(test)]
 mod tests;
 mod view;

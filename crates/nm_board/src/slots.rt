@@ -4,7 +4,7 @@ ghost use Rattle.std.specs.Prelude.{◌≡◌, ◌≤◌, map, vec_len, vec_capa
 ghost use Rattle.std.specs.Mem.Slots.{slots_items, slots_len, IsFull};
 ghost use Rattle.nm_frames.specs.declared.job.CopyJob.{CopyJob};
 
-use crate::plays::Slot;
+use crate::rule::Slot;
 use atomic_table::Closed;
 use nm_frames::CopyJob;
 use std::alloc::{AllocError, Allocator};

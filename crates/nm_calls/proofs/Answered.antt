@@ -13,12 +13,12 @@ use Rattle.nm_model.specs.definitions.Touch.{in_flight, all_in_flight}
 use Rattle.nm_model.specs.definitions.Run.{each_request, run}
 use Rattle.nm_model.specs.definitions.Run.{accesses_of, runs_from}
 use Rattle.nm_steps.specs.Calls.{Call, MovePages}
-use Rattle.nm_calls.specs.Answers.{Answer, Statuses}
+use Rattle.nm_calls.specs.definitions.Answers.{Answer, Statuses}
 use Rattle.std.specs.Map.{keys_of}
-use Rattle.nm_calls.specs.Batch.{list_at, in_order}
-use Rattle.nm_calls.specs.Systems.{SystemState}
-use Rattle.nm_calls.specs.Outcome.{refused, start, runs_asked, accesses_asked, ended, unless}
-use Rattle.nm_calls.specs.Laws.{EachAccessIsAnswered}
+use Rattle.nm_calls.specs.definitions.Batch.{list_at, in_order}
+use Rattle.nm_calls.specs.definitions.Systems.{SystemState}
+use Rattle.nm_calls.specs.definitions.Outcome.{refused, start, runs_asked, accesses_asked, ended, unless}
+use Rattle.nm_calls.specs.laws.Calls.{EachAccessIsAnswered}
 use Rattle.nm_calls.proofs.Meanwhile.{first_asked, differ}
 use Rattle.nm_calls.proofs.Places.{one_more, shorter}
 use Rattle.nm_calls.proofs.Trails.{runs_unless}

@@ -11,12 +11,12 @@ use Rattle.nm_model.specs.definitions.Effect.{pages_of}
 use Rattle.nm_calls.specs.declared.call_error.CallError.{CallError}
 use Rattle.nm_calls.specs.declared.call_error.CallError.TheVariants.{Refused, HostMemory}
 use Rattle.nm_steps.specs.Calls.{Call, Mbind}
-use Rattle.nm_calls.specs.Answers.{Refusal, Failed}
-use Rattle.nm_calls.specs.Systems.{SystemState, in_state}
-use Rattle.nm_calls.specs.Binding.{mbind_refusal, binding, mbind_runs, policed, tells_late, has_stray}
-use Rattle.nm_calls.specs.Outcome.{refused, refused_at_once, start, sets_policy, runs_asked, accesses_asked, runs_of, ended, outcome, leaves, states_of, trail}
-use Rattle.nm_calls.specs.Does.{Does, LeavesSome}
-use Rattle.nm_calls.specs.Making.{Stops, Binds}
+use Rattle.nm_calls.specs.definitions.Answers.{Refusal, Failed}
+use Rattle.nm_calls.specs.definitions.Systems.{SystemState, in_state}
+use Rattle.nm_calls.specs.definitions.Mbind.{mbind_refusal, binding, mbind_runs, policed, tells_late, has_stray}
+use Rattle.nm_calls.specs.definitions.Outcome.{refused, refused_at_once, start, sets_policy, runs_asked, accesses_asked, runs_of, ended, outcome, leaves, states_of, trail}
+use Rattle.nm_calls.specs.definitions.Does.{Does, LeavesSome}
+use Rattle.nm_calls.specs.views.Runs.{Stops, Binds}
 use Rattle.nm_calls.proofs.Trails.{states_are, runs_unless, state_unless}
 use Rattle.nm_calls.proofs.Outcomes.{answers, refuses}
 use Rattle.nm_calls.proofs.Refusals.{late_answer}

@@ -21,11 +21,11 @@ use Rattle.nm_laws.proofs.Seen.Rewritten.{runs_write}
 use Rattle.nm_laws.proofs.Soundness.Policed.{policy_keeps}
 use Rattle.nm_laws.proofs.Soundness.Touched.{reading_keeps}
 use Rattle.nm_steps.specs.Calls.{Call, Spawn, MapPages, Attach, Unmap, Exit, Pin, Unpin, ReadBytes, WriteBytes, MovePages, MigratePages, Query, FreeList, Pagemap, Vmstat, NumaMaps, Mbind, Offline, Online}
-use Rattle.nm_calls.specs.Binding.{binding, policed}
-use Rattle.nm_calls.specs.Offlining.{still_on}
-use Rattle.nm_calls.specs.Systems.{SystemState}
-use Rattle.nm_calls.specs.Outcome.{refused, start, started, runs_asked, accesses_asked, emptied, ended, unless}
-use Rattle.nm_calls.specs.Laws.{writes_or_maps, CallsKeepMemory, TrailKeepsMemory, WithoutAccessesNone}
+use Rattle.nm_calls.specs.definitions.Mbind.{binding, policed}
+use Rattle.nm_calls.specs.definitions.Offline.{still_on}
+use Rattle.nm_calls.specs.definitions.Systems.{SystemState}
+use Rattle.nm_calls.specs.definitions.Outcome.{refused, start, started, runs_asked, accesses_asked, emptied, ended, unless}
+use Rattle.nm_calls.specs.laws.Calls.{writes_or_maps, CallsKeepMemory, TrailKeepsMemory, WithoutAccessesNone}
 use Rattle.nm_calls.proofs.Trails.{trail_is_after_runs, runs_unless, state_unless}
 
 -- where no access is made, none is written

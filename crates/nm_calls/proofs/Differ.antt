@@ -13,9 +13,9 @@ use Rattle.nm_types.proofs.Maps.{equal, exact_page}
 use Rattle.nm_policy.specs.declared.pairing.Pair.{Pair}
 use Rattle.nm_policy.proofs.Paired.{each_set_is_paired_in_order}
 use Rattle.nm_model.specs.definitions.Seen.{sights}
-use Rattle.nm_calls.specs.Migrating.{pages_in}
-use Rattle.nm_calls.specs.Migrating.{pages_seen, is_on, pages_on}
-use Rattle.nm_calls.specs.MigrateLaws.{EachPageIsListedOnce}
+use Rattle.nm_calls.specs.definitions.Migrate.{pages_in}
+use Rattle.nm_calls.specs.definitions.Migrate.{pages_seen, is_on, pages_on}
+use Rattle.nm_calls.specs.laws.Migrations.{EachPageIsListedOnce}
 use Rattle.nm_calls.proofs.Firsts.{once_valued}
 
 -- two page numbers with different pages

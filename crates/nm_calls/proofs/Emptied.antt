@@ -20,14 +20,14 @@ use Rattle.nm_calls.specs.declared.call_error.CallError.{CallError}
 use Rattle.nm_calls.specs.declared.call_error.CallError.TheVariants.{Refused, HostMemory}
 use Rattle.nm_types.specs.declared.errno.Errno.TheVariants.{Ebusy}
 use Rattle.nm_steps.specs.Calls.{Call, Offline}
-use Rattle.nm_calls.specs.Answers.{Refusal, Done}
-use Rattle.nm_calls.specs.Migrating.{is_on}
-use Rattle.nm_calls.specs.Passes.{passes}
-use Rattle.nm_calls.specs.Systems.{SystemState, in_state}
-use Rattle.nm_calls.specs.Offlining.{offline_refusal, offline_runs, refuges, still_on}
-use Rattle.nm_calls.specs.Outcome.{refused, refused_at_once, start, sets_policy, runs_asked, accesses_asked, runs_of, ended, emptied, outcome, states_of, trail}
-use Rattle.nm_calls.specs.Does.{Does, LeavesSome}
-use Rattle.nm_calls.specs.Making.{Stops, Empties}
+use Rattle.nm_calls.specs.definitions.Answers.{Refusal, Done}
+use Rattle.nm_calls.specs.definitions.Migrate.{is_on}
+use Rattle.nm_calls.specs.definitions.Passes.{passes}
+use Rattle.nm_calls.specs.definitions.Systems.{SystemState, in_state}
+use Rattle.nm_calls.specs.definitions.Offline.{offline_refusal, offline_runs, refuges, still_on}
+use Rattle.nm_calls.specs.definitions.Outcome.{refused, refused_at_once, start, sets_policy, runs_asked, accesses_asked, runs_of, ended, emptied, outcome, states_of, trail}
+use Rattle.nm_calls.specs.definitions.Does.{Does, LeavesSome}
+use Rattle.nm_calls.specs.views.Runs.{Stops, Empties}
 use Rattle.nm_calls.proofs.Outcomes.{answers}
 use Rattle.nm_calls.proofs.Trails.{runs_unless, state_unless}
 

@@ -26,8 +26,8 @@ use Rattle.nm_model.specs.definitions.Cut.{pieces_in, pieces, within, cut_within
 use Rattle.nm_model.specs.definitions.Run.{Decision, moved_page, decision, one_request, Progress, each_request, with_free, with_all_free, left, failures, total_after, with_counts, Ran, run}
 use Rattle.nm_model.specs.definitions.Run.{runs_from}
 use Rattle.nm_laws.proofs.InFlight.Elsewhere.{IsElsewhere, status_elsewhere}
-use Rattle.nm_calls.specs.Passes.{without_frame}
-use Rattle.nm_calls.specs.Full.{StandsOn, WouldMove, pass, rounded_up, FullNodeTakesNone, LeftWouldMove, MovesElsewhere, RunsGoByLength, NextPassTakesNone}
+use Rattle.nm_calls.specs.definitions.Passes.{without_frame}
+use Rattle.nm_calls.specs.laws.Full.{StandsOn, WouldMove, pass, rounded_up, FullNodeTakesNone, LeftWouldMove, MovesElsewhere, RunsGoByLength, NextPassTakesNone}
 use Rattle.nm_calls.proofs.Lengths.{each_layout, run_length}
 
 -- the status of a page that does not move is not that of one_request without a frame

@@ -18,15 +18,15 @@ use Rattle.nm_model.specs.definitions.Cut.{Stretch}
 use Rattle.nm_model.specs.definitions.Cut.{cut_within}
 use Rattle.nm_types.specs.declared.process.ProcessInfo.{ProcessInfo}
 use Rattle.nm_model.specs.definitions.Run.{IsByAddress}
-use Rattle.nm_calls.specs.Permission.{owner_of, info_at}
-use Rattle.nm_calls.specs.Permission.{usable}
+use Rattle.nm_calls.specs.definitions.Permission.{owner_of, info_at}
+use Rattle.nm_calls.specs.definitions.Permission.{usable}
 use Rattle.nm_steps.specs.Calls.{MigratePages}
-use Rattle.nm_calls.specs.Outcome.{refused, runs_asked}
-use Rattle.nm_calls.specs.MigrateLaws.{RunsGoToNodesOnline}
+use Rattle.nm_calls.specs.definitions.Outcome.{refused, runs_asked}
+use Rattle.nm_calls.specs.laws.Migrations.{RunsGoToNodesOnline}
 use Rattle.nm_calls.proofs.Requests.{cut_targets}
 use Rattle.nm_calls.proofs.Reach.{usable_online}
 use Rattle.nm_calls.proofs.Trails.{runs_unless}
-use Rattle.nm_calls.specs.Migrating.{pages_on, migrate_list, migrated_by, migration}
+use Rattle.nm_calls.specs.definitions.Migrate.{pages_on, migrate_list, migrated_by, migration}
 
 all-append : (P : Request → Type 0) (es fs : List Request) → AllByRecursion P es → AllByRecursion P fs → AllByRecursion P (es ++ fs)
 all-append P [] fs h k = k

@@ -10,15 +10,15 @@ use Rattle.nm_model.specs.definitions.Run.{runs_from}
 use Rattle.nm_calls.specs.declared.call_error.CallError.{CallError}
 use Rattle.nm_calls.specs.declared.call_error.CallError.TheVariants.{Refused, HostMemory}
 use Rattle.nm_calls.specs.declared.answer.Moved.{Moved}
-use Rattle.nm_calls.specs.Errors.{out_of_memory}
-use Rattle.nm_calls.specs.Does.{Moves}
-use Rattle.nm_calls.specs.Making.{Batches, Stops, Keeps, Empties}
+use Rattle.nm_calls.specs.views.Errors.{out_of_memory}
+use Rattle.nm_calls.specs.definitions.Does.{Moves}
+use Rattle.nm_calls.specs.views.Runs.{Batches, Stops, Keeps, Empties}
 use Rattle.std.specs.List.{list_any}
 use Rattle.nm_types.specs.Nodes.{is_in}
 use Rattle.nm_model.specs.definitions.Seen.{placed_on}
-use Rattle.nm_calls.specs.Migrating.{is_on}
+use Rattle.nm_calls.specs.definitions.Migrate.{is_on}
 use Rattle.nm_types.specs.declared.page.Page.{Page}
-use Rattle.nm_calls.specs.Offlining.{still_on}
+use Rattle.nm_calls.specs.definitions.Offline.{still_on}
 use Rattle.nm_calls.proofs.Trails.{first_state}
 
 -- the error that a question mark hands on

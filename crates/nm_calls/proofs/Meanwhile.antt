@@ -7,7 +7,7 @@ use Rattle.std.proofs.lemmas.List.{get_or-set_same, get_or-set_other, set_past, 
 use Rattle.nm_types.proofs.Cases.{true_false}
 use Rattle.nm_model.specs.definitions.Touch.{Access, AccessAnswer}
 use Rattle.nm_model.specs.definitions.Run.{accesses_of}
-use Rattle.nm_calls.specs.Batch.{list_at, in_order}
+use Rattle.nm_calls.specs.definitions.Batch.{list_at, in_order}
 
 -- one access before others
 pub first_asked : (k run : ℕ) (a : Access) (rest : List (ℕ × Access)) (b : Bool) → (run == k) ≡ b → accesses_of k ((run, a) ∷ rest) ≡ cond b (a ∷ accesses_of k rest) (accesses_of k rest)

@@ -6,10 +6,10 @@ use Rattle.nm_types.specs.State.{State}
 use Rattle.nm_model.specs.definitions.Cut.{Stretch}
 use Rattle.nm_model.specs.definitions.Run.{runs_from}
 use Rattle.nm_steps.specs.Calls.{Call}
-use Rattle.nm_calls.specs.Answers.{Refusal}
-use Rattle.nm_calls.specs.Systems.{SystemState, in_state}
-use Rattle.nm_calls.specs.Outcome.{Outcome, refused, refused_at_once, start, sets_policy, runs_asked, runs_of, accesses_asked, ended, outcome, states_from, trail}
-use Rattle.nm_calls.specs.Does.{LeavesSome, HostLeaves}
+use Rattle.nm_calls.specs.definitions.Answers.{Refusal}
+use Rattle.nm_calls.specs.definitions.Systems.{SystemState, in_state}
+use Rattle.nm_calls.specs.definitions.Outcome.{Outcome, refused, refused_at_once, start, sets_policy, runs_asked, runs_of, accesses_asked, ended, outcome, states_from, trail}
+use Rattle.nm_calls.specs.definitions.Does.{LeavesSome, HostLeaves}
 use Rattle.nm_calls.proofs.Trails.{runs_unless, state_unless}
 
 pub answers : (y : SystemState) (call : Call) (o : Outcome) → refused y.state call ≡ None → ended y call (runs_from 0 (start y call) (runs_asked y call) (accesses_asked call)) ≡ o → outcome y call ≡ o

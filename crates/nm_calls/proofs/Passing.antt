@@ -16,11 +16,11 @@ use Rattle.nm_types.proofs.Cases.{true_false}
 use Rattle.std.proofs.Math.Seq.{drop-cons}
 use Rattle.nm_model.specs.definitions.Run.{Ran, run, IsByAddress, IsByPage, HasOneAll}
 use Rattle.nm_model.specs.definitions.Run.{runs_from}
-use Rattle.nm_calls.specs.Outcome.{states_of}
-use Rattle.nm_calls.specs.Passes.{passes, without_frame}
+use Rattle.nm_calls.specs.definitions.Outcome.{states_of}
+use Rattle.nm_calls.specs.definitions.Passes.{passes, without_frame}
 use Rattle.nm_calls.specs.declared.call_error.CallError.{CallError}
 use Rattle.nm_calls.specs.declared.call_error.CallError.TheVariants.{Refused, HostMemory}
-use Rattle.nm_calls.specs.Making.{Batches, Stops, IsCounted, later}
+use Rattle.nm_calls.specs.views.Runs.{Batches, Stops, IsCounted, later}
 use Rattle.nm_calls.proofs.Lengths.{run_layout, run_length}
 use Rattle.nm_calls.proofs.Trails.{states_are}
 

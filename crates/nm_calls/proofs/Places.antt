@@ -5,8 +5,8 @@ use Rattle.std.proofs.lemmas.Bool.{cases_lt, eqb-true}
 use Rattle.std.proofs.lemmas.List.{get_or-set_same, get_or-set_other, get_or_past, set_past, drop-drop}
 use Rattle.std.proofs.lemmas.List.Sums.{sum_by-cons}
 use Rattle.nm_model.specs.definitions.Touch.{AccessAnswer}
-use Rattle.nm_calls.specs.Batch.{list_at, in_order, by_place}
-use Rattle.nm_calls.specs.Laws.{AnswersGoByPlace}
+use Rattle.nm_calls.specs.definitions.Batch.{list_at, in_order, by_place}
+use Rattle.nm_calls.specs.laws.Calls.{AnswersGoByPlace}
 use Rattle.nm_calls.proofs.Meanwhile.{differ}
 
 pub one_more : (k run : ℕ) (before : List ℕ) (b : Bool) → (run == k) ≡ b → count_by (λ r. r == k) (run ∷ before) ≡ cond b 1 0 + count_by (λ r. r == k) before

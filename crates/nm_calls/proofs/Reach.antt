@@ -6,7 +6,7 @@ use Rattle.std.specs.List.{AllByRecursion, filter}
 use Rattle.nm_types.specs.Layout.{node_count}
 use Rattle.nm_types.specs.Nodes.{is_in}
 use Rattle.nm_types.specs.State.{State}
-use Rattle.nm_calls.specs.Permission.{names_missing_node, usable, is_none}
+use Rattle.nm_calls.specs.definitions.Permission.{names_missing_node, usable, is_none}
 
 -- what is online and allowed is what is allowed of what is online
 pub usable_is : (s : State) (allowed ns : List ℕ) → filter (is_in allowed) (filter (is_in s.online) ns) ≡ usable s allowed ns

@@ -7,16 +7,16 @@ use Rattle.nm_model.specs.definitions.Touch.{read, write}
 use Rattle.nm_model.specs.definitions.Run.{Ran}
 use Rattle.nm_model.specs.definitions.Run.{runs_from}
 use Rattle.nm_steps.specs.Calls.{Call, Spawn, MapPages, Attach, Unmap, Exit, Pin, Unpin, ReadBytes, WriteBytes, MovePages, MigratePages, Query, FreeList, Pagemap, Vmstat, NumaMaps, Mbind, Offline, Online}
-use Rattle.nm_calls.specs.Answers.{Answer, Refusal, Done, Held, Failed, NewSegment, TheBytes, Statuses, Frames, Entries, TheTotals, Lines}
-use Rattle.nm_calls.specs.Systems.{SystemState}
-use Rattle.nm_calls.specs.Outcome.{refusal_in, shown, refused, start, runs_asked, accesses_asked, ended, unless, emptied}
+use Rattle.nm_calls.specs.definitions.Answers.{Answer, Refusal, Done, Held, Failed, NewSegment, TheBytes, Statuses, Frames, Entries, TheTotals, Lines}
+use Rattle.nm_calls.specs.definitions.Systems.{SystemState}
+use Rattle.nm_calls.specs.definitions.Outcome.{refusal_in, shown, refused, start, runs_asked, accesses_asked, ended, unless, emptied}
 use Rattle.std.specs.Prelude.{◌⊎◌, ◌&&◌, if◌then◌else◌}
 use Rattle.nm_types.specs.declared.errno.Errno.TheVariants.{Eio, Ebusy}
-use Rattle.nm_calls.specs.Binding.{binding, has_stray, tells_late}
+use Rattle.nm_calls.specs.definitions.Mbind.{binding, has_stray, tells_late}
 use Rattle.nm_types.specs.State.{State}
-use Rattle.nm_calls.specs.Offlining.{still_on}
-use Rattle.nm_calls.specs.Laws.{late_refusal}
-use Rattle.nm_calls.specs.Laws.{RefusalsChangeNothing}
+use Rattle.nm_calls.specs.definitions.Offline.{still_on}
+use Rattle.nm_calls.specs.laws.Calls.{late_refusal}
+use Rattle.nm_calls.specs.laws.Calls.{RefusalsChangeNothing}
 
 abbrev is_refusal : Answer → Bool
 is_refusal (Refusal e) = true

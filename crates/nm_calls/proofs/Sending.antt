@@ -16,9 +16,9 @@ use Rattle.nm_model.specs.definitions.Cut.{wanted_of}
 use Rattle.nm_types.specs.declared.located.Located.{Located}
 use Rattle.nm_model.specs.definitions.Effect.{with_areas_of}
 use Rattle.nm_model.specs.definitions.Run.{IsByAddress, HasOneAll}
-use Rattle.nm_calls.specs.Passes.{passes}
-use Rattle.nm_calls.specs.Binding.{requests_at, each_to, nodes_tried, runs_by}
-use Rattle.nm_calls.specs.Making.{nodes_named}
+use Rattle.nm_calls.specs.definitions.Passes.{passes}
+use Rattle.nm_calls.specs.definitions.Mbind.{requests_at, each_to, nodes_tried, runs_by}
+use Rattle.nm_calls.specs.views.Runs.{nodes_named}
 use Rattle.nm_calls.proofs.Lists.{of_member}
 
 module _ (P : ℕ → Type 0) where

@@ -28,7 +28,7 @@ use Rattle.nm_model.specs.definitions.Status.{code, others_see, page_status, see
 use Rattle.nm_model.specs.definitions.Status.{node_or_error, node_status}
 use Rattle.nm_model.specs.definitions.Touch.{has_free}
 use Rattle.nm_model.specs.definitions.Run.{with_counts}
-use Rattle.nm_calls.specs.Full.{StandsOn, StandAmong, EachHasSome, AreStanding, HasFailed, WouldMove}
+use Rattle.nm_calls.specs.laws.Full.{StandsOn, StandAmong, EachHasSome, AreStanding, HasFailed, WouldMove}
 use Rattle.nm_calls.proofs.Full.{class_counted, all_elsewhere_move}
 use Rattle.nm_calls.proofs.Passing.{nothing_is}
 

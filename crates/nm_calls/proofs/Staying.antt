@@ -29,11 +29,11 @@ use Rattle.nm_laws.proofs.Soundness.Policed.{policy_sound}
 use Rattle.nm_laws.proofs.Soundness.Ran.{run_sound}
 use Rattle.nm_laws.proofs.Soundness.Touched.{access_sound}
 use Rattle.nm_steps.specs.Calls.{Call, Spawn, MapPages, Attach, Unmap, Exit, Pin, Unpin, ReadBytes, WriteBytes, MovePages, MigratePages, Query, FreeList, Pagemap, Vmstat, NumaMaps, Mbind, Offline, Online}
-use Rattle.nm_calls.specs.Binding.{binding}
-use Rattle.nm_calls.specs.Offlining.{still_on, online_refusal}
-use Rattle.nm_calls.specs.Systems.{SystemState}
-use Rattle.nm_calls.specs.Outcome.{refused, start, runs_asked, accesses_asked, emptied, ended, unless}
-use Rattle.nm_calls.specs.Laws.{CallsStaySound}
+use Rattle.nm_calls.specs.definitions.Mbind.{binding}
+use Rattle.nm_calls.specs.definitions.Offline.{still_on, online_refusal}
+use Rattle.nm_calls.specs.definitions.Systems.{SystemState}
+use Rattle.nm_calls.specs.definitions.Outcome.{refused, start, runs_asked, accesses_asked, emptied, ended, unless}
+use Rattle.nm_calls.specs.laws.Calls.{CallsStaySound}
 
 -- ---- a node more, or one less
 

@@ -10,7 +10,7 @@ use Rattle.std.proofs.lemmas.List.Elements.{filter-append}
 use Rattle.nm_types.specs.declared.page.Page.{Page}
 use Rattle.nm_types.specs.Map.{page_cmp, same_page}
 use Rattle.nm_types.specs.declared.located.Located.{Located}
-use Rattle.nm_calls.specs.Migrating.{once}
+use Rattle.nm_calls.specs.definitions.Migrate.{once}
 
 -- pages without repetition
 abbrev pub pages_once : List Located → List Located

@@ -6,7 +6,7 @@ use Rattle.std.specs.Prelude.{◌==◌, Option, Some, None, slice_get, drop}
 use Rattle.nm_types.proofs.Cases.{some_is}
 use Rattle.std.specs.List.{join_with_byte, flat_map}
 use Rattle.nm_types.specs.Nodes.{up_from}
-use Rattle.nm_calls.specs.Maps.{node_in_front, stretches}
+use Rattle.nm_calls.specs.definitions.Maps.{node_in_front, stretches}
 
 -- stretches of which the first begins with this node
 abbrev pub extended : ℕ → List (ℕ × ℕ) → List (ℕ × ℕ)

@@ -26,8 +26,8 @@ use Rattle.nm_types.specs.Nodes.{up_from}
 use Rattle.nm_types.specs.State.{State}
 use Rattle.nm_types.specs.declared.located.Located.{Located}
 use Rattle.nm_calls.specs.declared.maps.Tally.{Tally}
-use Rattle.nm_calls.specs.Maps.{told_from, node_text, most_users, pages_text}
-use Rattle.nm_calls.specs.Tallied.{nodes_text, counts_text, tally_text}
+use Rattle.nm_calls.specs.definitions.Maps.{told_from, node_text, most_users, pages_text}
+use Rattle.nm_calls.specs.views.Tally.{nodes_text, counts_text, tally_text}
 
 -- how many pages are on a node
 abbrev pub count_on : List Located → ℕ → ℕ

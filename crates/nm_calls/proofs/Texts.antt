@@ -8,7 +8,7 @@ use Rattle.std.proofs.lemmas.Str.Ascii.{IsAscii-nil, IsAscii-cons}
 use Rattle.std.proofs.lemmas.Bool.{ne_eqb, eq-eqb}
 use Rattle.std.proofs.lemmas.List.{take-append-drop, drop-append-le, length-replicate, take-replicate, drop-replicate, drop-set, take-set}
 use Rattle.std.specs.Fmt.{digit_glyph, digits, digits_onto}
-use Rattle.nm_calls.specs.Maps.{address_text}
+use Rattle.nm_calls.specs.definitions.Maps.{address_text}
 
 -- the last k digits of n at most, before acc
 unfoldable pub spelled : ℕ → ℕ → List ℕ → List ℕ

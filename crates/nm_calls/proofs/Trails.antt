@@ -7,8 +7,8 @@ use Rattle.nm_model.specs.definitions.Cut.{Stretch}
 use Rattle.nm_model.specs.definitions.Touch.{Access}
 use Rattle.nm_model.specs.definitions.Run.{run}
 use Rattle.nm_model.specs.definitions.Run.{accesses_of, runs_from}
-use Rattle.nm_calls.specs.Outcome.{states_from, runs_of, accesses_asked, started}
-use Rattle.nm_calls.specs.Laws.{TrailIsAfterRuns}
+use Rattle.nm_calls.specs.definitions.Outcome.{states_from, runs_of, accesses_asked, started}
+use Rattle.nm_calls.specs.laws.Calls.{TrailIsAfterRuns}
 
 -- these runs, or none if there is a refusal
 abbrev pub runs_unless : Option Errno → List Stretch → List Stretch

@@ -11,8 +11,8 @@ use Rattle.nm_model.specs.definitions.Cut.{Stretch, all_to}
 use Rattle.nm_model.specs.definitions.Run.{Decision, moved_page, decision, one_request, Progress, each_request, with_free, with_all_free, left, failures, with_counts, Ran, run}
 use Rattle.nm_model.specs.definitions.Run.{runs_from}
 use Rattle.nm_model.specs.definitions.Cut.{cut_within}
-use Rattle.nm_calls.specs.Passes.{without_frame, passes}
-use Rattle.nm_calls.specs.Offlining.{with_online, RunsIgnoreOnline}
+use Rattle.nm_calls.specs.definitions.Passes.{without_frame, passes}
+use Rattle.nm_calls.specs.definitions.Offline.{with_online, RunsIgnoreOnline}
 
 abbrev decision_with : List ℕ → Decision → Decision
 decision_with online o = record o { state = with_online online o.state }

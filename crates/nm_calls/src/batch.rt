@@ -9,11 +9,11 @@ ghost use Rattle.nm_runs.specs.Stretches.{stretches_of};
 ghost use Rattle.nm_model.specs.definitions.Cut.{cut_within, run_count};
 ghost use Rattle.nm_runs.specs.Targets.{first_refusal, Checks};
 ghost use Rattle.nm_model.specs.definitions.Run.{HasOneAll};
-ghost use Rattle.nm_calls.specs.Batch.{requests_of};
-ghost use Rattle.nm_calls.specs.Does.{Moves};
+ghost use Rattle.nm_calls.specs.definitions.Batch.{requests_of};
+ghost use Rattle.nm_calls.specs.definitions.Does.{Moves};
 ghost use Rattle.nm_steps.specs.Views.{shown_during};
 ghost use Rattle.std.specs.Map.{keys_of};
-ghost use Rattle.nm_calls.specs.Batch.{in_order, left_shown, AreByRun};
+ghost use Rattle.nm_calls.specs.definitions.Batch.{in_order, left_shown, AreByRun};
 ghost use Rattle.nm_model.specs.views.Asked.{access_shown};
 ghost use Rattle.nm_engine.specs.views.Accesses.{answer_shown};
 

@@ -2,7 +2,7 @@
 
 ghost use Rattle.std.specs.Prelude.{◌≡◌};
 ghost use Rattle.nm_calls.specs.declared.call_error.CallError.TheVariants.{Refused};
-ghost use Rattle.nm_calls.specs.Errors.{out_of_memory, of_machine};
+ghost use Rattle.nm_calls.specs.views.Errors.{out_of_memory, of_machine};
 
 use nm_engine::MachineError;
 use nm_types::Errno;

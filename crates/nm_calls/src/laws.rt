@@ -1,14 +1,14 @@
 //! What holds for every call. Each function does nothing, and its contract is the law.
 
-ghost use Rattle.nm_calls.specs.Laws.{RefusalsChangeNothing, TrailIsAfterRuns, CallsStaySound, CallsKeepMemory, TrailKeepsMemory, WithoutAccessesNone, AnswersGoByPlace, EachAccessIsAnswered};
-ghost use Rattle.nm_calls.specs.MigrateLaws.{EachPageIsListedOnce, RunsGoToNodesOnline};
-ghost use Rattle.nm_calls.specs.MigrateRows.{EachPageGoesOnce, HalfWay, TwoOfFourGo, SharedPageGoesByPrivilege, MigrationsAreRefused, NothingMigrates, SizesOfWhatIsKept, PageIsListedOnce, RunsHaveALimit};
-ghost use Rattle.nm_calls.specs.Binding.{NoStrayIsListedTwice};
-ghost use Rattle.nm_calls.specs.Offlining.{RunsIgnoreOnline};
-ghost use Rattle.nm_calls.specs.Full.{FullNodeTakesNone, LeftWouldMove, MovesElsewhere, RunsGoByLength, NextPassTakesNone};
-ghost use Rattle.nm_calls.specs.OfflineRows.{PagesLeaveTheNode, NothingIsTakenOffline, PinnedPageKeepsItsNode, PassesGoByDistance, UnseenPageMoves, SharedPageLeavesItsNode, OfflineNodesAreNotKept, NearestNodeFirst, LastNodeStays, PagesGoBySegment};
-ghost use Rattle.nm_calls.specs.DuringRows.{FramesAreReserved, AccessFindsNoFrame, HeldAtEachAddress, RefusedBeforeHeld, RefusedCallsMakeNone, AnsweredInOrder, LimitMakesRuns};
-ghost use Rattle.nm_calls.specs.BindingRows.{PinnedPageIsTold, StrictAloneRefuses, StayingIsNoError, LinesAreSplit, NewPagesTakeTurns, BoundPagesGoNowhereElse, SecondPassTakesTheRest, FollowersStay, StrayPagesTakeTurns, BindingsAreRefused, LastByteCounts, TurnsGoByIndex, StrayIsListedOnce, SharedPagesMoveWithAll, SetsAsText, BothProcessesAreCounted, LastPage};
+ghost use Rattle.nm_calls.specs.laws.Calls.{RefusalsChangeNothing, TrailIsAfterRuns, CallsStaySound, CallsKeepMemory, TrailKeepsMemory, WithoutAccessesNone, AnswersGoByPlace, EachAccessIsAnswered};
+ghost use Rattle.nm_calls.specs.laws.Migrations.{EachPageIsListedOnce, RunsGoToNodesOnline};
+ghost use Rattle.nm_calls.specs.examples.MigrateRows.{EachPageGoesOnce, HalfWay, TwoOfFourGo, SharedPageGoesByPrivilege, MigrationsAreRefused, NothingMigrates, SizesOfWhatIsKept, PageIsListedOnce, RunsHaveALimit};
+ghost use Rattle.nm_calls.specs.definitions.Mbind.{NoStrayIsListedTwice};
+ghost use Rattle.nm_calls.specs.definitions.Offline.{RunsIgnoreOnline};
+ghost use Rattle.nm_calls.specs.laws.Full.{FullNodeTakesNone, LeftWouldMove, MovesElsewhere, RunsGoByLength, NextPassTakesNone};
+ghost use Rattle.nm_calls.specs.examples.OfflineRows.{PagesLeaveTheNode, NothingIsTakenOffline, PinnedPageKeepsItsNode, PassesGoByDistance, UnseenPageMoves, SharedPageLeavesItsNode, OfflineNodesAreNotKept, NearestNodeFirst, LastNodeStays, PagesGoBySegment};
+ghost use Rattle.nm_calls.specs.examples.DuringRows.{FramesAreReserved, AccessFindsNoFrame, HeldAtEachAddress, RefusedBeforeHeld, RefusedCallsMakeNone, AnsweredInOrder, LimitMakesRuns};
+ghost use Rattle.nm_calls.specs.examples.MbindRows.{PinnedPageIsTold, StrictAloneRefuses, StayingIsNoError, LinesAreSplit, NewPagesTakeTurns, BoundPagesGoNowhereElse, SecondPassTakesTheRest, FollowersStay, StrayPagesTakeTurns, BindingsAreRefused, LastByteCounts, TurnsGoByIndex, StrayIsListedOnce, SharedPagesMoveWithAll, SetsAsText, BothProcessesAreCounted, LastPage};
 
 /// A call that is refused leaves the system as it was, except for EIO of mbind(2) with MPOL_MF_STRICT and a flag to
 /// move, and EBUSY of taking a node offline.

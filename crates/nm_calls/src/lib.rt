@@ -3,20 +3,20 @@
 
 mod answer;
 mod batch;
-mod binding;
 mod call_error;
-mod calling;
+mod dispatch;
 pub mod laws;
 mod listing;
 mod maps;
-mod migrating;
-mod offlining;
+mod mbind;
+mod migrate;
+mod number_text;
+mod offline;
 mod passes;
 mod permission;
-mod strays;
+mod placement;
+mod stray_pages;
 mod system;
-mod ways;
-mod words;
 
 pub use answer::{Answer, Moved, PagemapEntry};
 pub use batch::run_count;
@@ -27,5 +27,5 @@ pub use nm_steps::{
     NewProcess, Question,
 };
 pub use nm_types::Access;
+pub use number_text::{ADDRESS_BYTES, write_address};
 pub use system::System;
-pub use words::{ADDRESS_BYTES, write_address};

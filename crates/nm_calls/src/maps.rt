@@ -3,10 +3,10 @@
 ghost use Rattle.std.specs.Prelude.{◌≡◌, ℕ, ◌+◌, ◌++◌, ◌∷◌, ◌<◌, ◌≤◌, ◌^◌, All, Some, IfOk, OnOk, length, map, string_bytes, slice_index, count_by, ◌==◌};
 ghost use Rattle.nm_types.specs.Layout.{node_count};
 ghost use Rattle.nm_types.specs.Map.{get, page_cmp};
-ghost use Rattle.nm_calls.specs.Maps.{stretches, stretch_text, set_text, policy_text, pages_of, most_users, area_text, lines_shown};
-ghost use Rattle.nm_calls.specs.Tallied.{comma, told_on, nodes_text, tally_text};
+ghost use Rattle.nm_calls.specs.definitions.Maps.{stretches, stretch_text, set_text, policy_text, pages_of, most_users, area_text, lines_shown};
+ghost use Rattle.nm_calls.specs.views.Tally.{comma, told_on, nodes_text, tally_text};
 
-use crate::words::{push_address, push_number};
+use crate::number_text::{push_address, push_number};
 use nm_engine::{Line, Located, Machine};
 use nm_types::{NodeId, NodeMask, Pid, Policy, Vpn};
 use std::alloc::{AllocError, Allocator};
@@ -81,7 +81,7 @@ fn push_list<A: Allocator>(
 }
 
 /// Appends a policy.
-#[tactic(auto, unfolding(crate::specs::Maps::policy_text))]
+#[tactic(auto, unfolding(crate::specs::definitions::Maps::policy_text))]
 fn push_policy<A: Allocator>(line: &mut String<A>, policy: Policy) -> Result<(), AllocError>
     ensures { OnOk result (string_bytes line.new ≡ string_bytes line.old ++ policy_text policy) }
 {

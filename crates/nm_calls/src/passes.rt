@@ -11,9 +11,9 @@ ghost use Rattle.nm_model.specs.definitions.Cut.{cut_within};
 ghost use Rattle.nm_model.specs.definitions.Status.{code};
 ghost use Rattle.nm_model.specs.definitions.Run.{HasOneAll};
 ghost use Rattle.nm_model.specs.definitions.Touch.{has_free};
-ghost use Rattle.nm_calls.specs.Passes.{passes, without_frame};
-ghost use Rattle.nm_calls.specs.Full.{StandsOn, AreStanding, WouldMove};
-ghost use Rattle.nm_calls.specs.Making.{Batches, MakesRuns, later, IsCounted, IsLeft};
+ghost use Rattle.nm_calls.specs.definitions.Passes.{passes, without_frame};
+ghost use Rattle.nm_calls.specs.laws.Full.{StandsOn, AreStanding, WouldMove};
+ghost use Rattle.nm_calls.specs.views.Runs.{Batches, MakesRuns, later, IsCounted, IsLeft};
 
 use crate::batch::move_runs;
 use crate::call_error::CallError;

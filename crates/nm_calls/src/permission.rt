@@ -2,8 +2,8 @@
 
 ghost use Rattle.std.specs.Prelude.{◌≡◌, IfOk, Some};
 ghost use Rattle.nm_runs.specs.Targets.{Checks};
-ghost use Rattle.nm_calls.specs.Permission.{flags_refusal, moves_all, owner_of, allowed_at, query_refusal, right_refusal};
-ghost use Rattle.nm_calls.specs.Permission.{usable};
+ghost use Rattle.nm_calls.specs.definitions.Permission.{flags_refusal, moves_all, owner_of, allowed_at, query_refusal, right_refusal};
+ghost use Rattle.nm_calls.specs.definitions.Permission.{usable};
 
 use nm_engine::{Machine, ProcessInfo};
 use nm_types::{Errno, MoveFlags, NodeMask, Pid};

@@ -6,21 +6,21 @@ ghost use Rattle.nm_model.specs.definitions.Sound.{audited};
 ghost use Rattle.nm_model.specs.definitions.Sound.{IsSound};
 ghost use Rattle.nm_engine.specs.views.Accesses.{answer_shown};
 ghost use Rattle.nm_steps.specs.Calls.{Spawn, MapPages, Attach, Unmap, Exit, Pin, Unpin, ReadBytes, WriteBytes, MovePages, MigratePages, Mbind, Offline, Online, Query, FreeList, Pagemap, Vmstat, NumaMaps, default_limit};
-ghost use Rattle.nm_calls.specs.Answers.{Done, NewSegment, TheBytes, Statuses, Failed, Frames, Entries, TheTotals, Lines};
-ghost use Rattle.nm_calls.specs.Entries.{entries_mapped, entries_shown};
-ghost use Rattle.nm_calls.specs.Maps.{lines_shown};
-ghost use Rattle.nm_calls.specs.Systems.{new_system, system_with};
-ghost use Rattle.nm_calls.specs.Outcome.{statuses_of, outcome};
-ghost use Rattle.nm_calls.specs.Does.{Does, DoesOrRefuses};
+ghost use Rattle.nm_calls.specs.definitions.Answers.{Done, NewSegment, TheBytes, Statuses, Failed, Frames, Entries, TheTotals, Lines};
+ghost use Rattle.nm_calls.specs.definitions.Entries.{entries_mapped, entries_shown};
+ghost use Rattle.nm_calls.specs.definitions.Maps.{lines_shown};
+ghost use Rattle.nm_calls.specs.definitions.Systems.{new_system, system_with};
+ghost use Rattle.nm_calls.specs.definitions.Outcome.{statuses_of, outcome};
+ghost use Rattle.nm_calls.specs.definitions.Does.{Does, DoesOrRefuses};
 ghost use Rattle.nm_steps.specs.Views.{shown_during};
 
 use crate::answer::{Moved, PagemapEntry};
 use crate::batch::{check_targets, move_batch};
-use crate::binding::{bind, ready};
 use crate::call_error::CallError;
 use crate::maps::areas_text;
-use crate::migrating::{migrate, migration_of};
-use crate::offlining::{check_offline, empty};
+use crate::mbind::{bind, ready};
+use crate::migrate::{migrate, migration_of};
+use crate::offline::{check_offline, empty};
 use crate::permission::{Permit, permit_of};
 use nm_crew::{Crew, Gate};
 use nm_engine::{Entry, Machine, Totals};
@@ -81,7 +81,7 @@ pub struct System<A: Allocator + Copy + Send + Sync> {
 
 impl<A: Allocator + Copy + Send + Sync> Model for System<A> {
     ghost use Rattle.std.specs.Prelude.{◌<◌, ◌≤◌};
-    ghost use Rattle.nm_calls.specs.Systems.{SystemState};
+    ghost use Rattle.nm_calls.specs.definitions.Systems.{SystemState};
 
     ghost Value = { SystemState };
 
@@ -132,7 +132,7 @@ impl<A: Allocator + Copy + Send + Sync> System<A> {
     ///
     /// Errors, in order: EINVAL (pid 0 or one that is alive, a home that is not a node, an allowed set that is empty or
     /// has a node that the machine does not have); ENOMEM (1,024 processes are alive).
-    #[tactic(auto, unfolding(crate::specs::Outcome::refused, crate::specs::Outcome::refused_at_once, crate::specs::Outcome::ended, crate::specs::Outcome::runs_asked, crate::specs::Outcome::start, crate::specs::Outcome::sets_policy, crate::specs::Outcome::accesses_asked), using(crate::proofs::Outcomes::answers, crate::proofs::Outcomes::refuses, crate::proofs::Outcomes::unchanged))]
+    #[tactic(auto, unfolding(crate::specs::definitions::Outcome::refused, crate::specs::definitions::Outcome::refused_at_once, crate::specs::definitions::Outcome::ended, crate::specs::definitions::Outcome::runs_asked, crate::specs::definitions::Outcome::start, crate::specs::definitions::Outcome::sets_policy, crate::specs::definitions::Outcome::accesses_asked), using(crate::proofs::Outcomes::answers, crate::proofs::Outcomes::refuses, crate::proofs::Outcomes::unchanged))]
     pub fn spawn(
         &mut self,
         pid: Pid,
@@ -152,7 +152,7 @@ impl<A: Allocator + Copy + Send + Sync> System<A> {
     ///
     /// Errors, in order: ESRCH (no such process); EINVAL (an address that is not a multiple of 4,096, no page, an end
     /// past 2^47, an area in the way); ENOMEM (no segment number left).
-    #[tactic(auto, unfolding(crate::specs::Outcome::refused, crate::specs::Outcome::refused_at_once, crate::specs::Outcome::ended, crate::specs::Outcome::runs_asked, crate::specs::Outcome::start, crate::specs::Outcome::sets_policy, crate::specs::Outcome::accesses_asked), using(crate::proofs::Outcomes::answers, crate::proofs::Outcomes::refuses, crate::proofs::Outcomes::unchanged))]
+    #[tactic(auto, unfolding(crate::specs::definitions::Outcome::refused, crate::specs::definitions::Outcome::refused_at_once, crate::specs::definitions::Outcome::ended, crate::specs::definitions::Outcome::runs_asked, crate::specs::definitions::Outcome::start, crate::specs::definitions::Outcome::sets_policy, crate::specs::definitions::Outcome::accesses_asked), using(crate::proofs::Outcomes::answers, crate::proofs::Outcomes::refuses, crate::proofs::Outcomes::unchanged))]
     pub fn map(&mut self, pid: Pid, addr: u64, pages: u64, shared: bool) -> Result<u32, CallError>
         ensures { Does NewSegment result self.old self.new (MapPages pid addr pages shared) }
     {
@@ -164,7 +164,7 @@ impl<A: Allocator + Copy + Send + Sync> System<A> {
     ///
     /// Errors, in order: ESRCH (no such process); EINVAL (an address that is not a multiple of 4,096, no page, an end
     /// past 2^47, an area in the way; or a segment that is unknown, gone or private, or ends before the area would).
-    #[tactic(auto, unfolding(crate::specs::Outcome::refused, crate::specs::Outcome::refused_at_once, crate::specs::Outcome::ended, crate::specs::Outcome::runs_asked, crate::specs::Outcome::start, crate::specs::Outcome::sets_policy, crate::specs::Outcome::accesses_asked), using(crate::proofs::Outcomes::answers, crate::proofs::Outcomes::refuses, crate::proofs::Outcomes::unchanged))]
+    #[tactic(auto, unfolding(crate::specs::definitions::Outcome::refused, crate::specs::definitions::Outcome::refused_at_once, crate::specs::definitions::Outcome::ended, crate::specs::definitions::Outcome::runs_asked, crate::specs::definitions::Outcome::start, crate::specs::definitions::Outcome::sets_policy, crate::specs::definitions::Outcome::accesses_asked), using(crate::proofs::Outcomes::answers, crate::proofs::Outcomes::refuses, crate::proofs::Outcomes::unchanged))]
     pub fn attach(
         &mut self,
         pid: Pid,
@@ -184,7 +184,7 @@ impl<A: Allocator + Copy + Send + Sync> System<A> {
     ///
     /// Errors, in order: ESRCH (no such process); EINVAL (an address that is not a multiple of 4,096, no page, an end
     /// past 2^47); EBUSY (an area shows a page with a pin there).
-    #[tactic(auto, unfolding(crate::specs::Outcome::refused, crate::specs::Outcome::refused_at_once, crate::specs::Outcome::ended, crate::specs::Outcome::runs_asked, crate::specs::Outcome::start, crate::specs::Outcome::sets_policy, crate::specs::Outcome::accesses_asked), using(crate::proofs::Outcomes::answers, crate::proofs::Outcomes::refuses, crate::proofs::Outcomes::unchanged))]
+    #[tactic(auto, unfolding(crate::specs::definitions::Outcome::refused, crate::specs::definitions::Outcome::refused_at_once, crate::specs::definitions::Outcome::ended, crate::specs::definitions::Outcome::runs_asked, crate::specs::definitions::Outcome::start, crate::specs::definitions::Outcome::sets_policy, crate::specs::definitions::Outcome::accesses_asked), using(crate::proofs::Outcomes::answers, crate::proofs::Outcomes::refuses, crate::proofs::Outcomes::unchanged))]
     pub fn unmap(&mut self, pid: Pid, addr: u64, pages: u64) -> Result<(), CallError>
         ensures { Does (λ done. Done) result self.old self.new (Unmap pid addr pages) }
     {
@@ -194,7 +194,7 @@ impl<A: Allocator + Copy + Send + Sync> System<A> {
     /// Ends a process, which loses all its areas as by one `unmap`. Its pid may be used again.
     ///
     /// Errors, in order: ESRCH (no such process); EBUSY (one of its areas shows a page with a pin).
-    #[tactic(auto, unfolding(crate::specs::Outcome::refused, crate::specs::Outcome::refused_at_once, crate::specs::Outcome::ended, crate::specs::Outcome::runs_asked, crate::specs::Outcome::start, crate::specs::Outcome::sets_policy, crate::specs::Outcome::accesses_asked), using(crate::proofs::Outcomes::answers, crate::proofs::Outcomes::refuses, crate::proofs::Outcomes::unchanged))]
+    #[tactic(auto, unfolding(crate::specs::definitions::Outcome::refused, crate::specs::definitions::Outcome::refused_at_once, crate::specs::definitions::Outcome::ended, crate::specs::definitions::Outcome::runs_asked, crate::specs::definitions::Outcome::start, crate::specs::definitions::Outcome::sets_policy, crate::specs::definitions::Outcome::accesses_asked), using(crate::proofs::Outcomes::answers, crate::proofs::Outcomes::refuses, crate::proofs::Outcomes::unchanged))]
     pub fn exit(&mut self, pid: Pid) -> Result<(), CallError>
         ensures { Does (λ done. Done) result self.old self.new (Exit pid) }
     {
@@ -205,7 +205,7 @@ impl<A: Allocator + Copy + Send + Sync> System<A> {
     ///
     /// Errors, in order: ESRCH (no such process); EFAULT (no area, or the page of zeros); ENOENT (nothing was touched
     /// there); EBUSY (65,535 pins).
-    #[tactic(auto, unfolding(crate::specs::Outcome::refused, crate::specs::Outcome::refused_at_once, crate::specs::Outcome::ended, crate::specs::Outcome::runs_asked, crate::specs::Outcome::start, crate::specs::Outcome::sets_policy, crate::specs::Outcome::accesses_asked), using(crate::proofs::Outcomes::answers, crate::proofs::Outcomes::refuses, crate::proofs::Outcomes::unchanged))]
+    #[tactic(auto, unfolding(crate::specs::definitions::Outcome::refused, crate::specs::definitions::Outcome::refused_at_once, crate::specs::definitions::Outcome::ended, crate::specs::definitions::Outcome::runs_asked, crate::specs::definitions::Outcome::start, crate::specs::definitions::Outcome::sets_policy, crate::specs::definitions::Outcome::accesses_asked), using(crate::proofs::Outcomes::answers, crate::proofs::Outcomes::refuses, crate::proofs::Outcomes::unchanged))]
     pub fn pin(&mut self, pid: Pid, addr: u64) -> Result<(), Errno>
         ensures { DoesOrRefuses (λ done. Done) result self.old self.new (Pin pid addr) }
     {
@@ -215,7 +215,7 @@ impl<A: Allocator + Copy + Send + Sync> System<A> {
     /// Removes a pin from the page at an address, whoever added it. Does not allocate.
     ///
     /// Errors, in order: ESRCH, EFAULT and ENOENT as for `pin`; EINVAL (no pin).
-    #[tactic(auto, unfolding(crate::specs::Outcome::refused, crate::specs::Outcome::refused_at_once, crate::specs::Outcome::ended, crate::specs::Outcome::runs_asked, crate::specs::Outcome::start, crate::specs::Outcome::sets_policy, crate::specs::Outcome::accesses_asked), using(crate::proofs::Outcomes::answers, crate::proofs::Outcomes::refuses, crate::proofs::Outcomes::unchanged))]
+    #[tactic(auto, unfolding(crate::specs::definitions::Outcome::refused, crate::specs::definitions::Outcome::refused_at_once, crate::specs::definitions::Outcome::ended, crate::specs::definitions::Outcome::runs_asked, crate::specs::definitions::Outcome::start, crate::specs::definitions::Outcome::sets_policy, crate::specs::definitions::Outcome::accesses_asked), using(crate::proofs::Outcomes::answers, crate::proofs::Outcomes::refuses, crate::proofs::Outcomes::unchanged))]
     pub fn unpin(&mut self, pid: Pid, addr: u64) -> Result<(), Errno>
         ensures { DoesOrRefuses (λ done. Done) result self.old self.new (Unpin pid addr) }
     {
@@ -227,7 +227,7 @@ impl<A: Allocator + Copy + Send + Sync> System<A> {
     ///
     /// Errors, in order: ESRCH (no such process); EINVAL (no byte, or past the page's end); EFAULT (no area); ENOMEM
     /// (no free frame).
-    #[tactic(auto, unfolding(crate::specs::Outcome::refused, crate::specs::Outcome::refused_at_once, crate::specs::Outcome::ended, crate::specs::Outcome::runs_asked, crate::specs::Outcome::start, crate::specs::Outcome::sets_policy, crate::specs::Outcome::accesses_asked), using(crate::proofs::Outcomes::answers, crate::proofs::Outcomes::refuses, crate::proofs::Outcomes::unchanged))]
+    #[tactic(auto, unfolding(crate::specs::definitions::Outcome::refused, crate::specs::definitions::Outcome::refused_at_once, crate::specs::definitions::Outcome::ended, crate::specs::definitions::Outcome::runs_asked, crate::specs::definitions::Outcome::start, crate::specs::definitions::Outcome::sets_policy, crate::specs::definitions::Outcome::accesses_asked), using(crate::proofs::Outcomes::answers, crate::proofs::Outcomes::refuses, crate::proofs::Outcomes::unchanged))]
     pub fn read(&mut self, pid: Pid, addr: u64, len: u64) -> Result<Vec<u8, A>, CallError>
         ensures { Does (λ bytes. TheBytes bytes.items) result self.old self.new
             (ReadBytes pid addr len) }
@@ -237,7 +237,7 @@ impl<A: Allocator + Copy + Send + Sync> System<A> {
 
     /// Writes 1 to 4,096 bytes inside one page. The first write to a page takes a frame (numa(7)). Errors as for
     /// `read`.
-    #[tactic(auto, unfolding(crate::specs::Outcome::refused, crate::specs::Outcome::refused_at_once, crate::specs::Outcome::ended, crate::specs::Outcome::runs_asked, crate::specs::Outcome::start, crate::specs::Outcome::sets_policy, crate::specs::Outcome::accesses_asked), using(crate::proofs::Outcomes::answers, crate::proofs::Outcomes::refuses, crate::proofs::Outcomes::unchanged))]
+    #[tactic(auto, unfolding(crate::specs::definitions::Outcome::refused, crate::specs::definitions::Outcome::refused_at_once, crate::specs::definitions::Outcome::ended, crate::specs::definitions::Outcome::runs_asked, crate::specs::definitions::Outcome::start, crate::specs::definitions::Outcome::sets_policy, crate::specs::definitions::Outcome::accesses_asked), using(crate::proofs::Outcomes::answers, crate::proofs::Outcomes::refuses, crate::proofs::Outcomes::unchanged))]
     pub fn write(&mut self, pid: Pid, addr: u64, bytes: &[u8]) -> Result<(), CallError>
         ensures { Does (λ done. Done) result self.old self.new (WriteBytes pid addr bytes.now) }
     {
@@ -270,7 +270,7 @@ impl<A: Allocator + Copy + Send + Sync> System<A> {
     /// privilege); then for the first entry that is refused ENODEV (a node that does not exist or is offline) or else
     /// EACCES (a node that the process may not use, whoever calls). After `HostMemory { runs, .. }` the first `runs`
     /// runs remain.
-    #[tactic(auto, unfolding(crate::specs::Outcome::refused, crate::specs::Outcome::refused_at_once, crate::specs::Outcome::ended, crate::specs::Outcome::runs_asked, crate::specs::Outcome::start, crate::specs::Outcome::sets_policy, crate::specs::Outcome::accesses_asked), using(crate::proofs::Outcomes::answers, crate::proofs::Outcomes::refuses, crate::proofs::Outcomes::unchanged, crate::proofs::Outcomes::host_leaves))]
+    #[tactic(auto, unfolding(crate::specs::definitions::Outcome::refused, crate::specs::definitions::Outcome::refused_at_once, crate::specs::definitions::Outcome::ended, crate::specs::definitions::Outcome::runs_asked, crate::specs::definitions::Outcome::start, crate::specs::definitions::Outcome::sets_policy, crate::specs::definitions::Outcome::accesses_asked), using(crate::proofs::Outcomes::answers, crate::proofs::Outcomes::refuses, crate::proofs::Outcomes::unchanged, crate::proofs::Outcomes::host_leaves))]
     pub fn move_pages<R: Threads + Wait + Sync, G: Gate + Sync>(
         &mut self,
         rt: &R,
@@ -325,7 +325,7 @@ impl<A: Allocator + Copy + Send + Sync> System<A> {
     /// have); ESRCH (no such process); EPERM (a process of another user, without privilege); EPERM (a node of `new`
     /// that the process may not use, without privilege); EINVAL (no node of `new` that is online and that the process
     /// may use). After `HostMemory { runs, .. }` the first `runs` runs remain.
-    #[tactic(auto, unfolding(crate::specs::Outcome::refused, crate::specs::Outcome::refused_at_once, crate::specs::Outcome::ended, crate::specs::Outcome::runs_asked, crate::specs::Outcome::start, crate::specs::Outcome::sets_policy, crate::specs::Outcome::accesses_asked), using(crate::proofs::Outcomes::answers, crate::proofs::Outcomes::refuses, crate::proofs::Outcomes::unchanged, crate::proofs::Outcomes::host_leaves))]
+    #[tactic(auto, unfolding(crate::specs::definitions::Outcome::refused, crate::specs::definitions::Outcome::refused_at_once, crate::specs::definitions::Outcome::ended, crate::specs::definitions::Outcome::runs_asked, crate::specs::definitions::Outcome::start, crate::specs::definitions::Outcome::sets_policy, crate::specs::definitions::Outcome::accesses_asked), using(crate::proofs::Outcomes::answers, crate::proofs::Outcomes::refuses, crate::proofs::Outcomes::unchanged, crate::proofs::Outcomes::host_leaves))]
     pub fn migrate_pages<R: Threads + Wait + Sync, G: Gate + Sync>(
         &mut self,
         rt: &R,
@@ -364,7 +364,7 @@ impl<A: Allocator + Copy + Send + Sync> System<A> {
     /// and a flag to move, EIO is also returned if a listed page is not where the policy wants it after the moves:
     /// policy and moves remain. After `HostMemory { runs, policy_set }` the first `runs` runs remain, and the policy is
     /// set if `policy_set` says so.
-    #[tactic(auto, unfolding(crate::specs::Outcome::refused, crate::specs::Outcome::refused_at_once, crate::specs::Outcome::ended, crate::specs::Outcome::runs_asked, crate::specs::Outcome::start, crate::specs::Outcome::sets_policy, crate::specs::Outcome::accesses_asked), using(crate::proofs::Outcomes::answers, crate::proofs::Outcomes::refuses, crate::proofs::Outcomes::unchanged))]
+    #[tactic(auto, unfolding(crate::specs::definitions::Outcome::refused, crate::specs::definitions::Outcome::refused_at_once, crate::specs::definitions::Outcome::ended, crate::specs::definitions::Outcome::runs_asked, crate::specs::definitions::Outcome::start, crate::specs::definitions::Outcome::sets_policy, crate::specs::definitions::Outcome::accesses_asked), using(crate::proofs::Outcomes::answers, crate::proofs::Outcomes::refuses, crate::proofs::Outcomes::unchanged))]
     pub fn mbind<R: Threads + Wait + Sync, G: Gate + Sync>(
         &mut self,
         rt: &R,
@@ -403,7 +403,7 @@ impl<A: Allocator + Copy + Send + Sync> System<A> {
     /// Errors, in order: EINVAL (no such node); EBUSY (no other node is online). EBUSY is also returned if a page of
     /// the node stays: the moves remain, and the node is online. After `HostMemory { runs, .. }` the first `runs` runs
     /// remain, and the node is online.
-    #[tactic(auto, unfolding(crate::specs::Outcome::refused, crate::specs::Outcome::refused_at_once, crate::specs::Outcome::ended, crate::specs::Outcome::runs_asked, crate::specs::Outcome::start, crate::specs::Outcome::sets_policy, crate::specs::Outcome::accesses_asked), using(crate::proofs::Outcomes::answers, crate::proofs::Outcomes::refuses, crate::proofs::Outcomes::unchanged))]
+    #[tactic(auto, unfolding(crate::specs::definitions::Outcome::refused, crate::specs::definitions::Outcome::refused_at_once, crate::specs::definitions::Outcome::ended, crate::specs::definitions::Outcome::runs_asked, crate::specs::definitions::Outcome::start, crate::specs::definitions::Outcome::sets_policy, crate::specs::definitions::Outcome::accesses_asked), using(crate::proofs::Outcomes::answers, crate::proofs::Outcomes::refuses, crate::proofs::Outcomes::unchanged))]
     pub fn offline<R: Threads + Wait + Sync, G: Gate + Sync>(
         &mut self,
         rt: &R,
@@ -423,7 +423,7 @@ impl<A: Allocator + Copy + Send + Sync> System<A> {
 
     /// Brings a node online: its free frames may be taken again, and pages may go there. Does not allocate. A node that
     /// is online already is left as it is. Error: EINVAL (no such node).
-    #[tactic(auto, unfolding(crate::specs::Outcome::refused, crate::specs::Outcome::refused_at_once, crate::specs::Outcome::ended, crate::specs::Outcome::runs_asked, crate::specs::Outcome::start, crate::specs::Outcome::sets_policy, crate::specs::Outcome::accesses_asked), using(crate::proofs::Outcomes::answers, crate::proofs::Outcomes::refuses, crate::proofs::Outcomes::unchanged))]
+    #[tactic(auto, unfolding(crate::specs::definitions::Outcome::refused, crate::specs::definitions::Outcome::refused_at_once, crate::specs::definitions::Outcome::ended, crate::specs::definitions::Outcome::runs_asked, crate::specs::definitions::Outcome::start, crate::specs::definitions::Outcome::sets_policy, crate::specs::definitions::Outcome::accesses_asked), using(crate::proofs::Outcomes::answers, crate::proofs::Outcomes::refuses, crate::proofs::Outcomes::unchanged))]
     pub fn online(&mut self, node: NodeId) -> Result<(), Errno>
         ensures { DoesOrRefuses (λ done. Done) result self.old self.new (Online node) }
     {
@@ -437,7 +437,7 @@ impl<A: Allocator + Copy + Send + Sync> System<A> {
     /// Reports where pages are, each named by an address in it, as move_pages(2) without nodes does: the number of its
     /// node, -14 (EFAULT) if there is no area or only the page of zeros, -2 (ENOENT) if nothing was touched. Pid 0
     /// means the caller. Errors as for `move_pages`, except those of entries: ESRCH, EINVAL, EPERM, ESRCH, EPERM.
-    #[tactic(auto, unfolding(crate::specs::Outcome::refused, crate::specs::Outcome::refused_at_once, crate::specs::Outcome::ended, crate::specs::Outcome::runs_asked, crate::specs::Outcome::start, crate::specs::Outcome::sets_policy, crate::specs::Outcome::accesses_asked), using(crate::proofs::Outcomes::answers, crate::proofs::Outcomes::refuses, crate::proofs::Outcomes::unchanged))]
+    #[tactic(auto, unfolding(crate::specs::definitions::Outcome::refused, crate::specs::definitions::Outcome::refused_at_once, crate::specs::definitions::Outcome::ended, crate::specs::definitions::Outcome::runs_asked, crate::specs::definitions::Outcome::start, crate::specs::definitions::Outcome::sets_policy, crate::specs::definitions::Outcome::accesses_asked), using(crate::proofs::Outcomes::answers, crate::proofs::Outcomes::refuses, crate::proofs::Outcomes::unchanged))]
     pub fn query(
         &self,
         caller: Pid,
@@ -454,7 +454,7 @@ impl<A: Allocator + Copy + Send + Sync> System<A> {
 
     /// How many pages have moved, and how many entries have failed: `pgmigrate_success` and `pgmigrate_fail` of
     /// `/proc/vmstat`. Each stays at 2^64 - 1 once it is there. Between two calls a system is sound.
-    #[tactic(auto, unfolding(crate::specs::Outcome::refused, crate::specs::Outcome::ended))]
+    #[tactic(auto, unfolding(crate::specs::definitions::Outcome::refused, crate::specs::definitions::Outcome::ended))]
     pub fn vmstat(&self) -> Totals
         ensures sound { IsSound self.now.state }
         ensures moved { result.moved ≡ self.now.state.moved }
@@ -471,7 +471,7 @@ impl<A: Allocator + Copy + Send + Sync> System<A> {
     /// pages in it, `anon=` and their number, `mapmax=` and the greatest number of processes that see one of them, if
     /// that is over 1, `N0=`, `N1=` and so on with the number on that node, if there are any, and
     /// `kernelpagesize_kB=4`. The page of zeros does not count as a page. Error: ESRCH (no such process).
-    #[tactic(auto, unfolding(crate::specs::Outcome::refused, crate::specs::Outcome::refused_at_once, crate::specs::Outcome::ended, crate::specs::Outcome::runs_asked, crate::specs::Outcome::start, crate::specs::Outcome::sets_policy, crate::specs::Outcome::accesses_asked), using(crate::proofs::Outcomes::answers, crate::proofs::Outcomes::refuses, crate::proofs::Outcomes::unchanged))]
+    #[tactic(auto, unfolding(crate::specs::definitions::Outcome::refused, crate::specs::definitions::Outcome::refused_at_once, crate::specs::definitions::Outcome::ended, crate::specs::definitions::Outcome::runs_asked, crate::specs::definitions::Outcome::start, crate::specs::definitions::Outcome::sets_policy, crate::specs::definitions::Outcome::accesses_asked), using(crate::proofs::Outcomes::answers, crate::proofs::Outcomes::refuses, crate::proofs::Outcomes::unchanged))]
     pub fn numa_maps(&self, pid: Pid) -> Result<Vec<String<A>, A>, CallError>
         ensures { Does (λ lines. Lines (lines_shown lines.items)) result self.now self.now
             (NumaMaps pid) }
@@ -482,7 +482,7 @@ impl<A: Allocator + Copy + Send + Sync> System<A> {
     }
 
     /// The free frames of a node, front first. Error: EINVAL (no such node).
-    #[tactic(auto, unfolding(crate::specs::Outcome::refused, crate::specs::Outcome::refused_at_once, crate::specs::Outcome::ended, crate::specs::Outcome::runs_asked, crate::specs::Outcome::start, crate::specs::Outcome::sets_policy, crate::specs::Outcome::accesses_asked), using(crate::proofs::Outcomes::answers, crate::proofs::Outcomes::refuses, crate::proofs::Outcomes::unchanged))]
+    #[tactic(auto, unfolding(crate::specs::definitions::Outcome::refused, crate::specs::definitions::Outcome::refused_at_once, crate::specs::definitions::Outcome::ended, crate::specs::definitions::Outcome::runs_asked, crate::specs::definitions::Outcome::start, crate::specs::definitions::Outcome::sets_policy, crate::specs::definitions::Outcome::accesses_asked), using(crate::proofs::Outcomes::answers, crate::proofs::Outcomes::refuses, crate::proofs::Outcomes::unchanged))]
     pub fn free_list(&self, node: NodeId) -> Result<Vec<FrameId, A>, CallError>
         ensures { Does (λ frames. Frames frames.items) result self.now self.now (FreeList node) }
     {
@@ -491,7 +491,7 @@ impl<A: Allocator + Copy + Send + Sync> System<A> {
 
     /// The entries of a process, in address order, like `/proc/PID/pagemap`: the frame of each, or the page of zeros.
     /// Error: ESRCH (no such process).
-    #[tactic(auto, unfolding(crate::specs::Outcome::refused, crate::specs::Outcome::refused_at_once, crate::specs::Outcome::ended, crate::specs::Outcome::runs_asked, crate::specs::Outcome::start, crate::specs::Outcome::sets_policy, crate::specs::Outcome::accesses_asked), using(crate::proofs::Outcomes::answers, crate::proofs::Outcomes::refuses, crate::proofs::Outcomes::unchanged))]
+    #[tactic(auto, unfolding(crate::specs::definitions::Outcome::refused, crate::specs::definitions::Outcome::refused_at_once, crate::specs::definitions::Outcome::ended, crate::specs::definitions::Outcome::runs_asked, crate::specs::definitions::Outcome::start, crate::specs::definitions::Outcome::sets_policy, crate::specs::definitions::Outcome::accesses_asked), using(crate::proofs::Outcomes::answers, crate::proofs::Outcomes::refuses, crate::proofs::Outcomes::unchanged))]
     pub fn pagemap(&self, pid: Pid) -> Result<Vec<PagemapEntry, A>, CallError>
         ensures { Does (λ mapped. Entries (entries_mapped mapped.items)) result self.now self.now
             (Pagemap pid) }

@@ -11,7 +11,7 @@ ghost use Rattle.nm_crew.specs.Others.{others_of, IsSizeOfAll};
 
 use crate::gate::Gate;
 use crate::room::Room;
-use crate::starts::{Plainly, Starts};
+use crate::starts::{DefaultStart, Starts};
 use crate::worker::{Worker, work_off};
 use nm_board::{Board, Hand};
 use nm_frames::CopyJob;
@@ -46,7 +46,7 @@ pub fn copy_while<
     ensures jobs { result.0.items ≡ map copied jobs.items }
     ensures work { W.post work result.1 }
 {
-    copy_with(rt, alloc, jobs, workers, &Plainly, gate, work)
+    copy_with(rt, alloc, jobs, workers, &DefaultStart, gate, work)
 }
 
 /// Does the same with threads that `starts` configures.

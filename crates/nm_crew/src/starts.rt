@@ -9,9 +9,9 @@ pub(crate) trait Starts {
 }
 
 /// Starts each thread with the host's default settings.
-pub(crate) struct Plainly;
+pub(crate) struct DefaultStart;
 
-impl Starts for Plainly {
+impl Starts for DefaultStart {
     fn builder(&self, _worker: usize) -> Builder {
         Builder::new()
     }

@@ -2,7 +2,7 @@ ghost use Rattle.std.specs.Prelude.{◌≡◌, ◌<◌, ◌≤◌, IfOk};
 ghost use Rattle.nm_board.specs.Tickets.{InTicketOrder};
 
 use crate::crew::copy_with;
-use crate::starts::{Plainly, Starts};
+use crate::starts::{DefaultStart, Starts};
 use crate::{Gate, OpenGate, copy_while};
 use nm_frames::{CopyJob, FrameStore};
 use nm_refusing::Refusing;
@@ -174,14 +174,14 @@ fn meet(
 /// Two workers meet at the gate: code that copies on one thread never gets both there.
 #[test]
 fn two_workers_meet(rt: HostRuntime) -> Result<(), Fail> {
-    assert!(rt; meet(&rt, rt.alloc(), 2, &Plainly, 0b11)?);
+    assert!(rt; meet(&rt, rt.alloc(), 2, &DefaultStart, 0b11)?);
     Ok(())
 }
 
 /// Four workers meet: code that starts only some of them never gets all there.
 #[test]
 fn four_workers_meet(rt: HostRuntime) -> Result<(), Fail> {
-    assert!(rt; meet(&rt, rt.alloc(), 4, &Plainly, 0b1111)?);
+    assert!(rt; meet(&rt, rt.alloc(), 4, &DefaultStart, 0b1111)?);
     Ok(())
 }
 

@@ -2,7 +2,7 @@
 use Rattle.std.proofs.Common.{◌≡◌, ℕ, ◌≤◌, List, [], ◌++◌, length, take, Option, Some, None, IfSome, IfErr, Result, Ok, Err, ◌⊎◌, refl, sym, ap, ◌∙◌, subst, append_assoc, inl, inr, arith}
 use Rattle.std.proofs.lemmas.List.{append-nil}
 use Rattle.std.specs.Io.KnownBytes.{Appends}
-use Rattle.nm_calls.specs.Systems.{SystemState, system_with}
+use Rattle.nm_calls.specs.definitions.Systems.{SystemState, system_with}
 use Rattle.nm_steps.specs.Calls.{Call}
 use Rattle.nm_trace.specs.declared.playing.Summary.{Summary}
 use Rattle.nm_steps.specs.declared.trace_error.TraceError.{TraceError}

@@ -7,8 +7,8 @@ use Rattle.nm_model.specs.definitions.Memory.{mem}
 use Rattle.nm_model.specs.definitions.Sound.{IsSound}
 use Rattle.nm_laws.proofs.Soundness.New.{new_sound}
 use Rattle.nm_steps.specs.Calls.{Call}
-use Rattle.nm_calls.specs.Outcome.{outcome}
-use Rattle.nm_calls.specs.Systems.{SystemState, system_with}
+use Rattle.nm_calls.specs.definitions.Outcome.{outcome}
+use Rattle.nm_calls.specs.definitions.Systems.{SystemState, system_with}
 use Rattle.nm_calls.proofs.Bytes.{calls_keep_memory}
 use Rattle.nm_calls.proofs.Staying.{calls_stay_sound}
 use Rattle.nm_steps.specs.Faults.{Plan}

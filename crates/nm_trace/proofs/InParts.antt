@@ -3,9 +3,9 @@ use Rattle.std.proofs.Common.{◌≡◌, ℕ, suc, ◌+◌, ◌<◌, List, [], �
 use Rattle.std.proofs.lemmas.List.{take_more, take-append-drop, append-nil, length-map}
 use Rattle.std.proofs.Math.ListN.{get_or-map}
 use Rattle.std.specs.Io.KnownBytes.{Appends}
-use Rattle.nm_calls.specs.Systems.{SystemState}
+use Rattle.nm_calls.specs.definitions.Systems.{SystemState}
 use Rattle.nm_steps.specs.Calls.{Call}
-use Rattle.nm_calls.specs.Outcome.{Outcome, outcome}
+use Rattle.nm_calls.specs.definitions.Outcome.{Outcome, outcome}
 use Rattle.nm_trace.specs.Report.{text_of, report_from, state_after}
 use Rattle.nm_trace.specs.Played.{BreaksOff}
 use Rattle.nm_trace.proofs.Known.{appends_more}

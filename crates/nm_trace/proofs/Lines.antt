@@ -11,7 +11,7 @@ use Rattle.nm_engine.specs.views.Accesses.{answer_shown}
 use Rattle.nm_engine.specs.declared.answers.AccessAnswer.{AccessAnswer as Given}
 use Rattle.nm_steps.specs.declared.call.InFlight.{InFlight}
 use Rattle.nm_steps.specs.Views.{shown_during}
-use Rattle.nm_calls.specs.Outcome.{shown}
+use Rattle.nm_calls.specs.definitions.Outcome.{shown}
 use Rattle.nm_steps.specs.Form.{access_step}
 use Rattle.nm_trace.specs.Report.{word_of, answer_text, line_of, access_line, access_lines}
 

@@ -8,8 +8,8 @@ use Rattle.nm_types.specs.State.{State}
 use Rattle.nm_model.specs.definitions.Run.{Ran}
 use Rattle.nm_model.specs.definitions.Run.{runs_from}
 use Rattle.nm_steps.specs.Calls.{Call, Spawn, MapPages, Attach, Unmap, Exit, Pin, Unpin, ReadBytes, WriteBytes, MovePages, MigratePages, Query, FreeList, Pagemap, Vmstat, NumaMaps, Mbind, Offline, Online}
-use Rattle.nm_calls.specs.Outcome.{Outcome, outcome, ended, emptied, unless, refused, start, runs_asked, accesses_asked}
-use Rattle.nm_calls.specs.Systems.{SystemState}
+use Rattle.nm_calls.specs.definitions.Outcome.{Outcome, outcome, ended, emptied, unless, refused, start, runs_asked, accesses_asked}
+use Rattle.nm_calls.specs.definitions.Systems.{SystemState}
 use Rattle.nm_steps.specs.declared.trace_error.TraceError.{TraceError}
 use Rattle.nm_steps.specs.declared.trace_error.TraceError.TheVariants.{NotJson, BadStep}
 use Rattle.nm_steps.specs.Form as form

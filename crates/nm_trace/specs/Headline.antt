@@ -4,9 +4,9 @@ use Rattle.std.specs.Io.KnownBytes.{Appends}
 use Rattle.nm_model.specs.definitions.Memory.{mem}
 use Rattle.nm_model.specs.definitions.Sound.{IsSound}
 use Rattle.nm_steps.specs.Calls.{Call}
-use Rattle.nm_calls.specs.Laws.{writes_or_maps, byte_after}
-use Rattle.nm_calls.specs.Outcome.{runs_of}
-use Rattle.nm_calls.specs.Systems.{SystemState, system_with}
+use Rattle.nm_calls.specs.laws.Calls.{writes_or_maps, byte_after}
+use Rattle.nm_calls.specs.definitions.Outcome.{runs_of}
+use Rattle.nm_calls.specs.definitions.Systems.{SystemState, system_with}
 use Rattle.nm_steps.specs.Faults.{Plan}
 use Rattle.nm_trace.specs.Played.{report_of}
 use Rattle.nm_trace.specs.Report.{state_after}

@@ -1,9 +1,9 @@
 -- What a play makes and writes, and what a run from bytes does.
 use Rattle.std.specs.Prelude.{◌≡◌, ◌⊎◌, ℕ, ◌<◌, ◌≤◌, Bool, List, [], ◌++◌, length, take, slice_get, Option, Some, Result, Ok, Err}
 use Rattle.std.specs.Io.KnownBytes.{Appends}
-use Rattle.nm_calls.specs.Systems.{SystemState, system_with}
+use Rattle.nm_calls.specs.definitions.Systems.{SystemState, system_with}
 use Rattle.nm_steps.specs.Calls.{Call}
-use Rattle.nm_calls.specs.Does.{HostLeaves}
+use Rattle.nm_calls.specs.definitions.Does.{HostLeaves}
 use Rattle.nm_trace.specs.declared.playing.Summary.{Summary}
 use Rattle.nm_steps.specs.declared.trace_error.TraceError.{TraceError}
 use Rattle.nm_steps.specs.declared.trace_error.TraceError.TheVariants.{ReadFault, WriteFault, HostMemory}

@@ -3,8 +3,8 @@ use Rattle.std.specs.Prelude.{◌≡◌, ◌≤◌, ◌||◌, length, ℕ, Bool,
 use Rattle.std.specs.Io.KnownBytes.{Appends}
 use Rattle.nm_trace.specs.declared.block.Block.{Block}
 use Rattle.nm_steps.specs.Calls.{Call}
-use Rattle.nm_calls.specs.Outcome.{outcome}
-use Rattle.nm_calls.specs.Systems.{SystemState}
+use Rattle.nm_calls.specs.definitions.Outcome.{outcome}
+use Rattle.nm_calls.specs.definitions.Systems.{SystemState}
 use Rattle.nm_trace.specs.Played.{BreaksOff, StopsIn}
 use Rattle.nm_trace.specs.Report.{text_of}
 

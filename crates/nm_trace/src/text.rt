@@ -5,12 +5,12 @@ ghost use Rattle.std.specs.Fmt.{signed_decimal};
 ghost use Rattle.std.specs.List.{flat_map};
 ghost use Rattle.std.specs.Option.{unwrap_or, option_map};
 ghost use Rattle.hex.specs.Hex.{encode_lower};
-ghost use Rattle.nm_calls.specs.Answers.{Refusal};
-ghost use Rattle.nm_calls.specs.Maps.{lines_shown};
-ghost use Rattle.nm_calls.specs.Outcome.{accesses_asked, shown};
+ghost use Rattle.nm_calls.specs.definitions.Answers.{Refusal};
+ghost use Rattle.nm_calls.specs.definitions.Maps.{lines_shown};
+ghost use Rattle.nm_calls.specs.definitions.Outcome.{accesses_asked, shown};
 ghost use Rattle.nm_steps.specs.Form.{access_step};
 ghost use Rattle.nm_steps.specs.Views.{call_of, shown_during};
-ghost use Rattle.nm_calls.specs.Views.{answer_of};
+ghost use Rattle.nm_calls.specs.views.Answers.{answer_of};
 ghost use Rattle.nm_trace.specs.Report.{word_of, spaced, entry_text, answer_text, line_of, text_of, access_lines, answers_in, access_line};
 ghost use Rattle.nm_trace.specs.Waiting.{Puts};
 ghost use Rattle.nm_model.specs.views.Asked.{access_shown};
@@ -368,7 +368,7 @@ fn push_accesses<W: TellingWriter, A: Allocator + Copy + Send + Sync>(
 }
 
 /// Puts the lines of the accesses of step k that were made while pages moved.
-#[tactic(auto, unfolding(nm_calls::specs::Outcome::accesses_asked))]
+#[tactic(auto, unfolding(nm_calls::specs::definitions::Outcome::accesses_asked))]
 fn push_flights<W: TellingWriter, A: Allocator + Copy + Send + Sync>(
     block: &mut Block<A>,
     writer: &mut W,

@@ -2,7 +2,7 @@ use Rattle.std.proofs.Common.{◌≡◌, ◌++◌, ◌<◌, ℕ, drop, length, m
 use Rattle.nm_model.specs.views.Asked.{access_shown}
 use Rattle.nm_model.specs.definitions.Run.{accesses_of}
 use Rattle.nm_steps.specs.Views.{shown_during}
-use Rattle.nm_calls.specs.Batch.{list_at}
+use Rattle.nm_calls.specs.definitions.Batch.{list_at}
 use Rattle.nm_calls.proofs.batch.by_run.Given as goal
 
 abbrev pub invariant-loop : goal.invariant-loop

@@ -2,7 +2,7 @@ use Rattle.std.proofs.Common.{◌≡◌, ◌+◌, ◌++◌, ◌≤◌, drop, len
 use Rattle.nm_engine.specs.views.Accesses.{answer_shown}
 use Rattle.nm_steps.specs.Views.{shown_during}
 use Rattle.std.specs.Map.{keys_of}
-use Rattle.nm_calls.specs.Batch.{in_order, left_shown}
+use Rattle.nm_calls.specs.definitions.Batch.{in_order, left_shown}
 use Rattle.nm_calls.proofs.batch.in_order.Given as goal
 
 abbrev pub invariant-loop-asked : goal.invariant-loop-asked

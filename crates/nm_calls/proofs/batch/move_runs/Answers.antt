@@ -8,7 +8,7 @@ use Rattle.nm_model.specs.definitions.Run.{run, failures}
 use Rattle.nm_model.specs.definitions.Run.{accesses_of}
 use Rattle.nm_steps.specs.Views.{shown_during}
 use Rattle.std.specs.Map.{keys_of}
-use Rattle.nm_calls.specs.Batch.{in_order, left_shown}
+use Rattle.nm_calls.specs.definitions.Batch.{in_order, left_shown}
 use Rattle.nm_calls.proofs.Lengths.{run_length, run_layout}
 use Rattle.nm_calls.proofs.Meanwhile.{list_there}
 use Rattle.nm_calls.proofs.Made.{none_moved}

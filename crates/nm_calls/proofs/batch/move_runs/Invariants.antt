@@ -3,7 +3,7 @@ use Rattle.std.specs.List.{sum_by}
 use Rattle.nm_types.specs.Layout.{node_count}
 use Rattle.nm_runs.specs.Stretches.{stretches_of}
 use Rattle.nm_steps.specs.Views.{shown_during}
-use Rattle.nm_calls.specs.Batch.{left_shown}
+use Rattle.nm_calls.specs.definitions.Batch.{left_shown}
 use Rattle.nm_calls.proofs.Stretches.{HaveRun}
 use Rattle.nm_calls.proofs.batch.move_runs.Given as goal
 

@@ -1,5 +1,5 @@
 use Rattle.std.proofs.Common.{refl}
-use Rattle.nm_calls.specs.Outcome.{refused, start, runs_asked, accesses_asked, ended}
+use Rattle.nm_calls.specs.definitions.Outcome.{refused, start, runs_asked, accesses_asked, ended}
 use Rattle.nm_calls.proofs.laws.accesses_meet_moves.Goals as goal
 
 pub returns-clause-frames_are_reserved : goal.returns-clause-frames_are_reserved

@@ -1,5 +1,5 @@
 use Rattle.std.proofs.Common.{refl}
-use Rattle.nm_calls.specs.Outcome.{refused, runs_asked, start, ended, accesses_asked}
+use Rattle.nm_calls.specs.definitions.Outcome.{refused, runs_asked, start, ended, accesses_asked}
 use Rattle.nm_calls.proofs.laws.pages_migrate.Goals as goal
 
 pub returns-clause-each_page_goes_once : goal.returns-clause-each_page_goes_once

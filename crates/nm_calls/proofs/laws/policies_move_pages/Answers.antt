@@ -1,7 +1,7 @@
 use Rattle.std.proofs.Common.{refl}
 use Rattle.std.specs.Fmt.{digits}
-use Rattle.nm_calls.specs.Maps.{policy_text}
-use Rattle.nm_calls.specs.Outcome.{refused, start, runs_asked, ended, accesses_asked}
+use Rattle.nm_calls.specs.definitions.Maps.{policy_text}
+use Rattle.nm_calls.specs.definitions.Outcome.{refused, start, runs_asked, ended, accesses_asked}
 use Rattle.nm_calls.proofs.laws.policies_move_pages.Goals as goal
 
 pub returns-clause-pinned_page_is_told : goal.returns-clause-pinned_page_is_told

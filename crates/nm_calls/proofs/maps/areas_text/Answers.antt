@@ -1,7 +1,7 @@
 use Rattle.std.proofs.Common.{◌++◌, [], ◌∷◌, map, take, ap, sym, ◌∙◌}
 use Rattle.std.proofs.lemmas.List.{map_more, map_push}
 use Rattle.std.specs.Prelude.{string_bytes}
-use Rattle.nm_calls.specs.Maps.{area_text, lines_shown}
+use Rattle.nm_calls.specs.definitions.Maps.{area_text, lines_shown}
 use Rattle.nm_calls.proofs.maps.areas_text.Goals as goal
 
 pub loop-area-preserved : goal.loop-area-preserved

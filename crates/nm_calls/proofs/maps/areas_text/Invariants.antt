@@ -1,5 +1,5 @@
 use Rattle.std.proofs.Common.{◌≡◌, map, take}
-use Rattle.nm_calls.specs.Maps.{area_text, lines_shown}
+use Rattle.nm_calls.specs.definitions.Maps.{area_text, lines_shown}
 use Rattle.nm_calls.proofs.maps.areas_text.Given as goal
 
 abbrev pub invariant-loop-area : goal.invariant-loop-area

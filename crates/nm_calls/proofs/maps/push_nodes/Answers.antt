@@ -1,5 +1,5 @@
 use Rattle.std.proofs.Common.{◌++◌, ap, sym, ◌∙◌, append_assoc, string_bytes, slice_index_or}
-use Rattle.nm_calls.specs.Tallied.{told_on, nodes_text}
+use Rattle.nm_calls.specs.views.Tally.{told_on, nodes_text}
 use Rattle.nm_calls.proofs.Stretched.{flat_map_up}
 use Rattle.nm_calls.proofs.maps.push_nodes.Goals as goal
 

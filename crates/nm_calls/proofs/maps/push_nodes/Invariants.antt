@@ -1,5 +1,5 @@
 use Rattle.std.proofs.Common.{◌≡◌, ◌++◌, string_bytes}
-use Rattle.nm_calls.specs.Tallied.{nodes_text}
+use Rattle.nm_calls.specs.views.Tally.{nodes_text}
 use Rattle.nm_calls.proofs.maps.push_nodes.Given as goal
 
 abbrev pub invariant-loop-node : goal.invariant-loop-node

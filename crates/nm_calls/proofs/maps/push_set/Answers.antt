@@ -1,5 +1,5 @@
 use Rattle.std.proofs.Common.{◌++◌, map, ap, sym, string_bytes}
-use Rattle.nm_calls.specs.Maps.{stretches, stretch_text}
+use Rattle.nm_calls.specs.definitions.Maps.{stretches, stretch_text}
 use Rattle.nm_calls.proofs.Stretched.{joined_by_commas}
 use Rattle.nm_calls.proofs.maps.push_set.Goals as goal
 

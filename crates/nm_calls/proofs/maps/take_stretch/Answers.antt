@@ -1,5 +1,5 @@
 use Rattle.std.proofs.Common.{◌∷◌, ap, sym, ◌∙◌, drop, arith}
-use Rattle.nm_calls.specs.Maps.{stretches}
+use Rattle.nm_calls.specs.definitions.Maps.{stretches}
 use Rattle.nm_calls.proofs.Stretched.{extended, head_is, none_left, ends_here}
 use Rattle.nm_calls.proofs.maps.take_stretch.Goals as goal
 

@@ -1,5 +1,5 @@
 use Rattle.std.proofs.Common.{◌≡◌, ◌∷◌, length}
-use Rattle.nm_calls.specs.Maps.{stretches}
+use Rattle.nm_calls.specs.definitions.Maps.{stretches}
 use Rattle.nm_calls.proofs.Stretched.{extended}
 use Rattle.nm_calls.proofs.maps.take_stretch.Given as goal
 

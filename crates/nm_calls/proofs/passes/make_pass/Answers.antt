@@ -5,7 +5,7 @@ use Rattle.nm_model.specs.definitions.Cut.{wanted_of}
 use Rattle.nm_model.specs.definitions.Cut.{cut_within}
 use Rattle.nm_model.specs.definitions.Run.{HasOneAll, Ran}
 use Rattle.nm_model.specs.definitions.Run.{runs_from}
-use Rattle.nm_calls.specs.Passes.{without_frame}
+use Rattle.nm_calls.specs.definitions.Passes.{without_frame}
 use Rattle.nm_calls.proofs.Made.{none_batched, batch_told}
 use Rattle.nm_calls.proofs.Passing.{to_node_below, to_node_wanted, to_node_length, batch_statuses}
 use Rattle.nm_calls.proofs.passes.make_pass.Goals as goal

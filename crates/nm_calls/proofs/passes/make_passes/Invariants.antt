@@ -1,7 +1,7 @@
 use Rattle.std.proofs.Common.{◌≡◌, ◌≤◌, ◌*◌, ◌^◌, drop, length}
 use Rattle.nm_types.specs.Layout.{node_count}
-use Rattle.nm_calls.specs.Passes.{passes}
-use Rattle.nm_calls.specs.Making.{IsLeft}
+use Rattle.nm_calls.specs.definitions.Passes.{passes}
+use Rattle.nm_calls.specs.views.Runs.{IsLeft}
 use Rattle.nm_model.specs.definitions.Run.{HasOneAll}
 use Rattle.nm_calls.proofs.Passing.{HavePassed}
 use Rattle.nm_calls.proofs.passes.make_passes.Given as goal

@@ -1,5 +1,5 @@
 use Rattle.std.proofs.Common.{◌≡◌, ◌≤◌, length, take, vec_capacity}
-use Rattle.nm_calls.specs.Passes.{without_frame}
+use Rattle.nm_calls.specs.definitions.Passes.{without_frame}
 use Rattle.nm_calls.proofs.passes.put_without_frame.Given as goal
 
 abbrev pub invariant-loop-k : goal.invariant-loop-k

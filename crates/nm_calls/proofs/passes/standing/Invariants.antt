@@ -1,5 +1,5 @@
 use Rattle.std.proofs.Common.{take}
-use Rattle.nm_calls.specs.Full.{StandAmong, EachHasSome}
+use Rattle.nm_calls.specs.laws.Full.{StandAmong, EachHasSome}
 use Rattle.nm_calls.proofs.passes.standing.Given as goal
 
 abbrev pub invariant-loop-page : goal.invariant-loop-page

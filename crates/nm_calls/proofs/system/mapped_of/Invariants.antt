@@ -1,5 +1,5 @@
 use Rattle.std.proofs.Common.{◌≡◌, take}
-use Rattle.nm_calls.specs.Entries.{entries_mapped, entries_shown}
+use Rattle.nm_calls.specs.definitions.Entries.{entries_mapped, entries_shown}
 use Rattle.nm_calls.proofs.system.mapped_of.Given as goal
 
 abbrev pub invariant-loop-vpn : goal.invariant-loop-vpn

@@ -1,5 +1,5 @@
 use Rattle.std.proofs.Common.{◌≡◌, take}
-use Rattle.nm_calls.specs.Outcome.{statuses_of}
+use Rattle.nm_calls.specs.definitions.Outcome.{statuses_of}
 use Rattle.nm_calls.proofs.system.statuses_of.Given as goal
 
 abbrev pub invariant-loop-address : goal.invariant-loop-address

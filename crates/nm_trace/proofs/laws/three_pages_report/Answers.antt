@@ -1,7 +1,7 @@
 use Rattle.std.proofs.Common.{refl}
 use Rattle.std.specs.Fmt.{digits}
 use Rattle.hex.specs.Hex.{encode_with}
-use Rattle.nm_calls.specs.Outcome.{refused, ended, runs_asked, accesses_asked, start}
+use Rattle.nm_calls.specs.definitions.Outcome.{refused, ended, runs_asked, accesses_asked, start}
 use Rattle.nm_trace.specs.Report.{answer_text, line_of, text_of}
 use Rattle.nm_trace.proofs.laws.three_pages_report.Goals as goal
 

@@ -3,8 +3,8 @@ use Rattle.std.proofs.lemmas.List.{length-map}
 use Rattle.std.specs.Fmt.{signed_decimal}
 use Rattle.std.specs.List.{flat_map}
 use Rattle.std.specs.Prelude.{codes}
-use Rattle.nm_calls.specs.Maps.{lines_shown}
-use Rattle.nm_calls.specs.Views.{answer_of}
+use Rattle.nm_calls.specs.definitions.Maps.{lines_shown}
+use Rattle.nm_calls.specs.views.Answers.{answer_of}
 use Rattle.nm_trace.specs.Report.{answer_text, spaced, entry_text}
 use Rattle.nm_trace.proofs.Waits.{put_is, put_more}
 use Rattle.nm_trace.proofs.text.push_answer.Goals as goal

@@ -1,5 +1,5 @@
 use Rattle.std.proofs.Common.{arith}
-use Rattle.nm_calls.specs.Outcome.{refused, refused_at_once, ended, runs_asked, start, sets_policy, accesses_asked}
+use Rattle.nm_calls.specs.definitions.Outcome.{refused, refused_at_once, ended, runs_asked, start, sets_policy, accesses_asked}
 use Rattle.nm_calls.proofs.Outcomes.{answers, refuses, unchanged}
 use Rattle.nm_calls.proofs.system.System.map.Goals as goal
 

@@ -1,13 +1,13 @@
 use Rattle.std.proofs.Common.{◌≡◌, ℕ, Some, subst}
 use Rattle.nm_model.specs.definitions.Effect.{set_policy}
-use Rattle.nm_calls.specs.declared.binding.Binding.{Binding}
+use Rattle.nm_calls.specs.declared.mbind.Binding.{Binding}
 use Rattle.nm_steps.specs.Calls.{Mbind}
-use Rattle.nm_calls.specs.Answers.{Failed}
-use Rattle.nm_calls.specs.Systems.{SystemState, in_state}
-use Rattle.nm_calls.specs.Binding.{mbind_runs}
-use Rattle.nm_calls.specs.Does.{Does}
-use Rattle.nm_calls.specs.Making.{Binds}
-use Rattle.nm_calls.specs.Binding.{mbind_refusal}
+use Rattle.nm_calls.specs.definitions.Answers.{Failed}
+use Rattle.nm_calls.specs.definitions.Systems.{SystemState, in_state}
+use Rattle.nm_calls.specs.definitions.Mbind.{mbind_runs}
+use Rattle.nm_calls.specs.definitions.Does.{Does}
+use Rattle.nm_calls.specs.views.Runs.{Binds}
+use Rattle.nm_calls.specs.definitions.Mbind.{mbind_refusal}
 use Rattle.nm_calls.proofs.Bound.{binds_does, refuses_mbind}
 use Rattle.nm_calls.proofs.system.System.mbind.Goals as goal
 

@@ -1,9 +1,9 @@
 use Rattle.std.proofs.Common.{◌≡◌, sym, subst, ◌∙◌}
 use Rattle.nm_steps.specs.Calls.{Offline}
-use Rattle.nm_calls.specs.Answers.{Done}
-use Rattle.nm_calls.specs.Systems.{SystemState, in_state}
-use Rattle.nm_calls.specs.Outcome.{outcome}
-use Rattle.nm_calls.specs.Does.{Does}
+use Rattle.nm_calls.specs.definitions.Answers.{Done}
+use Rattle.nm_calls.specs.definitions.Systems.{SystemState, in_state}
+use Rattle.nm_calls.specs.definitions.Outcome.{outcome}
+use Rattle.nm_calls.specs.definitions.Does.{Does}
 use Rattle.nm_calls.proofs.Emptied.{empties_does, stays_offline}
 use Rattle.nm_calls.proofs.system.System.offline.Goals as goal
 

@@ -1,5 +1,0 @@
-use Rattle.std.proofs.Common.{rules}
-use Rattle.nm_calls.proofs.migrating.targets_of.Goals as goal
-
-pub returns-clause-targets : goal.returns-clause-targets
-returns-clause-targets g c = search rules

@@ -1,0 +1,21 @@
+use Rattle.std.proofs.Common.{◌≡◌, ◌-◌, length, take, drop, refl, sym, ap, subst, ◌∙◌, arith, take_all, length-drop}
+use Rattle.std.specs.Str.{IsUtf8}
+use Rattle.nm_calls.specs.definitions.Maps.{address_text}
+use Rattle.nm_calls.proofs.Texts.{filled_is, address_utf8}
+use Rattle.nm_calls.proofs.number_text.write_address.Goals as goal
+
+pub unreachable-requires : goal.unreachable-requires
+unreachable-requires c =
+    let w = c.write_digits-start in
+    let from = c.min-from.result in
+    let all : take (length w.new.text - from) (drop from w.new.text) ≡ drop from w.new.text = take_all (length w.new.text - from) (drop from w.new.text) (omega (arith, length-drop from w.new.text)) in
+    let is = filled_is c.number.result w.result from w.new.text _ w.array_long refl w.ensures.within c.min-from.ensures w.ensures.before w.ensures.written in
+    c.in_default.ensures.cases.0 (subst IsUtf8 (sym (all ∙ is)) (address_utf8 c.number.result))
+
+pub returns : goal.returns
+returns c =
+    let w = c.write_digits-start in
+    let from = c.min-from.result in
+    let all : take (length w.new.text - from) (drop from w.new.text) ≡ drop from w.new.text = take_all (length w.new.text - from) (drop from w.new.text) (omega (arith, length-drop from w.new.text)) in
+    let is = filled_is c.number.result w.result from w.new.text _ w.array_long refl w.ensures.within c.min-from.ensures w.ensures.before w.ensures.written in
+    c.in-Ok.ensures.cases.0 ∙ all ∙ is ∙ ap address_text c.number.ensures

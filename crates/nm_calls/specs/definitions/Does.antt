@@ -1,0 +1,52 @@
+-- How a contract states that a call's answer and effect are those of its definition.
+use Rattle.std.specs.Prelude.{◌≡◌, ◌⊎◌, ℕ, ◌<◌, ◌≤◌, ◌-◌, Bool, false, List, length, map, slice_index_or, None, Result, Ok, Err}
+use Rattle.std.specs.Map.{keys_of}
+use Rattle.nm_types.specs.declared.errno.Errno.{Errno}
+use Rattle.nm_types.specs.State.{State}
+use Rattle.nm_model.specs.definitions.Cut.{Stretch}
+use Rattle.nm_model.specs.definitions.Touch.{Access}
+use Rattle.nm_model.specs.definitions.Run.{runs_from, answer_of}
+use Rattle.nm_engine.specs.views.Accesses.{answer_shown}
+use Rattle.nm_calls.specs.declared.call_error.CallError.{CallError}
+use Rattle.nm_calls.specs.declared.call_error.CallError.TheVariants.{Refused, HostMemory}
+use Rattle.nm_calls.specs.declared.answer.Moved.{Moved}
+use Rattle.nm_steps.specs.Calls.{Call}
+use Rattle.nm_calls.specs.definitions.Answers.{Answer, Refusal}
+use Rattle.nm_calls.specs.definitions.Batch.{in_order}
+use Rattle.nm_calls.specs.definitions.Systems.{SystemState}
+use Rattle.nm_calls.specs.definitions.Outcome.{refused_at_once, outcome, sets_policy, runs_of, after_runs, states_from}
+
+-- a call that runs out of host memory leaves the system as it was, or as after some of its first runs with the policy
+-- set, but never after the last run
+abbrev pub LeavesSome : SystemState → Call → ℕ → Bool → SystemState → Type 0
+LeavesSome old call runs policy_set new =
+    ((runs ≡ 0) × (policy_set ≡ false) × (new ≡ old))
+    ⊎ ((runs < length (runs_of old call)) × (policy_set ≡ sets_policy call) × (new ≡ after_runs old call runs))
+
+-- ... and would not have been refused
+abbrev pub HostLeaves : SystemState → Call → ℕ → Bool → SystemState → Type 0
+HostLeaves old call runs policy_set new =
+    (refused_at_once old.state call ≡ None) × LeavesSome old call runs policy_set new
+
+-- the answer and the system after the call are as defined, whether or not it is refused; or the host is out of memory
+abbrev pub Does : {T : Type 0} → (T → Answer) → Result T CallError → SystemState → SystemState → Call → Type 0
+Does view (Ok value) old new call = outcome old call ≡ record { answer = view value; system = new }
+Does view (Err (Refused e)) old new call = outcome old call ≡ record { answer = Refusal e; system = new }
+Does view (Err (HostMemory runs policy_set)) old new call = HostLeaves old call runs policy_set new
+
+-- the answer and the system after a call that does not allocate are as defined, whether or not it is refused
+abbrev pub DoesOrRefuses : {T : Type 0} → (T → Answer) → Result T Errno → SystemState → SystemState → Call → Type 0
+DoesOrRefuses view (Ok value) old new call = outcome old call ≡ record { answer = view value; system = new }
+DoesOrRefuses view (Err e) old new call = outcome old call ≡ record { answer = Refusal e; system = new }
+
+-- the runs of a batch are made, each with its accesses; or the host runs out of memory for one of them, after those
+-- before it
+abbrev pub Moves : {A : Type 0} → Result (Moved A) CallError → State → State → List Stretch → List (ℕ × Access) → Type 0
+Moves (Ok moved) old new stretches during =
+    let made = runs_from 0 old stretches during in
+    (moved.statuses.items ≡ made.statuses) × (moved.failed ≡ answer_of made)
+    × (map answer_shown moved.answers.items ≡ in_order (keys_of during) made.answers) × (new ≡ made.state)
+Moves (Err (Refused e)) old new stretches during = ⊥
+Moves (Err (HostMemory runs policy_set)) old new stretches during =
+    (policy_set ≡ false) × (runs ≤ length stretches - 1)
+    × (new ≡ slice_index_or (states_from 0 old stretches during) runs old)

@@ -1,0 +1,5 @@
+-- Worked examples.
+pub mod DuringRows
+pub mod MbindRows
+pub mod MigrateRows
+pub mod OfflineRows

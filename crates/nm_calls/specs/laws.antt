@@ -1,0 +1,4 @@
+-- What holds of all calls.
+pub mod Calls
+pub mod Full
+pub mod Migrations

@@ -1,0 +1,105 @@
+-- The moves of a call, prepared before its first run, and their results.
+use Rattle.std.specs.Prelude.{◌≡◌, ◌⊎◌, ℕ, ◌+◌, ◌-◌, ◌^◌, ◌<◌, ◌≤◌, Bool, true, false, ◌&&◌, All, IfSome, List, [], ◌∷◌, length, slice_index_or, Result, Ok, Err}
+use Rattle.std.specs.List.{AllByRecursion}
+use Rattle.nm_types.specs.declared.area.Policy.{Policy}
+use Rattle.nm_types.specs.declared.area.Policy.TheVariants.{Default, Preferred, Bind, Interleave, Local}
+use Rattle.nm_types.specs.declared.errno.Errno.TheVariants.{Eio, Ebusy}
+use Rattle.nm_types.specs.State.{State}
+use Rattle.nm_model.specs.definitions.Cut.{Stretch, wanted_of}
+use Rattle.nm_model.specs.definitions.Cut.{cut_within}
+use Rattle.nm_model.specs.definitions.Run.{Ran, HasOneAll}
+use Rattle.nm_model.specs.definitions.Run.{runs_from}
+use Rattle.nm_model.specs.definitions.Effect.{set_online}
+use Rattle.nm_calls.specs.declared.mbind.Binding.{Binding}
+use Rattle.nm_calls.specs.declared.passes.Left.{Left}
+use Rattle.nm_calls.specs.declared.placement.Placement.{Placement}
+use Rattle.nm_calls.specs.declared.placement.Placement.TheVariants.{Passes, Turns}
+use Rattle.nm_calls.specs.declared.call_error.CallError.{CallError}
+use Rattle.nm_calls.specs.declared.call_error.CallError.TheVariants.{Refused, HostMemory}
+use Rattle.nm_calls.specs.definitions.Passes.{passes}
+use Rattle.nm_calls.specs.laws.Full.{HasFailed, AreStanding}
+use Rattle.nm_calls.specs.definitions.Mbind.{has_stray, tells_late}
+use Rattle.nm_calls.specs.definitions.Offline.{still_on}
+use Rattle.nm_calls.specs.definitions.Outcome.{states_of}
+
+-- the runs that these moves make
+abbrev pub runs_in : {A : Type 0} → ℕ → State → Placement A → List Stretch
+runs_in limit s (Passes nodes wanted) = passes limit s nodes.items wanted.items
+runs_in limit s (Turns requests) = cut_within limit requests.items
+
+-- the nodes are below a count and few, and the pages few
+abbrev pub CanGo : {A : Type 0} → ℕ → Placement A → Type 0
+CanGo count (Passes nodes wanted) =
+    All (λ n. n < count) nodes.items × (length nodes.items ≤ 64) × HasOneAll wanted.items × (length wanted.items ≤ 2 ^ 52)
+CanGo count (Turns requests) = AllByRecursion (λ e. e.target < count) requests.items × HasOneAll (wanted_of requests.items)
+
+-- the nodes that a policy names
+abbrev pub nodes_named : Policy → List ℕ
+nodes_named Default = []
+nodes_named (Preferred node) = node ∷ []
+nodes_named (Bind nodes) = nodes
+nodes_named (Interleave nodes) = nodes
+nodes_named Local = []
+
+-- the runs are made with this result; or the host runs out of memory for one of them, after those before it
+abbrev pub Batches : {T : Type 0} → Result T CallError → State → State → List Stretch → (T → Ran → Type 0) → Type 0
+Batches (Ok value) old new runs Gives = let made = runs_from 0 old runs [] in (new ≡ made.state) × Gives value made
+Batches (Err (Refused e)) old new runs Gives = ⊥
+Batches (Err (HostMemory k policy_set)) old new runs Gives =
+    (policy_set ≡ false) × (k ≤ length runs - 1) × (new ≡ slice_index_or (states_of old runs) k old)
+
+-- the host runs out of memory for one of these runs, after those before it; and whether a policy is set before them
+abbrev pub Stops : Bool → CallError → State → State → List Stretch → Type 0
+Stops set (Refused e) old new runs = ⊥
+Stops set (HostMemory k policy_set) old new runs =
+    (policy_set ≡ set) × (k < length runs) × (new ≡ slice_index_or (states_of old runs) k old)
+
+-- the runs are made, or the host runs out of memory for one of them; and whether a policy is set before them
+abbrev pub MakesRuns : {T : Type 0} → Bool → Result T CallError → State → State → List Stretch → Type 0
+MakesRuns set (Ok done) old new runs = new ≡ (runs_from 0 old runs []).state
+MakesRuns set (Err e) old new runs = Stops set e old new runs
+
+-- the same error after `made` more runs, with the policy set or not; a refusal is unchanged
+abbrev pub later : CallError → ℕ → Bool → CallError
+later (Refused e) made set = Refused e
+later (HostMemory k policy_set) made set = HostMemory (made + k) set
+
+-- the sum of `made` and the runs of the error does not overflow
+abbrev pub IsCounted : CallError → ℕ → Type 0
+IsCounted (Refused e) made = Unit {0}
+IsCounted (HostMemory k policy_set) made = made + k < 2 ^ 64
+
+-- a page does not follow after the moves; or the host runs out of memory, before the policy is set or for one of the
+-- runs
+abbrev pub Fails : CallError → State → State → State → Binding → List Stretch → ℕ → Type 0
+Fails (Refused e) old set new b runs flags =
+    let made = runs_from 0 set runs [] in
+    ((tells_late flags && has_stray old made.state b) ≡ true) × (e ≡ Eio) × (new ≡ made.state)
+Fails (HostMemory k policy_set) old set new b runs flags =
+    ((k ≡ 0) × (policy_set ≡ false) × (new ≡ old)) ⊎ Stops true (HostMemory k policy_set) set new runs
+
+-- the result of a call whose arguments are not refused
+abbrev pub Binds : {T : Type 0} → Result T CallError → State → State → State → Binding → List Stretch → ℕ → Type 0
+Binds (Ok done) old set new b runs flags =
+    let made = runs_from 0 set runs [] in
+    ((tells_late flags && has_stray old made.state b) ≡ false) × (new ≡ made.state)
+Binds (Err e) old set new b runs flags = Fails e old set new b runs flags
+
+-- a page stays; or the host runs out of memory, before the first run or for one of the runs
+abbrev pub Keeps : CallError → State → State → ℕ → List Stretch → Type 0
+Keeps (Refused e) old new node runs =
+    let made = runs_from 0 old runs [] in (still_on old made.state node ≡ true) × (e ≡ Ebusy) × (new ≡ made.state)
+Keeps (HostMemory k policy_set) old new node runs =
+    ((k ≡ 0) × (policy_set ≡ false) × (new ≡ old)) ⊎ Stops false (HostMemory k policy_set) old new runs
+
+-- the result of emptying a node: it is offline, or still online
+abbrev pub Empties : {T : Type 0} → Result T CallError → State → State → ℕ → List Stretch → Type 0
+Empties (Ok done) old new node runs =
+    let made = runs_from 0 old runs [] in
+    (still_on old made.state node ≡ false) × (new ≡ set_online made.state node false)
+Empties (Err e) old new node runs = Keeps e old new node runs
+
+-- what is known of the pages left: a pass has found no free frame for them, and they are on these nodes
+abbrev pub IsLeft : {A : Type 0} → State → Left A → Type 0
+IsLeft s left =
+    (left.tried ≡ true → HasFailed s left.wanted.items) × IfSome left.standing (λ nodes. AreStanding s nodes left.wanted.items)

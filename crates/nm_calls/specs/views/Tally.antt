@@ -1,0 +1,29 @@
+-- The counts of an area's pages, as text.
+use Rattle.std.specs.Prelude.{ℕ, Bool, List, [], ◌++◌, codes, decimal, slice_index, ◌==◌, if◌then◌else◌}
+use Rattle.std.specs.List.{flat_map}
+use Rattle.nm_types.specs.Nodes.{up_from}
+use Rattle.nm_calls.specs.declared.maps.Tally.{Tally}
+use Rattle.nm_calls.specs.definitions.Maps.{told_from}
+
+-- a comma, if it is wanted
+abbrev pub comma : Bool → List ℕ
+comma wanted = if wanted then codes "," else []
+
+-- how many pages are on a node, if any are
+abbrev pub told_on : ℕ → ℕ → List ℕ
+told_on node pages = told_from 1 (codes " N" ++ decimal node ++ codes "=") pages
+
+-- how many pages are on each of the first nodes, where any are
+abbrev pub nodes_text : List ℕ → ℕ → List ℕ
+nodes_text on count =
+    flat_map (λ node. told_on node (slice_index on node)) (up_from 0 count)
+
+-- how many pages there are, the greatest number of processes that see one, and the nodes that they are on
+abbrev pub counts_text : ℕ → ℕ → List ℕ → List ℕ
+counts_text pages most nodes =
+    if pages == 0 then []
+    else (codes " anon=" ++ decimal pages) ++ told_from 2 (codes " mapmax=") most ++ nodes ++ codes " kernelpagesize_kB=4"
+
+-- the counts, if there are pages
+abbrev pub tally_text : Tally → ℕ → List ℕ
+tally_text t nodes = counts_text t.pages t.most (nodes_text t.on nodes)

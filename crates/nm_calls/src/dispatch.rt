@@ -1,0 +1,245 @@
+//! Making calls that are given as values.
+
+ghost use Rattle.std.specs.Prelude.{map};
+ghost use Rattle.nm_engine.specs.views.Accesses.{answer_shown};
+ghost use Rattle.nm_steps.specs.Calls as calls;
+ghost use Rattle.nm_calls.specs.definitions.Answers as answers;
+ghost use Rattle.nm_calls.specs.definitions.Does.{Does};
+ghost use Rattle.nm_steps.specs.Views.{shown_during, call_of};
+ghost use Rattle.nm_calls.specs.views.Answers.{answer_of};
+
+use crate::answer::{Answer, Moved};
+use crate::call_error::CallError;
+use crate::system::System;
+use nm_crew::Gate;
+use nm_steps::{
+    Attachment, Batch, Call, MbindRequest, MigrateRequest, MoveRequest, NewArea, NewProcess,
+    Question,
+};
+use nm_types::NodeId;
+use std::alloc::Allocator;
+use std::sync::Wait;
+use std::thread::Threads;
+
+/// Makes a process.
+fn spawn<A: Allocator + Copy + Send + Sync>(
+    system: &mut System<A>,
+    process: &NewProcess,
+) -> Result<Answer<A>, CallError>
+    ensures { Does answer_of result system.old system.new
+        (calls.Spawn process.now.pid process.now.uid process.now.home process.now.allowed process.now.privileged) }
+{
+    let NewProcess {
+        pid,
+        uid,
+        home,
+        allowed,
+        privileged,
+    } = process;
+    system.spawn(*pid, *uid, *home, *allowed, *privileged)?;
+    Ok(Answer::Done)
+}
+
+/// Makes an area over a new segment.
+fn map<A: Allocator + Copy + Send + Sync>(
+    system: &mut System<A>,
+    area: &NewArea,
+) -> Result<u32, CallError>
+    ensures { Does answers.NewSegment result system.old system.new
+        (calls.MapPages area.now.pid area.now.addr area.now.pages area.now.shared) }
+{
+    let NewArea {
+        pid,
+        addr,
+        pages,
+        shared,
+    } = area;
+    system.map(*pid, *addr, *pages, *shared)
+}
+
+/// Makes an area over a range of a shared segment.
+fn attach<A: Allocator + Copy + Send + Sync>(
+    system: &mut System<A>,
+    area: &Attachment,
+) -> Result<Answer<A>, CallError>
+    ensures { Does answer_of result system.old system.new
+        (calls.Attach area.now.pid area.now.addr area.now.segment area.now.offset area.now.pages) }
+{
+    let Attachment {
+        pid,
+        addr,
+        segment,
+        offset,
+        pages,
+    } = area;
+    system.attach(*pid, *addr, *segment, *offset, *pages)?;
+    Ok(Answer::Done)
+}
+
+/// Moves pages.
+fn move_pages<R: Threads + Wait + Sync, A: Allocator + Copy + Send + Sync, G: Gate + Sync>(
+    rt: &R,
+    system: &mut System<A>,
+    request: &MoveRequest<A>,
+    gate: &G,
+) -> Result<Moved<A>, CallError>
+    ensures { Does (λ moved. answers.Statuses moved.failed moved.statuses.items (map answer_shown moved.answers.items)) result system.old system.new
+        (calls.MovePages request.now.caller request.now.pid request.now.batch.pages.items request.now.batch.nodes.items request.now.flags (shown_during request.now.during.items)) }
+{
+    let MoveRequest {
+        caller,
+        pid,
+        batch,
+        flags,
+        during,
+    } = request;
+    let Batch { pages, nodes } = batch;
+    system.move_pages(
+        rt,
+        *caller,
+        *pid,
+        pages.as_slice(),
+        nodes.as_slice(),
+        *flags,
+        during.as_slice(),
+        gate,
+    )
+}
+
+/// Moves a process's pages from nodes to nodes.
+fn migrate_pages<R: Threads + Wait + Sync, A: Allocator + Copy + Send + Sync, G: Gate + Sync>(
+    rt: &R,
+    system: &mut System<A>,
+    request: &MigrateRequest,
+    gate: &G,
+) -> Result<usize, CallError>
+    ensures { Does answers.Failed result system.old system.new
+        (calls.MigratePages request.now.caller request.now.pid request.now.old request.now.new) }
+{
+    let MigrateRequest {
+        caller,
+        pid,
+        old,
+        new,
+    } = request;
+    system.migrate_pages(rt, *caller, *pid, *old, *new, gate)
+}
+
+/// Sets the policy of a range.
+fn mbind<R: Threads + Wait + Sync, A: Allocator + Copy + Send + Sync, G: Gate + Sync>(
+    rt: &R,
+    system: &mut System<A>,
+    request: &MbindRequest,
+    gate: &G,
+) -> Result<Answer<A>, CallError>
+    ensures { Does answer_of result system.old system.new
+        (calls.Mbind request.now.caller request.now.addr request.now.len request.now.mode request.now.nodes request.now.flags) }
+{
+    let MbindRequest {
+        caller,
+        addr,
+        len,
+        mode,
+        nodes,
+        flags,
+    } = request;
+    system.mbind(rt, *caller, *addr, *len, *mode, *nodes, *flags, gate)?;
+    Ok(Answer::Failed(0))
+}
+
+/// Takes a node offline.
+fn offline<R: Threads + Wait + Sync, A: Allocator + Copy + Send + Sync, G: Gate + Sync>(
+    rt: &R,
+    system: &mut System<A>,
+    node: NodeId,
+    gate: &G,
+) -> Result<Answer<A>, CallError>
+    ensures { Does answer_of result system.old system.new (calls.Offline node) }
+{
+    system.offline(rt, node, gate)?;
+    Ok(Answer::Done)
+}
+
+/// Brings a node online.
+fn online<A: Allocator + Copy + Send + Sync>(
+    system: &mut System<A>,
+    node: NodeId,
+) -> Result<Answer<A>, CallError>
+    ensures { Does answer_of result system.old system.new (calls.Online node) }
+{
+    system.online(node)?;
+    Ok(Answer::Done)
+}
+
+/// Reports where pages are.
+fn query<A: Allocator + Copy + Send + Sync>(
+    system: &System<A>,
+    question: &Question<A>,
+) -> Result<Moved<A>, CallError>
+    ensures { Does (λ moved. answers.Statuses moved.failed moved.statuses.items (map answer_shown moved.answers.items)) result system.now system.now
+        (calls.Query question.now.caller question.now.pid question.now.pages.items question.now.flags) }
+{
+    let Question {
+        caller,
+        pid,
+        pages,
+        flags,
+    } = question;
+    Ok(Moved {
+        failed: 0,
+        statuses: system.query(*caller, *pid, pages.as_slice(), *flags)?,
+        answers: Vec::new(system.allocator()),
+    })
+}
+
+impl<A: Allocator + Copy + Send + Sync> System<A> {
+    /// Makes a call that is given as a value. It returns the same errors as the method of the same name, and leaves the
+    /// same state if the host is out of memory. The workers of a call that moves pages call the gate.
+    pub fn call<R: Threads + Wait + Sync, G: Gate + Sync>(
+        &mut self,
+        rt: &R,
+        call: &Call<A>,
+        gate: &G,
+    ) -> Result<Answer<A>, CallError>
+        ensures { Does answer_of result self.old self.new (call_of call.now) }
+    {
+        match call {
+            Call::Spawn(process) => spawn(self, process),
+            Call::Map(area) => Ok(Answer::Segment(map(self, area)?)),
+            Call::Attach(area) => attach(self, area),
+            Call::Unmap { pid, addr, pages } => {
+                self.unmap(*pid, *addr, *pages)?;
+                Ok(Answer::Done)
+            }
+            Call::Exit { pid } => {
+                self.exit(*pid)?;
+                Ok(Answer::Done)
+            }
+            Call::Pin { pid, addr } => {
+                self.pin(*pid, *addr)?;
+                Ok(Answer::Done)
+            }
+            Call::Unpin { pid, addr } => {
+                self.unpin(*pid, *addr)?;
+                Ok(Answer::Done)
+            }
+            Call::Read { pid, addr, len } => Ok(Answer::Bytes(self.read(*pid, *addr, *len)?)),
+            Call::Write { pid, addr, bytes } => {
+                self.write(*pid, *addr, bytes.as_slice())?;
+                Ok(Answer::Done)
+            }
+            Call::MovePages(request) => Ok(Answer::Statuses(move_pages(rt, self, request, gate)?)),
+            Call::MigratePages(request) => Ok(Answer::Failed(migrate_pages(
+                rt, self, request, gate,
+            )?)),
+            Call::Mbind(request) => mbind(rt, self, request, gate),
+            Call::Offline { node } => offline(rt, self, *node, gate),
+            Call::Online { node } => online(self, *node),
+            Call::Query(question) => Ok(Answer::Statuses(query(self, question)?)),
+            Call::FreeList { node } => Ok(Answer::Frames(self.free_list(*node)?)),
+            Call::Pagemap { pid } => Ok(Answer::Entries(self.pagemap(*pid)?)),
+            Call::Vmstat => Ok(Answer::Totals(self.vmstat())),
+            Call::NumaMaps { pid } => Ok(Answer::Lines(self.numa_maps(*pid)?)),
+        }
+    }
+}

@@ -1,0 +1,288 @@
+//! The policy of a range, as mbind(2) sets it: what is refused, and what is done in which order.
+
+ghost use Rattle.std.specs.Prelude.{◌≡◌, ◌+◌, ◌-◌, ◌^◌, ◌<◌, ◌≤◌, ◌&&◌, not, IfOk, None, length, true};
+ghost use Rattle.std.specs.List.{AllByRecursion, list_any};
+ghost use Rattle.nm_types.specs.Layout.{node_count};
+ghost use Rattle.nm_runs.specs.Targets.{Checks};
+ghost use Rattle.nm_model.specs.definitions.Effect.{policy_refusal, set_policy};
+ghost use Rattle.nm_calls.specs.definitions.Permission.{info_at};
+ghost use Rattle.nm_calls.specs.definitions.Permission.{usable};
+ghost use Rattle.nm_calls.specs.definitions.Mbind.{preferred, policy_of, policy_asked, is_misfit, is_bad_set, moves, stray_pages, is_stray, mode_refusal, range_of, range_refusal, home_of, is_strict, listed, mbind_runs, mbind_refusal, binding};
+ghost use Rattle.nm_calls.specs.views.Runs.{nodes_named, Binds};
+
+use crate::call_error::CallError;
+use crate::permission::usable;
+use crate::placement::{make, way_of};
+use crate::stray_pages::{astray, some_stray, stray_from};
+use nm_crew::{Crew, Gate};
+use nm_engine::{Located, Machine, ProcessInfo};
+use nm_types::limits::PAGE_BYTES;
+use nm_types::{Errno, MoveFlags, NodeId, NodeMask, Pid, Policy, Vpn};
+use std::alloc::{AllocError, Allocator};
+use std::sync::Wait;
+use std::thread::Threads;
+
+// The modes of mbind(2), by their numbers.
+const MPOL_DEFAULT: u32 = 0;
+
+const MPOL_PREFERRED: u32 = 1;
+
+const MPOL_BIND: u32 = 2;
+
+const MPOL_INTERLEAVE: u32 = 3;
+
+const MPOL_LOCAL: u32 = 4;
+
+/// A range of a process's page numbers, and the policy that it gets.
+#[derive(Clone, Copy)]
+pub(crate) struct Binding {
+    /// The process's number.
+    pub(crate) pid: Pid,
+    /// The first page number.
+    pub(crate) first: Vpn,
+    /// The page number after the last.
+    pub(crate) end: Vpn,
+    /// The policy.
+    pub(crate) policy: Policy,
+}
+
+/// The lowest node is preferred, or the nearest if there is none.
+fn preferred(nodes: NodeMask) -> Policy
+    ensures { result ≡ preferred nodes }
+{
+    match nodes.nth(0) {
+        Some(node) => Policy::Preferred(node),
+        None => Policy::Local,
+    }
+}
+
+/// The policy of a mode and a set of nodes.
+fn policy_of(mode: u32, nodes: NodeMask) -> Policy
+    ensures { result ≡ policy_of mode nodes }
+{
+    if mode == MPOL_PREFERRED {
+        preferred(nodes)
+    } else if mode == MPOL_BIND {
+        Policy::Bind(nodes)
+    } else if mode == MPOL_INTERLEAVE {
+        Policy::Interleave(nodes)
+    } else if mode == MPOL_LOCAL {
+        Policy::Local
+    } else {
+        Policy::Default
+    }
+}
+
+/// Whether a mode takes this set of nodes: MPOL_DEFAULT and MPOL_LOCAL take none, MPOL_BIND and MPOL_INTERLEAVE need at
+/// least one.
+fn fits(mode: u32, nodes: NodeMask) -> bool
+    ensures { result ≡ not (is_misfit mode nodes) }
+{
+    if nodes.is_empty() {
+        mode != MPOL_BIND && mode != MPOL_INTERLEAVE
+    } else {
+        mode != MPOL_DEFAULT && mode != MPOL_LOCAL
+    }
+}
+
+/// What a caller asks for with a mode, a set of nodes and flags.
+#[derive(Clone, Copy)]
+pub(crate) struct Asked {
+    /// The policy, with the nodes that it keeps: those that are online and that the caller may use.
+    pub(crate) policy: Policy,
+    /// The caller's home node.
+    pub(crate) home: NodeId,
+    /// The flags.
+    pub(crate) flags: MoveFlags,
+}
+
+/// Whether a mode is unknown, nodes do not fit it, one of them is not in the machine, or none of them is online and
+/// allowed.
+fn is_bad_set<A: Allocator + Copy + Send + Sync>(
+    machine: &Machine<A>,
+    allowed: NodeMask,
+    mode: u32,
+    nodes: NodeMask,
+) -> bool
+    ensures { result ≡ is_bad_set machine.now allowed mode nodes }
+{
+    if mode > MPOL_LOCAL || !fits(mode, nodes) || machine.names_missing_node(nodes) {
+        return true;
+    }
+    nodes.len() != 0 && usable(machine, allowed, nodes).len() == 0
+}
+
+/// What a caller asks for. Errors, in order: ESRCH (no such caller); EINVAL (an unknown flag or mode, nodes that do not
+/// fit the mode, a node that the machine does not have, no node that is online and allowed); EPERM (MPOL_MF_MOVE_ALL
+/// without privilege).
+fn asked_of<A: Allocator + Copy + Send + Sync>(
+    machine: &Machine<A>,
+    caller: Pid,
+    mode: u32,
+    nodes: NodeMask,
+    flags: u32,
+) -> Result<Asked, Errno>
+    // In any case
+    ensures exact { Checks result
+        (mode_refusal machine.now (info_at machine.now caller) mode nodes flags) }
+
+    // On success
+    ensures policy { IfOk result (λ asked. asked.policy ≡ policy_asked machine.now caller mode nodes) }
+    ensures home { IfOk result (λ asked. asked.home ≡ home_of (info_at machine.now caller)) }
+    ensures flags { IfOk result (λ asked. asked.flags ≡ flags) }
+    ensures nodes { IfOk result
+        (λ asked. AllByRecursion (λ n. n < node_count (machine.now.layout))
+        (nodes_named asked.policy)) }
+{
+    let Some(asking) = machine.process(caller) else {
+        return Err(Errno::Esrch);
+    };
+    let ProcessInfo {
+        allowed,
+        home,
+        privileged,
+        ..
+    } = asking;
+    let flags = MoveFlags::from_bits(flags).ok_or(Errno::Einval)?;
+    if is_bad_set(machine, allowed, mode, nodes) {
+        return Err(Errno::Einval);
+    }
+    if flags.moves_all() && !privileged {
+        return Err(Errno::Eperm);
+    }
+    Ok(Asked {
+        policy: policy_of(mode, usable(machine, allowed, nodes)),
+        home,
+        flags,
+    })
+}
+
+/// Whether flags ask for moves.
+fn wants_moves(flags: MoveFlags) -> bool
+    ensures { result ≡ moves flags }
+{
+    flags.moves() || flags.moves_all()
+}
+
+/// The range of a policy. Errors, in order: EINVAL and EFAULT as for `Machine::check_policy`; EIO (MPOL_MF_STRICT
+/// without a flag to move, and a page that the caller sees in the range is not where the policy wants it).
+fn binding_of<A: Allocator + Copy + Send + Sync>(
+    machine: &Machine<A>,
+    caller: Pid,
+    addr: u64,
+    len: u64,
+    policy: Policy,
+    flags: MoveFlags,
+) -> Result<Binding, Errno>
+    ensures exact { Checks result (range_refusal machine.now caller addr len policy flags) }
+    ensures range { IfOk result (λ b. b ≡ range_of caller addr len policy) }
+{
+    machine.check_policy(caller, addr, len)?;
+    let first = Vpn::of_address(addr);
+    let end = Vpn::new(first.number() + len.div_ceil(PAGE_BYTES as u64));
+    if flags.is_strict()
+        && !wants_moves(flags)
+        && stray_from(machine, caller, first, end, &policy).is_some()
+    {
+        return Err(Errno::Eio);
+    }
+    Ok(Binding {
+        pid: caller,
+        first,
+        end,
+        policy,
+    })
+}
+
+/// What a call asks for, and the range of its policy. Returns the errors of `asked_of`, then those of `binding_of`.
+pub(crate) fn ready<A: Allocator + Copy + Send + Sync>(
+    machine: &Machine<A>,
+    caller: Pid,
+    addr: u64,
+    len: u64,
+    mode: u32,
+    nodes: NodeMask,
+    flags: u32,
+) -> Result<(Asked, Binding), Errno>
+    // In any case
+    ensures exact { Checks result (mbind_refusal machine.now caller addr len mode nodes flags) }
+
+    // On success
+    ensures free { IfOk result (λ r. policy_refusal machine.now caller addr len ≡ None) }
+    ensures binding { IfOk result (λ r. r.1 ≡ binding machine.now caller addr len mode nodes) }
+    ensures home { IfOk result (λ r. r.0.home ≡ home_of (info_at machine.now caller)) }
+    ensures flags { IfOk result (λ r. r.0.flags ≡ flags) }
+    ensures nodes { IfOk result
+        (λ r. AllByRecursion (λ n. n < node_count (machine.now.layout)) (nodes_named r.1.policy)) }
+    ensures few { IfOk result (λ r. r.1.end - r.1.first ≤ 2 ^ 52) }
+{
+    let asked = asked_of(machine, caller, mode, nodes, flags)?;
+    let Asked { policy, flags, .. } = asked;
+    let binding = binding_of(machine, caller, addr, len, policy, flags)?;
+    Ok((asked, binding))
+}
+
+/// The pages to move: none without a flag to move.
+fn listed<A: Allocator + Copy + Send + Sync>(
+    alloc: A,
+    machine: &Machine<A>,
+    binding: &Binding,
+    flags: MoveFlags,
+) -> Result<Vec<Located, A>, AllocError>
+    ensures list { IfOk result (λ pages. pages.items ≡ listed machine.now binding.now flags) }
+    ensures few { IfOk result (λ pages. length pages.items ≤ binding.now.end - binding.now.first) }
+{
+    if wants_moves(flags) {
+        return astray(alloc, machine, *binding);
+    }
+    Ok(Vec::new(alloc))
+}
+
+/// Whether MPOL_MF_STRICT asks for an error because one of these pages is not where a policy wants it.
+fn is_late<A: Allocator + Copy + Send + Sync>(
+    machine: &Machine<A>,
+    policy: &Policy,
+    pages: &[Located],
+    flags: MoveFlags,
+) -> bool
+    ensures { result ≡ (is_strict flags && list_any (is_stray machine.now policy.now) pages.now) }
+{
+    flags.is_strict() && some_stray(machine, policy, pages)
+}
+
+/// Sets a policy and, if the flags ask for it, moves the pages of its range that are not where it wants them. The list
+/// of pages and their moves are prepared before the policy is set, so that memory for them cannot be refused after it.
+/// EIO if MPOL_MF_STRICT and a flag to move are given, and a page is not where the policy wants it after the moves,
+/// which remain.
+pub(crate) fn bind<R: Threads + Wait + Sync, A: Allocator + Copy + Send + Sync, G: Gate + Sync>(
+    crew: &Crew<R, G>,
+    alloc: A,
+    machine: &mut Machine<A>,
+    binding: &Binding,
+    asked: Asked,
+    addr: u64,
+    len: u64,
+    limit: usize,
+) -> Result<(), CallError>
+    requires some { 0 < limit }
+    requires free { policy_refusal machine.old binding.now.pid addr len ≡ None }
+    requires nodes { AllByRecursion (λ n. n < node_count (machine.old.layout))
+        (nodes_named binding.now.policy) }
+    requires home { asked.home ≡ home_of (info_at machine.old binding.now.pid) }
+    requires few { binding.now.end - binding.now.first ≤ 2 ^ 52 }
+    ensures { Binds result machine.old (set_policy machine.old binding.now.pid addr len binding.now.policy) machine.new binding.now
+        (mbind_runs limit (set_policy machine.old binding.now.pid addr len binding.now.policy) binding.now asked.flags) asked.flags }
+{
+    let Asked { home, flags, .. } = asked;
+    let all = flags.moves_all();
+    let pages = listed(alloc, machine, binding, flags)?;
+    let way = way_of(alloc, machine, home, binding, all, pages.as_slice())?;
+    machine.set_policy(binding.pid, addr, len, binding.policy)?;
+    if let Err(error) = make(crew, alloc, machine, way, limit) {
+        return Err(error);
+    }
+    if is_late(machine, &binding.policy, pages.as_slice(), flags) {
+        return Err(CallError::Refused(Errno::Eio));
+    }
+    Ok(())
+}

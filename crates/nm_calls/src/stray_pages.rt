@@ -1,0 +1,126 @@
+//! The pages of a range that are not where its policy wants them.
+
+ghost use Rattle.std.specs.Prelude.{◌≡◌, ◌+◌, ◌-◌, ◌<◌, ◌≤◌, not, [], ◌∷◌, IfOk, IfSome, IfNone, None, length};
+ghost use Rattle.std.specs.List.{filter, list_any};
+ghost use Rattle.nm_model.specs.definitions.Order.{follows};
+ghost use Rattle.nm_types.specs.Map.{same_page};
+ghost use Rattle.nm_calls.specs.definitions.Mbind.{strays_between, stray_pages, is_stray, binding};
+ghost use Rattle.nm_calls.specs.definitions.Migrate.{once};
+
+use crate::mbind::Binding;
+use nm_engine::{Located, Machine};
+use nm_policy::follows;
+use nm_types::{Pid, Policy, Vpn};
+use std::alloc::{AllocError, Allocator};
+use std::collections::BTreeSet;
+
+/// Whether a page is not where a policy wants it.
+fn is_astray(policy: &Policy, page: &Located) -> bool
+    ensures { result ≡ not (follows policy.now page.now.node) }
+{
+    !follows(*policy, page.node)
+}
+
+/// The first page that a process sees from one page number up to another that is not where a policy wants it. Does not
+/// allocate.
+pub(crate) fn stray_from<A: Allocator + Copy + Send + Sync>(
+    machine: &Machine<A>,
+    pid: Pid,
+    first: Vpn,
+    end: Vpn,
+    policy: &Policy,
+) -> Option<Located>
+    ensures some { IfSome result
+        (λ e. strays_between machine.now pid first end policy.now
+        ≡ e ∷ strays_between machine.now pid (e.vpn + 1) end policy.now) }
+    ensures none { IfNone result (strays_between machine.now pid first end policy.now ≡ []) }
+    ensures range { IfSome result (λ e. (first ≤ e.vpn) × (e.vpn < end)) }
+{
+    let mut at = first.number();
+    while let Some(found) = machine.page_from(pid, Vpn::new(at), end) {
+        if is_astray(policy, &found) {
+            return Some(found);
+        }
+        at = found.vpn.number() + 1;
+    }
+    None
+}
+
+/// Those of these pages that are not where a policy wants them.
+fn strays_among<A: Allocator + Copy>(
+    alloc: A,
+    policy: &Policy,
+    pages: &[Located],
+) -> Result<Vec<Located, A>, AllocError>
+    ensures { IfOk result
+        (λ is_stray. is_stray.items
+        ≡ filter (λ (page : Located). not (follows policy.now page.node)) pages.now) }
+{
+    pages
+        .iter()
+        .filter(|page| is_astray(policy, page))
+        .copied()
+        .collect(alloc)
+}
+
+/// The pages without repetition, each at its first place.
+fn once<A: Allocator + Copy>(alloc: A, pages: &[Located]) -> Result<Vec<Located, A>, AllocError>
+    ensures list { IfOk result
+        (λ all. all.items ≡ once (λ l m. same_page l.page m.page) pages.now) }
+    ensures few { IfOk result (λ all. length all.items ≤ length pages.now) }
+{
+    let mut seen = BTreeSet::new(alloc);
+    let mut all = Vec::new(alloc);
+    for page in pages {
+        if seen.insert(page.page)? {
+            all.push(*page)?;
+        }
+    }
+    Ok(all)
+}
+
+/// The pages that a process sees in a range that are not where the policy wants them, in address order, each at its
+/// lowest address. Walks once over what the process has in the range.
+pub(crate) fn astray<A: Allocator + Copy + Send + Sync>(
+    alloc: A,
+    machine: &Machine<A>,
+    binding: Binding,
+) -> Result<Vec<Located, A>, AllocError>
+    ensures list { IfOk result (λ pages. pages.items ≡ stray_pages machine.now binding) }
+    ensures few { IfOk result (λ pages. length pages.items ≤ binding.end - binding.first) }
+{
+    let Binding {
+        pid,
+        first,
+        end,
+        policy,
+    } = binding;
+    let found = machine.pages_between(pid, first, end)?;
+    let strays = strays_among(alloc, &policy, found.as_slice())?;
+    once(alloc, strays.as_slice())
+}
+
+/// Whether a page is not where a policy wants it, wherever it has moved since it was found.
+fn strays_now<A: Allocator + Copy + Send + Sync>(
+    machine: &Machine<A>,
+    policy: &Policy,
+    found: &Located,
+) -> bool
+    ensures { result ≡ is_stray machine.now policy.now found.now }
+{
+    match machine.node_of_page(found.page) {
+        Some(node) => !follows(*policy, node),
+        None => false,
+    }
+}
+
+/// Whether one of these pages is not where a policy wants it.
+pub(crate) fn some_stray<A: Allocator + Copy + Send + Sync>(
+    machine: &Machine<A>,
+    policy: &Policy,
+    pages: &[Located],
+) -> bool
+    ensures { result ≡ list_any (is_stray machine.now policy.now) pages.now }
+{
+    pages.iter().any(|found| strays_now(machine, policy, found))
+}
