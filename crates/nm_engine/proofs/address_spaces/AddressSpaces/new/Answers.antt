@@ -15,7 +15,7 @@ pub invariant_of-result : goal.invariant_of-result
 invariant_of-result g c =
     subst (λ (ts : Map ℕ Task). IsTied ts c.new-2.result c.in_ok-new.field-0) (sym c.new.ensures)
     (subst (λ (m : Mapped). IsTied [] m c.in_ok-new.field-0) (sym c.new-2.ensures)
-    (subst (λ (r : Mappers). IsTied [] no_areas r) (sym c.in_ok-new.ensures) (nothing_tied c.args.frames)))
+    (subst (λ (r : Mappers). IsTied [] no_areas r) (sym c.in_ok-new.ensures.ok) (nothing_tied c.args.frames)))
 
 pub returns-in_err-new : goal.returns-in_err-new
 returns-in_err-new g c = IfOk-from_err _ _ c.from_residual.ensures.0
@@ -24,5 +24,5 @@ pub returns : goal.returns
 returns g c =
     ap (λ (ts : Map ℕ Task). spaces_view ts c.new-2.result c.in_ok-new.field-0) c.new.ensures
     ∙ ap (λ (m : Mapped). spaces_view [] m c.in_ok-new.field-0) c.new-2.ensures
-    ∙ ap (λ (r : Mappers). spaces_view [] no_areas r) c.in_ok-new.ensures
+    ∙ ap (λ (r : Mappers). spaces_view [] no_areas r) c.in_ok-new.ensures.ok
     ∙ ap no_spaces (length-replicate {A = List (ℕ × ℕ)} c.args.frames [])
