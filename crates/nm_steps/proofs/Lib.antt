@@ -3,3 +3,4 @@ pub mod Utf8
 pub mod Least
 pub mod Trees
 pub mod Shorts
+pub mod Memory

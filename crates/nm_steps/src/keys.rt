@@ -1,11 +1,12 @@
 //! The values at the keys of a step, and the items of their lists.
 
-ghost use Rattle.std.specs.Prelude.{◌≡◌, ◌<◌, ◌^◌, IfOk, IfErr};
+ghost use Rattle.std.specs.Prelude.{◌≡◌, ◌<◌, ◌^◌, length, true, IfOk, IfErr};
 ghost use Rattle.nm_steps.specs.Tree.{items_seen};
 ghost use Rattle.nm_steps.specs.Form.{number_at, small_at, text_at, flag_at, set_at, hex_at, bytes_of};
 ghost use Rattle.nm_steps.specs.Form as form;
-ghost use Rattle.nm_steps.specs.declared.step_error.StepError.TheVariants.{Bad};
+ghost use Rattle.nm_steps.specs.declared.step_error.StepError.TheVariants.{Bad, Memory};
 ghost use Rattle.nm_steps.specs.Gives.{Gives};
+ghost use Rattle.nm_steps.specs.Memory.{has_items};
 
 use crate::json_value::JsonValue;
 use crate::step_error::StepError;
@@ -70,7 +71,9 @@ fn numbers_of<A: Allocator + Copy, V: JsonValue>(
     alloc: A,
     values: &[V],
 ) -> Result<Vec<u64, A>, StepError>
-    ensures { Gives (λ v. v.items) result (form.each form.number_of (items_seen V.as_data values.now)) }
+    ensures value { Gives (λ v. v.items) result
+        (form.each form.number_of (items_seen V.as_data values.now)) }
+    ensures asked { result ≡ Err Memory → 0 < length values.now }
 {
     let mut numbers = Vec::new(alloc);
     for value in values {
@@ -86,7 +89,9 @@ pub(crate) fn numbers<A: Allocator + Copy, V: JsonValue>(
     value: &V,
     key: &str,
 ) -> Result<Vec<u64, A>, StepError>
-    ensures { Gives (λ v. v.items) result (form.numbers_at key.now (V.as_data value.now)) }
+    ensures value { Gives (λ v. v.items) result (form.numbers_at key.now (V.as_data value.now)) }
+    ensures asked { result ≡ Err Memory →
+        has_items (form.items_at key.now (V.as_data value.now)) ≡ true }
 {
     numbers_of(alloc, list(value, key)?)
 }
@@ -104,8 +109,9 @@ fn smalls_of<A: Allocator + Copy, V: JsonValue>(
     alloc: A,
     values: &[V],
 ) -> Result<Vec<u32, A>, StepError>
-    ensures { Gives (λ v. v.items) result
+    ensures value { Gives (λ v. v.items) result
         (form.each (form.number_below (2 ^ 32)) (items_seen V.as_data values.now)) }
+    ensures asked { result ≡ Err Memory → 0 < length values.now }
 {
     let mut numbers = Vec::new(alloc);
     for value in values {
@@ -121,7 +127,9 @@ pub(crate) fn smalls<A: Allocator + Copy, V: JsonValue>(
     value: &V,
     key: &str,
 ) -> Result<Vec<u32, A>, StepError>
-    ensures { Gives (λ v. v.items) result (form.smalls_at key.now (V.as_data value.now)) }
+    ensures value { Gives (λ v. v.items) result (form.smalls_at key.now (V.as_data value.now)) }
+    ensures asked { result ≡ Err Memory →
+        has_items (form.items_at key.now (V.as_data value.now)) ≡ true }
 {
     smalls_of(alloc, list(value, key)?)
 }

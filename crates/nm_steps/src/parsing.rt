@@ -1,6 +1,7 @@
 //! Steps in JSON: the call that each asks for.
 
-ghost use Rattle.std.specs.Prelude.{◌≡◌, ◌<◌, ◌++◌, ◌∷◌, [], option_map, OnOk, IfErr, codes};
+ghost use Rattle.std.specs.Prelude.{◌≡◌, ◌<◌, ◌++◌, ◌∷◌, ◌||◌, [], length, true, option_map, OnOk, IfErr, codes};
+ghost use Rattle.std.specs.Str.{bytes_eq};
 ghost use Rattle.nm_steps.specs.Tree.{items_seen};
 ghost use Rattle.nm_model.specs.views.Asked.{access_shown};
 ghost use Rattle.nm_steps.specs.Calls as calls;
@@ -8,7 +9,8 @@ ghost use Rattle.nm_steps.specs.Form.{small_at, place_at};
 ghost use Rattle.nm_steps.specs.Form as form;
 ghost use Rattle.nm_steps.specs.Views.{call_of, shown_during};
 ghost use Rattle.nm_steps.specs.Gives.{Gives};
-ghost use Rattle.nm_steps.specs.declared.step_error.StepError.TheVariants.{Memory};
+ghost use Rattle.nm_steps.specs.Memory.{takes_memory, batch_has_items, has_items};
+ghost use Rattle.nm_steps.specs.declared.step_error.StepError.TheVariants.{Bad, Memory};
 
 use crate::call::{
     Attachment, Batch, Call, InFlight, MbindRequest, MigrateRequest, MoveRequest, NewArea,
@@ -27,7 +29,8 @@ use std::alloc::Allocator;
 fn read_access<A: Allocator + Copy + Send + Sync, V: JsonValue>(
     value: &V,
 ) -> Result<Access<A>, StepError>
-    ensures { Gives access_shown result (form.read_access (V.as_data value.now)) }
+    ensures access { Gives access_shown result (form.read_access (V.as_data value.now)) }
+    ensures bad { IfErr result (λ e. e ≡ Bad) }
 {
     Ok(Access::Read {
         pid: Pid::new(small(value, "pid")?),
@@ -58,7 +61,8 @@ fn access_named<A: Allocator + Copy + Send + Sync, V: JsonValue>(
     op: &str,
     value: &V,
 ) -> Result<Access<A>, StepError>
-    ensures { Gives access_shown result (form.access_named op.now (V.as_data value.now)) }
+    ensures access { Gives access_shown result (form.access_named op.now (V.as_data value.now)) }
+    ensures asked { result ≡ Err Memory → bytes_eq op.now (codes "write") ≡ true }
 {
     match op {
         "read" => read_access(value),
@@ -74,8 +78,11 @@ fn in_flight<A: Allocator + Copy + Send + Sync, V: JsonValue>(
     value: &V,
     runs: usize,
 ) -> Result<InFlight<A>, StepError>
-    ensures { Gives (λ d. (d.run, access_shown d.access)) result
+    ensures flight { Gives (λ d. (d.run, access_shown d.access)) result
         (form.in_flight runs (V.as_data value.now)) }
+    ensures asked { result ≡ Err Memory →
+        option_map (λ op. bytes_eq op (codes "write")) (form.text_at (codes "op") (V.as_data value.now))
+        ≡ Some true }
 {
     let run = number(value, "run")?;
     if run >= runs as u64 {
@@ -108,8 +115,9 @@ fn flights_of<A: Allocator + Copy + Send + Sync, V: JsonValue>(
     values: &[V],
     runs: usize,
 ) -> Result<Vec<InFlight<A>, A>, StepError>
-    ensures { Gives (λ v. shown_during v.items) result
+    ensures flights { Gives (λ v. shown_during v.items) result
         (form.each (form.in_flight runs) (items_seen V.as_data values.now)) }
+    ensures asked { result ≡ Err Memory → 0 < length values.now }
 {
     let mut flights = Vec::new(alloc);
     for value in values {
@@ -125,7 +133,10 @@ fn flights_at<A: Allocator + Copy + Send + Sync, V: JsonValue>(
     value: &V,
     runs: usize,
 ) -> Result<Vec<InFlight<A>, A>, StepError>
-    ensures { Gives (λ v. shown_during v.items) result (form.during_at runs (V.as_data value.now)) }
+    ensures flights { Gives (λ v. shown_during v.items) result
+        (form.during_at runs (V.as_data value.now)) }
+    ensures asked { result ≡ Err Memory →
+        has_items (form.items_at (codes "during") (V.as_data value.now)) ≡ true }
 {
     match value.get("during") {
         None => Ok(Vec::new(alloc)),
@@ -138,7 +149,8 @@ fn flights_at<A: Allocator + Copy + Send + Sync, V: JsonValue>(
 
 #[tactic(auto, unfolding(crate::specs::Form::spawn_of))]
 fn spawn<A: Allocator + Copy + Send + Sync, V: JsonValue>(value: &V) -> Result<Call<A>, StepError>
-    ensures { Gives call_of result (form.spawn_of (V.as_data value.now)) }
+    ensures call { Gives call_of result (form.spawn_of (V.as_data value.now)) }
+    ensures bad { IfErr result (λ e. e ≡ Bad) }
 {
     Ok(Call::Spawn(NewProcess {
         pid: Pid::new(small(value, "pid")?),
@@ -151,7 +163,8 @@ fn spawn<A: Allocator + Copy + Send + Sync, V: JsonValue>(value: &V) -> Result<C
 
 #[tactic(auto, unfolding(crate::specs::Form::map_of))]
 fn map<A: Allocator + Copy + Send + Sync, V: JsonValue>(value: &V) -> Result<Call<A>, StepError>
-    ensures { Gives call_of result (form.map_of (V.as_data value.now)) }
+    ensures call { Gives call_of result (form.map_of (V.as_data value.now)) }
+    ensures bad { IfErr result (λ e. e ≡ Bad) }
 {
     Ok(Call::Map(NewArea {
         pid: Pid::new(small(value, "pid")?),
@@ -163,7 +176,8 @@ fn map<A: Allocator + Copy + Send + Sync, V: JsonValue>(value: &V) -> Result<Cal
 
 #[tactic(auto, unfolding(crate::specs::Form::attach_of))]
 fn attach<A: Allocator + Copy + Send + Sync, V: JsonValue>(value: &V) -> Result<Call<A>, StepError>
-    ensures { Gives call_of result (form.attach_of (V.as_data value.now)) }
+    ensures call { Gives call_of result (form.attach_of (V.as_data value.now)) }
+    ensures bad { IfErr result (λ e. e ≡ Bad) }
 {
     Ok(Call::Attach(Attachment {
         pid: Pid::new(small(value, "pid")?),
@@ -176,7 +190,8 @@ fn attach<A: Allocator + Copy + Send + Sync, V: JsonValue>(value: &V) -> Result<
 
 #[tactic(auto, unfolding(crate::specs::Form::unmap_of))]
 fn unmap<A: Allocator + Copy + Send + Sync, V: JsonValue>(value: &V) -> Result<Call<A>, StepError>
-    ensures { Gives call_of result (form.unmap_of (V.as_data value.now)) }
+    ensures call { Gives call_of result (form.unmap_of (V.as_data value.now)) }
+    ensures bad { IfErr result (λ e. e ≡ Bad) }
 {
     Ok(Call::Unmap {
         pid: Pid::new(small(value, "pid")?),
@@ -186,8 +201,9 @@ fn unmap<A: Allocator + Copy + Send + Sync, V: JsonValue>(value: &V) -> Result<C
 }
 
 fn exit<A: Allocator + Copy + Send + Sync, V: JsonValue>(value: &V) -> Result<Call<A>, StepError>
-    ensures { Gives call_of result
+    ensures call { Gives call_of result
         (option_map calls.Exit (small_at (codes "pid") (V.as_data value.now))) }
+    ensures bad { IfErr result (λ e. e ≡ Bad) }
 {
     Ok(Call::Exit {
         pid: Pid::new(small(value, "pid")?),
@@ -195,8 +211,9 @@ fn exit<A: Allocator + Copy + Send + Sync, V: JsonValue>(value: &V) -> Result<Ca
 }
 
 fn pin<A: Allocator + Copy + Send + Sync, V: JsonValue>(value: &V) -> Result<Call<A>, StepError>
-    ensures { Gives call_of result
+    ensures call { Gives call_of result
         (option_map (λ (pid, addr). calls.Pin pid addr) (place_at (V.as_data value.now))) }
+    ensures bad { IfErr result (λ e. e ≡ Bad) }
 {
     Ok(Call::Pin {
         pid: Pid::new(small(value, "pid")?),
@@ -205,8 +222,9 @@ fn pin<A: Allocator + Copy + Send + Sync, V: JsonValue>(value: &V) -> Result<Cal
 }
 
 fn unpin<A: Allocator + Copy + Send + Sync, V: JsonValue>(value: &V) -> Result<Call<A>, StepError>
-    ensures { Gives call_of result
+    ensures call { Gives call_of result
         (option_map (λ (pid, addr). calls.Unpin pid addr) (place_at (V.as_data value.now))) }
+    ensures bad { IfErr result (λ e. e ≡ Bad) }
 {
     Ok(Call::Unpin {
         pid: Pid::new(small(value, "pid")?),
@@ -225,8 +243,9 @@ fn access_step<A: Allocator + Copy + Send + Sync>(access: Access<A>) -> Call<A>
 }
 
 fn read<A: Allocator + Copy + Send + Sync, V: JsonValue>(value: &V) -> Result<Call<A>, StepError>
-    ensures { Gives call_of result
+    ensures call { Gives call_of result
         (option_map form.access_step (form.read_access (V.as_data value.now))) }
+    ensures bad { IfErr result (λ e. e ≡ Bad) }
 {
     Ok(access_step(read_access(value)?))
 }
@@ -247,8 +266,9 @@ fn batch_of<A: Allocator + Copy + Send + Sync, V: JsonValue>(
     alloc: A,
     value: &V,
 ) -> Result<Batch<A>, StepError>
-    ensures { Gives (λ batch. (batch.pages.items, batch.nodes.items)) result
+    ensures batch { Gives (λ batch. (batch.pages.items, batch.nodes.items)) result
         (form.batch_of (V.as_data value.now)) }
+    ensures asked { result ≡ Err Memory → batch_has_items (V.as_data value.now) ≡ true }
 {
     let pages = numbers(alloc, value, "pages")?;
     let nodes = smalls(alloc, value, "nodes")?;
@@ -265,7 +285,10 @@ fn move_pages<A: Allocator + Copy + Send + Sync, V: JsonValue>(
     limit: usize,
 ) -> Result<Call<A>, StepError>
     requires { 0 < limit }
-    ensures { Gives call_of result (form.move_pages_of limit (V.as_data value.now)) }
+    ensures call { Gives call_of result (form.move_pages_of limit (V.as_data value.now)) }
+    ensures asked { result ≡ Err Memory →
+        (batch_has_items (V.as_data value.now)
+        || has_items (form.items_at (codes "during") (V.as_data value.now))) ≡ true }
 {
     let caller = small(value, "caller")?;
     let pid = small(value, "pid")?;
@@ -286,7 +309,8 @@ fn move_pages<A: Allocator + Copy + Send + Sync, V: JsonValue>(
 fn migrate_pages<A: Allocator + Copy + Send + Sync, V: JsonValue>(
     value: &V,
 ) -> Result<Call<A>, StepError>
-    ensures { Gives call_of result (form.migrate_pages_of (V.as_data value.now)) }
+    ensures call { Gives call_of result (form.migrate_pages_of (V.as_data value.now)) }
+    ensures bad { IfErr result (λ e. e ≡ Bad) }
 {
     Ok(Call::MigratePages(MigrateRequest {
         caller: Pid::new(small(value, "caller")?),
@@ -298,7 +322,8 @@ fn migrate_pages<A: Allocator + Copy + Send + Sync, V: JsonValue>(
 
 #[tactic(auto, unfolding(crate::specs::Form::mbind_of))]
 fn mbind<A: Allocator + Copy + Send + Sync, V: JsonValue>(value: &V) -> Result<Call<A>, StepError>
-    ensures { Gives call_of result (form.mbind_of (V.as_data value.now)) }
+    ensures call { Gives call_of result (form.mbind_of (V.as_data value.now)) }
+    ensures bad { IfErr result (λ e. e ≡ Bad) }
 {
     Ok(Call::Mbind(MbindRequest {
         caller: Pid::new(small(value, "caller")?),
@@ -311,8 +336,9 @@ fn mbind<A: Allocator + Copy + Send + Sync, V: JsonValue>(value: &V) -> Result<C
 }
 
 fn offline<A: Allocator + Copy + Send + Sync, V: JsonValue>(value: &V) -> Result<Call<A>, StepError>
-    ensures { Gives call_of result
+    ensures call { Gives call_of result
         (option_map calls.Offline (small_at (codes "node") (V.as_data value.now))) }
+    ensures bad { IfErr result (λ e. e ≡ Bad) }
 {
     Ok(Call::Offline {
         node: NodeId::new(small(value, "node")?),
@@ -320,8 +346,9 @@ fn offline<A: Allocator + Copy + Send + Sync, V: JsonValue>(value: &V) -> Result
 }
 
 fn online<A: Allocator + Copy + Send + Sync, V: JsonValue>(value: &V) -> Result<Call<A>, StepError>
-    ensures { Gives call_of result
+    ensures call { Gives call_of result
         (option_map calls.Online (small_at (codes "node") (V.as_data value.now))) }
+    ensures bad { IfErr result (λ e. e ≡ Bad) }
 {
     Ok(Call::Online {
         node: NodeId::new(small(value, "node")?),
@@ -333,7 +360,9 @@ fn query<A: Allocator + Copy + Send + Sync, V: JsonValue>(
     alloc: A,
     value: &V,
 ) -> Result<Call<A>, StepError>
-    ensures { Gives call_of result (form.query_of (V.as_data value.now)) }
+    ensures call { Gives call_of result (form.query_of (V.as_data value.now)) }
+    ensures asked { result ≡ Err Memory →
+        has_items (form.items_at (codes "pages") (V.as_data value.now)) ≡ true }
 {
     let caller = small(value, "caller")?;
     let pid = small(value, "pid")?;
@@ -351,8 +380,9 @@ fn query<A: Allocator + Copy + Send + Sync, V: JsonValue>(
 }
 
 fn free<A: Allocator + Copy + Send + Sync, V: JsonValue>(value: &V) -> Result<Call<A>, StepError>
-    ensures { Gives call_of result
+    ensures call { Gives call_of result
         (option_map calls.FreeList (small_at (codes "node") (V.as_data value.now))) }
+    ensures bad { IfErr result (λ e. e ≡ Bad) }
 {
     Ok(Call::FreeList {
         node: NodeId::new(small(value, "node")?),
@@ -360,8 +390,9 @@ fn free<A: Allocator + Copy + Send + Sync, V: JsonValue>(value: &V) -> Result<Ca
 }
 
 fn pagemap<A: Allocator + Copy + Send + Sync, V: JsonValue>(value: &V) -> Result<Call<A>, StepError>
-    ensures { Gives call_of result
+    ensures call { Gives call_of result
         (option_map calls.Pagemap (small_at (codes "pid") (V.as_data value.now))) }
+    ensures bad { IfErr result (λ e. e ≡ Bad) }
 {
     Ok(Call::Pagemap {
         pid: Pid::new(small(value, "pid")?),
@@ -369,7 +400,8 @@ fn pagemap<A: Allocator + Copy + Send + Sync, V: JsonValue>(value: &V) -> Result
 }
 
 fn vmstat<A: Allocator + Copy + Send + Sync, V: JsonValue>(value: &V) -> Result<Call<A>, StepError>
-    ensures { Gives call_of result (Some calls.Vmstat) }
+    ensures call { Gives call_of result (Some calls.Vmstat) }
+    ensures bad { IfErr result (λ e. e ≡ Bad) }
 {
     Ok(Call::Vmstat)
 }
@@ -377,8 +409,9 @@ fn vmstat<A: Allocator + Copy + Send + Sync, V: JsonValue>(value: &V) -> Result<
 fn numa_maps<A: Allocator + Copy + Send + Sync, V: JsonValue>(
     value: &V,
 ) -> Result<Call<A>, StepError>
-    ensures { Gives call_of result
+    ensures call { Gives call_of result
         (option_map calls.NumaMaps (small_at (codes "pid") (V.as_data value.now))) }
+    ensures bad { IfErr result (λ e. e ≡ Bad) }
 {
     Ok(Call::NumaMaps {
         pid: Pid::new(small(value, "pid")?),
@@ -393,7 +426,8 @@ fn named<A: Allocator + Copy + Send + Sync, V: JsonValue>(
     limit: usize,
 ) -> Result<Call<A>, StepError>
     requires { 0 < limit }
-    ensures { Gives call_of result (form.named limit op.now (V.as_data value.now)) }
+    ensures call { Gives call_of result (form.named limit op.now (V.as_data value.now)) }
+    ensures asked { result ≡ Err Memory → takes_memory op.now (V.as_data value.now) ≡ true }
 {
     match op {
         "spawn" => spawn(value),
@@ -427,7 +461,11 @@ pub fn step_of<A: Allocator + Copy + Send + Sync, V: JsonValue>(
     limit: usize,
 ) -> Result<Call<A>, StepError>
     requires { 0 < limit }
-    ensures { Gives call_of result (form.step_of limit (V.as_data value.now)) }
+    ensures call { Gives call_of result (form.step_of limit (V.as_data value.now)) }
+    ensures asked { result ≡ Err Memory →
+        option_map (λ op. takes_memory op (V.as_data value.now))
+        (form.text_at (codes "op") (V.as_data value.now))
+        ≡ Some true }
 {
     named(alloc, text(value, "op")?, value, limit)
 }

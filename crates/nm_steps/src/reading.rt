@@ -1,6 +1,6 @@
 //! Reading a trace from bytes.
 
-ghost use Rattle.std.specs.Prelude.{map, ◌≡◌, ◌<◌, ◌≤◌, ◌^◌, [], ◌∷◌, ◌++◌, IfOk, OnOk, IfErr, codes};
+ghost use Rattle.std.specs.Prelude.{map, ◌≡◌, ◌<◌, ◌≤◌, ◌^◌, [], ◌∷◌, ◌++◌, length, true, IfOk, OnOk, IfErr, codes};
 ghost use Rattle.nm_steps.specs.Calls.{default_limit};
 ghost use Rattle.nm_steps.specs.Views.{call_of};
 ghost use Rattle.std.specs.Option.{ok_or};
@@ -10,9 +10,11 @@ ghost use Rattle.nm_steps.specs.Form as form;
 ghost use Rattle.nm_steps.specs.Faults as faults;
 ghost use Rattle.nm_steps.specs.Faults.{Gives};
 ghost use Rattle.nm_steps.specs.Plans.{plan_in};
-ghost use Rattle.nm_steps.specs.declared.trace_error.TraceError.TheVariants.{NotJson, BadMachine};
-ghost use Rattle.nm_steps.specs.declared.step_error.StepError.TheVariants.{Bad};
+ghost use Rattle.nm_steps.specs.declared.trace_error.TraceError.TheVariants.{NotJson, BadMachine, HostMemory};
+ghost use Rattle.nm_steps.specs.declared.step_error.StepError.TheVariants.{Bad, Memory};
 ghost use Rattle.nm_steps.specs.Gives as of_step;
+ghost use Rattle.nm_steps.specs.Memory.{has_items, machine_has_items, trace_has_items};
+ghost use Rattle.serde_json.specs.Find.{as_array};
 
 use crate::call::Call;
 use crate::json_value::JsonValue;
@@ -42,8 +44,9 @@ fn distances_of<A: Allocator + Copy, V: JsonValue>(
     alloc: A,
     values: &[V],
 ) -> Result<Vec<u8, A>, StepError>
-    ensures { of_step.Gives (λ v. v.items) result
+    ensures row { of_step.Gives (λ v. v.items) result
         (form.each (form.number_below (2 ^ 8)) (items_seen V.as_data values.now)) }
+    ensures asked { result ≡ Err Memory → 0 < length values.now }
 {
     let mut row = Vec::new(alloc);
     for value in values {
@@ -55,7 +58,8 @@ fn distances_of<A: Allocator + Copy, V: JsonValue>(
 
 /// A row of distances.
 fn row_of<A: Allocator + Copy, V: JsonValue>(alloc: A, value: &V) -> Result<Vec<u8, A>, StepError>
-    ensures { of_step.Gives (λ v. v.items) result (form.row_of (V.as_data value.now)) }
+    ensures row { of_step.Gives (λ v. v.items) result (form.row_of (V.as_data value.now)) }
+    ensures asked { result ≡ Err Memory → has_items (as_array (V.as_data value.now)) ≡ true }
 {
     distances_of(alloc, value.as_array().ok_or(StepError::Bad)?)
 }
@@ -65,8 +69,9 @@ fn rows_of<A: Allocator + Copy, V: JsonValue>(
     alloc: A,
     values: &[V],
 ) -> Result<Vec<Vec<u8, A>, A>, StepError>
-    ensures { of_step.Gives (λ v. map (λ row. row.items) v.items) result
+    ensures rows { of_step.Gives (λ v. map (λ row. row.items) v.items) result
         (form.each form.row_of (items_seen V.as_data values.now)) }
+    ensures asked { result ≡ Err Memory → 0 < length values.now }
 {
     let mut rows = Vec::new(alloc);
     for value in values {
@@ -82,7 +87,8 @@ fn machine_of<A: Allocator + Copy, V: JsonValue>(
     alloc: A,
     value: &V,
 ) -> Result<Geometry<A>, StepError>
-    ensures { of_step.Gives (λ g. g) result (form.machine_of (V.as_data value.now)) }
+    ensures machine { of_step.Gives (λ g. g) result (form.machine_of (V.as_data value.now)) }
+    ensures asked { result ≡ Err Memory → machine_has_items (V.as_data value.now) ≡ true }
 {
     let machine = value.get("machine").ok_or(StepError::Bad)?;
     let sizes = smalls(alloc, machine, "nodes")?;
@@ -127,7 +133,7 @@ fn put<A: Allocator + Copy + Send + Sync>(
     call: Call<A>,
 ) -> Result<(), TraceError>
     ensures put { OnOk result (calls.new.items ≡ calls.old.items ++ call ∷ []) }
-    ensures fault { IfErr result (λ e. e ≡ TraceError.HostMemory 0) }
+    ensures fault { IfErr result (λ e. e ≡ HostMemory 0) }
 {
     match calls.push(call) {
         Ok(()) => Ok(()),
@@ -142,8 +148,9 @@ fn calls_of<A: Allocator + Copy + Send + Sync, V: JsonValue>(
     limit: usize,
 ) -> Result<Vec<Call<A>, A>, TraceError>
     requires { 0 < limit }
-    ensures { Gives (λ v. map call_of v.items) result
+    ensures calls { Gives (λ v. map call_of v.items) result
         (faults.calls_of limit (items_seen V.as_data values.now)) }
+    ensures asked { result ≡ Err (HostMemory 0) → 0 < length values.now }
 {
     let mut calls = Vec::new(alloc);
     for (k, value) in values.iter().enumerate() {
@@ -172,7 +179,9 @@ pub fn geometry_of<A: Allocator + Copy, V: JsonValue>(
     alloc: A,
     value: &V,
 ) -> Result<Geometry<A>, TraceError>
-    ensures { Gives (λ g. g) result (ok_or (form.machine_of (V.as_data value.now)) BadMachine) }
+    ensures machine { Gives (λ g. g) result
+        (ok_or (form.machine_of (V.as_data value.now)) BadMachine) }
+    ensures asked { result ≡ Err (HostMemory 0) → machine_has_items (V.as_data value.now) ≡ true }
 {
     machine_of(alloc, value).map_err(bad_machine)
 }
@@ -210,7 +219,8 @@ fn trace_of<A: Allocator + Copy + Send + Sync, V: JsonValue>(
     alloc: A,
     value: &V,
 ) -> Result<Trace<A>, TraceError>
-    ensures { Gives plan_in result (faults.plan_of (V.as_data value.now)) }
+    ensures trace { Gives plan_in result (faults.plan_of (V.as_data value.now)) }
+    ensures asked { result ≡ Err (HostMemory 0) → trace_has_items (V.as_data value.now) ≡ true }
 {
     let geometry = geometry_of(alloc, value)?;
     let run_limit = run_limit_of(value)?;
@@ -265,7 +275,9 @@ impl<A: Allocator + Copy + Send + Sync> Trace<A> {
     ///
     /// `HostMemory(0)` if `alloc` is out of memory.
     pub fn from_value(alloc: A, value: &serde_json::Value) -> Result<Trace<A>, TraceError>
-        ensures { Gives plan_in result (faults.plan_of (owned.view value.now)) }
+        ensures trace { Gives plan_in result (faults.plan_of (owned.view value.now)) }
+        ensures asked { result ≡ Err (HostMemory 0) →
+            trace_has_items (owned.view value.now) ≡ true }
     {
         trace_of(alloc, value)
     }

@@ -8,6 +8,6 @@ use Rattle.nm_steps.proofs.reading.calls_of.Goals as goal
 pub loop-k-preserved : goal.loop-k-preserved
 loop-k-preserved g c = record {
   read = rw (c.in_ok-put.ensures.put, map-append)
-      (goes_on (step_of c.args.limit) (map call_of c.loop-k.calls.items) g.V.JsonValue.as_data c.args.values.now c.loop-k.k c.index-values-k.result _ c.loop-k-test.true c.index-values-k.is (call_of c.in-Ok.call) c.in-Ok.ensures c.loop-k.invariant.read);
-  place = is_later c.args.limit g.V.JsonValue.as_data c.args.values.now c.loop-k.k c.index-values-k.result c.loop-k-test.true c.index-values-k.is (call_of c.in-Ok.call) c.in-Ok.ensures _ c.loop-k.invariant.place;
+      (goes_on (step_of c.args.limit) (map call_of c.loop-k.calls.items) g.V.JsonValue.as_data c.args.values.now c.loop-k.k c.index-values-k.result _ c.loop-k-test.true c.index-values-k.is (call_of c.in-Ok.call) c.in-Ok.ensures.call c.loop-k.invariant.read);
+  place = is_later c.args.limit g.V.JsonValue.as_data c.args.values.now c.loop-k.k c.index-values-k.result c.loop-k-test.true c.index-values-k.is (call_of c.in-Ok.call) c.in-Ok.ensures.call _ c.loop-k.invariant.place;
 }
