@@ -1,6 +1,6 @@
 //! Moving jobs into the slots of a table and out of them.
 
-ghost use Rattle.std.specs.Prelude.{◌≡◌, ◌≤◌, map, vec_len, vec_capacity, List, IfOk, OnErr, Some};
+ghost use Rattle.std.specs.Prelude.{◌≡◌, ◌<◌, ◌≤◌, length, map, vec_len, vec_capacity, List, IfOk, OnErr, Some};
 ghost use Rattle.std.specs.Mem.Slots.{slots_items, slots_len, IsFull};
 ghost use Rattle.nm_frames.specs.declared.job.CopyJob.{CopyJob};
 
@@ -10,7 +10,8 @@ use nm_frames::CopyJob;
 use std::alloc::{AllocError, Allocator};
 use std::snapshot::Snapshot;
 
-/// Moves the jobs into a list of slots, in order. The list that they came in keeps its capacity.
+/// Moves the jobs into a list of slots, in order. The list that they came in keeps its capacity. An error means that
+/// the host is out of memory; a list without jobs takes none.
 pub(crate) fn into_slots<A: Allocator + Copy>(
     alloc: A,
     room: &mut Vec<CopyJob<A>, A>,
@@ -18,6 +19,7 @@ pub(crate) fn into_slots<A: Allocator + Copy>(
     ensures ok { IfOk result
         (λ slots. (slots.items ≡ map Some room.old.items) × (vec_len room.new ≡ 0)) }
     ensures err { OnErr result (room.new.items ≡ room.old.items) }
+    ensures asked { OnErr result (0 < length room.old.items) }
     ensures room { vec_capacity room.new ≡ vec_capacity room.old }
 {
     let mut slots = Vec::with_capacity(alloc, room.len())?;

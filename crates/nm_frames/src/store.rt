@@ -28,9 +28,11 @@ impl<A: Allocator + Copy> Model for FrameStore<A> {
 }
 
 impl<A: Allocator + Copy> FrameStore<A> {
-    /// Makes a store of `frames` frames, all home and none of them populated.
+    /// Makes a store of `frames` frames, all home and none of them populated. An error means that the host is out of
+    /// memory; a store of no frames takes none.
     pub fn new(alloc: A, frames: usize) -> Result<Self, AllocError>
-        ensures { IfOk result (λ store. store ≡ replicate frames (Some [])) }
+        ensures ok { IfOk result (λ store. store ≡ replicate frames (Some [])) }
+        ensures asked { OnErr result (0 < frames) }
     {
         let mut store = Vec::with_capacity(alloc, frames)?;
         for _ in 0..frames {
@@ -73,11 +75,12 @@ impl<A: Allocator + Copy> FrameStore<A> {
     }
 
     /// Gives a home frame its 4,096 bytes in memory, zeros, unless it has them. An error means that the host is out of
-    /// memory, and that nothing has changed.
+    /// memory, that it did not have them, and that nothing has changed.
     pub fn populate(&mut self, alloc: A, frame: FrameId) -> Result<(), AllocError>
         requires { IsHome self.old frame }
         ensures ok { OnOk result (self.new ≡ populated self.old frame) }
         ensures err { OnErr result (self.new ≡ self.old) }
+        ensures absent { OnErr result (IsPopulated self.old frame → ⊥) }
     {
         if self.is_populated(frame) {
             return Ok(());

@@ -1,6 +1,6 @@
 //! The free frames of one node.
 
-ghost use Rattle.std.specs.Prelude.{◌≡◌, ◌+◌, ◌<◌, ◌≤◌, ◌^◌, [], ◌∷◌, ◌++◌, length, take, drop, slice_get, vec_len, vec_capacity, IfOk};
+ghost use Rattle.std.specs.Prelude.{◌≡◌, ◌+◌, ◌<◌, ◌≤◌, ◌^◌, [], ◌∷◌, ◌++◌, length, take, drop, slice_get, vec_len, vec_capacity, IfOk, OnErr};
 ghost use Rattle.std.specs.VecDeque.{deque_capacity};
 ghost use Rattle.nm_types.specs.Nodes.{up_from};
 
@@ -30,10 +30,12 @@ impl<A: Allocator + Copy> Model for FreeList<A> {
 
 impl<A: Allocator + Copy> FreeList<A> {
     /// Makes the list of all frames of a node that owns `size` frames from `first` on, in ascending order. The last
-    /// must be at most 65,535, as a frame's number has 16 bits.
+    /// must be at most 65,535, as a frame's number has 16 bits. An error means that the host is out of memory; a node
+    /// without frames takes none.
     pub fn upwards(alloc: A, first: u32, size: u32) -> Result<Self, AllocError>
         requires { first + size ≤ 2 ^ 16 }
-        ensures { IfOk result (λ l. l ≡ (size, up_from first size)) }
+        ensures ok { IfOk result (λ l. l ≡ (size, up_from first size)) }
+        ensures asked { OnErr result (0 < size) }
     {
         let mut frames = VecDeque::with_capacity(alloc, size as usize)?;
         for number in first..first + size {

@@ -1,6 +1,6 @@
 //! Where the pages of one pass of mbind(2) go.
 
-ghost use Rattle.std.specs.Prelude.{◌≡◌, ◌<◌, ◌==◌, ◌++◌, map, length, IfOk, OnOk};
+ghost use Rattle.std.specs.Prelude.{◌≡◌, ◌<◌, ◌==◌, ◌++◌, map, length, IfOk, OnOk, OnErr};
 ghost use Rattle.nm_policy.specs.Turns.{sent, sent_to, by_turns};
 
 use nm_types::{NodeId, NodeMask, Page, Vpn};
@@ -24,9 +24,10 @@ pub struct Sent {
     pub to: NodeId,
 }
 
-/// The nodes of a set, in ascending order. An error means that the host is out of memory.
+/// The nodes of a set, in ascending order. An error means that the host is out of memory; an empty set takes none.
 fn nodes_of<A: Allocator + Copy>(alloc: A, set: NodeMask) -> Result<Vec<NodeId, A>, AllocError>
-    ensures { IfOk result (λ nodes. nodes.items ≡ set) }
+    ensures nodes { IfOk result (λ nodes. nodes.items ≡ set) }
+    ensures asked { OnErr result (0 < length set) }
 {
     let mut nodes = Vec::with_capacity(alloc, set.len())?;
     let mut rest = set;
@@ -36,14 +37,16 @@ fn nodes_of<A: Allocator + Copy>(alloc: A, set: NodeMask) -> Result<Vec<NodeId, 
     Ok(nodes)
 }
 
-/// Each page of a list with the node whose turn it is, in the order of the list.
+/// Each page of a list with the node whose turn it is, in the order of the list. An error means that the host is out of
+/// memory; an empty list takes none.
 fn dealt<A: Allocator + Copy>(
     alloc: A,
     nodes: &[NodeId],
     pages: &[Stray],
 ) -> Result<Vec<Sent, A>, AllocError>
     requires { 0 < length nodes.now }
-    ensures { IfOk result (λ dealt. dealt.items ≡ map (sent nodes.now) pages.now) }
+    ensures dealt { IfOk result (λ dealt. dealt.items ≡ map (sent nodes.now) pages.now) }
+    ensures asked { OnErr result (0 < length pages.now) }
 {
     let count = nodes.len() as u64;
     let mut dealt = Vec::with_capacity(alloc, pages.len())?;
@@ -57,13 +60,15 @@ fn dealt<A: Allocator + Copy>(
     Ok(dealt)
 }
 
-/// Appends the pages that go to a node to a list.
+/// Appends the pages that go to a node to a list. An error means that the host is out of memory; if there is no page, it
+/// takes none.
 fn append_for<A: Allocator + Copy>(
     node: NodeId,
     dealt: &[Sent],
     targets: &mut Vec<Sent, A>,
 ) -> Result<(), AllocError>
-    ensures { OnOk result (targets.new.items ≡ targets.old.items ++ sent_to dealt.now node) }
+    ensures ok { OnOk result (targets.new.items ≡ targets.old.items ++ sent_to dealt.now node) }
+    ensures asked { OnErr result (0 < length dealt.now) }
 {
     for sent in dealt {
         if sent.to == node {
@@ -76,18 +81,20 @@ fn append_for<A: Allocator + Copy>(
 /// Which node of a set each page of a list goes to, and the order in which they go: the nodes take turns in ascending
 /// order by the page's index in its segment, as MPOL_INTERLEAVE wants, and the pages go in the order of nodes and then
 /// of the list. A set of one node takes all pages in the order of the list, as MPOL_PREFERRED and each pass of
-/// MPOL_BIND want. If the set is empty, no page goes anywhere. An error means that the host is out of memory.
+/// MPOL_BIND want. If the set is empty, no page goes anywhere. An error means that the host is out of memory; if the
+/// set or the list is empty, it takes none.
 pub fn mbind_targets<A: Allocator + Copy>(
     alloc: A,
     nodes: NodeMask,
     pages: &[Stray],
 ) -> Result<Vec<Sent, A>, AllocError>
-    ensures { IfOk result (λ targets. targets.items ≡ by_turns nodes pages.now) }
+    ensures targets { IfOk result (λ targets. targets.items ≡ by_turns nodes pages.now) }
+    ensures asked { OnErr result ((0 < length nodes) × (0 < length pages.now)) }
 {
-    let mut targets = Vec::with_capacity(alloc, pages.len())?;
-    if nodes.is_empty() {
-        return Ok(targets);
+    if nodes.is_empty() || pages.is_empty() {
+        return Ok(Vec::new(alloc));
     }
+    let mut targets = Vec::with_capacity(alloc, pages.len())?;
     let order = nodes_of(alloc, nodes)?;
     let dealt = dealt(alloc, order.as_slice(), pages)?;
     for node in &order {

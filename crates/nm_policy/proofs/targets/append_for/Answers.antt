@@ -18,8 +18,8 @@ loop-sent-init g c = sym (append-nil c.args.targets.now.items)
 pub bounds-dealt-sent-index : goal.bounds-dealt-sent-index
 bounds-dealt-sent-index g c = c.loop-sent-test.true
 
-pub returns-in_err-push : goal.returns-in_err-push
-returns-in_err-push g c = IfOk-from_err _ _ c.from_residual.ensures.0
+pub returns-in_err-push-clause-ok : goal.returns-in_err-push-clause-ok
+returns-in_err-push-clause-ok g c = IfOk-from_err _ _ c.from_residual.ensures.0
 
 pub loop-sent-smaller : goal.loop-sent-smaller
 loop-sent-smaller g c = omega (arith, c.loop-sent-test.true)
@@ -34,5 +34,5 @@ loop-sent-preserved g c =
       | else-eq w ↦ ap (λ v. v.items) w.targets-is ∙ (sym (append-nil ts) ∙ ap (λ b. ts ++ cond b (x ∷ []) []) (sym (sym c.eq.ensures ∙ w.if-eq.false)))
     ])
 
-pub returns : goal.returns
-returns g c = c.loop-sent.invariant ∙ ap (λ l. c.args.targets.now.items ++ sent_to l c.args.node) (take_all c.loop-sent.sent-index c.args.dealt.now c.loop-sent-test.false)
+pub returns-clause-ok : goal.returns-clause-ok
+returns-clause-ok g c = c.loop-sent.invariant ∙ ap (λ l. c.args.targets.now.items ++ sent_to l c.args.node) (take_all c.loop-sent.sent-index c.args.dealt.now c.loop-sent-test.false)

@@ -13,8 +13,8 @@ one_more nodes pages i t e ds ns lt at is had now =
     now ∙ (ap (λ l. l ++ record { vpn = e.vpn; to = t } ∷ []) had ∙ (ap (λ (z : ℕ). map (sent nodes) (take i pages) ++ record { vpn = e.vpn; to = z } ∷ []) is
     ∙ (ap (λ (z : Stray). map (sent nodes) (take i pages) ++ sent nodes z ∷ []) at ∙ sym (map_more (sent nodes) pages i e lt))))
 
-pub returns-in_err-dealt : goal.returns-in_err-dealt
-returns-in_err-dealt g c = IfOk-from_err _ _ c.from_residual.ensures.0
+pub returns-in_err-dealt-clause-dealt : goal.returns-in_err-dealt-clause-dealt
+returns-in_err-dealt-clause-dealt g c = IfOk-from_err _ _ c.from_residual.ensures.0
 
 pub loop-stray-init : goal.loop-stray-init
 loop-stray-init g c = c.in_ok-dealt.ensures.items
@@ -28,8 +28,8 @@ nonzero_rem-turn g c = c.requires
 pub bounds-nodes-turn : goal.bounds-nodes-turn
 bounds-nodes-turn g c = omega (arith, c.requires)
 
-pub returns-in_err-push : goal.returns-in_err-push
-returns-in_err-push g c = IfOk-from_err _ _ c.from_residual-in_err-push.ensures.0
+pub returns-in_err-push-clause-dealt : goal.returns-in_err-push-clause-dealt
+returns-in_err-push-clause-dealt g c = IfOk-from_err _ _ c.from_residual-in_err-push.ensures.0
 
 pub loop-stray-smaller : goal.loop-stray-smaller
 loop-stray-smaller g c = omega (arith, c.loop-stray-test.true)
@@ -39,5 +39,5 @@ loop-stray-preserved g c =
     one_more c.args.nodes.now c.args.pages.now c.loop-stray.stray-index c.index-nodes-turn.result c.stray-item.result _ _ c.loop-stray-test.true c.stray-item.is
     (get_or_read c.args.nodes.now _ _ (omega (arith, c.requires)) c.index-nodes-turn.is 0) c.loop-stray.invariant c.in_ok-push.ensures.items
 
-pub returns : goal.returns
-returns g c = c.loop-stray.invariant ∙ ap (map (sent c.args.nodes.now)) (take_all c.loop-stray.stray-index c.args.pages.now c.loop-stray-test.false)
+pub returns-clause-dealt : goal.returns-clause-dealt
+returns-clause-dealt g c = c.loop-stray.invariant ∙ ap (map (sent c.args.nodes.now)) (take_all c.loop-stray.stray-index c.args.pages.now c.loop-stray-test.false)

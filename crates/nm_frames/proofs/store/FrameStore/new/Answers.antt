@@ -22,6 +22,6 @@ pub loop-preserved : goal.loop-preserved
 loop-preserved g c =
     one_more c.loop.store.items c.push.new.self.items c.loop.counter c.unused.result (Some []) c.loop.invariant c.unused.ensures c.in_ok-push.ensures.items
 
-pub returns : goal.returns
-returns g c =
+pub returns-clause-ok : goal.returns-clause-ok
+returns-clause-ok g c =
     c.loop.invariant ∙ ap (λ (n : ℕ). replicate {A = Option (List ℕ)} n (Some [])) (at_end c.loop.counter c.args.frames c.loop.auto.counter-end c.loop-test.false)

@@ -3,8 +3,8 @@ use Rattle.nm_types.specs.Nodes.{up_from}
 use Rattle.nm_nodes.proofs.Stretches.{up_from_more}
 use Rattle.nm_nodes.proofs.list.FreeList.upwards.Goals as goal
 
-pub returns : goal.returns
-returns g c =
+pub returns-clause-ok : goal.returns-clause-ok
+returns-clause-ok g c =
     let e : c.loop-number.number - c.args.first ≡ c.args.size = omega arith in
     ap (λ (ns : List ℕ). (c.args.size, ns)) (c.loop-number.invariant.up ∙ ap (up_from c.args.first) e)
 

@@ -32,7 +32,7 @@ loop-node-preserved g c =
     let size : get_or sizes c.loop-node.node 0 ≡ c.size-size.result = sym (c.size-size.ensures ∙ ap (λ n. get_or sizes n 0) c.new.ensures) in
     let more : take (c.loop-node.node + 1) sizes ≡ front ++ c.size-size.result ∷ [] = take_more sizes c.loop-node.node 0 within ∙ ap (λ (n : ℕ). front ++ n ∷ []) size in
     let row : c.in_ok-list.list ≡ (c.size-size.result, up_from (0 + sum front) c.size-size.result) =
-    c.in_ok-list.ensures ∙ ap (λ (n : ℕ). (c.size-size.result, up_from n c.size-size.result)) (c.loop-node.invariant.next ∙ sym (zero-add (sum front))) in
+    c.in_ok-list.ensures.ok ∙ ap (λ (n : ℕ). (c.size-size.result, up_from n c.size-size.result)) (c.loop-node.invariant.next ∙ sym (zero-add (sum front))) in
     record {
       made = c.in_ok-push.ensures.items ∙ ap (λ (rs : List (ℕ × List ℕ)). rs ++ c.in_ok-list.list ∷ []) c.loop-node.invariant.made
           ∙ ap (λ (r : ℕ × List ℕ). rows 0 front ++ r ∷ []) row ∙ sym (rows_more 0 front c.size-size.result) ∙ ap (rows 0) (sym more);
