@@ -15,10 +15,10 @@ use Rattle.nm_calls.specs.definitions.Answers.{Refusal, Failed}
 use Rattle.nm_calls.specs.definitions.Systems.{SystemState, in_state}
 use Rattle.nm_calls.specs.definitions.Mbind.{mbind_refusal, binding, mbind_runs, policed, tells_late, has_stray}
 use Rattle.nm_calls.specs.definitions.Outcome.{refused, refused_at_once, start, sets_policy, runs_asked, accesses_asked, runs_of, ended, outcome, leaves, states_of, trail}
-use Rattle.nm_calls.specs.definitions.Does.{Does, LeavesSome}
+use Rattle.nm_calls.specs.definitions.Does.{Does}
 use Rattle.nm_calls.specs.views.Runs.{Stops, Binds}
 use Rattle.nm_calls.proofs.Trails.{states_are, runs_unless, state_unless}
-use Rattle.nm_calls.proofs.Outcomes.{answers, refuses}
+use Rattle.nm_calls.proofs.Outcomes.{LeavesSome, answers, refuses}
 use Rattle.nm_calls.proofs.Refusals.{late_answer}
 
 -- a length of 64 bits has at most 2^52 pages

@@ -26,9 +26,9 @@ use Rattle.nm_calls.specs.definitions.Passes.{passes}
 use Rattle.nm_calls.specs.definitions.Systems.{SystemState, in_state}
 use Rattle.nm_calls.specs.definitions.Offline.{offline_refusal, offline_runs, refuges, still_on}
 use Rattle.nm_calls.specs.definitions.Outcome.{refused, refused_at_once, start, sets_policy, runs_asked, accesses_asked, runs_of, ended, emptied, outcome, states_of, trail}
-use Rattle.nm_calls.specs.definitions.Does.{Does, LeavesSome}
+use Rattle.nm_calls.specs.definitions.Does.{Does}
 use Rattle.nm_calls.specs.views.Runs.{Stops, Empties}
-use Rattle.nm_calls.proofs.Outcomes.{answers}
+use Rattle.nm_calls.proofs.Outcomes.{LeavesSome, answers}
 use Rattle.nm_calls.proofs.Trails.{runs_unless, state_unless}
 
 -- requests by page

@@ -1,6 +1,6 @@
 -- The outcome of a call: where it is refused, where it is not, and where the host has no memory for it.
 use Rattle.std.proofs.Common.{◌≡◌, ℕ, suc, ◌≤◌, Bool, false, List, [], ◌∷◌, length, refl, sym, ap, subst, ◌∙◌, inl, inr, arith, slice_index_or, Some, None}
-use Rattle.std.specs.Prelude.{◌-◌}
+use Rattle.std.specs.Prelude.{◌⊎◌, ◌<◌, ◌-◌}
 use Rattle.nm_types.specs.declared.errno.Errno.{Errno}
 use Rattle.nm_types.specs.State.{State}
 use Rattle.nm_model.specs.definitions.Cut.{Stretch}
@@ -8,9 +8,15 @@ use Rattle.nm_model.specs.definitions.Run.{runs_from}
 use Rattle.nm_steps.specs.Calls.{Call}
 use Rattle.nm_calls.specs.definitions.Answers.{Refusal}
 use Rattle.nm_calls.specs.definitions.Systems.{SystemState, in_state}
-use Rattle.nm_calls.specs.definitions.Outcome.{Outcome, refused, refused_at_once, start, sets_policy, runs_asked, runs_of, accesses_asked, ended, outcome, states_from, trail}
-use Rattle.nm_calls.specs.definitions.Does.{LeavesSome, HostLeaves}
+use Rattle.nm_calls.specs.definitions.Outcome.{Outcome, refused, refused_at_once, start, sets_policy, runs_asked, runs_of, accesses_asked, ended, outcome, states_from, trail, after_runs}
+use Rattle.nm_calls.specs.definitions.Does.{HostLeaves}
 use Rattle.nm_calls.proofs.Trails.{runs_unless, state_unless}
+
+-- what a call that runs out of host memory leaves
+abbrev pub LeavesSome : SystemState → Call → ℕ → Bool → SystemState → Type 0
+LeavesSome old call runs policy_set new =
+    ((runs ≡ 0) × (policy_set ≡ false) × (new ≡ old))
+    ⊎ ((runs < length (runs_of old call)) × (policy_set ≡ sets_policy call) × (new ≡ after_runs old call runs))
 
 pub answers : (y : SystemState) (call : Call) (o : Outcome) → refused y.state call ≡ None → ended y call (runs_from 0 (start y call) (runs_asked y call) (accesses_asked call)) ≡ o → outcome y call ≡ o
 answers y call o none is = rw none is

@@ -85,6 +85,11 @@ pub no_access : (k j : ℕ) (answers : List AccessAnswer) → access_lines k j [
 no_access k j [] = refl
 no_access k j (answer ∷ answers) = refl
 
+-- nor where no answer is
+pub no_answer : (k j : ℕ) (during : List (ℕ × Access)) → access_lines k j during [] ≡ []
+no_answer k j [] = refl
+no_answer k j (flight ∷ during) = refl
+
 -- the list from a place on
 from_place : {X : Type 0} (xs : List X) (j : ℕ) (x : X) → j < length xs → x ≡ get_or xs j x → drop j xs ≡ x ∷ drop (j + 1) xs
 from_place xs j x lt is = rw (add-one, drop-cons xs j x) (ap (λ y. y ∷ drop (suc j) xs) (sym is))
@@ -106,4 +111,9 @@ module _ {A : Type 0} (k j : ℕ) (during : List (InFlight A)) (answers : List (
   pub is_done : length during ≤ j → with_lines before j ≡ whole → before ≡ whole
   is_done le so_far =
       let one : with_lines before j ≡ before = rw (drop_all j during le, no_access k j (map answer_shown (drop j answers))) (append-nil before) in
+      sym one ∙ so_far
+
+  pub is_told : length answers ≤ j → with_lines before j ≡ whole → before ≡ whole
+  is_told le so_far =
+      let one : with_lines before j ≡ before = rw (drop_all j answers le, no_answer k j (shown_during (drop j during))) (append-nil before) in
       sym one ∙ so_far

@@ -69,10 +69,9 @@ access_line k j access answer = decimal k ++ codes "." ++ line_of j (access_step
 -- the lines of the accesses of step k, each with the answer at its index, numbered from j on; if each access names a
 -- run that is made, there are as many answers as accesses
 abbrev pub access_lines : ℕ → ℕ → List (ℕ × Access) → List AccessAnswer → List ℕ
-access_lines k j during [] = []
-access_lines k j [] (answer ∷ answers) = []
 access_lines k j (flight ∷ during) (answer ∷ answers) =
     access_line k j flight.1 answer ++ access_lines k (j + 1) during answers
+access_lines k j during answers = []
 
 -- the answers to accesses in flight; none if the call is refused
 abbrev pub answers_in : Answer → List AccessAnswer

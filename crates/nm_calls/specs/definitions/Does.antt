@@ -16,17 +16,13 @@ use Rattle.nm_calls.specs.definitions.Batch.{in_order}
 use Rattle.nm_calls.specs.definitions.Systems.{SystemState}
 use Rattle.nm_calls.specs.definitions.Outcome.{refused_at_once, outcome, sets_policy, runs_of, after_runs, states_from}
 
--- a call that runs out of host memory leaves the system as it was, or as after some of its first runs with the policy
--- set, but never after the last run
-abbrev pub LeavesSome : SystemState → Call → ℕ → Bool → SystemState → Type 0
-LeavesSome old call runs policy_set new =
-    ((runs ≡ 0) × (policy_set ≡ false) × (new ≡ old))
-    ⊎ ((runs < length (runs_of old call)) × (policy_set ≡ sets_policy call) × (new ≡ after_runs old call runs))
-
--- ... and would not have been refused
+-- a call that runs out of host memory would not have been refused, and leaves the system as it was, or as after some of
+-- its first runs with the policy set, but never after the last run
 abbrev pub HostLeaves : SystemState → Call → ℕ → Bool → SystemState → Type 0
 HostLeaves old call runs policy_set new =
-    (refused_at_once old.state call ≡ None) × LeavesSome old call runs policy_set new
+    (refused_at_once old.state call ≡ None)
+    × (((runs ≡ 0) × (policy_set ≡ false) × (new ≡ old))
+    ⊎ ((runs < length (runs_of old call)) × (policy_set ≡ sets_policy call) × (new ≡ after_runs old call runs)))
 
 -- the answer and the system after the call are as defined, whether or not it is refused; or the host is out of memory
 abbrev pub Does : {T : Type 0} → (T → Answer) → Result T CallError → SystemState → SystemState → Call → Type 0

@@ -7,7 +7,7 @@ use Rattle.nm_steps.specs.Views.{call_of}
 use Rattle.nm_calls.specs.views.Answers.{answer_of}
 use Rattle.nm_trace.specs.Report.{answers_in}
 use Rattle.nm_trace.specs.Report.{access_lines}
-use Rattle.nm_trace.proofs.Lines.{no_access}
+use Rattle.nm_trace.proofs.Lines.{no_access, no_answer}
 use Rattle.nm_trace.proofs.Waits.{put_is, put_none}
 use Rattle.nm_trace.proofs.text.push_flights.Goals as goal
 
@@ -19,8 +19,9 @@ none_asked call other = refl
 
 pub returns-in_default-answer : goal.returns-in_default-answer
 returns-in_default-answer g c =
-    let none : access_lines c.args.k 0 (accesses_asked (call_of c.args.call.now)) (answers_in (answer_of c.args.answer.now)) ≡ [] = search rules in
-    put_is (sym none) put_none
+    let during = accesses_asked (call_of c.args.call.now) in
+    let none : answers_in (answer_of c.args.answer.now) ≡ [] = search rules in
+    put_is (sym (ap (access_lines c.args.k 0 during) none ∙ no_answer c.args.k 0 during)) put_none
 
 pub returns-in_default : goal.returns-in_default
 returns-in_default g c =
