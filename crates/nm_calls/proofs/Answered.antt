@@ -27,7 +27,7 @@ all_length : (s : State) (moved : List Page) (accesses : List Access) → length
 all_length s moved [] = refl
 all_length s moved (a ∷ accesses) = ap suc (all_length (in_flight s moved a).state moved accesses)
 
--- there are answers for each_request run ..
+-- there are answers for each run ..
 runs_count : (k : ℕ) (s : State) (rs : List Stretch) (accesses : List (ℕ × Access)) → length (runs_from k s rs accesses).answers ≡ length rs
 runs_count k s [] accesses = refl
 runs_count k s (r ∷ rs) accesses = ap suc (runs_count (k + 1) (run s r.target r.wanted (accesses_of k accesses)).state rs accesses)
@@ -56,7 +56,7 @@ named_count k ((run, a) ∷ rest) =
     ∙ (ap (λ n. cond (run == k) 1 0 + n) (named_count k rest)
     ∙ sym (one_more k run (keys_of rest) (run == k) refl)))
 
--- answers that are as many for each_request run as accesses name it
+-- answers that are as many for each run as accesses name it
 abbrev IsEnough : List (List AccessAnswer) → List ℕ → Type 0
 IsEnough left runs = (k : ℕ) → k < length left → length (list_at left k) ≡ count_by (λ r. r == k) runs
 

@@ -30,7 +30,7 @@ use Rattle.nm_calls.specs.definitions.Passes.{without_frame}
 use Rattle.nm_calls.specs.laws.Full.{StandsOn, WouldMove, pass, rounded_up, FullNodeTakesNone, LeftWouldMove, MovesElsewhere, RunsGoByLength, NextPassTakesNone}
 use Rattle.nm_calls.proofs.Lengths.{each_layout, run_length}
 
--- the status of a page that does not move is not that of one_request without a frame
+-- the status of a page that does not move is not that of one without a frame
 abbrev IsOther : Class → Type 0
 IsOther (Status status) = int_eq status (code Enomem) ≡ false
 IsOther (Move page from) = Unit {0}
@@ -178,7 +178,7 @@ waits_on s target ws w h =
     let here : Waits (with_counts s (length moves.taken) (failures moves.statuses)) target w = ended_waits s [] (length moves.taken) (failures moves.statuses) target w tt h in
     subst (λ t. Waits (with_counts t (length moves.taken) (failures moves.statuses)) target w) (sym same) here
 
--- runs for one_request node
+-- runs for one node
 abbrev to_node : ℕ → List (List Wanted) → List Stretch
 to_node t wss = map (λ ws. record { target = t; wanted = ws }) wss
 
@@ -187,7 +187,7 @@ runs_wait_on k s target [] w h = h
 runs_wait_on k s target (ws ∷ wss) w h =
     runs_wait_on (k + 1) (run s target ws []).state target wss w (waits_on s target ws w h)
 
--- what is left of two parts is left of one_request or the other
+-- what is left of two parts is left of one or the other
 all_parted : (P : Wanted → Type 0) (xs : List Wanted) (zs : List ℤ) (ys : List Wanted) (us : List ℤ) → length xs ≡ length zs → AllByRecursion P (without_frame xs zs) → AllByRecursion P (without_frame ys us) → AllByRecursion P (without_frame (xs ++ ys) (zs ++ us))
 all_parted P [] [] ys us same h k = k
 all_parted P [] (z ∷ zs) ys us same h k = let e : ⊥ = omega (arith, same) in absurd e
@@ -211,7 +211,7 @@ runs_wait k s target (ws ∷ wss) =
     (all_still (Waits now.state target) (Waits rest.state target) (without_frame ws now.statuses) (runs_wait_on (k + 1) now.state target wss) (run_waits s target ws))
     (runs_wait (k + 1) now.state target wss)
 
--- a batch for one_request node is one_request stretch, which is cut into pieces
+-- a batch for one node is one stretch, which is cut into pieces
 cut_one : (node : ℕ) (w : Wanted) (ws : List Wanted) → cut (all_to node (w ∷ ws)) ≡ record { target = node; wanted = w ∷ ws } ∷ []
 cut_one node w [] = refl
 cut_one node w (v ∷ vs) =
@@ -247,7 +247,7 @@ left_would_move limit s node ws some =
     let made = pass limit s node ws in
     all_still (Waits made.state node) (WouldMove made.state node) (without_frame ws made.statuses) (λ w h. h.0) (pass_waits limit s node ws some)
 
--- a page that would move to one_request node would move to another, by the tests of both
+-- a page that would move to one node would move to another, by the tests of both
 moves_by_tests : (node next : ℕ) (p : Page) (frame : ℕ) (here there kept pinned : Bool)
     → ((page : Page) × (from : ℕ) × ((if here then Status (pos node) else (if kept then Status (code Eacces) else (if pinned then Status (code Ebusy) else Move p frame))) ≡ Move page from))
     → ((if there then Status (pos next) else (if kept then Status (code Eacces) else (if pinned then Status (code Ebusy) else Move p frame))) ≡ Status (pos next) → ⊥)
@@ -380,7 +380,7 @@ next_pass_takes_none limit s node next wanted some has none away =
     full_node_takes_none limit first.state next ws some has none
     (all_elsewhere_move first.state node next ws (left_would_move limit s node wanted some) away)
 
--- this many pieces hold this many, and one_request fewer would not
+-- this many pieces hold this many, and one fewer would not
 abbrev Hold : ℕ → ℕ → ℕ → Type 0
 Hold limit n k = (n ≤ k * limit) × (k * limit < n + limit)
 
@@ -401,7 +401,7 @@ pieces_hold limit (w ∷ ws) (suc n) some enough =
     let none : k * limit ≡ 0 = ap (λ l. length (pieces_in limit l n) * limit) (drop_all limit (w ∷ ws) short) ∙ omega arith in
     let both : Hold limit (length (w ∷ ws)) (suc k) = (omega (arith, one_more, short), omega (arith, one_more, none)) in both) (cases_lt limit (length (w ∷ ws)))
 
--- there is one_request such number
+-- there is one such number
 one_number : (limit n k q : ℕ) → Hold limit n k → Hold limit n q → k ≡ q
 one_number limit n k q h g =
     ⊎_elim (λ (less : k < q). let z : ⊥ = apart k q less h.0 g.1 in absurd z)

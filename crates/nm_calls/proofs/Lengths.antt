@@ -20,7 +20,7 @@ each_length : (s : State) (target : ℕ) (ws : List Wanted) → length (each_req
 each_length s target [] = refl
 each_length s target (w ∷ ws) = ap suc (each_length (one_request s target w).state target ws)
 
--- a run gives a status for each_request request
+-- a run gives a status for each request
 pub run_length : (s : State) (target : ℕ) (ws : List Wanted) (accesses : List Access) → length (run s target ws accesses).statuses ≡ length ws
 run_length s target ws accesses = each_length s target ws
 

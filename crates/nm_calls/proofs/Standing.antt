@@ -135,7 +135,7 @@ none_free s node h = nothing_is (free_list s node) (length (free_list s node)) r
     not_false true e = refl
     not_false false e = cc
 
--- failures that are with_counts change nothing of this
+-- failures that are counted change nothing of this
 among_counted : (s : State) (m n : ℕ) (nodes : List ℕ) (ws : List Wanted) → StandAmong s nodes ws → StandAmong (with_counts s m n) nodes ws
 among_counted s m n nodes ws among k d lt node few on =
     let w = get_or ws k d in

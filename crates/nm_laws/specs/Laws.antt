@@ -26,7 +26,7 @@ use Rattle.nm_model.specs.definitions.Sound.{audited, OwnsItsFree, IsSoundMidRun
 use Rattle.nm_model.specs.definitions.Effect.{new_machine, spawn, map_new, attach, pin, unpin, unmap, exit}
 use Rattle.nm_model.specs.definitions.Effect.{spawn_refusal, map_refusal, attach_refusal, pin_refusal, set_policy}
 
--- on a sound machine each_request frame is in exactly one place
+-- on a sound machine each frame is in exactly one place
 abbrev pub SoundIsAudited : Type 0
 SoundIsAudited = (s : State) → IsSound s → audited s ≡ true
 

@@ -10,7 +10,7 @@ use Rattle.nm_model.specs.definitions.Status.{status_or_move}
 use Rattle.nm_model.specs.definitions.Run.{each_request}
 use Rattle.nm_laws.specs.Laws.{Agrees, with_move}
 
--- each_request of these pages in turn leaves its frame, which is on another node, for the front frame of the target
+-- each of these pages in turn leaves its frame, which is on another node, for the front frame of the target
 abbrev pub CanMove : State → ℕ → List Taken → Type 0
 CanMove s target [] = Unit {0}
 CanMove s target (t ∷ taken) =

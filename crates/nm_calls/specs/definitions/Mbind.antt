@@ -112,7 +112,7 @@ mbind_refusal s caller address len mode nodes flags =
 abbrev pub requests_at : ℕ → Bool → List Located → List Wanted
 requests_at pid all pages = map (λ l. At pid l.vpn all) pages
 
--- pages, as is_stray
+-- pages, as strays
 abbrev pub strays_of : List Located → List Stray
 strays_of pages = map (λ l. record { vpn = l.vpn; page = l.page }) pages
 

@@ -22,7 +22,7 @@ use Rattle.nm_laws.proofs.Soundness.Frames.{left-append}
 use Rattle.nm_laws.proofs.Soundness.Moved.{decided_sound, freed_sound, counted_sound}
 use Rattle.nm_engine.proofs.Together.Shows.{restocked_shows, freed_shows}
 
--- the bytes from one_request place up to another
+-- the bytes from one place up to another
 pub stretch_step : (bytes : List ℕ) (k end : ℕ) → k < end → stretch_of bytes k (end - k) ≡ slice_index bytes k ∷ stretch_of bytes (k + 1) (end - (k + 1))
 stretch_step bytes k end lt =
     let n : end - k ≡ suc (end - (k + 1)) = omega (arith, lt) in
@@ -111,7 +111,7 @@ module _ (tasks : Map ℕ Process) (m : Table) (x : PagedFrames) (online : List 
         as_many = h.as_many ∙ sym (ap (λ (y : PagedFrames). frame_count y.layout) is);
       }
 
--- a request leaves the nodes as they are, and at most one_request frame
+-- a request leaves the nodes as they are, and at most one frame
 page_layout : (s : State) (target : ℕ) (p : Page) (from : ℕ) (fs : List ℕ) → (moved_page s target p from fs).state.layout ≡ s.layout
 page_layout s target p from [] = refl
 page_layout s target p from (f ∷ fs) = refl

@@ -132,7 +132,7 @@ module _ (places : Map Page ℕ → Map Page ℕ) (bytes : Map Page (List ℕ) �
   all_early_too Apart moved spares stays (a ∷ accesses) s h =
       ap (then_all moved accesses) (early_too s moved a (spares s a h)) ∙ ap (due_first (before_copy s moved a).due) (all_early_too Apart moved spares stays accesses (before_copy s moved a).state (stays s a h))
 
--- the process and the area of a site that is found are there
+-- the process and the area of a spot that is found are there
 found_over : (s : State) (pid v : ℕ) (process : Process) (o : Option Placed) (at : AccessSite) → get nat_cmp s.processes pid ≡ Some process → area_over s.areas pid v ≡ o → site_over pid process v o ≡ Ok at → IsSpot s at
 found_over s pid v process None at p a e = cc
 found_over s pid v process (Some area) at p a e =

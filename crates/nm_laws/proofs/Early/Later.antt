@@ -179,7 +179,7 @@ module _ (q : Page) (g : List ℕ → List ℕ) (o : Option ℕ) (b : Option (Li
       all_early_too (λ m. m) (with_values (at_page q g)) (IsPlaced q o b l) moved
       (λ s a k held at e. let i = found s a at e in (i, spares s at k i)) (λ s a k. early_stays q o b l moved s a k) accesses s h
 
--- later touches find what was after_copy, and leave the answers as they are
+-- later touches find what was made, and leave the answers as they are
 made_beside : (s : State) (l : List ℕ) (moved : List Page) (accesses : List Access) (d : PendingAccess) → IsSoundMidRun s l → Touches s d
     → all_before_copy (after_copy s d) moved accesses ≡ (let e = all_before_copy s moved accesses in record e { state = after_copy e.state d })
 made_beside s l moved accesses (Known answer) h on = refl

@@ -60,7 +60,7 @@ unfolding StaysSound Shows
 write_is_at s l pid address new p (Err e) sound shows at = tt
 write_is_at s l pid address new p (Ok t) sound shows at = write_at s t l sound.0 pid (address / 4096) p shows.1 at (address % 4096) new (sight_at t pid (address / 4096)) refl
 
--- the page that is shown where a site is found
+-- the page that is shown where a spot is found
 over_page : (s : State) (pid v : ℕ) (process : Process) (o : Option Placed) (at : AccessSite) → get nat_cmp s.processes pid ≡ Some process → area_over s.areas pid v ≡ o → site_over pid process v o ≡ Ok at → page_at s.areas pid v ≡ Some (shown_at at)
 over_page s pid v process None at p a e = cc
 over_page s pid v process (Some area) at p a e =

@@ -124,7 +124,7 @@ every_order_is_the_run m target wanted events n h end =
       settled = rest.settled;
     }
 
--- each_request buffer is in one place after each_request event
+-- each buffer is in one place after each event
 once_after : (events : List Event) (m n : RunMachine) (moved : List Page) → IsMidway m moved → after m events ≡ Some n → (f : ℕ) → f < frame_count m.layout → length (hands n f) ≡ 1
 once_after [] m n moved h leads f below = ap (λ k. length (hands k f)) (sym (some_is leads)) ∙ h.once f below
 once_after (Begin target wanted ∷ events) m n moved h leads f below = absurd (refused _ _ n (ap is_ready h.moving) leads)

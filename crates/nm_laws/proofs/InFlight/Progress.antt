@@ -46,7 +46,7 @@ touch_all (a ∷ accesses) m moved h =
 
 -- ---- the jobs
 
--- from a ticket on, each_request job is drawn and given
+-- from a ticket on, each job is drawn and given
 copying : ℕ → List Job → List Event
 copying k [] = End ∷ []
 copying k (job ∷ jobs) = Draw 0 ∷ Give 0 k ∷ copying (k + 1) jobs

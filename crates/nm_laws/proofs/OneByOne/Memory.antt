@@ -19,7 +19,7 @@ use Rattle.nm_laws.proofs.OneByOne.Placed.{ClassIsPlaced, status_placed}
 abbrev shown_byte : State → Option Page → ℕ → Option ℕ
 shown_byte s o i = option_map (λ p. byte_of s p (get page_cmp s.place p) i) o
 
--- the place of a page that has one_request may be another
+-- the place of a page that has one may be another
 other_place : (s : State) (page q : Page) (from frame i : ℕ) (b : Bool) → same_page q page ≡ b → get page_cmp s.place page ≡ Some from → byte_of s q (cond b (Some frame) (get page_cmp s.place q)) i ≡ byte_of s q (get page_cmp s.place q) i
 other_place s page q from frame i true e placed = ap (λ o. byte_of s q o i) (sym (ap (get page_cmp s.place) (exact_page q page (equal _ e)) ∙ placed))
 other_place s page q from frame i false e placed = refl

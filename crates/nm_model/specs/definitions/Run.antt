@@ -17,7 +17,7 @@ use Rattle.nm_model.specs.definitions.Touch.{Access, AccessAnswer, all_in_flight
 use Rattle.std.specs.Prelude.{◌==◌}
 use Rattle.nm_model.specs.definitions.Cut.{Request, Stretch, cut}
 
--- the state after a request, its status, and its move if there is one_request
+-- the state after a request, its status, and its move if there is one
 pub record Decision : Type 0 where
   pub state : State
   pub status : ℤ
@@ -35,7 +35,7 @@ abbrev pub decision : State → ℕ → Class → Decision
 decision s target (Status status) = record { state = s; status = status; taken = [] }
 decision s target (Move page from) = moved_page s target page from (free_list s target)
 
--- one_request request is decision and carried out
+-- one request is decided and carried out
 abbrev pub one_request : State → ℕ → Wanted → Decision
 one_request s target w = decision s target (status_or_move s target w)
 
@@ -45,7 +45,7 @@ pub record Progress : Type 0 where
   pub statuses : List ℤ
   pub taken : List Taken
 
--- one_request request after another
+-- one request after another
 abbrev pub each_request : State → ℕ → List Wanted → Progress
 each_request s target [] = record { state = s; statuses = []; taken = [] }
 each_request s target (w ∷ ws) =
@@ -59,7 +59,7 @@ with_free s frame =
     let node = node_of s.layout frame in
     record s { free = slice_set s.free node (free_list s node ++ frame ∷ []) }
 
--- one_request frame after another becomes free
+-- one frame after another becomes free
 abbrev pub with_all_free : State → List ℕ → State
 with_all_free s frames = fold with_free s frames
 
@@ -75,7 +75,7 @@ failures statuses = count_by (λ status. int_eq status (code Ebusy) || int_eq st
 abbrev pub total_after : ℕ → ℕ → ℕ
 total_after total n = min (total + n) (2 ^ 64 - 1)
 
--- the totals with these numbers total_after
+-- the totals with these numbers added
 abbrev pub with_counts : State → ℕ → ℕ → State
 with_counts s moved failed = record s { moved = total_after s.moved moved; failed = total_after s.failed failed }
 
@@ -89,7 +89,7 @@ abbrev pub IsByPage : Wanted → Type 0
 IsByPage (Spot pid v all) = ⊥
 IsByPage (Whole page) = Unit {0}
 
--- all requests of a run are by address with one_request `all`, or all are by page
+-- all requests of a run are by address with one `all`, or all are by page
 abbrev pub HasOneAll : List Wanted → Type 0
 HasOneAll ws = ((all : Bool) × AllByRecursion (IsByAddress all) ws) ⊎ AllByRecursion IsByPage ws
 
@@ -97,7 +97,7 @@ HasOneAll ws = ((all : Bool) × AllByRecursion (IsByAddress all) ws) ⊎ AllByRe
 pub record Ran : Type 0 where
   pub state : State
   pub statuses : List ℤ
-  -- each_request run's answers to its accesses
+  -- each run's answers to its accesses
   pub answers : List (List AccessAnswer)
 
 -- a run: the requests, the accesses in flight, then the frames left become free, then the totals
@@ -113,7 +113,7 @@ run s target ws accesses =
 abbrev pub accesses_of : ℕ → List (ℕ × Access) → List Access
 accesses_of k accesses = map (λ a. a.1) (filter (λ a. a.0 == k) accesses)
 
--- one_request run after another, numbered from k on, each_request with its accesses
+-- one run after another, numbered from k on, each with its accesses
 abbrev pub runs_from : ℕ → State → List Stretch → List (ℕ × Access) → Ran
 runs_from k s [] accesses = record { state = s; statuses = []; answers = [] }
 runs_from k s (r ∷ rs) accesses =
