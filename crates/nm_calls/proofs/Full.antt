@@ -23,7 +23,7 @@ use Rattle.nm_model.specs.definitions.Seen.{sight_at, is_pinned, page_or_error, 
 use Rattle.nm_model.specs.definitions.Status.{code, others_see, page_status, seen_status, status_or_move}
 use Rattle.nm_model.specs.definitions.Cut.{Stretch, in_front, cut, all_to}
 use Rattle.nm_model.specs.definitions.Cut.{pieces_in, pieces, within, cut_within}
-use Rattle.nm_model.specs.definitions.Run.{Decision, moved_page, decision, one_request, Progress, each_request, with_free, with_all_free, left, failures, total_after, with_counts, Ran, run}
+use Rattle.nm_model.specs.definitions.Run.{Decision, moved_page, decision, one_request, Progress, each_request, with_free, with_all_free, frames_left, failures, total_after, with_counts, Ran, run}
 use Rattle.nm_model.specs.definitions.Run.{runs_from}
 use Rattle.nm_laws.proofs.InFlight.Elsewhere.{IsElsewhere, status_elsewhere}
 use Rattle.nm_calls.specs.definitions.Passes.{without_frame}
@@ -82,7 +82,7 @@ all_elsewhere s (frame ∷ frames) target h =
 
 -- a run's pages leave frames of other nodes
 abbrev LeavesOthers : State → ℕ → Progress → Type 0
-LeavesOthers s target p = AllByRecursion (λ f. (node_of s.layout f == target) ≡ false) (left p.taken)
+LeavesOthers s target p = AllByRecursion (λ f. (node_of s.layout f == target) ≡ false) (frames_left p.taken)
 
 -- what follows a request
 abbrev then_each : ℕ → List Wanted → Decision → Progress
@@ -165,16 +165,16 @@ ended_waits s frames m n target w others h =
 run_waits : (s : State) (target : ℕ) (ws : List Wanted) → AllByRecursion (Waits (run s target ws []).state target) (without_frame ws (run s target ws []).statuses)
 run_waits s target ws =
     let moves = each_request s target ws in
-    let others = subst (λ g. AllByRecursion (λ f. (node_of g f == target) ≡ false) (left moves.taken)) (sym (each_layout s target ws)) (each_leaves s target ws) in
+    let others = subst (λ g. AllByRecursion (λ f. (node_of g f == target) ≡ false) (frames_left moves.taken)) (sym (each_layout s target ws)) (each_leaves s target ws) in
     all_still (Waits moves.state target) (Waits (run s target ws []).state target) (without_frame ws moves.statuses)
-    (λ w. ended_waits moves.state (left moves.taken) (length moves.taken) (failures moves.statuses) target w others) (each_waits s target ws)
+    (λ w. ended_waits moves.state (frames_left moves.taken) (length moves.taken) (failures moves.statuses) target w others) (each_waits s target ws)
 
 -- what waits waits on after a run for the same node
 waits_on : (s : State) (target : ℕ) (ws : List Wanted) (w : Wanted) → Waits s target w → Waits (run s target ws []).state target w
 waits_on s target ws w h =
     let moves = each_request s target ws in
     let none = none_taken s target ws h.1 in
-    let same : with_all_free moves.state (left moves.taken) ≡ s = ap (λ l. with_all_free moves.state (left l)) none.1 ∙ none.0 in
+    let same : with_all_free moves.state (frames_left moves.taken) ≡ s = ap (λ l. with_all_free moves.state (frames_left l)) none.1 ∙ none.0 in
     let here : Waits (with_counts s (length moves.taken) (failures moves.statuses)) target w = ended_waits s [] (length moves.taken) (failures moves.statuses) target w tt h in
     subst (λ t. Waits (with_counts t (length moves.taken) (failures moves.statuses)) target w) (sym same) here
 
@@ -309,7 +309,7 @@ each_fails s node (w ∷ ws) none h =
 abbrev then_run : Progress → Ran
 then_run moves =
     record {
-      state = with_counts (with_all_free moves.state (left moves.taken)) (length moves.taken) (failures moves.statuses);
+      state = with_counts (with_all_free moves.state (frames_left moves.taken)) (length moves.taken) (failures moves.statuses);
       statuses = moves.statuses;
       answers = [] ∷ [];
     }

@@ -14,7 +14,7 @@ use Rattle.nm_model.specs.definitions.Seen.{sight_at}
 use Rattle.nm_model.specs.definitions.Touch.{Access, Read, Write, Held, Answered, access, touch, read_after, write_after, with_bytes}
 use Rattle.nm_model.specs.definitions.Touch.{is_held, site_of_access, in_flight, all_in_flight}
 use Rattle.nm_laws.proofs.Early.Seen.{Shows, touch_shows}
-use Rattle.nm_model.specs.definitions.Run.{one_request, each_request, run, decision, moved_page, with_free, with_all_free, left}
+use Rattle.nm_model.specs.definitions.Run.{one_request, each_request, run, decision, moved_page, with_free, with_all_free, frames_left}
 
 each_length : (s : State) (target : ℕ) (ws : List Wanted) → length (each_request s target ws).statuses ≡ length ws
 each_length s target [] = refl
@@ -74,4 +74,4 @@ pub run_layout : (s : State) (target : ℕ) (ws : List Wanted) (accesses : List 
 run_layout s target ws accesses =
     let moves = each_request s target ws in
     let moved = map (λ t. t.page) moves.taken in
-    freed_layout (all_in_flight moves.state moved accesses).state (left moves.taken) ∙ flight_layout moved accesses moves.state ∙ each_layout s target ws
+    freed_layout (all_in_flight moves.state moved accesses).state (frames_left moves.taken) ∙ flight_layout moved accesses moves.state ∙ each_layout s target ws

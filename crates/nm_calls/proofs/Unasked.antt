@@ -8,7 +8,7 @@ use Rattle.nm_types.specs.declared.request.Wanted.{Wanted}
 use Rattle.nm_types.specs.declared.request.Wanted.TheVariants.{At as Spot, Whole}
 use Rattle.nm_model.specs.definitions.Status.{status_or_move}
 use Rattle.nm_model.specs.definitions.Cut.{Stretch, all_to}
-use Rattle.nm_model.specs.definitions.Run.{Decision, moved_page, decision, one_request, Progress, each_request, with_free, with_all_free, left, failures, with_counts, Ran, run}
+use Rattle.nm_model.specs.definitions.Run.{Decision, moved_page, decision, one_request, Progress, each_request, with_free, with_all_free, frames_left, failures, with_counts, Ran, run}
 use Rattle.nm_model.specs.definitions.Run.{runs_from}
 use Rattle.nm_model.specs.definitions.Cut.{cut_within}
 use Rattle.nm_calls.specs.definitions.Passes.{without_frame, passes}
@@ -60,7 +60,7 @@ freed_same online s (frame ∷ frames) = freed_same online (with_free s frame) f
 abbrev then_run : Progress → Ran
 then_run moves =
     record {
-      state = with_counts (with_all_free moves.state (left moves.taken)) (length moves.taken) (failures moves.statuses);
+      state = with_counts (with_all_free moves.state (frames_left moves.taken)) (length moves.taken) (failures moves.statuses);
       statuses = moves.statuses;
       answers = [] ∷ [];
     }
@@ -69,7 +69,7 @@ run_same : (online : List ℕ) (s : State) (target : ℕ) (ws : List Wanted) →
 run_same online s target ws =
     let moves = each_request s target ws in
     let total : State → Ran = λ t. record { state = with_counts t (length moves.taken) (failures moves.statuses); statuses = moves.statuses; answers = [] ∷ [] } in
-    ap then_run (each_same online s target ws) ∙ ap total (freed_same online moves.state (left moves.taken))
+    ap then_run (each_same online s target ws) ∙ ap total (freed_same online moves.state (frames_left moves.taken))
 
 -- what follows a run
 abbrev then_runs : ℕ → List Stretch → Ran → Ran

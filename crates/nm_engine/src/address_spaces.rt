@@ -40,10 +40,10 @@ pub(crate) struct AddressSpaces<A: Allocator + Copy> {
 }
 
 impl<A: Allocator + Copy> Model for AddressSpaces<A> {
-    ghost use Rattle.nm_engine.specs.views.AddressSpaces.{SpacesView, spaces_view};
+    ghost use Rattle.nm_engine.specs.views.AddressSpaces.{AddressSpacesView, spaces_view};
     ghost use Rattle.nm_engine.specs.definitions.Tied.{IsTied};
 
-    ghost Value = { SpacesView };
+    ghost Value = { AddressSpacesView };
 
     ghost view = { λ s. spaces_view s.tasks s.areas s.rmap };
 

@@ -11,7 +11,7 @@ ghost use Rattle.nm_engine.specs.views.Copies.{CanCopy, HasBoth, with_copies, em
 ghost use Rattle.nm_model.specs.definitions.BeforeCopy.{frames_taken};
 ghost use Rattle.nm_engine.specs.definitions.AfterCopy.{all_stored_after_copy, CanDo};
 ghost use Rattle.nm_engine.specs.views.Accesses.{answer_shown, pending_shown, HasRoom};
-ghost use Rattle.nm_model.specs.definitions.Run.{left};
+ghost use Rattle.nm_model.specs.definitions.Run.{frames_left};
 ghost use Rattle.nm_model.specs.definitions.Frames.{IsHome, bytes_of, overwrite};
 ghost use Rattle.nm_model.specs.definitions.Sound.{is_audited, numbered};
 ghost use Rattle.nm_model.specs.definitions.Frames.{all_frames};
@@ -318,8 +318,8 @@ impl<A: Allocator + Copy> Frames<A> {
     /// Lets the pages of these moves leave their frames, which become free when the run ends, for those taken for them.
     pub(crate) fn vacate_each(&mut self, moves: &[Taken])
         requires room { length moves.now ≤ self.old.room }
-        requires populated { AllByRecursion (IsPopulated self.old.frames) (left moves.now) }
-        ensures vacated { self.new ≡ record (self.old) { vacated = left moves.now } }
+        requires populated { AllByRecursion (IsPopulated self.old.frames) (frames_left moves.now) }
+        ensures vacated { self.new ≡ record (self.old) { vacated = frames_left moves.now } }
         ensures populated { AllByRecursion (IsPopulated self.old.frames) self.old.vacated }
         ensures shelf { HasAllFrames self.old }
     {
@@ -513,7 +513,7 @@ fn push_tos<A: Allocator + Copy>(taken: &mut Vec<FrameId, A>, moves: &[Taken])
 /// Appends the frames that the pages of these moves leave to a list that has room for them.
 fn push_left<A: Allocator + Copy>(vacated: &mut Vec<FrameId, A>, moves: &[Taken])
     requires { vec_len vacated.old + length moves.now ≤ vec_capacity vacated.old }
-    ensures items { vacated.new.items ≡ vacated.old.items ++ left moves.now }
+    ensures items { vacated.new.items ≡ vacated.old.items ++ frames_left moves.now }
     ensures room { vec_capacity vacated.new ≡ vec_capacity vacated.old }
 {
     for taken in moves {

@@ -13,7 +13,7 @@ use Rattle.nm_types.specs.State.{State}
 use Rattle.nm_types.proofs.Maps.{page_cmp_total, keys-values}
 use Rattle.nm_model.specs.definitions.Frames.{Store, IsHome, overwrite}
 use Rattle.nm_types.specs.declared.taken.Taken.{Taken}
-use Rattle.nm_engine.specs.views.AddressSpaces.{SpacesView, with_moved, table_of}
+use Rattle.nm_engine.specs.views.AddressSpaces.{AddressSpacesView, with_moved, table_of}
 use Rattle.nm_frames.specs.Populated.{IsPopulated}
 use Rattle.nm_engine.specs.views.Copies.{without_both, emptied, with_copies, CanCopy, HasBoth}
 use Rattle.nm_engine.specs.views.Frames.{FramesView, HasAllFrames, free_on}
@@ -22,7 +22,7 @@ use Rattle.nm_laws.specs.Laws.{with_moves}
 use Rattle.nm_engine.specs.views.MidRun.{MidRun, IsKept}
 use Rattle.nm_laws.specs.Moves.{CanMove}
 use Rattle.nm_engine.specs.definitions.Moves.{CanRemap, all_moved}
-use Rattle.nm_model.specs.definitions.Run.{left}
+use Rattle.nm_model.specs.definitions.Run.{frames_left}
 use Rattle.nm_engine.specs.views.Shown.{shown_by, paged_frames}
 use Rattle.nm_model.specs.definitions.Sound.{times, IsSoundMidRun, IsSound}
 use Rattle.nm_model.specs.definitions.BeforeCopy.{PendingAccess, Known, ToRead, ToWrite, at_page, with_written, after_copy, all_after_copy, frames_taken, with_fronts, IsInside, IsPending}
@@ -88,7 +88,7 @@ all_inside (d ∷ dues) moved s due = (due.0.2, all_inside dues moved s due.1)
 no : true ≡ false → ⊥
 no e = cc
 
-moved_beside : (taken : List Taken) (y : SpacesView) (p : Page) → list_any (same_page p) (pages_of taken) ≡ false → get page_cmp (all_moved y taken).place p ≡ get page_cmp y.place p
+moved_beside : (taken : List Taken) (y : AddressSpacesView) (p : Page) → list_any (same_page p) (pages_of taken) ≡ false → get page_cmp (all_moved y taken).place p ≡ get page_cmp y.place p
 moved_beside [] y p other = refl
 moved_beside (t ∷ taken) y p other =
     moved_beside taken (with_moved y t.page t.to) p (neither (same_page p t.page) _ other)
@@ -104,17 +104,17 @@ one_here f = ap (λ b. cond b 1 0) (Rattle.std.proofs.Common.eq-eqb f f refl)
 none_here : (f g : ℕ) (xs : List ℕ) → times f (g ∷ xs) ≡ 0 → f ≢ g
 none_here f g xs none e = let one : here f g ≡ 1 = ap (here f) (sym e) ∙ one_here f in omega (arith, none, one, times_cons f g xs)
 
-populated_meanwhile : (taken : List Taken) (store : Store) (f : ℕ) → times f (left taken) ≡ 0 → times f (frames_taken taken) ≡ 0 → IsPopulated store f → IsPopulated (emptied store taken) f
+populated_meanwhile : (taken : List Taken) (store : Store) (f : ℕ) → times f (frames_left taken) ≡ 0 → times f (frames_taken taken) ≡ 0 → IsPopulated store f → IsPopulated (emptied store taken) f
 populated_meanwhile [] store f from to whole = whole
 populated_meanwhile (t ∷ taken) store f from to whole =
-    populated_meanwhile taken (without_both store t) f (omega (arith, from, times_cons f t.from (left taken))) (omega (arith, to, times_cons f t.to (frames_taken taken)))
-    (stays_populated store t f (none_here f t.from (left taken) from) (none_here f t.to (frames_taken taken) to) whole)
+    populated_meanwhile taken (without_both store t) f (omega (arith, from, times_cons f t.from (frames_left taken))) (omega (arith, to, times_cons f t.to (frames_taken taken)))
+    (stays_populated store t f (none_here f t.from (frames_left taken) from) (none_here f t.to (frames_taken taken) to) whole)
 
-home_meanwhile : (taken : List Taken) (store : Store) (f : ℕ) → times f (left taken) ≡ 0 → times f (frames_taken taken) ≡ 0 → IsHome store f → IsHome (emptied store taken) f
+home_meanwhile : (taken : List Taken) (store : Store) (f : ℕ) → times f (frames_left taken) ≡ 0 → times f (frames_taken taken) ≡ 0 → IsHome store f → IsHome (emptied store taken) f
 home_meanwhile [] store f from to home = home
 home_meanwhile (t ∷ taken) store f from to home =
-    home_meanwhile taken (without_both store t) f (omega (arith, from, times_cons f t.from (left taken))) (omega (arith, to, times_cons f t.to (frames_taken taken)))
-    (stays_home store t f (none_here f t.from (left taken) from) (none_here f t.to (frames_taken taken) to) home)
+    home_meanwhile taken (without_both store t) f (omega (arith, from, times_cons f t.from (frames_left taken))) (omega (arith, to, times_cons f t.to (frames_taken taken)))
+    (stays_home store t f (none_here f t.from (frames_left taken) from) (none_here f t.to (frames_taken taken) to) home)
 
 none_more : (a b c : ℕ) (t : Bool) → a + b + c ≡ cond t 1 0 → 1 ≤ a → c ≡ 0
 none_more a b c true e h = omega (arith, e, h)
@@ -126,24 +126,24 @@ placed_apart s l p f h placed = none_more (times f (values_of s.place)) (sum_by 
 
 -- ---- all at once
 
-module _ (y : SpacesView) (k : FramesView) (online : List ℕ) (moved failed target : ℕ) (taken : List Taken) (dues : List PendingAccess) where
+module _ (y : AddressSpacesView) (k : FramesView) (online : List ℕ) (moved failed target : ℕ) (taken : List Taken) (dues : List PendingAccess) where
   -- the frames as if those that are taken were still a node's
   abbrev pub given : FramesView
   given = record k { free = slice_set k.free target (frames_taken taken ++ free_on k target); vacated = [] }
 
   -- the pages moved, and copied
-  abbrev pub spaces_then : SpacesView
+  abbrev pub spaces_then : AddressSpacesView
   spaces_then = all_moved y taken
 
   abbrev pub frames_then : FramesView
-  frames_then = record k { frames = with_copies k.frames taken; vacated = left taken }
+  frames_then = record k { frames = with_copies k.frames taken; vacated = frames_left taken }
 
   -- .. as the calls leave the frames, one after another
-  pub copied_frames : (v w : FramesView) (z : SpacesView) → v ≡ record k { vacated = left taken } → z ≡ spaces_then → w ≡ record v { frames = (all_stored_after_copy z.place (with_copies v.frames taken) dues).store; room = w.room }
-      → w ≡ record k { frames = (all_stored_after_copy spaces_then.place (with_copies k.frames taken) dues).store; vacated = left taken; room = w.room }
+  pub copied_frames : (v w : FramesView) (z : AddressSpacesView) → v ≡ record k { vacated = frames_left taken } → z ≡ spaces_then → w ≡ record v { frames = (all_stored_after_copy z.place (with_copies v.frames taken) dues).store; room = w.room }
+      → w ≡ record k { frames = (all_stored_after_copy spaces_then.place (with_copies k.frames taken) dues).store; vacated = frames_left taken; room = w.room }
   copied_frames v w z vacated remapped copied =
       copied ∙ ap (λ (x : FramesView). record x { frames = (all_stored_after_copy z.place (with_copies x.frames taken) dues).store; room = w.room }) vacated
-      ∙ ap (λ (x : SpacesView). record k { frames = (all_stored_after_copy x.place (with_copies k.frames taken) dues).store; vacated = left taken; room = w.room }) remapped
+      ∙ ap (λ (x : AddressSpacesView). record k { frames = (all_stored_after_copy x.place (with_copies k.frames taken) dues).store; vacated = frames_left taken; room = w.room }) remapped
 
   abbrev pub state_given : State
   state_given = shown_by y given online moved failed
@@ -177,14 +177,14 @@ module _ (y : SpacesView) (k : FramesView) (online : List ℕ) (moved failed tar
       }
 
   -- the frames that pages leave have their bytes in memory
-  lefts : IsSound state_given → CanMove state_given target taken → AllByRecursion (IsPopulated k.frames) (left taken)
+  lefts : IsSound state_given → CanMove state_given target taken → AllByRecursion (IsPopulated k.frames) (frames_left taken)
   lefts sound can =
       let on : AllByRecursion (λ f. node_of k.layout f ≡ target) (frames_taken taken) =
       subst (AllByRecursion (λ f. node_of k.layout f ≡ target)) (sym (tos_are taken state_given target can)) (all_taken (length taken) (free_on given target) k.layout target (sound.frames.own target)) in
       left_populated taken state_given target k.frames sound.bytes.whole (all_leave taken state_given target on can)
 
   pub lefts_populated : (x : MidRun) → record { state = shown_by y k online moved failed; left = k.vacated; room = k.room } ≡ x
-      → IsSound (with_fronts (x.state) target (frames_taken taken)) → CanMove (with_fronts (x.state) target (frames_taken taken)) target taken → AllByRecursion (IsPopulated k.frames) (left taken)
+      → IsSound (with_fronts (x.state) target (frames_taken taken)) → CanMove (with_fronts (x.state) target (frames_taken taken)) target taken → AllByRecursion (IsPopulated k.frames) (frames_left taken)
   lefts_populated x is sound can =
       lefts (subst (λ (z : MidRun). IsSound (with_fronts (z.state) target (frames_taken taken))) (sym is) sound) (subst (λ (z : MidRun). CanMove (with_fronts (z.state) target (frames_taken taken)) target taken) (sym is) can)
 
@@ -216,13 +216,13 @@ module _ (y : SpacesView) (k : FramesView) (online : List ℕ) (moved failed tar
     shows : shown_by spaces_then frames_then online moved failed ≡ with_moves state_given target taken
     shows = ap (λ (x : FramesView). shown_by spaces_then x online moved failed) (sym all_is) ∙ done.shown
 
-    kept_then : IsKept (shown_by spaces_then frames_then online moved failed) (left taken) spaces_then.frames
+    kept_then : IsKept (shown_by spaces_then frames_then online moved failed) (frames_left taken) spaces_then.frames
     kept_then = subst (λ (x : FramesView). IsKept (shown_by spaces_then x online moved failed) x.vacated spaces_then.frames) all_is done.kept
 
     -- frames that no move names are home and have their bytes in memory
     abbrev Beside : Store → Type 0
     Beside store =
-        (f : ℕ) → times f (left taken) ≡ 0 → times f (frames_taken taken) ≡ 0 → IsHome k.frames f → IsPopulated k.frames f → IsHome store f × IsPopulated store f
+        (f : ℕ) → times f (frames_left taken) ≡ 0 → times f (frames_taken taken) ≡ 0 → IsHome k.frames f → IsPopulated k.frames f → IsHome store f × IsPopulated store f
 
     -- the page of what is left to do is in a frame that is home meanwhile
     page_in : (store : Store) → Beside store
@@ -230,7 +230,7 @@ module _ (y : SpacesView) (k : FramesView) (online : List ℕ) (moved failed tar
     page_in store homes p at len None e some other fits = cc
     page_in store homes p at len (Some f) e some other fits =
         let placed : get page_cmp spaces_then.place p ≡ Some f = moved_beside taken y p other ∙ e in
-        let there = homes f (placed_apart (shown_by spaces_then frames_then online moved failed) (left taken) p f kept_then.sound placed)
+        let there = homes f (placed_apart (shown_by spaces_then frames_then online moved failed) (frames_left taken) p f kept_then.sound placed)
         (subst (λ (l : List ℕ). times f l ≡ 0) h.reserved (placed_apart (shown_by y k online moved failed) k.vacated p f h.kept.sound e))
         (h.shelf.home f (place_in_range (shown_by y k online moved failed) k.vacated p f h.kept.sound e))
         (place_populated k.frames y.place p f h.kept.sound.bytes.whole e) in
@@ -261,18 +261,18 @@ module _ (y : SpacesView) (k : FramesView) (online : List ℕ) (moved failed tar
         all_done_shows spaces_then.processes (table_of spaces_then) online moved failed (paged_frames spaces_then frames_then) kept_then.sound.order.place kept_then.sound.apart dues (with_copies k.frames taken) can_after
         ∙ ap (λ (s : State). all_after_copy s dues) shows
 
-    pub finished_shows : (z : FramesView) → z ≡ record k { frames = finished.store; vacated = left taken; room = z.room } → shown_by spaces_then z online moved failed ≡ (all_after_copy (with_moves state_given target taken) dues).state
+    pub finished_shows : (z : FramesView) → z ≡ record k { frames = finished.store; vacated = frames_left taken; room = z.room } → shown_by spaces_then z online moved failed ≡ (all_after_copy (with_moves state_given target taken) dues).state
     finished_shows z is = ap (λ (x : FramesView). shown_by spaces_then x online moved failed) is ∙ ap (λ (x : AllAnswered). x.state) both
 
     pub finished_told : finished.answers ≡ (all_after_copy (with_moves state_given target taken) dues).answers
     finished_told = ap (λ (x : AllAnswered). x.answers) both
 
-    pub finished_kept : (z : FramesView) → z ≡ record k { frames = finished.store; vacated = left taken; room = z.room } → IsKept (shown_by spaces_then z online moved failed) z.vacated spaces_then.frames
+    pub finished_kept : (z : FramesView) → z ≡ record k { frames = finished.store; vacated = frames_left taken; room = z.room } → IsKept (shown_by spaces_then z online moved failed) z.vacated spaces_then.frames
     finished_kept z is =
         record {
           sound = subst (λ (l : List ℕ). IsSoundMidRun (shown_by spaces_then z online moved failed) l) (sym (ap (λ (x : FramesView). x.vacated) is))
-              (subst (λ (s : State). IsSoundMidRun s (left taken)) (sym (finished_shows z is))
-              (all_made_sound dues (with_moves state_given target taken) (left taken) (all_inside dues (pages_of taken) (shown_by y k online moved failed) h.due)
-              (subst (λ (s : State). IsSoundMidRun s (left taken)) shows kept_then.sound)));
+              (subst (λ (s : State). IsSoundMidRun s (frames_left taken)) (sym (finished_shows z is))
+              (all_made_sound dues (with_moves state_given target taken) (frames_left taken) (all_inside dues (pages_of taken) (shown_by y k online moved failed) h.due)
+              (subst (λ (s : State). IsSoundMidRun s (frames_left taken)) shows kept_then.sound)));
           as_many = kept_then.as_many ∙ sym (ap (λ (x : FramesView). frame_count x.layout) is);
         }

@@ -4,7 +4,7 @@ use Rattle.std.specs.Prelude.{slice_set, slice_index_or}
 use Rattle.std.proofs.lemmas.List.{get_or-set_same, set-set, set-get_or, take-append-drop}
 use Rattle.nm_types.specs.State.{State, free_list}
 use Rattle.nm_types.specs.declared.taken.Taken.{Taken}
-use Rattle.nm_engine.specs.views.AddressSpaces.{SpacesView}
+use Rattle.nm_engine.specs.views.AddressSpaces.{AddressSpacesView}
 use Rattle.nm_model.specs.definitions.BeforeCopy.{without_fronts, with_fronts, frames_taken}
 use Rattle.nm_engine.specs.views.Frames.{FramesView, free_on}
 use Rattle.nm_engine.specs.views.MidRun.{IsKept}
@@ -15,7 +15,7 @@ use Rattle.nm_laws.proofs.Early.Fronts.{fronts_sound}
 use Rattle.nm_laws.proofs.Early.Phases.{tos_are}
 
 -- the machine is sound with the frames taken
-pub taken_kept : (y : SpacesView) (k w : FramesView) (online : List ℕ) (moved failed target : ℕ) (moves : List Taken) → IsKept (shown_by y k online moved failed) k.vacated y.frames
+pub taken_kept : (y : AddressSpacesView) (k w : FramesView) (online : List ℕ) (moved failed target : ℕ) (moves : List Taken) → IsKept (shown_by y k online moved failed) k.vacated y.frames
     → k.vacated ≡ [] → target < length k.free → CanMove (shown_by y k online moved failed) target moves
     → w ≡ record k { free = slice_set k.free target (drop (length moves) (free_on k target)); vacated = k.vacated ++ frames_taken moves }
     → IsKept (shown_by y w online moved failed) w.vacated y.frames

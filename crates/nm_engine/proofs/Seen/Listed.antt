@@ -20,7 +20,7 @@ use Rattle.nm_types.specs.declared.entry.Entry.{Entry}
 use Rattle.nm_model.specs.definitions.Areas.{Mapped}
 use Rattle.nm_rmap.specs.Mappers.{Mappers}
 use Rattle.nm_types.specs.declared.located.Located.{Located}
-use Rattle.nm_engine.specs.views.AddressSpaces.{SpacesView, spaces_view}
+use Rattle.nm_engine.specs.views.AddressSpaces.{AddressSpacesView, spaces_view}
 use Rattle.nm_model.specs.definitions.PageTables.{sight_of, page_here}
 use Rattle.nm_model.specs.definitions.Seen.{located, located_in, in_frame}
 use Rattle.nm_model.specs.definitions.PageTables.{Task, entry_at}
@@ -111,7 +111,7 @@ all_at P [] k x h low = absurd (omega (arith, low))
 all_at P (y ∷ xs) zero x h low = h.0
 all_at P (y ∷ xs) (suc k) x h low = all_at P xs k x h.1 (omega (arith, low))
 
-module _ (y : SpacesView) (tasks : Map ℕ Task) (m : Mapped) (r : Mappers) (pid : ℕ) (is : spaces_view tasks m r ≡ y) (h : IsTied tasks m r) where
+module _ (y : AddressSpacesView) (tasks : Map ℕ Task) (m : Mapped) (r : Mappers) (pid : ℕ) (is : spaces_view tasks m r ≡ y) (h : IsTied tasks m r) where
   found : AllByRecursion (λ e. entry_at tasks pid e.0 ≡ Some e.1) (entries_in tasks pid)
   found =
       all_from_get nat_cmp_total exact_unsigned (λ v x. entry_at tasks pid v ≡ Some x) (entries_in tasks pid) (sorted_of tasks pid (get nat_cmp tasks pid) h.tables refl)
@@ -130,10 +130,10 @@ module _ (y : SpacesView) (tasks : Map ℕ Task) (m : Mapped) (r : Mappers) (pid
     pub page_behind : (p : Page) × (page_at y.areas pid v ≡ Some p) × (get page_cmp y.place p ≡ Some f)
     page_behind =
         let s = h.shows f pid v (ap (names f) there ∙ named) in
-        (s.0, ap (λ (z : SpacesView). page_at z.areas pid v) (sym is) ∙ s.1, ap (λ (z : SpacesView). get page_cmp z.place s.0) (sym is) ∙ s.2)
+        (s.0, ap (λ (z : AddressSpacesView). page_at z.areas pid v) (sym is) ∙ s.1, ap (λ (z : AddressSpacesView). get page_cmp z.place s.0) (sym is) ∙ s.2)
 
     pub frame_behind : f < y.frames
-    frame_behind = let s = h.shows f pid v (ap (names f) there ∙ named) in subst (λ (z : SpacesView). f < z.frames) is (h.in_range s.0 f s.2)
+    frame_behind = let s = h.shows f pid v (ap (names f) there ∙ named) in subst (λ (z : AddressSpacesView). f < z.frames) is (h.in_range s.0 f s.2)
 
     pub located_behind : (g : Layout) → in_frame g v (page_here y.areas pid v) (get page_cmp y.place (page_here y.areas pid v)) ≡ in_frame g v (page_here y.areas pid v) (Some f)
     located_behind g =
@@ -150,5 +150,5 @@ module _ (y : SpacesView) (tasks : Map ℕ Task) (m : Mapped) (r : Mappers) (pid
   pub all_listed : (g : Layout) (first end : ℕ) (es : Map ℕ Entry) → es ≡ between first end (entries_in tasks pid) → pages_in g y.place y.areas pid es ≡ located_in g y.place (between first end (sights y.processes pid))
   all_listed g first end es range =
       ap (pages_in g y.place y.areas pid) range
-      ∙ ap (λ (z : SpacesView). located_in g y.place (with_values (sight_of z.areas pid) (between first end (entries_in tasks pid)))) (sym is)
+      ∙ ap (λ (z : AddressSpacesView). located_in g y.place (with_values (sight_of z.areas pid) (between first end (entries_in tasks pid)))) (sym is)
       ∙ ap (located_in g y.place) (sym (range_shown y tasks m r pid is h first end))

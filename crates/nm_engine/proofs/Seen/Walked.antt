@@ -31,7 +31,7 @@ use Rattle.nm_rmap.specs.Mappers.{Mappers}
 use Rattle.nm_model.specs.definitions.PageTables.{Task, entry_in, entry_at}
 use Rattle.nm_engine.specs.views.ProcessTable.{task_table, entries_in}
 use Rattle.nm_engine.specs.views.MidRun.{MidRun}
-use Rattle.nm_engine.specs.views.AddressSpaces.{SpacesView, spaces_view}
+use Rattle.nm_engine.specs.views.AddressSpaces.{AddressSpacesView, spaces_view}
 use Rattle.nm_model.specs.definitions.PageTables.{sight_of, process_of, page_here}
 use Rattle.nm_model.specs.definitions.Seen.{sight_in, sight_at, is_sight_of, sees_page, users, look_at_place}
 use Rattle.nm_types.specs.declared.seen.Seen.{Seen}
@@ -193,10 +193,10 @@ between_values F (e ∷ m) first end =
       | false ↦ rest
     ]
 
-module _ (y : SpacesView) (tasks : Map ℕ Task) (m : Mapped) (r : Mappers) (pid : ℕ) (is : spaces_view tasks m r ≡ y) (h : IsTied tasks m r) where
+module _ (y : AddressSpacesView) (tasks : Map ℕ Task) (m : Mapped) (r : Mappers) (pid : ℕ) (is : spaces_view tasks m r ≡ y) (h : IsTied tasks m r) where
   pub sees_shown : sights y.processes pid ≡ with_values (sight_of m.areas pid) (entries_in tasks pid)
   sees_shown =
-      ap (λ (y : SpacesView). sights y.processes pid) (sym is)
+      ap (λ (y : AddressSpacesView). sights y.processes pid) (sym is)
       ∙ ap sights_in (get-values exact_unsigned (process_of m.areas) tasks pid)
       ∙ shown_of m.areas pid (get nat_cmp tasks pid)
 
@@ -223,7 +223,7 @@ module _ (y : SpacesView) (tasks : Map ℕ Task) (m : Mapped) (r : Mappers) (pid
   -- the page that is shown where it is seen
   pub page_shown_here : (v : ℕ) (page : Page) → Some page ≡ page_at y.areas pid v → Sees (page_here m.areas pid v) ≡ Sees page
   page_shown_here v page at =
-      ap (λ o. Sees (unwrap_or o (record { segment = 0; index = 0 }))) (sym (at ∙ ap (λ (y : SpacesView). page_at y.areas pid v) (sym is)))
+      ap (λ o. Sees (unwrap_or o (record { segment = 0; index = 0 }))) (sym (at ∙ ap (λ (y : AddressSpacesView). page_at y.areas pid v) (sym is)))
 
 -- nobody sees a page without a frame
 none_of : (test : Process → Bool) (ps : Map ℕ Process) → AllByRecursion (λ e. test e.1 ≡ false) ps → keys_of (filter (λ e. test e.1) ps) ≡ []

@@ -19,7 +19,7 @@ use Rattle.nm_model.specs.views.Table.{Table}
 use Rattle.nm_model.specs.definitions.Areas.{areas_left, pages_gone, place_left, lost, with_its_frame, all_lost, frames_lost}
 use Rattle.nm_model.specs.definitions.Effect.{is_covered, released_from, released, dropped}
 use Rattle.nm_model.specs.definitions.Sound.{times, FramesAreOnce, IsSoundMidRun}
-use Rattle.nm_engine.specs.views.AddressSpaces.{SpacesView, mapped_of, table_of, without_range}
+use Rattle.nm_engine.specs.views.AddressSpaces.{AddressSpacesView, mapped_of, table_of, without_range}
 use Rattle.nm_engine.specs.views.Frames.{FramesView, PagedFrames, with_freed, pool_of, CanFree}
 use Rattle.nm_engine.specs.views.Shown.{bytes_in, shown, paged_frames, shown_by}
 use Rattle.nm_engine.specs.views.MidRun.{IsKept}
@@ -163,7 +163,7 @@ module _ (g : Layout) (free : List (List ℕ)) (areas : Map (ℕ × ℕ) Area) w
 
 -- ---- a range of a process that goes, in address spaces and frames
 
-module _ (y : SpacesView) (k : FramesView) (online : List ℕ) (moved failed : ℕ) (pid first end : ℕ) where
+module _ (y : AddressSpacesView) (k : FramesView) (online : List ℕ) (moved failed : ℕ) (pid first end : ℕ) where
   -- the frames that become free can be freed
   pub can_go : k.vacated ≡ [] → IsSoundMidRun (shown_by y k online moved failed) k.vacated → CanFree (pool_of k) (frames_of (frames_lost (mapped_of y) pid first end))
   can_go none h =
@@ -172,15 +172,15 @@ module _ (y : SpacesView) (k : FramesView) (online : List ℕ) (moved failed : �
       let after = pages_aside k.layout k.free areas pages y.place [] (subst (FramesAreOnce k.layout y.place k.free) none h.frames) in
       (all_freed k.layout (fold (place_left areas) y.place pages) (pool_of k) (frames_of (frames_lost (mapped_of y) pid first end)) refl after).can
 
-  pub gone_shows : (z : SpacesView) (after : FramesView) (freed : List (Page × ℕ)) → keys_of y.pins ≡ keys_of y.place → z ≡ without_range y pid first end → freed ≡ frames_lost (mapped_of y) pid first end
+  pub gone_shows : (z : AddressSpacesView) (after : FramesView) (freed : List (Page × ℕ)) → keys_of y.pins ≡ keys_of y.place → z ≡ without_range y pid first end → freed ≡ frames_lost (mapped_of y) pid first end
       → after ≡ record k { free = (with_freed (pool_of k) (frames_of freed)).lists } → shown_by z after online moved failed ≡ dropped (shown_by y k online moved failed) pid first end
   gone_shows z after freed keys is lost free =
       let gone = without_range y pid first end in
-      ap (λ (w : SpacesView). shown_by w after online moved failed) is
+      ap (λ (w : AddressSpacesView). shown_by w after online moved failed) is
       ∙ ap (λ (s : FramesView). shown_by gone s online moved failed) (free ∙ ap (λ fs. record k { free = (with_freed (pool_of k) (frames_of fs)).lists }) lost)
       ∙ sym (pages_gone_shows gone.processes (table_of gone) online moved failed (pages_gone y.areas pid first end) (paged_frames y k) keys)
 
-  pub gone_kept : (z : SpacesView) (after : FramesView) (freed : List (Page × ℕ)) → first ≤ end → k.vacated ≡ [] → IsKept (shown_by y k online moved failed) k.vacated y.frames → z ≡ without_range y pid first end
+  pub gone_kept : (z : AddressSpacesView) (after : FramesView) (freed : List (Page × ℕ)) → first ≤ end → k.vacated ≡ [] → IsKept (shown_by y k online moved failed) k.vacated y.frames → z ≡ without_range y pid first end
       → freed ≡ frames_lost (mapped_of y) pid first end → after ≡ record k { free = (with_freed (pool_of k) (frames_of freed)).lists } → IsKept (shown_by z after online moved failed) after.vacated z.frames
   gone_kept z after freed range none kept is lost free =
       let s = shown_by y k online moved failed in
@@ -189,7 +189,7 @@ module _ (y : SpacesView) (k : FramesView) (online : List ℕ) (moved failed : �
       record {
         sound = subst (λ l. IsSoundMidRun (shown_by z after online moved failed) l) (sym left)
             (subst (λ t. IsSoundMidRun t []) (sym same) (dropped_sound s [] (subst (λ l. IsSoundMidRun s l) none kept.sound) pid first end range));
-        as_many = ap (λ (w : SpacesView). w.frames) is ∙ kept.as_many ∙ sym (ap (λ (k : FramesView). frame_count k.layout) free);
+        as_many = ap (λ (w : AddressSpacesView). w.frames) is ∙ kept.as_many ∙ sym (ap (λ (k : FramesView). frame_count k.layout) free);
       }
 
 -- a process that sees nothing at any page number sees nothing

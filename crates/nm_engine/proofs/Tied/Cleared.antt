@@ -25,7 +25,7 @@ use Rattle.nm_model.specs.definitions.Areas.{Mapped}
 use Rattle.nm_rmap.specs.Mappers.{Mappers, mappers_of, without_mapper}
 use Rattle.nm_model.specs.definitions.PageTables.{Task, entry_at, entry_in}
 use Rattle.nm_engine.specs.views.ProcessTable.{names, without_entry, cleared_between, cleared}
-use Rattle.nm_engine.specs.views.AddressSpaces.{SpacesView, spaces_view}
+use Rattle.nm_engine.specs.views.AddressSpaces.{AddressSpacesView, spaces_view}
 use Rattle.nm_model.specs.definitions.PageTables.{process_of, sight_of}
 use Rattle.nm_engine.specs.definitions.Tied.{IsTied, IsCleared, IsLess, IsWithout, has_spot, is_between}
 use Rattle.nm_types.proofs.Maps.{equal, agree, get-values, get-replace, spot_cmp_total, with_values-without}
@@ -48,12 +48,12 @@ empty_table : (areas : Map (ℕ × ℕ) Area) (pid v : ℕ) (table : Map ℕ Ent
 empty_table areas pid v [] h = refl
 empty_table areas pid v (e ∷ table) h = cc
 
-module _ (y : SpacesView) (tasks : Map ℕ Task) (m : Mapped) (r : Mappers) (pid : ℕ) (t : IsTied tasks m r) (is : spaces_view tasks m r ≡ y) (blind : (p : Process) → get nat_cmp y.processes pid ≡ Some p → p.sees ≡ []) where
+module _ (y : AddressSpacesView) (tasks : Map ℕ Task) (m : Mapped) (r : Mappers) (pid : ℕ) (t : IsTied tasks m r) (is : spaces_view tasks m r ≡ y) (blind : (p : Process) → get nat_cmp y.processes pid ≡ Some p → p.sees ≡ []) where
   nothing_in : (o : Option Task) → get nat_cmp tasks pid ≡ o → (v : ℕ) → entry_in o v ≡ None
   nothing_in None h v = refl
   nothing_in (Some task) h v =
       empty_table m.areas pid v task.table
-      (blind (process_of m.areas pid task) (ap (λ (y : SpacesView). get nat_cmp y.processes pid) (sym is) ∙ get-values exact_unsigned (process_of m.areas) tasks pid ∙ ap (option_map (process_of m.areas pid)) h))
+      (blind (process_of m.areas pid task) (ap (λ (y : AddressSpacesView). get nat_cmp y.processes pid) (sym is) ∙ get-values exact_unsigned (process_of m.areas) tasks pid ∙ ap (option_map (process_of m.areas pid)) h))
 
   entry_left : (q v : ℕ) → entry_at (without nat_cmp tasks pid) q v ≡ entry_at tasks q v
   entry_left q v =
@@ -81,7 +81,7 @@ module _ (y : SpacesView) (tasks : Map ℕ Task) (m : Mapped) (r : Mappers) (pid
   pub left_shows : spaces_view (without nat_cmp tasks pid) m r ≡ record y { processes = without nat_cmp y.processes pid }
   left_shows =
       ap (λ ps. record (spaces_view tasks m r) { processes = ps }) (with_values-without nat_cmp (process_of m.areas) tasks pid)
-      ∙ ap (λ (y : SpacesView). record y { processes = without nat_cmp y.processes pid }) is
+      ∙ ap (λ (y : AddressSpacesView). record y { processes = without nat_cmp y.processes pid }) is
 
 -- ---- entries in a range go
 

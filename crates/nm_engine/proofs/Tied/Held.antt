@@ -27,7 +27,7 @@ use Rattle.nm_model.specs.definitions.RunMachine.{Job, job_from}
 use Rattle.nm_model.specs.definitions.Seen.{sight_in}
 use Rattle.nm_laws.proofs.InFlight.Values.{values_same, entries_show, changed_at}
 use Rattle.nm_rmap.specs.Mappers.{Mappers, mappers_of, carried}
-use Rattle.nm_engine.specs.views.AddressSpaces.{SpacesView, spaces_view, with_moved}
+use Rattle.nm_engine.specs.views.AddressSpaces.{AddressSpacesView, spaces_view, with_moved}
 use Rattle.nm_engine.specs.views.Held.{AreApart, entry_here, held_for, on_their_way, is_taken}
 use Rattle.nm_engine.specs.definitions.Moves.{CanRemap, all_moved}
 use Rattle.nm_engine.specs.views.ProcessTable.{names, IsThere, with_other_entry, replaced, replaced_in, all_replaced, remapped}
@@ -178,7 +178,7 @@ module _ (tasks : Map ℕ Task) (m : Mapped) (r : Mappers) (p : Page) (from to :
       sym (shown_arrived (all_replaced tasks (mappers_of r from) (Held to)) (with_frame m p to) (carried r from to))
       ∙ ap (λ (ts : Map ℕ Task). spaces_view ts (with_frame m p to) (carried r from to)) arrives
       ∙ move_shows (with_entries arrived tasks) m r p from to t placed spare
-      ∙ ap (λ (y : SpacesView). with_moved y p to) (shown_arrived tasks m r)
+      ∙ ap (λ (y : AddressSpacesView). with_moved y p to) (shown_arrived tasks m r)
 
   pub hold_entries : (pid v : ℕ) → entry_at (all_replaced tasks (mappers_of r from) (Held to)) pid v ≡ option_map (held_for from to) (entry_at tasks pid v)
   hold_entries pid v =
@@ -270,18 +270,18 @@ module _ (tasks : Map ℕ Task) (m : Mapped) (r : Mappers) (t : IsTied tasks m r
   again_one pid v (Some e) k = ap Some (sym (entry_again tasks m r t pid v e k))
 
   -- an entry names the frame of the page that is seen there
-  pub entry_shown : (y : SpacesView) → spaces_view tasks m r ≡ y → (pid v : ℕ) → entry_at tasks pid v ≡ entry_here y pid v
+  pub entry_shown : (y : AddressSpacesView) → spaces_view tasks m r ≡ y → (pid v : ℕ) → entry_at tasks pid v ≡ entry_here y pid v
   entry_shown y is pid v =
       again_one pid v (entry_at tasks pid v) refl
       ∙ ap (option_map (entry_of m.place)) (seen_here y tasks m r pid v (entry_at tasks pid v) is refl)
-      ∙ ap (λ (z : SpacesView). option_map (entry_of z.place) (sight_in (get nat_cmp y.processes pid) v)) is
+      ∙ ap (λ (z : AddressSpacesView). option_map (entry_of z.place) (sight_in (get nat_cmp y.processes pid) v)) is
 
 -- ---- the frames that pages take
 
-pub takes_below : (moves : List Taken) (y : SpacesView) → CanRemap y moves → AllByRecursion (λ t. t.to < y.frames) moves
+pub takes_below : (moves : List Taken) (y : AddressSpacesView) → CanRemap y moves → AllByRecursion (λ t. t.to < y.frames) moves
 takes_below [] y can = tt
 takes_below (t ∷ moves) y can = (can.1, takes_below moves (with_moved y t.page t.to) can.3)
 
-pub frames_stay : (moves : List Taken) (y : SpacesView) → (all_moved y moves).frames ≡ y.frames
+pub frames_stay : (moves : List Taken) (y : AddressSpacesView) → (all_moved y moves).frames ≡ y.frames
 frames_stay [] y = refl
 frames_stay (t ∷ moves) y = frames_stay moves (with_moved y t.page t.to)

@@ -30,7 +30,7 @@ use Rattle.nm_model.specs.definitions.AreaRefusal.{first_error, is_range, is_roo
 use Rattle.nm_rmap.specs.Mappers.{Mappers}
 use Rattle.nm_model.specs.definitions.PageTables.{Task, entry_at, entry_in}
 use Rattle.nm_engine.specs.views.ProcessTable.{names}
-use Rattle.nm_engine.specs.views.AddressSpaces.{SpacesView, spaces_view, pins_in, mapped_of, with_mapped}
+use Rattle.nm_engine.specs.views.AddressSpaces.{AddressSpacesView, spaces_view, pins_in, mapped_of, with_mapped}
 use Rattle.nm_model.specs.definitions.PageTables.{process_of, sight_of, page_here}
 use Rattle.nm_engine.specs.definitions.Tied.{IsTied}
 use Rattle.nm_types.proofs.Maps.{agree}
@@ -91,7 +91,7 @@ module _ (tasks : Map ℕ Task) (m n : Mapped) (r : Mappers) (t : IsTied tasks m
     frames = length r.mappings;
   }
 
-  pub still_shows_at : (y : SpacesView) → spaces_view tasks m r ≡ y → spaces_view tasks n r ≡ with_mapped y (mapped_of (spaces_view tasks n r))
+  pub still_shows_at : (y : AddressSpacesView) → spaces_view tasks m r ≡ y → spaces_view tasks n r ≡ with_mapped y (mapped_of (spaces_view tasks n r))
   still_shows_at y is = still_shows ∙ ap (λ y. with_mapped y n) is
 
 no_error : (b : Bool) (e : Errno) (es : List (Bool × Errno)) → first_error ((b, e) ∷ es) ≡ None → b ≡ false

@@ -17,7 +17,7 @@ use Rattle.nm_model.specs.definitions.Areas.{with_frame}
 use Rattle.nm_rmap.specs.Mappers.{Mappers, mappers_of, frame_pins, carried}
 use Rattle.nm_model.specs.definitions.PageTables.{Task, entry_at}
 use Rattle.nm_engine.specs.views.ProcessTable.{names, remapped}
-use Rattle.nm_engine.specs.views.AddressSpaces.{SpacesView, spaces_view, pins_in, with_moved}
+use Rattle.nm_engine.specs.views.AddressSpaces.{AddressSpacesView, spaces_view, pins_in, with_moved}
 use Rattle.nm_engine.specs.definitions.Tied.{IsTied, has_spot}
 use Rattle.nm_types.proofs.Maps.{equal, get-set, page_cmp_total, exact_page, spot_cmp_total, with_values-moved, keys-set}
 use Rattle.nm_engine.proofs.Tied.Remapped.{mappers_mapped, entry_at-remapped, remapped_shows, keys-remapped, order-remapped}
@@ -207,11 +207,11 @@ module _ (tasks : Map ℕ Task) (m : Mapped) (r : Mappers) (p : Page) (from to :
   }
 
 -- what is known of what is shown is known of the parts
-pub placed_in : (y : SpacesView) (tasks : Map ℕ Task) (m : Mapped) (r : Mappers) (p : Page) (f : ℕ) → spaces_view tasks m r ≡ y → get page_cmp y.place p ≡ Some f → get page_cmp m.place p ≡ Some f
-placed_in y tasks m r p f is h = subst (λ (y : SpacesView). get page_cmp y.place p ≡ Some f) (sym is) h
+pub placed_in : (y : AddressSpacesView) (tasks : Map ℕ Task) (m : Mapped) (r : Mappers) (p : Page) (f : ℕ) → spaces_view tasks m r ≡ y → get page_cmp y.place p ≡ Some f → get page_cmp m.place p ≡ Some f
+placed_in y tasks m r p f is h = subst (λ (y : AddressSpacesView). get page_cmp y.place p ≡ Some f) (sym is) h
 
-pub spare_in : (y : SpacesView) (tasks : Map ℕ Task) (m : Mapped) (r : Mappers) (f : ℕ) → spaces_view tasks m r ≡ y → f < y.frames → ((q : Page) → get page_cmp y.place q ≡ Some f → ⊥) → IsSpare m r f
+pub spare_in : (y : AddressSpacesView) (tasks : Map ℕ Task) (m : Mapped) (r : Mappers) (f : ℕ) → spaces_view tasks m r ≡ y → f < y.frames → ((q : Page) → get page_cmp y.place q ≡ Some f → ⊥) → IsSpare m r f
 spare_in y tasks m r f is below none = record {
-  place = subst (λ (y : SpacesView). (q : Page) → get page_cmp y.place q ≡ Some f → ⊥) (sym is) none;
-  frame = subst (λ (y : SpacesView). f < y.frames) (sym is) below;
+  place = subst (λ (y : AddressSpacesView). (q : Page) → get page_cmp y.place q ≡ Some f → ⊥) (sym is) none;
+  frame = subst (λ (y : AddressSpacesView). f < y.frames) (sym is) below;
 }

@@ -25,7 +25,7 @@ use Rattle.nm_model.specs.definitions.PageTables.{entry_of}
 use Rattle.nm_model.specs.definitions.Effect.{info_of, untouched}
 use Rattle.nm_model.specs.definitions.PageTables.{Task, entry_at, entry_in}
 use Rattle.nm_engine.specs.views.ProcessTable.{new_task, task_info, task_table, names}
-use Rattle.nm_engine.specs.views.AddressSpaces.{SpacesView, spaces_view}
+use Rattle.nm_engine.specs.views.AddressSpaces.{AddressSpacesView, spaces_view}
 use Rattle.nm_model.specs.definitions.PageTables.{process_of, sight_of, page_here}
 use Rattle.nm_engine.specs.definitions.Tied.{IsTied, has_spot}
 use Rattle.nm_types.proofs.Maps.{equal, get-set, get-values, all_from_get, with_values-set}
@@ -62,9 +62,9 @@ unmap_none f None h = refl
 unmap_none f (Some a) h = cc
 
 -- a process that is not shown has no table
-pub no_task : (y : SpacesView) (tasks : Map ℕ Task) (m : Mapped) (r : Mappers) (pid : ℕ) → spaces_view tasks m r ≡ y → get nat_cmp y.processes pid ≡ None → get nat_cmp tasks pid ≡ None
+pub no_task : (y : AddressSpacesView) (tasks : Map ℕ Task) (m : Mapped) (r : Mappers) (pid : ℕ) → spaces_view tasks m r ≡ y → get nat_cmp y.processes pid ≡ None → get nat_cmp tasks pid ≡ None
 no_task y tasks m r pid is h =
-    unmap_none (process_of m.areas pid) (get nat_cmp tasks pid) (sym (get-values exact_unsigned (process_of m.areas) tasks pid) ∙ ap (λ (y : SpacesView). get nat_cmp y.processes pid) is ∙ h)
+    unmap_none (process_of m.areas pid) (get nat_cmp tasks pid) (sym (get-values exact_unsigned (process_of m.areas) tasks pid) ∙ ap (λ (y : AddressSpacesView). get nat_cmp y.processes pid) is ∙ h)
 
 module _ (tasks : Map ℕ Task) (m : Mapped) (r : Mappers) (pid : ℕ) (info : ProcessInfo) (h : IsTied tasks m r) (absent : get nat_cmp tasks pid ≡ None) where
   entry_after : (q v : ℕ) → entry_at (set nat_cmp tasks pid (new_task info)) q v ≡ entry_at tasks q v
@@ -102,13 +102,13 @@ info_in : (areas : Map (ℕ × ℕ) Area) (pid : ℕ) (o : Option Task) → opti
 info_in areas pid None = refl
 info_in areas pid (Some t) = refl
 
-pub info_shown : (y : SpacesView) (tasks : Map ℕ Task) (m : Mapped) (r : Mappers) (pid : ℕ) → spaces_view tasks m r ≡ y → option_map task_info (get nat_cmp tasks pid) ≡ option_map info_of (get nat_cmp y.processes pid)
+pub info_shown : (y : AddressSpacesView) (tasks : Map ℕ Task) (m : Mapped) (r : Mappers) (pid : ℕ) → spaces_view tasks m r ≡ y → option_map task_info (get nat_cmp tasks pid) ≡ option_map info_of (get nat_cmp y.processes pid)
 info_shown y tasks m r pid is =
-    info_in m.areas pid (get nat_cmp tasks pid) ∙ ap (option_map info_of) (sym (get-values exact_unsigned (process_of m.areas) tasks pid) ∙ ap (λ (y : SpacesView). get nat_cmp y.processes pid) is)
+    info_in m.areas pid (get nat_cmp tasks pid) ∙ ap (option_map info_of) (sym (get-values exact_unsigned (process_of m.areas) tasks pid) ∙ ap (λ (y : AddressSpacesView). get nat_cmp y.processes pid) is)
 
 -- what is seen there is what the entry shows
-pub seen_here : (y : SpacesView) (tasks : Map ℕ Task) (m : Mapped) (r : Mappers) (pid v : ℕ) (o : Option Entry) → spaces_view tasks m r ≡ y → o ≡ entry_at tasks pid v → option_map (sight_of m.areas pid v) o ≡ sight_in (get nat_cmp y.processes pid) v
-seen_here y tasks m r pid v o is e = ap (option_map (sight_of m.areas pid v)) e ∙ sym (sight_shown m.areas tasks pid v) ∙ ap (λ (y : SpacesView). sight_in (get nat_cmp y.processes pid) v) is
+pub seen_here : (y : AddressSpacesView) (tasks : Map ℕ Task) (m : Mapped) (r : Mappers) (pid v : ℕ) (o : Option Entry) → spaces_view tasks m r ≡ y → o ≡ entry_at tasks pid v → option_map (sight_of m.areas pid v) o ≡ sight_in (get nat_cmp y.processes pid) v
+seen_here y tasks m r pid v o is e = ap (option_map (sight_of m.areas pid v)) e ∙ sym (sight_shown m.areas tasks pid v) ∙ ap (λ (y : AddressSpacesView). sight_in (get nat_cmp y.processes pid) v) is
 
 -- the entry of what it shows
 module _ (tasks : Map ℕ Task) (m : Mapped) (r : Mappers) (h : IsTied tasks m r) where
@@ -132,23 +132,23 @@ module _ (tasks : Map ℕ Task) (m : Mapped) (r : Mappers) (h : IsTied tasks m r
       (λ v e found. entry_again pid v e (ap (λ o. entry_in o v) k ∙ found)))))
 
   -- the table of a process lists the frames of what it sees
-  pub table_shown : (y : SpacesView) (pid : ℕ) → spaces_view tasks m r ≡ y
+  pub table_shown : (y : AddressSpacesView) (pid : ℕ) → spaces_view tasks m r ≡ y
       → option_map task_table (get nat_cmp tasks pid) ≡ option_map (λ (p : Process). with_values (λ v sight. entry_of y.place sight) p.sees) (get nat_cmp y.processes pid)
   table_shown y pid is =
       table_again pid (get nat_cmp tasks pid) refl
       ∙ ap (option_map (λ (p : Process). with_values (λ v sight. entry_of m.place sight) p.sees)) (sym (get-values exact_unsigned (process_of m.areas) tasks pid))
-      ∙ ap (λ (y : SpacesView). option_map (λ (p : Process). with_values (λ v sight. entry_of y.place sight) p.sees) (get nat_cmp y.processes pid)) is
+      ∙ ap (λ (y : AddressSpacesView). option_map (λ (p : Process). with_values (λ v sight. entry_of y.place sight) p.sees) (get nat_cmp y.processes pid)) is
 
 -- a page that is seen
-pub seen_page : (y : SpacesView) (tasks : Map ℕ Task) (m : Mapped) (r : Mappers) (pid v : ℕ) (e : Entry) (page : Page) → spaces_view tasks m r ≡ y → Some e ≡ entry_at tasks pid v → sight_of m.areas pid v e ≡ Sees (page_here m.areas pid v)
+pub seen_page : (y : AddressSpacesView) (tasks : Map ℕ Task) (m : Mapped) (r : Mappers) (pid v : ℕ) (e : Entry) (page : Page) → spaces_view tasks m r ≡ y → Some e ≡ entry_at tasks pid v → sight_of m.areas pid v e ≡ Sees (page_here m.areas pid v)
     → Some page ≡ page_at y.areas pid v → Some (Sees page) ≡ sight_in (get nat_cmp y.processes pid) v
 seen_page y tasks m r pid v e page is there sees at =
-    ap (λ o. Some (Sees (unwrap_or o (record { segment = 0; index = 0 })))) (at ∙ ap (λ (y : SpacesView). page_at y.areas pid v) (sym is))
+    ap (λ o. Some (Sees (unwrap_or o (record { segment = 0; index = 0 })))) (at ∙ ap (λ (y : AddressSpacesView). page_at y.areas pid v) (sym is))
     ∙ ap Some (sym sees)
     ∙ seen_here y tasks m r pid v (Some e) is there
 
 -- where an entry names a frame, an area shows a page
-pub no_page : (y : SpacesView) (tasks : Map ℕ Task) (m : Mapped) (r : Mappers) (pid v f : ℕ) (e : Entry) → spaces_view tasks m r ≡ y → IsTied tasks m r → Some e ≡ entry_at tasks pid v → names f (Some e) ≡ true → None ≡ page_at y.areas pid v → ⊥
+pub no_page : (y : AddressSpacesView) (tasks : Map ℕ Task) (m : Mapped) (r : Mappers) (pid v f : ℕ) (e : Entry) → spaces_view tasks m r ≡ y → IsTied tasks m r → Some e ≡ entry_at tasks pid v → names f (Some e) ≡ true → None ≡ page_at y.areas pid v → ⊥
 no_page y tasks m r pid v f e is h there named none =
     let s = h.shows f pid v (sym (ap (names f) there) ∙ named) in
-    none_some (none ∙ ap (λ (y : SpacesView). page_at y.areas pid v) (sym is) ∙ s.1)
+    none_some (none ∙ ap (λ (y : AddressSpacesView). page_at y.areas pid v) (sym is) ∙ s.1)

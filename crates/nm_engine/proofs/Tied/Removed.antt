@@ -29,7 +29,7 @@ use Rattle.nm_model.specs.definitions.Effect.{shows_pinned}
 use Rattle.nm_model.specs.definitions.Effect.{blind_between}
 use Rattle.nm_model.specs.definitions.PageTables.{Task, entry_at}
 use Rattle.nm_engine.specs.views.ProcessTable.{names, cleared_between, cleared}
-use Rattle.nm_engine.specs.views.AddressSpaces.{SpacesView, spaces_view, pins_in, without_range}
+use Rattle.nm_engine.specs.views.AddressSpaces.{AddressSpacesView, spaces_view, pins_in, without_range}
 use Rattle.nm_model.specs.definitions.PageTables.{process_of, sight_of}
 use Rattle.nm_engine.specs.definitions.Tied.{IsTied, IsCleared, has_spot, is_between}
 use Rattle.nm_types.proofs.Maps.{equal, agree, get-values, exact_page, page_cmp_total, with_values-without}
@@ -148,10 +148,10 @@ none_gone test pid first end (a ∷ areas) p h m =
     ] parts.0 m
 
 -- a page that is unmapped has no pins
-pub unpinned_pages : (y : SpacesView) (tasks : Map ℕ Task) (m : Mapped) (r : Mappers) (pid first end : ℕ) → spaces_view tasks m r ≡ y → shows_pinned y.areas y.pins pid first end ≡ false
+pub unpinned_pages : (y : AddressSpacesView) (tasks : Map ℕ Task) (m : Mapped) (r : Mappers) (pid first end : ℕ) → spaces_view tasks m r ≡ y → shows_pinned y.areas y.pins pid first end ≡ false
     → (p : Page) (f : ℕ) → Listed p (pages_gone m.areas pid first end) → get page_cmp m.place p ≡ Some f → frame_pins r f ≡ 0
 unpinned_pages y tasks m r pid first end is h p f listed found =
-    let free = none_gone (λ p. nat_lt 0 (unwrap_or (get page_cmp (pins_in r m.place) p) 0)) pid first end m.areas p (ap (λ (y : SpacesView). shows_pinned y.areas y.pins pid first end) is ∙ h) listed in
+    let free = none_gone (λ p. nat_lt 0 (unwrap_or (get page_cmp (pins_in r m.place) p) 0)) pid first end m.areas p (ap (λ (y : AddressSpacesView). shows_pinned y.areas y.pins pid first end) is ∙ h) listed in
     let pins : unwrap_or (get page_cmp (pins_in r m.place) p) 0 ≡ frame_pins r f = ap (λ o. unwrap_or o 0) (get-values exact_page (λ p f. frame_pins r f) m.place p ∙ ap (option_map (λ f. frame_pins r f)) found) in
     let none = ltb-false 0 (frame_pins r f) (ap (nat_lt 0) (sym pins) ∙ free) in
     omega (arith, none)

@@ -27,7 +27,7 @@ use Rattle.nm_rmap.specs.Mappers.{Mappers, mappers_of, frame_pins, with_mapper, 
 use Rattle.nm_model.specs.definitions.Effect.{seeing}
 use Rattle.nm_model.specs.definitions.PageTables.{Task, entry_at, entry_in, with_entry, process_of, sight_of, page_here}
 use Rattle.nm_engine.specs.views.ProcessTable.{names}
-use Rattle.nm_engine.specs.views.AddressSpaces.{SpacesView, spaces_view, pins_in, with_seen}
+use Rattle.nm_engine.specs.views.AddressSpaces.{AddressSpacesView, spaces_view, pins_in, with_seen}
 use Rattle.nm_engine.specs.definitions.Tied.{IsTied, has_spot}
 use Rattle.nm_types.proofs.Maps.{equal, get-set, get-replace, get-values, page_cmp_total, exact_page, spot_cmp_total, with_values-set, with_values-replace, without-set}
 use Rattle.nm_types.proofs.Keys.{keys-replace, All-replace, All-get, sorted-set}
@@ -46,14 +46,14 @@ unmap_some f None h = cc
 unmap_some f (Some a) h = (a, refl)
 
 -- a process that is shown has a table
-pub task_at : (y : SpacesView) (tasks : Map ℕ Task) (m : Mapped) (r : Mappers) (pid : ℕ) → spaces_view tasks m r ≡ y → IsSome (get nat_cmp y.processes pid) → (t : Task) × (get nat_cmp tasks pid ≡ Some t)
+pub task_at : (y : AddressSpacesView) (tasks : Map ℕ Task) (m : Mapped) (r : Mappers) (pid : ℕ) → spaces_view tasks m r ≡ y → IsSome (get nat_cmp y.processes pid) → (t : Task) × (get nat_cmp tasks pid ≡ Some t)
 task_at y tasks m r pid is h =
     unmap_some (process_of m.areas pid) (get nat_cmp tasks pid)
-    (subst IsSome (ap (λ (y : SpacesView). get nat_cmp y.processes pid) (sym is) ∙ get-values exact_unsigned (process_of m.areas) tasks pid) h)
+    (subst IsSome (ap (λ (y : AddressSpacesView). get nat_cmp y.processes pid) (sym is) ∙ get-values exact_unsigned (process_of m.areas) tasks pid) h)
 
-pub process_at : (y : SpacesView) (tasks : Map ℕ Task) (m : Mapped) (r : Mappers) (pid : ℕ) (t : Task) (p : Process) → spaces_view tasks m r ≡ y → get nat_cmp tasks pid ≡ Some t → get nat_cmp y.processes pid ≡ Some p → process_of m.areas pid t ≡ p
+pub process_at : (y : AddressSpacesView) (tasks : Map ℕ Task) (m : Mapped) (r : Mappers) (pid : ℕ) (t : Task) (p : Process) → spaces_view tasks m r ≡ y → get nat_cmp tasks pid ≡ Some t → get nat_cmp y.processes pid ≡ Some p → process_of m.areas pid t ≡ p
 process_at y tasks m r pid t p is h k =
-    some_is (sym (ap (option_map (process_of m.areas pid)) h) ∙ sym (get-values exact_unsigned (process_of m.areas) tasks pid) ∙ ap (λ (y : SpacesView). get nat_cmp y.processes pid) is ∙ k)
+    some_is (sym (ap (option_map (process_of m.areas pid)) h) ∙ sym (get-values exact_unsigned (process_of m.areas) tasks pid) ∙ ap (λ (y : AddressSpacesView). get nat_cmp y.processes pid) is ∙ k)
 
 -- where no page is seen, no entry names a frame
 entry_unmapped : (areas : Map (ℕ × ℕ) Area) (pid v : ℕ) (o : Option Entry) → ((q : Page) → option_map (sight_of areas pid v) o ≡ Some (Sees q) → ⊥) → is_mapped o ≡ false
@@ -62,9 +62,9 @@ entry_unmapped areas pid v (Some Zero) h = refl
 entry_unmapped areas pid v (Some (Frame g)) h = absurd (h (page_here areas pid v) refl)
 entry_unmapped areas pid v (Some (Held g)) h = absurd (h (page_here areas pid v) refl)
 
-pub unmapped_at : (y : SpacesView) (tasks : Map ℕ Task) (m : Mapped) (r : Mappers) (pid v : ℕ) → spaces_view tasks m r ≡ y → ((q : Page) → sight_in (get nat_cmp y.processes pid) v ≡ Some (Sees q) → ⊥) → is_mapped (entry_at tasks pid v) ≡ false
+pub unmapped_at : (y : AddressSpacesView) (tasks : Map ℕ Task) (m : Mapped) (r : Mappers) (pid v : ℕ) → spaces_view tasks m r ≡ y → ((q : Page) → sight_in (get nat_cmp y.processes pid) v ≡ Some (Sees q) → ⊥) → is_mapped (entry_at tasks pid v) ≡ false
 unmapped_at y tasks m r pid v is h =
-    entry_unmapped m.areas pid v (entry_at tasks pid v) (λ q k. h q (ap (λ (y : SpacesView). sight_in (get nat_cmp y.processes pid) v) (sym is) ∙ sight_shown m.areas tasks pid v ∙ k))
+    entry_unmapped m.areas pid v (entry_at tasks pid v) (λ q k. h q (ap (λ (y : AddressSpacesView). sight_in (get nat_cmp y.processes pid) v) (sym is) ∙ sight_shown m.areas tasks pid v ∙ k))
 
 mapped_names : (f : ℕ) (o : Option Entry) → is_mapped o ≡ false → names f o ≡ false
 mapped_names f None h = refl
@@ -284,7 +284,7 @@ module _ (tasks : Map ℕ Task) (m : Mapped) (r : Mappers) (p : Page) (f : ℕ) 
       (with_values-set exact_page (λ q g. frame_pins r g) m.place p f ∙ ap (set page_cmp (pins_in r m.place) p) (h.pinned f spare.place))
 
 -- a mapper that was added where no page was seen is removed again
-pub mapper_undone : (y : SpacesView) (tasks : Map ℕ Task) (m : Mapped) (r : Mappers) (pid v f : ℕ) → spaces_view tasks m r ≡ y → IsTied tasks m r → IsSome (get nat_cmp y.processes pid)
+pub mapper_undone : (y : AddressSpacesView) (tasks : Map ℕ Task) (m : Mapped) (r : Mappers) (pid v f : ℕ) → spaces_view tasks m r ≡ y → IsTied tasks m r → IsSome (get nat_cmp y.processes pid)
     → ((q : Page) → sight_in (get nat_cmp y.processes pid) v ≡ Some (Sees q) → ⊥) → f < length r.mappings → without_mapper (with_mapper r f (pid, v)) f (pid, v) ≡ r
 mapper_undone y tasks m r pid v f is h known unseen below =
     let t = task_at y tasks m r pid is known in

@@ -15,7 +15,7 @@ use Rattle.nm_model.specs.definitions.Events.{held_by, laid_for}
 use Rattle.nm_model.specs.definitions.Frames.{Store}
 use Rattle.nm_model.specs.definitions.PageTables.{entry_of}
 use Rattle.nm_model.specs.definitions.RunMachine.{Job, job_from}
-use Rattle.nm_engine.specs.views.AddressSpaces.{SpacesView, with_moved}
+use Rattle.nm_engine.specs.views.AddressSpaces.{AddressSpacesView, with_moved}
 use Rattle.nm_engine.specs.views.Held.{is_left, is_taken}
 use Rattle.nm_engine.specs.definitions.Moves.{CanRemap}
 use Rattle.nm_engine.proofs.Tied.Moved.{place_other}
@@ -41,7 +41,7 @@ still_here store (t ∷ moves) g f h =
     ] refl h
 
 -- a page that stays in its frame keeps the others out
-not_taken : (moves : List Taken) (y : SpacesView) (p : Page) (f : ℕ) → CanRemap y moves → get page_cmp y.place p ≡ Some f → is_left moves f ≡ false → is_taken moves f ≡ false
+not_taken : (moves : List Taken) (y : AddressSpacesView) (p : Page) (f : ℕ) → CanRemap y moves → get page_cmp y.place p ≡ Some f → is_left moves f ≡ false → is_taken moves f ≡ false
 not_taken [] y p f can at stays = refl
 not_taken (t ∷ moves) y p f can at stays =
     let apart : (t.to == f) ≡ false = ne_eqb t.to f (λ e. can.2 p (at ∙ ap Some (sym e))) in
@@ -51,7 +51,7 @@ not_taken (t ∷ moves) y p f can at stays =
     in
     ap (λ b. b || is_taken moves f) apart ∙ not_taken moves (with_moved y t.page t.to) p f can.3 (place_other y.place t.page p t.to f other at) rest
 
-placed_here : (store : Store) (moves : List Taken) (y : SpacesView) (p : Page) (o : Option ℕ) (f : ℕ) → CanRemap y moves → get page_cmp y.place p ≡ o
+placed_here : (store : Store) (moves : List Taken) (y : AddressSpacesView) (p : Page) (o : Option ℕ) (f : ℕ) → CanRemap y moves → get page_cmp y.place p ≡ o
     → held_by (map (laid_for store) moves) (unwrap_or (option_map Frame o) Zero) ≡ Frame f → (is_left moves f ≡ false) × (is_taken moves f ≡ false)
 placed_here store moves y p None f can at h = absurd (zero_is_frame h)
 placed_here store moves y p (Some g) f can at h =
@@ -59,7 +59,7 @@ placed_here store moves y p (Some g) f can at h =
     (here.1, not_taken moves y p f can (at ∙ ap Some here.0) here.1)
 
 -- an entry that names a frame names one that no page leaves or takes
-pub names_another : (store : Store) (moves : List Taken) (y : SpacesView) (o : Option Sight) (f : ℕ) → CanRemap y moves
+pub names_another : (store : Store) (moves : List Taken) (y : AddressSpacesView) (o : Option Sight) (f : ℕ) → CanRemap y moves
     → option_map (held_by (map (laid_for store) moves)) (option_map (entry_of y.place) o) ≡ Some (Frame f) → (is_left moves f ≡ false) × (is_taken moves f ≡ false)
 names_another store moves y None f can h = cc
 names_another store moves y (Some ZeroPage) f can h = absurd (zero_is_frame (some_is h))

@@ -24,7 +24,7 @@ use Rattle.nm_model.specs.definitions.Areas.{without_frame}
 use Rattle.nm_rmap.specs.Mappers.{Mappers, mappers_of, frame_pins}
 use Rattle.nm_model.specs.definitions.PageTables.{Task, entry_at, entry_in, with_entry}
 use Rattle.nm_engine.specs.views.ProcessTable.{names, without_entry, replaced, replaced_in}
-use Rattle.nm_engine.specs.views.AddressSpaces.{SpacesView, spaces_view, pins_in, with_seen, without_seen, without_page}
+use Rattle.nm_engine.specs.views.AddressSpaces.{AddressSpacesView, spaces_view, pins_in, with_seen, without_seen, without_page}
 use Rattle.nm_model.specs.definitions.PageTables.{process_of, sight_of, page_here}
 use Rattle.nm_engine.specs.definitions.Tied.{IsTied, IsWithout, has_spot}
 use Rattle.nm_laws.proofs.Soundness.Released.{get-without, other_placed}
@@ -161,10 +161,10 @@ some_mapped : {V W : Type 0} (f : V → W) (o : Option V) → IsSome (option_map
 some_mapped f None h = cc
 some_mapped f (Some x) h = refl
 
-pub entry_there : (y : SpacesView) (tasks : Map ℕ Task) (m : Mapped) (r : Mappers) (pid v : ℕ) → spaces_view tasks m r ≡ y → IsSome (sight_in (get nat_cmp y.processes pid) v) → IsSome (entry_at tasks pid v)
+pub entry_there : (y : AddressSpacesView) (tasks : Map ℕ Task) (m : Mapped) (r : Mappers) (pid v : ℕ) → spaces_view tasks m r ≡ y → IsSome (sight_in (get nat_cmp y.processes pid) v) → IsSome (entry_at tasks pid v)
 entry_there y tasks m r pid v is h =
     some_mapped (sight_of m.areas pid v) (entry_at tasks pid v)
-    (subst IsSome (ap (λ (y : SpacesView). sight_in (get nat_cmp y.processes pid) v) (sym is) ∙ sight_shown m.areas tasks pid v) h)
+    (subst IsSome (ap (λ (y : AddressSpacesView). sight_in (get nat_cmp y.processes pid) v) (sym is) ∙ sight_shown m.areas tasks pid v) h)
 
 -- a frame that an entry names is one of the map
 pub named_below : (tasks : Map ℕ Task) (m : Mapped) (r : Mappers) (pid v f : ℕ) → IsTied tasks m r → names f (entry_at tasks pid v) ≡ true → f < length r.mappings
@@ -177,14 +177,14 @@ names_sees areas pid v f (Some (Frame g)) n = refl
 names_sees areas pid v f (Some (Held g)) n = refl
 
 -- a page that nobody sees loses its frame
-module _ (y : SpacesView) (tasks : Map ℕ Task) (m : Mapped) (r : Mappers) (p : Page) (f : ℕ) (h : IsTied tasks m r) (is : spaces_view tasks m r ≡ y) (placed : get page_cmp m.place p ≡ Some f) (free : frame_pins r f ≡ 0)
+module _ (y : AddressSpacesView) (tasks : Map ℕ Task) (m : Mapped) (r : Mappers) (p : Page) (f : ℕ) (h : IsTied tasks m r) (is : spaces_view tasks m r ≡ y) (placed : get page_cmp m.place p ≡ Some f) (free : frame_pins r f ≡ 0)
     (unseen : (q w : ℕ) → sight_in (get nat_cmp y.processes q) w ≡ Some (Sees p) → ⊥) where
   unnamed : (q w : ℕ) → names f (entry_at tasks q w) ≡ true → ⊥
   unnamed q w n =
       let s = h.shows f q w n in
       let same : s.0 ≡ p = h.apart s.0 p f s.2 placed in
       unseen q w
-      (ap (λ (y : SpacesView). sight_in (get nat_cmp y.processes q) w) (sym is) ∙ sight_shown m.areas tasks q w ∙ names_sees m.areas q w f (entry_at tasks q w) n
+      (ap (λ (y : AddressSpacesView). sight_in (get nat_cmp y.processes q) w) (sym is) ∙ sight_shown m.areas tasks q w ∙ names_sees m.areas q w f (entry_at tasks q w) n
       ∙ ap (λ o. Some (Sees (unwrap_or o (record { segment = 0; index = 0 })))) s.1 ∙ ap (λ q. Some (Sees q)) same)
 
   had : (q : Page) (g : ℕ) → get page_cmp (without page_cmp m.place p) q ≡ Some g → get page_cmp m.place q ≡ Some g
@@ -215,7 +215,7 @@ module _ (y : SpacesView) (tasks : Map ℕ Task) (m : Mapped) (r : Mappers) (p :
   pub unplaced_shows : spaces_view tasks (without_frame m p) r ≡ without_page y p
   unplaced_shows =
       ap (λ pins. record (spaces_view tasks m r) { place = without page_cmp m.place p; pins = pins }) (with_values-without page_cmp (λ q g. frame_pins r g) m.place p)
-      ∙ ap (λ (y : SpacesView). without_page y p) is
+      ∙ ap (λ (y : AddressSpacesView). without_page y p) is
 
 pub placed_some : (o : Option ℕ) → IsSome o → (f : ℕ) × (o ≡ Some f)
 placed_some None h = cc

@@ -11,7 +11,7 @@ use Rattle.nm_model.specs.definitions.Areas.{Mapped}
 use Rattle.nm_rmap.specs.Mappers.{Mappers}
 use Rattle.nm_rmap.specs.Mappers.{frame_pins as pins_of_frame}
 use Rattle.nm_model.specs.definitions.PageTables.{Task}
-use Rattle.nm_engine.specs.views.AddressSpaces.{SpacesView, spaces_view, pins_here}
+use Rattle.nm_engine.specs.views.AddressSpaces.{AddressSpacesView, spaces_view, pins_here}
 use Rattle.nm_types.specs.State.{Placed, area_over, page_of, page_shown, page_at}
 use Rattle.nm_types.proofs.Cases.{none_some, some_is, true_false}
 use Rattle.nm_model.specs.definitions.Effect.{pages_from, pages_between}
@@ -94,20 +94,20 @@ unpinned_at (n ∷ pins) (suc f) h = unpinned_at pins f (elim (nat_lt 0 n) as (�
 
 -- ---- the pins of pages that a process shows, by the reverse map
 
-module _ (y : SpacesView) (tasks : Map ℕ Task) (m : Mapped) (r : Mappers) (is : spaces_view tasks m r ≡ y) where
+module _ (y : AddressSpacesView) (tasks : Map ℕ Task) (m : Mapped) (r : Mappers) (is : spaces_view tasks m r ≡ y) where
   pub placed_pins : (p : Page) (f : ℕ) → get page_cmp m.place p ≡ Some f → pins_here y p ≡ pins_of_frame r f
-  placed_pins p f placed = pins_shown y tasks m r p f is (ap (λ (y : SpacesView). get page_cmp y.place p) (sym is) ∙ placed)
+  placed_pins p f placed = pins_shown y tasks m r p f is (ap (λ (y : AddressSpacesView). get page_cmp y.place p) (sym is) ∙ placed)
 
   pub unplaced_pins : (p : Page) → get page_cmp m.place p ≡ None → nat_lt 0 (pins_here y p) ≡ false
   unplaced_pins p none =
-      ap (λ (y : SpacesView). nat_lt 0 (pins_here y p)) (sym is)
+      ap (λ (y : AddressSpacesView). nat_lt 0 (pins_here y p)) (sym is)
       ∙ ap (λ o. nat_lt 0 (unwrap_or o 0)) (get-values exact_page (λ q f. pins_of_frame r f) m.place p ∙ ap (option_map (λ f. pins_of_frame r f)) none)
 
   -- none is pinned where no frame of a page is that is shown
   pub none_at_all : (pid first end : ℕ) → AreasAreApart m.areas → ((v : ℕ) (p : Page) (f : ℕ) → first ≤ v → v < end → page_at m.areas pid v ≡ Some p → get page_cmp m.place p ≡ Some f → pins_of_frame r f ≡ 0)
       → shows_pinned y.areas y.pins pid first end ≡ false
   none_at_all pid first end apart none =
-      let same : y.areas ≡ m.areas = ap (λ (y : SpacesView). y.areas) (sym is) in
+      let same : y.areas ≡ m.areas = ap (λ (y : AddressSpacesView). y.areas) (sym is) in
       none_busy y.areas y.pins pid first end (subst AreasAreApart (sym same) apart) (λ v p low high here.
       let there : page_at m.areas pid v ≡ Some p = ap (λ areas. page_at areas pid v) (sym same) ∙ here in
       elim (get page_cmp m.place p) as (λ o. get page_cmp m.place p ≡ o → nat_lt 0 (pins_here y p) ≡ false) [
@@ -119,7 +119,7 @@ module _ (y : SpacesView) (tasks : Map ℕ Task) (m : Mapped) (r : Mappers) (is 
   pub one_there : (pid first end w : ℕ) (q : Page) (f : ℕ) → first ≤ w → w < end → page_at m.areas pid w ≡ Some q → get page_cmp m.place q ≡ Some f → 0 < pins_of_frame r f
       → shows_pinned y.areas y.pins pid first end ≡ true
   one_there pid first end w q f low high shown placed some =
-      let same : y.areas ≡ m.areas = ap (λ (y : SpacesView). y.areas) (sym is) in
+      let same : y.areas ≡ m.areas = ap (λ (y : AddressSpacesView). y.areas) (sym is) in
       busy_there y.areas y.pins pid first end w q (ap (λ areas. page_at areas pid w) same ∙ shown) low high
       (ap (nat_lt 0) (placed_pins q f placed) ∙ lt-ltb 0 (pins_of_frame r f) some)
 

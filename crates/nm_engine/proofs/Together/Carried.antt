@@ -11,14 +11,14 @@ use Rattle.nm_types.specs.State.{State, free_list}
 use Rattle.nm_model.specs.definitions.Frames.{Pool, list_of, with_list, without_front}
 use Rattle.nm_model.specs.definitions.Frames.{Store, IsHome, bytes_of}
 use Rattle.nm_types.specs.declared.taken.Taken.{Taken}
-use Rattle.nm_engine.specs.views.AddressSpaces.{SpacesView, with_moved, table_of}
+use Rattle.nm_engine.specs.views.AddressSpaces.{AddressSpacesView, with_moved, table_of}
 use Rattle.nm_engine.specs.views.Copies.{with_copy, with_copies, without_both, CanCopy}
 use Rattle.nm_engine.specs.views.Frames.{FramesView, HasAllFrames, free_on}
 use Rattle.nm_laws.specs.Laws.{with_move, with_moves}
 use Rattle.nm_engine.specs.views.MidRun.{IsKept}
 use Rattle.nm_laws.specs.Moves.{CanMove}
 use Rattle.nm_engine.specs.definitions.Moves.{CanRemap, all_moved}
-use Rattle.nm_model.specs.definitions.Run.{moved_page, left}
+use Rattle.nm_model.specs.definitions.Run.{moved_page, frames_left}
 use Rattle.nm_engine.specs.views.Shown.{shown_by, paged_frames}
 use Rattle.nm_model.specs.definitions.Sound.{times, FramesAreOnce}
 use Rattle.nm_laws.proofs.OneByOne.Planned.{list_now}
@@ -55,21 +55,21 @@ fronts_step p q node n m is inside e =
 
 -- the frames of several moves, part by part
 pub by_parts : (taken : List Taken) (target : ℕ) (k : FramesView) → target < length k.free
-    → all_carried target k taken ≡ record k { frames = with_copies k.frames taken; free = slice_set k.free target (drop (length taken) (free_on k target)); vacated = k.vacated ++ left taken }
+    → all_carried target k taken ≡ record k { frames = with_copies k.frames taken; free = slice_set k.free target (drop (length taken) (free_on k target)); vacated = k.vacated ++ frames_left taken }
 by_parts [] target k inside =
     sym (ap (λ (f : List (List ℕ)). record k { free = f; vacated = k.vacated ++ [] }) (set-get_or k.free target []) ∙ ap (λ (v : List ℕ). record k { vacated = v }) (append-nil k.vacated))
 by_parts (t ∷ taken) target k inside =
     let copies = with_copies (with_copy k.frames t) taken in
     by_parts taken target (carried target k t) (omega (arith, inside, length-set k.free target (drop 1 (free_on k target))))
-    ∙ ap (λ (f : List (List ℕ)). record k { frames = copies; free = f; vacated = (k.vacated ++ t.from ∷ []) ++ left taken }) (fronts_list k.free target (length taken) (free_on k target) inside)
-    ∙ ap (λ (v : List ℕ). record k { frames = copies; free = slice_set k.free target (drop (suc (length taken)) (free_on k target)); vacated = v }) (append_assoc k.vacated (t.from ∷ []) (left taken))
+    ∙ ap (λ (f : List (List ℕ)). record k { frames = copies; free = f; vacated = (k.vacated ++ t.from ∷ []) ++ frames_left taken }) (fronts_list k.free target (length taken) (free_on k target) inside)
+    ∙ ap (λ (v : List ℕ). record k { frames = copies; free = slice_set k.free target (drop (suc (length taken)) (free_on k target)); vacated = v }) (append_assoc k.vacated (t.from ∷ []) (frames_left taken))
 
 -- .. and the parts one after the other: frames taken, frames left, pages copied, after which there may be another room
 pub in_phases : (taken : List Taken) (target : ℕ) (k fronts vacant after : FramesView) → target < length k.free
-    → fronts ≡ record k { free = slice_set k.free target (drop (length taken) (free_on k target)) } → vacant ≡ record fronts { vacated = fronts.vacated ++ left taken }
+    → fronts ≡ record k { free = slice_set k.free target (drop (length taken) (free_on k target)) } → vacant ≡ record fronts { vacated = fronts.vacated ++ frames_left taken }
     → after ≡ record vacant { frames = with_copies vacant.frames taken; room = after.room } → after ≡ record (all_carried target k taken) { room = after.room }
 in_phases taken target k fronts vacant after inside took left_is copied =
-    let leave : FramesView → FramesView = λ s. record s { vacated = s.vacated ++ left taken } in
+    let leave : FramesView → FramesView = λ s. record s { vacated = s.vacated ++ frames_left taken } in
     let copy : FramesView → FramesView = λ s. record s { frames = with_copies s.frames taken; room = after.room } in
     copied ∙ ap copy (left_is ∙ ap leave took) ∙ sym (ap (λ (s : FramesView). record s { room = after.room }) (by_parts taken target k inside))
 
@@ -81,12 +81,12 @@ carried_shelf k target t h = record {
 }
 
 -- what moves make of address spaces and frames together
-pub record IsCarried (y : SpacesView) (k : FramesView) (online : List ℕ) (moved failed target : ℕ) (taken : List Taken) : Type 0 where
+pub record IsCarried (y : AddressSpacesView) (k : FramesView) (online : List ℕ) (moved failed target : ℕ) (taken : List Taken) : Type 0 where
   pub shown : shown_by (all_moved y taken) (all_carried target k taken) online moved failed ≡ with_moves (shown_by y k online moved failed) target taken
   pub kept : IsKept (shown_by (all_moved y taken) (all_carried target k taken) online moved failed) (all_carried target k taken).vacated (all_moved y taken).frames
   pub remap : CanRemap y taken
 
-pub is_carried : (taken : List Taken) (y : SpacesView) (k : FramesView) (online : List ℕ) (moved failed target : ℕ) → IsKept (shown_by y k online moved failed) k.vacated y.frames → HasAllFrames k
+pub is_carried : (taken : List Taken) (y : AddressSpacesView) (k : FramesView) (online : List ℕ) (moved failed target : ℕ) → IsKept (shown_by y k online moved failed) k.vacated y.frames → HasAllFrames k
     → CanMove (shown_by y k online moved failed) target taken → IsCarried y k online moved failed target taken
 is_carried [] y k online moved failed target kept shelf can = record { shown = refl; kept = kept; remap = tt }
 is_carried (t ∷ taken) y k online moved failed target kept shelf can =
@@ -137,38 +137,38 @@ none_here : (f g : ℕ) (xs : List ℕ) → times f (g ∷ xs) ≡ 0 → g ≢ f
 none_here f g xs none e = let one : here f g ≡ 1 = ap (here f) e ∙ one_here f in omega (arith, none, one, times_cons f g xs)
 
 fine_rest : (us : List Taken) (store : Store) (g : Layout) (target : ℕ) (t : Taken) → node_of g t.from ≢ target → node_of g t.to ≡ target → AllByRecursion (IsFine store g target) us
-    → times t.from (left us) ≡ 0 → times t.to (tos us) ≡ 0 → AllByRecursion (IsFine (without_both store t) g target) us
+    → times t.from (frames_left us) ≡ 0 → times t.to (tos us) ≡ 0 → AllByRecursion (IsFine (without_both store t) g target) us
 fine_rest [] store g target t away on all none nor = tt
 fine_rest (u ∷ us) store g target t away on all none nor =
     let fine = all.0 in (
       (
         fine.0,
         fine.1,
-        stays_home store t u.from (none_here t.from u.from (left us) none) (λ e. fine.0 (ap (node_of g) e ∙ on)) fine.2,
+        stays_home store t u.from (none_here t.from u.from (frames_left us) none) (λ e. fine.0 (ap (node_of g) e ∙ on)) fine.2,
         stays_home store t u.to (λ e. away (sym (ap (node_of g) e) ∙ fine.1)) (none_here t.to u.to (tos us) nor) fine.3,
       ),
-      fine_rest us store g target t away on all.1 (omega (arith, none, times_cons t.from u.from (left us))) (omega (arith, nor, times_cons t.to u.to (tos us))),
+      fine_rest us store g target t away on all.1 (omega (arith, none, times_cons t.from u.from (frames_left us))) (omega (arith, nor, times_cons t.to u.to (tos us))),
     )
 
-can_copy : (taken : List Taken) (store : Store) (g : Layout) (target : ℕ) → AllByRecursion (IsFine store g target) taken → ((f : ℕ) → times f (left taken) ≤ 1) → ((f : ℕ) → times f (tos taken) ≤ 1) → CanCopy store taken
+can_copy : (taken : List Taken) (store : Store) (g : Layout) (target : ℕ) → AllByRecursion (IsFine store g target) taken → ((f : ℕ) → times f (frames_left taken) ≤ 1) → ((f : ℕ) → times f (tos taken) ≤ 1) → CanCopy store taken
 can_copy [] store g target all few once = tt
 can_copy (t ∷ taken) store g target all few once =
     let fine = all.0 in
-    let none : times t.from (left taken) ≡ 0 = let a = few t.from in omega (arith, a, one_here t.from, times_cons t.from t.from (left taken)) in
+    let none : times t.from (frames_left taken) ≡ 0 = let a = few t.from in omega (arith, a, one_here t.from, times_cons t.from t.from (frames_left taken)) in
     let nor : times t.to (tos taken) ≡ 0 = let a = once t.to in omega (arith, a, one_here t.to, times_cons t.to t.to (tos taken)) in (
       fine.2,
       fine.3,
       (λ e. fine.0 (ap (node_of g) e ∙ fine.1)),
       can_copy taken (without_both store t) g target (fine_rest taken store g target t fine.0 fine.1 all.1 none nor)
-          (λ f. let a = few f in omega (arith, a, times_cons f t.from (left taken))) (λ f. let a = once f in omega (arith, a, times_cons f t.to (tos taken))),
+          (λ f. let a = few f in omega (arith, a, times_cons f t.from (frames_left taken))) (λ f. let a = once f in omega (arith, a, times_cons f t.to (tos taken))),
     )
 
 all_fine : (taken : List Taken) (s : State) (g : Layout) (k : FramesView) (target : ℕ) → s.layout ≡ g → k.layout ≡ g → HasAllFrames k → CanMove s target taken
-    → ((f : ℕ) → 1 ≤ times f (left taken) → f < frame_count g) → ((f : ℕ) → 1 ≤ times f (tos taken) → f < frame_count g) → AllByRecursion (λ f. node_of g f ≡ target) (tos taken)
+    → ((f : ℕ) → 1 ≤ times f (frames_left taken) → f < frame_count g) → ((f : ℕ) → 1 ≤ times f (tos taken) → f < frame_count g) → AllByRecursion (λ f. node_of g f ≡ target) (tos taken)
     → AllByRecursion (IsFine k.frames g target) taken
 all_fine [] s g k target e f shelf can below under on = tt
 all_fine (t ∷ taken) s g k target e f shelf can below under on =
-    let from = below t.from (omega (arith, one_here t.from, times_cons t.from t.from (left taken))) in
+    let from = below t.from (omega (arith, one_here t.from, times_cons t.from t.from (frames_left taken))) in
     let to = under t.to (omega (arith, one_here t.to, times_cons t.to t.to (tos taken))) in (
       (
         (λ there. can.2 (ap (λ (l : Layout). node_of l t.from) e ∙ there)),
@@ -176,7 +176,7 @@ all_fine (t ∷ taken) s g k target e f shelf can below under on =
         shelf.home t.from (subst (λ (l : Layout). t.from < frame_count l) (sym f) from),
         shelf.home t.to (subst (λ (l : Layout). t.to < frame_count l) (sym f) to),
       ),
-      all_fine taken (with_move target s t) g k target e f shelf can.3 (λ q some. below q (omega (arith, some, times_cons q t.from (left taken)))) (λ q some. under q (omega (arith, some, times_cons q t.to (tos taken)))) on.1,
+      all_fine taken (with_move target s t) g k target e f shelf can.3 (λ q some. below q (omega (arith, some, times_cons q t.from (frames_left taken)))) (λ q some. under q (omega (arith, some, times_cons q t.to (tos taken)))) on.1,
     )
 
 pub all_taken : (n : ℕ) (xs : List ℕ) (g : Layout) (target : ℕ) → AllByRecursion (λ f. node_of g f ≡ target) xs → AllByRecursion (λ f. node_of g f ≡ target) (take n xs)
@@ -193,7 +193,7 @@ at_most a b c d true e part = omega (arith, e, part)
 at_most a b c d false e part = omega (arith, e, part)
 
 -- the frames of moves can be copied all at once
-pub carried_copy : (taken : List Taken) (y : SpacesView) (k : FramesView) (online : List ℕ) (moved failed target : ℕ) → IsKept (shown_by y k online moved failed) k.vacated y.frames → HasAllFrames k → target < length k.free
+pub carried_copy : (taken : List Taken) (y : AddressSpacesView) (k : FramesView) (online : List ℕ) (moved failed target : ℕ) → IsKept (shown_by y k online moved failed) k.vacated y.frames → HasAllFrames k → target < length k.free
     → CanMove (shown_by y k online moved failed) target taken → IsCarried y k online moved failed target taken → CanCopy k.frames taken
 carried_copy taken y k online moved failed target kept shelf inside can done =
     let g = k.layout in
@@ -201,8 +201,8 @@ carried_copy taken y k online moved failed target kept shelf inside can done =
     let list = free_on k target in
     let places = values_of (all_moved y taken).place in
     let start = kept.sound.frames in
-    let whole : FramesView = record k { frames = with_copies k.frames taken; free = slice_set k.free target (drop n list); vacated = k.vacated ++ left taken } in
-    let ends : FramesAreOnce g (all_moved y taken).place whole.free (k.vacated ++ left taken) =
+    let whole : FramesView = record k { frames = with_copies k.frames taken; free = slice_set k.free target (drop n list); vacated = k.vacated ++ frames_left taken } in
+    let ends : FramesAreOnce g (all_moved y taken).place whole.free (k.vacated ++ frames_left taken) =
     subst (λ (x : FramesView). FramesAreOnce x.layout (all_moved y taken).place x.free x.vacated) (by_parts taken target k inside) done.kept.sound.frames in
     let on : tos taken ≡ take n list = tos_are taken (shown_by y k online moved failed) target can in
     let taken_few : (f : ℕ) → times f (tos taken) ≤ sum_by (times f) k.free = λ f.
@@ -212,10 +212,10 @@ carried_copy taken y k online moved failed target kept shelf inside can done =
     omega (arith, parted, same, part) in
     can_copy taken k.frames g target
     (all_fine taken (shown_by y k online moved failed) g k target refl refl shelf can
-    (λ f some. counted_below (times f places) (sum_by (times f) whole.free) (times f (k.vacated ++ left taken)) f (frame_count g) (ends.once f) (omega (arith, some, times_both f k.vacated (left taken))))
+    (λ f some. counted_below (times f places) (sum_by (times f) whole.free) (times f (k.vacated ++ frames_left taken)) f (frame_count g) (ends.once f) (omega (arith, some, times_both f k.vacated (frames_left taken))))
     (λ f some. let most = taken_few f in counted_below (times f (values_of y.place)) (sum_by (times f) k.free) (times f k.vacated) f (frame_count g) (start.once f) (omega (arith, some, most)))
     (subst (AllByRecursion (λ f. node_of g f ≡ target)) (sym on) (all_taken n list g target (start.own target))))
-    (λ f. at_most_one (times f places) (sum_by (times f) whole.free) (times f k.vacated) (times f (left taken)) (times f (k.vacated ++ left taken)) _ (ends.once f) (times_both f k.vacated (left taken)))
+    (λ f. at_most_one (times f places) (sum_by (times f) whole.free) (times f k.vacated) (times f (frames_left taken)) (times f (k.vacated ++ frames_left taken)) _ (ends.once f) (times_both f k.vacated (frames_left taken)))
     (λ f. let most = taken_few f in at_most (times f (values_of y.place)) (sum_by (times f) k.free) (times f k.vacated) (times f (tos taken)) _ (start.once f) most)
 
 -- what holds of each frame that is in a list
@@ -224,12 +224,12 @@ each_in P [] h = tt
 each_in P (x ∷ xs) h = (h x (omega (arith, one_here x, times_cons x x xs)), each_in P xs (λ f some. h f (omega (arith, some, times_cons f x xs))))
 
 -- the frames that moves take are the machine's
-pub tos_below : (taken : List Taken) (s : State) (target : ℕ) (left : List ℕ) → target < length s.free → FramesAreOnce s.layout s.place s.free left → CanMove s target taken → AllByRecursion (λ f. f < frame_count s.layout) (tos taken)
-tos_below taken s target left inside once can =
+pub tos_below : (taken : List Taken) (s : State) (target : ℕ) (frames_left : List ℕ) → target < length s.free → FramesAreOnce s.layout s.place s.free frames_left → CanMove s target taken → AllByRecursion (λ f. f < frame_count s.layout) (tos taken)
+tos_below taken s target frames_left inside once can =
     let n = length taken in
     let list = free_list s target in
     subst (AllByRecursion (λ f. f < frame_count s.layout)) (sym (tos_are taken s target can))
     (each_in (λ f. f < frame_count s.layout) (take n list) (λ f some.
     let parted : times f list ≡ times f (take n list) + times f (drop n list) = sym (ap (times f) (take-append-drop n list)) ∙ times_both f (take n list) (drop n list) in
     let part = sum_by_more_le (times f) s.free target [] inside in
-    counted_below (times f (values_of s.place)) (sum_by (times f) s.free) (times f left) f (frame_count s.layout) (once.once f) (omega (arith, some, parted, part))))
+    counted_below (times f (values_of s.place)) (sum_by (times f) s.free) (times f frames_left) f (frame_count s.layout) (once.once f) (omega (arith, some, parted, part))))

@@ -12,27 +12,27 @@ use Rattle.nm_types.specs.Nodes.{is_in}
 use Rattle.nm_model.specs.definitions.Frames.{Store, IsHome, bytes_of, all_frames}
 use Rattle.nm_model.specs.definitions.Frames as pool
 use Rattle.nm_model.specs.definitions.Sound.{times, FramesAreOnce, IsSoundMidRun}
-use Rattle.nm_engine.specs.views.AddressSpaces.{SpacesView}
+use Rattle.nm_engine.specs.views.AddressSpaces.{AddressSpacesView}
 use Rattle.nm_engine.specs.views.Shown.{paged_frames, shown_by}
 use Rattle.nm_engine.specs.views.Frames.{FramesView, HasAllFrames, PagedFrames, with_freed, CanFree, pool_of}
-use Rattle.nm_engine.proofs.Together.Paged.{IsStocked, free_of}
+use Rattle.nm_engine.proofs.Together.Paged.{HasItsFrames, free_of}
 use Rattle.nm_laws.proofs.Soundness.Frames.{here, times_cons, frame_freed, left_below}
 use Rattle.nm_laws.proofs.Soundness.Once.{counted_place}
 use Rattle.nm_laws.proofs.Soundness.New.{new_frames}
 use Rattle.nm_laws.proofs.Soundness.Counted.{counted_below, counted_front, counted_once, not_in, part_of}
 
-pub place_below : (x : PagedFrames) (page : Page) (f : ℕ) → IsStocked x → get page_cmp x.place page ≡ Some f → f < frame_count x.layout
+pub place_below : (x : PagedFrames) (page : Page) (f : ℕ) → HasItsFrames x → get page_cmp x.place page ≡ Some f → f < frame_count x.layout
 place_below x page f h e =
     counted_below (times f (values_of x.place)) (sum_by (times f) x.free) (times f x.vacated) f (frame_count x.layout) (h.once.once f)
     (let some = counted_place x.place page f e in omega (arith, some))
 
-pub front_below : (x : PagedFrames) (node f : ℕ) → IsStocked x → slice_get (free_of x node) 0 ≡ Some f → f < frame_count x.layout
+pub front_below : (x : PagedFrames) (node f : ℕ) → HasItsFrames x → slice_get (free_of x node) 0 ≡ Some f → f < frame_count x.layout
 front_below x node f h e =
     counted_below (times f (values_of x.place)) (sum_by (times f) x.free) (times f x.vacated) f (frame_count x.layout) (h.once.once f)
     (let some = counted_front x.free node f e in omega (arith, some))
 
 -- a page's frame is not free
-pub apart_from_front : (x : PagedFrames) (page : Page) (node from to : ℕ) → IsStocked x → get page_cmp x.place page ≡ Some from → slice_get (free_of x node) 0 ≡ Some to → from ≢ to
+pub apart_from_front : (x : PagedFrames) (page : Page) (node from to : ℕ) → HasItsFrames x → get page_cmp x.place page ≡ Some from → slice_get (free_of x node) 0 ≡ Some to → from ≢ to
 apart_from_front x page node from to h placed front e =
     let one = counted_place x.place page from placed in
     let two = counted_front x.free node from (front ∙ ap Some (sym e)) in
@@ -70,7 +70,7 @@ sizes_stay p [] = refl
 sizes_stay p (frame ∷ frames) = sizes_stay (pool.appended p frame) frames
 
 -- frames and the pages that are in them, each frame in one place
-pub stocked_is : (y : SpacesView) (k : FramesView) (online : List ℕ) (moved failed : ℕ) (left : List ℕ) → k.vacated ≡ left → IsSoundMidRun (shown_by y k online moved failed) left → HasAllFrames k → IsStocked (paged_frames y k)
+pub stocked_is : (y : AddressSpacesView) (k : FramesView) (online : List ℕ) (moved failed : ℕ) (left : List ℕ) → k.vacated ≡ left → IsSoundMidRun (shown_by y k online moved failed) left → HasAllFrames k → HasItsFrames (paged_frames y k)
 stocked_is y k online moved failed left is h shelf =
     record { in_order = h.order.place; once = subst (FramesAreOnce k.layout y.place k.free) (sym is) h.frames; buffers = shelf.buffers; home = shelf.home }
 
@@ -130,6 +130,6 @@ pub home_bytes : (frames : Store) (frame : ℕ) → IsHome frames frame → slic
 home_bytes frames frame h = unwrapped (slice_index_or frames frame None) h.here
 
 -- the frames that a run left can be freed
-pub can_free : (y : SpacesView) (k : FramesView) (online : List ℕ) (moved failed : ℕ) → IsSoundMidRun (shown_by y k online moved failed) k.vacated → CanFree (pool_of k) k.vacated
+pub can_free : (y : AddressSpacesView) (k : FramesView) (online : List ℕ) (moved failed : ℕ) → IsSoundMidRun (shown_by y k online moved failed) k.vacated → CanFree (pool_of k) k.vacated
 can_free y k online moved failed h =
     (all_freed k.layout y.place (pool_of k) k.vacated refl h.frames).can

@@ -21,7 +21,7 @@ use Rattle.nm_types.specs.declared.process.ProcessInfo.{ProcessInfo}
 use Rattle.nm_model.specs.definitions.Sound.{IsSoundMidRun, IsSound}
 use Rattle.nm_model.specs.views.Table.{Table}
 use Rattle.nm_engine.specs.views.Frames.{FramesView, PagedFrames}
-use Rattle.nm_engine.specs.views.AddressSpaces.{SpacesView, no_spaces}
+use Rattle.nm_engine.specs.views.AddressSpaces.{AddressSpacesView, no_spaces}
 use Rattle.nm_engine.specs.views.Shown.{shown, shown_by}
 use Rattle.nm_engine.specs.views.MidRun.{IsKept}
 use Rattle.nm_model.specs.definitions.Effect.{info_of}
@@ -63,7 +63,7 @@ module _ (tasks : Map ℕ Process) (areas : Table) (paged : PagedFrames) (online
       }
 
 -- nothing but nodes and free frames
-pub shown_new : (g : Layout) (y : SpacesView) (k : FramesView) (online : List ℕ) (n : ℕ) → y ≡ no_spaces n → k.layout ≡ g → k.free ≡ all_frames 0 g.sizes → online ≡ up_from 0 (node_count g) → shown_by y k online 0 0 ≡ new_machine g
+pub shown_new : (g : Layout) (y : AddressSpacesView) (k : FramesView) (online : List ℕ) (n : ℕ) → y ≡ no_spaces n → k.layout ≡ g → k.free ≡ all_frames 0 g.sizes → online ≡ up_from 0 (node_count g) → shown_by y k online 0 0 ≡ new_machine g
 shown_new g y k online n e l f o =
     let of : Layout → List (List ℕ) → FramesView = λ layout free. record k { layout = layout; free = free } in
     ap (λ y. shown_by y k online 0 0) e

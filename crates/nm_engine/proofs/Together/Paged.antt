@@ -10,7 +10,7 @@ use Rattle.nm_model.specs.definitions.Sound.{FramesAreOnce}
 use Rattle.nm_engine.specs.views.Frames.{PagedFrames, with_freed}
 
 -- each frame is free, vacated or the place of one page, and its bytes are home
-pub record IsStocked (x : PagedFrames) : Type 0 where
+pub record HasItsFrames (x : PagedFrames) : Type 0 where
   pub in_order : IsStrictlySortedBy page_cmp (keys_of x.place)
   pub once : FramesAreOnce x.layout x.place x.free x.vacated
   pub buffers : length x.frames ≡ frame_count x.layout

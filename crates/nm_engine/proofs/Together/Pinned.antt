@@ -12,7 +12,7 @@ use Rattle.nm_model.specs.definitions.Seen.{sight_at, pins_of, page_seen}
 use Rattle.nm_model.specs.definitions.Effect.{with_pins, pin, unpin}
 use Rattle.nm_model.specs.definitions.Effect.{is_unknown, pins_refusal, pin_refusal, unpin_refusal}
 use Rattle.nm_engine.specs.definitions.Does.{Alters}
-use Rattle.nm_engine.specs.views.AddressSpaces.{SpacesView, with_pins_of}
+use Rattle.nm_engine.specs.views.AddressSpaces.{AddressSpacesView, with_pins_of}
 use Rattle.nm_engine.specs.views.Frames.{FramesView}
 use Rattle.nm_engine.specs.views.Shown.{shown_by}
 use Rattle.nm_model.specs.definitions.Sound.{IsSoundMidRun}
@@ -21,13 +21,13 @@ use Rattle.nm_laws.proofs.Soundness.Called.{repinned_sound, few_pins}
 use Rattle.nm_model.proofs.looks.{sees_page}
 use Rattle.nm_engine.proofs.Together.Touches.{inside, outside}
 
-module _ (y z : SpacesView) (k : FramesView) (online : List ℕ) (moved failed : ℕ) (page : Page) (n : ℕ) (kept : IsKept (shown_by y k online moved failed) k.vacated y.frames) where
+module _ (y z : AddressSpacesView) (k : FramesView) (online : List ℕ) (moved failed : ℕ) (page : Page) (n : ℕ) (kept : IsKept (shown_by y k online moved failed) k.vacated y.frames) where
   -- another number of pins, or none
   pub pinned_kept : (r : Result (Unit {0}) Errno) → OnOk r (n ≤ 65535) → OnOk r (z ≡ with_pins_of y page n) → OnErr r (z ≡ y) → IsKept (shown_by z k online moved failed) k.vacated z.frames
   pinned_kept (Ok done) most ok err =
-      subst (λ (w : SpacesView). IsKept (shown_by w k online moved failed) k.vacated w.frames) (sym ok)
+      subst (λ (w : AddressSpacesView). IsKept (shown_by w k online moved failed) k.vacated w.frames) (sym ok)
       (record { sound = repinned_sound (shown_by y k online moved failed) k.vacated page n kept.sound most; as_many = kept.as_many })
-  pinned_kept (Err e) most ok err = subst (λ (w : SpacesView). IsKept (shown_by w k online moved failed) k.vacated w.frames) (sym err) kept
+  pinned_kept (Err e) most ok err = subst (λ (w : AddressSpacesView). IsKept (shown_by w k online moved failed) k.vacated w.frames) (sym err) kept
 
 -- one pin fewer
 pub one_fewer : (s : State) (l : List ℕ) (page : Page) → IsSoundMidRun s l → (r : Result (Unit {0}) Errno) → OnOk r (pins_of s page - 1 ≤ 65535)

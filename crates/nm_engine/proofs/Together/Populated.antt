@@ -17,13 +17,13 @@ use Rattle.nm_types.proofs.Maps.{page_cmp_total, get-set}
 use Rattle.nm_frames.specs.Populated.{IsPopulated, populated}
 use Rattle.nm_model.specs.definitions.Frames.{Store, IsHome, bytes_of, overwrite}
 use Rattle.nm_model.specs.definitions.BeforeCopy.{PendingAccess, Known, ToRead, ToWrite, IsInside, frames_taken}
-use Rattle.nm_model.specs.definitions.Run.{left}
+use Rattle.nm_model.specs.definitions.Run.{frames_left}
 use Rattle.nm_laws.specs.Laws.{with_move}
 use Rattle.nm_laws.specs.Moves.{CanMove}
 use Rattle.nm_laws.proofs.Early.Kept.{beside}
 use Rattle.nm_engine.specs.views.Copies.{HasBoth, with_copy, with_copies}
 use Rattle.nm_engine.specs.definitions.AfterCopy.{frame_at, all_stored_after_copy, CanDo}
-use Rattle.nm_engine.specs.views.AddressSpaces.{SpacesView}
+use Rattle.nm_engine.specs.views.AddressSpaces.{AddressSpacesView}
 use Rattle.nm_engine.specs.views.Frames.{FramesView, KeepsBytes}
 use Rattle.nm_engine.specs.views.MidRun.{MidRun, IsKept}
 use Rattle.nm_engine.specs.views.Shown.{bytes_in, shown_by}
@@ -184,17 +184,17 @@ pub all_leave : (taken : List Taken) (s : State) (target : ℕ) → AllByRecursi
 all_leave [] s target on can = tt
 all_leave (t ∷ taken) s target on can = ((can.0, can.2), leave_before taken s target t on.0 (all_leave taken (with_move target s t) target on.1 can.3))
 
-pub left_populated : (taken : List Taken) (s : State) (target : ℕ) (store : Store) → AllByRecursion (λ e. length e.1 ≡ 4096) (bytes_in store s.place) → AllByRecursion (Leaves s target) taken → AllByRecursion (IsPopulated store) (left taken)
+pub left_populated : (taken : List Taken) (s : State) (target : ℕ) (store : Store) → AllByRecursion (λ e. length e.1 ≡ 4096) (bytes_in store s.place) → AllByRecursion (Leaves s target) taken → AllByRecursion (IsPopulated store) (frames_left taken)
 left_populated [] s target store whole all = tt
 left_populated (t ∷ taken) s target store whole all = (place_populated store s.place t.page t.from whole all.0.0, left_populated taken s target store whole all.1)
 
-pub both_populated : (taken : List Taken) (store : Store) → AllByRecursion (IsPopulated store) (left taken) → AllByRecursion (IsPopulated store) (frames_taken taken) → AllByRecursion (HasBoth store) taken
+pub both_populated : (taken : List Taken) (store : Store) → AllByRecursion (IsPopulated store) (frames_left taken) → AllByRecursion (IsPopulated store) (frames_taken taken) → AllByRecursion (HasBoth store) taken
 both_populated [] store froms fronts = tt
 both_populated (t ∷ taken) store froms fronts = ((froms.0, fronts.0), both_populated taken store froms.1 fronts.1)
 
 -- ---- a machine whose frames keep their bytes is the same machine
 
-module _ (y : SpacesView) (k after : FramesView) (online : List ℕ) (moved failed : ℕ) (is : after ≡ record k { frames = after.frames }) (keeps : KeepsBytes k.frames after.frames) where
+module _ (y : AddressSpacesView) (k after : FramesView) (online : List ℕ) (moved failed : ℕ) (is : after ≡ record k { frames = after.frames }) (keeps : KeepsBytes k.frames after.frames) where
   pub same_shown : (l : List ℕ) → IsSoundMidRun (shown_by y k online moved failed) l → shown_by y after online moved failed ≡ shown_by y k online moved failed
   same_shown l sound =
       ap (λ (x : FramesView). shown_by y x online moved failed) is

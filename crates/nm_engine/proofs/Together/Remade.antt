@@ -8,7 +8,7 @@ use Rattle.nm_types.specs.declared.machine_error.MachineError.TheVariants.{Refus
 use Rattle.nm_types.specs.Does.{Makes}
 use Rattle.nm_model.specs.definitions.Areas.{inserted, attached, with_policy}
 use Rattle.nm_model.specs.definitions.Areas.{Mapped}
-use Rattle.nm_engine.specs.views.AddressSpaces.{SpacesView, mapped_of, table_of, with_mapped}
+use Rattle.nm_engine.specs.views.AddressSpaces.{AddressSpacesView, mapped_of, table_of, with_mapped}
 use Rattle.nm_engine.specs.views.Frames.{FramesView}
 use Rattle.nm_engine.specs.views.Shown.{shown_by, paged_frames}
 use Rattle.nm_model.specs.definitions.Effect.{map_refusal, attach_refusal}
@@ -23,13 +23,13 @@ pub nothing_made : (T : Type 0) (e : MachineError) (old new : Mapped) (refusal :
 nothing_made T (Refused errno) old new refusal after h = h.1
 nothing_made T HostMemory old new refusal after h = h
 
-module _ (y z : SpacesView) (k : FramesView) (online : List ℕ) (moved failed : ℕ) (is : z ≡ with_mapped y (mapped_of z)) (kept : IsKept (shown_by y k online moved failed) k.vacated y.frames) where
+module _ (y z : AddressSpacesView) (k : FramesView) (online : List ℕ) (moved failed : ℕ) (is : z ≡ with_mapped y (mapped_of z)) (kept : IsKept (shown_by y k online moved failed) k.vacated y.frames) where
   pub kept_same : mapped_of z ≡ mapped_of y → IsKept (shown_by z k online moved failed) k.vacated z.frames
-  kept_same same = subst (λ (w : SpacesView). IsKept (shown_by w k online moved failed) k.vacated w.frames) (sym (is ∙ ap (with_mapped y) same)) kept
+  kept_same same = subst (λ (w : AddressSpacesView). IsKept (shown_by w k online moved failed) k.vacated w.frames) (sym (is ∙ ap (with_mapped y) same)) kept
 
   kept_after : (m : Mapped) → mapped_of z ≡ m → k.vacated ≡ [] → (IsSound (shown_by y k online moved failed) → IsSound (shown_by (with_mapped y m) k online moved failed)) → IsKept (shown_by z k online moved failed) k.vacated z.frames
   kept_after m now none keeps =
-      subst (λ (w : SpacesView). IsKept (shown_by w k online moved failed) k.vacated w.frames) (sym (is ∙ ap (with_mapped y) now))
+      subst (λ (w : AddressSpacesView). IsKept (shown_by w k online moved failed) k.vacated w.frames) (sym (is ∙ ap (with_mapped y) now))
       (kept_mapped y.processes (table_of y) (paged_frames y k) online moved failed (table_of (with_mapped y m)) none kept keeps)
 
   pub kept_inserted : (pid address pages : ℕ) (shared : Bool) → k.vacated ≡ [] → map_refusal (shown_by y k online moved failed) pid address pages ≡ None
@@ -44,5 +44,5 @@ module _ (y z : SpacesView) (k : FramesView) (online : List ℕ) (moved failed :
 
   pub kept_policed : (pid address len : ℕ) (policy : Policy) → mapped_of z ≡ with_policy (mapped_of y) pid address len policy → IsKept (shown_by z k online moved failed) k.vacated z.frames
   kept_policed pid address len policy now =
-      subst (λ (w : SpacesView). IsKept (shown_by w k online moved failed) k.vacated w.frames) (sym (is ∙ ap (with_mapped y) now))
+      subst (λ (w : AddressSpacesView). IsKept (shown_by w k online moved failed) k.vacated w.frames) (sym (is ∙ ap (with_mapped y) now))
       (record { sound = policy_sound (shown_by y k online moved failed) k.vacated pid address len policy kept.sound; as_many = kept.as_many })

@@ -17,7 +17,7 @@ use Rattle.nm_model.specs.definitions.Touch.{with_page, without_front}
 use Rattle.nm_model.specs.definitions.Run.{with_free, with_all_free}
 use Rattle.nm_model.specs.definitions.Sound.{PlacesAreApart}
 use Rattle.nm_engine.specs.views.Frames.{PagedFrames, with_freed}
-use Rattle.nm_engine.proofs.Together.Paged.{IsStocked, free_of, stock_page, restock_page, free_all}
+use Rattle.nm_engine.proofs.Together.Paged.{HasItsFrames, free_of, stock_page, restock_page, free_all}
 use Rattle.nm_model.specs.views.Table.{Table}
 use Rattle.nm_engine.specs.views.Shown.{bytes_in, shown}
 use Rattle.nm_types.proofs.Maps.{page_cmp_total, exact_page, get-values, with_values-set, with_values-moved, set_agree, set_same, replace_is_set}
@@ -29,11 +29,11 @@ front_got [] some = absurd (omega (arith, some))
 front_got (y ∷ xs) some = refl
 
 -- no frame has two pages
-pub stocked_apart : (x : PagedFrames) → IsStocked x → PlacesAreApart x.place
+pub stocked_apart : (x : PagedFrames) → HasItsFrames x → PlacesAreApart x.place
 stocked_apart x h = places_are_apart h.once
 
 -- the bytes of the frame that got some, and those of the others
-new_bytes : (x : PagedFrames) (frame : ℕ) (bytes : List ℕ) → IsStocked x → frame < frame_count x.layout → bytes_of (slice_set x.frames frame (Some bytes)) frame ≡ bytes
+new_bytes : (x : PagedFrames) (frame : ℕ) (bytes : List ℕ) → HasItsFrames x → frame < frame_count x.layout → bytes_of (slice_set x.frames frame (Some bytes)) frame ≡ bytes
 new_bytes x frame bytes h lt = ap (λ o. unwrap_or o []) (get_or-set_same x.frames frame (Some bytes) None (let same = h.buffers in omega (arith, lt, same)))
 
 old_bytes : (frames : Store) (frame f : ℕ) (bytes : List ℕ) → f ≢ frame → bytes_of (slice_set frames frame (Some bytes)) f ≡ bytes_of frames f
@@ -45,7 +45,7 @@ keys_shown F (e ∷ m) = ap (λ ks. e.0 ∷ ks) (keys_shown F m)
 
 module _ (tasks : Map ℕ Process) (m : Table) (x : PagedFrames) (online : List ℕ) (moved failed : ℕ) where
   -- new bytes in a page
-  pub written_shows : IsStocked x → (page : Page) (frame at : ℕ) (new : List ℕ) → get page_cmp x.place page ≡ Some frame
+  pub written_shows : HasItsFrames x → (page : Page) (frame at : ℕ) (new : List ℕ) → get page_cmp x.place page ≡ Some frame
       → shown tasks m (record x { frames = slice_set x.frames frame (Some (overwrite (bytes_of x.frames frame) at new)) }) online moved failed
       ≡ record (shown tasks m x online moved failed) { bytes = replace page_cmp (bytes_in x.frames x.place) page (overwrite (unwrap_or (get page_cmp (bytes_in x.frames x.place) page) []) at new) }
   written_shows h page frame at new placed =
@@ -65,7 +65,7 @@ module _ (tasks : Map ℕ Process) (m : Table) (x : PagedFrames) (online : List 
       ∙ ap (λ o. replace page_cmp (bytes_in x.frames x.place) page (overwrite (unwrap_or o []) at new)) (sym found))
 
   -- a page of zeros in the front frame of a node
-  pub page_stocked_shows : IsStocked x → (page : Page) (node : ℕ) → get page_cmp x.place page ≡ None → 0 < length (free_of x node)
+  pub page_stocked_shows : HasItsFrames x → (page : Page) (node : ℕ) → get page_cmp x.place page ≡ None → 0 < length (free_of x node)
       → shown tasks m (stock_page x page node) online moved failed ≡ with_page (without_front (shown tasks m x online moved failed) node) page (slice_index (free_of x node) 0)
   page_stocked_shows h page node unplaced some =
       let frame = slice_index (free_of x node) 0 in
@@ -79,7 +79,7 @@ module _ (tasks : Map ℕ Process) (m : Table) (x : PagedFrames) (online : List 
       λ i. record s { place = set page_cmp x.place page frame; bytes = bytes i; pins = set page_cmp x.pins page 0 }
 
   -- a page goes to the front frame of a node with its bytes
-  pub restocked_shows : IsStocked x → (page : Page) (from node frame : ℕ) (rest : List ℕ) → get page_cmp x.place page ≡ Some from → free_of x node ≡ frame ∷ rest
+  pub restocked_shows : HasItsFrames x → (page : Page) (from node frame : ℕ) (rest : List ℕ) → get page_cmp x.place page ≡ Some from → free_of x node ≡ frame ∷ rest
       → shown tasks m (restock_page x page from node) online moved failed
       ≡ record (shown tasks m x online moved failed) { place = set page_cmp x.place page frame; free = slice_set x.free node rest }
   restocked_shows h page from node frame rest placed front =

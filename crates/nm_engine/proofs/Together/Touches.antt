@@ -19,7 +19,7 @@ use Rattle.nm_model.specs.definitions.Effect.{info_of, seeing}
 use Rattle.nm_model.specs.definitions.Areas.{is_shared}
 use Rattle.nm_model.specs.definitions.Touch.{AccessSite, site, site_of, site_over, shown_at, first_free, allocated, filled, with_sight, with_bytes, touched_entry, touched, touch}
 use Rattle.nm_engine.specs.views.Frames.{PagedFrames}
-use Rattle.nm_engine.proofs.Together.Paged.{IsStocked, free_of, stock_page}
+use Rattle.nm_engine.proofs.Together.Paged.{HasItsFrames, free_of, stock_page}
 use Rattle.nm_model.specs.views.Table.{Table}
 use Rattle.nm_engine.specs.views.Shown.{shown}
 use Rattle.nm_engine.specs.views.MidRun.{MidRun, IsKept, spot_at, IsSiteOf}
@@ -82,7 +82,7 @@ module _ {c : ℕ} (tasks : Map ℕ Process) (m : Table) (x : PagedFrames) (onli
       ∙ sight_here (shown tasks m x online moved failed) (spot_at t p a) sight (spot_there (shown tasks m x online moved failed) t p a touched)
 
   -- the page has a frame then
-  pub filled_shows : (node : ℕ) (new : Map ℕ Process) (after : PagedFrames) → IsStocked x → new ≡ replace nat_cmp tasks t.pid (seeing p t.vpn (Sees t.page)) → after ≡ stock_page x t.page node
+  pub filled_shows : (node : ℕ) (new : Map ℕ Process) (after : PagedFrames) → HasItsFrames x → new ≡ replace nat_cmp tasks t.pid (seeing p t.vpn (Sees t.page)) → after ≡ stock_page x t.page node
       → get page_cmp x.place t.page ≡ None → 0 < length (free_of x node)
       → shown new m after online moved failed ≡ with_sight (placed_front (shown tasks m x online moved failed) node (free_of x node) (shown_at (spot_at t p a))) (spot_at t p a) (Sees (shown_at (spot_at t p a)))
   filled_shows node new after paged_frames is to unplaced some =
@@ -91,7 +91,7 @@ module _ {c : ℕ} (tasks : Map ℕ Process) (m : Table) (x : PagedFrames) (onli
       ∙ ap (λ ps. placed_front (shown ps m x online moved failed) node (free_of x node) t.page) is
       ∙ ap (λ q. with_sight (placed_front (shown tasks m x online moved failed) node (free_of x node) q) (spot_at t p a) (Sees q)) (sym touched.page)
 
-  pub filled_kept : (node : ℕ) (new : Map ℕ Process) (after : PagedFrames) → IsStocked x → new ≡ replace nat_cmp tasks t.pid (seeing p t.vpn (Sees t.page)) → after ≡ stock_page x t.page node
+  pub filled_kept : (node : ℕ) (new : Map ℕ Process) (after : PagedFrames) → HasItsFrames x → new ≡ replace nat_cmp tasks t.pid (seeing p t.vpn (Sees t.page)) → after ≡ stock_page x t.page node
       → get page_cmp x.place t.page ≡ None → 0 < length (free_of x node) → ((q : Page) → sight_at (shown tasks m x online moved failed) t.pid t.vpn ≡ Some (Sees q) → ⊥)
       → IsKept (shown new m after online moved failed) l c
   filled_kept node new after paged_frames is to unplaced some unseen =
@@ -176,7 +176,7 @@ pub touch_is : (s t : State) (pid address len : ℕ) (writes : Bool) (at : Acces
 touch_is s t pid address len writes at e h = ap (touched s writes) e ∙ h
 
 -- bytes that are written into the frame of the page that is seen
-module _ {c : ℕ} (tasks : Map ℕ Process) (m : Table) (x : PagedFrames) (online : List ℕ) (moved failed : ℕ) (l : List ℕ) (pid address f : ℕ) (new : List ℕ) (after : PagedFrames) (kept : IsKept (shown tasks m x online moved failed) l c) (paged_frames : IsStocked x)
+module _ {c : ℕ} (tasks : Map ℕ Process) (m : Table) (x : PagedFrames) (online : List ℕ) (moved failed : ℕ) (l : List ℕ) (pid address f : ℕ) (new : List ℕ) (after : PagedFrames) (kept : IsKept (shown tasks m x online moved failed) l c) (paged_frames : HasItsFrames x)
     (seen : frame_seen (shown tasks m x online moved failed) pid (address / 4096) ≡ Some f) (is : after ≡ record x { frames = slice_set x.frames f (Some (overwrite (bytes_of x.frames f) (address % 4096) new)) }) where
   pub written_is : shown tasks m after online moved failed
       ≡ with_bytes (shown tasks m x online moved failed) (sight_at (shown tasks m x online moved failed) pid (address / 4096)) (address % 4096) new

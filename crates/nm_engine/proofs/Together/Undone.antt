@@ -29,7 +29,7 @@ use Rattle.nm_model.specs.definitions.Order.{first_touch_order}
 use Rattle.nm_engine.specs.declared.inner.touch_site.TouchSite.{TouchSite}
 use Rattle.nm_engine.specs.declared.inner.undo.Undo.{Undo}
 use Rattle.nm_model.specs.definitions.Frames.{bytes_of}
-use Rattle.nm_engine.specs.views.AddressSpaces.{SpacesView, with_before, without_page}
+use Rattle.nm_engine.specs.views.AddressSpaces.{AddressSpacesView, with_before, without_page}
 use Rattle.nm_engine.specs.views.Frames.{FramesView, CanFree, pool_of}
 use Rattle.nm_engine.specs.views.MidRun.{IsKept, IsSiteOf, spot_at}
 use Rattle.nm_engine.specs.views.Shown.{shown_by}
@@ -336,7 +336,7 @@ can_put_back s l page frame h placed =
     let whole : holders s.place s.free l frame ≡ 1 = h.frames.once frame ∙ ap (λ b. cond b 1 0) (lt-ltb frame (frame_count s.layout) below) in
     (below, not_in (free_list s (node_of s.layout frame)) frame (omega (arith, some, part, whole)), tt)
 
-module _ (y z w : SpacesView) (k j : FramesView) (online : List ℕ) (moved failed pid v : ℕ) (zero : Bool) (page : Page) (frame : ℕ) (known : IsSome (get nat_cmp y.processes pid))
+module _ (y z w : AddressSpacesView) (k j : FramesView) (online : List ℕ) (moved failed pid v : ℕ) (zero : Bool) (page : Page) (frame : ℕ) (known : IsSome (get nat_cmp y.processes pid))
     (seen : (p : Process) → get nat_cmp y.processes pid ≡ Some p → z ≡ with_before y pid p v zero) (unplaced : w ≡ without_page z page) (freed : j ≡ record k { free = (prepended (pool_of k) frame).lists }) where
   pub back_shows : shown_by w j online moved failed ≡ undone (shown_by y k online moved failed) (record { pid = pid; vpn = v; zero = zero; given = Some (page, frame) })
   back_shows =
@@ -355,5 +355,5 @@ module _ (y z w : SpacesView) (k j : FramesView) (online : List ℕ) (moved fail
       let after : w ≡ without_page (with_before y pid p.0 v zero) page = unplaced ∙ ap (λ y. without_page y page) (seen p.0 p.1) in
       record {
         sound = subst (λ s. IsSoundMidRun s j.vacated) (sym back_shows) (subst (λ (j : FramesView). IsSoundMidRun (undone (shown_by y k online moved failed) (record { pid = pid; vpn = v; zero = zero; given = Some (page, frame) })) j.vacated) (sym freed) sound);
-        as_many = ap (λ (w : SpacesView). w.frames) after ∙ kept.as_many ∙ sym (ap (λ (j : FramesView). frame_count j.layout) freed);
+        as_many = ap (λ (w : AddressSpacesView). w.frames) after ∙ kept.as_many ∙ sym (ap (λ (j : FramesView). frame_count j.layout) freed);
       }

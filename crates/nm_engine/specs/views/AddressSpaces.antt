@@ -16,7 +16,7 @@ use Rattle.nm_rmap.specs.Mappers.{Mappers, frame_pins}
 use Rattle.nm_model.specs.definitions.PageTables.{Task, process_of}
 use Rattle.nm_model.specs.definitions.Effect.{seeing, blind_at, seeing_before, blind_between}
 
-pub record SpacesView : Type 0 where
+pub record AddressSpacesView : Type 0 where
   -- by pid
   pub processes : Map ℕ Process
   -- by pid and first page number
@@ -31,11 +31,11 @@ pub record SpacesView : Type 0 where
   pub frames : ℕ
 
 -- the areas and the segments
-abbrev pub table_of : SpacesView → Table
+abbrev pub table_of : AddressSpacesView → Table
 table_of y = record { areas = y.areas; segments = y.segments; next = y.next }
 
 -- the areas, the segments, and the frames of pages
-abbrev pub mapped_of : SpacesView → Mapped
+abbrev pub mapped_of : AddressSpacesView → Mapped
 mapped_of y = record { areas = y.areas; segments = y.segments; next = y.next; place = y.place }
 
 -- the pins of each page that has a frame
@@ -43,7 +43,7 @@ abbrev pub pins_in : Mappers → Map Page ℕ → Map Page ℕ
 pins_in r place = with_values (λ page frame. frame_pins r frame) place
 
 -- page tables, areas and the reverse map, as one view
-abbrev pub spaces_view : Map ℕ Task → Mapped → Mappers → SpacesView
+abbrev pub spaces_view : Map ℕ Task → Mapped → Mappers → AddressSpacesView
 spaces_view tasks m r =
     record {
       processes = with_values (process_of m.areas) tasks;
@@ -56,33 +56,33 @@ spaces_view tasks m r =
     }
 
 -- `frames` frames, and nothing else
-abbrev pub no_spaces : ℕ → SpacesView
+abbrev pub no_spaces : ℕ → AddressSpacesView
 no_spaces frames =
     record { processes = []; areas = []; segments = []; next = 0; place = []; pins = []; frames = frames }
 
 -- the areas, the segments and their number may change
-abbrev pub with_mapped : SpacesView → Mapped → SpacesView
+abbrev pub with_mapped : AddressSpacesView → Mapped → AddressSpacesView
 with_mapped y m = record y { areas = m.areas; segments = m.segments; next = m.next }
 
 -- a process sees this at a page number
-abbrev pub with_seen : SpacesView → ℕ → Process → ℕ → Sight → SpacesView
+abbrev pub with_seen : AddressSpacesView → ℕ → Process → ℕ → Sight → AddressSpacesView
 with_seen y pid p v sight = record y { processes = replace nat_cmp y.processes pid (seeing p v sight) }
 
 -- a process sees nothing at a page number
-abbrev pub without_seen : SpacesView → ℕ → Process → ℕ → SpacesView
+abbrev pub without_seen : AddressSpacesView → ℕ → Process → ℕ → AddressSpacesView
 without_seen y pid p v = record y { processes = replace nat_cmp y.processes pid (blind_at p v) }
 
 -- a process sees the page of zeros at a page number, or nothing
-abbrev pub with_before : SpacesView → ℕ → Process → ℕ → Bool → SpacesView
+abbrev pub with_before : AddressSpacesView → ℕ → Process → ℕ → Bool → AddressSpacesView
 with_before y pid p v zero = record y { processes = replace nat_cmp y.processes pid (seeing_before p v zero) }
 
 -- a page loses its frame and its pins
-abbrev pub without_page : SpacesView → Page → SpacesView
+abbrev pub without_page : AddressSpacesView → Page → AddressSpacesView
 without_page y page =
     record y { place = without page_cmp y.place page; pins = without page_cmp y.pins page }
 
 -- a page gets a frame, and a process sees the page
-abbrev pub with_new_page : SpacesView → ℕ → Process → ℕ → Page → ℕ → SpacesView
+abbrev pub with_new_page : AddressSpacesView → ℕ → Process → ℕ → Page → ℕ → AddressSpacesView
 with_new_page y pid p v page frame =
     record (with_seen y pid p v (Sees page)) {
       place = set page_cmp y.place page frame;
@@ -90,20 +90,20 @@ with_new_page y pid p v page frame =
     }
 
 -- a page's frame is replaced
-abbrev pub with_moved : SpacesView → Page → ℕ → SpacesView
+abbrev pub with_moved : AddressSpacesView → Page → ℕ → AddressSpacesView
 with_moved y page frame = record y { place = set page_cmp y.place page frame }
 
 -- the number of pins of a page
-abbrev pub pins_here : SpacesView → Page → ℕ
+abbrev pub pins_here : AddressSpacesView → Page → ℕ
 pins_here y page = unwrap_or (get page_cmp y.pins page) 0
 
 -- the number of pins of a page is set
-abbrev pub with_pins_of : SpacesView → Page → ℕ → SpacesView
+abbrev pub with_pins_of : AddressSpacesView → Page → ℕ → AddressSpacesView
 with_pins_of y page pins = record y { pins = replace page_cmp y.pins page pins }
 
 -- a process loses what it sees from one page number up to another and the parts of its areas there, and pages that no
 -- area covers lose their frames and pins
-abbrev pub without_range : SpacesView → ℕ → ℕ → ℕ → SpacesView
+abbrev pub without_range : AddressSpacesView → ℕ → ℕ → ℕ → AddressSpacesView
 without_range y pid first end =
     let areas = areas_left y.areas pid first end in
     let gone = pages_gone y.areas pid first end in

@@ -11,20 +11,20 @@ use Rattle.nm_model.specs.definitions.Areas.{Mapped}
 use Rattle.nm_model.specs.definitions.PageTables.{Task, entry_at, entry_of}
 use Rattle.nm_model.specs.definitions.Seen.{sight_in}
 use Rattle.nm_rmap.specs.Mappers.{Mappers}
-use Rattle.nm_engine.specs.views.AddressSpaces.{SpacesView, spaces_view}
+use Rattle.nm_engine.specs.views.AddressSpaces.{AddressSpacesView, spaces_view}
 
 pub record HeldView : Type 0 where
   -- each process with its page table, by pid, in which the entries of pages on their way are held
   pub tables : Map ℕ Task
   -- what the address spaces are once these entries name the new frames
-  pub spaces : SpacesView
+  pub spaces : AddressSpacesView
 
 -- page tables, areas and reverse map while pages are on their way
 abbrev pub held_view : Map ℕ Task → Mapped → Mappers → HeldView
 held_view tasks m r = record { tables = tasks; spaces = spaces_view tasks m r }
 
 -- the entry of a process at a page number while no page is on its way: it names the frame of the page
-abbrev pub entry_here : SpacesView → ℕ → ℕ → Option Entry
+abbrev pub entry_here : AddressSpacesView → ℕ → ℕ → Option Entry
 entry_here y pid v = option_map (entry_of y.place) (sight_in (get nat_cmp y.processes pid) v)
 
 -- an entry that names the frame that a page leaves is held, on its way to the frame that the page takes

@@ -5,7 +5,7 @@ use Rattle.nm_types.specs.Map.{Map, with_values}
 use Rattle.nm_types.specs.State.{Process, State}
 use Rattle.nm_model.specs.views.Table.{Table}
 use Rattle.nm_model.specs.definitions.Frames.{Store, bytes_of}
-use Rattle.nm_engine.specs.views.AddressSpaces.{SpacesView, table_of}
+use Rattle.nm_engine.specs.views.AddressSpaces.{AddressSpacesView, table_of}
 use Rattle.nm_engine.specs.views.Frames.{FramesView, PagedFrames}
 
 -- the bytes of each page that has a frame
@@ -31,7 +31,7 @@ shown processes areas paged online moved failed =
     }
 
 -- the frames with the pages in them
-abbrev pub paged_frames : SpacesView → FramesView → PagedFrames
+abbrev pub paged_frames : AddressSpacesView → FramesView → PagedFrames
 paged_frames y k =
     record {
       layout = k.layout;
@@ -44,5 +44,5 @@ paged_frames y k =
     }
 
 -- the state of these address spaces and frames
-abbrev pub shown_by : SpacesView → FramesView → List ℕ → ℕ → ℕ → State
+abbrev pub shown_by : AddressSpacesView → FramesView → List ℕ → ℕ → ℕ → State
 shown_by y k online moved failed = shown y.processes (table_of y) (paged_frames y k) online moved failed

@@ -6,7 +6,7 @@ ghost use Rattle.nm_types.specs.Layout.{node_count};
 ghost use Rattle.nm_runs.specs.Shown.{class_shown, ShowsItsFrames};
 ghost use Rattle.nm_laws.specs.Laws.{with_moves};
 ghost use Rattle.nm_laws.specs.Moves.{CanMove, IsPlanOf};
-ghost use Rattle.nm_model.specs.definitions.Run.{left, HasOneAll, with_all_free, failures, with_counts};
+ghost use Rattle.nm_model.specs.definitions.Run.{frames_left, HasOneAll, with_all_free, failures, with_counts};
 ghost use Rattle.nm_model.specs.definitions.Sound.{IsSound};
 ghost use Rattle.nm_model.specs.definitions.BeforeCopy.{with_fronts, frames_taken, all_after_copy, IsPending};
 ghost use Rattle.nm_engine.specs.views.Accesses.{answer_shown, pending_shown, HasRoom};
@@ -98,7 +98,7 @@ impl<A: Allocator + Copy + Send + Sync> Inner<A> {
             ≡ (all_after_copy
             (with_moves (with_fronts (self.old.state) target (frames_taken moves.now)) target moves.now)
             (map (pending_shown accesses.now) dues.items)).answers }
-        ensures left { self.new.left ≡ left moves.now }
+        ensures frames_left { self.new.left ≡ frames_left moves.now }
     {
         self.frames.vacate_each(moves);
         let spaces = mem::replace(&mut self.spaces, AddressSpaces::none(self.alloc));
@@ -115,7 +115,7 @@ impl<A: Allocator + Copy + Send + Sync> Inner<A> {
         ensures state { self.new.state
             ≡ with_counts (with_all_free self.old.state self.old.left) (length self.old.left)
             (failures statuses.now) }
-        ensures left { self.new.left ≡ [] }
+        ensures frames_left { self.new.left ≡ [] }
     {
         let moved = self.frames.vacated_count() as u64;
         let failed = failures(statuses) as u64;
@@ -133,7 +133,7 @@ impl<A: Allocator + Copy + Send + Sync> Inner<A> {
     /// Adds to the totals.
     pub(crate) fn count(&mut self, moved: usize, failed: usize)
         ensures state { self.new.state ≡ with_counts self.old.state moved failed }
-        ensures left { self.new.left ≡ self.old.left }
+        ensures frames_left { self.new.left ≡ self.old.left }
     {
         let Totals {
             moved: before,

@@ -8,7 +8,7 @@ use Rattle.nm_model.specs.definitions.Decide.{Planned}
 use Rattle.nm_model.specs.definitions.Touch.{Access, AccessAnswer, AllAnswered, all_in_flight}
 use Rattle.nm_laws.specs.Laws.{with_moves}
 use Rattle.nm_laws.specs.Moves.{IsPlanOf}
-use Rattle.nm_model.specs.definitions.Run.{each_request, left, run, with_counts, with_all_free, failures}
+use Rattle.nm_model.specs.definitions.Run.{each_request, frames_left, run, with_counts, with_all_free, failures}
 
 module _ (s : State) (target : ℕ) (ws : List Wanted) (p : Planned) (moves : List Taken) (accesses : List Access) (during : AllAnswered) (h : IsPlanOf s target ws p) (taken : moves ≡ p.taken)
     (flight : all_in_flight (with_moves s target moves) (map (λ t. t.page) moves) accesses ≡ during) where
@@ -22,15 +22,15 @@ module _ (s : State) (target : ℕ) (ws : List Wanted) (p : Planned) (moves : Li
       ∙ ap (λ (x : State). all_in_flight x (map (λ t. t.page) moves) accesses) (ap (with_moves s target) taken ∙ sym h.agrees.state)
       ∙ ap (λ (ts : List Taken). all_in_flight (each_request s target ws).state (map (λ t. t.page) ts) accesses) same
 
-  pub run_state : (t : State) (l : List ℕ) (statuses : List ℤ) → t ≡ during.state → l ≡ left moves → statuses ≡ p.statuses
+  pub run_state : (t : State) (l : List ℕ) (statuses : List ℤ) → t ≡ during.state → l ≡ frames_left moves → statuses ≡ p.statuses
       → with_counts (with_all_free t l) (length l) (failures statuses) ≡ (run s target ws accesses).state
   run_state t l statuses is kept told =
       let now = each_request s target ws in
       let end : AllAnswered = all_in_flight now.state (map (λ t. t.page) now.taken) accesses in
       ap (λ (u : State). with_counts (with_all_free u l) (length l) (failures statuses)) (is ∙ ap (λ (x : AllAnswered). x.state) flown)
-      ∙ ap (λ (xs : List ℕ). with_counts (with_all_free end.state xs) (length xs) (failures statuses)) (kept ∙ ap (λ (ts : List Taken). left ts) same)
-      ∙ ap (λ n. with_counts (with_all_free end.state (left now.taken)) n (failures statuses)) (length-map now.taken (λ (t : Taken). t.from))
-      ∙ ap (λ (ss : List ℤ). with_counts (with_all_free end.state (left now.taken)) (length now.taken) (failures ss)) (told ∙ sym h.agrees.statuses)
+      ∙ ap (λ (xs : List ℕ). with_counts (with_all_free end.state xs) (length xs) (failures statuses)) (kept ∙ ap (λ (ts : List Taken). frames_left ts) same)
+      ∙ ap (λ n. with_counts (with_all_free end.state (frames_left now.taken)) n (failures statuses)) (length-map now.taken (λ (t : Taken). t.from))
+      ∙ ap (λ (ss : List ℤ). with_counts (with_all_free end.state (frames_left now.taken)) (length now.taken) (failures ss)) (told ∙ sym h.agrees.statuses)
 
   pub run_answers : (answers : List AccessAnswer) → answers ≡ during.answers → answers ∷ [] ≡ (run s target ws accesses).answers
   run_answers answers is = ap (λ (xs : List AccessAnswer). xs ∷ []) (is ∙ ap (λ (x : AllAnswered). x.answers) flown)

@@ -17,7 +17,7 @@ use Rattle.nm_model.specs.definitions.Decide.{Planned}
 use Rattle.nm_model.specs.definitions.Touch.{Access, all_in_flight}
 use Rattle.nm_laws.specs.Laws.{with_move, with_moves}
 use Rattle.nm_laws.specs.Moves.{CanMove, IsPlanOf}
-use Rattle.nm_model.specs.definitions.Run.{moved_page, left}
+use Rattle.nm_model.specs.definitions.Run.{moved_page, frames_left}
 use Rattle.nm_model.specs.definitions.Sound.{IsSoundMidRun, IsSound}
 use Rattle.nm_model.specs.definitions.BeforeCopy.{AllBeforeCopy, all_before_copy, all_after_copy, with_places, without_fronts, with_fronts, frames_taken, IsPending}
 use Rattle.nm_laws.proofs.Soundness.Moved.{decided_sound}
@@ -32,12 +32,12 @@ abbrev pub pages_of : List Taken → List Page
 pages_of taken = map (λ t. t.page) taken
 
 -- moves keep a machine sound
-pub moves_sound : (taken : List Taken) (s : State) (l : List ℕ) (target : ℕ) → IsSoundMidRun s l → CanMove s target taken → IsSoundMidRun (with_moves s target taken) (l ++ left taken)
+pub moves_sound : (taken : List Taken) (s : State) (l : List ℕ) (target : ℕ) → IsSoundMidRun s l → CanMove s target taken → IsSoundMidRun (with_moves s target taken) (l ++ frames_left taken)
 moves_sound [] s l target h can = subst (IsSoundMidRun s) (sym (append-nil l)) h
 moves_sound (t ∷ taken) s l target h can =
     let front = front_is (free_list s target) t.to can.1 in
-    let now = subst (λ (fs : List ℕ). IsSoundMidRun (moved_page s target t.page t.from fs).state (l ++ left (moved_page s target t.page t.from fs).taken)) front (decided_sound s l target (Move t.page t.from) h can.0) in
-    subst (IsSoundMidRun (with_moves s target (t ∷ taken))) (append_assoc l (t.from ∷ []) (left taken)) (moves_sound taken (with_move target s t) (l ++ t.from ∷ []) target now can.3)
+    let now = subst (λ (fs : List ℕ). IsSoundMidRun (moved_page s target t.page t.from fs).state (l ++ frames_left (moved_page s target t.page t.from fs).taken)) front (decided_sound s l target (Move t.page t.from) h can.0) in
+    subst (IsSoundMidRun (with_moves s target (t ∷ taken))) (append_assoc l (t.from ∷ []) (frames_left taken)) (moves_sound taken (with_move target s t) (l ++ t.from ∷ []) target now can.3)
 
 -- the frames that moves take are the front ones
 pub tos_are : (taken : List Taken) (s : State) (target : ℕ) → target < length s.free → CanMove s target taken → frames_taken taken ≡ take (length taken) (free_list s target)
@@ -130,7 +130,7 @@ module _ (s : State) (target : ℕ) (taken : List Taken) (accesses : List Access
         can = can_back;
         due = due.0;
         flight =
-            touches_first (left taken) moved accesses (with_moves s target taken) (moves_sound taken s [] target h can)
+            touches_first (frames_left taken) moved accesses (with_moves s target taken) (moves_sound taken s [] target h can)
             ∙ ap (λ (x : State). all_later (all_before_copy x moved accesses)) (moves_are_places taken s target inside h.order.place can)
             ∙ ap all_later (places_too moved taken (pages_among taken) accesses fronts_taken)
             ∙ ap (λ (x : State). all_after_copy (with_places x taken) touched_all.dues) (sym (again taken touched_all.state target within))

@@ -18,7 +18,7 @@ use Rattle.nm_model.specs.definitions.Frames.{Store, bytes_of}
 use Rattle.nm_types.specs.declared.request.Wanted.{Wanted}
 use Rattle.nm_types.specs.declared.taken.Taken.{Taken}
 use Rattle.nm_model.specs.definitions.PageTables.{entry_at, process_of, sight_of, entry_of}
-use Rattle.nm_model.specs.definitions.Run.{Progress, each_request, left}
+use Rattle.nm_model.specs.definitions.Run.{Progress, each_request, frames_left}
 use Rattle.nm_model.specs.definitions.Sound.{times, IsSound, IsSoundMidRun}
 use Rattle.nm_laws.specs.Laws.{moves_all}
 use Rattle.nm_laws.proofs.Soundness.Frames.{here, times_cons}
@@ -42,7 +42,7 @@ no e = cc
 -- ---- the jobs of moves
 
 module _ (buf : Store) where
-  sources_of : (taken : List Taken) → sources (jobs_of buf taken) ≡ left taken
+  sources_of : (taken : List Taken) → sources (jobs_of buf taken) ≡ frames_left taken
   sources_of [] = refl
   sources_of (t ∷ taken) = ap (λ xs. t.from ∷ xs) (sources_of taken)
 
@@ -69,10 +69,10 @@ module _ (buf : Store) where
       ] refl h
 
 -- frames of one node are targets, and those of others are sources
-source_elsewhere : (g : ℕ → ℕ) (target : ℕ) (taken : List Taken) (f : ℕ) → AllByRecursion (λ t. (g t.from == target) ≡ false) taken → 1 ≤ times f (left taken) → (g f == target) ≡ false
+source_elsewhere : (g : ℕ → ℕ) (target : ℕ) (taken : List Taken) (f : ℕ) → AllByRecursion (λ t. (g t.from == target) ≡ false) taken → 1 ≤ times f (frames_left taken) → (g f == target) ≡ false
 source_elsewhere g target [] f all some = absurd (omega (arith, some))
 source_elsewhere g target (t ∷ taken) f all some =
-    let s = times_cons f t.from (left taken) in
+    let s = times_cons f t.from (frames_left taken) in
     elim (t.from == f) as (λ b. (t.from == f) ≡ b → (g f == target) ≡ false) [
       | true ↦ λ b. subst (λ x. (g x == target) ≡ false) (eqb-true t.from f b) all.0
       | false ↦ λ b. let none : here f t.from ≡ 0 = ap (λ c. cond c 1 0) b in source_elsewhere g target taken f all.1 (omega (arith, none, s, some))
@@ -186,7 +186,7 @@ module _ (m : RunMachine) (target : ℕ) (wanted : List Wanted) (rest : IsAtRest
   decided_here : IsDecided (state_of m) target m.buf p
   decided_here = each_decided target m.buf wanted (state_of m) [] sound
 
-  sound_then : IsSoundMidRun p.state (left p.taken)
+  sound_then : IsSoundMidRun p.state (frames_left p.taken)
   sound_then = each_sound (state_of m) [] target wanted sound
 
   place_is : (state_of m).place ≡ m.place
@@ -245,14 +245,14 @@ module _ (m : RunMachine) (target : ℕ) (wanted : List Wanted) (rest : IsAtRest
   once_each : (f : ℕ) → times f (sources jobs) + times f (targets jobs) ≤ 1
   once_each f =
       let d = decided_here in
-      let s : times f (sources jobs) ≡ times f (left p.taken) = ap (times f) (sources_of m.buf p.taken) in
+      let s : times f (sources jobs) ≡ times f (frames_left p.taken) = ap (times f) (sources_of m.buf p.taken) in
       let t : times f (targets jobs) ≡ times f (map (λ (t : Taken). t.to) p.taken) = ap (times f) (targets_of m.buf p.taken) in
       let few = target_times f in
       let most = free_times f in
-      let after : times f (values_of p.state.place) + sum_by (times f) p.state.free + times f (left p.taken) ≤ 1 = one_at_most _ (nat_lt f (frame_count p.state.layout)) (sound_then.frames.once f) in
-      elim (nat_lt 0 (times f (left p.taken))) as (λ b. nat_lt 0 (times f (left p.taken)) ≡ b → times f (sources jobs) + times f (targets jobs) ≤ 1) [
+      let after : times f (values_of p.state.place) + sum_by (times f) p.state.free + times f (frames_left p.taken) ≤ 1 = one_at_most _ (nat_lt f (frame_count p.state.layout)) (sound_then.frames.once f) in
+      elim (nat_lt 0 (times f (frames_left p.taken))) as (λ b. nat_lt 0 (times f (frames_left p.taken)) ≡ b → times f (sources jobs) + times f (targets jobs) ≤ 1) [
         | true ↦ λ b.
-            let some : 1 ≤ times f (left p.taken) = let lt = ltb-true 0 (times f (left p.taken)) b in omega (arith, lt) in
+            let some : 1 ≤ times f (frames_left p.taken) = let lt = ltb-true 0 (times f (frames_left p.taken)) b in omega (arith, lt) in
             let off = source_elsewhere (node_of m.layout) target p.taken f d.from_elsewhere some in
             elim (nat_lt 0 (times f (map (λ (t : Taken). t.to) p.taken))) as (λ c. nat_lt 0 (times f (map (λ (t : Taken). t.to) p.taken)) ≡ c → times f (sources jobs) + times f (targets jobs) ≤ 1) [
               | true ↦ λ c.
@@ -260,7 +260,7 @@ module _ (m : RunMachine) (target : ℕ) (wanted : List Wanted) (rest : IsAtRest
                   absurd (no (sym off ∙ eq-eqb (node_of m.layout f) target (target_there (node_of m.layout) target p.taken f d.to_target some_too)))
               | false ↦ λ c. let none = ltb-false 0 (times f (map (λ (t : Taken). t.to) p.taken)) c in omega (arith, none, s, t, after)
             ] refl
-        | false ↦ λ b. let none = ltb-false 0 (times f (left p.taken)) b in omega (arith, none, s, t, few, most)
+        | false ↦ λ b. let none = ltb-false 0 (times f (frames_left p.taken)) b in omega (arith, none, s, t, few, most)
       ] refl
 
   laid_once : (statuses : List ℤ) (f : ℕ) → f < frame_count m.layout → length (hands (laid p.taken statuses) f) ≡ 1
@@ -285,7 +285,7 @@ module _ (m : RunMachine) (target : ℕ) (wanted : List Wanted) (rest : IsAtRest
       record {
         midway = record {
           moving = refl;
-          sound = subst (IsSoundMidRun (state_of (laid p.taken statuses))) (sym (sources_of m.buf p.taken)) (subst (λ s. IsSoundMidRun s (left p.taken)) (sym (laid_state statuses)) sound_then);
+          sound = subst (IsSoundMidRun (state_of (laid p.taken statuses))) (sym (sources_of m.buf p.taken)) (subst (λ s. IsSoundMidRun s (frames_left p.taken)) (sym (laid_state statuses)) sound_then);
           entries = laid_entries;
           pages = λ q. decided_here.pages q ∙ ap (λ ps. is_source jobs (get page_cmp ps q)) place_is;
           copies = laid_copies statuses (map ends_of jobs) decided_here.copies;

@@ -17,7 +17,7 @@ use Rattle.nm_types.specs.declared.request.Class.TheVariants.{Status, Move}
 use Rattle.nm_types.specs.declared.request.Wanted.{Wanted}
 use Rattle.nm_model.specs.definitions.Status.{status_or_move}
 use Rattle.nm_types.specs.declared.taken.Taken.{Taken}
-use Rattle.nm_model.specs.definitions.Run.{Decision, Progress, moved_page, decision, each_request, left}
+use Rattle.nm_model.specs.definitions.Run.{Decision, Progress, moved_page, decision, each_request, frames_left}
 use Rattle.nm_model.specs.definitions.Sound.{times, IsSoundMidRun}
 use Rattle.nm_laws.proofs.Soundness.Frames.{here, times_cons}
 use Rattle.nm_types.proofs.Maps.{page_cmp_total, exact_page, equal, get-set, with_values-moved}
@@ -193,7 +193,7 @@ abbrev Rest : ℕ → Store → List Wanted → Type 0
 Rest target buf ws = (s : State) (l : List ℕ) → IsSoundMidRun s l → IsDecided s target buf (each_request s target ws)
 
 page_decided : (s : State) (l : List ℕ) (target : ℕ) (buf : Store) (ws : List Wanted) (p : Page) (from : ℕ) (front : List ℕ) → Rest target buf ws → IsSoundMidRun s l → get page_cmp s.place p ≡ Some from → (node_of s.layout from == target) ≡ false → free_list s target ≡ front
-    → IsSoundMidRun (moved_page s target p from front).state (l ++ left (moved_page s target p from front).taken) → IsDecided s target buf (then_each (moved_page s target p from front) target ws)
+    → IsSoundMidRun (moved_page s target p from front).state (l ++ frames_left (moved_page s target p from front).taken) → IsDecided s target buf (then_each (moved_page s target p from front) target ws)
 page_decided s l target buf ws p from [] rest h placed elsewhere e sound = same_decided s target buf ws (moved_page s target p from []) refl refl (rest s l h)
 page_decided s l target buf ws p from (frame ∷ others) rest h placed elsewhere e sound =
     let next : State = (moved_page s target p from (frame ∷ others)).state in

@@ -2,7 +2,7 @@
 use Rattle.std.proofs.Common.{◌≡◌, List, [], ◌∷◌, ◌++◌, map, length}
 use Rattle.nm_types.specs.declared.page.Page.{Page}
 use Rattle.nm_model.specs.definitions.Touch.{Answered}
-use Rattle.nm_model.specs.definitions.Run.{Progress, left}
+use Rattle.nm_model.specs.definitions.Run.{Progress, frames_left}
 use Rattle.nm_model.specs.definitions.RunMachine.{RunMachine, state_of}
 use Rattle.nm_laws.proofs.InFlight.Jobs.{sources}
 use Rattle.nm_laws.proofs.InFlight.Midway.{IsMidway}
@@ -20,7 +20,7 @@ pub record Made (m n : RunMachine) (moved : List Page) (a : Answered) : Type 0 w
 pub record Begun (m n : RunMachine) (p : Progress) : Type 0 where
   pub midway : IsMidway n (map (λ t. t.page) p.taken)
   pub state : state_of n ≡ p.state
-  pub sources_are : sources n.jobs ≡ left p.taken
+  pub sources_are : sources n.jobs ≡ frames_left p.taken
   pub count : length n.jobs ≡ length p.taken
   pub statuses : n.statuses ≡ p.statuses
   pub answers : n.answers ≡ []

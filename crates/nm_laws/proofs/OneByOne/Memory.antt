@@ -11,7 +11,7 @@ use Rattle.nm_types.specs.declared.request.Wanted.{Wanted}
 use Rattle.nm_model.specs.definitions.Status.{status_or_move}
 use Rattle.nm_model.specs.definitions.Cut.{Request, Stretch, cut}
 use Rattle.nm_model.specs.definitions.Memory.{mem, byte_of}
-use Rattle.nm_model.specs.definitions.Run.{moved_page, decision, one_request, each_request, with_free, with_all_free, left, run, runs_from, batch}
+use Rattle.nm_model.specs.definitions.Run.{moved_page, decision, one_request, each_request, with_free, with_all_free, frames_left, run, runs_from, batch}
 use Rattle.nm_types.proofs.Maps.{page_cmp_total, exact_page, equal, get-set}
 use Rattle.nm_laws.proofs.OneByOne.Placed.{ClassIsPlaced, status_placed}
 
@@ -50,7 +50,7 @@ frees_keep (frame ∷ frames) s pid address = frees_keep frames (with_free s fra
 run_keeps : (s : State) (target : ℕ) (ws : List Wanted) (pid address : ℕ) → mem (run s target ws []).state pid address ≡ mem s pid address
 run_keeps s target ws pid address =
     let moves = each_request s target ws in
-    frees_keep (left moves.taken) moves.state pid address ∙ each_keeps s target ws pid address
+    frees_keep (frames_left moves.taken) moves.state pid address ∙ each_keeps s target ws pid address
 
 pub runs_keep : (k : ℕ) (s : State) (rs : List Stretch) (pid address : ℕ) → mem (runs_from k s rs []).state pid address ≡ mem s pid address
 runs_keep k s [] pid address = refl

@@ -15,7 +15,7 @@ use Rattle.nm_model.specs.definitions.Cut.{Stretch}
 use Rattle.nm_model.specs.definitions.Memory.{mem}
 use Rattle.nm_model.specs.definitions.Touch.{Access, Read, Write, AccessAnswer, Done, Held, touch, read_after, with_bytes, write_after, access}
 use Rattle.nm_model.specs.definitions.Touch.{site_of_access, is_held, in_flight, all_in_flight}
-use Rattle.nm_model.specs.definitions.Run.{moved_page, decision, one_request, each_request, with_free, with_all_free, left, run}
+use Rattle.nm_model.specs.definitions.Run.{moved_page, decision, one_request, each_request, with_free, with_all_free, frames_left, run}
 use Rattle.nm_model.specs.definitions.Run.{accesses_of, runs_from}
 use Rattle.nm_laws.specs.Laws.{written, all_written, runs_written, RunKeepsMemory, RunsKeepMemory}
 use Rattle.nm_model.specs.definitions.Sound.{IsSoundMidRun, IsSound}
@@ -119,15 +119,15 @@ module _ (q at : ℕ) where
     unfolding pages
     run_areas =
         let moves = each_request s target ws in
-        freed_areas (left moves.taken) (all_in_flight moves.state pages accesses).state ∙ (flights_areas moves.state pages accesses ∙ each_areas s target ws)
+        freed_areas (frames_left moves.taken) (all_in_flight moves.state pages accesses).state ∙ (flights_areas moves.state pages accesses ∙ each_areas s target ws)
 
     during_writes : IsSound s → mem (run s target ws accesses).state q at ≡ all_written s.areas q at (mem s q at) accesses (all_in_flight (each_request s target ws).state pages accesses).answers
     unfolding pages
     during_writes h =
         let moves = each_request s target ws in
         let during = all_in_flight moves.state pages accesses in
-        frees_keep (left moves.taken) during.state q at
-        ∙ (flights_write moves.state (left moves.taken) pages accesses (each_sound s [] target ws h)
+        frees_keep (frames_left moves.taken) during.state q at
+        ∙ (flights_write moves.state (frames_left moves.taken) pages accesses (each_sound s [] target ws h)
         ∙ (ap (λ areas. all_written areas q at (mem moves.state q at) accesses during.answers) (each_areas s target ws)
         ∙ ap (λ byte. all_written s.areas q at byte accesses during.answers) (each_keeps s target ws q at)))
 

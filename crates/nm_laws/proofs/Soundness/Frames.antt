@@ -15,7 +15,7 @@ use Rattle.nm_types.specs.Map.{Map, get, set, page_cmp}
 use Rattle.nm_types.specs.Layout.{Layout, owner, node_of}
 use Rattle.nm_types.specs.State.{State, free_list}
 use Rattle.nm_types.specs.declared.taken.Taken.{Taken}
-use Rattle.nm_model.specs.definitions.Run.{moved_page, left}
+use Rattle.nm_model.specs.definitions.Run.{moved_page, frames_left}
 use Rattle.nm_model.specs.definitions.Sound.{times, holders, FramesAreOnce}
 use Rattle.nm_types.proofs.Maps.{page_cmp_total}
 
@@ -74,7 +74,7 @@ own_set g free at new h own this = λ node.
     ] refl
 
 pub moved_frames : (s : State) (l : List ℕ) (target : ℕ) (p : Page) (from : ℕ) (front : List ℕ) → OnceIn s l → IsStrictlySortedBy page_cmp (keys_of s.place) → get page_cmp s.place p ≡ Some from → free_list s target ≡ front
-    → OnceIn (moved_page s target p from front).state (l ++ left (moved_page s target p from front).taken)
+    → OnceIn (moved_page s target p from front).state (l ++ frames_left (moved_page s target p from front).taken)
 moved_frames s l target p from [] h order placed e = subst (OnceIn s) (sym (append-nil l)) h
 moved_frames s l target p from (frame ∷ rest) h order placed e =
     let at = within s.free target frame rest e in
@@ -90,7 +90,7 @@ moved_frames s l target p from (frame ∷ rest) h order placed e =
       own = own_set s.layout s.free target rest at h.own own.1;
     }
 
-pub left-append : (xs ys : List Taken) → left (xs ++ ys) ≡ left xs ++ left ys
+pub left-append : (xs ys : List Taken) → frames_left (xs ++ ys) ≡ frames_left xs ++ frames_left ys
 left-append [] ys = refl
 left-append (x ∷ xs) ys = ap (λ l. x.from ∷ l) (left-append xs ys)
 

@@ -10,7 +10,7 @@ use Rattle.nm_types.specs.declared.request.Class.{Class}
 use Rattle.nm_types.specs.declared.request.Class.TheVariants.{Status, Move}
 use Rattle.nm_types.specs.declared.request.Wanted.{Wanted}
 use Rattle.nm_model.specs.definitions.Status.{status_or_move}
-use Rattle.nm_model.specs.definitions.Run.{moved_page, decision, one_request, each_request, with_free, with_all_free, left, with_counts}
+use Rattle.nm_model.specs.definitions.Run.{moved_page, decision, one_request, each_request, with_free, with_all_free, frames_left, with_counts}
 use Rattle.nm_model.specs.definitions.Sound.{AreNodes, FramesAreOnce, IsSoundMidRun}
 use Rattle.nm_types.proofs.Maps.{page_cmp_total, exact_page, keys-set}
 use Rattle.nm_types.proofs.Keys.{some_from_keys}
@@ -48,24 +48,24 @@ other_places s l k m free h same frames =
     }
 
 page_moved : (s : State) (l : List ℕ) (target : ℕ) (p : Page) (from : ℕ) (front : List ℕ) → IsSoundMidRun s l → get page_cmp s.place p ≡ Some from → free_list s target ≡ front
-    → IsSoundMidRun (moved_page s target p from front).state (l ++ left (moved_page s target p from front).taken)
+    → IsSoundMidRun (moved_page s target p from front).state (l ++ frames_left (moved_page s target p from front).taken)
 page_moved s l target p from [] h placed e = subst (IsSoundMidRun s) (sym (append-nil l)) h
 page_moved s l target p from (frame ∷ rest) h placed e =
     other_places s l (l ++ from ∷ []) (set page_cmp s.place p frame) _ h
     (keys-set page_cmp_total exact_page p s.place frame from h.order.place placed)
     (moved_frames s l target p from (frame ∷ rest) h.frames h.order.place placed e)
 
-pub decided_sound : (s : State) (l : List ℕ) (target : ℕ) (c : Class) → IsSoundMidRun s l → ClassIsPlaced s c → IsSoundMidRun (decision s target c).state (l ++ left (decision s target c).taken)
+pub decided_sound : (s : State) (l : List ℕ) (target : ℕ) (c : Class) → IsSoundMidRun s l → ClassIsPlaced s c → IsSoundMidRun (decision s target c).state (l ++ frames_left (decision s target c).taken)
 decided_sound s l target (Status status) h placed = subst (IsSoundMidRun s) (sym (append-nil l)) h
 decided_sound s l target (Move p from) h placed = page_moved s l target p from (free_list s target) h placed refl
 
-pub each_sound : (s : State) (l : List ℕ) (target : ℕ) (ws : List Wanted) → IsSoundMidRun s l → IsSoundMidRun (each_request s target ws).state (l ++ left (each_request s target ws).taken)
+pub each_sound : (s : State) (l : List ℕ) (target : ℕ) (ws : List Wanted) → IsSoundMidRun s l → IsSoundMidRun (each_request s target ws).state (l ++ frames_left (each_request s target ws).taken)
 each_sound s l target [] h = subst (IsSoundMidRun s) (sym (append-nil l)) h
 each_sound s l target (w ∷ ws) h =
     let now = one_request s target w in
     let rest = each_request now.state target ws in
-    subst (IsSoundMidRun rest.state) (append_assoc l (left now.taken) (left rest.taken) ∙ ap (λ xs. l ++ xs) (sym (left-append now.taken rest.taken)))
-    (each_sound now.state (l ++ left now.taken) target ws (decided_sound s l target (status_or_move s target w) h (status_placed s target w)))
+    subst (IsSoundMidRun rest.state) (append_assoc l (frames_left now.taken) (frames_left rest.taken) ∙ ap (λ xs. l ++ xs) (sym (left-append now.taken rest.taken)))
+    (each_sound now.state (l ++ frames_left now.taken) target ws (decided_sound s l target (status_or_move s target w) h (status_placed s target w)))
 
 pub frame_freed_sound : (s : State) (frame : ℕ) (l : List ℕ) → IsSoundMidRun s (frame ∷ l) → IsSoundMidRun (with_free s frame) l
 frame_freed_sound s frame l h = other_places s (frame ∷ l) l s.place (with_free s frame).free h refl (frame_freed s.layout s.place s.free frame l h.frames)

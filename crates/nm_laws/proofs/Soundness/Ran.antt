@@ -6,7 +6,7 @@ use Rattle.nm_types.specs.State.{State}
 use Rattle.nm_types.specs.declared.request.Wanted.{Wanted}
 use Rattle.nm_model.specs.definitions.Cut.{Request, Stretch, cut}
 use Rattle.nm_model.specs.definitions.Touch.{Access, Held, access, site_of_access, is_held, in_flight, all_in_flight}
-use Rattle.nm_model.specs.definitions.Run.{each_request, with_all_free, left, failures, run, accesses_of, runs_from, batch}
+use Rattle.nm_model.specs.definitions.Run.{each_request, with_all_free, frames_left, failures, run, accesses_of, runs_from, batch}
 use Rattle.nm_model.specs.definitions.Sound.{IsSoundMidRun, IsSound}
 use Rattle.nm_laws.proofs.Soundness.Moved.{each_sound, freed_sound, counted_sound}
 use Rattle.nm_laws.proofs.Soundness.Touched.{access_sound}
@@ -27,8 +27,8 @@ run_sound s target ws accesses h =
     let moves = each_request s target ws in
     let pages = map (λ t. t.page) moves.taken in
     let during = all_in_flight moves.state pages accesses in
-    counted_sound (with_all_free during.state (left moves.taken)) [] (length moves.taken) (failures moves.statuses)
-    (freed_sound (left moves.taken) during.state (all_in_flight_sound moves.state (left moves.taken) pages accesses (each_sound s [] target ws h)))
+    counted_sound (with_all_free during.state (frames_left moves.taken)) [] (length moves.taken) (failures moves.statuses)
+    (freed_sound (frames_left moves.taken) during.state (all_in_flight_sound moves.state (frames_left moves.taken) pages accesses (each_sound s [] target ws h)))
 
 runs_sound : (k : ℕ) (s : State) (rs : List Stretch) (accesses : List (ℕ × Access)) → IsSound s → IsSound (runs_from k s rs accesses).state
 runs_sound k s [] accesses h = h

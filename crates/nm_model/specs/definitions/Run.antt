@@ -64,8 +64,8 @@ abbrev pub with_all_free : State → List ℕ → State
 with_all_free s frames = fold with_free s frames
 
 -- the frames that the moves leave, in order
-abbrev pub left : List Taken → List ℕ
-left taken = map (λ t. t.from) taken
+abbrev pub frames_left : List Taken → List ℕ
+frames_left taken = map (λ t. t.from) taken
 
 -- how many requests failed because of a pin or for lack of a free frame
 abbrev pub failures : List ℤ → ℕ
@@ -105,7 +105,7 @@ abbrev pub run : State → ℕ → List Wanted → List Access → Ran
 run s target ws accesses =
     let moves = each_request s target ws in
     let during = all_in_flight moves.state (map (λ t. t.page) moves.taken) accesses in
-    let freed = with_all_free during.state (left moves.taken) in
+    let freed = with_all_free during.state (frames_left moves.taken) in
     let t = with_counts freed (length moves.taken) (failures moves.statuses) in
     record { state = t; statuses = moves.statuses; answers = during.answers ∷ [] }
 

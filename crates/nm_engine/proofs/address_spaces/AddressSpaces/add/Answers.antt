@@ -3,7 +3,7 @@ use Rattle.std.specs.Ordering.{nat_cmp}
 use Rattle.nm_types.specs.Map.{Map, set}
 use Rattle.nm_model.specs.definitions.Effect.{untouched}
 use Rattle.nm_model.specs.definitions.PageTables.{Task}
-use Rattle.nm_engine.specs.views.AddressSpaces.{SpacesView, spaces_view}
+use Rattle.nm_engine.specs.views.AddressSpaces.{AddressSpacesView, spaces_view}
 use Rattle.nm_engine.specs.definitions.Tied.{IsTied}
 use Rattle.nm_engine.proofs.Tied.Tabled.{on_ok, on_both}
 use Rattle.nm_engine.proofs.Tied.New.{no_task, added_tied, added_shows}
@@ -28,5 +28,5 @@ returns-clause-ok g c =
     on_ok c.add.result
     (λ is. ap (λ ts. spaces_view ts x.areas x.rmap) is
     ∙ added_shows x.tasks x.areas x.rmap c.args.pid c.args.info c.self.invariant none
-    ∙ ap (λ (y : SpacesView). record y { processes = set nat_cmp y.processes c.args.pid (untouched c.args.info) }) c.self.view_is)
+    ∙ ap (λ (y : AddressSpacesView). record y { processes = set nat_cmp y.processes c.args.pid (untouched c.args.info) }) c.self.view_is)
     c.add.ensures.ok

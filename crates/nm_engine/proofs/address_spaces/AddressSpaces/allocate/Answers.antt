@@ -8,7 +8,7 @@ use Rattle.nm_model.specs.definitions.Areas.{Mapped}
 use Rattle.nm_model.specs.definitions.Areas.{with_frame, without_frame}
 use Rattle.nm_rmap.specs.Mappers.{Mappers, with_mapper, without_mapper}
 use Rattle.nm_model.specs.definitions.PageTables.{Task}
-use Rattle.nm_engine.specs.views.AddressSpaces.{SpacesView, spaces_view, with_seen, with_new_page}
+use Rattle.nm_engine.specs.views.AddressSpaces.{AddressSpacesView, spaces_view, with_seen, with_new_page}
 use Rattle.nm_model.specs.definitions.PageTables.{process_of}
 use Rattle.nm_engine.specs.definitions.Tied.{IsTied}
 use Rattle.nm_engine.proofs.Tied.Moved.{spare_in, place_new}
@@ -21,9 +21,9 @@ placed_meanwhile : (m n : Mapped) (p : Page) (f : ℕ) → n ≡ with_frame m p 
 placed_meanwhile m n p f is = subst IsSome (sym (ap (λ (n : Mapped). get page_cmp n.place p) is ∙ place_new m.place p f)) refl
 
 -- the page again has none
-areas_undone : (y : SpacesView) (tasks : Map ℕ Task) (m n k : Mapped) (r : Mappers) (p : Page) (f : ℕ) → spaces_view tasks m r ≡ y → IsTied tasks m r → get page_cmp y.place p ≡ None → n ≡ with_frame m p f → k ≡ without_frame n p → k ≡ m
+areas_undone : (y : AddressSpacesView) (tasks : Map ℕ Task) (m n k : Mapped) (r : Mappers) (p : Page) (f : ℕ) → spaces_view tasks m r ≡ y → IsTied tasks m r → get page_cmp y.place p ≡ None → n ≡ with_frame m p f → k ≡ without_frame n p → k ≡ m
 areas_undone y tasks m n k r p f is h none given taken =
-    taken ∙ ap (λ (n : Mapped). without_frame n p) given ∙ place_undone m p f h.places (ap (λ (y : SpacesView). get page_cmp y.place p) is ∙ none)
+    taken ∙ ap (λ (n : Mapped). without_frame n p) given ∙ place_undone m p f h.places (ap (λ (y : AddressSpacesView). get page_cmp y.place p) is ∙ none)
 
 pub drop_frame-requires : goal.drop_frame-requires
 drop_frame-requires g c = placed_meanwhile c.self.inside.areas c.set_frame.new.self c.args.page c.args.frame c.in_ok-set_frame.ensures.ok
@@ -79,9 +79,9 @@ invariant_of-self-in_default-set g c =
     let is = c.self.view_is in
     let t = task_at y x.tasks x.areas x.rmap c.args.pid is c.requires.known in
     let free = unmapped_at y x.tasks x.areas x.rmap c.args.pid c.args.vpn is c.requires.unseen in
-    let at = ap (λ (y : SpacesView). page_at y.areas c.args.pid c.args.vpn) is ∙ c.requires.shown in
+    let at = ap (λ (y : AddressSpacesView). page_at y.areas c.args.pid c.args.vpn) is ∙ c.requires.shown in
     let spare = spare_in y x.tasks x.areas x.rmap c.args.frame is c.requires.frame c.requires.spare in
-    let none = ap (λ (y : SpacesView). get page_cmp y.place c.args.page) is ∙ c.requires.unplaced in
+    let none = ap (λ (y : AddressSpacesView). get page_cmp y.place c.args.page) is ∙ c.requires.unplaced in
     let m = with_frame x.areas c.args.page c.args.frame in
     subst (λ (m : Mapped). IsTied c.set.new.self m c.add.new.self) (sym c.in_ok-set_frame.ensures.ok)
     (subst (λ (r : Mappers). IsTied c.set.new.self m r) (sym c.in_default.ensures.ok)
@@ -96,9 +96,9 @@ returns-clause-ok g c = λ p h.
     let is = c.self.view_is in
     let t = task_at y x.tasks x.areas x.rmap c.args.pid is c.requires.known in
     let free = unmapped_at y x.tasks x.areas x.rmap c.args.pid c.args.vpn is c.requires.unseen in
-    let at = ap (λ (y : SpacesView). page_at y.areas c.args.pid c.args.vpn) is ∙ c.requires.shown in
+    let at = ap (λ (y : AddressSpacesView). page_at y.areas c.args.pid c.args.vpn) is ∙ c.requires.shown in
     let spare = spare_in y x.tasks x.areas x.rmap c.args.frame is c.requires.frame c.requires.spare in
-    let none = ap (λ (y : SpacesView). get page_cmp y.place c.args.page) is ∙ c.requires.unplaced in
+    let none = ap (λ (y : AddressSpacesView). get page_cmp y.place c.args.page) is ∙ c.requires.unplaced in
     let m = with_frame x.areas c.args.page c.args.frame in
     let same = process_at y x.tasks x.areas x.rmap c.args.pid t.0 p is t.1 h in
     (λ i. spaces_view (c.in_default-set.ensures.ok t.0 t.1 i) (c.in_ok-set_frame.ensures.ok i) (c.in_default.ensures.ok i))

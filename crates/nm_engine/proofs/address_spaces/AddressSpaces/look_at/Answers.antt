@@ -2,7 +2,7 @@ use Rattle.std.proofs.Common.{ap, sym, ◌∙◌, length}
 use Rattle.std.specs.Prelude.{nat_lt}
 use Rattle.nm_types.specs.declared.seen.Seen.TheVariants.{At}
 use Rattle.nm_model.specs.definitions.Seen.{users}
-use Rattle.nm_engine.specs.views.AddressSpaces.{SpacesView}
+use Rattle.nm_engine.specs.views.AddressSpaces.{AddressSpacesView}
 use Rattle.nm_engine.proofs.Tied.Counted.{users_counted}
 use Rattle.nm_engine.proofs.Tied.Moved.{placed_in}
 use Rattle.nm_engine.proofs.Tied.Pinned.{pins_shown}
@@ -14,7 +14,7 @@ returns-clause-look g c =
     let placed = placed_in c.args.self.now x.tasks x.areas x.rmap c.args.page c.args.frame c.self.view_is c.requires in
     let counted =
     c.processes.ensures ∙ users_counted x.tasks x.areas x.rmap c.self.invariant c.args.page c.args.frame placed
-    ∙ ap (λ (y : SpacesView). length (users y.processes c.args.page)) c.self.view_is in
+    ∙ ap (λ (y : AddressSpacesView). length (users y.processes c.args.page)) c.self.view_is in
     let pins = c.pins.ensures.pins ∙ sym (pins_shown c.args.self.now x.tasks x.areas x.rmap c.args.page c.args.frame c.self.view_is c.requires) in
     ap (λ n. At c.args.page c.args.frame n (nat_lt 0 c.pins.result)) counted
     ∙ ap (λ n. At c.args.page c.args.frame (length (users c.args.self.now.processes c.args.page)) (nat_lt 0 n)) pins

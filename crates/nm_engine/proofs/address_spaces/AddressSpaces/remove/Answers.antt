@@ -5,7 +5,7 @@ use Rattle.nm_model.specs.definitions.Areas.{Mapped}
 use Rattle.nm_model.specs.definitions.Areas.{areas_left, page_outside}
 use Rattle.nm_model.specs.definitions.PageTables.{Task}
 use Rattle.nm_engine.specs.views.ProcessTable.{cleared}
-use Rattle.nm_engine.specs.views.AddressSpaces.{SpacesView, spaces_view, without_range}
+use Rattle.nm_engine.specs.views.AddressSpaces.{AddressSpacesView, spaces_view, without_range}
 use Rattle.nm_engine.specs.definitions.Tied.{IsTied, IsCleared}
 use Rattle.nm_engine.proofs.Tied.Removed.{unpinned_pages, removed_tied, removed_shows}
 use Rattle.nm_engine.proofs.address_spaces.AddressSpaces.remove.Given.{Over}
@@ -46,4 +46,4 @@ returns-clause-ok g c =
     let end = first + a.pages in
     (λ i. spaces_view (entries_gone g c i) (c.in_ok-freed.ensures.done.1 i) c.clear_between.new.rmap)
     ∙ removed_shows x.tasks x.areas x.rmap c.clear_between.new.rmap a.pid first end c.self.invariant (shown_outside g c) (mappers_gone g c)
-    ∙ ap (λ (y : SpacesView). without_range y a.pid first end) c.self.view_is
+    ∙ ap (λ (y : AddressSpacesView). without_range y a.pid first end) c.self.view_is

@@ -5,7 +5,7 @@ use Rattle.nm_types.specs.Map.{Map}
 use Rattle.nm_types.specs.State.{page_at}
 use Rattle.nm_rmap.specs.Mappers.{Mappers, with_mapper, without_mapper}
 use Rattle.nm_model.specs.definitions.PageTables.{Task}
-use Rattle.nm_engine.specs.views.AddressSpaces.{SpacesView, spaces_view, with_seen}
+use Rattle.nm_engine.specs.views.AddressSpaces.{AddressSpacesView, spaces_view, with_seen}
 use Rattle.nm_engine.specs.definitions.Tied.{IsTied}
 use Rattle.nm_engine.proofs.Tied.Moved.{placed_in}
 use Rattle.nm_engine.proofs.Tied.Touched.{task_at, process_at, unmapped_at, page_tied, page_shows, mapper_undone}
@@ -41,7 +41,7 @@ invariant_of-self-in_default g c =
     let is = c.self.view_is in
     let t = task_at y x.tasks x.areas x.rmap c.args.pid is c.requires.known in
     let free = unmapped_at y x.tasks x.areas x.rmap c.args.pid c.args.vpn is c.requires.unseen in
-    let at = ap (λ (y : SpacesView). page_at y.areas c.args.pid c.args.vpn) is ∙ c.requires.shown in
+    let at = ap (λ (y : AddressSpacesView). page_at y.areas c.args.pid c.args.vpn) is ∙ c.requires.shown in
     let placed = placed_in y x.tasks x.areas x.rmap c.args.page c.args.frame is c.requires.placed in
     subst (λ (r : Mappers). IsTied c.set.new.self x.areas r) (sym c.in_ok-add.ensures.ok)
     (subst (λ (ts : Map ℕ Task). IsTied ts x.areas (with_mapper x.rmap c.args.frame (c.args.pid, c.args.vpn))) (sym (c.in_default.ensures.ok t.0 t.1))
@@ -54,7 +54,7 @@ returns-clause-ok g c = λ p h.
     let is = c.self.view_is in
     let t = task_at y x.tasks x.areas x.rmap c.args.pid is c.requires.known in
     let free = unmapped_at y x.tasks x.areas x.rmap c.args.pid c.args.vpn is c.requires.unseen in
-    let at = ap (λ (y : SpacesView). page_at y.areas c.args.pid c.args.vpn) is ∙ c.requires.shown in
+    let at = ap (λ (y : AddressSpacesView). page_at y.areas c.args.pid c.args.vpn) is ∙ c.requires.shown in
     let placed = placed_in y x.tasks x.areas x.rmap c.args.page c.args.frame is c.requires.placed in
     let same = process_at y x.tasks x.areas x.rmap c.args.pid t.0 p is t.1 h in
     (λ i. spaces_view (c.in_default.ensures.ok t.0 t.1 i) x.areas (c.in_ok-add.ensures.ok i))

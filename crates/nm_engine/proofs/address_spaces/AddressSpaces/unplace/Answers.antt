@@ -2,7 +2,7 @@ use Rattle.std.proofs.Common.{sym, subst, ap, ◌∙◌}
 use Rattle.std.specs.Prelude.{IsSome}
 use Rattle.nm_types.specs.Map.{get, page_cmp}
 use Rattle.nm_model.specs.definitions.Areas.{Mapped}
-use Rattle.nm_engine.specs.views.AddressSpaces.{SpacesView, spaces_view}
+use Rattle.nm_engine.specs.views.AddressSpaces.{AddressSpacesView, spaces_view}
 use Rattle.nm_engine.specs.definitions.Tied.{IsTied}
 use Rattle.nm_engine.proofs.Tied.Moved.{placed_in}
 use Rattle.nm_engine.proofs.Tied.Pinned.{pins_shown}
@@ -10,7 +10,7 @@ use Rattle.nm_engine.proofs.Tied.Unseen.{placed_some, unplaced_tied, unplaced_sh
 use Rattle.nm_engine.proofs.address_spaces.AddressSpaces.unplace.Goals as goal
 
 pub drop_frame-requires : goal.drop_frame-requires
-drop_frame-requires g c = subst (λ (y : SpacesView). IsSome (get page_cmp y.place c.args.page)) (sym c.self.view_is) c.requires.placed
+drop_frame-requires g c = subst (λ (y : AddressSpacesView). IsSome (get page_cmp y.place c.args.page)) (sym c.self.view_is) c.requires.placed
 
 pub invariant_of-self : goal.invariant_of-self
 invariant_of-self g c =

@@ -1,6 +1,6 @@
 use Rattle.std.proofs.Common.{ap, ◌∙◌, length}
 use Rattle.nm_model.specs.definitions.Seen.{users}
-use Rattle.nm_engine.specs.views.AddressSpaces.{SpacesView}
+use Rattle.nm_engine.specs.views.AddressSpaces.{AddressSpacesView}
 use Rattle.nm_engine.proofs.Tied.Counted.{users_counted}
 use Rattle.nm_engine.proofs.Tied.Moved.{placed_in}
 use Rattle.nm_engine.proofs.address_spaces.AddressSpaces.users_in.Goals as goal
@@ -15,4 +15,4 @@ returns g c page there =
     let x = c.self.inside in
     let placed = placed_in c.args.self.now x.tasks x.areas x.rmap page c.args.frame c.self.view_is there in
     c.processes.ensures ∙ users_counted x.tasks x.areas x.rmap c.self.invariant page c.args.frame placed
-    ∙ ap (λ (y : SpacesView). length (users y.processes page)) c.self.view_is
+    ∙ ap (λ (y : AddressSpacesView). length (users y.processes page)) c.self.view_is

@@ -2,18 +2,18 @@ use Rattle.std.proofs.Common.{ℕ, List, ◌≤◌, ◌++◌, min, length, vec_c
 use Rattle.std.specs.List.{AllByRecursion}
 use Rattle.nm_frames.specs.Populated.{IsPopulated}
 use Rattle.nm_engine.specs.views.Frames.{FramesView, HasAllFrames}
-use Rattle.nm_model.specs.definitions.Run.{left}
+use Rattle.nm_model.specs.definitions.Run.{frames_left}
 use Rattle.nm_engine.proofs.frames.Frames.vacate_each.Goals as goal
 
 pub invariant_of-self : goal.invariant_of-self
 invariant_of-self g c =
     let shelf = c.self.invariant.1 in
     let k = c.self.inside in
-    let items = c.push_left.ensures.items ∙ ap (λ xs. xs ++ left c.args.moves.now) c.clear.ensures.items in (
+    let items = c.push_left.ensures.items ∙ ap (λ xs. xs ++ frames_left c.args.moves.now) c.clear.ensures.items in (
       c.self.invariant.0,
       record { lists = shelf.lists; buffers = shelf.buffers; home = shelf.home },
       c.self.invariant.2,
-      subst (AllByRecursion (IsPopulated k.frames)) (sym items) (subst (λ (v : FramesView). AllByRecursion (IsPopulated v.frames) (left c.args.moves.now)) (sym c.self.view_is) c.requires.populated),
+      subst (AllByRecursion (IsPopulated k.frames)) (sym items) (subst (λ (v : FramesView). AllByRecursion (IsPopulated v.frames) (frames_left c.args.moves.now)) (sym c.self.view_is) c.requires.populated),
     )
 
 pub returns-clause-populated : goal.returns-clause-populated
@@ -32,7 +32,7 @@ returns-clause-vacated g c =
     let k = c.self.inside in
     let moves = c.args.moves.now in
     let fields : List ℕ → ℕ → FramesView = λ vacated room. record { layout = k.geometry; frames = k.frames; free = k.nodes.lists; vacated = vacated; room = min room (vec_capacity k.jobs) } in
-    let items = c.push_left.ensures.items ∙ ap (λ xs. xs ++ left moves) c.clear.ensures.items in
+    let items = c.push_left.ensures.items ∙ ap (λ xs. xs ++ frames_left moves) c.clear.ensures.items in
     ap (λ vacated. fields vacated (vec_capacity c.push_left.new.vacated)) items
-    ∙ ap (fields (left moves)) (c.push_left.ensures.room ∙ c.clear.ensures.capacity)
-    ∙ ap (λ (v : FramesView). record v { vacated = left moves }) c.self.view_is
+    ∙ ap (fields (frames_left moves)) (c.push_left.ensures.room ∙ c.clear.ensures.capacity)
+    ∙ ap (λ (v : FramesView). record v { vacated = frames_left moves }) c.self.view_is

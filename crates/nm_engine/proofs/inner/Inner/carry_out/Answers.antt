@@ -4,7 +4,7 @@ use Rattle.std.specs.Ordering.{nat_cmp}
 use Rattle.nm_types.specs.Map.{get}
 use Rattle.nm_types.specs.declared.taken.Taken.{Taken}
 use Rattle.nm_model.specs.definitions.Seen.{sight_in}
-use Rattle.nm_engine.specs.views.AddressSpaces.{SpacesView}
+use Rattle.nm_engine.specs.views.AddressSpaces.{AddressSpacesView}
 use Rattle.nm_engine.specs.definitions.Moves.{CanRemap, all_moved}
 use Rattle.nm_engine.proofs.Together.Copies.{copies_apart}
 use Rattle.nm_engine.proofs.Tied.Held.{held_is_taken, frames_stay, takes_below}
@@ -21,8 +21,8 @@ use Rattle.nm_engine.proofs.Early.Carrying.{spaces_then, copied_frames, prepared
 use Rattle.nm_engine.proofs.inner.Inner.carry_out.Goals as goal
 
 -- the pages are in their new frames once they have arrived
-on_way : (z x y : SpacesView) (moves : List Taken) → z ≡ all_moved x moves → x ≡ y → z ≡ all_moved y moves
-on_way z x y moves held same = held ∙ ap (λ (y : SpacesView). all_moved y moves) same
+on_way : (z x y : AddressSpacesView) (moves : List Taken) → z ≡ all_moved x moves → x ≡ y → z ≡ all_moved y moves
+on_way z x y moves held same = held ∙ ap (λ (y : AddressSpacesView). all_moved y moves) same
 
 pub hold-held-requires-clause-moves : goal.hold-held-requires-clause-moves
 hold-held-requires-clause-moves g c =
@@ -34,7 +34,7 @@ hold-held-requires-clause-moves g c =
     let dues = map (pending_shown c.args.accesses.now) c.args.dues.items in
     let h = prepared y k i.online i.totals.moved i.totals.failed t moves dues c.args.self.now c.self.view_is c.self.invariant c.vacate_each.ensures.shelf
     c.requires.target c.requires.taken c.requires.sound c.requires.moves c.requires.due c.vacate_each.ensures.populated in
-    subst (λ (z : SpacesView). CanRemap z moves) (sym c.replace-spaces.ensures.value) (remap y k i.online i.totals.moved i.totals.failed t moves dues h)
+    subst (λ (z : AddressSpacesView). CanRemap z moves) (sym c.replace-spaces.ensures.value) (remap y k i.online i.totals.moved i.totals.failed t moves dues h)
 
 pub hold-held-requires-clause-apart : goal.hold-held-requires-clause-apart
 hold-held-requires-clause-apart g c =
@@ -84,7 +84,7 @@ copy_pages-answers-requires-clause-held g c κs within f pid v named =
     c.requires.target c.requires.taken c.requires.sound c.requires.moves c.requires.due c.vacate_each.ensures.populated in
     let z = c.replace-spaces.result in
     names_another [] moves z (sight_in (get nat_cmp z.processes pid) v) f
-    (subst (λ (z : SpacesView). CanRemap z moves) (sym c.replace-spaces.ensures.value) (remap y k i.online i.totals.moved i.totals.failed t moves dues h))
+    (subst (λ (z : AddressSpacesView). CanRemap z moves) (sym c.replace-spaces.ensures.value) (remap y k i.online i.totals.moved i.totals.failed t moves dues h))
     (sym (c.hold-held.ensures.entries [] pid v) ∙ named)
 
 pub vacate_each-requires-clause-populated : goal.vacate_each-requires-clause-populated
@@ -103,7 +103,7 @@ copy_pages-answers-requires-clause-due g c κs within =
     let dues = map (pending_shown c.args.accesses.now) c.args.dues.items in
     let h = prepared y k i.online i.totals.moved i.totals.failed t moves dues c.args.self.now c.self.view_is c.self.invariant c.vacate_each.ensures.shelf
     c.requires.target c.requires.taken c.requires.sound c.requires.moves c.requires.due c.vacate_each.ensures.populated in
-    subst (λ (z : SpacesView). AllByRecursion (CanDo z.place (emptied c.vacate_each.new.self.frames moves)) dues) (sym (on_way c.hold-held.result.spaces c.replace-spaces.result y moves c.hold-held.ensures.spaces c.replace-spaces.ensures.value))
+    subst (λ (z : AddressSpacesView). AllByRecursion (CanDo z.place (emptied c.vacate_each.new.self.frames moves)) dues) (sym (on_way c.hold-held.result.spaces c.replace-spaces.result y moves c.hold-held.ensures.spaces c.replace-spaces.ensures.value))
     (subst (λ (v : FramesView). AllByRecursion (CanDo (spaces_then y k i.online i.totals.moved i.totals.failed t moves dues).place (emptied v.frames moves)) dues) (sym c.vacate_each.ensures.vacated) (can_meanwhile y k i.online i.totals.moved i.totals.failed t moves dues h))
 
 pub settle-requires-clause-below : goal.settle-requires-clause-below
@@ -116,7 +116,7 @@ settle-requires-clause-below g c =
     let dues = map (pending_shown c.args.accesses.now) c.args.dues.items in
     let h = prepared y k i.online i.totals.moved i.totals.failed t moves dues c.args.self.now c.self.view_is c.self.invariant c.vacate_each.ensures.shelf
     c.requires.target c.requires.taken c.requires.sound c.requires.moves c.requires.due c.vacate_each.ensures.populated in
-    subst (λ n. AllByRecursion (λ (t : Taken). t.to < n) moves) (sym (ap (λ (z : SpacesView). z.frames) (on_way c.hold-held.result.spaces c.replace-spaces.result y moves c.hold-held.ensures.spaces c.replace-spaces.ensures.value) ∙ frames_stay moves y))
+    subst (λ n. AllByRecursion (λ (t : Taken). t.to < n) moves) (sym (ap (λ (z : AddressSpacesView). z.frames) (on_way c.hold-held.result.spaces c.replace-spaces.result y moves c.hold-held.ensures.spaces c.replace-spaces.ensures.value) ∙ frames_stay moves y))
     (takes_below moves y (remap y k i.online i.totals.moved i.totals.failed t moves dues h))
 
 pub settle-requires-clause-among : goal.settle-requires-clause-among
@@ -136,7 +136,7 @@ invariant_of-self g c =
     c.requires.target c.requires.taken c.requires.sound c.requires.moves c.requires.due c.vacate_each.ensures.populated in
     let w = c.copy_pages-answers.new.self in
     let is = copied_frames y k i.online i.totals.moved i.totals.failed t moves dues c.vacate_each.new.self w c.hold-held.result.spaces c.vacate_each.ensures.vacated (on_way c.hold-held.result.spaces c.replace-spaces.result y moves c.hold-held.ensures.spaces c.replace-spaces.ensures.value) c.copy_pages-answers.ensures.frames in
-    subst (λ (z : SpacesView). IsKept (shown_by z w i.online i.totals.moved i.totals.failed) w.vacated z.frames) (sym (c.settle.ensures ∙ on_way c.hold-held.result.spaces c.replace-spaces.result y moves c.hold-held.ensures.spaces c.replace-spaces.ensures.value)) (finished_kept y k i.online i.totals.moved i.totals.failed t moves dues h w is)
+    subst (λ (z : AddressSpacesView). IsKept (shown_by z w i.online i.totals.moved i.totals.failed) w.vacated z.frames) (sym (c.settle.ensures ∙ on_way c.hold-held.result.spaces c.replace-spaces.result y moves c.hold-held.ensures.spaces c.replace-spaces.ensures.value)) (finished_kept y k i.online i.totals.moved i.totals.failed t moves dues h w is)
 
 pub returns-clause-state : goal.returns-clause-state
 returns-clause-state g c =
@@ -150,7 +150,7 @@ returns-clause-state g c =
     c.requires.target c.requires.taken c.requires.sound c.requires.moves c.requires.due c.vacate_each.ensures.populated in
     let w = c.copy_pages-answers.new.self in
     let is = copied_frames y k i.online i.totals.moved i.totals.failed t moves dues c.vacate_each.new.self w c.hold-held.result.spaces c.vacate_each.ensures.vacated (on_way c.hold-held.result.spaces c.replace-spaces.result y moves c.hold-held.ensures.spaces c.replace-spaces.ensures.value) c.copy_pages-answers.ensures.frames in
-    ap (λ (z : SpacesView). shown_by z w i.online i.totals.moved i.totals.failed) (c.settle.ensures ∙ on_way c.hold-held.result.spaces c.replace-spaces.result y moves c.hold-held.ensures.spaces c.replace-spaces.ensures.value) ∙ finished_shows y k i.online i.totals.moved i.totals.failed t moves dues h w is
+    ap (λ (z : AddressSpacesView). shown_by z w i.online i.totals.moved i.totals.failed) (c.settle.ensures ∙ on_way c.hold-held.result.spaces c.replace-spaces.result y moves c.hold-held.ensures.spaces c.replace-spaces.ensures.value) ∙ finished_shows y k i.online i.totals.moved i.totals.failed t moves dues h w is
     ∙ ap (λ (x : MidRun). (all_after_copy (with_moves (with_fronts (x.state) t (frames_taken moves)) t moves) dues).state) c.self.view_is
 
 pub returns-clause-answers : goal.returns-clause-answers
@@ -165,6 +165,6 @@ returns-clause-answers g c =
     c.requires.target c.requires.taken c.requires.sound c.requires.moves c.requires.due c.vacate_each.ensures.populated in
     c.copy_pages-answers.ensures.answers
     ∙ ap (λ (v : FramesView). (all_stored_after_copy c.hold-held.result.spaces.place (with_copies v.frames moves) dues).answers) c.vacate_each.ensures.vacated
-    ∙ ap (λ (z : SpacesView). (all_stored_after_copy z.place (with_copies k.frames moves) dues).answers) (on_way c.hold-held.result.spaces c.replace-spaces.result y moves c.hold-held.ensures.spaces c.replace-spaces.ensures.value)
+    ∙ ap (λ (z : AddressSpacesView). (all_stored_after_copy z.place (with_copies k.frames moves) dues).answers) (on_way c.hold-held.result.spaces c.replace-spaces.result y moves c.hold-held.ensures.spaces c.replace-spaces.ensures.value)
     ∙ finished_told y k i.online i.totals.moved i.totals.failed t moves dues h
     ∙ ap (λ (x : MidRun). (all_after_copy (with_moves (with_fronts (x.state) t (frames_taken moves)) t moves) dues).answers) c.self.view_is

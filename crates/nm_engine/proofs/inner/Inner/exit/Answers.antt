@@ -5,7 +5,7 @@ use Rattle.nm_types.specs.State.{State}
 use Rattle.nm_model.specs.definitions.Seen.{sight_in, sight_at}
 use Rattle.nm_model.specs.definitions.Effect.{dropped}
 use Rattle.nm_model.specs.definitions.Sound.{IsSoundMidRun, IsSound}
-use Rattle.nm_engine.specs.views.AddressSpaces.{SpacesView}
+use Rattle.nm_engine.specs.views.AddressSpaces.{AddressSpacesView}
 use Rattle.nm_engine.specs.views.Shown.{shown_by}
 use Rattle.nm_engine.specs.views.MidRun.{MidRun, IsKept}
 use Rattle.nm_laws.proofs.Soundness.Dropped.{sees_none, exit_sound}
@@ -28,7 +28,7 @@ invariant_of-self g c =
     let is : shown_by i.spaces i.frames i.online i.totals.moved i.totals.failed ≡ dropped s c.args.pid 0 (2 ^ 35) = ap (λ (a : MidRun). a.state) c.self-2.view_is ∙ c.in_ok-let_go.ensures.done.1 in
     let left : i.frames.vacated ≡ [] = ap (λ (a : MidRun). a.left) c.self-2.view_is ∙ ap (λ (a : MidRun). a.left) c.in_ok-let_go.ensures.same ∙ c.requires in
     let out : State → State = λ t. record t { processes = without nat_cmp t.processes c.args.pid } in
-    subst (λ (z : SpacesView). IsKept (shown_by z i.frames i.online i.totals.moved i.totals.failed) i.frames.vacated z.frames) (sym c.remove_task.ensures)
+    subst (λ (z : AddressSpacesView). IsKept (shown_by z i.frames i.online i.totals.moved i.totals.failed) i.frames.vacated z.frames) (sym c.remove_task.ensures)
     (record {
       sound = subst (λ l. IsSoundMidRun (out (shown_by i.spaces i.frames i.online i.totals.moved i.totals.failed)) l) (sym left)
           (subst (λ t. IsSoundMidRun t []) (sym (ap out is)) (exit_sound s sound c.args.pid));

@@ -9,7 +9,7 @@ use Rattle.nm_model.specs.definitions.Order.{first_touch_order}
 use Rattle.nm_model.specs.definitions.Touch.{filled, first_free}
 use Rattle.nm_types.specs.Layout.{frame_count}
 use Rattle.nm_frames.specs.Populated.{IsPopulated}
-use Rattle.nm_engine.specs.views.AddressSpaces.{SpacesView, table_of, with_new_page}
+use Rattle.nm_engine.specs.views.AddressSpaces.{AddressSpacesView, table_of, with_new_page}
 use Rattle.nm_engine.specs.views.Frames.{FramesView, free_on}
 use Rattle.nm_engine.specs.views.Shown.{shown, shown_by, paged_frames}
 use Rattle.nm_engine.specs.views.MidRun.{MidRun, IsKept, IsSiteOf, spot_at}
@@ -69,7 +69,7 @@ invariant_of-self-2 g c =
     let whole = kept_stocked c.self.inside.spaces c.populate.new.self c.self.inside.online c.self.inside.totals.moved c.self.inside.totals.failed kept c.in_ok-populate.ensures.shelf in
     let vacated : c.zero.new.self.vacated ≡ c.populate.new.self.vacated = ap (λ (k : FramesView). k.vacated) c.zero.ensures ∙ ap (λ (k : FramesView). k.vacated) c.take_front.ensures.rest in
     subst (λ l. IsKept (shown_by c.allocate.new.self c.zero.new.self c.self.inside.online c.self.inside.totals.moved c.self.inside.totals.failed) l c.allocate.new.self.frames) (sym vacated)
-    (subst (λ (z : SpacesView). IsKept (shown z.processes (table_of z) (paged_frames c.allocate.new.self c.zero.new.self) c.self.inside.online c.self.inside.totals.moved c.self.inside.totals.failed) c.populate.new.self.vacated z.frames) (sym is)
+    (subst (λ (z : AddressSpacesView). IsKept (shown z.processes (table_of z) (paged_frames c.allocate.new.self c.zero.new.self) c.self.inside.online c.self.inside.totals.moved c.self.inside.totals.failed) c.populate.new.self.vacated z.frames) (sym is)
     (filled_kept c.self.inside.spaces.processes (table_of c.self.inside.spaces) (paged_frames c.self.inside.spaces c.populate.new.self) c.self.inside.online c.self.inside.totals.moved c.self.inside.totals.failed _ c.args.t c.requires.touched.0 c.requires.touched.1 kept touched c.in-Some.node (with_new_page c.self.inside.spaces c.args.t.pid c.requires.touched.0 c.args.t.vpn c.args.t.page c.in-Some-front.frame).processes (paged_frames c.allocate.new.self c.zero.new.self) whole refl to unplaced (found_free c.populate.new.self.free _ c.in-Some.node found) unseen))
 
 pub returns-clause-touches : goal.returns-clause-touches
@@ -85,7 +85,7 @@ returns-clause-touches g c p a known =
     let whole = kept_stocked c.self.inside.spaces c.populate.new.self c.self.inside.online c.self.inside.totals.moved c.self.inside.totals.failed kept c.in_ok-populate.ensures.shelf in
     ap (λ (y : MidRun). filled y.state (spot_at c.args.t p a)) (sym view)
     ∙ filled_is c.self.inside.spaces.processes (table_of c.self.inside.spaces) (paged_frames c.self.inside.spaces c.populate.new.self) c.self.inside.online c.self.inside.totals.moved c.self.inside.totals.failed _ c.args.t p a kept touched c.in-Some.node found
-    ∙ ap Ok (sym (ap (λ (z : SpacesView). shown z.processes (table_of z) (paged_frames c.allocate.new.self c.zero.new.self) c.self.inside.online c.self.inside.totals.moved c.self.inside.totals.failed) is
+    ∙ ap Ok (sym (ap (λ (z : AddressSpacesView). shown z.processes (table_of z) (paged_frames c.allocate.new.self c.zero.new.self) c.self.inside.online c.self.inside.totals.moved c.self.inside.totals.failed) is
     ∙ filled_shows c.self.inside.spaces.processes (table_of c.self.inside.spaces) (paged_frames c.self.inside.spaces c.populate.new.self) c.self.inside.online c.self.inside.totals.moved c.self.inside.totals.failed _ c.args.t p a kept touched c.in-Some.node (with_new_page c.self.inside.spaces c.args.t.pid p c.args.t.vpn c.args.t.page c.in-Some-front.frame).processes (paged_frames c.allocate.new.self c.zero.new.self) whole refl to unplaced (found_free c.populate.new.self.free _ c.in-Some.node found)))
 
 pub returns-clause-frame : goal.returns-clause-frame
@@ -94,7 +94,7 @@ returns-clause-frame g c =
     let view = view_again c.self.inside.spaces c.self.inside.frames c.populate.new.self c.self.inside.online c.self.inside.totals.moved c.self.inside.totals.failed c.in_ok-populate.ensures.same c.in_ok-populate.ensures.kept c.args.self.now c.self.invariant c.self.view_is in
     let touched = inside _ _ _ _ view (λ s. IsSiteOf s c.args.t c.requires.touched.0 c.requires.touched.1) c.requires.touched.2 in
     let is = c.in_ok-allocate.ensures.ok c.requires.touched.0 touched.known in
-    ap (λ (z : SpacesView). frame_of z.place (sight_in (get nat_cmp z.processes c.args.t.pid) c.args.t.vpn)) is
+    ap (λ (z : AddressSpacesView). frame_of z.place (sight_in (get nat_cmp z.processes c.args.t.pid) c.args.t.vpn)) is
     ∙ ap (frame_of (with_new_page c.self.inside.spaces c.args.t.pid c.requires.touched.0 c.args.t.vpn c.args.t.page c.in-Some-front.frame).place) (sees_now c.self.inside.spaces.processes (table_of c.self.inside.spaces) (paged_frames c.self.inside.spaces c.populate.new.self) c.self.inside.online c.self.inside.totals.moved c.self.inside.totals.failed _ c.args.t c.requires.touched.0 c.requires.touched.1 kept touched _ (with_new_page c.self.inside.spaces c.args.t.pid c.requires.touched.0 c.args.t.vpn c.args.t.page c.in-Some-front.frame).processes refl)
     ∙ get_set_same c.self.inside.spaces.place c.args.t.page c.in-Some-front.frame
 
@@ -111,12 +111,12 @@ returns-in_err-populate-clause-touches g c p a known =
 
 pub invariant_of-self-in_err-allocate : goal.invariant_of-self-in_err-allocate
 invariant_of-self-in_err-allocate g c =
-    subst (λ (z : SpacesView). IsKept (shown_by z c.populate.new.self c.self.inside.online c.self.inside.totals.moved c.self.inside.totals.failed) c.populate.new.self.vacated z.frames) (sym c.in_err-allocate.ensures.err)
+    subst (λ (z : AddressSpacesView). IsKept (shown_by z c.populate.new.self c.self.inside.online c.self.inside.totals.moved c.self.inside.totals.failed) c.populate.new.self.vacated z.frames) (sym c.in_err-allocate.ensures.err)
     (kept_again c.self.inside.spaces c.self.inside.frames c.populate.new.self c.self.inside.online c.self.inside.totals.moved c.self.inside.totals.failed c.in_ok-populate.ensures.same c.in_ok-populate.ensures.kept c.self.invariant)
 
 pub returns-in_err-allocate-clause-touches : goal.returns-in_err-allocate-clause-touches
 returns-in_err-allocate-clause-touches g c p a known =
     nothing_touched c.from_residual-in_err-allocate.result _ _ _ c.from_residual-in_err-allocate.ensures
-    (ap (λ (z : SpacesView). shown_by z c.populate.new.self c.self.inside.online c.self.inside.totals.moved c.self.inside.totals.failed) c.in_err-allocate.ensures.err
+    (ap (λ (z : AddressSpacesView). shown_by z c.populate.new.self c.self.inside.online c.self.inside.totals.moved c.self.inside.totals.failed) c.in_err-allocate.ensures.err
     ∙ same_shown c.self.inside.spaces c.self.inside.frames c.populate.new.self c.self.inside.online c.self.inside.totals.moved c.self.inside.totals.failed c.in_ok-populate.ensures.same c.in_ok-populate.ensures.kept c.self.inside.frames.vacated c.self.invariant.sound
     ∙ ap (λ (x : MidRun). x.state) c.self.view_is)

@@ -7,7 +7,7 @@ use Rattle.nm_types.specs.Map.{get, page_cmp}
 use Rattle.nm_model.specs.definitions.Seen.{sight_in, sight_at}
 use Rattle.nm_engine.specs.definitions.Does.{Touches}
 use Rattle.nm_model.specs.definitions.Touch.{joined, with_sight}
-use Rattle.nm_engine.specs.views.AddressSpaces.{SpacesView, table_of, with_seen}
+use Rattle.nm_engine.specs.views.AddressSpaces.{AddressSpacesView, table_of, with_seen}
 use Rattle.nm_engine.specs.views.Shown.{shown_by, paged_frames}
 use Rattle.nm_engine.specs.views.MidRun.{MidRun, IsKept, IsSiteOf, spot_at, with_state}
 use Rattle.nm_model.specs.definitions.Seen.{frame_of}
@@ -21,7 +21,7 @@ invariant_of-self-2 g c =
     let touched = inside _ _ _ _ c.self.view_is (λ s. IsSiteOf s c.args.t c.requires.touched.0 c.requires.touched.1) c.requires.touched.2 in
     let unseen = inside _ _ _ _ c.self.view_is (λ s. sight_at s c.args.t.pid c.args.t.vpn ≡ None) c.requires.unseen in
     let placed : get page_cmp c.self.inside.spaces.place c.args.t.page ≡ Some c.in-Some.frame = sym c.place.ensures.place ∙ c.in-Some.is in
-    subst (λ (z : SpacesView). IsKept (shown_by z c.self.inside.frames c.self.inside.online c.self.inside.totals.moved c.self.inside.totals.failed) c.self.inside.frames.vacated z.frames) (sym (c.in_ok-see.ensures.ok c.requires.touched.0 touched.known))
+    subst (λ (z : AddressSpacesView). IsKept (shown_by z c.self.inside.frames c.self.inside.online c.self.inside.totals.moved c.self.inside.totals.failed) c.self.inside.frames.vacated z.frames) (sym (c.in_ok-see.ensures.ok c.requires.touched.0 touched.known))
     (seen_kept c.self.inside.spaces.processes (table_of c.self.inside.spaces) (paged_frames c.self.inside.spaces c.self.inside.frames) c.self.inside.online c.self.inside.totals.moved c.self.inside.totals.failed _ c.args.t c.requires.touched.0 c.requires.touched.1 c.self.invariant touched (Sees c.args.t.page) _ refl
     (sym touched.page, subst (λ (o : Option ℕ). IsSome o) (sym placed) refl) (none_sees unseen))
 
@@ -32,13 +32,13 @@ returns-clause-touches g c p a known =
     ap (λ (y : MidRun). joined y.state (spot_at c.args.t p a) (get page_cmp y.state.place c.args.t.page)) (sym c.self.view_is)
     ∙ ap (joined (shown_by c.self.inside.spaces c.self.inside.frames c.self.inside.online c.self.inside.totals.moved c.self.inside.totals.failed) (spot_at c.args.t p a)) placed
     ∙ ap (λ (q : Page). Ok (with_sight (shown_by c.self.inside.spaces c.self.inside.frames c.self.inside.online c.self.inside.totals.moved c.self.inside.totals.failed) (spot_at c.args.t p a) (Sees q))) touched.page
-    ∙ ap (λ (z : SpacesView). Ok (shown_by z c.self.inside.frames c.self.inside.online c.self.inside.totals.moved c.self.inside.totals.failed)) (sym (c.in_ok-see.ensures.ok p touched.known))
+    ∙ ap (λ (z : AddressSpacesView). Ok (shown_by z c.self.inside.frames c.self.inside.online c.self.inside.totals.moved c.self.inside.totals.failed)) (sym (c.in_ok-see.ensures.ok p touched.known))
 
 pub returns-clause-frame : goal.returns-clause-frame
 returns-clause-frame g c =
     let touched = inside _ _ _ _ c.self.view_is (λ s. IsSiteOf s c.args.t c.requires.touched.0 c.requires.touched.1) c.requires.touched.2 in
     let is = c.in_ok-see.ensures.ok c.requires.touched.0 touched.known in
-    ap (λ (z : SpacesView). frame_of z.place (sight_in (get nat_cmp z.processes c.args.t.pid) c.args.t.vpn)) is
+    ap (λ (z : AddressSpacesView). frame_of z.place (sight_in (get nat_cmp z.processes c.args.t.pid) c.args.t.vpn)) is
     ∙ ap (frame_of c.self.inside.spaces.place) (sees_now c.self.inside.spaces.processes (table_of c.self.inside.spaces) (paged_frames c.self.inside.spaces c.self.inside.frames) c.self.inside.online c.self.inside.totals.moved c.self.inside.totals.failed _ c.args.t c.requires.touched.0 c.requires.touched.1 c.self.invariant touched (Sees c.args.t.page) (with_seen c.self.inside.spaces c.args.t.pid c.requires.touched.0 c.args.t.vpn (Sees c.args.t.page)).processes refl)
     ∙ sym c.place.ensures.place ∙ c.in-Some.is
 
@@ -59,13 +59,13 @@ returns-in_default-clause-same g c = c.fill.ensures.same
 pub invariant_of-self : goal.invariant_of-self
 invariant_of-self g c =
     let i = c.self.inside in
-    subst (λ (z : SpacesView). IsKept (shown_by z i.frames i.online i.totals.moved i.totals.failed) i.frames.vacated z.frames) (sym c.in_err-see.ensures.err) c.self.invariant
+    subst (λ (z : AddressSpacesView). IsKept (shown_by z i.frames i.online i.totals.moved i.totals.failed) i.frames.vacated z.frames) (sym c.in_err-see.ensures.err) c.self.invariant
 
 pub returns-in_err-see-clause-touches : goal.returns-in_err-see-clause-touches
 returns-in_err-see-clause-touches g c p a known =
     let i = c.self.inside in
     nothing_touched c.from_residual.result c.args.self.now.state _ _ c.from_residual.ensures
-    (ap (λ (z : SpacesView). shown_by z i.frames i.online i.totals.moved i.totals.failed) c.in_err-see.ensures.err ∙ ap (λ (y : MidRun). y.state) c.self.view_is)
+    (ap (λ (z : AddressSpacesView). shown_by z i.frames i.online i.totals.moved i.totals.failed) c.in_err-see.ensures.err ∙ ap (λ (y : MidRun). y.state) c.self.view_is)
 
 pub returns-in_err-see-clause-same : goal.returns-in_err-see-clause-same
 returns-in_err-see-clause-same g c =

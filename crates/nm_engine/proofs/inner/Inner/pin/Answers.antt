@@ -1,6 +1,6 @@
 use Rattle.std.proofs.Common.{ap}
 use Rattle.nm_engine.specs.views.Shown.{shown_by}
-use Rattle.nm_engine.specs.views.AddressSpaces.{SpacesView}
+use Rattle.nm_engine.specs.views.AddressSpaces.{AddressSpacesView}
 use Rattle.nm_engine.proofs.Together.Pinned.{one_more, ok_then, err_then, pinned_kept, pin_alters}
 use Rattle.nm_engine.proofs.inner.Inner.pin.Goals as goal
 
@@ -13,7 +13,7 @@ invariant_of-self g c =
 pub returns-clause-done : goal.returns-clause-done
 returns-clause-done g c =
     let i = c.self.inside in
-    let to = λ (w : SpacesView). shown_by w i.frames i.online i.totals.moved i.totals.failed in
+    let to = λ (w : AddressSpacesView). shown_by w i.frames i.online i.totals.moved i.totals.failed in
     let page = c.in_ok-page in
     pin_alters _ _ _ c.args.self.now c.self.view_is c.args.pid c.args.addr page.page c.self.invariant.sound page.ensures.known page.ensures.seen (to c.pin.new.self) c.pin.result
     c.pin.ensures.room (ok_then c.pin.result (ap to) c.pin.ensures.ok) c.pin.ensures.full (err_then c.pin.result (ap to) c.pin.ensures.err)

@@ -8,7 +8,7 @@ use Rattle.nm_model.specs.definitions.Effect.{spawn_refusal}
 use Rattle.nm_model.specs.definitions.Effect.{untouched}
 use Rattle.nm_engine.specs.views.MidRun.{MidRun, IsKept, with_state}
 use Rattle.nm_engine.proofs.Together.Kept.{seen, kept_spawned, spawn_fine}
-use Rattle.nm_engine.specs.views.AddressSpaces.{SpacesView, table_of}
+use Rattle.nm_engine.specs.views.AddressSpaces.{AddressSpacesView, table_of}
 use Rattle.nm_engine.specs.views.Shown.{paged_frames, shown_by}
 use Rattle.nm_engine.proofs.Together.Touches.{outside}
 use Rattle.nm_engine.proofs.inner.HandedOn.{may_ask, nothing_made}
@@ -23,7 +23,7 @@ invariant_of-self-2 g c =
     (omega (arith, c.if-index-count.false, c.index.ensures, c.node_count-count.ensures.count)) c.if-is_empty.ensures.1
     (ap (λ k. list_any (nat_le k) c.args.info.allowed) (sym c.node_count-count.ensures.count) ∙ sym c.has_beyond.ensures ∙ c.if-has_beyond.false) (omega (arith, c.if-len-ge-MAX_PROCESSES.false, c.len.ensures))
     in
-    subst (λ (y : SpacesView). IsKept (shown_by y i.frames i.online i.totals.moved i.totals.failed) i.frames.vacated y.frames) (sym c.in_ok-add.ensures.ok)
+    subst (λ (y : AddressSpacesView). IsKept (shown_by y i.frames i.online i.totals.moved i.totals.failed) i.frames.vacated y.frames) (sym c.in_ok-add.ensures.ok)
     (kept_spawned i.spaces.processes (table_of i.spaces) (paged_frames i.spaces i.frames) i.online i.totals.moved i.totals.failed (set nat_cmp i.spaces.processes c.args.pid (untouched c.args.info)) c.args.pid (untouched c.args.info) none c.self.invariant fine refl refl)
 
 pub returns-clause-done : goal.returns-clause-done
@@ -35,7 +35,7 @@ returns-clause-done g c =
     (ap (λ k. list_any (nat_le k) c.args.info.allowed) (sym c.node_count-count.ensures.count) ∙ sym c.has_beyond.ensures ∙ c.if-has_beyond.false) (omega (arith, c.if-len-ge-MAX_PROCESSES.false, c.len.ensures))
     in (
       outside _ _ _ _ c.self.view_is (λ s. spawn_refusal s c.args.pid c.args.info.home c.args.info.allowed ≡ None) fine,
-      ap (λ (y : SpacesView). shown_by y i.frames i.online i.totals.moved i.totals.failed) c.in_ok-add.ensures.ok
+      ap (λ (y : AddressSpacesView). shown_by y i.frames i.online i.totals.moved i.totals.failed) c.in_ok-add.ensures.ok
           ∙ ap (λ (y : MidRun). spawn y.state c.args.pid c.args.info.uid c.args.info.home c.args.info.allowed c.args.info.privileged) c.self.view_is,
     )
 
@@ -48,13 +48,13 @@ returns-clause-same g c =
 pub invariant_of-self : goal.invariant_of-self
 invariant_of-self g c =
     let i = c.self.inside in
-    subst (λ (y : SpacesView). IsKept (shown_by y i.frames i.online i.totals.moved i.totals.failed) i.frames.vacated y.frames) (sym c.in_err-add.ensures.err) c.self.invariant
+    subst (λ (y : AddressSpacesView). IsKept (shown_by y i.frames i.online i.totals.moved i.totals.failed) i.frames.vacated y.frames) (sym c.in_err-add.ensures.err) c.self.invariant
 
 pub returns-in_err-add-clause-done : goal.returns-in_err-add-clause-done
 returns-in_err-add-clause-done g c =
     let i = c.self.inside in
     nothing_made c.from_residual.result c.args.self.now.state _ _ _ c.from_residual.ensures
-    (ap (λ (y : SpacesView). shown_by y i.frames i.online i.totals.moved i.totals.failed) c.in_err-add.ensures.err ∙ ap (λ (y : MidRun). y.state) c.self.view_is)
+    (ap (λ (y : AddressSpacesView). shown_by y i.frames i.online i.totals.moved i.totals.failed) c.in_err-add.ensures.err ∙ ap (λ (y : MidRun). y.state) c.self.view_is)
 
 pub returns-in_err-add-clause-memory : goal.returns-in_err-add-clause-memory
 returns-in_err-add-clause-memory g c =

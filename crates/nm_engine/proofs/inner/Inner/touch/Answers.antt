@@ -15,7 +15,7 @@ use Rattle.nm_engine.specs.views.MidRun.{MidRun, IsKept, IsSiteOf, spot_at, with
 use Rattle.nm_model.specs.definitions.Seen.{frame_of, frame_seen}
 use Rattle.nm_engine.proofs.Together.Touches.{inside, outside, not_none, seen_kept, sees_now, private_here, private_unplaced_here, zero_unplaced}
 use Rattle.nm_laws.proofs.Seen.Frames.{none_sees, zero_sees}
-use Rattle.nm_engine.specs.views.AddressSpaces.{SpacesView, table_of, with_seen}
+use Rattle.nm_engine.specs.views.AddressSpaces.{AddressSpacesView, table_of, with_seen}
 use Rattle.nm_engine.specs.views.Shown.{paged_frames}
 use Rattle.nm_engine.proofs.Tied.Tabled.{on_any}
 use Rattle.nm_engine.proofs.inner.HandedOn.{touch_handed_on, nothing_touched}
@@ -72,7 +72,7 @@ pub invariant_of-self-else-writes-2 : goal.invariant_of-self-else-writes-2
 invariant_of-self-else-writes-2 g c =
     let touched = inside _ _ _ _ c.self.view_is (λ s. IsSiteOf s c.args.t c.requires.0 c.requires.1) c.requires.2 in
     let sees : sight_at (shown c.self.inside.spaces.processes (table_of c.self.inside.spaces) (paged_frames c.self.inside.spaces c.self.inside.frames) c.self.inside.online c.self.inside.totals.moved c.self.inside.totals.failed) c.args.t.pid c.args.t.vpn ≡ None = sym c.sight.ensures ∙ c.in-None.is in
-    subst (λ (z : SpacesView). IsKept (shown_by z c.self.inside.frames c.self.inside.online c.self.inside.totals.moved c.self.inside.totals.failed) c.self.inside.frames.vacated z.frames) (sym (c.in_ok-see_zero-in-None.ensures.ok c.requires.0 touched.known))
+    subst (λ (z : AddressSpacesView). IsKept (shown_by z c.self.inside.frames c.self.inside.online c.self.inside.totals.moved c.self.inside.totals.failed) c.self.inside.frames.vacated z.frames) (sym (c.in_ok-see_zero-in-None.ensures.ok c.requires.0 touched.known))
     (seen_kept c.self.inside.spaces.processes (table_of c.self.inside.spaces) (paged_frames c.self.inside.spaces c.self.inside.frames) c.self.inside.online c.self.inside.totals.moved c.self.inside.totals.failed _ c.args.t c.requires.0 c.requires.1 c.self.invariant touched ZeroPage _ refl
     (private_here c.self.inside.spaces.processes (table_of c.self.inside.spaces) (paged_frames c.self.inside.spaces c.self.inside.frames) c.self.inside.online c.self.inside.totals.moved c.self.inside.totals.failed _ c.args.t c.requires.0 c.requires.1 c.self.invariant touched (sym c.is_shared.ensures ∙ c.if-is_shared.false)) (none_sees sees))
 
@@ -86,7 +86,7 @@ returns-in_ok-see_zero-in-None-clause-frame g c =
     let touched = inside _ _ _ _ c.self.view_is (λ s. IsSiteOf s c.args.t c.requires.0 c.requires.1) c.requires.2 in
     let is = c.in_ok-see_zero-in-None.ensures.ok c.requires.0 touched.known in
     let seen = sees_now c.self.inside.spaces.processes (table_of c.self.inside.spaces) (paged_frames c.self.inside.spaces c.self.inside.frames) c.self.inside.online c.self.inside.totals.moved c.self.inside.totals.failed _ c.args.t c.requires.0 c.requires.1 c.self.invariant touched ZeroPage (with_seen c.self.inside.spaces c.args.t.pid c.requires.0 c.args.t.vpn ZeroPage).processes refl in
-    sym (ap (λ (z : SpacesView). frame_of z.place (sight_in (get nat_cmp z.processes c.args.t.pid) c.args.t.vpn)) is ∙ ap (frame_of c.self.inside.spaces.place) seen)
+    sym (ap (λ (z : AddressSpacesView). frame_of z.place (sight_in (get nat_cmp z.processes c.args.t.pid) c.args.t.vpn)) is ∙ ap (frame_of c.self.inside.spaces.place) seen)
 
 pub returns-in-Some-Sees-clause-zeros : goal.returns-in-Some-Sees-clause-zeros
 returns-in-Some-Sees-clause-zeros g c =
@@ -98,7 +98,7 @@ returns-in_ok-see_zero-in-None-clause-zeros g c =
     let touched = inside _ _ _ _ c.self.view_is (λ s. IsSiteOf s c.args.t c.requires.0 c.requires.1) c.requires.2 in
     let is = c.in_ok-see_zero-in-None.ensures.ok c.requires.0 touched.known in
     let seen = sees_now c.self.inside.spaces.processes (table_of c.self.inside.spaces) (paged_frames c.self.inside.spaces c.self.inside.frames) c.self.inside.online c.self.inside.totals.moved c.self.inside.totals.failed _ c.args.t c.requires.0 c.requires.1 c.self.invariant touched ZeroPage (with_seen c.self.inside.spaces c.args.t.pid c.requires.0 c.args.t.vpn ZeroPage).processes refl in
-    ap (λ (z : SpacesView). sight_in (get nat_cmp z.processes c.args.t.pid) c.args.t.vpn) is ∙ seen
+    ap (λ (z : AddressSpacesView). sight_in (get nat_cmp z.processes c.args.t.pid) c.args.t.vpn) is ∙ seen
 
 pub returns-in-Some-Sees-clause-touches : goal.returns-in-Some-Sees-clause-touches
 returns-in-Some-Sees-clause-touches g c p a known =
@@ -169,13 +169,13 @@ returns-in_ok-see_zero-in-None-clause-touches g c p a known =
     (outside _ _ _ _ c.self.view_is (λ z. sight_at z c.args.t.pid c.args.t.vpn ≡ None) (sym c.sight.ensures ∙ c.in-None.is))
     (outside _ _ _ _ c.self.view_is (λ z. is_shared z.segments c.args.t.page.segment ≡ false) (sym c.is_shared.ensures ∙ c.if-is_shared.false)) c.if-writes-2.false
     ∙ ap (λ (y : MidRun). Ok (with_sight y.state (spot_at c.args.t p a) ZeroPage)) (sym c.self.view_is)
-    ∙ ap (λ (z : SpacesView). Ok (shown_by z i.frames i.online i.totals.moved i.totals.failed)) (sym (c.in_ok-see_zero-in-None.ensures.ok p touched.known))
+    ∙ ap (λ (z : AddressSpacesView). Ok (shown_by z i.frames i.online i.totals.moved i.totals.failed)) (sym (c.in_ok-see_zero-in-None.ensures.ok p touched.known))
 
 pub returns-in_err-see_zero-in-None-clause-touches : goal.returns-in_err-see_zero-in-None-clause-touches
 returns-in_err-see_zero-in-None-clause-touches g c p a known =
     let i = c.self.inside in
     nothing_touched c.from_residual-in_err-see_zero-in-None.result c.args.self.now.state _ _ c.from_residual-in_err-see_zero-in-None.ensures
-    (ap (λ (z : SpacesView). shown_by z i.frames i.online i.totals.moved i.totals.failed) c.in_err-see_zero-in-None.ensures.err ∙ ap (λ (y : MidRun). y.state) c.self.view_is)
+    (ap (λ (z : AddressSpacesView). shown_by z i.frames i.online i.totals.moved i.totals.failed) c.in_err-see_zero-in-None.ensures.err ∙ ap (λ (y : MidRun). y.state) c.self.view_is)
 
 pub returns-in-Some-Sees-clause-frame : goal.returns-in-Some-Sees-clause-frame
 returns-in-Some-Sees-clause-frame g c =
@@ -228,7 +228,7 @@ see_zero-requires-clause-unseen g c = none_sees (sym c.sight.ensures ∙ c.in-No
 pub invariant_of-self : goal.invariant_of-self
 invariant_of-self g c =
     let i = c.self.inside in
-    subst (λ (z : SpacesView). IsKept (shown_by z i.frames i.online i.totals.moved i.totals.failed) i.frames.vacated z.frames) (sym c.in_err-see_zero-in-None.ensures.err) c.self.invariant
+    subst (λ (z : AddressSpacesView). IsKept (shown_by z i.frames i.online i.totals.moved i.totals.failed) i.frames.vacated z.frames) (sym c.in_err-see_zero-in-None.ensures.err) c.self.invariant
 
 -- memory is refused only where no page is seen
 pub returns-in_err-fill-in-Some-ZeroPage-clause-asked : goal.returns-in_err-fill-in-Some-ZeroPage-clause-asked

@@ -1,6 +1,6 @@
 use Rattle.std.proofs.Common.{ap}
 use Rattle.nm_engine.specs.views.Shown.{shown_by}
-use Rattle.nm_engine.specs.views.AddressSpaces.{SpacesView}
+use Rattle.nm_engine.specs.views.AddressSpaces.{AddressSpacesView}
 use Rattle.nm_engine.proofs.Together.Pinned.{one_fewer, ok_then, err_then, pinned_kept, unpin_alters}
 use Rattle.nm_engine.proofs.inner.Inner.unpin.Goals as goal
 
@@ -13,7 +13,7 @@ invariant_of-self g c =
 pub returns-clause-done : goal.returns-clause-done
 returns-clause-done g c =
     let i = c.self.inside in
-    let to = λ (w : SpacesView). shown_by w i.frames i.online i.totals.moved i.totals.failed in
+    let to = λ (w : AddressSpacesView). shown_by w i.frames i.online i.totals.moved i.totals.failed in
     let page = c.in_ok-page in
     unpin_alters _ _ _ c.args.self.now c.self.view_is c.args.pid c.args.addr page.page c.self.invariant.sound page.ensures.known page.ensures.seen (to c.unpin.new.self) c.unpin.result
     c.unpin.ensures.pinned (ok_then c.unpin.result (ap to) c.unpin.ensures.ok) c.unpin.ensures.none (err_then c.unpin.result (ap to) c.unpin.ensures.err)
