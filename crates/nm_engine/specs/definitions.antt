@@ -1,4 +1,4 @@
--- What the engine's own contracts say beside the model: the work left for accesses, undoing, and what ties the parts of a machine to one another.
+-- What the contracts of the engine say beside the model.
 pub mod Moves
 pub mod Tied
 pub mod Does
