@@ -12,4 +12,4 @@ pub returns : goal.returns
 unfolding trace_of
 returns c =
     let text = c.in-Ok.ensures.cases in
-    rw (value_is c.args.bytes.now _ text.1 (ap read (sym text.0) ∙ c.in-Ok-from_str.ensures.ok)) c.from_value.ensures
+    rw (value_is c.args.bytes.now _ text.1 (ap read (sym text.0) ∙ c.in-Ok-from_str.ensures.ok)) c.from_value.ensures.trace
