@@ -7,6 +7,10 @@
 //! and 4 where a stream fails, with one line on standard error for the last three.
 #![tactic(auto)]
 
+ghost use Rattle.std.specs.Prelude.{◌++◌, ◌∷◌, [], OnOk};
+ghost use Rattle.std.specs.Io.KnownBytes.{Appends};
+ghost use Rattle.numatrace_session.specs.Replies.{Replies};
+
 use nm_crew::OpenGate;
 use nm_trace::{Session, TraceError};
 use std::alloc::Global;
@@ -38,23 +42,41 @@ fn next_line(input: &mut impl BufRead, line: &mut Vec<u8>) -> Result<bool, End> 
     }
 }
 
-/// Makes a step, and writes its reply.
-fn reply(
-    rt: &(impl Threads + Wait + Sync),
-    heap: Global,
-    session: &mut Session<Global>,
-    step: &[u8],
-    out: &mut impl Write,
-) -> Result<(), End> {
-    let written = match session.step(rt, heap, step, &OpenGate) {
-        Ok(lines) => out.write_all(lines.as_slice()),
-        Err(TraceError::HostMemory(_)) => return Err(End::HostMemory),
-        Err(fault) => writeln!(out, "fault: {fault}"),
-    };
-    if written.is_err() || out.write_all(b"\n").is_err() {
+/// Writes the lines of a step, and an empty line.
+fn put_lines<W: Write>(out: &mut W, lines: &[u8]) -> Result<(), End>
+    ensures { OnOk result
+        (Appends (W.contents out.old) (W.contents out.new) (lines.now ++ 10 ∷ [])) }
+{
+    if out.write_all(lines).is_err() || out.write_all(b"\n").is_err() {
         return Err(End::Stream);
     }
     Ok(())
+}
+
+/// Writes what is wrong with a line that is no step, and an empty line.
+fn put_fault<W: Write>(out: &mut W, fault: TraceError) -> Result<(), End> {
+    if writeln!(out, "fault: {fault}\n").is_err() {
+        return Err(End::Stream);
+    }
+    Ok(())
+}
+
+/// Makes a step, and writes its reply.
+fn reply<R: Threads + Wait + Sync, W: Write>(
+    rt: &R,
+    heap: Global,
+    session: &mut Session<Global>,
+    step: &[u8],
+    out: &mut W,
+) -> Result<(), End>
+    ensures { OnOk result
+        (Replies session.old session.new step.now (W.contents out.old) (W.contents out.new)) }
+{
+    match session.step(rt, heap, step, &OpenGate) {
+        Ok(lines) => put_lines(out, lines.as_slice()),
+        Err(TraceError::HostMemory(_)) => Err(End::HostMemory),
+        Err(fault) => put_fault(out, fault),
+    }
 }
 
 /// Replies to each line until the input ends. Replies wait as long as further lines are there already.

@@ -98,7 +98,7 @@ impl<A: Allocator + Copy + Send + Sync> Inner<A> {
             ≡ (all_after_copy
             (with_moves (with_fronts (self.old.state) target (frames_taken moves.now)) target moves.now)
             (map (pending_shown accesses.now) dues.items)).answers }
-        ensures frames_left { self.new.left ≡ frames_left moves.now }
+        ensures left { self.new.left ≡ frames_left moves.now }
     {
         self.frames.vacate_each(moves);
         let spaces = mem::replace(&mut self.spaces, AddressSpaces::none(self.alloc));
@@ -115,7 +115,7 @@ impl<A: Allocator + Copy + Send + Sync> Inner<A> {
         ensures state { self.new.state
             ≡ with_counts (with_all_free self.old.state self.old.left) (length self.old.left)
             (failures statuses.now) }
-        ensures frames_left { self.new.left ≡ [] }
+        ensures left { self.new.left ≡ [] }
     {
         let moved = self.frames.vacated_count() as u64;
         let failed = failures(statuses) as u64;
@@ -133,7 +133,7 @@ impl<A: Allocator + Copy + Send + Sync> Inner<A> {
     /// Adds to the totals.
     pub(crate) fn count(&mut self, moved: usize, failed: usize)
         ensures state { self.new.state ≡ with_counts self.old.state moved failed }
-        ensures frames_left { self.new.left ≡ self.old.left }
+        ensures left { self.new.left ≡ self.old.left }
     {
         let Totals {
             moved: before,
