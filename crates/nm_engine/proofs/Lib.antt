@@ -1,4 +1,3 @@
-pub mod Tied
 pub mod Soundness
 pub mod Together
 pub mod OneByOne

@@ -1,5 +1,3 @@
-pub mod Busy
-pub mod Found
 pub mod Joint
 pub mod Kept
 pub mod Paces

@@ -2,8 +2,5 @@
 pub mod Copies
 pub mod Frames
 pub mod Shown
-pub mod ProcessTable
-pub mod AddressSpaces
-pub mod Held
 pub mod MidRun
 pub mod Accesses

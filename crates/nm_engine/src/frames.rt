@@ -6,7 +6,7 @@ ghost use Rattle.nm_types.specs.Nodes.{is_in};
 ghost use Rattle.nm_model.specs.definitions.Touch.{has_free};
 ghost use Rattle.nm_model.specs.definitions.Frames.{list_of, with_list, appended, prepended};
 ghost use Rattle.std.specs.List.{AllByRecursion};
-ghost use Rattle.nm_engine.specs.views.Held.{AreHeld};
+ghost use Rattle.nm_spaces.specs.views.Held.{AreHeld};
 ghost use Rattle.nm_engine.specs.views.Copies.{CanCopy, HasBoth, with_copies, emptied};
 ghost use Rattle.nm_model.specs.definitions.BeforeCopy.{frames_taken};
 ghost use Rattle.nm_engine.specs.definitions.AfterCopy.{all_stored_after_copy, CanDo};
@@ -21,7 +21,7 @@ ghost use Rattle.nm_model.specs.definitions.Memory.{stretch_of};
 
 mod copying;
 
-use crate::address_spaces::held::HeldSpaces;
+use nm_spaces::HeldSpaces;
 use crate::answers::AccessAnswer;
 use crate::audit;
 use crate::inner::pending_access::PendingAccess;

@@ -18,7 +18,7 @@ mod touch;
 mod touch_site;
 mod undo;
 
-use crate::address_spaces::AddressSpaces;
+use nm_spaces::AddressSpaces;
 use crate::frames::Frames;
 use crate::machine::Totals;
 use nm_types::{Geometry, NodeId, NodeMask, Pid, Vpn};

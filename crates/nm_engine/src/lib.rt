@@ -1,15 +1,12 @@
 //! The machine: processes, areas and pages over nodes of frames, and moving pages from one node to another.
 #![tactic(auto)]
 
-mod address_spaces;
 mod answers;
 mod audit;
 mod frames;
 mod inner;
 pub mod laws;
 mod machine;
-mod process;
-mod process_table;
 mod view;
 
 pub use answers::{AccessAnswer, RunAnswer};

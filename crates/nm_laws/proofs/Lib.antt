@@ -3,3 +3,4 @@ pub mod InFlight
 pub mod OneByOne
 pub mod Seen
 pub mod Soundness
+pub mod Lists

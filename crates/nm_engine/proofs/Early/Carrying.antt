@@ -13,7 +13,7 @@ use Rattle.nm_types.specs.State.{State}
 use Rattle.nm_types.proofs.Maps.{page_cmp_total, keys-values}
 use Rattle.nm_model.specs.definitions.Frames.{Store, IsHome, overwrite}
 use Rattle.nm_types.specs.declared.taken.Taken.{Taken}
-use Rattle.nm_engine.specs.views.AddressSpaces.{AddressSpacesView, with_moved, table_of}
+use Rattle.nm_spaces.specs.views.AddressSpaces.{AddressSpacesView, with_moved, table_of}
 use Rattle.nm_frames.specs.Populated.{IsPopulated}
 use Rattle.nm_engine.specs.views.Copies.{without_both, emptied, with_copies, CanCopy, HasBoth}
 use Rattle.nm_engine.specs.views.Frames.{FramesView, HasAllFrames, free_on}
@@ -21,7 +21,7 @@ use Rattle.nm_model.specs.definitions.Touch.{AllAnswered}
 use Rattle.nm_laws.specs.Laws.{with_moves}
 use Rattle.nm_engine.specs.views.MidRun.{MidRun, IsKept}
 use Rattle.nm_laws.specs.Moves.{CanMove}
-use Rattle.nm_engine.specs.definitions.Moves.{CanRemap, all_moved}
+use Rattle.nm_spaces.specs.definitions.Moves.{CanRemap, all_moved}
 use Rattle.nm_model.specs.definitions.Run.{frames_left}
 use Rattle.nm_engine.specs.views.Shown.{shown_by, paged_frames}
 use Rattle.nm_model.specs.definitions.Sound.{times, IsSoundMidRun, IsSound}

@@ -4,7 +4,7 @@ use Rattle.std.specs.Prelude.{slice_set, slice_index_or}
 use Rattle.std.proofs.lemmas.List.{get_or-set_same, set-set, set-get_or, take-append-drop}
 use Rattle.nm_types.specs.State.{State, free_list}
 use Rattle.nm_types.specs.declared.taken.Taken.{Taken}
-use Rattle.nm_engine.specs.views.AddressSpaces.{AddressSpacesView}
+use Rattle.nm_spaces.specs.views.AddressSpaces.{AddressSpacesView}
 use Rattle.nm_model.specs.definitions.BeforeCopy.{without_fronts, with_fronts, frames_taken}
 use Rattle.nm_engine.specs.views.Frames.{FramesView, free_on}
 use Rattle.nm_engine.specs.views.MidRun.{IsKept}

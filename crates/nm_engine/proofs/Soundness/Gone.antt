@@ -19,7 +19,7 @@ use Rattle.nm_model.specs.views.Table.{Table}
 use Rattle.nm_model.specs.definitions.Areas.{areas_left, pages_gone, place_left, lost, with_its_frame, all_lost, frames_lost}
 use Rattle.nm_model.specs.definitions.Effect.{is_covered, released_from, released, dropped}
 use Rattle.nm_model.specs.definitions.Sound.{times, FramesAreOnce, IsSoundMidRun}
-use Rattle.nm_engine.specs.views.AddressSpaces.{AddressSpacesView, mapped_of, table_of, without_range}
+use Rattle.nm_spaces.specs.views.AddressSpaces.{AddressSpacesView, mapped_of, table_of, without_range}
 use Rattle.nm_engine.specs.views.Frames.{FramesView, PagedFrames, with_freed, pool_of, CanFree}
 use Rattle.nm_engine.specs.views.Shown.{bytes_in, shown, paged_frames, shown_by}
 use Rattle.nm_engine.specs.views.MidRun.{IsKept}

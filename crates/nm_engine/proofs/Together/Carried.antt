@@ -11,13 +11,13 @@ use Rattle.nm_types.specs.State.{State, free_list}
 use Rattle.nm_model.specs.definitions.Frames.{Pool, list_of, with_list, without_front}
 use Rattle.nm_model.specs.definitions.Frames.{Store, IsHome, bytes_of}
 use Rattle.nm_types.specs.declared.taken.Taken.{Taken}
-use Rattle.nm_engine.specs.views.AddressSpaces.{AddressSpacesView, with_moved, table_of}
+use Rattle.nm_spaces.specs.views.AddressSpaces.{AddressSpacesView, with_moved, table_of}
 use Rattle.nm_engine.specs.views.Copies.{with_copy, with_copies, without_both, CanCopy}
 use Rattle.nm_engine.specs.views.Frames.{FramesView, HasAllFrames, free_on}
 use Rattle.nm_laws.specs.Laws.{with_move, with_moves}
 use Rattle.nm_engine.specs.views.MidRun.{IsKept}
 use Rattle.nm_laws.specs.Moves.{CanMove}
-use Rattle.nm_engine.specs.definitions.Moves.{CanRemap, all_moved}
+use Rattle.nm_spaces.specs.definitions.Moves.{CanRemap, all_moved}
 use Rattle.nm_model.specs.definitions.Run.{moved_page, frames_left}
 use Rattle.nm_engine.specs.views.Shown.{shown_by, paged_frames}
 use Rattle.nm_model.specs.definitions.Sound.{times, FramesAreOnce}

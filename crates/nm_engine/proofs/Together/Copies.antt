@@ -10,7 +10,7 @@ use Rattle.nm_frames.specs.Job.{copied}
 use Rattle.nm_frames.specs.Populated.{IsPopulated}
 use Rattle.nm_model.specs.definitions.Frames.{Store, IsHome, IsOut, bytes_of}
 use Rattle.nm_types.specs.declared.taken.Taken.{Taken}
-use Rattle.nm_engine.specs.views.Held.{AreApart}
+use Rattle.nm_spaces.specs.views.Held.{AreApart}
 use Rattle.nm_engine.specs.views.Copies.{with_copy, with_copies, without_both, CanCopy, HasBoth, emptied, with_buf, jobs_of, with_job, refilled, CanRefill}
 use Rattle.nm_engine.proofs.Together.Free.{copied_frame, home_bytes}
 

@@ -12,7 +12,7 @@ use Rattle.nm_types.specs.Nodes.{is_in}
 use Rattle.nm_model.specs.definitions.Frames.{Store, IsHome, bytes_of, all_frames}
 use Rattle.nm_model.specs.definitions.Frames as pool
 use Rattle.nm_model.specs.definitions.Sound.{times, FramesAreOnce, IsSoundMidRun}
-use Rattle.nm_engine.specs.views.AddressSpaces.{AddressSpacesView}
+use Rattle.nm_spaces.specs.views.AddressSpaces.{AddressSpacesView}
 use Rattle.nm_engine.specs.views.Shown.{paged_frames, shown_by}
 use Rattle.nm_engine.specs.views.Frames.{FramesView, HasAllFrames, PagedFrames, with_freed, CanFree, pool_of}
 use Rattle.nm_engine.proofs.Together.Paged.{HasItsFrames, free_of}

@@ -23,7 +23,7 @@ use Rattle.nm_laws.specs.Moves.{CanMove}
 use Rattle.nm_laws.proofs.Early.Kept.{beside}
 use Rattle.nm_engine.specs.views.Copies.{HasBoth, with_copy, with_copies}
 use Rattle.nm_engine.specs.definitions.AfterCopy.{frame_at, all_stored_after_copy, CanDo}
-use Rattle.nm_engine.specs.views.AddressSpaces.{AddressSpacesView}
+use Rattle.nm_spaces.specs.views.AddressSpaces.{AddressSpacesView}
 use Rattle.nm_engine.specs.views.Frames.{FramesView, KeepsBytes}
 use Rattle.nm_engine.specs.views.MidRun.{MidRun, IsKept}
 use Rattle.nm_engine.specs.views.Shown.{bytes_in, shown_by}

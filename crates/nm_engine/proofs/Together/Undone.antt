@@ -29,7 +29,7 @@ use Rattle.nm_model.specs.definitions.Order.{first_touch_order}
 use Rattle.nm_engine.specs.declared.inner.touch_site.TouchSite.{TouchSite}
 use Rattle.nm_engine.specs.declared.inner.undo.Undo.{Undo}
 use Rattle.nm_model.specs.definitions.Frames.{bytes_of}
-use Rattle.nm_engine.specs.views.AddressSpaces.{AddressSpacesView, with_before, without_page}
+use Rattle.nm_spaces.specs.views.AddressSpaces.{AddressSpacesView, with_before, without_page}
 use Rattle.nm_engine.specs.views.Frames.{FramesView, CanFree, pool_of}
 use Rattle.nm_engine.specs.views.MidRun.{IsKept, IsSiteOf, spot_at}
 use Rattle.nm_engine.specs.views.Shown.{shown_by}
@@ -45,7 +45,7 @@ use Rattle.nm_laws.proofs.Seen.Sights.{IsSpot, page_at_spot, sight_here}
 use Rattle.nm_laws.proofs.Soundness.Allocated.{placed_front}
 use Rattle.nm_laws.proofs.Soundness.Once.{counted_place}
 use Rattle.nm_laws.proofs.Soundness.Touched.{private_unplaced}
-use Rattle.nm_engine.proofs.Tied.Tabled.{same_tables, replace_twice}
+use Rattle.nm_spaces.proofs.Tied.Tabled.{same_tables, replace_twice}
 use Rattle.nm_laws.proofs.Soundness.Counted.{front_is, part_of, not_in}
 use Rattle.nm_engine.proofs.Together.Shows.{front_got}
 use Rattle.nm_engine.proofs.Together.Touches.{found_free, short_list, get_set_same, spot_there}

@@ -5,7 +5,7 @@ use Rattle.nm_types.specs.Map.{Map, with_values}
 use Rattle.nm_types.specs.State.{Process, State}
 use Rattle.nm_model.specs.views.Table.{Table}
 use Rattle.nm_model.specs.definitions.Frames.{Store, bytes_of}
-use Rattle.nm_engine.specs.views.AddressSpaces.{AddressSpacesView, table_of}
+use Rattle.nm_spaces.specs.views.AddressSpaces.{AddressSpacesView, table_of}
 use Rattle.nm_engine.specs.views.Frames.{FramesView, PagedFrames}
 
 -- the bytes of each page that has a frame

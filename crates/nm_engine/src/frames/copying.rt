@@ -2,13 +2,13 @@
 
 ghost use Rattle.std.specs.Prelude.{◌≡◌, ◌+◌, ◌<◌, ◌≤◌, ◌++◌, [], map, length, slice_get, IsSome, vec_len, vec_capacity};
 ghost use Rattle.std.specs.List.{AllByRecursion};
-ghost use Rattle.nm_engine.specs.views.Held.{AreHeld};
+ghost use Rattle.nm_spaces.specs.views.Held.{AreHeld};
 ghost use Rattle.nm_engine.specs.views.Copies.{with_copies, CanCopy, HasBoth, emptied, jobs_of, refilled, CanRefill};
 ghost use Rattle.nm_engine.specs.definitions.AfterCopy.{all_stored_after_copy, store_after_copy, answer_from_store, frame_at, CanDo};
 ghost use Rattle.nm_types.specs.Map.{get, page_cmp};
 ghost use Rattle.nm_engine.specs.views.Accesses.{answer_shown, pending_shown, written_by, HasRoom};
 
-use crate::address_spaces::held::HeldSpaces;
+use nm_spaces::HeldSpaces;
 use crate::answers::AccessAnswer;
 use crate::frames::copy_bytes;
 use crate::inner::pending_access::PendingAccess;

@@ -11,7 +11,7 @@ ghost use Rattle.nm_model.specs.definitions.Sound.{IsSound};
 ghost use Rattle.nm_model.specs.definitions.BeforeCopy.{with_fronts, frames_taken, all_after_copy, IsPending};
 ghost use Rattle.nm_engine.specs.views.Accesses.{answer_shown, pending_shown, HasRoom};
 
-use crate::address_spaces::AddressSpaces;
+use nm_spaces::AddressSpaces;
 use crate::answers::AccessAnswer;
 use crate::inner::Inner;
 use crate::inner::pending_access::PendingAccess;

@@ -5,7 +5,7 @@ use Rattle.nm_types.specs.declared.access.Access.{Access as Asked}
 use Rattle.nm_model.specs.definitions.Touch.{Access}
 use Rattle.nm_model.specs.views.Asked.{access_shown}
 use Rattle.nm_model.specs.definitions.Run.{accesses_of}
-use Rattle.nm_engine.proofs.Together.Paces.{drop_item}
+use Rattle.nm_laws.proofs.Lists.{drop_item}
 use Rattle.nm_steps.specs.Views.{shown_during}
 use Rattle.nm_calls.specs.definitions.Batch.{list_at}
 use Rattle.nm_calls.proofs.Meanwhile.{one_more_asked, none_asked, list_there, list_after, empty_more, append_none}

@@ -2,7 +2,7 @@ use Rattle.std.proofs.Common.{◌+◌, ap, sym, subst, ◌∙◌, drop}
 use Rattle.std.proofs.Math.ListN.{drop_of_length-le}
 use Rattle.nm_model.specs.definitions.Frames.{Pool}
 use Rattle.nm_engine.specs.views.Frames.{CanFree, with_freed}
-use Rattle.nm_engine.proofs.Together.Paces.{drop_item}
+use Rattle.nm_laws.proofs.Lists.{drop_item}
 use Rattle.nm_engine.proofs.frames.free_frames.Goals as goal
 
 pub append-requires-clause-in_machine : goal.append-requires-clause-in_machine

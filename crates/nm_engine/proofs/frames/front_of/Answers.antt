@@ -2,7 +2,7 @@ use Rattle.std.proofs.Common.{◌≡◌, ◌∷◌, ◌++◌, [], take, ap, sym,
 use Rattle.std.proofs.lemmas.Option.{slice_get-get_or}
 use Rattle.nm_types.proofs.Cases.{none_some}
 use Rattle.nm_model.specs.definitions.Frames.{list_of}
-use Rattle.nm_engine.proofs.Together.Paces.{got_take}
+use Rattle.nm_laws.proofs.Lists.{got_take}
 use Rattle.nm_engine.proofs.frames.front_of.Goals as goal
 
 pub loop-k-preserved : goal.loop-k-preserved

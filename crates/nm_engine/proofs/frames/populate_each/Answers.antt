@@ -4,7 +4,7 @@ use Rattle.std.proofs.Math.ListN.{drop_of_length-le}
 use Rattle.nm_frames.specs.Populated.{IsPopulated}
 use Rattle.nm_types.specs.declared.taken.Taken.{Taken}
 use Rattle.nm_model.specs.definitions.BeforeCopy.{frames_taken}
-use Rattle.nm_engine.proofs.Together.Paces.{drop_item}
+use Rattle.nm_laws.proofs.Lists.{drop_item}
 use Rattle.nm_engine.proofs.Together.Populated.{keeps_self, keeps_then, keeps_populated, homes_then}
 use Rattle.nm_engine.proofs.frames.populate_each.Goals as goal
 

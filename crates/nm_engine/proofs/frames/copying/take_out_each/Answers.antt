@@ -10,7 +10,7 @@ use Rattle.nm_model.specs.definitions.Frames.{Store, IsHome, bytes_of}
 use Rattle.nm_types.specs.declared.taken.Taken.{Taken}
 use Rattle.nm_engine.specs.views.Copies.{without_both, CanCopy, HasBoth, emptied, jobs_of}
 use Rattle.nm_engine.proofs.Together.Copies.{both_without}
-use Rattle.nm_engine.proofs.Together.Paces.{drop_item}
+use Rattle.nm_laws.proofs.Lists.{drop_item}
 use Rattle.nm_engine.proofs.frames.copying.take_out_each.Goals as goal
 
 -- a frame is home as before where the bytes of another go out

@@ -4,11 +4,11 @@ use Rattle.std.specs.Ordering.{nat_cmp}
 use Rattle.nm_types.specs.Map.{get}
 use Rattle.nm_types.specs.declared.taken.Taken.{Taken}
 use Rattle.nm_model.specs.definitions.Seen.{sight_in}
-use Rattle.nm_engine.specs.views.AddressSpaces.{AddressSpacesView}
-use Rattle.nm_engine.specs.definitions.Moves.{CanRemap, all_moved}
+use Rattle.nm_spaces.specs.views.AddressSpaces.{AddressSpacesView}
+use Rattle.nm_spaces.specs.definitions.Moves.{CanRemap, all_moved}
 use Rattle.nm_engine.proofs.Together.Copies.{copies_apart}
-use Rattle.nm_engine.proofs.Tied.Held.{held_is_taken, frames_stay, takes_below}
-use Rattle.nm_engine.proofs.Tied.Unreached.{names_another}
+use Rattle.nm_spaces.proofs.Tied.Held.{held_is_taken, frames_stay, takes_below}
+use Rattle.nm_spaces.proofs.Tied.Unreached.{names_another}
 use Rattle.nm_engine.specs.views.Accesses.{pending_shown}
 use Rattle.nm_engine.specs.views.Copies.{CanCopy, HasBoth, emptied, with_copies}
 use Rattle.nm_model.specs.definitions.BeforeCopy.{all_after_copy, with_fronts, frames_taken}

@@ -5,7 +5,7 @@ use Rattle.nm_types.specs.State.{State}
 use Rattle.nm_model.specs.definitions.Seen.{sight_in, sight_at}
 use Rattle.nm_model.specs.definitions.Effect.{dropped}
 use Rattle.nm_model.specs.definitions.Sound.{IsSoundMidRun, IsSound}
-use Rattle.nm_engine.specs.views.AddressSpaces.{AddressSpacesView}
+use Rattle.nm_spaces.specs.views.AddressSpaces.{AddressSpacesView}
 use Rattle.nm_engine.specs.views.Shown.{shown_by}
 use Rattle.nm_engine.specs.views.MidRun.{MidRun, IsKept}
 use Rattle.nm_laws.proofs.Soundness.Dropped.{sees_none, exit_sound}

@@ -4,7 +4,7 @@ use Rattle.nm_types.specs.State.{free_list}
 use Rattle.nm_model.specs.definitions.Effect.{list_refusal}
 use Rattle.nm_engine.specs.views.MidRun.{MidRun}
 use Rattle.nm_engine.proofs.Together.Kept.{seen, list_fine}
-use Rattle.nm_engine.specs.views.AddressSpaces.{table_of}
+use Rattle.nm_spaces.specs.views.AddressSpaces.{table_of}
 use Rattle.nm_engine.specs.views.Shown.{paged_frames}
 use Rattle.nm_engine.proofs.inner.HandedOn.{may_ask}
 use Rattle.nm_engine.proofs.inner.Inner.free_list.Goals as goal

@@ -7,7 +7,7 @@ use Rattle.nm_types.specs.Map.{get, page_cmp}
 use Rattle.nm_model.specs.definitions.Seen.{sight_in, sight_at}
 use Rattle.nm_engine.specs.definitions.Does.{Touches}
 use Rattle.nm_model.specs.definitions.Touch.{joined, with_sight}
-use Rattle.nm_engine.specs.views.AddressSpaces.{AddressSpacesView, table_of, with_seen}
+use Rattle.nm_spaces.specs.views.AddressSpaces.{AddressSpacesView, table_of, with_seen}
 use Rattle.nm_engine.specs.views.Shown.{shown_by, paged_frames}
 use Rattle.nm_engine.specs.views.MidRun.{MidRun, IsKept, IsSiteOf, spot_at, with_state}
 use Rattle.nm_model.specs.definitions.Seen.{frame_of}

@@ -1,6 +1,6 @@
 use Rattle.std.proofs.Common.{ap, ◌∙◌}
 use Rattle.nm_types.specs.Nodes.{up_from}
-use Rattle.nm_engine.specs.views.AddressSpaces.{AddressSpacesView}
+use Rattle.nm_spaces.specs.views.AddressSpaces.{AddressSpacesView}
 use Rattle.nm_engine.proofs.Together.Kept.{shown_new, kept_new}
 use Rattle.nm_engine.proofs.inner.Inner.new.Goals as goal
 

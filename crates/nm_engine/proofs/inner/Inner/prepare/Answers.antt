@@ -12,7 +12,7 @@ use Rattle.nm_engine.specs.views.MidRun.{MidRun, with_state}
 use Rattle.nm_engine.specs.definitions.Undo.{CanUndo, all_undone}
 use Rattle.nm_laws.proofs.Early.Among.{all_early_alike}
 use Rattle.nm_laws.proofs.Early.Phases.{pages_of}
-use Rattle.nm_engine.proofs.Together.Paces.{drop_item}
+use Rattle.nm_laws.proofs.Lists.{drop_item}
 use Rattle.nm_engine.proofs.inner.Inner.prepare.Goals as goal
 
 all_and_one : {X : Type 0} (P : X → Type 0) (xs : List X) (x : X) → AllByRecursion P xs → P x → AllByRecursion P (xs ++ x ∷ [])

@@ -13,7 +13,7 @@ use Rattle.nm_engine.proofs.Together.Touches.{inside, touch_is}
 use Rattle.nm_laws.proofs.Seen.Frames.{page_of_frame, place_in_range}
 use Rattle.nm_engine.proofs.Seen.Read.{reads_frame, reads_zeros}
 use Rattle.nm_engine.proofs.inner.Inner.read.Goals.{in-Some, in-None}
-use Rattle.nm_engine.specs.views.AddressSpaces.{table_of}
+use Rattle.nm_spaces.specs.views.AddressSpaces.{table_of}
 use Rattle.nm_engine.specs.views.Shown.{paged_frames}
 use Rattle.nm_engine.proofs.inner.Inner.read.Goals as goal
 

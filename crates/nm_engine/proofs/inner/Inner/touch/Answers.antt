@@ -15,9 +15,9 @@ use Rattle.nm_engine.specs.views.MidRun.{MidRun, IsKept, IsSiteOf, spot_at, with
 use Rattle.nm_model.specs.definitions.Seen.{frame_of, frame_seen}
 use Rattle.nm_engine.proofs.Together.Touches.{inside, outside, not_none, seen_kept, sees_now, private_here, private_unplaced_here, zero_unplaced}
 use Rattle.nm_laws.proofs.Seen.Frames.{none_sees, zero_sees}
-use Rattle.nm_engine.specs.views.AddressSpaces.{AddressSpacesView, table_of, with_seen}
+use Rattle.nm_spaces.specs.views.AddressSpaces.{AddressSpacesView, table_of, with_seen}
 use Rattle.nm_engine.specs.views.Shown.{paged_frames}
-use Rattle.nm_engine.proofs.Tied.Tabled.{on_any}
+use Rattle.nm_spaces.proofs.Tied.Tabled.{on_any}
 use Rattle.nm_engine.proofs.inner.HandedOn.{touch_handed_on, nothing_touched}
 use Rattle.nm_engine.proofs.inner.Inner.touch.Goals as goal
 

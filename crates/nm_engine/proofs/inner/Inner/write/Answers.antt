@@ -9,7 +9,7 @@ use Rattle.nm_model.specs.definitions.Seen.{frame_seen}
 use Rattle.nm_model.specs.definitions.Seen.{sight_at}
 use Rattle.nm_engine.proofs.Together.Touches.{inside, touch_is, written_is, written_kept}
 use Rattle.nm_laws.proofs.Seen.Frames.{page_of_frame, place_in_range}
-use Rattle.nm_engine.specs.views.AddressSpaces.{table_of}
+use Rattle.nm_spaces.specs.views.AddressSpaces.{table_of}
 use Rattle.nm_engine.specs.views.Shown.{paged_frames, shown_by}
 use Rattle.nm_engine.proofs.Together.Joint.{kept_stocked}
 use Rattle.nm_engine.proofs.Together.Populated.{place_populated}

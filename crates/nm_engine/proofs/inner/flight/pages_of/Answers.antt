@@ -3,7 +3,7 @@ use Rattle.std.specs.List.{list_any}
 use Rattle.nm_types.specs.declared.page.Page.{Page}
 use Rattle.nm_types.specs.Map.{same_page}
 use Rattle.nm_types.specs.declared.taken.Taken.{Taken}
-use Rattle.nm_engine.proofs.Together.Paces.{drop_item}
+use Rattle.nm_laws.proofs.Lists.{drop_item}
 use Rattle.nm_laws.proofs.Early.Among.{one_more}
 use Rattle.nm_engine.proofs.inner.flight.pages_of.Goals as goal
 

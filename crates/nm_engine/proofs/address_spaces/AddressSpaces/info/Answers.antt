@@ -1,8 +1,0 @@
-use Rattle.std.proofs.Common.{◌∙◌}
-use Rattle.nm_engine.proofs.Tied.New.{info_shown}
-use Rattle.nm_engine.proofs.address_spaces.AddressSpaces.info.Goals as goal
-
-pub returns : goal.returns
-returns g c =
-    let x = c.self.inside in
-    c.info.ensures ∙ info_shown c.args.self.now x.tasks x.areas x.rmap c.args.pid c.self.view_is

@@ -1,0 +1,17 @@
+pub mod Busy
+pub mod Cleared
+pub mod Counted
+pub mod Found
+pub mod Held
+pub mod Looked
+pub mod Mapped
+pub mod Moved
+pub mod New
+pub mod Pinned
+pub mod Places
+pub mod Remapped
+pub mod Removed
+pub mod Tabled
+pub mod Touched
+pub mod Unreached
+pub mod Unseen

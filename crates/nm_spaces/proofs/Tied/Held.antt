@@ -1,0 +1,287 @@
+-- Entries that are held while pages are on their way, and name the new frames afterwards.
+use Rattle.std.proofs.Common.{◌≡◌, ◌≢◌, ◌<◌, ℕ, map, List, [], ◌∷◌, true, false, ◌||◌, cond, refl, sym, ap, subst, ◌∙◌, eq-eqb}
+use Rattle.std.specs.Prelude.{Option, Some, None, IsSome, ◌==◌}
+use Rattle.std.specs.Option.{option_map, unwrap_or}
+use Rattle.std.specs.List.{AllByRecursion}
+use Rattle.std.specs.List.Sorted.{IsStrictlySortedBy}
+use Rattle.std.specs.Ordering.{nat_cmp, is_eq}
+use Rattle.std.specs.Cmp.{nat_cmp_total}
+use Rattle.std.proofs.lemmas.Bool.{eqb-true, eqb-false, ne_eqb, both_ways, or_left, or_right}
+use Rattle.std.proofs.lemmas.Map.Lookups.{exact_unsigned}
+use Rattle.nm_types.specs.declared.page.Page.{Page}
+use Rattle.nm_types.specs.declared.area.Area.{Area}
+use Rattle.nm_types.specs.declared.sight.Sight.{Sight}
+use Rattle.nm_types.specs.declared.sight.Sight.TheVariants.{ZeroPage, Sees}
+use Rattle.nm_types.specs.Map.{Map, get, replace, page_cmp}
+use Rattle.nm_types.specs.declared.entry.Entry.{Entry}
+use Rattle.nm_types.specs.declared.entry.Entry.TheVariants.{Zero, Frame, Held}
+use Rattle.nm_types.specs.declared.taken.Taken.{Taken}
+use Rattle.nm_types.proofs.Cases.{some_is}
+use Rattle.nm_types.proofs.Keys.{All-get}
+use Rattle.nm_types.proofs.Maps.{agree, get-values, keys-values, with_values-replace}
+use Rattle.nm_model.specs.definitions.Areas.{Mapped, with_frame}
+use Rattle.nm_model.specs.definitions.Events.{arrived, held_by, laid_for, with_changed, with_entries}
+use Rattle.nm_model.specs.definitions.Frames.{Store}
+use Rattle.nm_model.specs.definitions.PageTables.{Task, entry_at, entry_in, entry_of, sight_of}
+use Rattle.nm_model.specs.definitions.RunMachine.{Job, job_from}
+use Rattle.nm_model.specs.definitions.Seen.{sight_in}
+use Rattle.nm_laws.proofs.InFlight.Values.{values_same, entries_show, changed_at}
+use Rattle.nm_rmap.specs.Mappers.{Mappers, mappers_of, carried}
+use Rattle.nm_spaces.specs.views.AddressSpaces.{AddressSpacesView, spaces_view, with_moved}
+use Rattle.nm_spaces.specs.views.Held.{AreApart, entry_here, held_for, on_their_way, is_taken}
+use Rattle.nm_spaces.specs.definitions.Moves.{CanRemap, all_moved}
+use Rattle.nm_spaces.specs.views.ProcessTable.{names, IsThere, with_other_entry, replaced, replaced_in, all_replaced, remapped}
+use Rattle.nm_spaces.specs.definitions.Tied.{IsTied, AreInOrder, has_spot}
+use Rattle.nm_spaces.proofs.Tied.New.{entry_again, seen_here}
+use Rattle.nm_spaces.proofs.Tied.Moved.{IsSpare, frame_held, move_tied, move_shows}
+use Rattle.nm_spaces.proofs.Tied.Remapped.{TableInOrder, same_spot, all_from_has, all_there_stay, entry_at-replaced}
+
+-- ---- entries that are replaced, and then changed
+
+changed_replaced : (c : Entry → Entry) (tasks : Map ℕ Task) (p v : ℕ) (e : Entry) (o : Option Task)
+    → with_entries c (replaced_in tasks o p v e) ≡ replaced_in (with_entries c tasks) (option_map (with_changed c) o) p v (c e)
+changed_replaced c tasks p v e None = refl
+changed_replaced c tasks p v e (Some t) =
+    with_values-replace exact_unsigned (λ pid. with_changed c) tasks p (with_other_entry t v e)
+    ∙ ap (λ (table : Map ℕ Entry). replace nat_cmp (with_entries c tasks) p (record t { table = table })) (with_values-replace exact_unsigned (λ v e. c e) t.table v e)
+
+changed_one : (c : Entry → Entry) (tasks : Map ℕ Task) (e : Entry) (s : ℕ × ℕ) → with_entries c (replaced tasks e s) ≡ replaced (with_entries c tasks) (c e) s
+changed_one c tasks e s =
+    changed_replaced c tasks s.0 s.1 e (get nat_cmp tasks s.0)
+    ∙ ap (λ (o : Option Task). replaced_in (with_entries c tasks) o s.0 s.1 (c e)) (sym (get-values exact_unsigned (λ pid. with_changed c) tasks s.0))
+
+changed_all : (c : Entry → Entry) (tasks : Map ℕ Task) (l : List (ℕ × ℕ)) (e : Entry) → with_entries c (all_replaced tasks l e) ≡ all_replaced (with_entries c tasks) l (c e)
+changed_all c tasks [] e = refl
+changed_all c tasks (s ∷ l) e = changed_all c (replaced tasks e s) l e ∙ ap (λ (ts : Map ℕ Task). all_replaced ts l (c e)) (changed_one c tasks e s)
+
+-- what is found after other entries
+entry_at-all_replaced : (tasks : Map ℕ Task) (l : List (ℕ × ℕ)) (e : Entry) (q : ℕ × ℕ) → AllByRecursion (IsThere tasks) l
+    → entry_at (all_replaced tasks l e) q.0 q.1 ≡ cond (has_spot l q) (Some e) (entry_at tasks q.0 q.1)
+entry_at-all_replaced tasks [] e q h = refl
+entry_at-all_replaced tasks (s ∷ l) e q h =
+    entry_at-all_replaced (replaced tasks e s) l e q (all_there_stay tasks e s l h.0 h.1)
+    ∙ ap (cond (has_spot l q) (Some e)) (entry_at-replaced tasks e s q h.0)
+    ∙ elim (same_spot q s) as (λ a. cond (has_spot l q) (Some e) (cond a (Some e) (entry_at tasks q.0 q.1)) ≡ cond (a || has_spot l q) (Some e) (entry_at tasks q.0 q.1)) [
+      | true ↦ elim (has_spot l q) as (λ b. cond b (Some e) (Some e) ≡ Some e) [ true ↦ refl | false ↦ refl ]
+      | false ↦ refl
+    ]
+
+-- ---- entries that are replaced by what is there
+
+replace_same : {V : Type 0} (m : Map ℕ V) (k : ℕ) (v : V) → get nat_cmp m k ≡ Some v → replace nat_cmp m k v ≡ m
+replace_same [] k v h = refl
+replace_same (e ∷ m) k v h =
+    elim (is_eq (nat_cmp k e.0)) as (λ b. cond b (Some e.1) (get nat_cmp m k) ≡ Some v → cond b ((e.0, v) ∷ m) (e ∷ replace nat_cmp m k v) ≡ e ∷ m) [
+      | true ↦ λ h. ap (λ x. (e.0, x) ∷ m) (sym (some_is h))
+      | false ↦ λ h. ap (λ es. e ∷ es) (replace_same m k v h)
+    ] h
+
+replaced_in_same : (tasks : Map ℕ Task) (p v : ℕ) (e : Entry) (o : Option Task) → get nat_cmp tasks p ≡ o → entry_in o v ≡ Some e → replaced_in tasks o p v e ≡ tasks
+replaced_in_same tasks p v e None g h = refl
+replaced_in_same tasks p v e (Some t) g h =
+    ap (λ (table : Map ℕ Entry). replace nat_cmp tasks p (record t { table = table })) (replace_same t.table v e h) ∙ replace_same tasks p t g
+
+all_same : (tasks : Map ℕ Task) (l : List (ℕ × ℕ)) (e : Entry) → AllByRecursion (λ s. entry_at tasks s.0 s.1 ≡ Some e) l → all_replaced tasks l e ≡ tasks
+all_same tasks [] e h = refl
+all_same tasks (s ∷ l) e h =
+    ap (λ (ts : Map ℕ Task). all_replaced ts l e) (replaced_in_same tasks s.0 s.1 e (get nat_cmp tasks s.0) refl h.0) ∙ all_same tasks l e h.1
+
+-- ---- entries that have arrived
+
+some_mapped : {X Y : Type 0} (f : X → Y) (o : Option X) → IsSome (option_map f o) → IsSome o
+some_mapped f (Some x) h = refl
+some_mapped f None h = h
+
+arrived_alike : (areas : Map (ℕ × ℕ) Area) (pid v : ℕ) (e : Entry) → sight_of areas pid v (arrived e) ≡ sight_of areas pid v e
+arrived_alike areas pid v Zero = refl
+arrived_alike areas pid v (Frame f) = refl
+arrived_alike areas pid v (Held f) = refl
+
+-- what processes see does not depend on whether entries have arrived
+pub shown_arrived : (tasks : Map ℕ Task) (m : Mapped) (r : Mappers) → spaces_view (with_entries arrived tasks) m r ≡ spaces_view tasks m r
+shown_arrived tasks m r = λ i. record (spaces_view tasks m r) { processes = entries_show arrived arrived_alike m.areas tasks i }
+
+arrived_named : (f : ℕ) (o : Option Entry) → names f (option_map arrived o) ≡ true → option_map arrived o ≡ Some (Frame f)
+arrived_named f None h = cc
+arrived_named f (Some Zero) h = cc
+arrived_named f (Some (Frame g)) h = ap (λ n. Some (Frame n)) (eqb-true g f h)
+arrived_named f (Some (Held g)) h = ap (λ n. Some (Frame n)) (eqb-true g f h)
+
+arrived_is : (e : Entry) → ((f : ℕ) → e ≡ Held f → ⊥) → arrived e ≡ e
+arrived_is Zero h = refl
+arrived_is (Frame f) h = refl
+arrived_is (Held f) h = absurd (h f refl)
+
+tables_before : (c : Entry → Entry) (tasks : Map ℕ Task) → AllByRecursion (λ e. TableInOrder e.1) (with_entries c tasks) → AllByRecursion (λ e. TableInOrder e.1) tasks
+tables_before c [] h = tt
+tables_before c (e ∷ tasks) h = (subst (IsStrictlySortedBy nat_cmp) (keys-values (λ v x. c x) e.1.table) h.0, tables_before c tasks h.1)
+
+-- the order is that of what is there once entries have arrived
+pub order_before : (tasks : Map ℕ Task) → AreInOrder (with_entries arrived tasks) → AreInOrder tasks
+order_before tasks h = record {
+  pids = subst (IsStrictlySortedBy nat_cmp) (keys-values (λ pid. with_changed arrived) tasks) h.pids;
+  tables = tables_before arrived tasks h.tables;
+}
+
+-- where no entry is held, all have arrived
+pub all_arrived : (tasks : Map ℕ Task) → AreInOrder tasks → ((f pid v : ℕ) → entry_at tasks pid v ≡ Some (Held f) → ⊥) → with_entries arrived tasks ≡ tasks
+all_arrived tasks h none =
+    agree nat_cmp_total exact_unsigned (λ pid. with_changed arrived) (λ pid t. t) tasks h.pids (λ pid t found.
+    ap (λ (table : Map ℕ Entry). record t { table = table })
+    (agree nat_cmp_total exact_unsigned (λ v e. arrived e) (λ v e. e) t.table (All-get nat_cmp TableInOrder tasks pid t h.tables found)
+    (λ v e k. arrived_is e (λ f is. none f pid v (ap (λ (o : Option Task). entry_in o v) found ∙ k ∙ ap Some is))) ∙ values_same t.table))
+    ∙ values_same tasks
+
+pub order_in : (tasks : Map ℕ Task) (m : Mapped) (r : Mappers) → IsTied tasks m r → AreInOrder tasks
+order_in tasks m r h = record { pids = h.pids; tables = h.tables }
+
+-- ---- a page is on its way
+
+held_entry : (from to : ℕ) (o : Option Entry) → cond (names from (option_map arrived o)) (Some (Held to)) o ≡ option_map (held_for from to) o
+held_entry from to None = refl
+held_entry from to (Some Zero) = refl
+held_entry from to (Some (Frame g)) = elim (g == from) as (λ b. cond b (Some (Held to)) (Some (Frame g)) ≡ Some (cond b (Held to) (Frame g))) [ true ↦ refl | false ↦ refl ]
+held_entry from to (Some (Held g)) = elim (g == from) as (λ b. cond b (Some (Held to)) (Some (Held g)) ≡ Some (cond b (Held to) (Held g))) [ true ↦ refl | false ↦ refl ]
+
+-- the entries that name a frame once they have arrived are there
+module _ (tasks : Map ℕ Task) (l : List (ℕ × ℕ)) (f : ℕ) (named : (pid v : ℕ) → has_spot l (pid, v) ≡ names f (entry_at (with_entries arrived tasks) pid v)) where
+  named_at : (q : ℕ × ℕ) → has_spot l q ≡ true → names f (option_map arrived (entry_at tasks q.0 q.1)) ≡ true
+  named_at q k = ap (names f) (sym (changed_at arrived tasks q.0 q.1)) ∙ sym (named q.0 q.1) ∙ k
+
+  pub named_there : AllByRecursion (IsThere tasks) l
+  named_there = all_from_has (IsThere tasks) l (λ q k. some_mapped arrived (entry_at tasks q.0 q.1) (subst IsSome (sym (arrived_named f (entry_at tasks q.0 q.1) (named_at q k))) refl))
+
+  named_here : AllByRecursion (λ s. entry_at (with_entries arrived tasks) s.0 s.1 ≡ Some (Frame f)) l
+  named_here = all_from_has (λ s. entry_at (with_entries arrived tasks) s.0 s.1 ≡ Some (Frame f)) l (λ q k. changed_at arrived tasks q.0 q.1 ∙ arrived_named f (entry_at tasks q.0 q.1) (named_at q k))
+
+  -- those of one frame arrive
+  pub arrive_same : with_entries arrived (all_replaced tasks l (Frame f)) ≡ with_entries arrived tasks
+  arrive_same = changed_all arrived tasks l (Frame f) ∙ all_same (with_entries arrived tasks) l (Frame f) named_here
+
+  -- .. and are not held any more
+  pub arrive_fewer : (g pid v : ℕ) → entry_at (all_replaced tasks l (Frame f)) pid v ≡ Some (Held g) → (entry_at tasks pid v ≡ Some (Held g)) × (f ≡ g → ⊥)
+  arrive_fewer g pid v h =
+      elim (has_spot l (pid, v)) as (λ b. has_spot l (pid, v) ≡ b → cond b (Some (Frame f)) (entry_at tasks pid v) ≡ Some (Held g) → (entry_at tasks pid v ≡ Some (Held g)) × (f ≡ g → ⊥)) [
+        | true ↦ λ b k. absurd (frame_held k)
+        | false ↦ λ b k. (k, λ e. both_ways _ b (named pid v ∙ ap (names f) (changed_at arrived tasks pid v ∙ ap (option_map arrived) k) ∙ eq-eqb g f (sym e)))
+      ] refl (sym (entry_at-all_replaced tasks l (Frame f) (pid, v) named_there) ∙ h)
+
+module _ (tasks : Map ℕ Task) (m : Mapped) (r : Mappers) (p : Page) (from to : ℕ) (t : IsTied (with_entries arrived tasks) m r) (placed : get page_cmp m.place p ≡ Some from) (spare : IsSpare m r to) where
+  arrives : with_entries arrived (all_replaced tasks (mappers_of r from) (Held to)) ≡ remapped (with_entries arrived tasks) (mappers_of r from) to
+  arrives = changed_all arrived tasks (mappers_of r from) (Held to)
+
+  pub hold_tied : IsTied (with_entries arrived (all_replaced tasks (mappers_of r from) (Held to))) (with_frame m p to) (carried r from to)
+  hold_tied = subst (λ (ts : Map ℕ Task). IsTied ts (with_frame m p to) (carried r from to)) (sym arrives) (move_tied (with_entries arrived tasks) m r p from to t placed spare)
+
+  pub hold_shows : spaces_view (all_replaced tasks (mappers_of r from) (Held to)) (with_frame m p to) (carried r from to) ≡ with_moved (spaces_view tasks m r) p to
+  hold_shows =
+      sym (shown_arrived (all_replaced tasks (mappers_of r from) (Held to)) (with_frame m p to) (carried r from to))
+      ∙ ap (λ (ts : Map ℕ Task). spaces_view ts (with_frame m p to) (carried r from to)) arrives
+      ∙ move_shows (with_entries arrived tasks) m r p from to t placed spare
+      ∙ ap (λ (y : AddressSpacesView). with_moved y p to) (shown_arrived tasks m r)
+
+  pub hold_entries : (pid v : ℕ) → entry_at (all_replaced tasks (mappers_of r from) (Held to)) pid v ≡ option_map (held_for from to) (entry_at tasks pid v)
+  hold_entries pid v =
+      entry_at-all_replaced tasks (mappers_of r from) (Held to) (pid, v) (named_there tasks (mappers_of r from) from (t.mappers from))
+      ∙ ap (λ b. cond b (Some (Held to)) (entry_at tasks pid v)) (t.mappers from pid v ∙ ap (names from) (changed_at arrived tasks pid v))
+      ∙ held_entry from to (entry_at tasks pid v)
+
+-- ---- pages on their way, one after another
+
+held_held : {f g : ℕ} → Held f ≡ Held g → f ≡ g
+held_held e = cc
+
+frame_is_held : {f g : ℕ} → Frame f ≡ Held g → ⊥
+frame_is_held e = cc
+
+zero_is_held : {g : ℕ} → Zero ≡ Held g → ⊥
+zero_is_held e = cc
+
+eqb_flip : (a b : ℕ) → (a == b) ≡ (b == a)
+eqb_flip a b =
+    elim (a == b) as (λ x. (a == b) ≡ x → x ≡ (b == a)) [
+      | true ↦ λ h. sym (eq-eqb b a (sym (eqb-true a b h)))
+      | false ↦ λ h. sym (ne_eqb b a (λ e. eqb-false a b h (sym e)))
+    ] refl
+
+stays_held : (moves : List Taken) (f : ℕ) → AllByRecursion (λ u. u.from ≢ f) moves → on_their_way moves (Held f) ≡ Held f
+stays_held [] f h = refl
+stays_held (u ∷ moves) f h = ap (λ b. on_their_way moves (cond b (Held u.to) (Held f))) (ne_eqb f u.from (λ e. h.0 (sym e))) ∙ stays_held moves f h.1
+
+stays_zero : (moves : List Taken) → on_their_way moves Zero ≡ Zero
+stays_zero [] = refl
+stays_zero (u ∷ moves) = stays_zero moves
+
+begun_frame : (store : Store) (moves : List Taken) (f : ℕ) → AreApart moves → on_their_way moves (Frame f) ≡ held_by (map (laid_for store) moves) (Frame f)
+begun_frame store [] f h = refl
+begun_frame store (t ∷ moves) f h =
+    ap (λ b. on_their_way moves (cond b (Held t.to) (Frame f))) (eqb_flip f t.from)
+    ∙ elim (t.from == f) as (λ b. on_their_way moves (cond b (Held t.to) (Frame f)) ≡ unwrap_or (option_map (λ (job : Job). Held job.target.0) (cond b (Some (laid_for store t)) (job_from (map (laid_for store) moves) f))) (Frame f)) [
+      | true ↦ stays_held moves t.to h.0
+      | false ↦ begun_frame store moves f h.1
+    ]
+
+placed_begun : (store : Store) (moves : List Taken) (o : Option ℕ) → AreApart moves → on_their_way moves (unwrap_or (option_map Frame o) Zero) ≡ held_by (map (laid_for store) moves) (unwrap_or (option_map Frame o) Zero)
+placed_begun store moves None h = stays_zero moves
+placed_begun store moves (Some f) h = begun_frame store moves f h
+
+-- pages that go on their way one after another leave the entries that a run begins with
+pub begun_entries : (store : Store) (moves : List Taken) (place : Map Page ℕ) (o : Option Sight) → AreApart moves
+    → option_map (on_their_way moves) (option_map (entry_of place) o) ≡ option_map (held_by (map (laid_for store) moves)) (option_map (entry_of place) o)
+begun_entries store moves place None h = refl
+begun_entries store moves place (Some ZeroPage) h = ap Some (stays_zero moves)
+begun_entries store moves place (Some (Sees p)) h = ap Some (placed_begun store moves (get page_cmp place p) h)
+
+taken_by_one : (store : Store) (moves : List Taken) (g f : ℕ) → held_by (map (laid_for store) moves) (Frame g) ≡ Held f → is_taken moves f ≡ true
+taken_by_one store [] g f h = absurd (frame_is_held h)
+taken_by_one store (t ∷ moves) g f h =
+    elim (t.from == g) as (λ b. unwrap_or (option_map (λ (job : Job). Held job.target.0) (cond b (Some (laid_for store t)) (job_from (map (laid_for store) moves) g))) (Frame g) ≡ Held f → is_taken (t ∷ moves) f ≡ true) [
+      | true ↦ λ h. or_left _ _ (eq-eqb t.to f (held_held h))
+      | false ↦ λ h. or_right _ _ (taken_by_one store moves g f h)
+    ] h
+
+placed_taken : (store : Store) (moves : List Taken) (o : Option ℕ) (f : ℕ) → held_by (map (laid_for store) moves) (unwrap_or (option_map Frame o) Zero) ≡ Held f → is_taken moves f ≡ true
+placed_taken store moves None f h = absurd (zero_is_held h)
+placed_taken store moves (Some g) f h = taken_by_one store moves g f h
+
+-- those that are held when a run has begun are on their way to frames that its pages take
+pub held_is_taken : (store : Store) (place : Map Page ℕ) (moves : List Taken) (o : Option Sight) (f : ℕ)
+    → option_map (held_by (map (laid_for store) moves)) (option_map (entry_of place) o) ≡ Some (Held f) → is_taken moves f ≡ true
+held_is_taken store place moves None f h = cc
+held_is_taken store place moves (Some ZeroPage) f h = absurd (zero_is_held (some_is h))
+held_is_taken store place moves (Some (Sees p)) f h = placed_taken store moves (get page_cmp place p) f (some_is h)
+
+-- a frame that one of the pages takes, and not the first, is taken by another
+pub still_taken : (t : Taken) (moves : List Taken) (f : ℕ) → (t.to ≡ f → ⊥) → is_taken (t ∷ moves) f ≡ true → is_taken moves f ≡ true
+still_taken t moves f apart h =
+    elim (t.to == f) as (λ b. (t.to == f) ≡ b → (b || is_taken moves f) ≡ true → is_taken moves f ≡ true) [
+      | true ↦ λ b k. absurd (apart (eqb-true t.to f b))
+      | false ↦ λ b k. k
+    ] refl h
+
+-- ---- entries while no page is on its way
+
+module _ (tasks : Map ℕ Task) (m : Mapped) (r : Mappers) (t : IsTied tasks m r) where
+  pub settled_arrived : IsTied (with_entries arrived tasks) m r
+  settled_arrived = subst (λ (ts : Map ℕ Task). IsTied ts m r) (sym (all_arrived tasks (order_in tasks m r t) t.settled)) t
+
+  again_one : (pid v : ℕ) (o : Option Entry) → entry_at tasks pid v ≡ o → o ≡ option_map (entry_of m.place) (option_map (sight_of m.areas pid v) o)
+  again_one pid v None k = refl
+  again_one pid v (Some e) k = ap Some (sym (entry_again tasks m r t pid v e k))
+
+  -- an entry names the frame of the page that is seen there
+  pub entry_shown : (y : AddressSpacesView) → spaces_view tasks m r ≡ y → (pid v : ℕ) → entry_at tasks pid v ≡ entry_here y pid v
+  entry_shown y is pid v =
+      again_one pid v (entry_at tasks pid v) refl
+      ∙ ap (option_map (entry_of m.place)) (seen_here y tasks m r pid v (entry_at tasks pid v) is refl)
+      ∙ ap (λ (z : AddressSpacesView). option_map (entry_of z.place) (sight_in (get nat_cmp y.processes pid) v)) is
+
+-- ---- the frames that pages take
+
+pub takes_below : (moves : List Taken) (y : AddressSpacesView) → CanRemap y moves → AllByRecursion (λ t. t.to < y.frames) moves
+takes_below [] y can = tt
+takes_below (t ∷ moves) y can = (can.1, takes_below moves (with_moved y t.page t.to) can.3)
+
+pub frames_stay : (moves : List Taken) (y : AddressSpacesView) → (all_moved y moves).frames ≡ y.frames
+frames_stay [] y = refl
+frames_stay (t ∷ moves) y = frames_stay moves (with_moved y t.page t.to)

@@ -1,0 +1,25 @@
+use Rattle.std.proofs.Common.{[], ◌++◌, ap, sym, ◌∙◌}
+use Rattle.std.specs.Prelude.{Option, Some}
+use Rattle.std.specs.Option.{unwrap_or, option_map}
+use Rattle.std.specs.Ordering.{nat_cmp}
+use Rattle.std.specs.BTreeMap.Range.{entries_between}
+use Rattle.std.specs.declared.ops.Bound.TheVariants.{Included, Excluded}
+use Rattle.nm_model.specs.definitions.PageTables.{Task}
+use Rattle.nm_spaces.specs.views.ProcessTable.{task_table}
+use Rattle.nm_model.specs.definitions.Seen.{between}
+use Rattle.nm_spaces.proofs.Seen.Walked.{ranged}
+use Rattle.nm_spaces.proofs.Tied.Tabled.{found_value, none_found}
+use Rattle.nm_spaces.proofs.process_table.ProcessTable.entries_between.Goals as goal
+
+pub returns-in_default : goal.returns-in_default
+returns-in_default g c =
+    c.new-entries.ensures.items
+    ∙ ap (λ (o : Option Task). between c.args.first c.args.end (unwrap_or (option_map task_table o) [])) (sym (none_found c.self.inside.tasks.entries c.args.self.now c.args.pid c.self.view_is c.in_default.ensures))
+
+pub returns : goal.returns
+returns g c =
+    let found = sym (found_value c.self.inside.tasks.entries c.args.self.now c.args.pid c.in-Some.task.now c.self.view_is c.in-Some.ensures ∙ ap Some (sym c.task.view_is)) in
+    c.in_ok-list_between.ensures.all
+    ∙ ap (λ es. es ++ entries_between nat_cmp (Included c.args.first) (Excluded c.args.end) c.task.inside.table) c.new-entries.ensures.items
+    ∙ ranged c.task.inside.table c.args.first c.args.end
+    ∙ ap (λ (o : Option Task). between c.args.first c.args.end (unwrap_or (option_map task_table o) [])) found

@@ -1,0 +1,3 @@
+-- What the contracts of address spaces say beside the model.
+pub mod Moves
+pub mod Tied

@@ -1,0 +1,357 @@
+//! The address spaces of all processes: page tables, areas, and the mappers of each frame.
+
+ghost use Rattle.std.specs.Prelude.{◌≡◌, ◌<◌, ◌≤◌, ◌+◌, ◌-◌, ◌^◌, length, Some, None, IsSome, IfSome, IfOk, IfErr, OnOk, OnErr};
+ghost use Rattle.std.specs.Option.{option_map};
+ghost use Rattle.std.specs.Map.{values_of};
+ghost use Rattle.std.specs.Ordering.{nat_cmp};
+ghost use Rattle.nm_types.specs.declared.page.Page.{Page};
+ghost use Rattle.nm_types.specs.declared.errno.Errno.TheVariants.{Ebusy, Einval};
+ghost use Rattle.nm_types.specs.declared.sight.Sight.TheVariants.{ZeroPage, Sees};
+ghost use Rattle.nm_types.specs.Map.{get, set, with_values, page_cmp};
+ghost use Rattle.nm_types.specs.State.{Process, Placed, area_over, page_at};
+ghost use Rattle.nm_model.specs.definitions.Areas.{is_shared};
+ghost use Rattle.nm_model.specs.definitions.Seen.{sight_in, look_in, look_at_place};
+ghost use Rattle.nm_runs.specs.Shown.{HasFrameBelow};
+ghost use Rattle.nm_model.specs.definitions.Effect.{info_of, untouched};
+ghost use Rattle.nm_model.specs.definitions.PageTables.{entry_of};
+ghost use Rattle.nm_spaces.specs.views.AddressSpaces.{no_spaces, with_seen, with_new_page, pins_here, with_pins_of};
+
+mod areas;
+mod back;
+pub(crate) mod held;
+mod walk;
+
+use nm_types::ProcessInfo;
+use crate::process_table::ProcessTable;
+use nm_areas::Areas;
+use nm_rmap::ReverseMap;
+use nm_tables::Entry;
+use nm_types::{Area, Errno, FrameId, Page, PageView, Pid, Seen, Sight, Vpn};
+use std::alloc::{AllocError, Allocator};
+use std::marker::Model;
+
+/// The page tables of all processes, the areas with the frames of pages, and for each frame the entries that name it
+/// and its pins. Contracts see what each process sees, page by page.
+#[derive(Drop)]
+pub struct AddressSpaces<A: Allocator + Copy> {
+    pub(crate) tasks: ProcessTable<A>,
+    pub(crate) areas: Areas<A>,
+    pub(crate) rmap: ReverseMap<A>,
+}
+
+impl<A: Allocator + Copy> Model for AddressSpaces<A> {
+    ghost use Rattle.nm_spaces.specs.views.AddressSpaces.{AddressSpacesView, spaces_view};
+    ghost use Rattle.nm_spaces.specs.definitions.Tied.{IsTied};
+
+    ghost Value = { AddressSpacesView };
+
+    ghost view = { λ s. spaces_view s.tasks s.areas s.rmap };
+
+    ghost invariant = { λ s. IsTied s.tasks s.areas s.rmap };
+}
+
+impl<A: Allocator + Copy> AddressSpaces<A> {
+    /// Makes address spaces without processes, and `frames` frames without pages.
+    pub fn new(alloc: A, frames: usize) -> Result<Self, AllocError>
+        ensures { IfOk result (λ spaces. spaces ≡ no_spaces frames) }
+    {
+        Ok(AddressSpaces {
+            tasks: ProcessTable::new(alloc),
+            areas: Areas::new(alloc),
+            rmap: ReverseMap::new(alloc, frames)?,
+        })
+    }
+
+    /// Makes address spaces without processes and without frames. Does not allocate.
+    pub fn none(alloc: A) -> Self
+        ensures { result ≡ no_spaces 0 }
+    {
+        AddressSpaces {
+            tasks: ProcessTable::new(alloc),
+            areas: Areas::new(alloc),
+            rmap: ReverseMap::none(alloc),
+        }
+    }
+
+    /// How many processes there are.
+    pub fn len(&self) -> usize
+        ensures { result ≡ length self.now.processes }
+    {
+        self.tasks.len()
+    }
+
+    /// What `spawn` fixed of a process. None if there is no process with this pid.
+    pub fn info(&self, pid: Pid) -> Option<ProcessInfo>
+        ensures { result ≡ option_map info_of (get nat_cmp self.now.processes pid) }
+    {
+        self.tasks.info(pid)
+    }
+
+    /// The area of a process that covers a page number, with its first page number.
+    pub fn over(&self, pid: Pid, vpn: Vpn) -> Option<(Vpn, Area)>
+        ensures over { option_map {U = Placed} (λ found. ((pid, found.0), found.1)) result
+            ≡ area_over self.now.areas pid vpn }
+        ensures first { IfSome result (λ a. a.0 ≤ vpn) }
+        ensures index { IfSome result (λ a. a.1.page.index + (vpn - a.0) < 2 ^ 64) }
+    {
+        self.areas.find(pid, vpn)
+    }
+
+    /// The page that an area of a process shows at a page number. None if there is no area.
+    pub fn page_at(&self, pid: Pid, vpn: Vpn) -> Option<Page>
+        ensures { result ≡ page_at self.now.areas pid vpn }
+    {
+        let (first, area) = self.over(pid, vpn)?;
+        let Page { segment, index } = area.page;
+        Some(Page {
+            segment,
+            index: index + (vpn.number() - first.number()),
+        })
+    }
+
+    /// What a process sees at a page number where an area shows this page.
+    pub fn sight(&self, pid: Pid, vpn: Vpn, page: Page) -> Option<Sight>
+        requires { page_at self.now.areas pid vpn ≡ Some page }
+        ensures { result ≡ sight_in (get nat_cmp self.now.processes pid) vpn }
+    {
+        match self.tasks.entry(pid, vpn)? {
+            Entry::Zero => Some(Sight::ZeroPage),
+            Entry::Frame(_) => Some(Sight::Sees(page)),
+            Entry::Held(_) => Some(Sight::Sees(page)),
+        }
+    }
+
+    /// The entries of a process's page table, in ascending order. None if there is no such process.
+    pub fn entries(&self, pid: Pid) -> Result<Option<Vec<(Vpn, Entry), A>>, AllocError>
+        ensures entries { IfOk result
+            (λ all. option_map (λ entries. entries.items) all
+            ≡ option_map
+            (λ (p : Process). with_values (λ v sight. entry_of self.now.place sight) p.sees)
+            (get nat_cmp self.now.processes pid)) }
+        ensures memory { OnErr result (IsSome (get nat_cmp self.now.processes pid)) }
+        ensures asked { OnErr result
+            ((p : Process) → get nat_cmp self.now.processes pid ≡ Some p → 0 < length p.sees) }
+    {
+        self.tasks.entries(pid)
+    }
+
+    /// The frame of a page. None if it has none.
+    pub fn place(&self, page: Page) -> Option<FrameId>
+        ensures place { result ≡ get page_cmp self.now.place page }
+        ensures known { IfSome result (λ frame. frame < self.now.frames) }
+    {
+        self.areas.page_frame(page)
+    }
+
+    /// The frames of all pages that have one, in page order.
+    pub fn places(&self) -> Result<Vec<FrameId, A>, AllocError>
+        ensures { IfOk result (λ frames. frames.items ≡ values_of self.now.place) }
+    {
+        self.areas.frames()
+    }
+
+    /// Whether a segment is shared. False if there is no such segment.
+    pub fn is_shared(&self, segment: u32) -> bool
+        ensures { result ≡ is_shared self.now.segments segment }
+    {
+        self.areas.is_shared(segment)
+    }
+
+    /// What a process sees at a page number. Looks up the area over it once.
+    pub fn look(&self, pid: Pid, vpn: Vpn) -> Seen
+        ensures look { result
+            ≡ look_in self.now.processes self.now.areas self.now.place self.now.pins pid vpn }
+        ensures known { HasFrameBelow self.now.frames result }
+    {
+        let Some(page) = self.page_at(pid, vpn) else {
+            return Seen::NoArea;
+        };
+        match self.tasks.entry(pid, vpn) {
+            None => Seen::Absent,
+            Some(entry) => match entry {
+                Entry::Zero => Seen::Zero,
+                Entry::Frame(frame) => self.look_at(page, frame),
+                Entry::Held(frame) => self.look_at(page, frame),
+            },
+        }
+    }
+
+    /// What is to be seen of a page, whoever sees it.
+    pub fn look_at_page(&self, page: Page) -> Seen
+        ensures look { result
+            ≡ look_at_place self.now.processes self.now.pins page (get page_cmp self.now.place page) }
+        ensures known { HasFrameBelow self.now.frames result }
+    {
+        match self.place(page) {
+            None => Seen::Absent,
+            Some(frame) => self.look_at(page, frame),
+        }
+    }
+
+    /// What is to be seen of a page that has this frame.
+    fn look_at(&self, page: Page, frame: FrameId) -> Seen
+        requires { get page_cmp self.now.place page ≡ Some frame }
+        ensures look { result ≡ look_at_place self.now.processes self.now.pins page (Some frame) }
+        ensures known { HasFrameBelow self.now.frames result }
+    {
+        Seen::At {
+            page,
+            frame,
+            processes: self.rmap.processes(frame),
+            pinned: self.rmap.pins(frame) > 0,
+        }
+    }
+
+    /// Adds a process that has touched nothing.
+    pub fn add(&mut self, pid: Pid, info: ProcessInfo) -> Result<(), AllocError>
+        requires { get nat_cmp self.old.processes pid ≡ None }
+        ensures ok { OnOk result
+            (self.new
+            ≡ record (self.old) {
+              processes = set nat_cmp self.old.processes pid
+                  (untouched info);
+            }) }
+        ensures err { OnErr result (self.new ≡ self.old) }
+    {
+        self.tasks.add(pid, info)
+    }
+
+    /// Makes a process see the page of zeros at a page number.
+    pub fn see_zero(&mut self, pid: Pid, vpn: Vpn) -> Result<(), AllocError>
+        requires known { IsSome (get nat_cmp self.old.processes pid) }
+        requires unseen { (q : Page) →
+            sight_in (get nat_cmp self.old.processes pid) vpn ≡ Some (Sees q) →
+            ⊥ }
+
+        // On success
+        ensures ok { OnOk result
+            ((p : Process) →
+            get nat_cmp self.old.processes pid ≡ Some p →
+            self.new ≡ with_seen self.old pid p vpn ZeroPage) }
+
+        // Without memory
+        ensures err { OnErr result (self.new ≡ self.old) }
+    {
+        self.tasks.set(pid, vpn, Entry::Zero)
+    }
+
+    /// Makes a process see a page that has a frame, at a page number.
+    pub fn see(
+        &mut self,
+        pid: Pid,
+        vpn: Vpn,
+        page: Page,
+        frame: FrameId,
+    ) -> Result<(), AllocError>
+        requires known { IsSome (get nat_cmp self.old.processes pid) }
+        requires unseen { (q : Page) →
+            sight_in (get nat_cmp self.old.processes pid) vpn ≡ Some (Sees q) →
+            ⊥ }
+        requires shown { page_at self.old.areas pid vpn ≡ Some page }
+        requires placed { get page_cmp self.old.place page ≡ Some frame }
+
+        // On success
+        ensures ok { OnOk result
+            ((p : Process) →
+            get nat_cmp self.old.processes pid ≡ Some p →
+            self.new ≡ with_seen self.old pid p vpn (Sees page)) }
+
+        // Without memory
+        ensures err { OnErr result (self.new ≡ self.old) }
+    {
+        self.rmap.add(frame, pid, vpn)?;
+        if let Err(error) = self.tasks.set(pid, vpn, Entry::Frame(frame)) {
+            self.rmap.drop_one(frame, pid, vpn);
+            return Err(error);
+        }
+        Ok(())
+    }
+
+    /// Gives a page a frame that no page has, and makes a process see the page at a page number.
+    pub fn allocate(
+        &mut self,
+        pid: Pid,
+        vpn: Vpn,
+        page: Page,
+        frame: FrameId,
+    ) -> Result<(), AllocError>
+        requires known { IsSome (get nat_cmp self.old.processes pid) }
+        requires unseen { (q : Page) →
+            sight_in (get nat_cmp self.old.processes pid) vpn ≡ Some (Sees q) →
+            ⊥ }
+        requires shown { page_at self.old.areas pid vpn ≡ Some page }
+        requires unplaced { get page_cmp self.old.place page ≡ None }
+        requires frame { frame < self.old.frames }
+        requires spare { (q : Page) → get page_cmp self.old.place q ≡ Some frame → ⊥ }
+
+        // On success
+        ensures ok { OnOk result
+            ((p : Process) →
+            get nat_cmp self.old.processes pid ≡ Some p →
+            self.new ≡ with_new_page self.old pid p vpn page frame) }
+
+        // Without memory
+        ensures err { OnErr result (self.new ≡ self.old) }
+    {
+        self.areas.set_frame(page, frame)?;
+        if let Err(error) = self.rmap.add(frame, pid, vpn) {
+            self.areas.drop_frame(page);
+            return Err(error);
+        }
+        if let Err(error) = self.tasks.set(pid, vpn, Entry::Frame(frame)) {
+            self.rmap.drop_one(frame, pid, vpn);
+            self.areas.drop_frame(page);
+            return Err(error);
+        }
+        Ok(())
+    }
+
+    /// Adds a pin to a page that has a frame. EBUSY, with nothing changed, if it has 65,535 pins.
+    pub fn pin(&mut self, page: Page, frame: FrameId) -> Result<(), Errno>
+        requires { get page_cmp self.old.place page ≡ Some frame }
+
+        // On success
+        ensures room { OnOk result (pins_here self.old page < 65535) }
+        ensures ok { OnOk result
+            (self.new ≡ with_pins_of self.old page (pins_here self.old page + 1)) }
+
+        // On refusal
+        ensures full { IfErr result (λ error. (error ≡ Ebusy) × (65535 ≤ pins_here self.old page)) }
+        ensures err { OnErr result (self.new ≡ self.old) }
+    {
+        self.rmap.pin(frame)
+    }
+
+    /// Removes a pin from a page that has a frame. EINVAL, with nothing changed, if it has none.
+    pub fn unpin(&mut self, page: Page, frame: FrameId) -> Result<(), Errno>
+        requires { get page_cmp self.old.place page ≡ Some frame }
+
+        // On success
+        ensures pinned { OnOk result (0 < pins_here self.old page) }
+        ensures ok { OnOk result
+            (self.new ≡ with_pins_of self.old page (pins_here self.old page - 1)) }
+
+        // On refusal
+        ensures none { IfErr result (λ error. (error ≡ Einval) × (pins_here self.old page ≡ 0)) }
+        ensures err { OnErr result (self.new ≡ self.old) }
+    {
+        self.rmap.unpin(frame)
+    }
+}
+
+impl<A: Allocator + Copy> PageView for AddressSpaces<A> {
+    ghost use Rattle.nm_types.specs.Map.{get, page_cmp};
+    ghost use Rattle.nm_model.specs.definitions.Seen.{look_in, look_at_place};
+
+    ghost seen_at = { λ y pid v. look_in y.processes y.areas y.place y.pins pid v };
+
+    ghost placed_at = { λ y p. look_at_place y.processes y.pins p (get page_cmp y.place p) };
+
+    fn seen(&self, pid: Pid, vpn: Vpn) -> Seen {
+        self.look(pid, vpn)
+    }
+
+    fn placed(&self, page: Page) -> Seen {
+        self.look_at_page(page)
+    }
+}

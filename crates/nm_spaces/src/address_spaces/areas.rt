@@ -1,0 +1,202 @@
+//! Adding, splitting and removing areas of address spaces.
+
+ghost use Rattle.std.specs.Prelude.{ℕ, true, false, ◌≡◌, ◌<◌, ◌≤◌, ◌+◌, ◌/◌, [], length, None, Some, Err, IfOk, OnOk, OnErr, IfErr};
+ghost use Rattle.std.specs.List.{AllByRecursion, list_any};
+ghost use Rattle.std.specs.Map.{keys_of};
+ghost use Rattle.std.specs.Ordering.{nat_cmp};
+ghost use Rattle.std.specs.List.Sorted.{IsStrictlySortedBy};
+ghost use Rattle.nm_types.specs.Map.{get, without};
+ghost use Rattle.nm_types.specs.State.{Process};
+ghost use Rattle.nm_types.specs.Does.{Makes};
+ghost use Rattle.nm_model.specs.definitions.Areas.{inserted, attached, with_policy};
+ghost use Rattle.nm_model.specs.definitions.AreaRefusal.{insert_refusal, stretch_refusal, range_refusal, remove_refusal, overlaps};
+ghost use Rattle.nm_model.specs.definitions.Areas.{removed, frames_lost};
+ghost use Rattle.nm_model.specs.definitions.Effect.{shows_pinned};
+ghost use Rattle.nm_model.specs.definitions.PageTables.{entry_at};
+ghost use Rattle.nm_spaces.specs.views.ProcessTable.{names, cleared};
+ghost use Rattle.nm_spaces.specs.definitions.Tied.{IsCleared};
+ghost use Rattle.nm_spaces.specs.views.AddressSpaces.{mapped_of, with_mapped, without_range};
+
+use crate::address_spaces::AddressSpaces;
+use crate::process_table::ProcessTable;
+use nm_rmap::ReverseMap;
+use nm_tables::Entry;
+use nm_types::{Errno, FrameId, MachineError, Page, Pid, Policy, Vpn};
+use std::alloc::Allocator;
+
+impl<A: Allocator + Copy> AddressSpaces<A> {
+    /// Makes the next segment, and an area of the process over all of it. Returns the segment's number.
+    pub fn map(
+        &mut self,
+        pid: Pid,
+        addr: u64,
+        pages: u64,
+        shared: bool,
+    ) -> Result<u32, MachineError>
+        // The result and the areas
+        ensures done { Makes result (mapped_of self.old) (mapped_of self.new)
+            (insert_refusal (mapped_of self.old) pid addr pages)
+            (inserted (mapped_of self.old) pid addr pages shared) }
+        ensures memory { result ≡ Err MachineError.HostMemory →
+            insert_refusal (mapped_of self.old) pid addr pages ≡ None }
+        ensures number { IfOk result (λ number. number ≡ self.old.next) }
+
+        // Nothing else changes
+        ensures same { self.new ≡ with_mapped self.old (mapped_of self.new) }
+    {
+        self.areas.insert(pid, addr, pages, shared)
+    }
+
+    /// Makes an area of the process over a range of a shared segment.
+    pub fn attach(
+        &mut self,
+        pid: Pid,
+        addr: u64,
+        segment: u64,
+        offset: u64,
+        pages: u64,
+    ) -> Result<(), MachineError>
+        ensures done { Makes result (mapped_of self.old) (mapped_of self.new)
+            (stretch_refusal (mapped_of self.old) pid addr segment offset pages)
+            (attached (mapped_of self.old) pid addr segment offset pages) }
+        ensures memory { result ≡ Err MachineError.HostMemory →
+            stretch_refusal (mapped_of self.old) pid addr segment offset pages ≡ None }
+        ensures same { self.new ≡ with_mapped self.old (mapped_of self.new) }
+    {
+        self.areas.attach(pid, addr, segment, offset, pages)
+    }
+
+    /// Whether the areas allow setting the policy of a range of a process: EINVAL or EFAULT if not.
+    pub fn check_policy(&self, pid: Pid, addr: u64, len: u64) -> Result<(), Errno>
+        ensures ok { OnOk result (range_refusal (mapped_of self.now) pid addr len ≡ None) }
+        ensures err { IfErr result (λ e. range_refusal (mapped_of self.now) pid addr len ≡ Some e) }
+    {
+        self.areas.check_policy(pid, addr, len)
+    }
+
+    /// Sets the policy of the whole pages of a range of a process, and of no others.
+    pub fn set_policy(
+        &mut self,
+        pid: Pid,
+        addr: u64,
+        len: u64,
+        policy: Policy,
+    ) -> Result<(), MachineError>
+        ensures done { Makes result (mapped_of self.old) (mapped_of self.new)
+            (range_refusal (mapped_of self.old) pid addr len)
+            (with_policy (mapped_of self.old) pid addr len policy) }
+        ensures memory { result ≡ Err MachineError.HostMemory →
+            range_refusal (mapped_of self.old) pid addr len ≡ None }
+        ensures asked { result ≡ Err MachineError.HostMemory → 0 < len }
+        ensures same { self.new ≡ with_mapped self.old (mapped_of self.new) }
+    {
+        self.areas.split_policy(pid, addr, len, policy)
+    }
+
+    /// Whether an area of a process shows a page with a pin from one page number up to another. Walks once over the
+    /// areas and the pages with a frame there, up to the first pin, and not at all if no page has a pin.
+    pub fn has_pinned(&self, pid: Pid, first: Vpn, end: Vpn) -> bool
+        requires { first ≤ end }
+        ensures { result ≡ shows_pinned self.now.areas self.now.pins pid first end }
+    {
+        if !self.rmap.has_pins() {
+            return false;
+        }
+        self.areas
+            .shows_counted(pid, first, end, self.rmap.pin_counts())
+    }
+
+    /// Whether the page that an area of a process shows at a page number has a pin.
+    pub fn has_pin_at(&self, pid: Pid, vpn: Vpn) -> bool
+        ensures { result ≡ true →
+            (first end : ℕ) →
+            first ≤ vpn →
+            vpn < end →
+            shows_pinned self.now.areas self.now.pins pid first end ≡ true }
+    {
+        let Some(page) = self.page_at(pid, vpn) else {
+            return false;
+        };
+        match self.place(page) {
+            Some(frame) => self.rmap.pins(frame) > 0,
+            None => false,
+        }
+    }
+
+    /// Unmaps `pages` pages of a process from an address on, none of which may have a pin: the process loses what it
+    /// sees there, and the parts of its areas there. Returns the pages that no area covers, with the frames that they
+    /// had, in address order.
+    pub fn remove(
+        &mut self,
+        pid: Pid,
+        addr: u64,
+        pages: u64,
+    ) -> Result<Vec<(Page, FrameId), A>, MachineError>
+        requires unpinned { shows_pinned self.old.areas self.old.pins pid (addr / 4096)
+            (addr / 4096 + pages)
+            ≡ false }
+
+        // In any case
+        ensures done { Makes result (mapped_of self.old) (mapped_of self.new)
+            (remove_refusal addr pages)
+            (removed (mapped_of self.old) pid (addr / 4096) (addr / 4096 + pages)) }
+
+        // On success
+        ensures ok { OnOk result
+            (self.new ≡ without_range self.old pid (addr / 4096) (addr / 4096 + pages)) }
+        ensures freed { IfOk result
+            (λ freed. freed.items
+            ≡ frames_lost (mapped_of self.old) pid (addr / 4096) (addr / 4096 + pages)) }
+
+        // On an error
+        ensures err { OnErr result (self.new ≡ self.old) }
+        ensures asked { result ≡ Err MachineError.HostMemory →
+            list_any (overlaps pid (addr / 4096) (addr / 4096 + pages)) self.old.areas ≡ true }
+    {
+        let freed = self.areas.remove(pid, addr, pages)?;
+        let first = Vpn::of_address(addr);
+        let end = Vpn::new(first.number() + pages);
+        clear_between(&mut self.tasks, &mut self.rmap, pid, first, end);
+        Ok(freed)
+    }
+
+    /// Removes a process that sees nothing.
+    pub fn remove_task(&mut self, pid: Pid)
+        requires { (p : Process) → get nat_cmp self.old.processes pid ≡ Some p → p.sees ≡ [] }
+        ensures { self.new
+            ≡ record (self.old) { processes = without nat_cmp self.old.processes pid } }
+    {
+        self.tasks.remove(pid);
+    }
+}
+
+/// Removes the entries of a process from one page number up to another, and the mappers that they were.
+fn clear_between<A: Allocator + Copy>(
+    tasks: &mut ProcessTable<A>,
+    rmap: &mut ReverseMap<A>,
+    pid: Pid,
+    first: Vpn,
+    end: Vpn,
+)
+    requires frames { (f v : ℕ) →
+        names f (entry_at tasks.old pid v) ≡ true →
+        f < length rmap.old.mappings }
+    requires pids { IsStrictlySortedBy nat_cmp (keys_of tasks.old) }
+    requires tables { AllByRecursion (λ e. IsStrictlySortedBy nat_cmp (keys_of e.1.table)) tasks.old }
+    ensures tasks { tasks.new ≡ cleared tasks.old pid first end }
+    ensures rmap { IsCleared rmap.old rmap.new pid first end tasks.old }
+{
+    let mut at = first.number();
+    while let Some((vpn, entry)) = tasks.first_from(pid, Vpn::new(at)) {
+        if vpn.number() >= end.number() {
+            return;
+        }
+        match entry {
+            Entry::Zero => {}
+            Entry::Frame(frame) => rmap.drop_one(frame, pid, vpn),
+            Entry::Held(frame) => rmap.drop_one(frame, pid, vpn),
+        }
+        tasks.clear(pid, vpn);
+        at = vpn.number() + 1;
+    }
+}

@@ -1,0 +1,156 @@
+//! The address spaces while pages of a run are on their way: their entries are held, as the kernel's migration entries
+//! are (Documentation/mm/page_migration.rst).
+
+ghost use Rattle.std.specs.Prelude.{ℕ, ◌≡◌, ◌<◌, true, length, map, Some};
+ghost use Rattle.std.specs.List.{AllByRecursion};
+ghost use Rattle.std.specs.Option.{option_map};
+ghost use Rattle.nm_types.specs.declared.page.Page.{Page};
+ghost use Rattle.nm_types.specs.declared.entry.Entry.TheVariants.{Held as OnItsWay};
+ghost use Rattle.nm_types.specs.Map.{get, page_cmp};
+ghost use Rattle.nm_model.specs.definitions.Events.{arrived, held_by, laid_for, with_entries};
+ghost use Rattle.nm_model.specs.definitions.Frames.{Store};
+ghost use Rattle.nm_model.specs.definitions.PageTables.{entry_at};
+ghost use Rattle.nm_rmap.specs.Mappers.{mappers_of};
+ghost use Rattle.nm_spaces.specs.views.AddressSpaces.{with_moved};
+ghost use Rattle.nm_spaces.specs.views.Held.{AreApart, entry_here, held_for, on_their_way, is_taken};
+ghost use Rattle.nm_spaces.specs.definitions.Moves.{CanRemap, all_moved};
+ghost use Rattle.nm_spaces.specs.views.ProcessTable.{IsThere, all_replaced, names};
+ghost use Rattle.nm_spaces.specs.definitions.Tied.{has_spot, AreInOrder};
+
+use crate::address_spaces::AddressSpaces;
+use crate::process_table::ProcessTable;
+use nm_areas::Areas;
+use nm_types::Taken;
+use nm_rmap::ReverseMap;
+use nm_tables::Entry;
+use nm_types::{FrameId, Page, Pid, Vpn};
+use std::alloc::Allocator;
+use std::collections::BTreeSet;
+use std::marker::Model;
+
+/// Address spaces in which pages are on their way to other frames: each entry of such a page is held, whoever maps it.
+/// Contracts see the page tables, and what the address spaces are once the pages have arrived.
+#[derive(Drop)]
+pub struct HeldSpaces<A: Allocator + Copy> {
+    tasks: ProcessTable<A>,
+    areas: Areas<A>,
+    rmap: ReverseMap<A>,
+}
+
+impl<A: Allocator + Copy> Model for HeldSpaces<A> {
+    ghost use Rattle.nm_model.specs.definitions.Events.{arrived, with_entries};
+    ghost use Rattle.nm_spaces.specs.views.Held.{HeldView, held_view};
+    ghost use Rattle.nm_spaces.specs.definitions.Tied.{IsTied};
+
+    ghost Value = { HeldView };
+
+    ghost view = { λ h. held_view h.tasks h.areas h.rmap };
+
+    ghost invariant = { λ h. IsTied (with_entries arrived h.tasks) h.areas h.rmap };
+}
+
+impl<A: Allocator + Copy> AddressSpaces<A> {
+    /// Sends pages on their way to other frames: until `settle` the page tables are those of the run machine once its run
+    /// has begun, in which every entry that names a frame that a page leaves is held. The new frame has the page, its
+    /// mappers and its pins. Does not allocate.
+    pub fn hold(self, moves: &[Taken]) -> HeldSpaces<A>
+        requires moves { CanRemap self moves.now }
+        requires apart { AreApart moves.now }
+        ensures spaces { result.spaces ≡ all_moved self moves.now }
+        ensures entries { (store : Store) (pid v : ℕ) →
+            entry_at result.tables pid v
+            ≡ option_map (held_by (map (laid_for store) moves.now)) (entry_here self pid v) }
+    {
+        let AddressSpaces { tasks, areas, rmap } = self;
+        let mut held = HeldSpaces { tasks, areas, rmap };
+        held.hold_pages(moves);
+        held
+    }
+}
+
+impl<A: Allocator + Copy> HeldSpaces<A> {
+    /// The frame of a page, for one on its way the frame that it takes. None if it has none.
+    pub fn place(&self, page: Page) -> Option<FrameId>
+        ensures { result ≡ get page_cmp self.now.spaces.place page }
+    {
+        self.areas.page_frame(page)
+    }
+
+    /// Sends pages on their way, one after another.
+    fn hold_pages(&mut self, moves: &[Taken])
+        requires { CanRemap self.old.spaces moves.now }
+        ensures spaces { self.new.spaces ≡ all_moved self.old.spaces moves.now }
+        ensures entries { (pid v : ℕ) →
+            entry_at self.new.tables pid v
+            ≡ option_map (on_their_way moves.now) (entry_at self.old.tables pid v) }
+    {
+        for taken in moves {
+            self.hold_page(taken.page, taken.from, taken.to);
+        }
+    }
+
+    /// Sends a page on its way to a frame that no page has: every entry that named the old frame is held, and the new
+    /// frame gets the mappers and pins.
+    fn hold_page(&mut self, page: Page, from: FrameId, to: FrameId)
+        requires placed { get page_cmp self.old.spaces.place page ≡ Some from }
+        requires frame { to < self.old.spaces.frames }
+        requires spare { (q : Page) → get page_cmp self.old.spaces.place q ≡ Some to → ⊥ }
+        ensures spaces { self.new.spaces ≡ with_moved self.old.spaces page to }
+        ensures entries { (pid v : ℕ) →
+            entry_at self.new.tables pid v
+            ≡ option_map (held_for from to) (entry_at self.old.tables pid v) }
+    {
+        replace_each(&mut self.tasks, self.rmap.mappings(from), &Entry::Held(to));
+        self.rmap.carry(from, to);
+        self.areas.move_page(page, to);
+    }
+
+    /// The address spaces once all pages that are on their way, which are among these, have arrived: each held entry
+    /// names the new frame. Does not allocate.
+    pub fn settle(self, moves: &[Taken]) -> AddressSpaces<A>
+        requires below { AllByRecursion (λ t. t.to < self.spaces.frames) moves.now }
+        requires among { (f pid v : ℕ) →
+            entry_at self.tables pid v ≡ Some (OnItsWay f) →
+            is_taken moves.now f ≡ true }
+        ensures { result ≡ self.spaces }
+    {
+        let HeldSpaces {
+            mut tasks,
+            areas,
+            rmap,
+        } = self;
+        arrive(&mut tasks, &rmap, moves);
+        AddressSpaces { tasks, areas, rmap }
+    }
+}
+
+/// Makes each held entry name the frame that its page was on its way to, which is one that these moves take.
+fn arrive<A: Allocator + Copy>(tasks: &mut ProcessTable<A>, rmap: &ReverseMap<A>, moves: &[Taken])
+    requires order { AreInOrder (with_entries arrived tasks.old) }
+    requires mappers { (f pid v : ℕ) →
+        has_spot (mappers_of rmap.now f) (pid, v)
+        ≡ names f (entry_at (with_entries arrived tasks.old) pid v) }
+    requires below { AllByRecursion (λ t. t.to < length rmap.now.mappings) moves.now }
+    requires among { (f pid v : ℕ) →
+        entry_at tasks.old pid v ≡ Some (OnItsWay f) →
+        is_taken moves.now f ≡ true }
+    ensures { tasks.new ≡ with_entries arrived tasks.old }
+{
+    for taken in moves {
+        replace_each(tasks, rmap.mappings(taken.to), &Entry::Frame(taken.to));
+    }
+}
+
+/// Replaces each of these entries by another one.
+fn replace_each<A: Allocator + Copy>(
+    tasks: &mut ProcessTable<A>,
+    mappings: &BTreeSet<(Pid, Vpn), A>,
+    entry: &Entry,
+)
+    requires { AllByRecursion (IsThere tasks.old) mappings.now.keys }
+    ensures { tasks.new ≡ all_replaced tasks.old mappings.now.keys entry.now }
+{
+    for (pid, vpn) in mappings.iter() {
+        tasks.replace(*pid, *vpn, *entry);
+    }
+}

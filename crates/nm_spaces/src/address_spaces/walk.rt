@@ -1,0 +1,193 @@
+//! Walks over what processes have.
+
+ghost use Rattle.std.specs.Ordering.{nat_cmp};
+ghost use Rattle.std.specs.Prelude.{All, IfNone, IfOk, IfSome, Some, true, [], length, option_map, ◌+◌, ◌-◌, ◌<◌, ◌^◌, ◌∷◌, ◌≡◌, ◌≤◌};
+ghost use Rattle.std.specs.Result.{OnErr};
+ghost use Rattle.nm_areas.specs.Lines.{lines_of};
+ghost use Rattle.nm_model.specs.definitions.PageTables.{page_here};
+ghost use Rattle.nm_model.specs.definitions.Seen.{located_in, in_frame, IsOver};
+ghost use Rattle.nm_model.specs.definitions.Seen.{between, sights};
+ghost use Rattle.nm_model.specs.definitions.Seen.{users};
+ghost use Rattle.nm_types.specs.Layout.{frame_count, node_count};
+ghost use Rattle.nm_types.specs.Map.{get, page_cmp};
+ghost use Rattle.nm_types.specs.State.{Placed, area_over, page_at, page_of};
+ghost use Rattle.nm_types.specs.declared.page.Page.{Page};
+
+use nm_types::Located;
+use crate::address_spaces::AddressSpaces;
+use nm_areas::Line;
+use nm_tables::Entry;
+use nm_types::{Area, FrameId, Geometry, Page, Pid, Sight, Vpn};
+use std::alloc::{AllocError, Allocator};
+
+impl<A: Allocator + Copy> AddressSpaces<A> {
+    /// The areas of a process, in address order.
+    pub fn lines(&self, pid: Pid) -> Result<Vec<Line, A>, AllocError>
+        ensures lines { IfOk result
+            (λ lines. lines.items ≡ lines_of self.now.segments self.now.areas pid) }
+        ensures asked { OnErr result (0 < length (lines_of self.now.segments self.now.areas pid)) }
+    {
+        self.areas.lines(pid)
+    }
+
+    /// The pages that have a frame, each with its frame, by segment and index.
+    pub fn placed(&self) -> Result<Vec<(Page, FrameId), A>, AllocError>
+        ensures { IfOk result (λ placed. placed.items ≡ self.now.place) }
+    {
+        self.areas.placed()
+    }
+
+    /// The first thing that a process sees from one page number up to another, with its page number.
+    pub fn sight_from(&self, pid: Pid, first: Vpn, end: Vpn) -> Option<(Vpn, Sight)>
+        ensures some { IfSome result (λ e. between first end (sights self.now.processes pid)
+            ≡ (e.0, e.1) ∷ between (e.0 + 1) end (sights self.now.processes pid)) }
+        ensures range { IfSome result (λ e. (first ≤ e.0) × (e.0 < end)) }
+        ensures none { IfNone result
+            (between first end (sights self.now.processes pid) ≡ []) }
+    {
+        let (vpn, entry) = self.tasks.first_from(pid, first)?;
+        if vpn.number() >= end.number() {
+            return None;
+        }
+        match entry {
+            Entry::Zero => Some((vpn, Sight::ZeroPage)),
+            Entry::Frame(_) => Some((vpn, Sight::Sees(self.page_at(pid, vpn)?))),
+            Entry::Held(_) => Some((vpn, Sight::Sees(self.page_at(pid, vpn)?))),
+        }
+    }
+
+    /// The pages that a process sees from one page number up to another, in order of page number, with their frames and
+    /// nodes. Walks once over the process's entries there, and looks up each area once.
+    pub fn pages_between(
+        &self,
+        alloc: A,
+        geometry: &Geometry<A>,
+        pid: Pid,
+        first: Vpn,
+        end: Vpn,
+    ) -> Result<Vec<Located, A>, AllocError>
+        requires { self.now.frames ≡ frame_count geometry.now }
+
+        // On success
+        ensures pages { IfOk result
+            (λ pages. pages.items
+            ≡ located_in geometry.now self.now.place
+            (between first end (sights self.now.processes pid))) }
+        ensures placed { IfOk result
+            (λ pages. All (λ e. get page_cmp self.now.place e.page ≡ Some e.frame) pages.items) }
+        ensures nodes { IfOk result
+            (λ pages. All (λ e. e.node < node_count geometry.now) pages.items) }
+        ensures few { IfOk result (λ pages. length pages.items ≤ end - first) }
+    {
+        let entries = self.tasks.entries_between(pid, first, end)?;
+        let mut pages = Vec::new(alloc);
+        let mut last = None;
+        for (vpn, entry) in &entries {
+            match entry {
+                Entry::Zero => {}
+                Entry::Frame(frame) => {
+                    let page = self.seen_in(geometry, pid, *vpn, *frame, &mut last);
+                    pages.push(page)?;
+                }
+                Entry::Held(frame) => {
+                    let page = self.seen_in(geometry, pid, *vpn, *frame, &mut last);
+                    pages.push(page)?;
+                }
+            }
+        }
+        Ok(pages)
+    }
+
+    /// The page that a process sees in a frame at a page number, with its node. `last` is the area found last: from one
+    /// page to the next it becomes the area over the page number.
+    fn seen_in(
+        &self,
+        geometry: &Geometry<A>,
+        pid: Pid,
+        vpn: Vpn,
+        frame: FrameId,
+        last: &mut Option<(Vpn, Area)>,
+    ) -> Located
+        requires known { frame < frame_count geometry.now }
+        requires last { IfSome last.old (IsOver self.now.areas pid) }
+        requires seen { (p : Page) × (page_at self.now.areas pid vpn ≡ Some p)
+            × (get page_cmp self.now.place p ≡ Some frame) }
+
+        // The page
+        ensures page { in_frame geometry.now vpn (page_here self.now.areas pid vpn) (Some frame)
+            ≡ result ∷ [] }
+        ensures node { result.node < node_count geometry.now }
+
+        // The area found last
+        ensures last { IfSome last.new (IsOver self.now.areas pid) }
+    {
+        let near = self.area_near(pid, vpn, last);
+        let Some((start, area)) = &near else {
+            unreachable!()
+        };
+        let page = page_in(*start, area, vpn);
+        let node = geometry.node_of(frame);
+        *last = near;
+        Located {
+            vpn,
+            page,
+            frame,
+            node,
+        }
+    }
+
+    /// How many processes see the page in a frame.
+    pub fn users_in(&self, frame: FrameId) -> usize
+        requires { (page : Page) × (get page_cmp self.now.place page ≡ Some frame) }
+        ensures { (page : Page) →
+            get page_cmp self.now.place page ≡ Some frame →
+            result ≡ length (users self.now.processes page) }
+    {
+        self.rmap.processes(frame)
+    }
+
+    /// The area of a process over a page number: the one found last, if it covers this number too.
+    fn area_near(&self, pid: Pid, vpn: Vpn, last: &Option<(Vpn, Area)>) -> Option<(Vpn, Area)>
+        requires { IfSome last.now (IsOver self.now.areas pid) }
+
+        // In any case
+        ensures found { option_map {U = Placed} (λ found. ((pid, found.0), found.1)) result
+            ≡ area_over self.now.areas pid vpn }
+
+        // If there is one
+        ensures here { IfSome result (λ a. (a.0 ≤ vpn) × (vpn < a.0 + a.1.pages)) }
+        ensures over { IfSome result (IsOver self.now.areas pid) }
+    {
+        match last {
+            Some((first, area)) => {
+                if is_over(*first, *area, vpn) {
+                    Some((*first, *area))
+                } else {
+                    self.areas.find(pid, vpn)
+                }
+            }
+            None => self.areas.find(pid, vpn),
+        }
+    }
+}
+
+/// Whether an area that begins at a page number covers another one.
+fn is_over(first: Vpn, area: Area, vpn: Vpn) -> bool
+    ensures over { result ≡ true → (first ≤ vpn) × (vpn < first + area.pages) }
+    ensures all { first ≤ vpn → vpn < first + area.pages → result ≡ true }
+{
+    vpn.number() >= first.number() && vpn.number() - first.number() < area.pages
+}
+
+/// The page that an area, which begins at a page number, shows at another one that it covers.
+fn page_in(first: Vpn, area: &Area, vpn: Vpn) -> Page
+    requires over { first ≤ vpn }
+    requires index { area.now.page.index + (vpn - first) < 2 ^ 64 }
+    ensures { result ≡ page_of ((0, first), area.now) vpn }
+{
+    let Page { segment, index } = area.page;
+    Page {
+        segment,
+        index: index + (vpn.number() - first.number()),
+    }
+}

@@ -1,0 +1,230 @@
+//! The table of processes.
+
+ghost use Rattle.std.specs.Prelude.{ℕ, ◌≡◌, ◌≤◌, ◌<◌, nat_eq, true, slice_get, [], length, Some, None, IsSome, IfSome, IfNone, IfOk, OnOk, OnErr};
+ghost use Rattle.std.specs.Option.{option_copied, option_map};
+ghost use Rattle.std.specs.List.Sorted.{IsStrictlySortedBy};
+ghost use Rattle.std.specs.Map.{keys_of, lookup};
+ghost use Rattle.indexmap.specs.IndexMap.{values};
+ghost use Rattle.std.specs.Ordering.{nat_cmp};
+ghost use Rattle.nm_types.specs.Map.{get, set, replace, without};
+ghost use Rattle.nm_model.specs.definitions.PageTables.{Task};
+ghost use Rattle.nm_spaces.specs.views.ProcessTable.{new_task, task_info, task_table, entries_in, IsThere, without_entry, replaced};
+ghost use Rattle.nm_model.specs.definitions.PageTables.{entry_at, with_entry};
+ghost use Rattle.nm_model.specs.definitions.Seen.{between};
+
+use crate::process;
+use indexmap::IndexMap;
+use nm_tables::{Entry, PageTable};
+use nm_types::{Pid, ProcessInfo, Vpn};
+use std::alloc::{AllocError, Allocator};
+use std::hash::{BuildHasherDefault, FoldHasher};
+use std::marker::Model;
+
+/// Processes by pid, in any order.
+type Tasks<A> = IndexMap<Pid, process::Task<A>, BuildHasherDefault<FoldHasher>, A>;
+
+/// The processes by pid, in any order, each with its page table.
+#[derive(Drop)]
+pub(crate) struct ProcessTable<A: Allocator + Copy> {
+    tasks: Tasks<A>,
+    alloc: A,
+}
+
+impl<A: Allocator + Copy> Model for ProcessTable<A> {
+    ghost use Rattle.std.specs.Prelude.{ℕ};
+    ghost use Rattle.nm_types.specs.Map.{Map};
+    ghost use Rattle.nm_model.specs.definitions.PageTables.{Task};
+    ghost use Rattle.nm_spaces.specs.views.ProcessTable.{by_pid};
+
+    ghost Value = { Map ℕ Task };
+
+    ghost view = { λ t. by_pid t.tasks.entries };
+}
+
+impl<A: Allocator + Copy> ProcessTable<A> {
+    /// Makes a table without processes. Does not allocate.
+    pub(crate) fn new(alloc: A) -> Self
+        ensures { result ≡ [] }
+    {
+        ProcessTable {
+            tasks: IndexMap::new(alloc),
+            alloc,
+        }
+    }
+
+    /// How many processes there are.
+    pub(crate) fn len(&self) -> usize
+        ensures count { result ≡ length self.now }
+        ensures ordered { IsStrictlySortedBy nat_cmp (keys_of self.now) }
+    {
+        self.tasks.len()
+    }
+
+    /// What `spawn` fixed of a process. None if there is no process with this pid.
+    pub(crate) fn info(&self, pid: Pid) -> Option<ProcessInfo>
+        ensures { result ≡ option_map task_info (get nat_cmp self.now pid) }
+    {
+        task_of(&self.tasks, pid).map(|task| task.info)
+    }
+
+    /// The entry of a process at a page number. None if it is absent, or there is no such process.
+    pub(crate) fn entry(&self, pid: Pid, vpn: Vpn) -> Option<Entry>
+        ensures { result ≡ entry_at self.now pid vpn }
+    {
+        task_of(&self.tasks, pid)?.table.get(vpn)
+    }
+
+    /// All entries of a process, in order of page number. None if there is no such process.
+    pub(crate) fn entries(&self, pid: Pid) -> Result<Option<Vec<(Vpn, Entry), A>>, AllocError>
+        ensures entries { IfOk result
+            (λ all. option_map (λ entries. entries.items) all
+            ≡ option_map task_table (get nat_cmp self.now pid)) }
+        ensures memory { OnErr result (IsSome (get nat_cmp self.now pid)) }
+        ensures asked { OnErr result (0 < length (entries_in self.now pid)) }
+    {
+        match task_of(&self.tasks, pid) {
+            Some(task) => Ok(Some(task.table.entries()?)),
+            None => Ok(None),
+        }
+    }
+
+    /// The first entry of a process at or after a page number.
+    pub(crate) fn first_from(&self, pid: Pid, at: Vpn) -> Option<(Vpn, Entry)>
+        ensures some { IfSome result (λ e. (at ≤ e.0) × (entry_at self.now pid e.0 ≡ Some e.1)) }
+        ensures first { IfSome result
+            (λ e. (v : ℕ) → at ≤ v → v < e.0 → entry_at self.now pid v ≡ None) }
+        ensures none { IfNone result ((v : ℕ) → at ≤ v → entry_at self.now pid v ≡ None) }
+    {
+        task_of(&self.tasks, pid)?.table.first_from(at)
+    }
+
+    /// The entries of a process from one page number up to another, in order. Empty if there is no such process.
+    pub(crate) fn entries_between(
+        &self,
+        pid: Pid,
+        first: Vpn,
+        end: Vpn,
+    ) -> Result<Vec<(Vpn, Entry), A>, AllocError>
+        ensures { IfOk result
+            (λ entries. entries.items ≡ between first end (entries_in self.now pid)) }
+    {
+        let mut entries = Vec::new(self.alloc);
+        let Some(task) = task_of(&self.tasks, pid) else {
+            return Ok(entries);
+        };
+        task.table.list_between(first, end, &mut entries)?;
+        Ok(entries)
+    }
+
+    /// Adds a process that has touched nothing.
+    pub(crate) fn add(&mut self, pid: Pid, info: ProcessInfo) -> Result<(), AllocError>
+        requires { get nat_cmp self.old pid ≡ None }
+
+        // On success
+        ensures ok { OnOk result (self.new ≡ set nat_cmp self.old pid (new_task info)) }
+
+        // Without memory
+        ensures err { OnErr result (self.new ≡ self.old) }
+
+        // In any case
+        ensures ordered { IsStrictlySortedBy nat_cmp (keys_of self.new) }
+    {
+        let task = process::Task {
+            info,
+            table: PageTable::new(self.alloc),
+        };
+        self.tasks.insert(pid, task)?;
+        Ok(())
+    }
+
+    /// Sets the entry at a page number of a process.
+    pub(crate) fn set(&mut self, pid: Pid, vpn: Vpn, entry: Entry) -> Result<(), AllocError>
+        requires { IsSome (get nat_cmp self.old pid) }
+        ensures ok { OnOk result
+            ((t : Task) →
+            get nat_cmp self.old pid ≡ Some t →
+            self.new ≡ replace nat_cmp self.old pid (with_entry t vpn entry)) }
+        ensures err { OnErr result (self.new ≡ self.old) }
+    {
+        let Some(task) = self.tasks.get_mut(&pid) else {
+            unreachable!()
+        };
+        task.table.set(vpn, entry)
+    }
+
+    /// Replaces the entry at a page number of a process that has one. Does not allocate.
+    pub(crate) fn replace(&mut self, pid: Pid, vpn: Vpn, entry: Entry)
+        requires { IsThere self.old (pid, vpn) }
+        ensures { self.new ≡ replaced self.old entry (pid, vpn) }
+    {
+        let Some(place) = place_of(&self.tasks, pid) else {
+            unreachable!()
+        };
+        let (_, task) = self.tasks.pair_mut(place);
+        task.table.replace(vpn, entry);
+    }
+
+    /// Removes the entry at a page number of a process. Does not allocate.
+    pub(crate) fn clear(&mut self, pid: Pid, vpn: Vpn)
+        requires { IsSome (get nat_cmp self.old pid) }
+        ensures { (t : Task) →
+            get nat_cmp self.old pid ≡ Some t →
+            self.new ≡ replace nat_cmp self.old pid (without_entry t vpn) }
+    {
+        let Some(task) = self.tasks.get_mut(&pid) else {
+            unreachable!()
+        };
+        task.table.clear(vpn);
+    }
+
+    /// Removes a process with its table. Does not allocate.
+    pub(crate) fn remove(&mut self, pid: Pid)
+        ensures gone { self.new ≡ without nat_cmp self.old pid }
+        ensures ordered { IsStrictlySortedBy nat_cmp (keys_of self.new) }
+    {
+        self.tasks.swap_remove(&pid);
+    }
+}
+
+/// The process with this pid, if there is one.
+fn task_of<A: Allocator + Copy>(tasks: &Tasks<A>, pid: Pid) -> Option<&process::Task<A>>
+    ensures { option_copied result ≡ lookup (nat_eq pid) tasks.now.entries }
+{
+    let place = place_of(tasks, pid)?;
+    Some(&tasks[place])
+}
+
+/// Where the process with this pid stands among the others, if there is one. Mostly pids are given one after another,
+/// and processes stand in the order in which they came: so this looks there first, then one place further, where it
+/// stands if one other came out of turn, and only then hashes the pid.
+fn place_of<A: Allocator + Copy>(tasks: &Tasks<A>, pid: Pid) -> Option<usize>
+    ensures within { IfSome result (λ i. i < length tasks.now.entries) }
+    ensures key { IfSome result (λ i. slice_get (keys_of tasks.now.entries) i ≡ Some pid) }
+    ensures value { IfSome result
+        (λ i. slice_get (values tasks.now) i ≡ lookup (nat_eq pid) tasks.now.entries) }
+    ensures none { IfNone result (lookup (nat_eq pid) tasks.now.entries ≡ None) }
+{
+    let (first, _) = tasks.first()?;
+    let near = pid.number().wrapping_sub(first.number()) as usize;
+    if stands_at(tasks, near, pid) {
+        return Some(near);
+    }
+    if stands_at(tasks, near + 1, pid) {
+        return Some(near + 1);
+    }
+    tasks.get_index_of(&pid)
+}
+
+/// Whether the process with this pid stands at a place among the others.
+#[inline]
+fn stands_at<A: Allocator + Copy>(tasks: &Tasks<A>, place: usize, pid: Pid) -> bool
+    ensures within { result ≡ true → place < length tasks.now.entries }
+    ensures key { result ≡ true → slice_get (keys_of tasks.now.entries) place ≡ Some pid }
+    ensures value { result ≡ true →
+        slice_get (values tasks.now) place ≡ lookup (nat_eq pid) tasks.now.entries }
+{
+    match tasks.get_index(place) {
+        Some((there, _)) => *there == pid,
+        None => false,
+    }
+}
