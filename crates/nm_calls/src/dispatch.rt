@@ -1,7 +1,7 @@
 //! Making calls that are given as values.
 
 ghost use Rattle.std.specs.Prelude.{map};
-ghost use Rattle.nm_engine.specs.views.Accesses.{answer_shown};
+ghost use Rattle.nm_memory.specs.views.Accesses.{answer_shown};
 ghost use Rattle.nm_steps.specs.Calls as calls;
 ghost use Rattle.nm_calls.specs.definitions.Answers as answers;
 ghost use Rattle.nm_calls.specs.definitions.Does.{Does};

@@ -4,7 +4,7 @@ ghost use Rattle.std.specs.Prelude.{Bool, Err, IfOk, [], length, map, true, ℕ,
 ghost use Rattle.nm_calls.specs.declared.call_error.CallError.TheVariants.{HostMemory};
 ghost use Rattle.nm_model.specs.definitions.Sound.{audited};
 ghost use Rattle.nm_model.specs.definitions.Sound.{IsSound};
-ghost use Rattle.nm_engine.specs.views.Accesses.{answer_shown};
+ghost use Rattle.nm_memory.specs.views.Accesses.{answer_shown};
 ghost use Rattle.nm_steps.specs.Calls.{Spawn, MapPages, Attach, Unmap, Exit, Pin, Unpin, ReadBytes, WriteBytes, MovePages, MigratePages, Mbind, Offline, Online, Query, FreeList, Pagemap, Vmstat, NumaMaps, default_limit};
 ghost use Rattle.nm_calls.specs.definitions.Answers.{Done, NewSegment, TheBytes, Statuses, Failed, Frames, Entries, TheTotals, Lines};
 ghost use Rattle.nm_calls.specs.definitions.Entries.{entries_mapped, entries_shown};

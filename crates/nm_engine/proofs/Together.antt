@@ -6,9 +6,7 @@ pub mod Remade
 pub mod Paged
 pub mod Shows
 pub mod Free
-pub mod Copies
 pub mod Carried
 pub mod Touches
 pub mod Undone
-pub mod Shelves
 pub mod Populated

@@ -1,5 +1,4 @@
 -- What the contracts of the engine say beside the model.
 pub mod Does
 pub mod Undo
-pub mod AfterCopy
 pub mod Orders

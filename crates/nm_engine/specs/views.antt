@@ -1,6 +1,3 @@
 -- What contracts see the values of the code as.
-pub mod Copies
-pub mod Frames
 pub mod Shown
 pub mod MidRun
-pub mod Accesses

@@ -9,7 +9,6 @@ mod flight;
 mod locate;
 mod nodes;
 mod online;
-pub(crate) mod pending_access;
 mod pins;
 mod process;
 mod query;
@@ -19,7 +18,7 @@ mod touch_site;
 mod undo;
 
 use nm_spaces::AddressSpaces;
-use crate::frames::Frames;
+use nm_memory::Frames;
 use crate::machine::Totals;
 use nm_types::{Geometry, NodeId, NodeMask, Pid, Vpn};
 pub use run::failures;

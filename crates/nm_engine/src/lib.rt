@@ -2,16 +2,15 @@
 #![tactic(auto)]
 
 mod answers;
-mod audit;
-mod frames;
 mod inner;
 pub mod laws;
 mod machine;
 mod view;
 
-pub use answers::{AccessAnswer, RunAnswer};
+pub use answers::RunAnswer;
 pub use inner::failures;
 pub use machine::{Machine, Totals};
 pub use nm_areas::Line;
+pub use nm_memory::AccessAnswer;
 pub use nm_tables::Entry;
 pub use nm_types::{Access, Located, MachineError, ProcessInfo};

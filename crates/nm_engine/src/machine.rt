@@ -14,7 +14,7 @@ ghost use Rattle.nm_model.specs.definitions.Effect.{info_of};
 ghost use Rattle.nm_model.specs.definitions.Touch.{Bytes, Done, has_free, read, write, site_refusal};
 ghost use Rattle.nm_model.specs.definitions.Run.{with_counts, run, HasOneAll};
 ghost use Rattle.nm_model.specs.views.Asked.{access_shown};
-ghost use Rattle.nm_engine.specs.views.Accesses.{answer_shown};
+ghost use Rattle.nm_memory.specs.views.Accesses.{answer_shown};
 ghost use Rattle.nm_model.specs.definitions.Effect.{new_machine, set_online, spawn, map_new, attach, pin, unpin, unmap, exit};
 ghost use Rattle.nm_model.specs.definitions.Effect.{spawn_refusal, map_refusal, attach_refusal, pin_refusal, unpin_refusal, unmap_refusal, exit_refusal, list_refusal, entries_refusal};
 ghost use Rattle.nm_model.specs.definitions.Effect.{policy_refusal, set_policy};

@@ -1,7 +1,8 @@
 -- Items of a list, and those before and after them.
-use Rattle.std.proofs.Common.{◌≡◌, ℕ, suc, zero, ◌+◌, ◌<◌, List, [], ◌∷◌, ◌++◌, length, take, drop, sym, ap, ◌∙◌, arith}
-use Rattle.std.specs.Prelude.{Some, slice_get, slice_index_or}
+use Rattle.std.proofs.Common.{◌≡◌, ℕ, suc, zero, ◌+◌, ◌-◌, ◌<◌, List, [], ◌∷◌, ◌++◌, length, take, drop, sym, ap, ◌∙◌, arith}
+use Rattle.std.specs.Prelude.{Some, slice_get, slice_index, slice_index_or}
 use Rattle.std.proofs.Math.Seq.{drop-cons}
+use Rattle.nm_model.specs.definitions.Memory.{stretch_of}
 
 -- an item and those after it
 drop_from : {A : Type 0} (xs : List A) (k : ℕ) (x : A) → slice_get xs k ≡ Some x → drop k xs ≡ x ∷ drop (suc k) xs
@@ -30,3 +31,9 @@ pub drop_item : {A : Type 0} (xs : List A) (k : ℕ) (x : A) → k < length xs �
 drop_item xs k x lt is =
     let n : suc k ≡ k + 1 = omega arith in
     drop-cons xs k x lt ∙ ap (λ y. y ∷ drop (suc k) xs) (sym is) ∙ ap (λ n. x ∷ drop n xs) n
+
+-- the bytes from one place up to another
+pub stretch_step : (bytes : List ℕ) (k end : ℕ) → k < end → stretch_of bytes k (end - k) ≡ slice_index bytes k ∷ stretch_of bytes (k + 1) (end - (k + 1))
+stretch_step bytes k end lt =
+    let n : end - k ≡ suc (end - (k + 1)) = omega (arith, lt) in
+    ap (λ n. stretch_of bytes k n) n

@@ -11,10 +11,10 @@ use Rattle.nm_calls.specs.definitions.Permission.{owner_of, allowed_at, query_re
 use Rattle.std.specs.Prelude.{◌≡◌, ◌<◌, ◌==◌, count_by, [], ◌∷◌, ◌++◌, take, drop, length, slice_index_or, slice_set, Vec}
 use Rattle.std.specs.declared.vec.IntoIter.{IntoIter}
 use Rattle.nm_types.specs.declared.access.Access.{Access as Asked}
-use Rattle.nm_engine.specs.declared.answers.AccessAnswer.{AccessAnswer as Given}
+use Rattle.nm_memory.specs.declared.answers.AccessAnswer.{AccessAnswer as Given}
 use Rattle.nm_model.specs.definitions.Touch.{Access, AccessAnswer}
 use Rattle.nm_model.specs.views.Asked.{access_shown}
-use Rattle.nm_engine.specs.views.Accesses.{answer_shown}
+use Rattle.nm_memory.specs.views.Accesses.{answer_shown}
 use Rattle.nm_model.specs.definitions.Run.{accesses_of}
 
 -- the refusal of a move: that of a query, or else that of the first node that pages of the process may not go to

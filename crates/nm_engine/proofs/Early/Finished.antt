@@ -15,16 +15,17 @@ use Rattle.nm_types.proofs.Cases.{some_is}
 use Rattle.nm_types.proofs.Maps.{page_cmp_total, exact_page, equal, get-values, agree}
 use Rattle.nm_model.specs.views.Table.{Table}
 use Rattle.nm_model.specs.definitions.Frames.{Store, IsHome, bytes_of, overwrite}
-use Rattle.nm_engine.specs.views.Frames.{PagedFrames}
+use Rattle.nm_engine.specs.views.Shown.{PagedFrames}
 use Rattle.nm_model.specs.definitions.Memory.{stretch_of}
 use Rattle.nm_model.specs.definitions.Touch.{AllAnswered}
 use Rattle.nm_engine.specs.views.Shown.{shown, bytes_in}
 use Rattle.nm_model.specs.definitions.Sound.{PlacesAreApart}
 use Rattle.nm_model.specs.definitions.Touch.{AccessAnswer, Bytes}
 use Rattle.nm_model.specs.definitions.BeforeCopy.{PendingAccess, Known, ToRead, ToWrite, at_page, after_copy, answer_after_copy, all_after_copy}
-use Rattle.nm_engine.specs.definitions.AfterCopy.{frame_at, store_after_copy, answer_from_store, StoreAfterCopy, all_stored_after_copy, CanDo}
-use Rattle.nm_engine.proofs.Together.Copies.{home_set}
-use Rattle.nm_engine.proofs.Early.Refilled.{all_can_then}
+use Rattle.nm_memory.specs.definitions.AfterCopy.{frame_at, store_after_copy, answer_from_store, StoreAfterCopy, all_stored_after_copy, CanDo}
+use Rattle.nm_memory.proofs.Copies.Copied.{home_set}
+use Rattle.nm_memory.proofs.AfterCopy.Refilled.{all_can_then}
+use Rattle.nm_memory.proofs.AfterCopy.Finished.{done_as_many, done_home}
 
 values_twice : {K V W X : Type 0} (F : K → W → X) (G : K → V → W) (m : Map K V) → with_values F (with_values G m) ≡ with_values (λ k v. F k (G k v)) m
 values_twice F G [] = refl
@@ -89,21 +90,3 @@ module _ (processes : Map ℕ Process) (table : Table) (online : List ℕ) (move
         told_first : AccessAnswer → AllAnswered → AllAnswered
         told_first a rest = record { state = rest.state; answers = a ∷ rest.answers }
 
--- ---- as many frames have bytes then, and those that were home are
-
-pub done_as_many : (place : Map Page ℕ) (dues : List PendingAccess) (store : Store) → length (all_stored_after_copy place store dues).store ≡ length store
-done_as_many place [] store = refl
-done_as_many place (Known answer ∷ dues) store = done_as_many place dues store
-done_as_many place (ToRead page at len ∷ dues) store = done_as_many place dues store
-done_as_many place (ToWrite page at new ∷ dues) store =
-    let f = frame_at place page in
-    done_as_many place dues (slice_set store f (Some (overwrite (bytes_of store f) at new))) ∙ length-set store f (Some (overwrite (bytes_of store f) at new))
-
-pub done_home : (place : Map Page ℕ) (dues : List PendingAccess) (store : Store) (q : ℕ) → IsHome store q → IsHome (all_stored_after_copy place store dues).store q
-done_home place [] store q home = home
-done_home place (Known answer ∷ dues) store q home = done_home place dues store q home
-done_home place (ToRead page at len ∷ dues) store q home = done_home place dues store q home
-done_home place (ToWrite page at new ∷ dues) store q home =
-    let f = frame_at place page in
-    let now = overwrite (bytes_of store f) at new in
-    done_home place dues (slice_set store f (Some now)) q (home_set store f q now home)

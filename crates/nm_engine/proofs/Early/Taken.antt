@@ -6,7 +6,7 @@ use Rattle.nm_types.specs.State.{State, free_list}
 use Rattle.nm_types.specs.declared.taken.Taken.{Taken}
 use Rattle.nm_spaces.specs.views.AddressSpaces.{AddressSpacesView}
 use Rattle.nm_model.specs.definitions.BeforeCopy.{without_fronts, with_fronts, frames_taken}
-use Rattle.nm_engine.specs.views.Frames.{FramesView, free_on}
+use Rattle.nm_memory.specs.views.Frames.{FramesView, free_on}
 use Rattle.nm_engine.specs.views.MidRun.{IsKept}
 use Rattle.nm_laws.specs.Moves.{CanMove}
 use Rattle.nm_engine.specs.views.Shown.{shown_by}

@@ -8,7 +8,7 @@ use Rattle.nm_types.specs.State.{Process}
 use Rattle.nm_model.specs.definitions.Frames.{bytes_of}
 use Rattle.nm_model.specs.definitions.Seen.{sight_at, frame_seen}
 use Rattle.nm_model.specs.definitions.Memory.{byte_of, mem_range, stretch_of}
-use Rattle.nm_engine.specs.views.Frames.{PagedFrames}
+use Rattle.nm_engine.specs.views.Shown.{PagedFrames}
 use Rattle.nm_model.specs.views.Table.{Table}
 use Rattle.nm_engine.specs.views.Shown.{shown}
 use Rattle.nm_model.specs.definitions.Sound.{IsSoundMidRun}

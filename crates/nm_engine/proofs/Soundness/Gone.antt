@@ -20,7 +20,8 @@ use Rattle.nm_model.specs.definitions.Areas.{areas_left, pages_gone, place_left,
 use Rattle.nm_model.specs.definitions.Effect.{is_covered, released_from, released, dropped}
 use Rattle.nm_model.specs.definitions.Sound.{times, FramesAreOnce, IsSoundMidRun}
 use Rattle.nm_spaces.specs.views.AddressSpaces.{AddressSpacesView, mapped_of, table_of, without_range}
-use Rattle.nm_engine.specs.views.Frames.{FramesView, PagedFrames, with_freed, pool_of, CanFree}
+use Rattle.nm_memory.specs.views.Frames.{FramesView, with_freed, pool_of, CanFree}
+use Rattle.nm_engine.specs.views.Shown.{PagedFrames}
 use Rattle.nm_engine.specs.views.Shown.{bytes_in, shown, paged_frames, shown_by}
 use Rattle.nm_engine.specs.views.MidRun.{IsKept}
 use Rattle.std.proofs.lemmas.Map.Entries.{sum_by-remove_entry}
@@ -28,7 +29,8 @@ use Rattle.nm_types.proofs.Cases.{some_none, none_is_not}
 use Rattle.nm_laws.proofs.Soundness.Frames.{here, times_push}
 use Rattle.nm_types.proofs.Keys.{some_from_keys, keys_same-without}
 use Rattle.nm_types.proofs.Maps.{with_values-without}
-use Rattle.nm_engine.proofs.Together.Free.{sizes_stay, all_freed}
+use Rattle.nm_memory.proofs.FreeLists.Freed.{sizes_stay}
+use Rattle.nm_engine.proofs.Together.Free.{all_freed}
 use Rattle.nm_laws.proofs.Soundness.Dropped.{dropped_sound}
 
 -- the frames beside pages

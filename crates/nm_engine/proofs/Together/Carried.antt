@@ -12,8 +12,8 @@ use Rattle.nm_model.specs.definitions.Frames.{Pool, list_of, with_list, without_
 use Rattle.nm_model.specs.definitions.Frames.{Store, IsHome, bytes_of}
 use Rattle.nm_types.specs.declared.taken.Taken.{Taken}
 use Rattle.nm_spaces.specs.views.AddressSpaces.{AddressSpacesView, with_moved, table_of}
-use Rattle.nm_engine.specs.views.Copies.{with_copy, with_copies, without_both, CanCopy}
-use Rattle.nm_engine.specs.views.Frames.{FramesView, HasAllFrames, free_on}
+use Rattle.nm_memory.specs.views.Copies.{with_copy, with_copies, without_both, CanCopy}
+use Rattle.nm_memory.specs.views.Frames.{FramesView, HasAllFrames, free_on}
 use Rattle.nm_laws.specs.Laws.{with_move, with_moves}
 use Rattle.nm_engine.specs.views.MidRun.{IsKept}
 use Rattle.nm_laws.specs.Moves.{CanMove}
@@ -23,11 +23,12 @@ use Rattle.nm_engine.specs.views.Shown.{shown_by, paged_frames}
 use Rattle.nm_model.specs.definitions.Sound.{times, FramesAreOnce}
 use Rattle.nm_laws.proofs.OneByOne.Planned.{list_now}
 use Rattle.nm_laws.proofs.Soundness.Frames.{here, times_cons}
-use Rattle.nm_engine.proofs.Together.Copies.{home_set, stays_home}
+use Rattle.nm_memory.proofs.Copies.Copied.{home_set, stays_home}
 use Rattle.nm_laws.proofs.Soundness.Counted.{front_is, counted_below}
 use Rattle.nm_engine.proofs.Together.Joint.{kept_stocked, front_spare, restocked_both}
 use Rattle.nm_engine.proofs.Together.Paged.{restock_page}
 use Rattle.nm_engine.proofs.Together.Paces.{move_shows, move_kept, some_front}
+use Rattle.nm_memory.proofs.FreeLists.Fronts.{fronts_step}
 
 -- the frames of one move, and of several
 abbrev carried : ℕ → FramesView → Taken → FramesView
@@ -35,23 +36,6 @@ carried target k t = record k { frames = with_copy k.frames t; free = slice_set 
 
 abbrev pub all_carried : ℕ → FramesView → List Taken → FramesView
 all_carried target k taken = fold (carried target) k taken
-
-drop_drop : (n : ℕ) (l : List ℕ) → drop n (drop 1 l) ≡ drop (suc n) l
-drop_drop n [] = drop-nil n ∙ sym (drop-nil (suc n))
-drop_drop n (x ∷ l) = refl
-
-fronts_list : (free : List (List ℕ)) (target n : ℕ) (l : List ℕ) → target < length free
-    → slice_set (slice_set free target (drop 1 l)) target (drop n (slice_index_or (slice_set free target (drop 1 l)) target [])) ≡ slice_set free target (drop (suc n) l)
-fronts_list free target n l inside =
-    set-set free target (drop 1 l) (drop n (slice_index_or (slice_set free target (drop 1 l)) target []))
-    ∙ ap (λ (xs : List ℕ). slice_set free target xs) (ap (λ (xs : List ℕ). drop n xs) (get_or-set_same free target (drop 1 l) [] inside) ∙ drop_drop n l)
-
--- the front of a node's list, and then those after it
-pub fronts_step : (p q : Pool) (node n m : ℕ) → q ≡ without_front p node → node < length p.lists → m ≡ suc n → with_list q node (drop n (list_of q node)) ≡ with_list p node (drop m (list_of p node))
-fronts_step p q node n m is inside e =
-    ap (λ (r : Pool). with_list r node (drop n (list_of r node))) is
-    ∙ ap (λ (ls : List (List ℕ)). record { sizes = p.sizes; lists = ls }) (fronts_list p.lists node n (list_of p node) inside)
-    ∙ ap (λ k. with_list p node (drop k (list_of p node))) (sym e)
 
 -- the frames of several moves, part by part
 pub by_parts : (taken : List Taken) (target : ℕ) (k : FramesView) → target < length k.free

@@ -14,12 +14,14 @@ use Rattle.nm_model.specs.definitions.Frames as pool
 use Rattle.nm_model.specs.definitions.Sound.{times, FramesAreOnce, IsSoundMidRun}
 use Rattle.nm_spaces.specs.views.AddressSpaces.{AddressSpacesView}
 use Rattle.nm_engine.specs.views.Shown.{paged_frames, shown_by}
-use Rattle.nm_engine.specs.views.Frames.{FramesView, HasAllFrames, PagedFrames, with_freed, CanFree, pool_of}
+use Rattle.nm_memory.specs.views.Frames.{FramesView, HasAllFrames, with_freed, CanFree, pool_of}
+use Rattle.nm_engine.specs.views.Shown.{PagedFrames}
 use Rattle.nm_engine.proofs.Together.Paged.{HasItsFrames, free_of}
 use Rattle.nm_laws.proofs.Soundness.Frames.{here, times_cons, frame_freed, left_below}
 use Rattle.nm_laws.proofs.Soundness.Once.{counted_place}
 use Rattle.nm_laws.proofs.Soundness.New.{new_frames}
 use Rattle.nm_laws.proofs.Soundness.Counted.{counted_below, counted_front, counted_once, not_in, part_of}
+use Rattle.nm_memory.proofs.FreeLists.Freed.{lists_stay, sizes_stay}
 
 pub place_below : (x : PagedFrames) (page : Page) (f : ℕ) → HasItsFrames x → get page_cmp x.place page ≡ Some f → f < frame_count x.layout
 place_below x page f h e =
@@ -38,36 +40,6 @@ apart_from_front x page node from to h placed front e =
     let two = counted_front x.free node from (front ∙ ap Some (sym e)) in
     let most = counted_once (times from (values_of x.place)) (sum_by (times from) x.free) (times from x.vacated) _ (h.once.once from) in
     omega (arith, one, two, most)
-
--- every frame is home after one got other bytes
-no : false ≡ true → ⊥
-no e = cc
-
-all_home : (n k : ℕ) (bytes : List ℕ) → k < n → IsHome (replicate n (Some bytes)) k
-all_home n k bytes lt =
-    record {
-      in_range = let len : length (replicate n (Some bytes)) ≡ n = length-replicate n (Some bytes) in omega (arith, len, lt);
-      here = subst (λ (o : Option (List ℕ)). IsSome o) (sym (get_or-replicate n k (Some bytes) None lt)) refl;
-    }
-
--- the frames of a new machine, all of them home
-pub new_shelf : (g : Layout) (frames : Store) (free : List (List ℕ)) (vacated : List ℕ) (room n : ℕ) → n ≡ frame_count g → frames ≡ replicate n (Some []) → free ≡ all_frames 0 g.sizes
-    → HasAllFrames (record { layout = g; frames = frames; free = free; vacated = vacated; room = room })
-new_shelf g frames free vacated room n count f l =
-    record {
-      lists = ap length l ∙ (new_frames g).lists;
-      buffers = ap length f ∙ (length-replicate {A = Option (List ℕ)} n (Some []) ∙ count);
-      home = λ k lt. subst (λ fs. IsHome fs k) (sym f) (all_home n k [] (omega (arith, lt, count)));
-    }
-
--- the number of lists is the same after frames were freed
-pub lists_stay : (p : pool.Pool) (frames : List ℕ) → length (with_freed p frames).lists ≡ length p.lists
-lists_stay p [] = refl
-lists_stay p (frame ∷ frames) = lists_stay (pool.appended p frame) frames ∙ length-set p.lists (owner p.sizes frame) (slice_index_or p.lists (owner p.sizes frame) [] ++ frame ∷ [])
-
-pub sizes_stay : (p : pool.Pool) (frames : List ℕ) → (with_freed p frames).sizes ≡ p.sizes
-sizes_stay p [] = refl
-sizes_stay p (frame ∷ frames) = sizes_stay (pool.appended p frame) frames
 
 -- frames and the pages that are in them, each frame in one place
 pub stocked_is : (y : AddressSpacesView) (k : FramesView) (online : List ℕ) (moved failed : ℕ) (left : List ℕ) → k.vacated ≡ left → IsSoundMidRun (shown_by y k online moved failed) left → HasAllFrames k → HasItsFrames (paged_frames y k)
@@ -112,22 +84,6 @@ all_freed g place p (frame ∷ left) e h =
       sizes = after.sizes;
       once = after.once;
     }
-
--- a frame's bytes go out and come back, and another frame's with them
-pub copied_frame : (frames : Store) (from to : ℕ) (bytes : List ℕ) → from ≢ to → slice_index_or frames from None ≡ Some bytes
-    → slice_set (slice_set (slice_set (slice_set frames from None) to None) from (Some bytes)) to (Some bytes) ≡ slice_set frames to (Some bytes)
-copied_frame frames from to bytes apart is =
-    let home : slice_set frames from (Some bytes) ≡ frames = ap (λ o. slice_set frames from o) (sym is) ∙ set-get_or frames from None in
-    ap (λ fs. slice_set fs to (Some bytes))
-    (sym (set_comm (slice_set frames from None) from to (Some bytes) None apart) ∙ (ap (λ fs. slice_set fs to None) (set-set frames from None (Some bytes)) ∙ ap (λ fs. slice_set fs to None) home))
-    ∙ set-set frames to None (Some bytes)
-
-unwrapped : (o : Option (List ℕ)) → IsSome o → o ≡ Some (unwrap_or o [])
-unwrapped None h = cc
-unwrapped (Some x) h = refl
-
-pub home_bytes : (frames : Store) (frame : ℕ) → IsHome frames frame → slice_index_or frames frame None ≡ Some (bytes_of frames frame)
-home_bytes frames frame h = unwrapped (slice_index_or frames frame None) h.here
 
 -- the frames that a run left can be freed
 pub can_free : (y : AddressSpacesView) (k : FramesView) (online : List ℕ) (moved failed : ℕ) → IsSoundMidRun (shown_by y k online moved failed) k.vacated → CanFree (pool_of k) k.vacated

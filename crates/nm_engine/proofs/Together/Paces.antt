@@ -11,7 +11,7 @@ use Rattle.nm_types.specs.declared.request.Class.TheVariants.{Status, Move}
 use Rattle.nm_types.specs.declared.request.Wanted.{Wanted}
 use Rattle.nm_model.specs.definitions.Status.{status_or_move}
 use Rattle.nm_model.specs.definitions.Run.{moved_page, decision, one_request, each_request, frames_left, failures, with_all_free, total_after, with_counts}
-use Rattle.nm_engine.specs.views.Frames.{PagedFrames}
+use Rattle.nm_engine.specs.views.Shown.{PagedFrames}
 use Rattle.nm_model.specs.definitions.Memory.{stretch_of}
 use Rattle.nm_engine.proofs.Together.Paged.{HasItsFrames, free_of, restock_page, free_all}
 use Rattle.nm_model.specs.views.Table.{Table}
@@ -21,12 +21,6 @@ use Rattle.nm_engine.specs.views.MidRun.{IsKept}
 use Rattle.nm_laws.proofs.Soundness.Frames.{left-append}
 use Rattle.nm_laws.proofs.Soundness.Moved.{decided_sound, freed_sound, counted_sound}
 use Rattle.nm_engine.proofs.Together.Shows.{restocked_shows, freed_shows}
-
--- the bytes from one place up to another
-pub stretch_step : (bytes : List ℕ) (k end : ℕ) → k < end → stretch_of bytes k (end - k) ≡ slice_index bytes k ∷ stretch_of bytes (k + 1) (end - (k + 1))
-stretch_step bytes k end lt =
-    let n : end - k ≡ suc (end - (k + 1)) = omega (arith, lt) in
-    ap (λ n. stretch_of bytes k n) n
 
 front_there : (xs : List ℕ) → 0 < length xs → xs ≡ slice_index xs 0 ∷ drop 1 xs
 front_there [] some = absurd (omega (arith, some))

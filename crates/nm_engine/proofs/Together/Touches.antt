@@ -18,7 +18,7 @@ use Rattle.nm_types.specs.declared.process.ProcessInfo.{ProcessInfo}
 use Rattle.nm_model.specs.definitions.Effect.{info_of, seeing}
 use Rattle.nm_model.specs.definitions.Areas.{is_shared}
 use Rattle.nm_model.specs.definitions.Touch.{AccessSite, site, site_of, site_over, shown_at, first_free, allocated, filled, with_sight, with_bytes, touched_entry, touched, touch}
-use Rattle.nm_engine.specs.views.Frames.{PagedFrames}
+use Rattle.nm_engine.specs.views.Shown.{PagedFrames}
 use Rattle.nm_engine.proofs.Together.Paged.{HasItsFrames, free_of, stock_page}
 use Rattle.nm_model.specs.views.Table.{Table}
 use Rattle.nm_engine.specs.views.Shown.{shown}

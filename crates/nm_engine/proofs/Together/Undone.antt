@@ -30,7 +30,7 @@ use Rattle.nm_engine.specs.declared.inner.touch_site.TouchSite.{TouchSite}
 use Rattle.nm_engine.specs.declared.inner.undo.Undo.{Undo}
 use Rattle.nm_model.specs.definitions.Frames.{bytes_of}
 use Rattle.nm_spaces.specs.views.AddressSpaces.{AddressSpacesView, with_before, without_page}
-use Rattle.nm_engine.specs.views.Frames.{FramesView, CanFree, pool_of}
+use Rattle.nm_memory.specs.views.Frames.{FramesView, CanFree, pool_of}
 use Rattle.nm_engine.specs.views.MidRun.{IsKept, IsSiteOf, spot_at}
 use Rattle.nm_engine.specs.views.Shown.{shown_by}
 use Rattle.nm_model.specs.definitions.Seen.{frame_of, frame_seen}

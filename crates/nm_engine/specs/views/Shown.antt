@@ -2,11 +2,25 @@
 use Rattle.std.specs.Prelude.{ℕ, List}
 use Rattle.nm_types.specs.declared.page.Page.{Page}
 use Rattle.nm_types.specs.Map.{Map, with_values}
+use Rattle.nm_types.specs.Layout.{Layout}
 use Rattle.nm_types.specs.State.{Process, State}
 use Rattle.nm_model.specs.views.Table.{Table}
 use Rattle.nm_model.specs.definitions.Frames.{Store, bytes_of}
 use Rattle.nm_spaces.specs.views.AddressSpaces.{AddressSpacesView, table_of}
-use Rattle.nm_engine.specs.views.Frames.{FramesView, PagedFrames}
+use Rattle.nm_memory.specs.views.Frames.{FramesView}
+
+-- frames, the pages in them, and each page's number of pins
+pub record PagedFrames : Type 0 where
+  pub layout : Layout
+  pub place : Map Page ℕ
+  pub pins : Map Page ℕ
+  -- the bytes of each frame
+  pub frames : Store
+  -- each node's free frames, front first
+  pub free : List (List ℕ)
+  -- the frames that a run's pages have left, and how many there is room for
+  pub vacated : List ℕ
+  pub room : ℕ
 
 -- the bytes of each page that has a frame
 abbrev pub bytes_in : Store → Map Page ℕ → Map Page (List ℕ)

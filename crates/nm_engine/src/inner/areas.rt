@@ -4,7 +4,7 @@ ghost use Rattle.nm_model.specs.definitions.AreaRefusal.{overlaps};
 ghost use Rattle.std.specs.List.{list_any};
 ghost use Rattle.nm_engine.specs.definitions.Does.{AsksLast, Makes};
 ghost use Rattle.nm_model.specs.definitions.Effect.{attach, dropped, map_new, unmap};
-ghost use Rattle.nm_engine.specs.views.Frames.{CanFree, pool_of, with_freed};
+ghost use Rattle.nm_memory.specs.views.Frames.{CanFree, pool_of, with_freed};
 ghost use Rattle.nm_runs.specs.Targets.{Checks};
 ghost use Rattle.nm_engine.specs.views.MidRun.{with_state};
 ghost use Rattle.nm_model.specs.definitions.Effect.{policy_refusal, set_policy};
@@ -13,7 +13,7 @@ ghost use Rattle.nm_types.specs.declared.errno.Errno.{Errno};
 ghost use Rattle.nm_types.specs.declared.errno.Errno.TheVariants.{Esrch};
 ghost use Rattle.std.specs.Prelude.{Err, IfOk, Some, [], false, map, true, ◌+◌, ◌/◌, ◌<◌, ◌≡◌};
 
-use crate::frames::Frames;
+use nm_memory::Frames;
 use crate::inner::Inner;
 use nm_areas::range_start;
 use nm_types::{Errno, FrameId, MachineError, Page, Pid, Policy, Vpn};

@@ -14,11 +14,11 @@ ghost use Rattle.nm_engine.specs.views.MidRun.{with_state};
 ghost use Rattle.nm_model.specs.definitions.BeforeCopy.{before_copy, all_before_copy, without_fronts, with_fronts, frames_taken};
 ghost use Rattle.nm_engine.specs.definitions.Undo.{IsStillUndone};
 ghost use Rattle.nm_model.specs.views.Asked.{access_shown};
-ghost use Rattle.nm_engine.specs.views.Accesses.{pending_shown, written_by, HasRoom};
+ghost use Rattle.nm_memory.specs.views.Accesses.{pending_shown, written_by, HasRoom};
 
-use crate::answers::AccessAnswer;
+use nm_memory::AccessAnswer;
 use crate::inner::Inner;
-use crate::inner::pending_access::PendingAccess;
+use nm_memory::PendingAccess;
 use crate::inner::touch::push_zeros;
 use crate::inner::undo::Undo;
 use nm_plan::Taken;

@@ -9,12 +9,12 @@ ghost use Rattle.nm_laws.specs.Moves.{CanMove, IsPlanOf};
 ghost use Rattle.nm_model.specs.definitions.Run.{frames_left, HasOneAll, with_all_free, failures, with_counts};
 ghost use Rattle.nm_model.specs.definitions.Sound.{IsSound};
 ghost use Rattle.nm_model.specs.definitions.BeforeCopy.{with_fronts, frames_taken, all_after_copy, IsPending};
-ghost use Rattle.nm_engine.specs.views.Accesses.{answer_shown, pending_shown, HasRoom};
+ghost use Rattle.nm_memory.specs.views.Accesses.{answer_shown, pending_shown, HasRoom};
 
 use nm_spaces::AddressSpaces;
-use crate::answers::AccessAnswer;
+use nm_memory::AccessAnswer;
 use crate::inner::Inner;
-use crate::inner::pending_access::PendingAccess;
+use nm_memory::PendingAccess;
 use crate::machine::Totals;
 use nm_crew::{Crew, Gate};
 use nm_plan::{Plan, Taken, plan};

@@ -3,7 +3,7 @@ use Rattle.std.proofs.lemmas.List.{map-append, drop_all}
 use Rattle.nm_types.specs.Layout.{node_count}
 use Rattle.nm_runs.specs.Stretches.{stretches_of}
 use Rattle.nm_model.specs.views.Asked.{access_shown}
-use Rattle.nm_engine.specs.views.Accesses.{answer_shown}
+use Rattle.nm_memory.specs.views.Accesses.{answer_shown}
 use Rattle.nm_model.specs.definitions.Run.{run, failures}
 use Rattle.nm_model.specs.definitions.Run.{accesses_of}
 use Rattle.nm_steps.specs.Views.{shown_during}

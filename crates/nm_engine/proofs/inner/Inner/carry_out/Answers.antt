@@ -6,14 +6,14 @@ use Rattle.nm_types.specs.declared.taken.Taken.{Taken}
 use Rattle.nm_model.specs.definitions.Seen.{sight_in}
 use Rattle.nm_spaces.specs.views.AddressSpaces.{AddressSpacesView}
 use Rattle.nm_spaces.specs.definitions.Moves.{CanRemap, all_moved}
-use Rattle.nm_engine.proofs.Together.Copies.{copies_apart}
+use Rattle.nm_memory.proofs.Copies.Copied.{copies_apart}
 use Rattle.nm_spaces.proofs.Tied.Held.{held_is_taken, frames_stay, takes_below}
 use Rattle.nm_spaces.proofs.Tied.Unreached.{names_another}
-use Rattle.nm_engine.specs.views.Accesses.{pending_shown}
-use Rattle.nm_engine.specs.views.Copies.{CanCopy, HasBoth, emptied, with_copies}
+use Rattle.nm_memory.specs.views.Accesses.{pending_shown}
+use Rattle.nm_memory.specs.views.Copies.{CanCopy, HasBoth, emptied, with_copies}
 use Rattle.nm_model.specs.definitions.BeforeCopy.{all_after_copy, with_fronts, frames_taken}
-use Rattle.nm_engine.specs.definitions.AfterCopy.{all_stored_after_copy, CanDo}
-use Rattle.nm_engine.specs.views.Frames.{FramesView}
+use Rattle.nm_memory.specs.definitions.AfterCopy.{all_stored_after_copy, CanDo}
+use Rattle.nm_memory.specs.views.Frames.{FramesView}
 use Rattle.nm_laws.specs.Laws.{with_moves}
 use Rattle.nm_engine.specs.views.MidRun.{MidRun, IsKept}
 use Rattle.nm_engine.specs.views.Shown.{shown_by}

@@ -2,7 +2,7 @@ use Rattle.std.proofs.Common.{length, ap, ◌∙◌, rules}
 use Rattle.nm_model.specs.definitions.Run.{with_all_free, with_counts, failures, total_after}
 use Rattle.nm_engine.specs.views.MidRun.{MidRun}
 use Rattle.nm_spaces.specs.views.AddressSpaces.{table_of}
-use Rattle.nm_engine.specs.views.Frames.{FramesView}
+use Rattle.nm_memory.specs.views.Frames.{FramesView}
 use Rattle.nm_engine.specs.views.Shown.{paged_frames}
 use Rattle.nm_engine.proofs.Together.Paces.{end_shows, end_kept}
 use Rattle.nm_engine.proofs.Together.Free.{can_free}

@@ -10,7 +10,7 @@ use Rattle.nm_model.specs.definitions.Touch.{filled, first_free}
 use Rattle.nm_types.specs.Layout.{frame_count}
 use Rattle.nm_frames.specs.Populated.{IsPopulated}
 use Rattle.nm_spaces.specs.views.AddressSpaces.{AddressSpacesView, table_of, with_new_page}
-use Rattle.nm_engine.specs.views.Frames.{FramesView, free_on}
+use Rattle.nm_memory.specs.views.Frames.{FramesView, free_on}
 use Rattle.nm_engine.specs.views.Shown.{shown, shown_by, paged_frames}
 use Rattle.nm_engine.specs.views.MidRun.{MidRun, IsKept, IsSiteOf, spot_at}
 use Rattle.nm_model.specs.definitions.Seen.{frame_of}

@@ -1,11 +1,11 @@
 use Rattle.std.proofs.Common.{ap, sym, subst, arith}
 use Rattle.nm_types.specs.Layout.{node_count}
-use Rattle.nm_engine.specs.views.Frames.{FramesView}
+use Rattle.nm_memory.specs.views.Frames.{FramesView}
 use Rattle.nm_model.specs.definitions.BeforeCopy.{with_fronts, frames_taken}
 use Rattle.nm_engine.specs.views.MidRun.{MidRun, IsKept}
 use Rattle.nm_engine.specs.views.Shown.{shown_by}
 use Rattle.nm_model.specs.definitions.Sound.{IsSound}
-use Rattle.nm_engine.proofs.Early.Returned.{sound_returns}
+use Rattle.nm_memory.proofs.FreeLists.Returned.{sound_returns}
 use Rattle.nm_engine.proofs.inner.Inner.give_back.Goals as goal
 
 pub give_back-requires-clause-can : goal.give_back-requires-clause-can

@@ -1,7 +1,7 @@
 use Rattle.std.proofs.Common.{◌≡◌, ◌+◌, ◌/◌, List, ℕ, [], refl, ap, sym, subst, ◌∙◌, arith}
 use Rattle.nm_types.specs.declared.page.Page.{Page}
 use Rattle.nm_model.specs.definitions.Effect.{dropped}
-use Rattle.nm_engine.specs.views.Frames.{pool_of, CanFree}
+use Rattle.nm_memory.specs.views.Frames.{pool_of, CanFree}
 use Rattle.nm_engine.specs.views.MidRun.{MidRun}
 use Rattle.nm_engine.proofs.Soundness.Gone.{frames_of, can_go, gone_shows, gone_kept}
 use Rattle.nm_engine.proofs.inner.Inner.let_go.Goals as goal

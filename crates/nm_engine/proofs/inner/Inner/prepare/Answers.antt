@@ -6,7 +6,7 @@ use Rattle.std.proofs.lemmas.Option.{slice_get-get_or}
 use Rattle.std.specs.List.{AllByRecursion, slice_get}
 use Rattle.nm_types.specs.State.{State}
 use Rattle.nm_model.specs.views.Asked.{access_shown}
-use Rattle.nm_engine.specs.views.Accesses.{pending_shown, HasRoom}
+use Rattle.nm_memory.specs.views.Accesses.{pending_shown, HasRoom}
 use Rattle.nm_model.specs.definitions.BeforeCopy.{PendingAccess, AllBeforeCopy, before_copy, all_before_copy}
 use Rattle.nm_engine.specs.views.MidRun.{MidRun, with_state}
 use Rattle.nm_engine.specs.definitions.Undo.{CanUndo, all_undone}

@@ -1,7 +1,7 @@
 use Rattle.std.proofs.Common.{◌≡◌, ℕ, List, ◌/◌, ◌%◌, ◌∙◌, true, sym, ap, subst, length, Some, Ok}
 use Rattle.std.specs.Prelude.{slice_set}
 use Rattle.nm_model.specs.definitions.Frames.{bytes_of, overwrite}
-use Rattle.nm_engine.specs.views.Frames.{FramesView}
+use Rattle.nm_memory.specs.views.Frames.{FramesView}
 use Rattle.nm_model.specs.definitions.Touch.{Answered, write, write_after, with_bytes}
 use Rattle.nm_engine.specs.views.MidRun.{MidRun, IsKept}
 use Rattle.nm_engine.specs.views.Shown.{shown}

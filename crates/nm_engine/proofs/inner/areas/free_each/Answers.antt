@@ -1,6 +1,6 @@
 use Rattle.std.proofs.Common.{◌≡◌, ◌+◌, drop, ap, sym, subst, ◌∙◌}
 use Rattle.nm_model.specs.definitions.Frames.{appended}
-use Rattle.nm_engine.specs.views.Frames.{FramesView, pool_of, CanFree, with_freed}
+use Rattle.nm_memory.specs.views.Frames.{FramesView, pool_of, CanFree, with_freed}
 use Rattle.nm_engine.proofs.Soundness.Gone.{frames_of}
 use Rattle.nm_laws.proofs.Lists.{drop_item}
 use Rattle.nm_engine.proofs.inner.areas.free_each.Goals as goal

@@ -9,7 +9,7 @@ use Rattle.nm_areas.proofs.Counted.{err_always}
 use Rattle.nm_laws.specs.Interleavings.{IsRun}
 use Rattle.nm_model.specs.definitions.Decide.{Planned}
 use Rattle.nm_model.specs.views.Asked.{access_shown}
-use Rattle.nm_engine.specs.views.Accesses.{answer_shown, pending_shown}
+use Rattle.nm_memory.specs.views.Accesses.{answer_shown, pending_shown}
 use Rattle.nm_model.specs.definitions.BeforeCopy.{PendingAccess, all_after_copy, without_fronts, with_fronts, frames_taken, IsPending}
 use Rattle.nm_model.specs.definitions.Touch.{AllAnswered}
 use Rattle.nm_laws.specs.Laws.{with_moves}

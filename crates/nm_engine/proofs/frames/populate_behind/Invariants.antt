@@ -1,5 +1,0 @@
-use Rattle.nm_engine.specs.views.Frames.{KeepsBytes}
-use Rattle.nm_engine.proofs.frames.populate_behind.Given as goal
-
-abbrev pub invariant-loop-step : goal.invariant-loop-step
-invariant-loop-step g l = KeepsBytes l.fn.frames l.frames

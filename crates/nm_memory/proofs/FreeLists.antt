@@ -1,0 +1,3 @@
+pub mod Freed
+pub mod Fronts
+pub mod Returned

@@ -1,0 +1,4 @@
+pub mod AfterCopy
+pub mod Copies
+pub mod FreeLists
+pub mod Shelves

@@ -1,0 +1,30 @@
+use Rattle.std.proofs.Common.{◌≡◌, ◌+◌, ◌-◌, ◌∷◌, ◌++◌, [], refl, ap, sym, ◌∙◌, arith, append_assoc}
+use Rattle.std.proofs.lemmas.List.{append-nil}
+use Rattle.nm_model.specs.definitions.Frames.{bytes_of}
+use Rattle.nm_model.specs.definitions.Memory.{stretch_of}
+use Rattle.nm_laws.proofs.Lists.{stretch_step}
+use Rattle.nm_memory.proofs.frames.copy_bytes.Goals as goal
+
+pub loop-k-preserved : goal.loop-k-preserved
+loop-k-preserved g c =
+    let bytes = bytes_of c.args.frames.now c.args.frame in
+    let end = c.args.at + c.args.len in
+    let k = c.loop-k.k in
+    let rest = stretch_of bytes (k + 1) (end - (k + 1)) in
+    record {
+      copied = ap (λ xs. xs ++ rest) c.push_reserved.ensures.items ∙ append_assoc c.loop-k.bytes.items (c.byte.result ∷ []) rest
+          ∙ ap (λ b. c.loop-k.bytes.items ++ b ∷ rest) c.byte.ensures ∙ ap (λ xs. c.loop-k.bytes.items ++ xs) (sym (stretch_step bytes k end c.loop-k-test.true))
+          ∙ c.loop-k.invariant.copied;
+      end = refl;
+      room = omega (arith, c.loop-k.invariant.room, c.loop-k-test.true, c.push_reserved.ensures.len, c.push_reserved.ensures.capacity);
+    }
+
+pub returns : goal.returns
+returns g c =
+    let copied = c.loop-k.bytes.items in
+    let k = c.loop-k.k in
+    let none : (c.args.at + c.args.len) - k ≡ 0 = omega (arith, c.loop-k-test.false) in
+    sym (append-nil copied) ∙ ap (λ n. copied ++ stretch_of (bytes_of c.args.frames.now c.args.frame) k n) (sym none) ∙ c.loop-k.invariant.copied
+
+pub push_reserved-requires : goal.push_reserved-requires
+push_reserved-requires g c = omega (arith, c.loop-k.invariant.room, c.loop-k-test.true)

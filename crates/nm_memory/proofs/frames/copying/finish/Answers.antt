@@ -1,0 +1,82 @@
+use Rattle.std.proofs.Common.{◌≡◌, ◌++◌, List, [], ◌∷◌, map, length, refl, sym, ap, subst, ◌∙◌, arith, length-append, append_assoc}
+use Rattle.std.specs.List.{AllByRecursion}
+use Rattle.std.proofs.lemmas.List.{map-append, append-nil}
+use Rattle.nm_model.specs.definitions.Frames.{Store}
+use Rattle.nm_model.specs.definitions.Touch.{AccessAnswer}
+use Rattle.nm_memory.specs.definitions.AfterCopy.{all_stored_after_copy, answer_from_store, CanDo}
+use Rattle.nm_memory.specs.views.Accesses.{answer_shown, pending_shown, HasRoom}
+use Rattle.nm_memory.proofs.AfterCopy.Refilled.{all_can_then}
+use Rattle.nm_memory.proofs.frames.copying.finish.Goals as goal
+
+pub loop-due-init : goal.loop-due-init
+loop-due-init g c =
+    let all = c.into_iter-due-iterator.ensures.into_iter_gives.0 in
+    let shown = pending_shown c.args.accesses.now in
+    let place = c.args.held.now.spaces.place in
+    let none = ap length c.requires.unanswered in
+    let many = c.args.dues.ok.0 in
+    let len = ap length all in
+    record {
+      due = subst (λ ds. AllByRecursion (CanDo place c.args.store) (map shown ds)) (sym all) c.requires.due;
+      room = subst (λ ds. AllByRecursion HasRoom ds) (sym all) c.requires.room;
+      store = ap (λ ds. (all_stored_after_copy place c.args.store (map shown ds)).store) all;
+      answers = ap (λ xs. map answer_shown xs ++ (all_stored_after_copy place c.args.store (map shown c.into_iter-due-iterator.result.rest.items)).answers) c.requires.unanswered
+          ∙ ap (λ ds. (all_stored_after_copy place c.args.store (map shown ds)).answers) all;
+      space = omega (arith, none, many, len, c.requires.space);
+    }
+
+pub finish_one-answer-requires-clause-due : goal.finish_one-answer-requires-clause-due
+finish_one-answer-requires-clause-due g c =
+    (subst (λ ds. AllByRecursion (CanDo c.args.held.now.spaces.place c.loop-due.store) (map (pending_shown c.args.accesses.now) ds)) c.in-Some.ensures.steps.0 c.loop-due.invariant.due).0
+
+pub finish_one-answer-requires-clause-room : goal.finish_one-answer-requires-clause-room
+finish_one-answer-requires-clause-room g c = (subst (λ ds. AllByRecursion HasRoom ds) c.in-Some.ensures.steps.0 c.loop-due.invariant.room).0
+
+pub push_reserved-requires : goal.push_reserved-requires
+push_reserved-requires g c =
+    let len = ap length c.in-Some.ensures.steps.0 in
+    let now = c.loop-due.answers.ok.0 in
+    omega (arith, len, now, c.loop-due.invariant.space)
+
+pub loop-due-preserved : goal.loop-due-preserved
+loop-due-preserved g c =
+    let shown = pending_shown c.args.accesses.now in
+    let place = c.args.held.now.spaces.place in
+    let store = c.loop-due.store in
+    let one = c.in-Some.due in
+    let rest = c.next.new.self.rest.items in
+    let step = c.in-Some.ensures.steps.0 in
+    let there = c.finish_one-answer.ensures.store in
+    let can = subst (λ ds. AllByRecursion (CanDo place store) (map shown ds)) step c.loop-due.invariant.due in
+    let len = ap length step in
+    let more = ap length c.push_reserved.ensures.items ∙ length-append c.loop-due.answers.items _ in
+    record {
+      due = subst (λ (s : Store). AllByRecursion (CanDo place s) (map shown rest)) (sym there) (all_can_then place store (shown one) (map shown rest) can.0 can.1);
+      room = (subst (λ ds. AllByRecursion HasRoom ds) step c.loop-due.invariant.room).1;
+      store = ap (λ (s : Store). (all_stored_after_copy place s (map shown rest)).store) there ∙ ap (λ ds. (all_stored_after_copy place store (map shown ds)).store) (sym step) ∙ c.loop-due.invariant.store;
+      answers =
+          ap (λ xs. map answer_shown xs ++ (all_stored_after_copy place c.finish_one-answer.new.store (map shown rest)).answers) c.push_reserved.ensures.items
+          ∙ ap (λ xs. xs ++ (all_stored_after_copy place c.finish_one-answer.new.store (map shown rest)).answers) (map-append answer_shown c.loop-due.answers.items _)
+          ∙ append_assoc (map answer_shown c.loop-due.answers.items) _ _
+          ∙ ap (λ (a : AccessAnswer). map answer_shown c.loop-due.answers.items ++ a ∷ (all_stored_after_copy place c.finish_one-answer.new.store (map shown rest)).answers) c.finish_one-answer.ensures.answer
+          ∙ ap (λ (s : Store). map answer_shown c.loop-due.answers.items ++ answer_from_store place store (shown one) ∷ (all_stored_after_copy place s (map shown rest)).answers) there
+          ∙ ap (λ ds. map answer_shown c.loop-due.answers.items ++ (all_stored_after_copy place store (map shown ds)).answers) (sym step)
+          ∙ c.loop-due.invariant.answers;
+      space = omega (arith, len, more, c.push_reserved.ensures.capacity, c.loop-due.invariant.space);
+    }
+
+no_items : {A : Type 0} (xs : List A) → length xs ≡ 0 → xs ≡ []
+no_items [] none = refl
+no_items (x ∷ xs) none = absurd (omega (arith, none))
+
+pub returns-clause-store : goal.returns-clause-store
+returns-clause-store g c =
+    let ends = no_items c.loop-due.due-iterator.rest.items (sym c.loop-due.due-iterator.rest.ok.0 ∙ c.in-None.ensures.steps.0) in
+    ap (λ ds. (all_stored_after_copy c.args.held.now.spaces.place c.loop-due.store (map (pending_shown c.args.accesses.now) ds)).store) (sym ends) ∙ c.loop-due.invariant.store
+
+pub returns-clause-answers : goal.returns-clause-answers
+returns-clause-answers g c =
+    let ends = no_items c.loop-due.due-iterator.rest.items (sym c.loop-due.due-iterator.rest.ok.0 ∙ c.in-None.ensures.steps.0) in
+    let told = map (answer_shown {A = g.row.A.Denot}) c.loop-due.answers.items in
+    sym (append-nil told)
+    ∙ ap (λ ds. told ++ (all_stored_after_copy c.args.held.now.spaces.place c.loop-due.store (map (pending_shown c.args.accesses.now) ds)).answers) (sym ends) ∙ c.loop-due.invariant.answers

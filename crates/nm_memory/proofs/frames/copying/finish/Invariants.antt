@@ -1,0 +1,17 @@
+use Rattle.std.proofs.Common.{◌≡◌, ◌+◌, ◌≤◌, ◌++◌, map, length}
+use Rattle.std.specs.Prelude.{vec_capacity}
+use Rattle.std.specs.List.{AllByRecursion}
+use Rattle.nm_memory.specs.definitions.AfterCopy.{all_stored_after_copy, CanDo}
+use Rattle.nm_memory.specs.views.Accesses.{answer_shown, pending_shown, HasRoom}
+use Rattle.nm_memory.proofs.frames.copying.finish.Given as goal
+
+abbrev pub invariant-loop-due : goal.invariant-loop-due
+invariant-loop-due g l =
+    let rest = map (pending_shown l.accesses) l.due-iterator.rest.items in
+    let all = all_stored_after_copy l.held.spaces.place l.fn.store (map (pending_shown l.accesses) l.fn.dues.items) in record {
+      due : AllByRecursion (CanDo l.held.spaces.place l.store) rest;
+      room : AllByRecursion HasRoom l.due-iterator.rest.items;
+      store : (all_stored_after_copy l.held.spaces.place l.store rest).store ≡ all.store;
+      answers : map answer_shown l.answers.items ++ (all_stored_after_copy l.held.spaces.place l.store rest).answers ≡ all.answers;
+      space : length l.answers.items + length l.due-iterator.rest.items ≤ vec_capacity l.answers;
+    }

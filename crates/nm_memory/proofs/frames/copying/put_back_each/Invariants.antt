@@ -1,0 +1,13 @@
+use Rattle.std.proofs.Common.{◌≡◌}
+use Rattle.std.specs.Prelude.{vec_len}
+use Rattle.nm_memory.specs.views.Copies.{CanRefill, refilled}
+use Rattle.nm_memory.proofs.frames.copying.put_back_each.Given as goal
+
+abbrev pub invariant-loop-job : goal.invariant-loop-job
+invariant-loop-job g l = record {
+  can : CanRefill l.frames l.jobs.items;
+  frames : refilled l.frames l.jobs.items ≡ refilled l.fn.frames l.fn.jobs.items;
+}
+
+abbrev pub decreases-loop-job : goal.decreases-loop-job
+decreases-loop-job g l = vec_len l.jobs

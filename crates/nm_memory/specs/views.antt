@@ -1,0 +1,4 @@
+-- What contracts see the values of the code as.
+pub mod Copies
+pub mod Frames
+pub mod Accesses

@@ -1,0 +1,572 @@
+//! The machine's frames: their bytes, and the free ones.
+
+ghost use Rattle.std.specs.Prelude.{◌≡◌, ℕ, false, ◌+◌, ◌<◌, ◌≤◌, [], ◌∷◌, ◌++◌, map, length, vec_capacity, vec_len, Some, IfOk, OnOk, OnErr, replicate, take, drop, slice_get, slice_set};
+ghost use Rattle.nm_types.specs.Layout.{node_count, frame_count, node_of};
+ghost use Rattle.nm_types.specs.Nodes.{is_in};
+ghost use Rattle.nm_model.specs.definitions.Touch.{has_free};
+ghost use Rattle.nm_model.specs.definitions.Frames.{list_of, with_list, appended, prepended};
+ghost use Rattle.std.specs.List.{AllByRecursion};
+ghost use Rattle.nm_spaces.specs.views.Held.{AreHeld};
+ghost use Rattle.nm_memory.specs.views.Copies.{CanCopy, HasBoth, with_copies, emptied};
+ghost use Rattle.nm_model.specs.definitions.BeforeCopy.{frames_taken};
+ghost use Rattle.nm_memory.specs.definitions.AfterCopy.{all_stored_after_copy, CanDo};
+ghost use Rattle.nm_memory.specs.views.Accesses.{answer_shown, pending_shown, HasRoom};
+ghost use Rattle.nm_model.specs.definitions.Run.{frames_left};
+ghost use Rattle.nm_model.specs.definitions.Frames.{IsHome, bytes_of, overwrite};
+ghost use Rattle.nm_model.specs.definitions.Sound.{is_audited, numbered};
+ghost use Rattle.nm_model.specs.definitions.Frames.{all_frames};
+ghost use Rattle.nm_memory.specs.views.Frames.{HasAllFrames, KeepsBytes, free_on, pool_of, all_freed, CanFree, CanReturn, with_freed};
+ghost use Rattle.nm_frames.specs.Populated.{IsPopulated};
+ghost use Rattle.nm_model.specs.definitions.Memory.{stretch_of};
+
+mod copying;
+
+use nm_spaces::HeldSpaces;
+use crate::answers::AccessAnswer;
+use crate::audit;
+use crate::pending_access::PendingAccess;
+use copying::copy_pages;
+use nm_crew::{Crew, Gate};
+use nm_frames::{CopyJob, FrameStore};
+use nm_nodes::NodePool;
+use nm_types::Taken;
+use nm_types::{Access, FrameId, Geometry, NodeId, NodeMask};
+use std::alloc::{AllocError, Allocator};
+use std::marker::Model;
+use std::mem;
+use std::sync::Wait;
+use std::thread::Threads;
+
+/// How many frames get their bytes in memory at once. So many are 64 KiB.
+const POPULATED_TOGETHER: u16 = 16;
+
+/// The frames of all nodes with their bytes, each node's free frames, and the frames that a run's pages have left and
+/// that become free when it ends.
+#[derive(Drop)]
+pub struct Frames<A: Allocator + Copy> {
+    geometry: Geometry<A>,
+    frames: FrameStore<A>,
+    nodes: NodePool<A>,
+    vacated: Vec<FrameId, A>,
+    jobs: Vec<CopyJob<A>, A>,
+}
+
+impl<A: Allocator + Copy> Model for Frames<A> {
+    ghost use Rattle.std.specs.Prelude.{◌≡◌, [], min, vec_capacity};
+    ghost use Rattle.std.specs.List.{AllByRecursion};
+    ghost use Rattle.nm_frames.specs.Populated.{IsPopulated};
+    ghost use Rattle.nm_memory.specs.views.Frames.{FramesView, HasAllFrames};
+
+    ghost Value = { FramesView };
+
+    ghost view = { λ s. record {
+      layout = s.geometry;
+      frames = s.frames;
+      free = s.nodes.lists;
+      vacated = s.vacated.items;
+      room = min (vec_capacity s.vacated) (vec_capacity s.jobs);
+    } };
+
+    ghost invariant = { λ s. (s.nodes.sizes ≡ s.geometry.sizes) × HasAllFrames (record {
+      layout = s.geometry;
+      frames = s.frames;
+      free = s.nodes.lists;
+      vacated = s.vacated.items;
+      room = min (vec_capacity s.vacated) (vec_capacity s.jobs);
+    }) × (s.jobs.items ≡ []) × AllByRecursion (IsPopulated s.frames) s.vacated.items };
+}
+
+impl<A: Allocator + Copy> Frames<A> {
+    /// Makes the frames of these nodes, all free.
+    pub fn new(alloc: A, geometry: Geometry<A>) -> Result<Self, AllocError>
+        // On success
+        ensures layout { IfOk result (λ s. s.layout ≡ geometry) }
+        ensures free { IfOk result (λ s. s.free ≡ all_frames 0 geometry.sizes) }
+        ensures vacated { IfOk result (λ s. s.vacated ≡ []) }
+        ensures shelf { IfOk result (λ s. HasAllFrames s) }
+    {
+        let frames = FrameStore::new(alloc, geometry.frame_count())?;
+        let nodes = NodePool::new(alloc, &geometry)?;
+        Ok(Frames {
+            geometry,
+            frames,
+            nodes,
+            vacated: Vec::new(alloc),
+            jobs: Vec::new(alloc),
+        })
+    }
+
+    /// The nodes.
+    pub fn geometry(&self) -> &Geometry<A>
+        ensures { result.now ≡ self.now.layout }
+    {
+        &self.geometry
+    }
+
+    /// How many nodes there are: 1 to 64.
+    pub fn node_count(&self) -> usize
+        ensures count { result ≡ node_count self.now.layout }
+        ensures few { result ≤ 64 }
+        ensures others { (node : ℕ) → result ≤ node → has_free self.now.free node ≡ false }
+    {
+        self.geometry.node_count()
+    }
+
+    /// The node that owns a frame.
+    pub fn node_of(&self, frame: FrameId) -> NodeId
+        requires { frame < frame_count self.now.layout }
+        ensures node { result ≡ node_of self.now.layout frame }
+        ensures below { result < node_count self.now.layout }
+    {
+        self.geometry.node_of(frame)
+    }
+
+    /// How many free frames a node has. 0 if there is no such node.
+    pub fn free_count(&self, node: NodeId) -> usize
+        ensures { result ≡ length (free_on self.now node) }
+    {
+        if node.index() < self.node_count() {
+            self.nodes.free_count(node)
+        } else {
+            0
+        }
+    }
+
+    /// Whether a node has a free frame.
+    pub fn has_free(&self, node: NodeId) -> bool
+        ensures { result ≡ has_free self.now.free node }
+    {
+        self.free_count(node) > 0
+    }
+
+    /// The nodes that have a free frame.
+    pub fn free_nodes(&self) -> NodeMask
+        ensures { (node : ℕ) → is_in result node ≡ has_free self.now.free node }
+    {
+        let mut nodes = NodeMask::new();
+        for number in 0..self.node_count() {
+            let node = NodeId::new(number as u32);
+            if self.has_free(node) {
+                nodes.insert(node);
+            }
+        }
+        nodes
+    }
+
+    /// The free frames of a node, front first.
+    pub fn free_list(&self, alloc: A, node: NodeId) -> Result<Vec<FrameId, A>, AllocError>
+        requires { node < node_count self.now.layout }
+        ensures frames { IfOk result (λ frames. frames.items ≡ free_on self.now node) }
+        ensures asked { OnErr result (0 < length (free_on self.now node)) }
+    {
+        front_of(alloc, &self.nodes, node, self.nodes.free_count(node))
+    }
+
+    /// The first `count` free frames of a node, or all if there are fewer.
+    pub fn free_front(
+        &self,
+        alloc: A,
+        node: NodeId,
+        count: usize,
+    ) -> Result<Vec<FrameId, A>, AllocError>
+        requires { node < node_count self.now.layout }
+        ensures front { IfOk result (λ frames. frames.items ≡ take count (free_on self.now node)) }
+        ensures asked { OnErr result (0 < count) }
+    {
+        let count = count.min(self.nodes.free_count(node));
+        front_of(alloc, &self.nodes, node, count)
+    }
+
+    /// The front of a node's free list. None if the list is empty.
+    pub fn front(&self, node: NodeId) -> Option<FrameId>
+        requires { node < node_count self.now.layout }
+        ensures front { result ≡ slice_get (free_on self.now node) 0 }
+        ensures shelf { HasAllFrames self.now }
+    {
+        self.nodes.nth(node, 0)
+    }
+
+    /// Takes the front of a node's free list. None if the list is empty.
+    pub fn take_front(&mut self, node: NodeId) -> Option<FrameId>
+        requires { node < node_count self.old.layout }
+        ensures front { result ≡ slice_get (free_on self.old node) 0 }
+        ensures rest { self.new
+            ≡ record (self.old) {
+              free = slice_set self.old.free node
+                  (drop 1 (free_on self.old node));
+            } }
+        ensures shelf { HasAllFrames self.old }
+    {
+        self.nodes.take_front(node)
+    }
+
+    /// Appends `len` bytes of a frame, from index `at` on, to a list that has room for them.
+    pub fn read(&self, frame: FrameId, at: usize, len: usize, bytes: &mut Vec<u8, A>)
+        requires frame { frame < frame_count self.now.layout }
+        requires inside { at + len ≤ 4096 }
+        requires room { vec_len bytes.old + len ≤ vec_capacity bytes.old }
+        ensures { bytes.new.items
+            ≡ bytes.old.items ++ stretch_of (bytes_of self.now.frames frame) at len }
+    {
+        copy_bytes(&self.frames, frame, at, len, bytes);
+    }
+
+    /// Gives a frame its bytes in memory, unless it has them. An error means that the host is out of memory.
+    pub fn populate(&mut self, alloc: A, frame: FrameId) -> Result<(), AllocError>
+        requires { frame < frame_count self.old.layout }
+        ensures kept { KeepsBytes self.old.frames self.new.frames }
+        ensures same { self.new ≡ record (self.old) { frames = self.new.frames } }
+        ensures populated { OnOk result (IsPopulated self.new.frames frame) }
+        ensures shelf { HasAllFrames self.new }
+    {
+        populate(&mut self.frames, alloc, frame)
+    }
+
+    /// Gives the frames that pages of moves take their bytes in memory, as far as they lack them. An error means that the
+    /// host is out of memory.
+    pub fn populate_each(&mut self, alloc: A, moves: &[Taken]) -> Result<(), AllocError>
+        requires { AllByRecursion (λ frame. frame < frame_count self.old.layout) (frames_taken moves.now) }
+        ensures kept { KeepsBytes self.old.frames self.new.frames }
+        ensures same { self.new ≡ record (self.old) { frames = self.new.frames } }
+        ensures populated { OnOk result
+            (AllByRecursion (IsPopulated self.new.frames) (frames_taken moves.now)) }
+        ensures asked { OnErr result (0 < length moves.now) }
+        ensures shelf { HasAllFrames self.new }
+    {
+        populate_each(&mut self.frames, alloc, moves)
+    }
+
+    /// Overwrites the bytes of a frame from index `at` on.
+    pub fn write(&mut self, frame: FrameId, at: usize, bytes: &[u8])
+        requires frame { frame < frame_count self.old.layout }
+        requires populated { IsPopulated self.old.frames frame }
+        requires inside { at + length bytes.now ≤ 4096 }
+        ensures written { self.new
+            ≡ record (self.old) {
+              frames = slice_set self.old.frames frame
+                  (Some (overwrite (bytes_of self.old.frames frame) at bytes.now));
+            } }
+        ensures shelf { HasAllFrames self.old }
+    {
+        self.frames.write(frame, at, bytes);
+    }
+
+    /// Sets all bytes of a frame to zero.
+    pub fn zero(&mut self, frame: FrameId)
+        requires frame { frame < frame_count self.old.layout }
+        requires populated { IsPopulated self.old.frames frame }
+        ensures { self.new
+            ≡ record (self.old) {
+              frames = slice_set self.old.frames frame
+                  (Some (replicate 4096 0));
+            } }
+    {
+        self.frames.zero(frame);
+    }
+
+    /// Reserves room for `count` moves of a run.
+    pub fn reserve(&mut self, count: usize) -> Result<(), AllocError>
+        ensures room { OnOk result (length self.new.vacated + count ≤ self.new.room) }
+        ensures same { self.new ≡ record (self.old) { room = self.new.room } }
+        ensures asked { OnErr result (0 < length self.old.vacated + count) }
+    {
+        self.vacated.reserve(count)?;
+        self.jobs.reserve(self.vacated.len() + count)
+    }
+
+    /// How many frames the pages of this run have left.
+    pub fn vacated_count(&self) -> usize
+        ensures { result ≡ length self.now.vacated }
+    {
+        self.vacated.len()
+    }
+
+    /// Takes the frames of these moves, which are at the front of a node's list: they belong to the run until its pages
+    /// are in them.
+    pub fn take_for(&mut self, node: NodeId, moves: &[Taken])
+        requires node { node < node_count self.old.layout }
+        requires room { length self.old.vacated + length moves.now ≤ self.old.room }
+        requires populated { AllByRecursion (IsPopulated self.old.frames) (frames_taken moves.now) }
+        ensures taken { self.new
+            ≡ record (self.old) {
+              free = slice_set self.old.free node
+                  (drop (length moves.now) (free_on self.old node));
+              vacated = self.old.vacated ++ frames_taken moves.now;
+            } }
+        ensures shelf { HasAllFrames self.old }
+    {
+        take_fronts(&mut self.nodes, node, moves.len());
+        push_tos(&mut self.vacated, moves);
+    }
+
+    /// Puts the frames taken for these moves back at the front of the list of the node that they came from.
+    pub fn give_back(&mut self, node: NodeId, moves: &[Taken])
+        requires node { node < node_count self.old.layout }
+        requires can { CanReturn (pool_of self.old) node (frames_taken moves.now) }
+        ensures given { self.new
+            ≡ record (self.old) {
+              free = slice_set self.old.free node
+                  (frames_taken moves.now ++ free_on self.old node);
+              vacated = [];
+            } }
+        ensures shelf { HasAllFrames self.old }
+    {
+        self.vacated.clear();
+        return_tos(&mut self.nodes, node, moves);
+    }
+
+    /// Lets the pages of these moves leave their frames, which become free when the run ends, for those taken for them.
+    pub fn vacate_each(&mut self, moves: &[Taken])
+        requires room { length moves.now ≤ self.old.room }
+        requires populated { AllByRecursion (IsPopulated self.old.frames) (frames_left moves.now) }
+        ensures vacated { self.new ≡ record (self.old) { vacated = frames_left moves.now } }
+        ensures populated { AllByRecursion (IsPopulated self.old.frames) self.old.vacated }
+        ensures shelf { HasAllFrames self.old }
+    {
+        self.vacated.clear();
+        push_left(&mut self.vacated, moves);
+    }
+
+    /// Frees the frames that the pages of this run have left, in order, each at the end of its own node's list. This
+    /// waits for the end of the run, since pages are copied from these frames until then and no access in flight may
+    /// take one. Each list has room for all frames of its node, so this does not allocate.
+    pub fn free_vacated(&mut self)
+        requires { CanFree (pool_of self.old) self.old.vacated }
+        ensures { self.new ≡ all_freed self.old }
+    {
+        free_frames(&mut self.nodes, self.vacated.as_slice());
+        self.vacated.clear();
+    }
+
+    /// Frees a frame, at the end of its own node's list.
+    pub fn free(&mut self, frame: FrameId)
+        requires { CanFree (pool_of self.old) (frame ∷ []) }
+        ensures { self.new ≡ record (self.old) { free = (appended (pool_of self.old) frame).lists } }
+    {
+        self.nodes.append(frame);
+    }
+
+    /// Frees a frame, at the front of its own node's list. Does not allocate.
+    pub fn free_first(&mut self, frame: FrameId)
+        requires { CanFree (pool_of self.old) (frame ∷ []) }
+        ensures { self.new ≡ record (self.old) { free = (prepended (pool_of self.old) frame).lists } }
+    {
+        self.nodes.prepend(frame);
+    }
+
+    /// Whether each frame is in exactly one place: its own node's list, or the places of pages.
+    pub fn audit(&self, alloc: A, places: &[FrameId]) -> Result<bool, AllocError>
+        ensures { IfOk result
+            (λ b. b ≡ is_audited self.now.layout (numbered 0 self.now.free) places.now) }
+    {
+        let free = audit::free_frames(alloc, &self.nodes, self.node_count())?;
+        audit::is_each_once(alloc, &self.geometry, free.as_slice(), places)
+    }
+}
+
+impl<A: Allocator + Copy + Send + Sync> Frames<A> {
+    /// Has a crew copy the pages of these moves to their new frames, and meanwhile does what is left to do for accesses
+    /// to other pages. The answers go into a list that has room for them.
+    pub fn copy_pages<R: Threads + Wait + Sync, G: Gate + Sync>(
+        &mut self,
+        crew: &Crew<R, G>,
+        alloc: A,
+        moves: &[Taken],
+        held: &HeldSpaces<A>,
+        accesses: &[Access<A>],
+        dues: Vec<PendingAccess<A>, A>,
+        answers: Vec<AccessAnswer<A>, A>,
+    ) -> Vec<AccessAnswer<A>, A>
+        // The moves
+        requires can { CanCopy self.old.frames moves.now }
+        requires populated { AllByRecursion (HasBoth self.old.frames) moves.now }
+        requires few { length moves.now ≤ self.old.room }
+        requires held { AreHeld held.now.tables moves.now }
+
+        // What is left to do
+        requires due { AllByRecursion (CanDo held.now.spaces.place (emptied self.old.frames moves.now))
+            (map (pending_shown accesses.now) dues.items) }
+        requires room { AllByRecursion HasRoom dues.items }
+
+        // The list for the answers
+        requires unanswered { answers.items ≡ [] }
+        requires space { vec_len dues ≤ vec_capacity answers }
+
+        // Afterwards
+        ensures frames { self.new
+            ≡ record (self.old) {
+              frames = (all_stored_after_copy held.now.spaces.place
+                  (with_copies self.old.frames moves.now)
+                  (map (pending_shown accesses.now) dues.items)).store;
+              room = self.new.room;
+            } }
+        ensures answers { map answer_shown result.items
+            ≡ (all_stored_after_copy held.now.spaces.place (with_copies self.old.frames moves.now)
+            (map (pending_shown accesses.now) dues.items)).answers }
+    {
+        let jobs = mem::replace(&mut self.jobs, Vec::new(alloc));
+        let (jobs, answers) = copy_pages(
+            crew,
+            alloc,
+            &mut self.frames,
+            moves,
+            jobs,
+            held,
+            accesses,
+            dues,
+            answers,
+        );
+        self.jobs = jobs;
+        answers
+    }
+}
+
+/// Gives a frame its bytes in memory, unless it has them, and then those behind it, as far as the host has memory: frames
+/// that are used together so have their bytes together. An error means that the host is out of memory.
+fn populate<A: Allocator + Copy>(
+    frames: &mut FrameStore<A>,
+    alloc: A,
+    frame: FrameId,
+) -> Result<(), AllocError>
+    requires frame { frame < length frames.old }
+    requires home { (f : ℕ) → f < length frames.old → IsHome frames.old f }
+    ensures kept { KeepsBytes frames.old frames.new }
+    ensures populated { OnOk result (IsPopulated frames.new frame) }
+{
+    if !frames.is_populated(frame) {
+        frames.populate(alloc, frame)?;
+        populate_behind(frames, alloc, frame);
+    }
+    Ok(())
+}
+
+/// Gives the frames behind a frame their bytes in memory, as many as are populated together, unless the host is out of
+/// memory.
+fn populate_behind<A: Allocator + Copy>(frames: &mut FrameStore<A>, alloc: A, frame: FrameId)
+    requires { (f : ℕ) → f < length frames.old → IsHome frames.old f }
+    ensures { KeepsBytes frames.old frames.new }
+{
+    for step in 1..POPULATED_TOGETHER {
+        let next = FrameId::new(frame.number().saturating_add(step));
+        if next.index() >= frames.frame_count() {
+            return;
+        }
+        let Ok(()) = frames.populate(alloc, next) else {
+            return;
+        };
+    }
+}
+
+/// Gives the frames that pages of moves take their bytes in memory, as far as they lack them. An error means that the host
+/// is out of memory.
+fn populate_each<A: Allocator + Copy>(
+    frames: &mut FrameStore<A>,
+    alloc: A,
+    moves: &[Taken],
+) -> Result<(), AllocError>
+    requires frames { AllByRecursion (λ frame. frame < length frames.old) (frames_taken moves.now) }
+    requires home { (f : ℕ) → f < length frames.old → IsHome frames.old f }
+    ensures kept { KeepsBytes frames.old frames.new }
+    ensures populated { OnOk result (AllByRecursion (IsPopulated frames.new) (frames_taken moves.now)) }
+    ensures asked { OnErr result (0 < length moves.now) }
+{
+    for taken in moves {
+        populate(frames, alloc, taken.to)?;
+    }
+    Ok(())
+}
+
+/// Takes `count` frames from the front of a node's list.
+fn take_fronts<A: Allocator + Copy>(nodes: &mut NodePool<A>, node: NodeId, count: usize)
+    requires { node < length nodes.old.lists }
+    ensures { nodes.new ≡ with_list nodes.old node (drop count (list_of nodes.old node)) }
+{
+    for _ in 0..count {
+        nodes.take_front(node);
+    }
+}
+
+/// Puts the frames taken for these moves back at the front of the node's list.
+fn return_tos<A: Allocator + Copy>(nodes: &mut NodePool<A>, node: NodeId, moves: &[Taken])
+    requires node { node < length nodes.old.lists }
+    requires can { CanReturn nodes.old node (frames_taken moves.now) }
+    ensures { nodes.new ≡ with_list nodes.old node (frames_taken moves.now ++ list_of nodes.old node) }
+{
+    let mut left = moves.len();
+    while left > 0 {
+        left -= 1;
+        nodes.prepend(moves[left].to);
+    }
+}
+
+/// Appends the frames that the pages of these moves take to a list that has room for them.
+fn push_tos<A: Allocator + Copy>(taken: &mut Vec<FrameId, A>, moves: &[Taken])
+    requires { vec_len taken.old + length moves.now ≤ vec_capacity taken.old }
+    ensures items { taken.new.items ≡ taken.old.items ++ frames_taken moves.now }
+    ensures room { vec_capacity taken.new ≡ vec_capacity taken.old }
+{
+    for t in moves {
+        taken.push_reserved(t.to);
+    }
+}
+
+/// Appends the frames that the pages of these moves leave to a list that has room for them.
+fn push_left<A: Allocator + Copy>(vacated: &mut Vec<FrameId, A>, moves: &[Taken])
+    requires { vec_len vacated.old + length moves.now ≤ vec_capacity vacated.old }
+    ensures items { vacated.new.items ≡ vacated.old.items ++ frames_left moves.now }
+    ensures room { vec_capacity vacated.new ≡ vec_capacity vacated.old }
+{
+    for taken in moves {
+        vacated.push_reserved(taken.from);
+    }
+}
+
+/// Appends frames to their own nodes' lists, one after another.
+fn free_frames<A: Allocator + Copy>(nodes: &mut NodePool<A>, frames: &[FrameId])
+    requires { CanFree nodes.old frames.now }
+    ensures { nodes.new ≡ with_freed nodes.old frames.now }
+{
+    for frame in frames {
+        nodes.append(*frame);
+    }
+}
+
+/// The first `count` free frames of a node, which has at least as many.
+fn front_of<A: Allocator + Copy>(
+    alloc: A,
+    nodes: &NodePool<A>,
+    node: NodeId,
+    count: usize,
+) -> Result<Vec<FrameId, A>, AllocError>
+    requires node { node < length nodes.now.lists }
+    requires count { count ≤ length (list_of nodes.now node) }
+    ensures frames { IfOk result (λ frames. frames.items ≡ take count (list_of nodes.now node)) }
+    ensures asked { OnErr result (0 < count) }
+{
+    let mut frames = Vec::with_capacity(alloc, count)?;
+    for k in 0..count {
+        let Some(frame) = nodes.nth(node, k) else {
+            unreachable!()
+        };
+        frames.push_reserved(frame);
+    }
+    Ok(frames)
+}
+
+/// Appends `len` bytes of a frame, from index `at` on, to a list that has room for them.
+fn copy_bytes<A: Allocator + Copy>(
+    frames: &FrameStore<A>,
+    frame: FrameId,
+    at: usize,
+    len: usize,
+    bytes: &mut Vec<u8, A>,
+)
+    requires frame { IsHome frames.now frame }
+    requires inside { at + len ≤ 4096 }
+    requires room { vec_len bytes.old + len ≤ vec_capacity bytes.old }
+    ensures { bytes.new.items ≡ bytes.old.items ++ stretch_of (bytes_of frames.now frame) at len }
+{
+    for k in at..at + len {
+        bytes.push_reserved(frames.byte(frame, k));
+    }
+}

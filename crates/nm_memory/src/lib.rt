@@ -1,0 +1,12 @@
+//! The memory of a machine: the frames of all nodes with their bytes, each node's free frames, and the copying of pages
+//! from frame to frame while accesses to others are made.
+#![tactic(auto)]
+
+mod answers;
+mod audit;
+mod frames;
+mod pending_access;
+
+pub use answers::AccessAnswer;
+pub use frames::Frames;
+pub use pending_access::PendingAccess;
