@@ -17,9 +17,9 @@ mod touch;
 mod touch_site;
 mod undo;
 
-use nm_spaces::AddressSpaces;
-use nm_memory::Frames;
 use crate::machine::Totals;
+use nm_memory::Frames;
+use nm_spaces::AddressSpaces;
 use nm_types::{Geometry, NodeId, NodeMask, Pid, Vpn};
 pub use run::failures;
 use std::alloc::{AllocError, Allocator};

@@ -1,24 +1,13 @@
 -- What a machine's frames keep where one part of them changes.
-use Rattle.std.proofs.Common.{◌≡◌, ℕ, ◌<◌, List, [], ◌∷◌, length, sym, ap, subst, ◌∙◌, arith, length-set, ◌≢◌, true, false, cond, ◌++◌, refl, eq-eqb, IsSome}
-use Rattle.std.specs.Prelude.{Some, slice_set, Option, None, sum, replicate, slice_get, slice_index_or}
-use Rattle.std.specs.List.{AllByRecursion, sum_by}
-use Rattle.nm_types.specs.Layout.{node_count, frame_count, Layout, owner}
-use Rattle.nm_model.specs.definitions.Frames.{Store, IsHome, Pool, bytes_of, all_frames}
-use Rattle.nm_memory.specs.views.Frames.{FramesView, HasAllFrames, KeepsBytes, CanFree, pool_of, with_freed}
+use Rattle.std.proofs.Common.{◌≡◌, ℕ, ◌<◌, List, [], ◌∷◌, length, sym, ap, subst, ◌∙◌, arith, length-set, true, false, refl, IsSome}
+use Rattle.std.specs.Prelude.{Some, slice_set, Option, None, replicate}
+use Rattle.std.specs.List.{AllByRecursion}
+use Rattle.nm_types.specs.Layout.{node_count, frame_count, Layout}
+use Rattle.nm_model.specs.definitions.Frames.{Store, IsHome, Pool, all_frames}
+use Rattle.nm_memory.specs.views.Frames.{FramesView, HasAllFrames, KeepsBytes, CanFree, pool_of}
 use Rattle.nm_memory.proofs.Copies.Copied.{home_set}
-use Rattle.std.specs.Option.{unwrap_or}
-use Rattle.std.specs.Map.{values_of}
-use Rattle.std.proofs.lemmas.List.{get_or-replicate, length-replicate, set_comm, set-set, set-get_or}
-use Rattle.nm_types.specs.declared.page.Page.{Page}
-use Rattle.nm_types.specs.Map.{Map, get, page_cmp}
-use Rattle.nm_types.specs.Nodes.{is_in}
-use Rattle.nm_model.specs.definitions.Frames as pool
-use Rattle.nm_model.specs.definitions.Sound.{times, FramesAreOnce, IsSoundMidRun}
-use Rattle.nm_spaces.specs.views.AddressSpaces.{AddressSpacesView}
-use Rattle.nm_laws.proofs.Soundness.Frames.{here, times_cons, frame_freed, left_below}
-use Rattle.nm_laws.proofs.Soundness.Once.{counted_place}
+use Rattle.std.proofs.lemmas.List.{get_or-replicate, length-replicate}
 use Rattle.nm_laws.proofs.Soundness.New.{new_frames}
-use Rattle.nm_laws.proofs.Soundness.Counted.{counted_below, counted_front, counted_once, not_in, part_of}
 
 -- what holds of the view `v` holds of the fields `k` behind it
 pub seen_home : (k v : FramesView) (f : ℕ) → k ≡ v → HasAllFrames k → f < frame_count v.layout → IsHome k.frames f

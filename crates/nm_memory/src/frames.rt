@@ -21,7 +21,6 @@ ghost use Rattle.nm_model.specs.definitions.Memory.{stretch_of};
 
 mod copying;
 
-use nm_spaces::HeldSpaces;
 use crate::answers::AccessAnswer;
 use crate::audit;
 use crate::pending_access::PendingAccess;
@@ -29,8 +28,8 @@ use copying::copy_pages;
 use nm_crew::{Crew, Gate};
 use nm_frames::{CopyJob, FrameStore};
 use nm_nodes::NodePool;
-use nm_types::Taken;
-use nm_types::{Access, FrameId, Geometry, NodeId, NodeMask};
+use nm_spaces::HeldSpaces;
+use nm_types::{Access, FrameId, Geometry, NodeId, NodeMask, Taken};
 use std::alloc::{AllocError, Allocator};
 use std::marker::Model;
 use std::mem;

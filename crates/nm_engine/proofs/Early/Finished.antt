@@ -1,5 +1,5 @@
 -- What is left to do for accesses, done on the bytes of frames while pages are copied.
-use Rattle.std.proofs.Common.{◌≡◌, ℕ, ◌<◌, List, [], ◌∷◌, true, false, length, refl, sym, ap, ◌∙◌, length-set}
+use Rattle.std.proofs.Common.{◌≡◌, ℕ, ◌<◌, List, [], ◌∷◌, true, false, length, refl, sym, ap, ◌∙◌}
 use Rattle.std.specs.Prelude.{Some, None, slice_set, if◌then◌else◌}
 use Rattle.std.specs.Option.{unwrap_or, option_map}
 use Rattle.std.specs.List.{AllByRecursion}
@@ -14,7 +14,7 @@ use Rattle.nm_types.specs.State.{Process, State}
 use Rattle.nm_types.proofs.Cases.{some_is}
 use Rattle.nm_types.proofs.Maps.{page_cmp_total, exact_page, equal, get-values, agree}
 use Rattle.nm_model.specs.views.Table.{Table}
-use Rattle.nm_model.specs.definitions.Frames.{Store, IsHome, bytes_of, overwrite}
+use Rattle.nm_model.specs.definitions.Frames.{Store, bytes_of, overwrite}
 use Rattle.nm_engine.specs.views.Shown.{PagedFrames}
 use Rattle.nm_model.specs.definitions.Memory.{stretch_of}
 use Rattle.nm_model.specs.definitions.Touch.{AllAnswered}
@@ -23,9 +23,7 @@ use Rattle.nm_model.specs.definitions.Sound.{PlacesAreApart}
 use Rattle.nm_model.specs.definitions.Touch.{AccessAnswer, Bytes}
 use Rattle.nm_model.specs.definitions.BeforeCopy.{PendingAccess, Known, ToRead, ToWrite, at_page, after_copy, answer_after_copy, all_after_copy}
 use Rattle.nm_memory.specs.definitions.AfterCopy.{frame_at, store_after_copy, answer_from_store, StoreAfterCopy, all_stored_after_copy, CanDo}
-use Rattle.nm_memory.proofs.Copies.Copied.{home_set}
 use Rattle.nm_memory.proofs.AfterCopy.Refilled.{all_can_then}
-use Rattle.nm_memory.proofs.AfterCopy.Finished.{done_as_many, done_home}
 
 values_twice : {K V W X : Type 0} (F : K → W → X) (G : K → V → W) (m : Map K V) → with_values F (with_values G m) ≡ with_values (λ k v. F k (G k v)) m
 values_twice F G [] = refl
@@ -89,4 +87,3 @@ module _ (processes : Map ℕ Process) (table : Table) (online : List ℕ) (move
       where
         told_first : AccessAnswer → AllAnswered → AllAnswered
         told_first a rest = record { state = rest.state; answers = a ∷ rest.answers }
-

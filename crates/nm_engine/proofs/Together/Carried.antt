@@ -1,14 +1,12 @@
 -- Moves that are made all at once are moves that are made one after another.
 use Rattle.std.proofs.Common.{◌≡◌, ◌≢◌, ℕ, zero, suc, ◌+◌, ◌<◌, ◌≤◌, Bool, true, false, cond, List, [], ◌∷◌, ◌++◌, map, length, take, drop, refl, sym, ap, subst, ◌∙◌, arith, append_assoc, length-set, eq-eqb}
-use Rattle.std.specs.Prelude.{Some, slice_index_or, slice_set}
+use Rattle.std.specs.Prelude.{Some, slice_set}
 use Rattle.std.specs.List.{fold, sum_by, AllByRecursion}
 use Rattle.std.specs.Map.{values_of}
-use Rattle.std.proofs.Math.Seq.{drop-nil}
-use Rattle.std.proofs.lemmas.List.{get_or-set_same, set-set, set-get_or, append-nil, take-append-drop}
+use Rattle.std.proofs.lemmas.List.{set-get_or, append-nil, take-append-drop}
 use Rattle.std.proofs.lemmas.List.Sums.{sum_by_more_le, sum_by-append}
 use Rattle.nm_types.specs.Layout.{Layout, frame_count, node_of}
 use Rattle.nm_types.specs.State.{State, free_list}
-use Rattle.nm_model.specs.definitions.Frames.{Pool, list_of, with_list, without_front}
 use Rattle.nm_model.specs.definitions.Frames.{Store, IsHome, bytes_of}
 use Rattle.nm_types.specs.declared.taken.Taken.{Taken}
 use Rattle.nm_spaces.specs.views.AddressSpaces.{AddressSpacesView, with_moved, table_of}
@@ -28,7 +26,7 @@ use Rattle.nm_laws.proofs.Soundness.Counted.{front_is, counted_below}
 use Rattle.nm_engine.proofs.Together.Joint.{kept_stocked, front_spare, restocked_both}
 use Rattle.nm_engine.proofs.Together.Paged.{restock_page}
 use Rattle.nm_engine.proofs.Together.Paces.{move_shows, move_kept, some_front}
-use Rattle.nm_memory.proofs.FreeLists.Fronts.{fronts_step}
+use Rattle.nm_memory.proofs.FreeLists.Fronts.{fronts_list}
 
 -- the frames of one move, and of several
 abbrev carried : ℕ → FramesView → Taken → FramesView

@@ -1,10 +1,8 @@
 -- What holds of a machine's frames, and what stays so.
-use Rattle.std.proofs.Common.{◌≡◌, ℕ, ◌<◌, ◌≢◌, true, false, cond, List, [], ◌∷◌, ◌++◌, length, refl, sym, ap, subst, ◌∙◌, arith, length-set, eq-eqb, IsSome}
-use Rattle.std.specs.Prelude.{Option, Some, None, sum, replicate, slice_get, slice_index_or, slice_set}
-use Rattle.std.specs.Option.{unwrap_or}
+use Rattle.std.proofs.Common.{◌≡◌, ℕ, ◌<◌, ◌≢◌, false, cond, List, [], ◌∷◌, ◌++◌, refl, sym, ap, subst, ◌∙◌, arith, eq-eqb}
+use Rattle.std.specs.Prelude.{Some, sum, slice_get, slice_index_or, slice_set}
 use Rattle.std.specs.List.{sum_by}
 use Rattle.std.specs.Map.{values_of}
-use Rattle.std.proofs.lemmas.List.{get_or-replicate, length-replicate, set_comm, set-set, set-get_or}
 use Rattle.nm_types.specs.declared.page.Page.{Page}
 use Rattle.nm_types.specs.Map.{Map, get, page_cmp}
 use Rattle.nm_types.specs.Layout.{Layout, frame_count, owner}
@@ -19,9 +17,7 @@ use Rattle.nm_engine.specs.views.Shown.{PagedFrames}
 use Rattle.nm_engine.proofs.Together.Paged.{HasItsFrames, free_of}
 use Rattle.nm_laws.proofs.Soundness.Frames.{here, times_cons, frame_freed, left_below}
 use Rattle.nm_laws.proofs.Soundness.Once.{counted_place}
-use Rattle.nm_laws.proofs.Soundness.New.{new_frames}
 use Rattle.nm_laws.proofs.Soundness.Counted.{counted_below, counted_front, counted_once, not_in, part_of}
-use Rattle.nm_memory.proofs.FreeLists.Freed.{lists_stay, sizes_stay}
 
 pub place_below : (x : PagedFrames) (page : Page) (f : ℕ) → HasItsFrames x → get page_cmp x.place page ≡ Some f → f < frame_count x.layout
 place_below x page f h e =

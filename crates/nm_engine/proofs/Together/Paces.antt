@@ -1,7 +1,6 @@
 -- What the pages of a run make of a machine's parts.
-use Rattle.std.proofs.Common.{◌≡◌, ℕ, suc, zero, ◌+◌, ◌-◌, ◌<◌, ◌≤◌, List, [], ◌∷◌, ◌++◌, length, take, drop, refl, sym, ap, subst, ◌∙◌, arith, append_assoc, length-append, ℤ}
-use Rattle.std.specs.Prelude.{Some, slice_get, slice_index, slice_index_or}
-use Rattle.std.proofs.Math.Seq.{drop-cons}
+use Rattle.std.proofs.Common.{◌≡◌, ℕ, suc, ◌+◌, ◌<◌, ◌≤◌, List, [], ◌∷◌, ◌++◌, length, drop, refl, sym, ap, subst, ◌∙◌, arith, append_assoc, length-append, ℤ}
+use Rattle.std.specs.Prelude.{Some, slice_get, slice_index}
 use Rattle.nm_types.specs.declared.page.Page.{Page}
 use Rattle.nm_types.specs.Map.{Map, get, page_cmp}
 use Rattle.nm_types.specs.Layout.{frame_count}
@@ -12,7 +11,6 @@ use Rattle.nm_types.specs.declared.request.Wanted.{Wanted}
 use Rattle.nm_model.specs.definitions.Status.{status_or_move}
 use Rattle.nm_model.specs.definitions.Run.{moved_page, decision, one_request, each_request, frames_left, failures, with_all_free, total_after, with_counts}
 use Rattle.nm_engine.specs.views.Shown.{PagedFrames}
-use Rattle.nm_model.specs.definitions.Memory.{stretch_of}
 use Rattle.nm_engine.proofs.Together.Paged.{HasItsFrames, free_of, restock_page, free_all}
 use Rattle.nm_model.specs.views.Table.{Table}
 use Rattle.nm_engine.specs.views.Shown.{shown}

@@ -1,12 +1,9 @@
 -- Frames that have their bytes in memory, and what keeps them.
-use Rattle.std.proofs.Common.{◌≡◌, ◌≢◌, ℕ, zero, suc, ◌+◌, ◌<◌, ◌≤◌, ◌==◌, List, [], ◌∷◌, ◌++◌, true, false, cond, length, refl, sym, ap, subst, ◌∙◌, arith, length-set, length-append, length-take, length-drop, eq-eqb, eqb-true, ⊎_elim}
-use Rattle.std.specs.Prelude.{Option, Some, None, replicate, slice_set, if◌then◌else◌}
-use Rattle.std.specs.Option.{unwrap_or}
+use Rattle.std.proofs.Common.{◌≡◌, ◌≢◌, ℕ, List, [], ◌∷◌, true, false, cond, length, refl, sym, ap, subst, ◌∙◌}
+use Rattle.std.specs.Prelude.{Some}
 use Rattle.std.specs.List.{AllByRecursion}
 use Rattle.std.specs.Ordering.{is_eq}
 use Rattle.std.specs.Cmp.{tied_itself}
-use Rattle.std.proofs.lemmas.Bool.{cases_eq, false≢true}
-use Rattle.std.proofs.lemmas.List.{get_or-set_same, get_or-set_other, length-replicate}
 use Rattle.nm_types.specs.declared.page.Page.{Page}
 use Rattle.nm_types.specs.declared.taken.Taken.{Taken}
 use Rattle.nm_types.specs.Map.{Map, get, set, page_cmp}
@@ -14,22 +11,19 @@ use Rattle.nm_types.specs.Layout.{node_of}
 use Rattle.nm_types.specs.State.{State}
 use Rattle.nm_types.proofs.Cases.{some_is}
 use Rattle.nm_types.proofs.Maps.{page_cmp_total, get-set}
-use Rattle.nm_frames.specs.Populated.{IsPopulated, populated}
-use Rattle.nm_model.specs.definitions.Frames.{Store, IsHome, bytes_of, overwrite}
-use Rattle.nm_model.specs.definitions.BeforeCopy.{PendingAccess, Known, ToRead, ToWrite, IsInside, frames_taken}
+use Rattle.nm_frames.specs.Populated.{IsPopulated}
+use Rattle.nm_model.specs.definitions.Frames.{Store, bytes_of}
+use Rattle.nm_model.specs.definitions.BeforeCopy.{frames_taken}
 use Rattle.nm_model.specs.definitions.Run.{frames_left}
 use Rattle.nm_laws.specs.Laws.{with_move}
 use Rattle.nm_laws.specs.Moves.{CanMove}
 use Rattle.nm_laws.proofs.Early.Kept.{beside}
-use Rattle.nm_memory.specs.views.Copies.{HasBoth, with_copy, with_copies}
-use Rattle.nm_memory.specs.definitions.AfterCopy.{frame_at, all_stored_after_copy, CanDo}
+use Rattle.nm_memory.specs.views.Copies.{HasBoth}
 use Rattle.nm_spaces.specs.views.AddressSpaces.{AddressSpacesView}
 use Rattle.nm_memory.specs.views.Frames.{FramesView, KeepsBytes}
 use Rattle.nm_engine.specs.views.MidRun.{MidRun, IsKept}
 use Rattle.nm_engine.specs.views.Shown.{bytes_in, shown_by}
 use Rattle.nm_model.specs.definitions.Sound.{IsSoundMidRun}
-use Rattle.nm_memory.proofs.Copies.Copied.{home_set}
-use Rattle.nm_memory.proofs.Copies.Populated.{keeps_self, keeps_populated, keeps_then, keeps_all, homes_then, all_joined, populated_keeps, populated_there, set_populated, all_set, overwritten_whole, written_populated, all_written, copies_populated, after_populated}
 
 -- ---- pages with a frame, in a sound machine
 

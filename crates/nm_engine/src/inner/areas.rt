@@ -13,9 +13,9 @@ ghost use Rattle.nm_types.specs.declared.errno.Errno.{Errno};
 ghost use Rattle.nm_types.specs.declared.errno.Errno.TheVariants.{Esrch};
 ghost use Rattle.std.specs.Prelude.{Err, IfOk, Some, [], false, map, true, ◌+◌, ◌/◌, ◌<◌, ◌≡◌};
 
-use nm_memory::Frames;
 use crate::inner::Inner;
 use nm_areas::range_start;
+use nm_memory::Frames;
 use nm_types::{Errno, FrameId, MachineError, Page, Pid, Policy, Vpn};
 use std::alloc::Allocator;
 

@@ -16,11 +16,10 @@ ghost use Rattle.nm_engine.specs.definitions.Undo.{IsStillUndone};
 ghost use Rattle.nm_model.specs.views.Asked.{access_shown};
 ghost use Rattle.nm_memory.specs.views.Accesses.{pending_shown, written_by, HasRoom};
 
-use nm_memory::AccessAnswer;
 use crate::inner::Inner;
-use nm_memory::PendingAccess;
 use crate::inner::touch::push_zeros;
 use crate::inner::undo::Undo;
+use nm_memory::{AccessAnswer, PendingAccess};
 use nm_plan::Taken;
 use nm_types::{Access, MachineError, NodeId, Page, Pid, Vpn};
 use std::alloc::{AllocError, Allocator};

@@ -11,14 +11,13 @@ ghost use Rattle.nm_model.specs.definitions.Sound.{IsSound};
 ghost use Rattle.nm_model.specs.definitions.BeforeCopy.{with_fronts, frames_taken, all_after_copy, IsPending};
 ghost use Rattle.nm_memory.specs.views.Accesses.{answer_shown, pending_shown, HasRoom};
 
-use nm_spaces::AddressSpaces;
-use nm_memory::AccessAnswer;
 use crate::inner::Inner;
-use nm_memory::PendingAccess;
 use crate::machine::Totals;
 use nm_crew::{Crew, Gate};
+use nm_memory::{AccessAnswer, PendingAccess};
 use nm_plan::{Plan, Taken, plan};
 use nm_runs::{Class, Run, classify, classify_here};
+use nm_spaces::AddressSpaces;
 use nm_types::{Access, Errno, FrameId, Geometry, NodeId, Page, PageView};
 use std::alloc::{AllocError, Allocator};
 use std::mem;

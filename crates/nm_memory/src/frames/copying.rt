@@ -8,14 +8,13 @@ ghost use Rattle.nm_memory.specs.definitions.AfterCopy.{all_stored_after_copy, s
 ghost use Rattle.nm_types.specs.Map.{get, page_cmp};
 ghost use Rattle.nm_memory.specs.views.Accesses.{answer_shown, pending_shown, written_by, HasRoom};
 
-use nm_spaces::HeldSpaces;
 use crate::answers::AccessAnswer;
 use crate::frames::copy_bytes;
 use crate::pending_access::PendingAccess;
 use nm_crew::{Crew, Gate};
 use nm_frames::{CopyJob, FrameStore};
-use nm_types::Taken;
-use nm_types::{Access, FrameId, Page};
+use nm_spaces::HeldSpaces;
+use nm_types::{Access, FrameId, Page, Taken};
 use std::alloc::Allocator;
 use std::mem;
 use std::sync::Wait;
