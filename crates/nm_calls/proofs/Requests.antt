@@ -11,7 +11,7 @@ use Rattle.nm_runs.specs.Stretches.{stretches_of}
 use Rattle.nm_model.specs.definitions.Cut.{cut_within}
 use Rattle.nm_runs.proofs.Pieces.{each_limit_cuts}
 use Rattle.nm_model.specs.definitions.Run.{IsByAddress, IsByPage, HasOneAll}
-use Rattle.nm_engine.proofs.OneByOne.Alike.{each_has_one_all}
+use Rattle.nm_engine.proofs.Runs.AlikeRequests.{each_has_one_all}
 use Rattle.nm_calls.specs.definitions.Batch.{requests_of}
 
 -- what holds of each request of a run

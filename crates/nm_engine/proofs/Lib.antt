@@ -1,5 +1,6 @@
-pub mod Soundness
-pub mod Together
-pub mod OneByOne
-pub mod Seen
-pub mod Early
+pub mod Does
+pub mod InFlight
+pub mod MidRun
+pub mod Runs
+pub mod Shown
+pub mod Undo

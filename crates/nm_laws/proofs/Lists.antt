@@ -4,18 +4,6 @@ use Rattle.std.specs.Prelude.{Some, slice_get, slice_index, slice_index_or}
 use Rattle.std.proofs.Math.Seq.{drop-cons}
 use Rattle.nm_model.specs.definitions.Memory.{stretch_of}
 
--- an item and those after it
-drop_from : {A : Type 0} (xs : List A) (k : ℕ) (x : A) → slice_get xs k ≡ Some x → drop k xs ≡ x ∷ drop (suc k) xs
-drop_from [] zero x e = cc
-drop_from [] (suc k) x e = cc
-drop_from (y ∷ xs) zero x e = let same : y ≡ x = cc in ap (λ z. z ∷ xs) same
-drop_from (y ∷ xs) (suc k) x e = drop_from xs k x e
-
-pub got_drop : {A : Type 0} (xs : List A) (k : ℕ) (x : A) → slice_get xs k ≡ Some x → drop k xs ≡ x ∷ drop (k + 1) xs
-got_drop xs k x e =
-    let n : suc k ≡ k + 1 = omega arith in
-    drop_from xs k x e ∙ ap (λ n. x ∷ drop n xs) n
-
 take_from : {A : Type 0} (xs : List A) (k : ℕ) (x : A) → slice_get xs k ≡ Some x → take (suc k) xs ≡ take k xs ++ x ∷ []
 take_from [] zero x e = cc
 take_from [] (suc k) x e = cc

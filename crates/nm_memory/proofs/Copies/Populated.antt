@@ -1,20 +1,19 @@
 -- Frames that have their bytes in memory, and what keeps them.
-use Rattle.std.proofs.Common.{◌≡◌, ℕ, zero, suc, ◌+◌, ◌<◌, ◌≤◌, ◌==◌, List, [], ◌∷◌, ◌++◌, true, false, length, refl, sym, ap, subst, ◌∙◌, arith, length-set, length-append, length-take, length-drop, eq-eqb, eqb-true, ⊎_elim}
-use Rattle.std.specs.Prelude.{Option, Some, None, replicate, slice_set, if◌then◌else◌}
+use Rattle.std.proofs.Common.{◌≡◌, ℕ, zero, suc, ◌+◌, ◌<◌, ◌≤◌, List, [], ◌∷◌, ◌++◌, length, refl, sym, ap, subst, ◌∙◌, arith, length-append, length-take, length-drop, ⊎_elim}
+use Rattle.std.specs.Prelude.{Option, Some, None, slice_set}
 use Rattle.std.specs.Option.{unwrap_or}
 use Rattle.std.specs.List.{AllByRecursion}
-use Rattle.std.proofs.lemmas.Bool.{cases_eq, false≢true}
-use Rattle.std.proofs.lemmas.List.{get_or-set_same, get_or-set_other, length-replicate}
+use Rattle.std.proofs.lemmas.Bool.{cases_eq}
+use Rattle.std.proofs.lemmas.List.{get_or-set_same, get_or-set_other}
 use Rattle.nm_types.specs.declared.page.Page.{Page}
 use Rattle.nm_types.specs.declared.taken.Taken.{Taken}
 use Rattle.nm_types.specs.Map.{Map}
-use Rattle.nm_frames.specs.Populated.{IsPopulated, populated}
+use Rattle.nm_frames.specs.Populated.{IsPopulated}
 use Rattle.nm_model.specs.definitions.Frames.{Store, IsHome, bytes_of, overwrite}
 use Rattle.nm_model.specs.definitions.BeforeCopy.{PendingAccess, Known, ToRead, ToWrite, IsInside}
 use Rattle.nm_memory.specs.views.Copies.{HasBoth, with_copy, with_copies}
 use Rattle.nm_memory.specs.definitions.AfterCopy.{frame_at, all_stored_after_copy, CanDo}
 use Rattle.nm_memory.specs.views.Frames.{KeepsBytes}
-use Rattle.nm_memory.proofs.Copies.Copied.{home_set}
 
 -- ---- what a store keeps
 
@@ -44,27 +43,6 @@ all_joined s [] gs front back = back
 all_joined s (f ∷ fs) gs front back = (front.0, all_joined s fs gs front.1 back)
 
 -- ---- a frame gets its bytes in memory
-
-pub populated_keeps : (s : Store) (f : ℕ) → KeepsBytes s (populated s f)
-populated_keeps s f =
-    let zeros : List ℕ = replicate 4096 0 in
-    elim (length (bytes_of s f) == 4096) as (λ b. (length (bytes_of s f) == 4096) ≡ b → KeepsBytes s (if b then s else slice_set s f (Some zeros))) [
-      | true ↦ λ is. keeps_self s
-      | false ↦ λ is. record {
-        as_many = length-set s f (Some zeros);
-        home = λ q home. home_set s f q zeros home;
-        bytes = λ q whole. ap (λ (o : Option (List ℕ)). unwrap_or o [])
-            (get_or-set_other s f q (Some zeros) None (λ same. false≢true (sym is ∙ eq-eqb (length (bytes_of s f)) 4096 (ap (λ k. length (bytes_of s k)) (sym same) ∙ whole))));
-      }
-    ] refl
-
-pub populated_there : (s : Store) (f : ℕ) → IsHome s f → IsPopulated (populated s f) f
-populated_there s f home =
-    let zeros : List ℕ = replicate 4096 0 in
-    elim (length (bytes_of s f) == 4096) as (λ b. (length (bytes_of s f) == 4096) ≡ b → IsPopulated (if b then s else slice_set s f (Some zeros)) f) [
-      | true ↦ λ is. eqb-true (length (bytes_of s f)) 4096 is
-      | false ↦ λ is. ap (λ (o : Option (List ℕ)). length (unwrap_or o [])) (get_or-set_same s f (Some zeros) None home.in_range) ∙ length-replicate {A = ℕ} 4096 0
-    ] refl
 
 -- ---- a frame gets other bytes
 

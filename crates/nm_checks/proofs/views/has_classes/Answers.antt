@@ -3,7 +3,7 @@ use Rattle.nm_types.specs.Layout.{Layout}
 use Rattle.nm_types.specs.declared.page.Page.{Page}
 use Rattle.nm_types.specs.declared.seen.Seen.{Seen}
 use Rattle.nm_runs.specs.Shown.{ShowsItsFrames}
-use Rattle.nm_engine.proofs.OneByOne.Carried.{shows_its_frames}
+use Rattle.nm_engine.proofs.Runs.OneByOne.{shows_its_frames}
 use Rattle.nm_checks.proofs.views.has_classes.Goals as goal
 
 of_layout : (l m : Layout) (seen_at : ℕ → ℕ → Seen) (placed_at : Page → Seen) → l ≡ m → ShowsItsFrames m seen_at placed_at → ShowsItsFrames l seen_at placed_at

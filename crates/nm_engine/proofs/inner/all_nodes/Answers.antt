@@ -2,7 +2,7 @@ use Rattle.std.proofs.Common.{◌≡◌, suc, ◌+◌, ap, ◌∙◌, arith}
 use Rattle.std.specs.Ordering.{nat_cmp}
 use Rattle.std.specs.BTreeSet.{insert_key}
 use Rattle.nm_types.specs.Nodes.{up_from}
-use Rattle.nm_engine.proofs.Together.Kept.{insert_next}
+use Rattle.nm_engine.proofs.MidRun.AreaCalls.{insert_next}
 use Rattle.nm_engine.proofs.inner.all_nodes.Goals as goal
 
 pub loop-node-preserved : goal.loop-node-preserved

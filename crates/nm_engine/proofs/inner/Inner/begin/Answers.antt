@@ -6,7 +6,7 @@ use Rattle.nm_model.specs.views.Asked.{access_shown}
 use Rattle.nm_model.specs.definitions.BeforeCopy.{all_before_copy, with_fronts, frames_taken}
 use Rattle.nm_engine.specs.views.MidRun.{MidRun}
 use Rattle.nm_model.specs.definitions.Sound.{IsSound}
-use Rattle.nm_engine.proofs.Early.Taken.{back_again}
+use Rattle.nm_engine.proofs.InFlight.TakenFrames.{back_again}
 use Rattle.nm_engine.proofs.inner.Inner.begin.Goals as goal
 
 pub give_back-requires-clause-sound : goal.give_back-requires-clause-sound

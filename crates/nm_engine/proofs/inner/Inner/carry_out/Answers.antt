@@ -17,7 +17,7 @@ use Rattle.nm_memory.specs.views.Frames.{FramesView}
 use Rattle.nm_laws.specs.Laws.{with_moves}
 use Rattle.nm_engine.specs.views.MidRun.{MidRun, IsKept}
 use Rattle.nm_engine.specs.views.Shown.{shown_by}
-use Rattle.nm_engine.proofs.Early.Carrying.{spaces_then, copied_frames, prepared, lefts_populated, both_whole, remap, can_copy, can_meanwhile, finished_shows, finished_told, finished_kept}
+use Rattle.nm_engine.proofs.InFlight.AllAtOnce.{spaces_then, copied_frames, prepared, lefts_populated, both_whole, remap, can_copy, can_meanwhile, finished_shows, finished_told, finished_kept}
 use Rattle.nm_engine.proofs.inner.Inner.carry_out.Goals as goal
 
 -- the pages are in their new frames once they have arrived

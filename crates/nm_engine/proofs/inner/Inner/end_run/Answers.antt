@@ -4,8 +4,8 @@ use Rattle.nm_engine.specs.views.MidRun.{MidRun}
 use Rattle.nm_spaces.specs.views.AddressSpaces.{table_of}
 use Rattle.nm_memory.specs.views.Frames.{FramesView}
 use Rattle.nm_engine.specs.views.Shown.{paged_frames}
-use Rattle.nm_engine.proofs.Together.Paces.{end_shows, end_kept}
-use Rattle.nm_engine.proofs.Together.Free.{can_free}
+use Rattle.nm_engine.proofs.MidRun.RunPages.{end_shows, end_kept}
+use Rattle.nm_engine.proofs.Shown.FreeFrames.{can_free}
 use Rattle.nm_engine.proofs.inner.Inner.end_run.Goals as goal
 
 pub free_vacated-requires : goal.free_vacated-requires

@@ -9,7 +9,7 @@ use Rattle.nm_spaces.specs.views.AddressSpaces.{AddressSpacesView}
 use Rattle.nm_engine.specs.views.Shown.{shown_by}
 use Rattle.nm_engine.specs.views.MidRun.{MidRun, IsKept}
 use Rattle.nm_laws.proofs.Soundness.Dropped.{sees_none, exit_sound}
-use Rattle.nm_engine.proofs.Soundness.Gone.{sees_nothing}
+use Rattle.nm_engine.proofs.MidRun.LostFrames.{sees_nothing}
 use Rattle.nm_engine.proofs.inner.Inner.exit.Goals as goal
 
 pub remove_task-requires : goal.remove_task-requires

@@ -14,10 +14,10 @@ use Rattle.nm_memory.specs.views.Frames.{FramesView, free_on}
 use Rattle.nm_engine.specs.views.Shown.{shown, shown_by, paged_frames}
 use Rattle.nm_engine.specs.views.MidRun.{MidRun, IsKept, IsSiteOf, spot_at}
 use Rattle.nm_model.specs.definitions.Seen.{frame_of}
-use Rattle.nm_engine.proofs.Together.Joint.{kept_stocked, front_spare, stocked_both}
-use Rattle.nm_engine.proofs.Together.Populated.{same_shown, kept_again, view_again}
+use Rattle.nm_engine.proofs.Shown.BothParts.{kept_stocked, front_spare, stocked_both}
+use Rattle.nm_engine.proofs.Shown.PopulatedFrames.{same_shown, kept_again, view_again}
 use Rattle.nm_engine.proofs.inner.HandedOn.{nothing_touched}
-use Rattle.nm_engine.proofs.Together.Touches.{inside, found_free, no_front, short_list, sees_now, filled_shows, filled_kept, filled_is, get_set_same}
+use Rattle.nm_engine.proofs.Does.Touches.{inside, found_free, no_front, short_list, sees_now, filled_shows, filled_kept, filled_is, get_set_same}
 use Rattle.nm_engine.proofs.inner.Inner.fill.Goals as goal
 
 pub front-requires : goal.front-requires

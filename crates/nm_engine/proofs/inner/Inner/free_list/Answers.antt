@@ -3,7 +3,7 @@ use Rattle.std.specs.Prelude.{None}
 use Rattle.nm_types.specs.State.{free_list}
 use Rattle.nm_model.specs.definitions.Effect.{list_refusal}
 use Rattle.nm_engine.specs.views.MidRun.{MidRun}
-use Rattle.nm_engine.proofs.Together.Kept.{seen, list_fine}
+use Rattle.nm_engine.proofs.MidRun.AreaCalls.{seen, list_fine}
 use Rattle.nm_spaces.specs.views.AddressSpaces.{table_of}
 use Rattle.nm_engine.specs.views.Shown.{paged_frames}
 use Rattle.nm_engine.proofs.inner.HandedOn.{may_ask}

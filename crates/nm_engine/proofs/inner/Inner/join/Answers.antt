@@ -11,7 +11,7 @@ use Rattle.nm_spaces.specs.views.AddressSpaces.{AddressSpacesView, table_of, wit
 use Rattle.nm_engine.specs.views.Shown.{shown_by, paged_frames}
 use Rattle.nm_engine.specs.views.MidRun.{MidRun, IsKept, IsSiteOf, spot_at, with_state}
 use Rattle.nm_model.specs.definitions.Seen.{frame_of}
-use Rattle.nm_engine.proofs.Together.Touches.{inside, outside, seen_kept, sees_now}
+use Rattle.nm_engine.proofs.Does.Touches.{inside, outside, seen_kept, sees_now}
 use Rattle.nm_laws.proofs.Seen.Frames.{none_sees}
 use Rattle.nm_engine.proofs.inner.HandedOn.{nothing_touched}
 use Rattle.nm_engine.proofs.inner.Inner.join.Goals as goal

@@ -3,7 +3,7 @@ use Rattle.nm_types.specs.declared.page.Page.{Page}
 use Rattle.nm_model.specs.definitions.Effect.{dropped}
 use Rattle.nm_memory.specs.views.Frames.{pool_of, CanFree}
 use Rattle.nm_engine.specs.views.MidRun.{MidRun}
-use Rattle.nm_engine.proofs.Soundness.Gone.{frames_of, can_go, gone_shows, gone_kept}
+use Rattle.nm_engine.proofs.MidRun.LostFrames.{frames_of, can_go, gone_shows, gone_kept}
 use Rattle.nm_engine.proofs.inner.Inner.let_go.Goals as goal
 
 pub free_each-requires : goal.free_each-requires

@@ -3,7 +3,7 @@ use Rattle.std.specs.Prelude.{None}
 use Rattle.nm_model.specs.definitions.Effect.{map_refusal}
 use Rattle.nm_engine.specs.views.Shown.{shown_by}
 use Rattle.nm_engine.specs.views.MidRun.{MidRun}
-use Rattle.nm_engine.proofs.Together.Remade.{nothing_made, kept_same, kept_inserted}
+use Rattle.nm_engine.proofs.MidRun.AreaChanges.{nothing_made, kept_same, kept_inserted}
 use Rattle.nm_engine.proofs.inner.Inner.map.Goals as goal
 
 pub invariant_of-self : goal.invariant_of-self

@@ -1,7 +1,7 @@
 use Rattle.std.proofs.Common.{ap, ◌∙◌}
 use Rattle.nm_types.specs.Nodes.{up_from}
 use Rattle.nm_spaces.specs.views.AddressSpaces.{AddressSpacesView}
-use Rattle.nm_engine.proofs.Together.Kept.{shown_new, kept_new}
+use Rattle.nm_engine.proofs.MidRun.AreaCalls.{shown_new, kept_new}
 use Rattle.nm_engine.proofs.inner.Inner.new.Goals as goal
 
 pub invariant_of-result : goal.invariant_of-result

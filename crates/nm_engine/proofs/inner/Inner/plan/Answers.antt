@@ -12,7 +12,7 @@ use Rattle.nm_types.specs.Map.{get, page_cmp}
 use Rattle.nm_laws.specs.Moves.{IsPlanOf}
 use Rattle.nm_engine.specs.views.MidRun.{MidRun}
 use Rattle.nm_engine.specs.views.Shown.{shown_by}
-use Rattle.nm_engine.proofs.OneByOne.Carried.{shows_its_frames, classes_by_view, planned_is, is_plan_of}
+use Rattle.nm_engine.proofs.Runs.OneByOne.{shows_its_frames, classes_by_view, planned_is, is_plan_of}
 use Rattle.nm_engine.proofs.inner.Inner.plan.Goals as goal
 
 pub classes-requires-clause-frames : goal.classes-requires-clause-frames

@@ -9,9 +9,9 @@ use Rattle.nm_model.specs.definitions.Touch.{Answered, Bytes, read, read_after}
 use Rattle.nm_engine.specs.views.MidRun.{MidRun}
 use Rattle.nm_engine.specs.views.Shown.{shown}
 use Rattle.nm_model.specs.definitions.Seen.{frame_seen}
-use Rattle.nm_engine.proofs.Together.Touches.{inside, touch_is}
+use Rattle.nm_engine.proofs.Does.Touches.{inside, touch_is}
 use Rattle.nm_laws.proofs.Seen.Frames.{page_of_frame, place_in_range}
-use Rattle.nm_engine.proofs.Seen.Read.{reads_frame, reads_zeros}
+use Rattle.nm_engine.proofs.Shown.Reads.{reads_frame, reads_zeros}
 use Rattle.nm_engine.proofs.inner.Inner.read.Goals.{in-Some, in-None}
 use Rattle.nm_spaces.specs.views.AddressSpaces.{table_of}
 use Rattle.nm_engine.specs.views.Shown.{paged_frames}

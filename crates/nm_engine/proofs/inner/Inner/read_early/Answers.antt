@@ -9,8 +9,8 @@ use Rattle.nm_model.specs.definitions.BeforeCopy.{BeforeCopy, Known, ToRead, pen
 use Rattle.nm_model.specs.definitions.Touch.{Bytes}
 use Rattle.nm_engine.specs.views.MidRun.{with_state}
 use Rattle.nm_model.specs.definitions.Seen.{frame_seen}
-use Rattle.nm_engine.proofs.Early.Noted.{read_due, read_refused, read_held, read_goes}
-use Rattle.nm_engine.proofs.Together.Undone.{touches_err}
+use Rattle.nm_engine.proofs.InFlight.PendingAccesses.{read_due, read_refused, read_held, read_goes}
+use Rattle.nm_engine.proofs.Undo.Touches.{touches_err}
 use Rattle.nm_engine.proofs.inner.Inner.read_early.Goals as goal
 
 pub returns-in-Ok-Some-clause-due : goal.returns-in-Ok-Some-clause-due

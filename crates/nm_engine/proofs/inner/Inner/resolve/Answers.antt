@@ -5,7 +5,7 @@ use Rattle.nm_engine.specs.views.MidRun.{IsSiteOf, spot_at}
 use Rattle.nm_engine.specs.views.Shown.{shown}
 use Rattle.nm_engine.specs.declared.inner.touch_site.TouchSite.{TouchSite}
 use Rattle.nm_model.specs.definitions.Touch.{site}
-use Rattle.nm_engine.proofs.Together.Touches.{outside, touched_there}
+use Rattle.nm_engine.proofs.Does.Touches.{outside, touched_there}
 use Rattle.nm_spaces.specs.views.AddressSpaces.{table_of}
 use Rattle.nm_engine.specs.views.Shown.{paged_frames}
 use Rattle.nm_engine.proofs.inner.Inner.resolve.Goals as goal

@@ -1,4 +1,4 @@
-use Rattle.nm_engine.proofs.Together.Remade.{kept_policed}
+use Rattle.nm_engine.proofs.MidRun.AreaChanges.{kept_policed}
 use Rattle.nm_engine.proofs.inner.Inner.set_policy.Goals as goal
 
 pub invariant_of-self-2 : goal.invariant_of-self-2

@@ -7,10 +7,10 @@ use Rattle.nm_model.specs.definitions.Effect.{spawn}
 use Rattle.nm_model.specs.definitions.Effect.{spawn_refusal}
 use Rattle.nm_model.specs.definitions.Effect.{untouched}
 use Rattle.nm_engine.specs.views.MidRun.{MidRun, IsKept, with_state}
-use Rattle.nm_engine.proofs.Together.Kept.{seen, kept_spawned, spawn_fine}
+use Rattle.nm_engine.proofs.MidRun.AreaCalls.{seen, kept_spawned, spawn_fine}
 use Rattle.nm_spaces.specs.views.AddressSpaces.{AddressSpacesView, table_of}
 use Rattle.nm_engine.specs.views.Shown.{paged_frames, shown_by}
-use Rattle.nm_engine.proofs.Together.Touches.{outside}
+use Rattle.nm_engine.proofs.Does.Touches.{outside}
 use Rattle.nm_engine.proofs.inner.HandedOn.{may_ask, nothing_made}
 use Rattle.nm_engine.proofs.inner.Inner.spawn.Goals as goal
 

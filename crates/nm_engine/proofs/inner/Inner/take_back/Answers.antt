@@ -2,7 +2,7 @@ use Rattle.std.proofs.Common.{List, ap, sym, subst, ◌∙◌}
 use Rattle.nm_engine.specs.declared.inner.undo.Undo.{Undo}
 use Rattle.nm_engine.specs.views.MidRun.{MidRun, with_state}
 use Rattle.nm_engine.specs.definitions.Undo.{CanUndo, all_undone}
-use Rattle.nm_engine.proofs.Together.Undone.{all_undone-push, can_pop}
+use Rattle.nm_engine.proofs.Undo.Touches.{all_undone-push, can_pop}
 use Rattle.nm_engine.proofs.inner.Inner.take_back.Goals as goal
 
 pub undo-requires : goal.undo-requires

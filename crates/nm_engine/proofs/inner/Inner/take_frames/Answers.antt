@@ -7,9 +7,9 @@ use Rattle.nm_areas.proofs.Counted.{err_always}
 use Rattle.nm_model.specs.definitions.BeforeCopy.{without_fronts}
 use Rattle.nm_engine.specs.views.Shown.{shown_by}
 use Rattle.nm_types.specs.State.{State}
-use Rattle.nm_engine.proofs.Early.Taken.{taken_kept}
-use Rattle.nm_engine.proofs.Together.Carried.{tos_below}
-use Rattle.nm_engine.proofs.Together.Populated.{same_shown, kept_again, view_again}
+use Rattle.nm_engine.proofs.InFlight.TakenFrames.{taken_kept}
+use Rattle.nm_engine.proofs.Shown.Moves.{tos_below}
+use Rattle.nm_engine.proofs.Shown.PopulatedFrames.{same_shown, kept_again, view_again}
 use Rattle.nm_engine.proofs.inner.Inner.take_frames.Goals as goal
 
 pub populate_each-requires : goal.populate_each-requires

@@ -13,7 +13,7 @@ use Rattle.nm_model.specs.definitions.Seen.{sight_in, sight_at}
 use Rattle.nm_engine.specs.views.Shown.{shown, shown_by}
 use Rattle.nm_engine.specs.views.MidRun.{MidRun, IsKept, IsSiteOf, spot_at, with_state}
 use Rattle.nm_model.specs.definitions.Seen.{frame_of, frame_seen}
-use Rattle.nm_engine.proofs.Together.Touches.{inside, outside, not_none, seen_kept, sees_now, private_here, private_unplaced_here, zero_unplaced}
+use Rattle.nm_engine.proofs.Does.Touches.{inside, outside, not_none, seen_kept, sees_now, private_here, private_unplaced_here, zero_unplaced}
 use Rattle.nm_laws.proofs.Seen.Frames.{none_sees, zero_sees}
 use Rattle.nm_spaces.specs.views.AddressSpaces.{AddressSpacesView, table_of, with_seen}
 use Rattle.nm_engine.specs.views.Shown.{paged_frames}

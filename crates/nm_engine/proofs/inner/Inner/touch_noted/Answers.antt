@@ -5,7 +5,7 @@ use Rattle.nm_model.specs.definitions.Seen.{sight_at}
 use Rattle.nm_engine.specs.declared.inner.undo.Before.{Before}
 use Rattle.nm_engine.specs.declared.inner.undo.Undo.{Undo}
 use Rattle.nm_engine.specs.definitions.Undo.{IsStillUndone, noted, with_undo}
-use Rattle.nm_engine.proofs.Together.Undone.{still_undone, same_undone, touched_back, touches_err}
+use Rattle.nm_engine.proofs.Undo.Touches.{still_undone, same_undone, touched_back, touches_err}
 use Rattle.nm_engine.proofs.inner.Inner.touch_noted.Goals as goal
 
 pub returns-in_err-frame-clause-back : goal.returns-in_err-frame-clause-back

@@ -7,7 +7,7 @@ use Rattle.nm_engine.specs.views.MidRun.{MidRun, with_state}
 use Rattle.nm_engine.specs.views.Shown.{shown_by}
 use Rattle.nm_model.specs.definitions.Sound.{IsSoundMidRun}
 use Rattle.nm_engine.specs.definitions.Undo.{IsGiven, seen_before, undone}
-use Rattle.nm_engine.proofs.Together.Undone.{place_kept, can_put_back, back_shows, back_kept}
+use Rattle.nm_engine.proofs.Undo.Touches.{place_kept, can_put_back, back_shows, back_kept}
 use Rattle.nm_engine.proofs.inner.Inner.undo.Goals as goal
 
 pub free_first-requires : goal.free_first-requires

@@ -1,7 +1,7 @@
 use Rattle.std.proofs.Common.{ap}
 use Rattle.nm_engine.specs.views.Shown.{shown_by}
 use Rattle.nm_spaces.specs.views.AddressSpaces.{AddressSpacesView}
-use Rattle.nm_engine.proofs.Together.Pinned.{one_fewer, ok_then, err_then, pinned_kept, unpin_alters}
+use Rattle.nm_engine.proofs.Does.Pins.{one_fewer, ok_then, err_then, pinned_kept, unpin_alters}
 use Rattle.nm_engine.proofs.inner.Inner.unpin.Goals as goal
 
 pub invariant_of-self : goal.invariant_of-self

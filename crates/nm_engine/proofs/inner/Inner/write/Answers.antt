@@ -7,12 +7,12 @@ use Rattle.nm_engine.specs.views.MidRun.{MidRun, IsKept}
 use Rattle.nm_engine.specs.views.Shown.{shown}
 use Rattle.nm_model.specs.definitions.Seen.{frame_seen}
 use Rattle.nm_model.specs.definitions.Seen.{sight_at}
-use Rattle.nm_engine.proofs.Together.Touches.{inside, touch_is, written_is, written_kept}
+use Rattle.nm_engine.proofs.Does.Touches.{inside, touch_is, written_is, written_kept}
 use Rattle.nm_laws.proofs.Seen.Frames.{page_of_frame, place_in_range}
 use Rattle.nm_spaces.specs.views.AddressSpaces.{table_of}
 use Rattle.nm_engine.specs.views.Shown.{paged_frames, shown_by}
-use Rattle.nm_engine.proofs.Together.Joint.{kept_stocked}
-use Rattle.nm_engine.proofs.Together.Populated.{place_populated}
+use Rattle.nm_engine.proofs.Shown.BothParts.{kept_stocked}
+use Rattle.nm_engine.proofs.Shown.PopulatedFrames.{place_populated}
 use Rattle.nm_engine.proofs.inner.Inner.write.Goals as goal
 
 abbrev overwritten : FramesView → ℕ → List ℕ → ℕ → FramesView

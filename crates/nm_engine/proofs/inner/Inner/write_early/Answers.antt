@@ -6,8 +6,8 @@ use Rattle.nm_types.specs.State.{State}
 use Rattle.nm_model.specs.definitions.BeforeCopy.{ToWrite}
 use Rattle.nm_engine.specs.views.MidRun.{with_state}
 use Rattle.nm_model.specs.definitions.Seen.{frame_seen}
-use Rattle.nm_engine.proofs.Early.Noted.{write_due}
-use Rattle.nm_engine.proofs.Together.Undone.{touches_err}
+use Rattle.nm_engine.proofs.InFlight.PendingAccesses.{write_due}
+use Rattle.nm_engine.proofs.Undo.Touches.{touches_err}
 use Rattle.nm_engine.proofs.inner.Inner.write_early.Goals as goal
 
 some_frame : (o : Option ℕ) → IsSome o → (f : ℕ) × (o ≡ Some f)

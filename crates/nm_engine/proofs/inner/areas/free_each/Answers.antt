@@ -1,7 +1,7 @@
 use Rattle.std.proofs.Common.{◌≡◌, ◌+◌, drop, ap, sym, subst, ◌∙◌}
 use Rattle.nm_model.specs.definitions.Frames.{appended}
 use Rattle.nm_memory.specs.views.Frames.{FramesView, pool_of, CanFree, with_freed}
-use Rattle.nm_engine.proofs.Soundness.Gone.{frames_of}
+use Rattle.nm_engine.proofs.MidRun.LostFrames.{frames_of}
 use Rattle.nm_laws.proofs.Lists.{drop_item}
 use Rattle.nm_engine.proofs.inner.areas.free_each.Goals as goal
 

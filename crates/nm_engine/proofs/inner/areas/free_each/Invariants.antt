@@ -1,6 +1,6 @@
 use Rattle.std.proofs.Common.{◌≡◌, drop}
 use Rattle.nm_memory.specs.views.Frames.{pool_of, CanFree, with_freed}
-use Rattle.nm_engine.proofs.Soundness.Gone.{frames_of}
+use Rattle.nm_engine.proofs.MidRun.LostFrames.{frames_of}
 use Rattle.nm_engine.proofs.inner.areas.free_each.Given as goal
 
 abbrev pub invariant-loop-frame : goal.invariant-loop-frame

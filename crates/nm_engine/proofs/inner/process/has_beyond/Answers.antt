@@ -2,7 +2,7 @@ use Rattle.std.proofs.Common.{◌≡◌, ◌≤◌, ◌<◌, ◌||◌, sym, ap, 
 use Rattle.std.specs.Prelude.{nat_le, drop}
 use Rattle.std.specs.List.{list_any}
 use Rattle.std.proofs.lemmas.Bool.{le-leb, lt-leb}
-use Rattle.nm_engine.proofs.Together.Kept.{any_front, any_none}
+use Rattle.nm_engine.proofs.MidRun.AreaCalls.{any_front, any_none}
 use Rattle.nm_engine.proofs.inner.process.has_beyond.Goals as goal
 
 pub loop-node-preserved : goal.loop-node-preserved

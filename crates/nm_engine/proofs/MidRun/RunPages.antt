@@ -11,14 +11,14 @@ use Rattle.nm_types.specs.declared.request.Wanted.{Wanted}
 use Rattle.nm_model.specs.definitions.Status.{status_or_move}
 use Rattle.nm_model.specs.definitions.Run.{moved_page, decision, one_request, each_request, frames_left, failures, with_all_free, total_after, with_counts}
 use Rattle.nm_engine.specs.views.Shown.{PagedFrames}
-use Rattle.nm_engine.proofs.Together.Paged.{HasItsFrames, free_of, restock_page, free_all}
+use Rattle.nm_engine.proofs.Shown.PagedFrames.{HasItsFrames, free_of, restock_page, free_all}
 use Rattle.nm_model.specs.views.Table.{Table}
 use Rattle.nm_engine.specs.views.Shown.{shown}
 use Rattle.nm_model.specs.definitions.Sound.{IsSoundMidRun}
 use Rattle.nm_engine.specs.views.MidRun.{IsKept}
 use Rattle.nm_laws.proofs.Soundness.Frames.{left-append}
 use Rattle.nm_laws.proofs.Soundness.Moved.{decided_sound, freed_sound, counted_sound}
-use Rattle.nm_engine.proofs.Together.Shows.{restocked_shows, freed_shows}
+use Rattle.nm_engine.proofs.Shown.FrameChanges.{restocked_shows, freed_shows}
 
 front_there : (xs : List ℕ) → 0 < length xs → xs ≡ slice_index xs 0 ∷ drop 1 xs
 front_there [] some = absurd (omega (arith, some))

@@ -14,7 +14,7 @@ use Rattle.nm_spaces.specs.views.AddressSpaces.{AddressSpacesView}
 use Rattle.nm_engine.specs.views.Shown.{paged_frames, shown_by}
 use Rattle.nm_memory.specs.views.Frames.{FramesView, HasAllFrames, with_freed, CanFree, pool_of}
 use Rattle.nm_engine.specs.views.Shown.{PagedFrames}
-use Rattle.nm_engine.proofs.Together.Paged.{HasItsFrames, free_of}
+use Rattle.nm_engine.proofs.Shown.PagedFrames.{HasItsFrames, free_of}
 use Rattle.nm_laws.proofs.Soundness.Frames.{here, times_cons, frame_freed, left_below}
 use Rattle.nm_laws.proofs.Soundness.Once.{counted_place}
 use Rattle.nm_laws.proofs.Soundness.Counted.{counted_below, counted_front, counted_once, not_in, part_of}

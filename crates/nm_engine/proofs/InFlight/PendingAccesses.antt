@@ -1,16 +1,16 @@
 -- What is left to do for a read or a write, by what its touch found.
 use Rattle.std.proofs.Common.{◌≡◌, ℕ, ◌/◌, ◌%◌, List, Bool, true, false, refl, sym, ap, subst, ◌∙◌, length}
-use Rattle.std.specs.Prelude.{Some, Result, Ok, Err, replicate, if◌then◌else◌}
+use Rattle.std.specs.Prelude.{Some, Result, Ok, Err, if◌then◌else◌}
 use Rattle.std.specs.List.{list_any}
 use Rattle.std.specs.Ordering.{nat_cmp}
 use Rattle.nm_types.specs.declared.page.Page.{Page}
 use Rattle.nm_types.specs.declared.errno.Errno.{Errno}
-use Rattle.nm_types.specs.declared.sight.Sight.TheVariants.{ZeroPage, Sees}
+use Rattle.nm_types.specs.declared.sight.Sight.TheVariants.{Sees}
 use Rattle.nm_types.specs.Map.{get, same_page}
 use Rattle.nm_types.specs.State.{State, page_at}
 use Rattle.nm_types.proofs.Cases.{some_is}
 use Rattle.nm_model.specs.definitions.Seen.{sight_at}
-use Rattle.nm_model.specs.definitions.Touch.{AccessSite, shown_at, site, touched, touched_entry, touch, Read, Write, Bytes, Refused}
+use Rattle.nm_model.specs.definitions.Touch.{AccessSite, shown_at, site, touched, touched_entry, touch, Read, Write, Refused}
 use Rattle.nm_model.specs.definitions.Touch.{is_held}
 use Rattle.nm_model.specs.definitions.Seen.{frame_seen}
 use Rattle.nm_model.specs.definitions.Sound.{IsSoundMidRun}
@@ -40,12 +40,6 @@ module _ (s : State) (moved : List Page) where
   abbrev write_by : ℕ → ℕ → List ℕ → Result AccessSite Errno → BeforeCopy
   write_by pid address new r = if is_held moved r then held_before_copy s else write_before_copy s pid address new (touched s true r)
 
-  pub write_refused : (pid address : ℕ) (new : List ℕ) (e : Errno) → site s pid address (length new) ≡ Err e → before_copy s moved (Write pid address new) ≡ record { state = s; due = Known (Refused e) }
-  write_refused pid address new e is = ap (write_by pid address new) is
-
-  pub write_held : (pid address : ℕ) (new : List ℕ) (at : AccessSite) → site s pid address (length new) ≡ Ok at → list_any (same_page (shown_at at)) moved ≡ true → before_copy s moved (Write pid address new) ≡ held_before_copy s
-  write_held pid address new at is held = ap (write_by pid address new) is ∙ ap (λ b. if b then held_before_copy s else write_before_copy s pid address new (touched s true (Ok at))) held
-
   pub write_goes : (pid address : ℕ) (new : List ℕ) (at : AccessSite) (r : Result State Errno) → site s pid address (length new) ≡ Ok at → list_any (same_page (shown_at at)) moved ≡ false
       → touched_entry s at true (get nat_cmp at.process.sees at.vpn) ≡ r → before_copy s moved (Write pid address new) ≡ write_before_copy s pid address new r
   write_goes pid address new at r is free touches =
@@ -70,9 +64,6 @@ module _ (s t : State) (l : List ℕ) (h : IsSoundMidRun t l) (pid address : ℕ
       → (read_before_copy s pid address len (Ok t)).due ≡ ToRead (shown_at at) (address % 4096) len
   read_frame len f is touches seen =
       ap (λ o. pending_read o (address % 4096) len) (page_seen t l pid (address / 4096) f (shown_at at) h (shown_then len false is (touches_so len false is touches)) seen)
-
-  pub read_zeros : (len : ℕ) → sight_at t pid (address / 4096) ≡ Some ZeroPage → (read_before_copy s pid address len (Ok t)).due ≡ Known (Bytes (replicate len 0))
-  read_zeros len seen = ap (λ o. pending_read o (address % 4096) len) seen
 
   pub write_frame : (new : List ℕ) (f : ℕ) → site s pid address (length new) ≡ Ok at → touched_entry s at true (get nat_cmp at.process.sees at.vpn) ≡ Ok t → frame_seen t pid (address / 4096) ≡ Some f
       → (write_before_copy s pid address new (Ok t)).due ≡ ToWrite (shown_at at) (address % 4096) new

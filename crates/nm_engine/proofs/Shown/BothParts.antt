@@ -1,5 +1,5 @@
 -- What changes of address spaces and of frames make of both together.
-use Rattle.std.proofs.Common.{◌≡◌, ℕ, ◌<◌, ◌≢◌, List, [], ◌∷◌, ◌++◌, refl, sym, ap, subst, ◌∙◌}
+use Rattle.std.proofs.Common.{◌≡◌, ℕ, ◌<◌, List, [], ◌∷◌, ◌++◌, refl, sym, ap, subst, ◌∙◌}
 use Rattle.std.specs.Prelude.{Some, drop, replicate, slice_get, slice_set}
 use Rattle.nm_types.specs.declared.page.Page.{Page}
 use Rattle.nm_types.specs.Map.{get, page_cmp}
@@ -8,11 +8,11 @@ use Rattle.nm_types.specs.State.{Process}
 use Rattle.nm_model.specs.definitions.Frames.{bytes_of}
 use Rattle.nm_spaces.specs.views.AddressSpaces.{AddressSpacesView, with_moved, with_new_page}
 use Rattle.nm_memory.specs.views.Frames.{FramesView, HasAllFrames, free_on}
-use Rattle.nm_engine.proofs.Together.Paged.{HasItsFrames, stock_page, restock_page}
+use Rattle.nm_engine.proofs.Shown.PagedFrames.{HasItsFrames, stock_page, restock_page}
 use Rattle.nm_engine.specs.views.Shown.{paged_frames, shown_by}
 use Rattle.nm_engine.specs.views.MidRun.{IsKept}
 use Rattle.nm_laws.proofs.Soundness.Counted.{index_front}
-use Rattle.nm_engine.proofs.Together.Free.{place_below, front_below, apart_from_front, stocked_is}
+use Rattle.nm_engine.proofs.Shown.FreeFrames.{front_below, apart_from_front, stocked_is}
 
 -- the front frame of a node, which no page has
 pub record IsSpare (y : AddressSpacesView) (k : FramesView) (frame : ℕ) : Type 0 where
@@ -24,9 +24,6 @@ module _ (y : AddressSpacesView) (k : FramesView) (online : List ℕ) (moved fai
   pub kept_stocked : HasItsFrames (paged_frames y k)
   kept_stocked = stocked_is y k online moved failed k.vacated refl kept.sound shelf
 
-  pub place_known : (page : Page) (frame : ℕ) → get page_cmp y.place page ≡ Some frame → frame < frame_count k.layout
-  place_known page frame placed = place_below (paged_frames y k) page frame kept_stocked placed
-
   pub front_spare : (node frame : ℕ) → slice_get (free_on k node) 0 ≡ Some frame → IsSpare y k frame
   front_spare node frame front =
       let below = front_below (paged_frames y k) node frame kept_stocked front in
@@ -35,9 +32,6 @@ module _ (y : AddressSpacesView) (k : FramesView) (online : List ℕ) (moved fai
         known = subst (λ n. frame < n) (sym kept.as_many) below;
         place = λ q placed. apart_from_front (paged_frames y k) q node frame frame kept_stocked placed front refl;
       }
-
-  pub front_apart : (page : Page) (node from to : ℕ) → get page_cmp y.place page ≡ Some from → slice_get (free_on k node) 0 ≡ Some to → from ≢ to
-  front_apart page node from to placed front = apart_from_front (paged_frames y k) page node from to kept_stocked placed front
 
 -- a page in another frame
 module _ (y z : AddressSpacesView) (k taken copied left : FramesView) (page : Page) (node from to : ℕ) where

@@ -18,12 +18,12 @@ use Rattle.nm_model.specs.definitions.Run.{with_free, with_all_free}
 use Rattle.nm_model.specs.definitions.Sound.{PlacesAreApart}
 use Rattle.nm_engine.specs.views.Shown.{PagedFrames}
 use Rattle.nm_memory.specs.views.Frames.{with_freed}
-use Rattle.nm_engine.proofs.Together.Paged.{HasItsFrames, free_of, stock_page, restock_page, free_all}
+use Rattle.nm_engine.proofs.Shown.PagedFrames.{HasItsFrames, free_of, stock_page, restock_page, free_all}
 use Rattle.nm_model.specs.views.Table.{Table}
 use Rattle.nm_engine.specs.views.Shown.{bytes_in, shown}
 use Rattle.nm_types.proofs.Maps.{page_cmp_total, exact_page, get-values, with_values-set, with_values-moved, set_agree, set_same, replace_is_set}
 use Rattle.nm_laws.proofs.Soundness.Once.{places_are_apart}
-use Rattle.nm_engine.proofs.Together.Free.{place_below, front_below, apart_from_front}
+use Rattle.nm_engine.proofs.Shown.FreeFrames.{place_below, front_below, apart_from_front}
 
 pub front_got : (xs : List ℕ) → 0 < length xs → slice_get xs 0 ≡ Some (slice_index xs 0)
 front_got [] some = absurd (omega (arith, some))

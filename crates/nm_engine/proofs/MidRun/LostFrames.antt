@@ -30,7 +30,7 @@ use Rattle.nm_laws.proofs.Soundness.Frames.{here, times_push}
 use Rattle.nm_types.proofs.Keys.{some_from_keys, keys_same-without}
 use Rattle.nm_types.proofs.Maps.{with_values-without}
 use Rattle.nm_memory.proofs.FreeLists.Freed.{sizes_stay}
-use Rattle.nm_engine.proofs.Together.Free.{all_freed}
+use Rattle.nm_engine.proofs.Shown.FreeFrames.{all_freed}
 use Rattle.nm_laws.proofs.Soundness.Dropped.{dropped_sound}
 
 -- the frames beside pages

@@ -29,12 +29,12 @@ use Rattle.nm_model.specs.definitions.BeforeCopy.{PendingAccess, Known, ToRead, 
 use Rattle.nm_memory.specs.definitions.AfterCopy.{StoreAfterCopy, all_stored_after_copy, IsIn, CanDo}
 use Rattle.nm_laws.proofs.Soundness.Frames.{here, times_cons}
 use Rattle.nm_laws.proofs.Soundness.Once.{counted_place}
-use Rattle.nm_engine.proofs.Together.Carried.{by_parts, all_carried, all_taken, tos_are, IsCarried, is_carried, carried_copy}
+use Rattle.nm_engine.proofs.Shown.Moves.{by_parts, all_carried, all_taken, tos_are, IsCarried, is_carried, carried_copy}
 use Rattle.nm_memory.proofs.Copies.Copied.{stays_home, stays_populated, copies_home}
-use Rattle.nm_engine.proofs.Together.Populated.{place_populated, left_populated, all_leave, both_populated}
+use Rattle.nm_engine.proofs.Shown.PopulatedFrames.{place_populated, left_populated, all_leave, both_populated}
 use Rattle.nm_memory.proofs.Copies.Populated.{copies_populated}
 use Rattle.nm_laws.proofs.Seen.Frames.{place_in_range}
-use Rattle.nm_engine.proofs.Early.Finished.{all_done_shows, finished_as}
+use Rattle.nm_engine.proofs.InFlight.AfterCopy.{all_done_shows, finished_as}
 use Rattle.nm_laws.proofs.Early.Kept.{beside}
 use Rattle.nm_laws.proofs.Early.Phases.{pages_of, again_list}
 

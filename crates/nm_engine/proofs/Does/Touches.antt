@@ -19,7 +19,7 @@ use Rattle.nm_model.specs.definitions.Effect.{info_of, seeing}
 use Rattle.nm_model.specs.definitions.Areas.{is_shared}
 use Rattle.nm_model.specs.definitions.Touch.{AccessSite, site, site_of, site_over, shown_at, first_free, allocated, filled, with_sight, with_bytes, touched_entry, touched, touch}
 use Rattle.nm_engine.specs.views.Shown.{PagedFrames}
-use Rattle.nm_engine.proofs.Together.Paged.{HasItsFrames, free_of, stock_page}
+use Rattle.nm_engine.proofs.Shown.PagedFrames.{HasItsFrames, free_of, stock_page}
 use Rattle.nm_model.specs.views.Table.{Table}
 use Rattle.nm_engine.specs.views.Shown.{shown}
 use Rattle.nm_engine.specs.views.MidRun.{MidRun, IsKept, spot_at, IsSiteOf}
@@ -30,7 +30,7 @@ use Rattle.nm_types.proofs.Cases.{some_is}
 use Rattle.nm_laws.proofs.Seen.Sights.{IsSpot, page_at_spot, Fits, with_sight_sound, sight_here}
 use Rattle.nm_laws.proofs.Soundness.Allocated.{placed_sound, placed_front}
 use Rattle.nm_laws.proofs.Soundness.Touched.{has_front, private_unplaced, bytes_sound}
-use Rattle.nm_engine.proofs.Together.Shows.{page_stocked_shows, written_shows}
+use Rattle.nm_engine.proofs.Shown.FrameChanges.{page_stocked_shows, written_shows}
 use Rattle.nm_laws.proofs.Seen.Frames.{page_of_frame, zero_sees}
 
 -- what holds of the state that the parts show holds of the parts

@@ -23,9 +23,9 @@ use Rattle.nm_laws.proofs.OneByOne.Planned.{list_now}
 use Rattle.nm_laws.proofs.Soundness.Frames.{here, times_cons}
 use Rattle.nm_memory.proofs.Copies.Copied.{home_set, stays_home}
 use Rattle.nm_laws.proofs.Soundness.Counted.{front_is, counted_below}
-use Rattle.nm_engine.proofs.Together.Joint.{kept_stocked, front_spare, restocked_both}
-use Rattle.nm_engine.proofs.Together.Paged.{restock_page}
-use Rattle.nm_engine.proofs.Together.Paces.{move_shows, move_kept, some_front}
+use Rattle.nm_engine.proofs.Shown.BothParts.{kept_stocked, front_spare, restocked_both}
+use Rattle.nm_engine.proofs.Shown.PagedFrames.{restock_page}
+use Rattle.nm_engine.proofs.MidRun.RunPages.{move_shows, move_kept, some_front}
 use Rattle.nm_memory.proofs.FreeLists.Fronts.{fronts_list}
 
 -- the frames of one move, and of several
@@ -45,15 +45,6 @@ by_parts (t ∷ taken) target k inside =
     by_parts taken target (carried target k t) (omega (arith, inside, length-set k.free target (drop 1 (free_on k target))))
     ∙ ap (λ (f : List (List ℕ)). record k { frames = copies; free = f; vacated = (k.vacated ++ t.from ∷ []) ++ frames_left taken }) (fronts_list k.free target (length taken) (free_on k target) inside)
     ∙ ap (λ (v : List ℕ). record k { frames = copies; free = slice_set k.free target (drop (suc (length taken)) (free_on k target)); vacated = v }) (append_assoc k.vacated (t.from ∷ []) (frames_left taken))
-
--- .. and the parts one after the other: frames taken, frames left, pages copied, after which there may be another room
-pub in_phases : (taken : List Taken) (target : ℕ) (k fronts vacant after : FramesView) → target < length k.free
-    → fronts ≡ record k { free = slice_set k.free target (drop (length taken) (free_on k target)) } → vacant ≡ record fronts { vacated = fronts.vacated ++ frames_left taken }
-    → after ≡ record vacant { frames = with_copies vacant.frames taken; room = after.room } → after ≡ record (all_carried target k taken) { room = after.room }
-in_phases taken target k fronts vacant after inside took left_is copied =
-    let leave : FramesView → FramesView = λ s. record s { vacated = s.vacated ++ frames_left taken } in
-    let copy : FramesView → FramesView = λ s. record s { frames = with_copies s.frames taken; room = after.room } in
-    copied ∙ ap copy (left_is ∙ ap leave took) ∙ sym (ap (λ (s : FramesView). record s { room = after.room }) (by_parts taken target k inside))
 
 carried_shelf : (k : FramesView) (target : ℕ) (t : Taken) → HasAllFrames k → HasAllFrames (carried target k t)
 carried_shelf k target t h = record {

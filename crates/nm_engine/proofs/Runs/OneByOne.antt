@@ -1,6 +1,6 @@
 -- A run by its plan is a run one after another.
 use Rattle.std.proofs.Common.{◌≡◌, ◌≢◌, ℕ, zero, suc, ◌<◌, ◌≤◌, Bool, true, false, List, [], ◌∷◌, ◌++◌, map, length, take, drop, refl, sym, ap, subst, ◌∙◌, arith, ⊎_elim}
-use Rattle.std.specs.Prelude.{Option, Some, None, ℤ, slice_get, slice_set, if◌then◌else◌, pos}
+use Rattle.std.specs.Prelude.{Option, Some, None, slice_get, slice_set, if◌then◌else◌, pos}
 use Rattle.std.specs.List.{AllByRecursion, sum_by}
 use Rattle.std.specs.List.Sorted.{IsStrictlySortedBy}
 use Rattle.std.specs.Map.{keys_of, values_of}
@@ -20,10 +20,9 @@ use Rattle.nm_runs.specs.Shown.{class_shown, HasFrameBelow, ShowsItsFrames}
 use Rattle.nm_model.specs.definitions.Status.{status_or_move}
 use Rattle.nm_types.specs.declared.taken.Taken.{Taken}
 use Rattle.nm_model.specs.definitions.Decide.{Choice, Decisions, has_moved, take_front, decide, shortage, Planned, planned}
-use Rattle.nm_model.specs.definitions.Run.{moved_page, decision, each_request, frames_left, with_counts, with_all_free, failures, run, IsByAddress, IsByPage, HasOneAll}
-use Rattle.std.proofs.lemmas.List.{length-map}
+use Rattle.nm_model.specs.definitions.Run.{moved_page, decision, each_request, IsByAddress, IsByPage, HasOneAll}
 use Rattle.nm_model.specs.definitions.Sound.{times, FramesAreOnce, OwnsItsFree}
-use Rattle.nm_laws.specs.Laws.{Agrees, moves_all, with_move, with_moves}
+use Rattle.nm_laws.specs.Laws.{Agrees, moves_all, with_move}
 use Rattle.nm_laws.specs.Moves.{CanMove, IsPlanOf}
 use Rattle.nm_laws.proofs.Soundness.Once.{counted_place}
 use Rattle.nm_laws.proofs.Soundness.Counted.{counted_below}
@@ -156,14 +155,3 @@ is_plan_of s target ws p order own alike is =
       agrees = subst (λ (q : Planned). Agrees s target (each_request s target ws) (both q)) (sym is) agrees;
       can = subst (CanMove s target) (agrees.taken ∙ sym (ap (λ (q : Planned). q.taken) is)) (each_can ws target s);
     }
-
--- a run by its plan is the run
-pub run_by_plan : (s t : State) (target : ℕ) (ws : List Wanted) (p : Planned) (moves : List Taken) (l : List ℕ) (statuses : List ℤ) → IsPlanOf s target ws p → moves ≡ p.taken → statuses ≡ p.statuses
-    → t ≡ with_moves s target moves → l ≡ frames_left moves → with_counts (with_all_free t l) (length l) (failures statuses) ≡ (run s target ws []).state
-run_by_plan s t target ws p moves l statuses h taken told state kept =
-    let now = each_request s target ws in
-    let same : moves ≡ now.taken = taken ∙ sym h.agrees.taken in
-    ap (λ (u : State). with_counts (with_all_free u l) (length l) (failures statuses)) (state ∙ ap (with_moves s target) taken ∙ sym h.agrees.state)
-    ∙ ap (λ (xs : List ℕ). with_counts (with_all_free now.state xs) (length xs) (failures statuses)) (kept ∙ ap (λ (ts : List Taken). frames_left ts) same)
-    ∙ ap (λ n. with_counts (with_all_free now.state (frames_left now.taken)) n (failures statuses)) (length-map now.taken (λ (t : Taken). t.from))
-    ∙ ap (λ (ss : List ℤ). with_counts (with_all_free now.state (frames_left now.taken)) (length now.taken) (failures ss)) (told ∙ sym h.agrees.statuses)

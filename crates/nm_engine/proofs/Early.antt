@@ -1,4 +1,0 @@
-pub mod Finished
-pub mod Carrying
-pub mod Noted
-pub mod Taken

@@ -1,0 +1,4 @@
+pub mod AreaCalls
+pub mod AreaChanges
+pub mod LostFrames
+pub mod RunPages

@@ -1,0 +1,2 @@
+pub mod AlikeRequests
+pub mod OneByOne
