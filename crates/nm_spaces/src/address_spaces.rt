@@ -145,7 +145,8 @@ impl<A: Allocator + Copy> AddressSpaces<A> {
 
     /// The frames of all pages that have one, in page order.
     pub fn places(&self) -> Result<Vec<FrameId, A>, AllocError>
-        ensures { IfOk result (λ frames. frames.items ≡ values_of self.now.place) }
+        ensures places { IfOk result (λ frames. frames.items ≡ values_of self.now.place) }
+        ensures asked { OnErr result (0 < length self.now.place) }
     {
         self.areas.frames()
     }

@@ -32,7 +32,8 @@ impl<A: Allocator + Copy> AddressSpaces<A> {
 
     /// The pages that have a frame, each with its frame, by segment and index.
     pub fn placed(&self) -> Result<Vec<(Page, FrameId), A>, AllocError>
-        ensures { IfOk result (λ placed. placed.items ≡ self.now.place) }
+        ensures placed { IfOk result (λ placed. placed.items ≡ self.now.place) }
+        ensures asked { OnErr result (0 < length self.now.place) }
     {
         self.areas.placed()
     }
@@ -78,6 +79,10 @@ impl<A: Allocator + Copy> AddressSpaces<A> {
         ensures nodes { IfOk result
             (λ pages. All (λ e. e.node < node_count geometry.now) pages.items) }
         ensures few { IfOk result (λ pages. length pages.items ≤ end - first) }
+
+        // Without memory
+        ensures asked { OnErr result
+            (0 < length (between first end (sights self.now.processes pid))) }
     {
         let entries = self.tasks.entries_between(pid, first, end)?;
         let mut pages = Vec::new(alloc);
