@@ -1,6 +1,5 @@
 //! Walks over what processes have.
 
-ghost use Rattle.std.specs.Ordering.{nat_cmp};
 ghost use Rattle.std.specs.Prelude.{All, IfNone, IfOk, IfSome, Some, true, [], length, option_map, ◌+◌, ◌-◌, ◌<◌, ◌^◌, ◌∷◌, ◌≡◌, ◌≤◌};
 ghost use Rattle.std.specs.Result.{OnErr};
 ghost use Rattle.nm_areas.specs.Lines.{lines_of};
@@ -13,11 +12,10 @@ ghost use Rattle.nm_types.specs.Map.{get, page_cmp};
 ghost use Rattle.nm_types.specs.State.{Placed, area_over, page_at, page_of};
 ghost use Rattle.nm_types.specs.declared.page.Page.{Page};
 
-use nm_types::Located;
 use crate::address_spaces::AddressSpaces;
 use nm_areas::Line;
 use nm_tables::Entry;
-use nm_types::{Area, FrameId, Geometry, Page, Pid, Sight, Vpn};
+use nm_types::{Area, FrameId, Geometry, Located, Page, Pid, Sight, Vpn};
 use std::alloc::{AllocError, Allocator};
 
 impl<A: Allocator + Copy> AddressSpaces<A> {

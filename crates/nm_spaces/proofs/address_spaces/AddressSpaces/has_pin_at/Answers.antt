@@ -1,4 +1,4 @@
-use Rattle.std.proofs.Common.{◌≡◌, ◌<◌, ap, sym, ◌∙◌}
+use Rattle.std.proofs.Common.{ap, sym, ◌∙◌}
 use Rattle.std.specs.Prelude.{nat_lt}
 use Rattle.nm_types.specs.Map.{get, page_cmp}
 use Rattle.nm_spaces.specs.views.AddressSpaces.{AddressSpacesView, is_pinned}
