@@ -21,12 +21,11 @@ mod back;
 pub(crate) mod held;
 mod walk;
 
-use nm_types::ProcessInfo;
 use crate::process_table::ProcessTable;
 use nm_areas::Areas;
 use nm_rmap::ReverseMap;
 use nm_tables::Entry;
-use nm_types::{Area, Errno, FrameId, Page, PageView, Pid, Seen, Sight, Vpn};
+use nm_types::{Area, Errno, FrameId, Page, PageView, Pid, ProcessInfo, Seen, Sight, Vpn};
 use std::alloc::{AllocError, Allocator};
 use std::marker::Model;
 
@@ -145,7 +144,8 @@ impl<A: Allocator + Copy> AddressSpaces<A> {
 
     /// The frames of all pages that have one, in page order.
     pub fn places(&self) -> Result<Vec<FrameId, A>, AllocError>
-        ensures { IfOk result (λ frames. frames.items ≡ values_of self.now.place) }
+        ensures places { IfOk result (λ frames. frames.items ≡ values_of self.now.place) }
+        ensures asked { OnErr result (0 < length self.now.place) }
     {
         self.areas.frames()
     }
@@ -236,13 +236,7 @@ impl<A: Allocator + Copy> AddressSpaces<A> {
     }
 
     /// Makes a process see a page that has a frame, at a page number.
-    pub fn see(
-        &mut self,
-        pid: Pid,
-        vpn: Vpn,
-        page: Page,
-        frame: FrameId,
-    ) -> Result<(), AllocError>
+    pub fn see(&mut self, pid: Pid, vpn: Vpn, page: Page, frame: FrameId) -> Result<(), AllocError>
         requires known { IsSome (get nat_cmp self.old.processes pid) }
         requires unseen { (q : Page) →
             sight_in (get nat_cmp self.old.processes pid) vpn ≡ Some (Sees q) →

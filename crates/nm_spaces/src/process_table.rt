@@ -1,6 +1,6 @@
 //! The table of processes.
 
-ghost use Rattle.std.specs.Prelude.{ℕ, ◌≡◌, ◌≤◌, ◌<◌, nat_eq, true, slice_get, [], length, Some, None, IsSome, IfSome, IfNone, IfOk, OnOk, OnErr};
+ghost use Rattle.std.specs.Prelude.{ℕ, ◌≡◌, ◌≤◌, ◌<◌, nat_eq, true, false, slice_get, [], length, Some, None, IsSome, IfSome, IfNone, IfOk, OnOk, OnErr};
 ghost use Rattle.std.specs.Option.{option_copied, option_map};
 ghost use Rattle.std.specs.List.Sorted.{IsStrictlySortedBy};
 ghost use Rattle.std.specs.Map.{keys_of, lookup};
@@ -105,8 +105,9 @@ impl<A: Allocator + Copy> ProcessTable<A> {
         first: Vpn,
         end: Vpn,
     ) -> Result<Vec<(Vpn, Entry), A>, AllocError>
-        ensures { IfOk result
+        ensures entries { IfOk result
             (λ entries. entries.items ≡ between first end (entries_in self.now pid)) }
+        ensures asked { OnErr result (0 < length (between first end (entries_in self.now pid))) }
     {
         let mut entries = Vec::new(self.alloc);
         let Some(task) = task_of(&self.tasks, pid) else {
@@ -222,6 +223,7 @@ fn stands_at<A: Allocator + Copy>(tasks: &Tasks<A>, place: usize, pid: Pid) -> b
     ensures key { result ≡ true → slice_get (keys_of tasks.now.entries) place ≡ Some pid }
     ensures value { result ≡ true →
         slice_get (values tasks.now) place ≡ lookup (nat_eq pid) tasks.now.entries }
+    ensures other { result ≡ false → slice_get (keys_of tasks.now.entries) place ≡ Some pid → ⊥ }
 {
     match tasks.get_index(place) {
         Some((there, _)) => *there == pid,

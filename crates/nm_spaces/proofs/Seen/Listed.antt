@@ -1,6 +1,6 @@
 -- The pages that a process sees, listed from the entries of its page table.
 use Rattle.std.proofs.Common.{◌≡◌, ℕ, zero, suc, ◌+◌, ◌<◌, ◌≤◌, nat_lt, ◌&&◌, Bool, true, false, cond, List, [], ◌∷◌, ◌++◌, length, drop, get_or, refl, sym, ap, subst, ◌∙◌, append_assoc, drop-cons, length-append, arith, ◌-◌}
-use Rattle.std.proofs.lemmas.List.{drop_all, append-nil}
+use Rattle.std.proofs.lemmas.List.{drop_all, append-nil, length-map}
 use Rattle.std.proofs.lemmas.List.Concat.{flat_map-cons}
 use Rattle.std.proofs.lemmas.Map.Lookups.{exact_unsigned}
 use Rattle.std.specs.Cmp.{nat_cmp_total}
@@ -19,6 +19,7 @@ use Rattle.nm_types.proofs.Maps.{all_from_get}
 use Rattle.nm_types.specs.declared.entry.Entry.{Entry}
 use Rattle.nm_model.specs.definitions.Areas.{Mapped}
 use Rattle.nm_rmap.specs.Mappers.{Mappers}
+use Rattle.nm_tables.specs.Lists.{IsCutShort}
 use Rattle.nm_types.specs.declared.located.Located.{Located}
 use Rattle.nm_spaces.specs.views.AddressSpaces.{AddressSpacesView, spaces_view}
 use Rattle.nm_model.specs.definitions.PageTables.{sight_of, page_here}
@@ -152,3 +153,16 @@ module _ (y : AddressSpacesView) (tasks : Map ℕ Task) (m : Mapped) (r : Mapper
       ap (pages_in g y.place y.areas pid) range
       ∙ ap (λ (z : AddressSpacesView). located_in g y.place (with_values (sight_of z.areas pid) (between first end (entries_in tasks pid)))) (sym is)
       ∙ ap (located_in g y.place) (sym (range_shown y tasks m r pid is h first end))
+
+  -- what is seen in a range is as much as there are entries
+  pub some_seen : (first end : ℕ) → 0 < length (between first end (entries_in tasks pid)) → 0 < length (between first end (sights y.processes pid))
+  some_seen first end low =
+      let entries = between first end (entries_in tasks pid) in
+      let many = ap length (range_shown y tasks m r pid is h first end) ∙ length-map entries (λ (e : ℕ × Entry). (e.0, sight_of m.areas pid e.0 e.1)) in
+      omega (arith, low, many)
+
+-- where a list was cut short, there was something to list
+pub some_left : {X : Type 0} (list all : List X) → IsCutShort list all → 0 < length all
+some_left list all cut =
+    let many = ap length cut.2 ∙ length-append list (cut.0 ∷ cut.1) in
+    omega (arith, many)

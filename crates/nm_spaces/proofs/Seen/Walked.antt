@@ -1,8 +1,8 @@
 -- Going through what a process sees, from one entry to the next.
-use Rattle.std.proofs.Common.{arith, ◌≡◌, ℕ, ◌+◌, ◌-◌, ◌<◌, ◌≤◌, nat_lt, ◌&&◌, Bool, true, false, cond, List, [], ◌∷◌, refl, sym, ap, subst, ◌∙◌, inl, inr, lt-ltb, length}
+use Rattle.std.proofs.Common.{arith, ◌≡◌, ℕ, ◌+◌, ◌-◌, ◌<◌, ◌≤◌, nat_lt, ◌&&◌, Bool, true, false, cond, [], ◌∷◌, refl, sym, ap, subst, ◌∙◌, inl, inr, lt-ltb, length}
 use Rattle.std.proofs.lemmas.Bool.{cases_order}
-use Rattle.std.specs.Prelude.{nat_le, not, Option, Some, None, IsSome}
-use Rattle.std.specs.List.{filter, list_any, AllByRecursion}
+use Rattle.std.specs.Prelude.{nat_le, not, Option, Some, None}
+use Rattle.std.specs.List.{AllByRecursion}
 use Rattle.std.specs.List.Sorted.{IsStrictlySortedBy}
 use Rattle.std.specs.Map.{keys_of}
 use Rattle.std.specs.Ordering.{nat_cmp, is_eq, is_le}
@@ -14,16 +14,16 @@ use Rattle.std.specs.BTreeMap.{is_at}
 use Rattle.std.proofs.lemmas.Map.{lookup-none}
 use Rattle.std.proofs.lemmas.Map.Entries.{none_below_head}
 use Rattle.std.proofs.lemmas.Map.Keys.{sorted_head, sorted_tail}
-use Rattle.nm_types.specs.Map.{Map, get, with_values, page_cmp, same_page}
-use Rattle.nm_types.proofs.Maps.{found_first, get-values, exact_page, equal, all_from_get}
-use Rattle.nm_types.proofs.Cases.{none_some, some_none, some_is, none_is_not}
+use Rattle.nm_types.specs.Map.{Map, get, with_values}
+use Rattle.nm_types.proofs.Maps.{found_first, get-values}
+use Rattle.nm_types.proofs.Cases.{none_some, some_none, some_is}
 use Rattle.std.specs.Option.{unwrap_or, option_map}
 use Rattle.std.proofs.lemmas.Map.Lookups.{exact_unsigned}
 use Rattle.nm_types.specs.declared.page.Page.{Page}
 use Rattle.nm_types.specs.declared.area.Area.{Area}
 use Rattle.nm_types.specs.declared.sight.Sight.{Sight}
-use Rattle.nm_types.specs.declared.sight.Sight.TheVariants.{ZeroPage, Sees}
-use Rattle.nm_types.specs.State.{Process, State, page_at}
+use Rattle.nm_types.specs.declared.sight.Sight.TheVariants.{Sees}
+use Rattle.nm_types.specs.State.{Process, page_at}
 use Rattle.nm_types.proofs.Keys.{All-get}
 use Rattle.nm_types.specs.declared.entry.Entry.{Entry}
 use Rattle.nm_model.specs.definitions.Areas.{Mapped}
@@ -32,9 +32,6 @@ use Rattle.nm_model.specs.definitions.PageTables.{Task, entry_in, entry_at}
 use Rattle.nm_spaces.specs.views.ProcessTable.{task_table, entries_in}
 use Rattle.nm_spaces.specs.views.AddressSpaces.{AddressSpacesView, spaces_view}
 use Rattle.nm_model.specs.definitions.PageTables.{sight_of, process_of, page_here}
-use Rattle.nm_model.specs.definitions.Seen.{sight_in, sight_at, is_sight_of, sees_page, users, look_at_place}
-use Rattle.nm_types.specs.declared.seen.Seen.{Seen}
-use Rattle.nm_types.specs.declared.seen.Seen.TheVariants.{NoArea, Absent, Zero, At}
 use Rattle.nm_spaces.specs.definitions.Tied.{IsTied}
 use Rattle.nm_model.specs.definitions.Seen.{between, sights}
 

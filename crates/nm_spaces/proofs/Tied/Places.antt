@@ -1,5 +1,5 @@
 -- Where processes stand in their table.
-use Rattle.std.proofs.Common.{◌≡◌, ℕ, List, true, cond, nat_eq, eqb-true, slice_get, position, refl, sym, ap, subst, ◌∙◌}
+use Rattle.std.proofs.Common.{◌≡◌, ℕ, List, true, false, cond, nat_eq, eqb-true, eq-eqb, slice_get, position, refl, sym, ap, subst, ◌∙◌}
 use Rattle.std.specs.Prelude.{Option, Some, None, IsSome, IfSome}
 use Rattle.std.specs.Option.{option_map}
 use Rattle.std.specs.Map.{keys_of, values_of, lookup}
@@ -10,7 +10,7 @@ use Rattle.std.specs.Ordering.{nat_cmp}
 use Rattle.indexmap.specs.IndexMap.{IndexMap, IsUnique, with_value_at}
 use Rattle.indexmap.proofs.CallerLemmas.{updates-with_value_at}
 use Rattle.nm_types.specs.Map.{Map, replace}
-use Rattle.nm_types.proofs.Cases.{some_is}
+use Rattle.nm_types.proofs.Cases.{none_some, some_is, true_false}
 use Rattle.nm_model.specs.definitions.PageTables.{Task}
 use Rattle.nm_spaces.specs.views.ProcessTable.{by_pid}
 use Rattle.nm_spaces.proofs.Tied.Tabled.{rewritten}
@@ -19,6 +19,16 @@ module _ {V : Type 0} (es : List (ℕ × V)) where
   -- the key of an entry, as it is asked for
   pub key_there : (i p : ℕ) (e : ℕ × V) → Some e ≡ slice_get es i → nat_eq e.0 p ≡ true → slice_get (keys_of es) i ≡ Some p
   key_there i p e at same = slice_get-map (λ e. e.0) es i ∙ ap (option_map (λ e. e.0)) (sym at) ∙ ap Some (eqb-true e.0 p same)
+
+  -- an entry with another key
+  pub other_there : (i p : ℕ) (e : ℕ × V) → Some e ≡ slice_get es i → nat_eq e.0 p ≡ false → slice_get (keys_of es) i ≡ Some p → ⊥
+  other_there i p e at other there =
+      let same = some_is (ap (option_map (λ e. e.0)) at ∙ sym (slice_get-map (λ e. e.0) es i) ∙ there) in
+      true_false (sym (eq-eqb e.0 p same) ∙ other)
+
+  -- nothing stands where no entry does
+  pub none_there : (i p : ℕ) → None ≡ slice_get es i → slice_get (keys_of es) i ≡ Some p → ⊥
+  none_there i p at there = none_some (ap (option_map (λ e. e.0)) at ∙ sym (slice_get-map (λ e. e.0) es i) ∙ there)
 
   -- the value there is the one that is found by the key
   pub value_there : (i p : ℕ) (e : ℕ × V) → Some e ≡ slice_get es i → nat_eq e.0 p ≡ true → lookup (nat_eq e.0) es ≡ Some e.1 → slice_get (values_of es) i ≡ lookup (nat_eq p) es

@@ -6,10 +6,9 @@ use Rattle.std.proofs.lemmas.Bool.{both_ways, ne_eqb}
 use Rattle.nm_types.specs.declared.page.Page.{Page}
 use Rattle.nm_types.specs.declared.sight.Sight.{Sight}
 use Rattle.nm_types.specs.declared.sight.Sight.TheVariants.{ZeroPage, Sees}
-use Rattle.nm_types.specs.declared.entry.Entry.{Entry}
 use Rattle.nm_types.specs.declared.entry.Entry.TheVariants.{Zero, Frame, Held}
 use Rattle.nm_types.specs.declared.taken.Taken.{Taken}
-use Rattle.nm_types.specs.Map.{Map, get, page_cmp}
+use Rattle.nm_types.specs.Map.{get, page_cmp}
 use Rattle.nm_types.proofs.Cases.{some_is}
 use Rattle.nm_model.specs.definitions.Events.{held_by, laid_for}
 use Rattle.nm_model.specs.definitions.Frames.{Store}

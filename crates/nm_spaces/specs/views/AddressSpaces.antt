@@ -1,5 +1,5 @@
 -- The address spaces of all processes: what each sees, its areas, and the frames and pins of pages.
-use Rattle.std.specs.Prelude.{ℕ, Bool, ◌==◌, [], if◌then◌else◌, length}
+use Rattle.std.specs.Prelude.{ℕ, Bool, false, ◌==◌, nat_lt, [], if◌then◌else◌, length, Option, Some, None}
 use Rattle.std.specs.Option.{unwrap_or}
 use Rattle.std.specs.Ordering.{nat_cmp}
 use Rattle.std.specs.List.{fold}
@@ -96,6 +96,11 @@ with_moved y page frame = record y { place = set page_cmp y.place page frame }
 -- the number of pins of a page
 abbrev pub pins_here : AddressSpacesView → Page → ℕ
 pins_here y page = unwrap_or (get page_cmp y.pins page) 0
+
+-- whether there is a page, and it has a pin
+abbrev pub is_pinned : AddressSpacesView → Option Page → Bool
+is_pinned y None = false
+is_pinned y (Some page) = nat_lt 0 (pins_here y page)
 
 -- the number of pins of a page is set
 abbrev pub with_pins_of : AddressSpacesView → Page → ℕ → AddressSpacesView

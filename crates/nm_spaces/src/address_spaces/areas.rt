@@ -1,21 +1,22 @@
 //! Adding, splitting and removing areas of address spaces.
 
-ghost use Rattle.std.specs.Prelude.{ℕ, true, false, ◌≡◌, ◌<◌, ◌≤◌, ◌+◌, ◌/◌, [], length, None, Some, Err, IfOk, OnOk, OnErr, IfErr};
+ghost use Rattle.std.specs.Prelude.{ℕ, true, false, ◌≡◌, ◌<◌, ◌≤◌, ◌+◌, ◌/◌, ◌⊎◌, [], length, None, Some, Err, IfOk, OnOk, OnErr, IfErr};
 ghost use Rattle.std.specs.List.{AllByRecursion, list_any};
 ghost use Rattle.std.specs.Map.{keys_of};
 ghost use Rattle.std.specs.Ordering.{nat_cmp};
 ghost use Rattle.std.specs.List.Sorted.{IsStrictlySortedBy};
 ghost use Rattle.nm_types.specs.Map.{get, without};
-ghost use Rattle.nm_types.specs.State.{Process};
+ghost use Rattle.nm_types.specs.State.{Process, page_at};
 ghost use Rattle.nm_types.specs.Does.{Makes};
-ghost use Rattle.nm_model.specs.definitions.Areas.{inserted, attached, with_policy};
+ghost use Rattle.nm_areas.specs.Splits.{HasSplit};
+ghost use Rattle.nm_model.specs.definitions.Areas.{inserted, attached, pages_of, with_policy};
 ghost use Rattle.nm_model.specs.definitions.AreaRefusal.{insert_refusal, stretch_refusal, range_refusal, remove_refusal, overlaps};
 ghost use Rattle.nm_model.specs.definitions.Areas.{removed, frames_lost};
 ghost use Rattle.nm_model.specs.definitions.Effect.{shows_pinned};
 ghost use Rattle.nm_model.specs.definitions.PageTables.{entry_at};
 ghost use Rattle.nm_spaces.specs.views.ProcessTable.{names, cleared};
 ghost use Rattle.nm_spaces.specs.definitions.Tied.{IsCleared};
-ghost use Rattle.nm_spaces.specs.views.AddressSpaces.{mapped_of, with_mapped, without_range};
+ghost use Rattle.nm_spaces.specs.views.AddressSpaces.{is_pinned, mapped_of, with_mapped, without_range};
 
 use crate::address_spaces::AddressSpaces;
 use crate::process_table::ProcessTable;
@@ -88,6 +89,9 @@ impl<A: Allocator + Copy> AddressSpaces<A> {
         ensures memory { result ≡ Err MachineError.HostMemory →
             range_refusal (mapped_of self.old) pid addr len ≡ None }
         ensures asked { result ≡ Err MachineError.HostMemory → 0 < len }
+        ensures split { result ≡ Err MachineError.HostMemory →
+            HasSplit self.old.areas pid (addr / 4096)
+            ⊎ HasSplit self.old.areas pid (addr / 4096 + pages_of len) }
         ensures same { self.new ≡ with_mapped self.old (mapped_of self.new) }
     {
         self.areas.split_policy(pid, addr, len, policy)
@@ -108,7 +112,8 @@ impl<A: Allocator + Copy> AddressSpaces<A> {
 
     /// Whether the page that an area of a process shows at a page number has a pin.
     pub fn has_pin_at(&self, pid: Pid, vpn: Vpn) -> bool
-        ensures { result ≡ true →
+        ensures pinned { result ≡ is_pinned self.now (page_at self.now.areas pid vpn) }
+        ensures around { result ≡ true →
             (first end : ℕ) →
             first ≤ vpn →
             vpn < end →

@@ -1,6 +1,5 @@
 //! Walks over what processes have.
 
-ghost use Rattle.std.specs.Ordering.{nat_cmp};
 ghost use Rattle.std.specs.Prelude.{All, IfNone, IfOk, IfSome, Some, true, [], length, option_map, ◌+◌, ◌-◌, ◌<◌, ◌^◌, ◌∷◌, ◌≡◌, ◌≤◌};
 ghost use Rattle.std.specs.Result.{OnErr};
 ghost use Rattle.nm_areas.specs.Lines.{lines_of};
@@ -13,11 +12,10 @@ ghost use Rattle.nm_types.specs.Map.{get, page_cmp};
 ghost use Rattle.nm_types.specs.State.{Placed, area_over, page_at, page_of};
 ghost use Rattle.nm_types.specs.declared.page.Page.{Page};
 
-use nm_types::Located;
 use crate::address_spaces::AddressSpaces;
 use nm_areas::Line;
 use nm_tables::Entry;
-use nm_types::{Area, FrameId, Geometry, Page, Pid, Sight, Vpn};
+use nm_types::{Area, FrameId, Geometry, Located, Page, Pid, Sight, Vpn};
 use std::alloc::{AllocError, Allocator};
 
 impl<A: Allocator + Copy> AddressSpaces<A> {
@@ -32,7 +30,8 @@ impl<A: Allocator + Copy> AddressSpaces<A> {
 
     /// The pages that have a frame, each with its frame, by segment and index.
     pub fn placed(&self) -> Result<Vec<(Page, FrameId), A>, AllocError>
-        ensures { IfOk result (λ placed. placed.items ≡ self.now.place) }
+        ensures placed { IfOk result (λ placed. placed.items ≡ self.now.place) }
+        ensures asked { OnErr result (0 < length self.now.place) }
     {
         self.areas.placed()
     }
@@ -78,6 +77,10 @@ impl<A: Allocator + Copy> AddressSpaces<A> {
         ensures nodes { IfOk result
             (λ pages. All (λ e. e.node < node_count geometry.now) pages.items) }
         ensures few { IfOk result (λ pages. length pages.items ≤ end - first) }
+
+        // Without memory
+        ensures asked { OnErr result
+            (0 < length (between first end (sights self.now.processes pid))) }
     {
         let entries = self.tasks.entries_between(pid, first, end)?;
         let mut pages = Vec::new(alloc);

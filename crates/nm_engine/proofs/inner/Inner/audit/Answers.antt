@@ -12,14 +12,14 @@ returns-clause-sound g c none =
     let i = c.self.inside in
     let s = shown_by i.spaces i.frames i.online i.totals.moved i.totals.failed in
     let left : i.frames.vacated ≡ [] = ap (λ (a : MidRun). a.left) c.self.view_is ∙ none in
-    c.in_ok-once.ensures ∙ ap (is_audited s.layout (numbered 0 s.free)) (c.as_slice.ensures.value ∙ c.in_ok-places.ensures)
+    c.in_ok-once.ensures ∙ ap (is_audited s.layout (numbered 0 s.free)) (c.as_slice.ensures.value ∙ c.in_ok-places.ensures.places)
     ∙ sound_is_audited s (subst (λ l. IsSoundMidRun s l) left c.self.invariant.sound)
 
 pub returns-clause-told : goal.returns-clause-told
 returns-clause-told g c =
     let i = c.self.inside in
     let s = shown_by i.spaces i.frames i.online i.totals.moved i.totals.failed in
-    c.in_ok-once.ensures ∙ ap (is_audited s.layout (numbered 0 s.free)) (c.as_slice.ensures.value ∙ c.in_ok-places.ensures)
+    c.in_ok-once.ensures ∙ ap (is_audited s.layout (numbered 0 s.free)) (c.as_slice.ensures.value ∙ c.in_ok-places.ensures.places)
     ∙ ap (λ (a : MidRun). audited a.state) c.self.view_is
 
 pub returns-in_err-places-clause-told : goal.returns-in_err-places-clause-told

@@ -15,7 +15,7 @@ pub pages_among-requires : goal.pages_among-requires
 pages_among-requires g c =
     let i = c.self.inside in
     let s = shown_by i.spaces i.frames i.online i.totals.moved i.totals.failed in
-    subst (λ (m : Map Page ℕ). All (λ (e : Page × ℕ). e.1 < frame_count c.geometry-geometry.result.now) m) (sym (c.as_slice.ensures.value ∙ c.in_ok-placed.ensures))
+    subst (λ (m : Map Page ℕ). All (λ (e : Page × ℕ). e.1 < frame_count c.geometry-geometry.result.now) m) (sym (c.as_slice.ensures.value ∙ c.in_ok-placed.ensures.placed))
     (subst (λ (g : Layout). All (λ (e : Page × ℕ). e.1 < frame_count g) s.place) (sym c.geometry-geometry.ensures)
     (places_below s i.frames.vacated c.self.invariant.sound.frames))
 
@@ -24,7 +24,7 @@ returns-clause-list g c =
     let i = c.self.inside in
     let s = shown_by i.spaces i.frames i.online i.totals.moved i.totals.failed in
     let on : Layout → Map Page ℕ → List Page = λ g m. keys_of (filter (λ (e : Page × ℕ). node_of g e.1 == c.args.node) m) in
-    c.in_ok-pages.ensures ∙ ap (on c.geometry-geometry.result.now) (c.as_slice.ensures.value ∙ c.in_ok-placed.ensures)
+    c.in_ok-pages.ensures ∙ ap (on c.geometry-geometry.result.now) (c.as_slice.ensures.value ∙ c.in_ok-placed.ensures.placed)
     ∙ ap (λ g. on g s.place) c.geometry-geometry.ensures ∙ ap (λ (x : MidRun). placed_on x.state c.args.node) c.self.view_is
 
 pub returns-clause-few : goal.returns-clause-few

@@ -1,6 +1,5 @@
 use Rattle.std.proofs.Common.{◌≡◌, ℕ, ◌+◌, ◌++◌, ◌<◌, List, [], ◌∷◌, length, drop, refl, sym, ap, subst, ◌∙◌, eq-eqb, arith}
 use Rattle.std.proofs.lemmas.List.Elements.{All-push}
-use Rattle.std.specs.Ordering.{nat_cmp}
 use Rattle.nm_types.specs.Layout.{node_count}
 use Rattle.nm_types.specs.Map.{get, page_cmp}
 use Rattle.nm_model.specs.definitions.Seen.{between, sights}
@@ -9,7 +8,8 @@ use Rattle.nm_model.specs.definitions.PageTables.{sight_of}
 use Rattle.nm_model.specs.definitions.Seen.{IsOver, located}
 use Rattle.nm_spaces.specs.views.ProcessTable.{names}
 use Rattle.nm_types.specs.declared.located.Located.{Located}
-use Rattle.nm_spaces.proofs.Seen.Listed.{pages_in, found_between, page_behind, frame_behind, located_behind, all_listed, few_listed, all_in_place, all_at, step, step_over, ended}
+use Rattle.nm_spaces.proofs.Tied.Tabled.{on_any}
+use Rattle.nm_spaces.proofs.Seen.Listed.{pages_in, found_between, page_behind, frame_behind, located_behind, all_listed, few_listed, all_in_place, all_at, some_seen, step, step_over, ended}
 use Rattle.nm_spaces.proofs.address_spaces.AddressSpaces.pages_between.Goals as goal
 use Rattle.nm_spaces.proofs.address_spaces.AddressSpaces.pages_between.Goals.{in-Zero, in-Frame+in_ok-push-in-Frame, in-Held+in_ok-push-in-Held}
 
@@ -18,7 +18,7 @@ seen_in-page-requires-clause-known g c =
     let x = c.self.inside in
     let e = c.loop-vpn-item.result in
     let f = c.in-Frame.frame in
-    let range = c.deref-vpn-items.ensures.value ∙ c.in_ok-entries.ensures in
+    let range = c.deref-vpn-items.ensures.value ∙ c.in_ok-entries.ensures.entries in
     let there = found_between c.args.self.now x.tasks x.areas x.rmap c.args.pid c.self.view_is c.self.invariant c.args.first c.args.end c.loop-vpn.vpn-index c.deref-vpn-items.result.now e range c.loop-vpn-test.true c.loop-vpn-item.is in
     let named = ap (λ o. names f (Some o)) c.in-Frame.is ∙ eq-eqb f f refl in
     subst (λ (n : ℕ). f < n) c.requires (frame_behind c.args.self.now x.tasks x.areas x.rmap c.args.pid c.self.view_is c.self.invariant e.0 f e.1 there named)
@@ -28,7 +28,7 @@ seen_in-page-requires-clause-seen g c =
     let x = c.self.inside in
     let e = c.loop-vpn-item.result in
     let f = c.in-Frame.frame in
-    let range = c.deref-vpn-items.ensures.value ∙ c.in_ok-entries.ensures in
+    let range = c.deref-vpn-items.ensures.value ∙ c.in_ok-entries.ensures.entries in
     let there = found_between c.args.self.now x.tasks x.areas x.rmap c.args.pid c.self.view_is c.self.invariant c.args.first c.args.end c.loop-vpn.vpn-index c.deref-vpn-items.result.now e range c.loop-vpn-test.true c.loop-vpn-item.is in
     let named = ap (λ o. names f (Some o)) c.in-Frame.is ∙ eq-eqb f f refl in
     page_behind c.args.self.now x.tasks x.areas x.rmap c.args.pid c.self.view_is c.self.invariant e.0 f e.1 there named
@@ -38,7 +38,7 @@ seen_in-page-requires-in-Held-clause-known g c =
     let x = c.self.inside in
     let e = c.loop-vpn-item.result in
     let f = c.in-Held.frame in
-    let range = c.deref-vpn-items.ensures.value ∙ c.in_ok-entries.ensures in
+    let range = c.deref-vpn-items.ensures.value ∙ c.in_ok-entries.ensures.entries in
     let there = found_between c.args.self.now x.tasks x.areas x.rmap c.args.pid c.self.view_is c.self.invariant c.args.first c.args.end c.loop-vpn.vpn-index c.deref-vpn-items.result.now e range c.loop-vpn-test.true c.loop-vpn-item.is in
     let named = ap (λ o. names f (Some o)) c.in-Held.is ∙ eq-eqb f f refl in
     subst (λ (n : ℕ). f < n) c.requires (frame_behind c.args.self.now x.tasks x.areas x.rmap c.args.pid c.self.view_is c.self.invariant e.0 f e.1 there named)
@@ -48,7 +48,7 @@ seen_in-page-requires-in-Held-clause-seen g c =
     let x = c.self.inside in
     let e = c.loop-vpn-item.result in
     let f = c.in-Held.frame in
-    let range = c.deref-vpn-items.ensures.value ∙ c.in_ok-entries.ensures in
+    let range = c.deref-vpn-items.ensures.value ∙ c.in_ok-entries.ensures.entries in
     let there = found_between c.args.self.now x.tasks x.areas x.rmap c.args.pid c.self.view_is c.self.invariant c.args.first c.args.end c.loop-vpn.vpn-index c.deref-vpn-items.result.now e range c.loop-vpn-test.true c.loop-vpn-item.is in
     let named = ap (λ o. names f (Some o)) c.in-Held.is ∙ eq-eqb f f refl in
     page_behind c.args.self.now x.tasks x.areas x.rmap c.args.pid c.self.view_is c.self.invariant e.0 f e.1 there named
@@ -60,7 +60,7 @@ loop-vpn-preserved g c =
     let geometry = c.args.geometry.now in
     let es = c.deref-vpn-items.result.now in
     let e = c.loop-vpn-item.result in
-    let range = c.deref-vpn-items.ensures.value ∙ c.in_ok-entries.ensures in
+    let range = c.deref-vpn-items.ensures.value ∙ c.in_ok-entries.ensures.entries in
     let there = found_between y x.tasks x.areas x.rmap c.args.pid c.self.view_is c.self.invariant c.args.first c.args.end c.loop-vpn.vpn-index es e range c.loop-vpn-test.true c.loop-vpn-item.is in
     let rest : List Located = pages_in geometry y.place y.areas c.args.pid (drop (c.loop-vpn.vpn-index + 1) es) in
     elim c.match-entry.branch [
@@ -108,7 +108,7 @@ returns-clause-pages g c =
     let x = c.self.inside in
     let y = c.args.self.now in
     let es = c.deref-vpn-items.result.now in
-    let range = c.deref-vpn-items.ensures.value ∙ c.in_ok-entries.ensures in
+    let range = c.deref-vpn-items.ensures.value ∙ c.in_ok-entries.ensures.entries in
     ended c.args.geometry.now y.place y.areas c.args.pid es c.loop-vpn.vpn-index c.loop-vpn.pages.items _ c.loop-vpn-test.false c.loop-vpn.invariant.pages
     ∙ all_listed y x.tasks x.areas x.rmap c.args.pid c.self.view_is c.self.invariant c.args.geometry.now c.args.first c.args.end es range
 
@@ -117,7 +117,7 @@ returns-clause-placed g c =
     let x = c.self.inside in
     let y = c.args.self.now in
     let es = c.deref-vpn-items.result.now in
-    let range = c.deref-vpn-items.ensures.value ∙ c.in_ok-entries.ensures in
+    let range = c.deref-vpn-items.ensures.value ∙ c.in_ok-entries.ensures.entries in
     let is =
     ended c.args.geometry.now y.place y.areas c.args.pid es c.loop-vpn.vpn-index c.loop-vpn.pages.items _ c.loop-vpn-test.false c.loop-vpn.invariant.pages
     ∙ all_listed y x.tasks x.areas x.rmap c.args.pid c.self.view_is c.self.invariant c.args.geometry.now c.args.first c.args.end es range in
@@ -129,7 +129,28 @@ returns-clause-few g c =
     let x = c.self.inside in
     let y = c.args.self.now in
     let es = c.deref-vpn-items.result.now in
-    let range = c.deref-vpn-items.ensures.value ∙ c.in_ok-entries.ensures in
+    let range = c.deref-vpn-items.ensures.value ∙ c.in_ok-entries.ensures.entries in
     let is = ended c.args.geometry.now y.place y.areas c.args.pid es c.loop-vpn.vpn-index c.loop-vpn.pages.items _ c.loop-vpn-test.false c.loop-vpn.invariant.pages in
     let few = few_listed y x.tasks x.areas x.rmap c.args.pid c.self.view_is c.self.invariant c.args.geometry.now c.args.first c.args.end es range in
     omega (arith, ap length is, few)
+
+-- ---- memory is asked for only where there is something to list
+
+pub returns-in_err-entries-clause-asked : goal.returns-in_err-entries-clause-asked
+returns-in_err-entries-clause-asked g c =
+    let x = c.self.inside in
+    on_any c.from_residual.result (some_seen c.args.self.now x.tasks x.areas x.rmap c.args.pid c.self.view_is c.self.invariant c.args.first c.args.end c.in_err-entries.ensures.asked)
+
+pub returns-in_err-push-in-Frame-clause-asked : goal.returns-in_err-push-in-Frame-clause-asked
+returns-in_err-push-in-Frame-clause-asked g c =
+    let x = c.self.inside in
+    let range = c.deref-vpn-items.ensures.value ∙ c.in_ok-entries.ensures.entries in
+    let some : 0 < length c.deref-vpn-items.result.now = omega (arith, c.loop-vpn-test.true) in
+    on_any c.from_residual-in_err-push-in-Frame.result (some_seen c.args.self.now x.tasks x.areas x.rmap c.args.pid c.self.view_is c.self.invariant c.args.first c.args.end (subst (λ es. 0 < length es) range some))
+
+pub returns-in_err-push-in-Held-clause-asked : goal.returns-in_err-push-in-Held-clause-asked
+returns-in_err-push-in-Held-clause-asked g c =
+    let x = c.self.inside in
+    let range = c.deref-vpn-items.ensures.value ∙ c.in_ok-entries.ensures.entries in
+    let some : 0 < length c.deref-vpn-items.result.now = omega (arith, c.loop-vpn-test.true) in
+    on_any c.from_residual-in_err-push-in-Held.result (some_seen c.args.self.now x.tasks x.areas x.rmap c.args.pid c.self.view_is c.self.invariant c.args.first c.args.end (subst (λ es. 0 < length es) range some))
