@@ -1,5 +1,5 @@
-//! The address spaces of a machine's processes: their page tables and areas, and for each frame the entries that name it
-//! and its pins.
+//! The address spaces of a machine's processes: their page tables and areas, and for each frame the entries that name
+//! it and its pins.
 #![tactic(auto)]
 
 mod address_spaces;

@@ -49,9 +49,9 @@ impl<A: Allocator + Copy> Model for HeldSpaces<A> {
 }
 
 impl<A: Allocator + Copy> AddressSpaces<A> {
-    /// Sends pages on their way to other frames: until `settle` the page tables are those of the run machine once its run
-    /// has begun, in which every entry that names a frame that a page leaves is held. The new frame has the page, its
-    /// mappers and its pins. Does not allocate.
+    /// Sends pages on their way to other frames: until `settle` the page tables are those of the run machine once its
+    /// run has begun, in which every entry that names a frame that a page leaves is held. The new frame has the page,
+    /// its mappers and its pins. Does not allocate.
     pub fn hold(self, moves: &[Taken]) -> HeldSpaces<A>
         requires moves { CanRemap self moves.now }
         requires apart { AreApart moves.now }
