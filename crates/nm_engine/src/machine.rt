@@ -1,7 +1,7 @@
 //! The machine.
 
 ghost use Rattle.nm_model.specs.definitions.AreaRefusal.{overlaps};
-ghost use Rattle.std.specs.Prelude.{◌≡◌, ◌<◌, ◌≤◌, ◌+◌, ◌-◌, ◌/◌, [], ◌∷◌, map, true, length, nat_le, All, Some, Err, IfOk, IfSome, IfNone, OnOk, OnErr, option_map, ◌^◌};
+ghost use Rattle.std.specs.Prelude.{◌≡◌, ◌<◌, ◌≤◌, ◌+◌, ◌-◌, ◌/◌, [], ◌∷◌, map, true, length, nat_le, All, Some, Err, IfOk, IfSome, IfNone, OnOk, OnErr, option_map, ◌^◌, ◌⊎◌};
 ghost use Rattle.std.specs.List.{list_any};
 ghost use Rattle.std.specs.Ordering.{nat_cmp};
 ghost use Rattle.nm_types.specs.declared.page.Page.{Page};
@@ -19,10 +19,12 @@ ghost use Rattle.nm_model.specs.definitions.Effect.{new_machine, set_online, spa
 ghost use Rattle.nm_model.specs.definitions.Effect.{spawn_refusal, map_refusal, attach_refusal, pin_refusal, unpin_refusal, unmap_refusal, exit_refusal, list_refusal, entries_refusal};
 ghost use Rattle.nm_model.specs.definitions.Effect.{policy_refusal, set_policy};
 ghost use Rattle.nm_areas.specs.Lines.{lines_of};
+ghost use Rattle.nm_areas.specs.Splits.{HasSplit};
+ghost use Rattle.nm_model.specs.definitions.Areas.{pages_of};
 ghost use Rattle.nm_model.specs.definitions.Seen.{sight_at, users};
 ghost use Rattle.nm_runs.specs.Targets.{Checks};
 ghost use Rattle.nm_model.specs.definitions.PageTables.{entries_of};
-ghost use Rattle.nm_model.specs.definitions.Seen.{located_between, placed_on};
+ghost use Rattle.nm_model.specs.definitions.Seen.{between, located_between, placed_on, sights};
 ghost use Rattle.nm_model.specs.definitions.Sound.{audited};
 ghost use Rattle.nm_model.specs.definitions.Status.{node_status};
 ghost use Rattle.nm_model.specs.definitions.Sound.{IsSound};
@@ -133,10 +135,11 @@ impl<A: Allocator + Copy + Send + Sync> Machine<A> {
     }
 
     /// The pages on a node, by segment and index: at most 16,384. Empty if there is no such node. An error means that
-    /// the host is out of memory.
+    /// the host is out of memory, and there is a page that has a frame.
     pub fn pages_on(&self, node: NodeId) -> Result<Vec<Page, A>, AllocError>
         ensures list { IfOk result (λ pages. pages.items ≡ placed_on self.now node) }
         ensures few { IfOk result (λ pages. length pages.items ≤ 16384) }
+        ensures asked { OnErr result (0 < length self.now.place) }
     {
         self.inner.pages_on(node)
     }
@@ -290,7 +293,7 @@ impl<A: Allocator + Copy + Send + Sync> Machine<A> {
     ///
     /// Errors, in order: ESRCH if there is no such process; EINVAL if the address is not a multiple of 4,096, or the
     /// range ends past 2^64 - 1; EFAULT if a page of the range has no area. A `len` of 0 that is not refused changes
-    /// nothing and does not allocate. An error, also for lack of host memory, changes nothing.
+    /// nothing. Allocates only where an area is split. An error, also for lack of host memory, changes nothing.
     pub fn set_policy(
         &mut self,
         pid: Pid,
@@ -302,6 +305,9 @@ impl<A: Allocator + Copy + Send + Sync> Machine<A> {
             (set_policy self.old pid addr len policy) }
         ensures memory { AsksLast result (policy_refusal self.old pid addr len) }
         ensures asked { result ≡ Err MachineError.HostMemory → 0 < len }
+        ensures split { result ≡ Err MachineError.HostMemory →
+            HasSplit self.old.areas pid (addr / 4096)
+            ⊎ HasSplit self.old.areas pid (addr / 4096 + pages_of len) }
     {
         self.inner.set_policy(pid, addr, len, policy)
     }
@@ -483,7 +489,8 @@ impl<A: Allocator + Copy + Send + Sync> Machine<A> {
 
     /// The pages that a process sees at page numbers from `first` up to but not including `end`, in order of page
     /// number, with their frames and nodes. The page of zeros does not count. Empty if there is no such process. Walks
-    /// once over what the process has there, however long the range is. An error means that the host is out of memory.
+    /// once over what the process has there, however long the range is. An error means that the host is out of memory, and
+    /// that the process sees something there.
     pub fn pages_between(
         &self,
         pid: Pid,
@@ -497,6 +504,9 @@ impl<A: Allocator + Copy + Send + Sync> Machine<A> {
         ensures nodes { IfOk result
             (λ pages. All (λ e. e.node < node_count self.now.layout) pages.items) }
         ensures few { IfOk result (λ pages. length pages.items ≤ end - first) }
+
+        // Without memory
+        ensures asked { OnErr result (0 < length (between first end (sights self.now.processes pid))) }
     {
         self.inner.pages_between(pid, first, end)
     }

@@ -121,7 +121,7 @@ impl<A: Allocator + Copy> Frames<A> {
     }
 
     /// How many free frames a node has. 0 if there is no such node.
-    pub fn free_count(&self, node: NodeId) -> usize
+    pub(crate) fn free_count(&self, node: NodeId) -> usize
         ensures { result ≡ length (free_on self.now node) }
     {
         if node.index() < self.node_count() {

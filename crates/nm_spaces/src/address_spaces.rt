@@ -97,7 +97,7 @@ impl<A: Allocator + Copy> AddressSpaces<A> {
     }
 
     /// The page that an area of a process shows at a page number. None if there is no area.
-    pub fn page_at(&self, pid: Pid, vpn: Vpn) -> Option<Page>
+    pub(crate) fn page_at(&self, pid: Pid, vpn: Vpn) -> Option<Page>
         ensures { result ≡ page_at self.now.areas pid vpn }
     {
         let (first, area) = self.over(pid, vpn)?;

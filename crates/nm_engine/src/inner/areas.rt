@@ -4,6 +4,8 @@ ghost use Rattle.nm_model.specs.definitions.AreaRefusal.{overlaps};
 ghost use Rattle.std.specs.List.{list_any};
 ghost use Rattle.nm_engine.specs.definitions.Does.{AsksLast, Makes};
 ghost use Rattle.nm_model.specs.definitions.Effect.{attach, dropped, map_new, unmap};
+ghost use Rattle.nm_areas.specs.Splits.{HasSplit};
+ghost use Rattle.nm_model.specs.definitions.Areas.{pages_of};
 ghost use Rattle.nm_memory.specs.views.Frames.{CanFree, pool_of, with_freed};
 ghost use Rattle.nm_runs.specs.Targets.{Checks};
 ghost use Rattle.nm_engine.specs.views.MidRun.{with_state};
@@ -11,7 +13,7 @@ ghost use Rattle.nm_model.specs.definitions.Effect.{policy_refusal, set_policy};
 ghost use Rattle.nm_model.specs.definitions.Effect.{attach_refusal, is_range, is_unknown, map_refusal, shows_pinned, unmap_refusal};
 ghost use Rattle.nm_types.specs.declared.errno.Errno.{Errno};
 ghost use Rattle.nm_types.specs.declared.errno.Errno.TheVariants.{Esrch};
-ghost use Rattle.std.specs.Prelude.{Err, IfOk, Some, [], false, map, true, ◌+◌, ◌/◌, ◌<◌, ◌≡◌};
+ghost use Rattle.std.specs.Prelude.{Err, IfOk, Some, [], false, map, true, ◌+◌, ◌/◌, ◌<◌, ◌≡◌, ◌⊎◌};
 
 use crate::inner::Inner;
 use nm_areas::range_start;
@@ -99,6 +101,9 @@ impl<A: Allocator + Copy> Inner<A> {
             (set_policy self.old.state pid addr len policy) }
         ensures memory { AsksLast result (policy_refusal self.old.state pid addr len) }
         ensures asked { result ≡ Err MachineError.HostMemory → 0 < len }
+        ensures split { result ≡ Err MachineError.HostMemory →
+            HasSplit self.old.state.areas pid (addr / 4096)
+            ⊎ HasSplit self.old.state.areas pid (addr / 4096 + pages_of len) }
 
         // Nothing else changes
         ensures same { self.new ≡ with_state self.old self.new.state }

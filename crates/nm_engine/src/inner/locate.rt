@@ -1,9 +1,9 @@
 //! Where the pages are that a process sees.
 
-ghost use Rattle.std.specs.Prelude.{All, Err, IfNone, IfOk, IfSome, Some, [], length, option_map, ◌+◌, ◌-◌, ◌<◌, ◌∷◌, ◌≡◌, ◌≤◌};
+ghost use Rattle.std.specs.Prelude.{All, Err, IfNone, IfOk, IfSome, OnErr, Some, [], length, option_map, ◌+◌, ◌-◌, ◌<◌, ◌∷◌, ◌≡◌, ◌≤◌};
 ghost use Rattle.nm_areas.specs.Lines.{lines_of};
 ghost use Rattle.nm_engine.specs.definitions.Does.{AsksLast, Tells};
-ghost use Rattle.nm_model.specs.definitions.Seen.{located, located_between};
+ghost use Rattle.nm_model.specs.definitions.Seen.{between, located, located_between, sights};
 ghost use Rattle.nm_model.specs.definitions.Effect.{entries_refusal};
 ghost use Rattle.nm_model.specs.definitions.Seen.{users};
 ghost use Rattle.nm_types.specs.Layout.{node_count, node_of};
@@ -57,6 +57,10 @@ impl<A: Allocator + Copy> Inner<A> {
         ensures nodes { IfOk result
             (λ pages. All (λ e. e.node < node_count self.now.state.layout) pages.items) }
         ensures few { IfOk result (λ pages. length pages.items ≤ end - first) }
+
+        // Without memory
+        ensures asked { OnErr result
+            (0 < length (between first end (sights self.now.state.processes pid))) }
     {
         self.spaces
             .pages_between(self.alloc, self.frames.geometry(), pid, first, end)

@@ -4,7 +4,7 @@ ghost use Rattle.std.specs.BTreeSet.{insert_key};
 ghost use Rattle.std.specs.List.{filter};
 ghost use Rattle.std.specs.Map.{keys_of};
 ghost use Rattle.std.specs.Ordering.{nat_cmp};
-ghost use Rattle.std.specs.Prelude.{All, IfOk, if◌then◌else◌, length, ◌<◌, ◌==◌, ◌≡◌, ◌≤◌};
+ghost use Rattle.std.specs.Prelude.{All, IfOk, OnErr, if◌then◌else◌, length, ◌<◌, ◌==◌, ◌≡◌, ◌≤◌};
 ghost use Rattle.nm_model.specs.definitions.Effect.{set_online};
 ghost use Rattle.nm_model.specs.definitions.Seen.{placed_on};
 ghost use Rattle.nm_engine.specs.views.MidRun.{with_state};
@@ -30,6 +30,7 @@ impl<A: Allocator + Copy> Inner<A> {
     pub(crate) fn pages_on(&self, node: NodeId) -> Result<Vec<Page, A>, AllocError>
         ensures list { IfOk result (λ pages. pages.items ≡ placed_on self.now.state node) }
         ensures few { IfOk result (λ pages. length pages.items ≤ 16384) }
+        ensures asked { OnErr result (0 < length self.now.state.place) }
     {
         let placed = self.spaces.placed()?;
         let geometry = self.frames.geometry();
@@ -64,8 +65,9 @@ fn pages_among<A: Allocator + Copy>(
     node: NodeId,
 ) -> Result<Vec<Page, A>, AllocError>
     requires { All (λ e. e.1 < frame_count geometry.now) placed.now }
-    ensures { IfOk result
+    ensures pages { IfOk result
         (λ pages. pages.items ≡ keys_of (filter (λ e. node_of geometry.now e.1 == node) placed.now)) }
+    ensures asked { OnErr result (0 < length placed.now) }
 {
     let mut pages = Vec::new(alloc);
     for (page, frame) in placed {

@@ -24,7 +24,7 @@ returns-clause-list g c =
     let i = c.self.inside in
     let s = shown_by i.spaces i.frames i.online i.totals.moved i.totals.failed in
     let on : Layout → Map Page ℕ → List Page = λ g m. keys_of (filter (λ (e : Page × ℕ). node_of g e.1 == c.args.node) m) in
-    c.in_ok-pages.ensures ∙ ap (on c.geometry-geometry.result.now) (c.as_slice.ensures.value ∙ c.in_ok-placed.ensures.placed)
+    c.in_ok-pages.ensures.pages ∙ ap (on c.geometry-geometry.result.now) (c.as_slice.ensures.value ∙ c.in_ok-placed.ensures.placed)
     ∙ ap (λ g. on g s.place) c.geometry-geometry.ensures ∙ ap (λ (x : MidRun). placed_on x.state c.args.node) c.self.view_is
 
 pub returns-clause-few : goal.returns-clause-few

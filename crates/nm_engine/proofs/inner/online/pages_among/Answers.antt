@@ -7,6 +7,7 @@ use Rattle.std.proofs.lemmas.List.Elements.{filter_more}
 use Rattle.std.proofs.lemmas.Result.{IfOk-from_err}
 use Rattle.nm_types.specs.declared.page.Page.{Page}
 use Rattle.nm_types.specs.Layout.{node_of}
+use Rattle.nm_spaces.proofs.Tied.Tabled.{on_any}
 use Rattle.nm_engine.proofs.inner.online.pages_among.Goals.{then-eq+in_ok-push, else-eq}
 use Rattle.nm_engine.proofs.inner.online.pages_among.Goals as goal
 
@@ -29,8 +30,11 @@ loop-page-init g c = c.new-pages.ensures.items
 pub bounds-placed-page-index : goal.bounds-placed-page-index
 bounds-placed-page-index g c = c.loop-page-test.true
 
-pub returns-in_err-push : goal.returns-in_err-push
-returns-in_err-push g c = IfOk-from_err _ _ c.from_residual.ensures.0
+pub returns-in_err-push-clause-pages : goal.returns-in_err-push-clause-pages
+returns-in_err-push-clause-pages g c = IfOk-from_err _ _ c.from_residual.ensures.0
+
+pub returns-in_err-push-clause-asked : goal.returns-in_err-push-clause-asked
+returns-in_err-push-clause-asked g c = on_any c.from_residual.result (omega (arith, c.loop-page-test.true))
 
 pub loop-page-smaller : goal.loop-page-smaller
 loop-page-smaller g c = omega (arith, c.loop-page-test.true)
@@ -46,5 +50,5 @@ loop-page-preserved g c =
       | else-eq w ↦ ap (λ v. v.items) w.pages-is ∙ sym (append-nil had) ∙ ap (λ b. had ++ cond b (x.0 ∷ []) []) (sym (sym wanted ∙ w.if-eq.false))
     ])
 
-pub returns : goal.returns
-returns g c = c.loop-page.invariant ∙ ap (λ l. keys_of (filter (λ e. node_of c.args.geometry.now e.1 == c.args.node) l)) (take_all c.loop-page.page-index c.args.placed.now c.loop-page-test.false)
+pub returns-clause-pages : goal.returns-clause-pages
+returns-clause-pages g c = c.loop-page.invariant ∙ ap (λ l. keys_of (filter (λ e. node_of c.args.geometry.now e.1 == c.args.node) l)) (take_all c.loop-page.page-index c.args.placed.now c.loop-page-test.false)
