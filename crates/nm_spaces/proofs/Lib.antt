@@ -1,2 +1,5 @@
+pub mod AddressSpaces
+pub mod Held
+pub mod Moves
+pub mod ProcessTable
 pub mod Tied
-pub mod Seen

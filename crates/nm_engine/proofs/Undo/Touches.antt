@@ -45,7 +45,7 @@ use Rattle.nm_laws.proofs.Seen.Sights.{IsSpot, page_at_spot, sight_here}
 use Rattle.nm_laws.proofs.Soundness.Allocated.{placed_front}
 use Rattle.nm_laws.proofs.Soundness.Once.{counted_place}
 use Rattle.nm_laws.proofs.Soundness.Touched.{private_unplaced}
-use Rattle.nm_spaces.proofs.Tied.Tabled.{same_tables, replace_twice}
+use Rattle.nm_spaces.proofs.ProcessTable.Changes.{same_tables, replace_twice}
 use Rattle.nm_laws.proofs.Soundness.Counted.{front_is, part_of, not_in}
 use Rattle.nm_engine.proofs.Shown.FrameChanges.{front_got}
 use Rattle.nm_engine.proofs.Does.Touches.{found_free, short_list, get_set_same, spot_there}

@@ -1,4 +1,4 @@
-use Rattle.nm_spaces.proofs.Tied.Places.{key_if_found}
+use Rattle.nm_spaces.proofs.ProcessTable.Places.{key_if_found}
 use Rattle.nm_spaces.proofs.process_table.place_of.Goals as goal
 
 pub returns-clause-key : goal.returns-clause-key

@@ -1,5 +1,5 @@
 use Rattle.std.proofs.Common.{sym, ◌∙◌}
-use Rattle.nm_spaces.proofs.Tied.Places.{key_there, value_there, other_there, none_there}
+use Rattle.nm_spaces.proofs.ProcessTable.Places.{key_there, value_there, other_there, none_there}
 use Rattle.nm_spaces.proofs.process_table.stands_at.Goals as goal
 
 pub returns-in-Some-clause-key : goal.returns-in-Some-clause-key

@@ -7,8 +7,8 @@ use Rattle.nm_model.specs.definitions.Seen.{sight_in}
 use Rattle.nm_spaces.specs.views.AddressSpaces.{AddressSpacesView}
 use Rattle.nm_spaces.specs.definitions.Moves.{CanRemap, all_moved}
 use Rattle.nm_memory.proofs.Copies.Copied.{copies_apart}
-use Rattle.nm_spaces.proofs.Tied.Held.{held_is_taken, frames_stay, takes_below}
-use Rattle.nm_spaces.proofs.Tied.Unreached.{names_another}
+use Rattle.nm_spaces.proofs.Held.HeldEntries.{held_is_taken, frames_stay, takes_below}
+use Rattle.nm_spaces.proofs.Held.NoEntryThere.{names_another}
 use Rattle.nm_memory.specs.views.Accesses.{pending_shown}
 use Rattle.nm_memory.specs.views.Copies.{CanCopy, HasBoth, emptied, with_copies}
 use Rattle.nm_model.specs.definitions.BeforeCopy.{all_after_copy, with_fronts, frames_taken}

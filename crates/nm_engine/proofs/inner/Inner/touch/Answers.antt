@@ -17,7 +17,7 @@ use Rattle.nm_engine.proofs.Does.Touches.{inside, outside, not_none, seen_kept, 
 use Rattle.nm_laws.proofs.Seen.Frames.{none_sees, zero_sees}
 use Rattle.nm_spaces.specs.views.AddressSpaces.{AddressSpacesView, table_of, with_seen}
 use Rattle.nm_engine.specs.views.Shown.{paged_frames}
-use Rattle.nm_spaces.proofs.Tied.Tabled.{on_any}
+use Rattle.nm_spaces.proofs.ProcessTable.Changes.{on_any}
 use Rattle.nm_engine.proofs.inner.HandedOn.{touch_handed_on, nothing_touched}
 use Rattle.nm_engine.proofs.inner.Inner.touch.Goals as goal
 

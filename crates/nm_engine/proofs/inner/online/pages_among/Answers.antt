@@ -7,7 +7,7 @@ use Rattle.std.proofs.lemmas.List.Elements.{filter_more}
 use Rattle.std.proofs.lemmas.Result.{IfOk-from_err}
 use Rattle.nm_types.specs.declared.page.Page.{Page}
 use Rattle.nm_types.specs.Layout.{node_of}
-use Rattle.nm_spaces.proofs.Tied.Tabled.{on_any}
+use Rattle.nm_spaces.proofs.ProcessTable.Changes.{on_any}
 use Rattle.nm_engine.proofs.inner.online.pages_among.Goals.{then-eq+in_ok-push, else-eq}
 use Rattle.nm_engine.proofs.inner.online.pages_among.Goals as goal
 

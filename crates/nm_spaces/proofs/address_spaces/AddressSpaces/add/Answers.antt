@@ -5,8 +5,8 @@ use Rattle.nm_model.specs.definitions.Effect.{untouched}
 use Rattle.nm_model.specs.definitions.PageTables.{Task}
 use Rattle.nm_spaces.specs.views.AddressSpaces.{AddressSpacesView, spaces_view}
 use Rattle.nm_spaces.specs.definitions.Tied.{IsTied}
-use Rattle.nm_spaces.proofs.Tied.Tabled.{on_ok, on_both}
-use Rattle.nm_spaces.proofs.Tied.New.{no_task, added_tied, added_shows}
+use Rattle.nm_spaces.proofs.ProcessTable.Changes.{on_ok, on_both}
+use Rattle.nm_spaces.proofs.Tied.Beginnings.{no_task, added_tied, added_shows}
 use Rattle.nm_spaces.proofs.address_spaces.AddressSpaces.add.Goals as goal
 
 pub add-requires : goal.add-requires

@@ -11,8 +11,8 @@ use Rattle.nm_model.specs.definitions.PageTables.{Task}
 use Rattle.nm_spaces.specs.views.AddressSpaces.{AddressSpacesView, spaces_view, with_seen, with_new_page}
 use Rattle.nm_model.specs.definitions.PageTables.{process_of}
 use Rattle.nm_spaces.specs.definitions.Tied.{IsTied}
-use Rattle.nm_spaces.proofs.Tied.Moved.{spare_in, place_new}
-use Rattle.nm_spaces.proofs.Tied.Touched.{task_at, process_at, unmapped_at, page_tied, page_shows, place_tied, place_shows, mapper_undone, place_undone}
+use Rattle.nm_spaces.proofs.Moves.OnePage.{spare_in, place_new}
+use Rattle.nm_spaces.proofs.Tied.Touches.{task_at, process_at, unmapped_at, page_tied, page_shows, place_tied, place_shows, mapper_undone, place_undone}
 use Rattle.nm_spaces.proofs.address_spaces.AddressSpaces.allocate.Given.{Over}
 use Rattle.nm_spaces.proofs.address_spaces.AddressSpaces.allocate.Goals as goal
 

@@ -6,8 +6,8 @@ use Rattle.nm_types.specs.State.{Process}
 use Rattle.nm_types.specs.declared.entry.Entry.{Entry}
 use Rattle.nm_types.proofs.Keys.{as_many-values}
 use Rattle.nm_model.specs.definitions.PageTables.{entry_of}
-use Rattle.nm_spaces.proofs.Tied.Tabled.{if_ok, on_err}
-use Rattle.nm_spaces.proofs.Tied.New.{table_shown, info_shown}
+use Rattle.nm_spaces.proofs.ProcessTable.Changes.{if_ok, on_err}
+use Rattle.nm_spaces.proofs.Tied.Beginnings.{table_shown, info_shown}
 use Rattle.nm_spaces.proofs.address_spaces.AddressSpaces.entries.Goals as goal
 
 pub returns-clause-entries : goal.returns-clause-entries

@@ -2,8 +2,8 @@ use Rattle.std.proofs.Common.{ap, sym, ◌∙◌}
 use Rattle.std.specs.Prelude.{nat_lt}
 use Rattle.nm_types.specs.Map.{get, page_cmp}
 use Rattle.nm_spaces.specs.views.AddressSpaces.{AddressSpacesView, is_pinned}
-use Rattle.nm_spaces.proofs.Tied.Busy.{busy_there, unplaced_pins}
-use Rattle.nm_spaces.proofs.Tied.Pinned.{pins_shown}
+use Rattle.nm_spaces.proofs.AddressSpaces.PinnedPages.{busy_there, unplaced_pins}
+use Rattle.nm_spaces.proofs.Tied.PinChanges.{pins_shown}
 use Rattle.nm_spaces.proofs.address_spaces.AddressSpaces.has_pin_at.Goals as goal
 
 pub returns-in-Some-place-clause-pinned : goal.returns-in-Some-place-clause-pinned

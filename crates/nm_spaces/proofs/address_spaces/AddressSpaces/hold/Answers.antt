@@ -4,7 +4,7 @@ use Rattle.std.specs.Ordering.{nat_cmp}
 use Rattle.nm_types.specs.Map.{get}
 use Rattle.nm_model.specs.definitions.Seen.{sight_in}
 use Rattle.nm_spaces.specs.views.Held.{on_their_way}
-use Rattle.nm_spaces.proofs.Tied.Held.{settled_arrived, entry_shown, begun_entries}
+use Rattle.nm_spaces.proofs.Held.HeldEntries.{settled_arrived, entry_shown, begun_entries}
 use Rattle.nm_spaces.proofs.address_spaces.AddressSpaces.hold.Goals as goal
 
 pub invariant_of-held : goal.invariant_of-held

@@ -1,5 +1,5 @@
 use Rattle.std.proofs.Common.{◌∙◌}
-use Rattle.nm_spaces.proofs.Tied.New.{info_shown}
+use Rattle.nm_spaces.proofs.Tied.Beginnings.{info_shown}
 use Rattle.nm_spaces.proofs.address_spaces.AddressSpaces.info.Goals as goal
 
 pub returns : goal.returns

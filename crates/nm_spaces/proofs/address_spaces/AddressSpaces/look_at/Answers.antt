@@ -3,9 +3,9 @@ use Rattle.std.specs.Prelude.{nat_lt}
 use Rattle.nm_types.specs.declared.seen.Seen.TheVariants.{At}
 use Rattle.nm_model.specs.definitions.Seen.{users}
 use Rattle.nm_spaces.specs.views.AddressSpaces.{AddressSpacesView}
-use Rattle.nm_spaces.proofs.Tied.Counted.{users_counted}
-use Rattle.nm_spaces.proofs.Tied.Moved.{placed_in}
-use Rattle.nm_spaces.proofs.Tied.Pinned.{pins_shown}
+use Rattle.nm_spaces.proofs.Tied.CountedProcesses.{users_counted}
+use Rattle.nm_spaces.proofs.Moves.OnePage.{placed_in}
+use Rattle.nm_spaces.proofs.Tied.PinChanges.{pins_shown}
 use Rattle.nm_spaces.proofs.address_spaces.AddressSpaces.look_at.Goals as goal
 
 pub returns-clause-look : goal.returns-clause-look

@@ -2,7 +2,7 @@ use Rattle.std.proofs.Common.{ap}
 use Rattle.nm_model.specs.definitions.Areas.{inserted, new_area}
 use Rattle.nm_model.specs.definitions.Areas.{Mapped}
 use Rattle.nm_model.specs.definitions.AreaRefusal.{insert_refusal}
-use Rattle.nm_spaces.proofs.Tied.Mapped.{IsShownStill, still_same, still_tied, still_shows_at, still_with_new, insert_room, from_makes}
+use Rattle.nm_spaces.proofs.Tied.AreaChanges.{IsShownStill, still_same, still_tied, still_shows_at, still_with_new, insert_room, from_makes}
 use Rattle.nm_spaces.proofs.address_spaces.AddressSpaces.map.Given.{Over}
 use Rattle.nm_spaces.proofs.address_spaces.AddressSpaces.map.Goals as goal
 

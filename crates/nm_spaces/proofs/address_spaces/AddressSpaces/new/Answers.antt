@@ -8,7 +8,7 @@ use Rattle.nm_rmap.specs.Mappers.{Mappers}
 use Rattle.nm_model.specs.definitions.PageTables.{Task}
 use Rattle.nm_spaces.specs.views.AddressSpaces.{spaces_view, no_spaces}
 use Rattle.nm_spaces.specs.definitions.Tied.{IsTied}
-use Rattle.nm_spaces.proofs.Tied.New.{nothing_tied}
+use Rattle.nm_spaces.proofs.Tied.Beginnings.{nothing_tied}
 use Rattle.nm_spaces.proofs.address_spaces.AddressSpaces.new.Goals as goal
 
 pub invariant_of-result : goal.invariant_of-result

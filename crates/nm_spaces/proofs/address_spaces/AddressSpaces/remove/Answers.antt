@@ -7,7 +7,7 @@ use Rattle.nm_model.specs.definitions.PageTables.{Task}
 use Rattle.nm_spaces.specs.views.ProcessTable.{cleared}
 use Rattle.nm_spaces.specs.views.AddressSpaces.{AddressSpacesView, spaces_view, without_range}
 use Rattle.nm_spaces.specs.definitions.Tied.{IsTied, IsCleared}
-use Rattle.nm_spaces.proofs.Tied.Removed.{unpinned_pages, removed_tied, removed_shows}
+use Rattle.nm_spaces.proofs.Tied.RemovedRange.{unpinned_pages, removed_tied, removed_shows}
 use Rattle.nm_spaces.proofs.address_spaces.AddressSpaces.remove.Given.{Over}
 use Rattle.nm_spaces.proofs.address_spaces.AddressSpaces.remove.Goals as goal
 

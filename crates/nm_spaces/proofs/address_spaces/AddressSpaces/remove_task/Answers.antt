@@ -1,7 +1,7 @@
 use Rattle.std.proofs.Common.{ap, ◌∙◌, sym, subst}
 use Rattle.nm_spaces.specs.views.AddressSpaces.{spaces_view}
 use Rattle.nm_spaces.specs.definitions.Tied.{IsTied}
-use Rattle.nm_spaces.proofs.Tied.Cleared.{left_tied, left_shows}
+use Rattle.nm_spaces.proofs.Tied.ClearedEntries.{left_tied, left_shows}
 use Rattle.nm_spaces.proofs.address_spaces.AddressSpaces.remove_task.Goals as goal
 
 pub invariant_of-self : goal.invariant_of-self

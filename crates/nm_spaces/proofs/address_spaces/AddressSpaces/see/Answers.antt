@@ -7,8 +7,8 @@ use Rattle.nm_rmap.specs.Mappers.{Mappers, with_mapper, without_mapper}
 use Rattle.nm_model.specs.definitions.PageTables.{Task}
 use Rattle.nm_spaces.specs.views.AddressSpaces.{AddressSpacesView, spaces_view, with_seen}
 use Rattle.nm_spaces.specs.definitions.Tied.{IsTied}
-use Rattle.nm_spaces.proofs.Tied.Moved.{placed_in}
-use Rattle.nm_spaces.proofs.Tied.Touched.{task_at, process_at, unmapped_at, page_tied, page_shows, mapper_undone}
+use Rattle.nm_spaces.proofs.Moves.OnePage.{placed_in}
+use Rattle.nm_spaces.proofs.Tied.Touches.{task_at, process_at, unmapped_at, page_tied, page_shows, mapper_undone}
 use Rattle.nm_spaces.proofs.address_spaces.AddressSpaces.see.Given.{Over}
 use Rattle.nm_spaces.proofs.address_spaces.AddressSpaces.see.Goals as goal
 

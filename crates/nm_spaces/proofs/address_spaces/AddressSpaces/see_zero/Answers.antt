@@ -5,8 +5,8 @@ use Rattle.nm_types.specs.Map.{Map}
 use Rattle.nm_model.specs.definitions.PageTables.{Task}
 use Rattle.nm_spaces.specs.views.AddressSpaces.{spaces_view, with_seen}
 use Rattle.nm_spaces.specs.definitions.Tied.{IsTied}
-use Rattle.nm_spaces.proofs.Tied.Tabled.{on_ok, on_both}
-use Rattle.nm_spaces.proofs.Tied.Touched.{task_at, process_at, unmapped_at, zero_tied, zero_shows}
+use Rattle.nm_spaces.proofs.ProcessTable.Changes.{on_ok, on_both}
+use Rattle.nm_spaces.proofs.Tied.Touches.{task_at, process_at, unmapped_at, zero_tied, zero_shows}
 use Rattle.nm_spaces.proofs.address_spaces.AddressSpaces.see_zero.Goals as goal
 
 pub set-requires : goal.set-requires

@@ -1,5 +1,5 @@
 use Rattle.std.proofs.Common.{rules}
-use Rattle.nm_spaces.proofs.Tied.Mapped.{IsShownStill, still_tied, still_shows_at, policed_still}
+use Rattle.nm_spaces.proofs.Tied.AreaChanges.{IsShownStill, still_tied, still_shows_at, policed_still}
 use Rattle.nm_spaces.proofs.address_spaces.AddressSpaces.set_policy.Given.{Over}
 use Rattle.nm_spaces.proofs.address_spaces.AddressSpaces.set_policy.Goals as goal
 

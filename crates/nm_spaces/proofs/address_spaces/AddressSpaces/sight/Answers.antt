@@ -1,7 +1,7 @@
 use Rattle.std.proofs.Common.{ap, sym, ◌∙◌}
 use Rattle.std.specs.Prelude.{Some, None}
 use Rattle.nm_model.specs.definitions.PageTables.{sight_of}
-use Rattle.nm_spaces.proofs.Tied.New.{seen_here, seen_page}
+use Rattle.nm_spaces.proofs.Tied.Beginnings.{seen_here, seen_page}
 use Rattle.nm_spaces.proofs.address_spaces.AddressSpaces.sight.Goals as goal
 
 pub returns-in_err-entry : goal.returns-in_err-entry

@@ -2,9 +2,9 @@ use Rattle.std.proofs.Common.{◌≡◌, ◌<◌, ◌-◌, ap, sym, subst, ◌�
 use Rattle.nm_rmap.specs.Mappers.{Mappers, frame_pins}
 use Rattle.nm_spaces.specs.views.AddressSpaces.{spaces_view, pins_here, with_pins_of}
 use Rattle.nm_spaces.specs.definitions.Tied.{IsTied}
-use Rattle.nm_spaces.proofs.Tied.Tabled.{on_ok, on_both, if_err}
-use Rattle.nm_spaces.proofs.Tied.Moved.{placed_in}
-use Rattle.nm_spaces.proofs.Tied.Pinned.{pins_shown, pins_tied, pins_shows}
+use Rattle.nm_spaces.proofs.ProcessTable.Changes.{on_ok, on_both, if_err}
+use Rattle.nm_spaces.proofs.Moves.OnePage.{placed_in}
+use Rattle.nm_spaces.proofs.Tied.PinChanges.{pins_shown, pins_tied, pins_shows}
 use Rattle.nm_spaces.proofs.address_spaces.AddressSpaces.unpin.Given.{Over}
 use Rattle.nm_spaces.proofs.address_spaces.AddressSpaces.unpin.Goals as goal
 

@@ -4,9 +4,9 @@ use Rattle.nm_types.specs.Map.{get, page_cmp}
 use Rattle.nm_model.specs.definitions.Areas.{Mapped}
 use Rattle.nm_spaces.specs.views.AddressSpaces.{AddressSpacesView, spaces_view}
 use Rattle.nm_spaces.specs.definitions.Tied.{IsTied}
-use Rattle.nm_spaces.proofs.Tied.Moved.{placed_in}
-use Rattle.nm_spaces.proofs.Tied.Pinned.{pins_shown}
-use Rattle.nm_spaces.proofs.Tied.Unseen.{placed_some, unplaced_tied, unplaced_shows}
+use Rattle.nm_spaces.proofs.Moves.OnePage.{placed_in}
+use Rattle.nm_spaces.proofs.Tied.PinChanges.{pins_shown}
+use Rattle.nm_spaces.proofs.Tied.UndoneTouches.{placed_some, unplaced_tied, unplaced_shows}
 use Rattle.nm_spaces.proofs.address_spaces.AddressSpaces.unplace.Goals as goal
 
 pub drop_frame-requires : goal.drop_frame-requires

@@ -4,8 +4,8 @@ use Rattle.nm_types.specs.Map.{Map}
 use Rattle.nm_model.specs.definitions.PageTables.{Task}
 use Rattle.nm_spaces.specs.views.AddressSpaces.{spaces_view, without_seen}
 use Rattle.nm_spaces.specs.definitions.Tied.{IsTied}
-use Rattle.nm_spaces.proofs.Tied.Touched.{task_at, process_at}
-use Rattle.nm_spaces.proofs.Tied.Unseen.{named_below, clear_tied, clear_shows}
+use Rattle.nm_spaces.proofs.Tied.Touches.{task_at, process_at}
+use Rattle.nm_spaces.proofs.Tied.UndoneTouches.{named_below, clear_tied, clear_shows}
 use Rattle.nm_spaces.proofs.address_spaces.AddressSpaces.unsee.Goals as goal
 
 pub drop_mapper-requires : goal.drop_mapper-requires

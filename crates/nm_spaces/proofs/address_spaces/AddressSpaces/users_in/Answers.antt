@@ -1,8 +1,8 @@
 use Rattle.std.proofs.Common.{ap, ◌∙◌, length}
 use Rattle.nm_model.specs.definitions.Seen.{users}
 use Rattle.nm_spaces.specs.views.AddressSpaces.{AddressSpacesView}
-use Rattle.nm_spaces.proofs.Tied.Counted.{users_counted}
-use Rattle.nm_spaces.proofs.Tied.Moved.{placed_in}
+use Rattle.nm_spaces.proofs.Tied.CountedProcesses.{users_counted}
+use Rattle.nm_spaces.proofs.Moves.OnePage.{placed_in}
 use Rattle.nm_spaces.proofs.address_spaces.AddressSpaces.users_in.Goals as goal
 
 pub processes-requires : goal.processes-requires

@@ -3,7 +3,7 @@ use Rattle.std.specs.Prelude.{Some}
 use Rattle.nm_spaces.specs.views.ProcessTable.{cleared, names}
 use Rattle.nm_model.specs.definitions.PageTables.{entry_at}
 use Rattle.nm_spaces.specs.definitions.Tied.{IsCleared, IsWithout}
-use Rattle.nm_spaces.proofs.Tied.Cleared.{cleared_none, mappers_none, clearing, cleared_all, names_below, cleared_one, number_found, entry_found, less_zero, less_frame, less_held}
+use Rattle.nm_spaces.proofs.Tied.ClearedEntries.{cleared_none, mappers_none, clearing, cleared_all, names_below, cleared_one, number_found, entry_found, less_zero, less_frame, less_held}
 use Rattle.nm_spaces.proofs.address_spaces.areas.clear_between.Goals as goal
 use Rattle.nm_spaces.proofs.address_spaces.areas.clear_between.Goals.{in-Zero, in-Frame, in-Held}
 

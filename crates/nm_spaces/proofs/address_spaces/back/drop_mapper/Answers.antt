@@ -4,8 +4,8 @@ use Rattle.nm_types.specs.declared.entry.Entry.{Entry}
 use Rattle.nm_model.specs.definitions.PageTables.{entry_at}
 use Rattle.nm_spaces.specs.views.ProcessTable.{names}
 use Rattle.nm_spaces.specs.definitions.Tied.{IsWithout}
-use Rattle.nm_spaces.proofs.Tied.Cleared.{less_zero, less_frame, less_held}
-use Rattle.nm_spaces.proofs.Tied.Unseen.{without_none}
+use Rattle.nm_spaces.proofs.Tied.ClearedEntries.{less_zero, less_frame, less_held}
+use Rattle.nm_spaces.proofs.Tied.UndoneTouches.{without_none}
 use Rattle.nm_spaces.proofs.address_spaces.back.drop_mapper.Goals as goal
 
 pub returns-in_default : goal.returns-in_default

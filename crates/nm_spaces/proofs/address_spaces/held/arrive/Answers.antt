@@ -10,7 +10,7 @@ use Rattle.nm_rmap.specs.Mappers.{mappers_of}
 use Rattle.nm_spaces.specs.views.Held.{is_taken}
 use Rattle.nm_spaces.specs.views.ProcessTable.{IsThere, all_replaced, names}
 use Rattle.nm_spaces.specs.definitions.Tied.{AreInOrder, has_spot}
-use Rattle.nm_spaces.proofs.Tied.Held.{all_arrived, arrive_fewer, arrive_same, named_there, order_before, still_taken}
+use Rattle.nm_spaces.proofs.Held.HeldEntries.{all_arrived, arrive_fewer, arrive_same, named_there, order_before, still_taken}
 use Rattle.nm_laws.proofs.Lists.{drop_item}
 use Rattle.nm_spaces.proofs.address_spaces.held.arrive.Given.{Over}
 use Rattle.nm_spaces.proofs.address_spaces.held.arrive.Goals as goal

@@ -2,7 +2,7 @@ use Rattle.std.proofs.Common.{ap, ◌∙◌}
 use Rattle.std.specs.Ordering.{nat_cmp}
 use Rattle.nm_types.specs.Map.{set}
 use Rattle.nm_model.specs.definitions.PageTables.{Task}
-use Rattle.nm_spaces.proofs.Tied.Tabled.{by_pid_sorted, added}
+use Rattle.nm_spaces.proofs.ProcessTable.Changes.{by_pid_sorted, added}
 use Rattle.nm_spaces.proofs.process_table.ProcessTable.add.Goals as goal
 
 pub returns-clause-ok : goal.returns-clause-ok

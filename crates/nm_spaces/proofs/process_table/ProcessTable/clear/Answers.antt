@@ -6,7 +6,7 @@ use Rattle.nm_types.proofs.Cases.{none_is_not}
 use Rattle.nm_types.specs.declared.entry.Entry.{Entry}
 use Rattle.nm_model.specs.definitions.PageTables.{Task}
 use Rattle.nm_spaces.specs.views.ProcessTable.{without_entry}
-use Rattle.nm_spaces.proofs.Tied.Tabled.{none_found, becomes}
+use Rattle.nm_spaces.proofs.ProcessTable.Changes.{none_found, becomes}
 use Rattle.nm_spaces.proofs.process_table.ProcessTable.clear.Goals as goal
 
 pub unreachable-requires : goal.unreachable-requires

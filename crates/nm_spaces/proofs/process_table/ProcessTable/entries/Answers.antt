@@ -3,7 +3,7 @@ use Rattle.std.specs.Prelude.{Option, Some, IsSome}
 use Rattle.std.specs.Option.{unwrap_or, option_map}
 use Rattle.nm_model.specs.definitions.PageTables.{Task}
 use Rattle.nm_spaces.specs.views.ProcessTable.{task_table}
-use Rattle.nm_spaces.proofs.Tied.Tabled.{found_value, none_found, on_any}
+use Rattle.nm_spaces.proofs.ProcessTable.Changes.{found_value, none_found, on_any}
 use Rattle.nm_spaces.proofs.process_table.ProcessTable.entries.Goals as goal
 
 pub returns-in_err-entries-in-Some-clause-memory : goal.returns-in_err-entries-in-Some-clause-memory

@@ -1,7 +1,7 @@
 use Rattle.std.proofs.Common.{ap, sym, ◌∙◌}
 use Rattle.std.specs.Prelude.{Option, Some}
 use Rattle.nm_model.specs.definitions.PageTables.{Task, entry_in}
-use Rattle.nm_spaces.proofs.Tied.Tabled.{found_value, none_found}
+use Rattle.nm_spaces.proofs.ProcessTable.Changes.{found_value, none_found}
 use Rattle.nm_spaces.proofs.process_table.ProcessTable.entry.Goals as goal
 
 pub returns-in_err-task_of : goal.returns-in_err-task_of

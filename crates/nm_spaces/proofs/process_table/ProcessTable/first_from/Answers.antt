@@ -3,7 +3,7 @@ use Rattle.std.specs.Prelude.{Option, Some, None, IfSome, IfNone}
 use Rattle.std.specs.Ordering.{nat_cmp}
 use Rattle.nm_types.specs.Map.{get}
 use Rattle.nm_model.specs.definitions.PageTables.{Task, entry_in}
-use Rattle.nm_spaces.proofs.Tied.Tabled.{found_value, none_found}
+use Rattle.nm_spaces.proofs.ProcessTable.Changes.{found_value, none_found}
 use Rattle.nm_spaces.proofs.process_table.ProcessTable.first_from.Given.{Over}
 use Rattle.nm_spaces.proofs.process_table.ProcessTable.first_from.Goals as goal
 

@@ -3,7 +3,7 @@ use Rattle.std.specs.Prelude.{Option}
 use Rattle.std.specs.Option.{option_map}
 use Rattle.nm_model.specs.definitions.PageTables.{Task}
 use Rattle.nm_spaces.specs.views.ProcessTable.{task_info}
-use Rattle.nm_spaces.proofs.Tied.Tabled.{looked}
+use Rattle.nm_spaces.proofs.ProcessTable.Changes.{looked}
 use Rattle.nm_spaces.proofs.process_table.ProcessTable.info.Goals as goal
 
 pub returns : goal.returns

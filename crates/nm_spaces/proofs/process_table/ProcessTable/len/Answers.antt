@@ -2,7 +2,7 @@ use Rattle.std.proofs.Common.{length, sym, ap, subst, ◌∙◌}
 use Rattle.std.specs.List.Sorted.{IsStrictlySortedBy}
 use Rattle.std.specs.Map.{keys_of}
 use Rattle.std.specs.Ordering.{nat_cmp}
-use Rattle.nm_spaces.proofs.Tied.Tabled.{by_pid_sorted, by_pid_length}
+use Rattle.nm_spaces.proofs.ProcessTable.Changes.{by_pid_sorted, by_pid_length}
 use Rattle.nm_spaces.proofs.process_table.ProcessTable.len.Goals as goal
 
 pub returns-clause-count : goal.returns-clause-count

@@ -1,7 +1,7 @@
 use Rattle.std.proofs.Common.{ap, ◌∙◌}
 use Rattle.std.specs.Ordering.{nat_cmp}
 use Rattle.nm_types.specs.Map.{without}
-use Rattle.nm_spaces.proofs.Tied.Tabled.{by_pid_sorted, removed}
+use Rattle.nm_spaces.proofs.ProcessTable.Changes.{by_pid_sorted, removed}
 use Rattle.nm_spaces.proofs.process_table.ProcessTable.remove.Goals as goal
 
 pub returns-clause-gone : goal.returns-clause-gone

@@ -6,8 +6,8 @@ use Rattle.nm_types.proofs.Cases.{none_is_not}
 use Rattle.nm_types.specs.declared.entry.Entry.{Entry}
 use Rattle.nm_model.specs.definitions.PageTables.{Task, entry_in}
 use Rattle.nm_spaces.specs.views.ProcessTable.{with_other_entry, replaced_in}
-use Rattle.nm_spaces.proofs.Tied.Places.{found_there, written_there}
-use Rattle.nm_spaces.proofs.Tied.Tabled.{found_value, none_found}
+use Rattle.nm_spaces.proofs.ProcessTable.Places.{found_there, written_there}
+use Rattle.nm_spaces.proofs.ProcessTable.Changes.{found_value, none_found}
 use Rattle.nm_spaces.proofs.process_table.ProcessTable.replace.Goals as goal
 
 pub replace-requires : goal.replace-requires

@@ -5,7 +5,7 @@ use Rattle.nm_types.specs.Map.{Map}
 use Rattle.nm_types.proofs.Cases.{none_is_not}
 use Rattle.nm_types.specs.declared.entry.Entry.{Entry}
 use Rattle.nm_model.specs.definitions.PageTables.{Task, with_entry}
-use Rattle.nm_spaces.proofs.Tied.Tabled.{none_found, becomes, written_same, on_ok, on_err}
+use Rattle.nm_spaces.proofs.ProcessTable.Changes.{none_found, becomes, written_same, on_ok, on_err}
 use Rattle.nm_spaces.proofs.process_table.ProcessTable.set.Goals as goal
 
 pub unreachable-requires : goal.unreachable-requires

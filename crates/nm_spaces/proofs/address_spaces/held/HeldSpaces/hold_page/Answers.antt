@@ -13,8 +13,8 @@ use Rattle.nm_spaces.specs.views.AddressSpaces.{spaces_view, with_moved}
 use Rattle.nm_spaces.specs.views.Held.{HeldView, held_for}
 use Rattle.nm_spaces.specs.views.ProcessTable.{IsThere, all_replaced}
 use Rattle.nm_spaces.specs.definitions.Tied.{IsTied}
-use Rattle.nm_spaces.proofs.Tied.Held.{named_there, hold_tied, hold_shows, hold_entries}
-use Rattle.nm_spaces.proofs.Tied.Moved.{placed_in, spare_in, spare_without}
+use Rattle.nm_spaces.proofs.Held.HeldEntries.{named_there, hold_tied, hold_shows, hold_entries}
+use Rattle.nm_spaces.proofs.Moves.OnePage.{placed_in, spare_in, spare_without}
 use Rattle.nm_spaces.proofs.address_spaces.held.HeldSpaces.hold_page.Given.{Over}
 use Rattle.nm_spaces.proofs.address_spaces.held.HeldSpaces.hold_page.Goals as goal
 

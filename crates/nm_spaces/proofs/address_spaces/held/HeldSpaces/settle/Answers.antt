@@ -3,7 +3,7 @@ use Rattle.nm_types.specs.Map.{Map}
 use Rattle.nm_model.specs.definitions.PageTables.{Task, entry_at}
 use Rattle.nm_spaces.specs.views.AddressSpaces.{spaces_view}
 use Rattle.nm_spaces.specs.views.Held.{HeldView}
-use Rattle.nm_spaces.proofs.Tied.Held.{shown_arrived}
+use Rattle.nm_spaces.proofs.Held.HeldEntries.{shown_arrived}
 use Rattle.nm_spaces.proofs.address_spaces.held.HeldSpaces.settle.Goals as goal
 
 pub arrive-requires-clause-among : goal.arrive-requires-clause-among

@@ -22,7 +22,7 @@ use Rattle.nm_model.proofs.areas.Parted.{Among, among_over, over_among, among_an
 use Rattle.nm_laws.proofs.Soundness.Released.{Listed}
 use Rattle.nm_laws.proofs.Soundness.Dropped.{listed_from}
 use Rattle.nm_types.proofs.Maps.{exact_page, get-values}
-use Rattle.nm_spaces.proofs.Tied.Pinned.{pins_shown}
+use Rattle.nm_spaces.proofs.Tied.PinChanges.{pins_shown}
 
 any_listed : (test : Page → Bool) (pages : List Page) (p : Page) → Listed p pages → test p ≡ true → list_any test pages ≡ true
 any_listed test [] p m h = absurd m

@@ -29,7 +29,7 @@ use Rattle.nm_model.specs.definitions.PageTables.{process_of, sight_of, page_her
 use Rattle.nm_spaces.specs.definitions.Tied.{IsTied, has_spot}
 use Rattle.nm_types.proofs.Maps.{keys-values, equal, get-values, page_cmp_total, exact_page, spot_cmp_total}
 use Rattle.nm_types.proofs.Keys.{All-get}
-use Rattle.nm_spaces.proofs.Tied.Remapped.{same_spot, exact_spot, TableInOrder}
+use Rattle.nm_spaces.proofs.Held.ReplacedEntries.{same_spot, exact_spot, TableInOrder}
 
 false_true : false ≡ true → ⊥
 false_true e = cc

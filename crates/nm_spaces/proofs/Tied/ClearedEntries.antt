@@ -30,9 +30,9 @@ use Rattle.nm_model.specs.definitions.PageTables.{process_of, sight_of}
 use Rattle.nm_spaces.specs.definitions.Tied.{IsTied, IsCleared, IsLess, IsWithout, has_spot, is_between}
 use Rattle.nm_types.proofs.Maps.{equal, agree, get-values, get-replace, spot_cmp_total, with_values-without}
 use Rattle.nm_types.proofs.Keys.{keys-replace, sorted-without, All-get}
-use Rattle.nm_spaces.proofs.Tied.Tabled.{same_tables}
-use Rattle.nm_spaces.proofs.Tied.Remapped.{same_spot, flip_spot, exact_spot, TableInOrder}
-use Rattle.nm_spaces.proofs.Tied.Moved.{get_or-set}
+use Rattle.nm_spaces.proofs.ProcessTable.Changes.{same_tables}
+use Rattle.nm_spaces.proofs.Held.ReplacedEntries.{same_spot, flip_spot, exact_spot, TableInOrder}
+use Rattle.nm_spaces.proofs.Moves.OnePage.{get_or-set}
 
 -- ---- a process goes
 

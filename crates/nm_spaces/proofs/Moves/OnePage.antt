@@ -20,7 +20,7 @@ use Rattle.nm_spaces.specs.views.ProcessTable.{names, remapped}
 use Rattle.nm_spaces.specs.views.AddressSpaces.{AddressSpacesView, spaces_view, pins_in, with_moved}
 use Rattle.nm_spaces.specs.definitions.Tied.{IsTied, has_spot}
 use Rattle.nm_types.proofs.Maps.{equal, get-set, page_cmp_total, exact_page, spot_cmp_total, with_values-moved, keys-set}
-use Rattle.nm_spaces.proofs.Tied.Remapped.{mappers_mapped, entry_at-remapped, remapped_shows, keys-remapped, order-remapped}
+use Rattle.nm_spaces.proofs.Held.ReplacedEntries.{mappers_mapped, entry_at-remapped, remapped_shows, keys-remapped, order-remapped}
 
 pub frame_held : {f g : ℕ} → Some (Frame f) ≡ Some (Held g) → ⊥
 frame_held e = cc

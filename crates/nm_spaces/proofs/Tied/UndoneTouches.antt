@@ -28,10 +28,10 @@ use Rattle.nm_spaces.specs.views.AddressSpaces.{AddressSpacesView, spaces_view, 
 use Rattle.nm_model.specs.definitions.PageTables.{process_of, sight_of, page_here}
 use Rattle.nm_spaces.specs.definitions.Tied.{IsTied, IsWithout, has_spot}
 use Rattle.nm_laws.proofs.Soundness.Released.{get-without, other_placed}
-use Rattle.nm_spaces.proofs.Tied.Cleared.{get_left, and_true}
-use Rattle.nm_spaces.proofs.Tied.Remapped.{same_spot, exact_spot, TableInOrder}
+use Rattle.nm_spaces.proofs.Tied.ClearedEntries.{get_left, and_true}
+use Rattle.nm_spaces.proofs.Held.ReplacedEntries.{same_spot, exact_spot, TableInOrder}
 use Rattle.nm_laws.proofs.Seen.Shown.{sight_shown}
-use Rattle.nm_spaces.proofs.Tied.Touched.{entry_at-set, set_entry_shows}
+use Rattle.nm_spaces.proofs.Tied.Touches.{entry_at-set, set_entry_shows}
 
 zero_held : {g : ℕ} → Some Zero ≡ Some (Held g) → ⊥
 zero_held e = cc

@@ -30,7 +30,7 @@ use Rattle.nm_model.specs.definitions.PageTables.{process_of, sight_of, page_her
 use Rattle.nm_spaces.specs.definitions.Tied.{IsTied, has_spot}
 use Rattle.nm_types.proofs.Maps.{equal, get-set, get-values, all_from_get, with_values-set}
 use Rattle.nm_types.proofs.Keys.{All-set, All-get, sorted-set}
-use Rattle.nm_spaces.proofs.Tied.Remapped.{TableInOrder}
+use Rattle.nm_spaces.proofs.Held.ReplacedEntries.{TableInOrder}
 use Rattle.nm_laws.proofs.Seen.Shown.{sight_shown}
 
 none_of_all : {A : Type 0} (n i : ℕ) (d : A) → slice_index_or (replicate n d) i d ≡ d

@@ -17,7 +17,7 @@ use Rattle.nm_model.specs.definitions.PageTables.{sight_of, page_here}
 use Rattle.nm_model.specs.definitions.PageTables.{Task, entry_at}
 use Rattle.nm_spaces.specs.views.ProcessTable.{names}
 use Rattle.nm_spaces.specs.definitions.Tied.{IsTied}
-use Rattle.nm_spaces.proofs.Tied.New.{seen_here, seen_page}
+use Rattle.nm_spaces.proofs.Tied.Beginnings.{seen_here, seen_page}
 
 module _ (y : AddressSpacesView) (tasks : Map ℕ Task) (m : Mapped) (r : Mappers) (pid v : ℕ) (page : Page) (is : spaces_view tasks m r ≡ y) (at : Some page ≡ page_at y.areas pid v) where
   -- where an area is, it is what is seen there

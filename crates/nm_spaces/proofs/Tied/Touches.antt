@@ -31,8 +31,8 @@ use Rattle.nm_spaces.specs.views.AddressSpaces.{AddressSpacesView, spaces_view, 
 use Rattle.nm_spaces.specs.definitions.Tied.{IsTied, has_spot}
 use Rattle.nm_types.proofs.Maps.{equal, get-set, get-replace, get-values, page_cmp_total, exact_page, spot_cmp_total, with_values-set, with_values-replace, without-set}
 use Rattle.nm_types.proofs.Keys.{keys-replace, All-replace, All-get, sorted-set}
-use Rattle.nm_spaces.proofs.Tied.Remapped.{is_mapped, same_spot, exact_spot, TableInOrder}
-use Rattle.nm_spaces.proofs.Tied.Moved.{IsSpare, get_or-set, place_after, place_other}
+use Rattle.nm_spaces.proofs.Held.ReplacedEntries.{is_mapped, same_spot, exact_spot, TableInOrder}
+use Rattle.nm_spaces.proofs.Moves.OnePage.{IsSpare, get_or-set, place_after, place_other}
 use Rattle.nm_laws.proofs.Seen.Shown.{sight_shown}
 
 frame_held : {f g : ℕ} → Some (Frame f) ≡ Some (Held g) → ⊥

@@ -13,7 +13,7 @@ use Rattle.nm_types.specs.Map.{Map, replace}
 use Rattle.nm_types.proofs.Cases.{none_some, some_is, true_false}
 use Rattle.nm_model.specs.definitions.PageTables.{Task}
 use Rattle.nm_spaces.specs.views.ProcessTable.{by_pid}
-use Rattle.nm_spaces.proofs.Tied.Tabled.{rewritten}
+use Rattle.nm_spaces.proofs.ProcessTable.Changes.{rewritten}
 
 module _ {V : Type 0} (es : List (ℕ × V)) where
   -- the key of an entry, as it is asked for

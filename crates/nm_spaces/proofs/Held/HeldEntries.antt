@@ -32,9 +32,9 @@ use Rattle.nm_spaces.specs.views.Held.{AreApart, entry_here, held_for, on_their_
 use Rattle.nm_spaces.specs.definitions.Moves.{CanRemap, all_moved}
 use Rattle.nm_spaces.specs.views.ProcessTable.{names, IsThere, with_other_entry, replaced, replaced_in, all_replaced, remapped}
 use Rattle.nm_spaces.specs.definitions.Tied.{IsTied, AreInOrder, has_spot}
-use Rattle.nm_spaces.proofs.Tied.New.{entry_again, seen_here}
-use Rattle.nm_spaces.proofs.Tied.Moved.{IsSpare, frame_held, move_tied, move_shows}
-use Rattle.nm_spaces.proofs.Tied.Remapped.{TableInOrder, same_spot, all_from_has, all_there_stay, entry_at-replaced}
+use Rattle.nm_spaces.proofs.Tied.Beginnings.{entry_again, seen_here}
+use Rattle.nm_spaces.proofs.Moves.OnePage.{IsSpare, frame_held, move_tied, move_shows}
+use Rattle.nm_spaces.proofs.Held.ReplacedEntries.{TableInOrder, same_spot, all_from_has, all_there_stay, entry_at-replaced}
 
 -- ---- entries that are replaced, and then changed
 

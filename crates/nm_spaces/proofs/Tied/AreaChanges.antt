@@ -35,7 +35,7 @@ use Rattle.nm_model.specs.definitions.PageTables.{process_of, sight_of, page_her
 use Rattle.nm_spaces.specs.definitions.Tied.{IsTied}
 use Rattle.nm_types.proofs.Maps.{agree}
 use Rattle.nm_types.proofs.Keys.{All-get}
-use Rattle.nm_spaces.proofs.Tied.Remapped.{TableInOrder}
+use Rattle.nm_spaces.proofs.Held.ReplacedEntries.{TableInOrder}
 use Rattle.nm_model.proofs.areas.Apart.{NoneOverlaps, apart_from_new, all_from_none, one_more}
 
 -- every page that was shown is still shown there, and frames stay

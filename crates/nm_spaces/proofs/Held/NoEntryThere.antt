@@ -17,7 +17,7 @@ use Rattle.nm_model.specs.definitions.RunMachine.{Job, job_from}
 use Rattle.nm_spaces.specs.views.AddressSpaces.{AddressSpacesView, with_moved}
 use Rattle.nm_spaces.specs.views.Held.{is_left, is_taken}
 use Rattle.nm_spaces.specs.definitions.Moves.{CanRemap}
-use Rattle.nm_spaces.proofs.Tied.Moved.{place_other}
+use Rattle.nm_spaces.proofs.Moves.OnePage.{place_other}
 
 frames_same : {f g : ℕ} → Frame f ≡ Frame g → f ≡ g
 frames_same e = cc

@@ -36,8 +36,8 @@ use Rattle.nm_types.proofs.Maps.{equal, agree, get-values, exact_page, page_cmp_
 use Rattle.nm_types.proofs.Keys.{sorted-without, All-get}
 use Rattle.nm_laws.proofs.Soundness.Allocated.{area_covers}
 use Rattle.nm_laws.proofs.Soundness.Released.{Listed}
-use Rattle.nm_spaces.proofs.Tied.Remapped.{TableInOrder}
-use Rattle.nm_spaces.proofs.Tied.Cleared.{out, out_not, between_parts, sorted_kept, get_kept, one_cleared, and_true, keys-cleared, tables-cleared, entry_cleared}
+use Rattle.nm_spaces.proofs.Held.ReplacedEntries.{TableInOrder}
+use Rattle.nm_spaces.proofs.Tied.ClearedEntries.{out, out_not, between_parts, sorted_kept, get_kept, one_cleared, and_true, keys-cleared, tables-cleared, entry_cleared}
 
 -- ---- places of pages
 

@@ -1,0 +1,3 @@
+pub mod HeldEntries
+pub mod NoEntryThere
+pub mod ReplacedEntries
