@@ -1,5 +1,5 @@
-pub mod AddressSpaces
 pub mod Held
 pub mod Moves
 pub mod ProcessTable
+pub mod Spaces
 pub mod Tied

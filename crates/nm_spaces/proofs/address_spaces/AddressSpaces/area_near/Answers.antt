@@ -2,7 +2,7 @@ use Rattle.std.proofs.Common.{subst}
 use Rattle.std.specs.Prelude.{IfSome}
 use Rattle.nm_spaces.specs.views.AddressSpaces.{AddressSpacesView}
 use Rattle.nm_model.specs.definitions.Seen.{IsOver}
-use Rattle.nm_spaces.proofs.AddressSpaces.AreaLookups.{found_here, found_over}
+use Rattle.nm_spaces.proofs.Spaces.AreaLookups.{found_here, found_over}
 use Rattle.nm_spaces.proofs.address_spaces.AddressSpaces.area_near.Goals as goal
 
 pub returns-else-is_over-clause-over : goal.returns-else-is_over-clause-over

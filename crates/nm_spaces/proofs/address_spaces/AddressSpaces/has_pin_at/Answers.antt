@@ -2,7 +2,7 @@ use Rattle.std.proofs.Common.{ap, sym, ◌∙◌}
 use Rattle.std.specs.Prelude.{nat_lt}
 use Rattle.nm_types.specs.Map.{get, page_cmp}
 use Rattle.nm_spaces.specs.views.AddressSpaces.{AddressSpacesView, is_pinned}
-use Rattle.nm_spaces.proofs.AddressSpaces.PinnedPages.{busy_there, unplaced_pins}
+use Rattle.nm_spaces.proofs.Spaces.PinnedPages.{busy_there, unplaced_pins}
 use Rattle.nm_spaces.proofs.Tied.PinChanges.{pins_shown}
 use Rattle.nm_spaces.proofs.address_spaces.AddressSpaces.has_pin_at.Goals as goal
 

@@ -1,7 +1,7 @@
 use Rattle.std.proofs.Common.{◌≡◌, ℕ, ◌<◌, List, true, false, refl, sym, ap, subst, ◌∙◌}
 use Rattle.std.specs.Prelude.{slice_index_or}
 use Rattle.nm_model.specs.definitions.Effect.{shows_pinned}
-use Rattle.nm_spaces.proofs.AddressSpaces.PinnedPages.{none_pinned, none_at_all, one_there}
+use Rattle.nm_spaces.proofs.Spaces.PinnedPages.{none_pinned, none_at_all, one_there}
 use Rattle.nm_spaces.proofs.address_spaces.AddressSpaces.has_pinned.Goals as goal
 
 pub returns-then-not-has_pins : goal.returns-then-not-has_pins

@@ -3,7 +3,7 @@ use Rattle.std.specs.Prelude.{Some, None}
 use Rattle.nm_model.specs.definitions.Seen.{look_at_place, look_by_sight}
 use Rattle.nm_model.specs.definitions.PageTables.{sight_of}
 use Rattle.nm_spaces.specs.views.ProcessTable.{names}
-use Rattle.nm_spaces.proofs.AddressSpaces.Looks.{looked_there, looked_at, placed_there}
+use Rattle.nm_spaces.proofs.Spaces.Looks.{looked_there, looked_at, placed_there}
 use Rattle.nm_spaces.proofs.address_spaces.AddressSpaces.look.Goals as goal
 
 pub look_at-requires : goal.look_at-requires

@@ -1,4 +1,4 @@
-use Rattle.nm_spaces.proofs.AddressSpaces.AreaLookups.{found_below, found_index}
+use Rattle.nm_spaces.proofs.Spaces.AreaLookups.{found_below, found_index}
 use Rattle.nm_spaces.proofs.address_spaces.AddressSpaces.over.Goals as goal
 
 pub returns-clause-first : goal.returns-clause-first

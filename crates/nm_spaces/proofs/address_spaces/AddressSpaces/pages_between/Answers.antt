@@ -9,7 +9,7 @@ use Rattle.nm_model.specs.definitions.Seen.{IsOver, located}
 use Rattle.nm_spaces.specs.views.ProcessTable.{names}
 use Rattle.nm_types.specs.declared.located.Located.{Located}
 use Rattle.nm_spaces.proofs.ProcessTable.Changes.{on_any}
-use Rattle.nm_spaces.proofs.AddressSpaces.ListedPages.{pages_in, found_between, page_behind, frame_behind, located_behind, all_listed, few_listed, all_in_place, all_at, some_seen, step, step_over, ended}
+use Rattle.nm_spaces.proofs.Spaces.ListedPages.{pages_in, found_between, page_behind, frame_behind, located_behind, all_listed, few_listed, all_in_place, all_at, some_seen, step, step_over, ended}
 use Rattle.nm_spaces.proofs.address_spaces.AddressSpaces.pages_between.Goals as goal
 use Rattle.nm_spaces.proofs.address_spaces.AddressSpaces.pages_between.Goals.{in-Zero, in-Frame+in_ok-push-in-Frame, in-Held+in_ok-push-in-Held}
 

@@ -2,7 +2,7 @@ use Rattle.std.proofs.Common.{◌≡◌, ◌<◌, ◌++◌, drop}
 use Rattle.std.specs.Prelude.{All, IfSome}
 use Rattle.nm_types.specs.Layout.{node_count}
 use Rattle.nm_model.specs.definitions.Seen.{IsOver}
-use Rattle.nm_spaces.proofs.AddressSpaces.ListedPages.{pages_in}
+use Rattle.nm_spaces.proofs.Spaces.ListedPages.{pages_in}
 use Rattle.nm_spaces.proofs.address_spaces.AddressSpaces.pages_between.Given as goal
 
 abbrev pub invariant-loop-vpn : goal.invariant-loop-vpn

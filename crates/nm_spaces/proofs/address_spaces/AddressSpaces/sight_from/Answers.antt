@@ -4,7 +4,7 @@ use Rattle.nm_types.proofs.Cases.{none_always}
 use Rattle.nm_model.specs.definitions.PageTables.{sight_of}
 use Rattle.nm_spaces.specs.views.ProcessTable.{names}
 use Rattle.nm_spaces.proofs.Tied.Beginnings.{no_page}
-use Rattle.nm_spaces.proofs.AddressSpaces.Walks.{next_sight, no_sight, page_shown_here}
+use Rattle.nm_spaces.proofs.Spaces.Walks.{next_sight, no_sight, page_shown_here}
 use Rattle.nm_spaces.proofs.address_spaces.AddressSpaces.sight_from.Goals as goal
 
 pub returns-in_err-vpn-clause-none : goal.returns-in_err-vpn-clause-none

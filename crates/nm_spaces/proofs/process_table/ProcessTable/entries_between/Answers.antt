@@ -7,8 +7,8 @@ use Rattle.std.specs.declared.ops.Bound.TheVariants.{Included, Excluded}
 use Rattle.nm_model.specs.definitions.PageTables.{Task}
 use Rattle.nm_spaces.specs.views.ProcessTable.{task_table}
 use Rattle.nm_model.specs.definitions.Seen.{between}
-use Rattle.nm_spaces.proofs.AddressSpaces.ListedPages.{some_left}
-use Rattle.nm_spaces.proofs.AddressSpaces.Walks.{ranged}
+use Rattle.nm_spaces.proofs.Spaces.ListedPages.{some_left}
+use Rattle.nm_spaces.proofs.Spaces.Walks.{ranged}
 use Rattle.nm_spaces.proofs.ProcessTable.Changes.{found_value, none_found, on_any}
 use Rattle.nm_spaces.proofs.process_table.ProcessTable.entries_between.Goals as goal
 

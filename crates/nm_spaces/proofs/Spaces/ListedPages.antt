@@ -28,7 +28,7 @@ use Rattle.nm_model.specs.definitions.PageTables.{Task, entry_at}
 use Rattle.nm_spaces.specs.views.ProcessTable.{entries_in, names}
 use Rattle.nm_model.specs.definitions.Seen.{between, sights}
 use Rattle.nm_spaces.specs.definitions.Tied.{IsTied}
-use Rattle.nm_spaces.proofs.AddressSpaces.Walks.{found_in, sorted_of, range_shown, few_between}
+use Rattle.nm_spaces.proofs.Spaces.Walks.{found_in, sorted_of, range_shown, few_between}
 
 -- the pages behind entries of a process
 abbrev pub pages_in : Layout → Map Page ℕ → Map (ℕ × ℕ) Area → ℕ → Map ℕ Entry → List Located
