@@ -12,9 +12,9 @@ mod online;
 mod pins;
 mod process;
 mod query;
+mod resolved_address;
 mod run;
 mod touch;
-mod touch_site;
 mod undo;
 
 use crate::machine::Totals;

@@ -13,7 +13,7 @@ use Rattle.nm_types.specs.Map.{Map, get, set, replace, page_cmp}
 use Rattle.nm_types.specs.State.{Process, State, Placed, covers, area_over, page_of}
 use Rattle.nm_model.specs.definitions.Seen.{sight_in, sight_at, frame_seen}
 use Rattle.nm_model.specs.definitions.Order.{first_touch_order}
-use Rattle.nm_engine.specs.declared.inner.touch_site.TouchSite.{TouchSite}
+use Rattle.nm_engine.specs.declared.inner.resolved_address.ResolvedAddress.{ResolvedAddress}
 use Rattle.nm_types.specs.declared.process.ProcessInfo.{ProcessInfo}
 use Rattle.nm_model.specs.definitions.Effect.{info_of, seeing}
 use Rattle.nm_model.specs.definitions.Areas.{is_shared}
@@ -22,7 +22,7 @@ use Rattle.nm_engine.specs.views.Shown.{PagedFrames}
 use Rattle.nm_engine.proofs.Shown.PagedFrames.{HasItsFrames, free_of, stock_page}
 use Rattle.nm_model.specs.views.Table.{Table}
 use Rattle.nm_engine.specs.views.Shown.{shown}
-use Rattle.nm_engine.specs.views.MidRun.{MidRun, IsKept, spot_at, IsSiteOf}
+use Rattle.nm_engine.specs.views.MidRun.{MidRun, IsKept, access_site, IsSiteOf}
 use Rattle.nm_model.specs.definitions.Frames.{bytes_of, overwrite}
 use Rattle.nm_types.proofs.Maps.{page_cmp_total, get-set}
 use Rattle.std.specs.Cmp.{tied_itself}
@@ -40,7 +40,7 @@ inside s left room y is P h = subst (λ (z : MidRun). P z.state) (sym is) h
 pub outside : (s : State) (left : List ℕ) (room : ℕ) (y : MidRun) → record { state = s; left = left; room = room } ≡ y → (P : State → Type 0) → P s → P y.state
 outside s left room y is P h = subst (λ (z : MidRun). P z.state) is h
 
-pub spot_there : (s : State) (t : TouchSite) (p : Process) (a : Placed) → IsSiteOf s t p a → IsSpot s (spot_at t p a)
+pub spot_there : (s : State) (t : ResolvedAddress) (p : Process) (a : Placed) → IsSiteOf s t p a → IsSpot s (access_site t p a)
 spot_there s t p a h = record { process = h.known; area = h.over }
 
 pub not_none : {V : Type 0} (P : Type 0) (o : Option V) → IsSome o → IfNone o P
@@ -64,32 +64,32 @@ no_front (f ∷ frames) h some = cc
 pub found_free : (free : List (List ℕ)) (order : List ℕ) (node : ℕ) → first_free free order ≡ Some node → 0 < length (slice_index_or free node [])
 found_free free order node h = some_length _ (has_front free order node h)
 
-module _ {c : ℕ} (tasks : Map ℕ Process) (m : Table) (x : PagedFrames) (online : List ℕ) (moved failed : ℕ) (l : List ℕ) (t : TouchSite) (p : Process) (a : Placed)
+module _ {c : ℕ} (tasks : Map ℕ Process) (m : Table) (x : PagedFrames) (online : List ℕ) (moved failed : ℕ) (l : List ℕ) (t : ResolvedAddress) (p : Process) (a : Placed)
     (kept : IsKept (shown tasks m x online moved failed) l c) (touched : IsSiteOf (shown tasks m x online moved failed) t p a) where
   -- the process sees something else
-  pub seen_kept : (sight : Sight) (new : Map ℕ Process) → new ≡ replace nat_cmp tasks t.pid (seeing p t.vpn sight) → Fits (shown tasks m x online moved failed) (spot_at t p a) sight
+  pub seen_kept : (sight : Sight) (new : Map ℕ Process) → new ≡ replace nat_cmp tasks t.pid (seeing p t.vpn sight) → Fits (shown tasks m x online moved failed) (access_site t p a) sight
       → ((q : Page) → sight_at (shown tasks m x online moved failed) t.pid t.vpn ≡ Some (Sees q) → ⊥) → IsKept (shown new m x online moved failed) l c
   seen_kept sight new is fits unseen =
       subst (λ ps. IsKept (shown ps m x online moved failed) l c) (sym is)
       (record {
-        sound = with_sight_sound (shown tasks m x online moved failed) l (spot_at t p a) sight kept.sound (spot_there (shown tasks m x online moved failed) t p a touched) fits unseen;
+        sound = with_sight_sound (shown tasks m x online moved failed) l (access_site t p a) sight kept.sound (spot_there (shown tasks m x online moved failed) t p a touched) fits unseen;
         as_many = kept.as_many;
       })
 
   pub sees_now : (sight : Sight) (new : Map ℕ Process) → new ≡ replace nat_cmp tasks t.pid (seeing p t.vpn sight) → sight_in (get nat_cmp new t.pid) t.vpn ≡ Some sight
   sees_now sight new is =
       ap (λ (ps : Map ℕ Process). sight_in (get nat_cmp ps t.pid) t.vpn) is
-      ∙ sight_here (shown tasks m x online moved failed) (spot_at t p a) sight (spot_there (shown tasks m x online moved failed) t p a touched)
+      ∙ sight_here (shown tasks m x online moved failed) (access_site t p a) sight (spot_there (shown tasks m x online moved failed) t p a touched)
 
   -- the page has a frame then
   pub filled_shows : (node : ℕ) (new : Map ℕ Process) (after : PagedFrames) → HasItsFrames x → new ≡ replace nat_cmp tasks t.pid (seeing p t.vpn (Sees t.page)) → after ≡ stock_page x t.page node
       → get page_cmp x.place t.page ≡ None → 0 < length (free_of x node)
-      → shown new m after online moved failed ≡ with_sight (placed_front (shown tasks m x online moved failed) node (free_of x node) (shown_at (spot_at t p a))) (spot_at t p a) (Sees (shown_at (spot_at t p a)))
+      → shown new m after online moved failed ≡ with_sight (placed_front (shown tasks m x online moved failed) node (free_of x node) (shown_at (access_site t p a))) (access_site t p a) (Sees (shown_at (access_site t p a)))
   filled_shows node new after paged_frames is to unplaced some =
       ap (λ y. shown new m y online moved failed) to
       ∙ page_stocked_shows new m x online moved failed paged_frames t.page node unplaced some
       ∙ ap (λ ps. placed_front (shown ps m x online moved failed) node (free_of x node) t.page) is
-      ∙ ap (λ q. with_sight (placed_front (shown tasks m x online moved failed) node (free_of x node) q) (spot_at t p a) (Sees q)) (sym touched.page)
+      ∙ ap (λ q. with_sight (placed_front (shown tasks m x online moved failed) node (free_of x node) q) (access_site t p a) (Sees q)) (sym touched.page)
 
   pub filled_kept : (node : ℕ) (new : Map ℕ Process) (after : PagedFrames) → HasItsFrames x → new ≡ replace nat_cmp tasks t.pid (seeing p t.vpn (Sees t.page)) → after ≡ stock_page x t.page node
       → get page_cmp x.place t.page ≡ None → 0 < length (free_of x node) → ((q : Page) → sight_at (shown tasks m x online moved failed) t.pid t.vpn ≡ Some (Sees q) → ⊥)
@@ -97,35 +97,35 @@ module _ {c : ℕ} (tasks : Map ℕ Process) (m : Table) (x : PagedFrames) (onli
   filled_kept node new after paged_frames is to unplaced some unseen =
       subst (λ s. IsKept s l c) (sym (filled_shows node new after paged_frames is to unplaced some))
       (record {
-        sound = placed_sound (shown tasks m x online moved failed) l (spot_at t p a) node kept.sound (spot_there (shown tasks m x online moved failed) t p a touched) unseen
+        sound = placed_sound (shown tasks m x online moved failed) l (access_site t p a) node kept.sound (spot_there (shown tasks m x online moved failed) t p a touched) unseen
             (subst (λ q. get page_cmp x.place q ≡ None) (sym touched.page) unplaced) (ne_eqb (length (free_of x node)) 0 (λ e. absurd (omega (arith, e, some))));
         as_many = kept.as_many;
       })
 
   -- and that is what the definition says
   pub filled_is : (node : ℕ) → first_free x.free (first_touch_order x.layout online t.info.home t.info.allowed t.policy t.page.index) ≡ Some node
-      → filled (shown tasks m x online moved failed) (spot_at t p a)
-      ≡ Ok (with_sight (placed_front (shown tasks m x online moved failed) node (free_of x node) (shown_at (spot_at t p a))) (spot_at t p a) (Sees (shown_at (spot_at t p a))))
+      → filled (shown tasks m x online moved failed) (access_site t p a)
+      ≡ Ok (with_sight (placed_front (shown tasks m x online moved failed) node (free_of x node) (shown_at (access_site t p a))) (access_site t p a) (Sees (shown_at (access_site t p a))))
   filled_is node found =
       let order : first_touch_order x.layout online p.home p.allowed a.1.policy (page_of a t.vpn).index ≡ first_touch_order x.layout online t.info.home t.info.allowed t.policy t.page.index =
       λ i. first_touch_order x.layout online (touched.info i).home (touched.info i).allowed (touched.policy i) (touched.page i).index in
-      ap (allocated (shown tasks m x online moved failed) (spot_at t p a)) (ap (first_free x.free) order ∙ found)
+      ap (allocated (shown tasks m x online moved failed) (access_site t p a)) (ap (first_free x.free) order ∙ found)
 
   -- a private page that the process does not see has no frame
-  pub private_here : is_shared m.segments t.page.segment ≡ false → is_shared m.segments (shown_at (spot_at t p a)).segment ≡ false
+  pub private_here : is_shared m.segments t.page.segment ≡ false → is_shared m.segments (shown_at (access_site t p a)).segment ≡ false
   private_here private = ap (λ (q : Page). is_shared m.segments q.segment) touched.page ∙ private
 
   pub private_unplaced_here : ((q : Page) → sight_at (shown tasks m x online moved failed) t.pid t.vpn ≡ Some (Sees q) → ⊥) → is_shared m.segments t.page.segment ≡ false
       → get page_cmp x.place t.page ≡ None
   private_unplaced_here unseen private =
       ap (get page_cmp x.place) (sym touched.page)
-      ∙ private_unplaced (shown tasks m x online moved failed) l (spot_at t p a) kept.sound (spot_there (shown tasks m x online moved failed) t p a touched) unseen (private_here private)
+      ∙ private_unplaced (shown tasks m x online moved failed) l (access_site t p a) kept.sound (spot_there (shown tasks m x online moved failed) t p a touched) unseen (private_here private)
 
   -- where the process sees the page of zeros, its page is private
   pub zero_unplaced : sight_at (shown tasks m x online moved failed) t.pid t.vpn ≡ Some ZeroPage → get page_cmp x.place t.page ≡ None
   zero_unplaced sees =
       let zero = kept.sound.zeros t.pid t.vpn sees in
-      let same : zero.0 ≡ shown_at (spot_at t p a) = some_is (sym zero.1 ∙ page_at_spot (shown tasks m x online moved failed) (spot_at t p a) (spot_there (shown tasks m x online moved failed) t p a touched)) in
+      let same : zero.0 ≡ shown_at (access_site t p a) = some_is (sym zero.1 ∙ page_at_spot (shown tasks m x online moved failed) (access_site t p a) (spot_there (shown tasks m x online moved failed) t p a touched)) in
       private_unplaced_here (zero_sees sees) (ap (λ (q : Page). is_shared m.segments q.segment) (sym touched.page ∙ sym same) ∙ zero.2)
 
 pub get_set_same : (places : Map Page ℕ) (page : Page) (frame : ℕ) → get page_cmp (set page_cmp places page frame) page ≡ Some frame
@@ -158,7 +158,7 @@ spot_found s pid address len p a known some inside over =
 pub touched_there : (s : State) (pid address len v first index : ℕ) (info : ProcessInfo) (area : Area) → option_map info_of (get nat_cmp s.processes pid) ≡ Some info → (len ≡ 0 → ⊥)
     → len ≤ 4096 - address % 4096 → v ≡ address / 4096 → Some ((pid, first), area) ≡ area_over s.areas pid v → index ≡ area.page.index + (v - first)
     → (p : Process) × (a : Placed)
-    × (site s pid address len ≡ Ok (spot_at (record { pid = pid; info = info; vpn = v; page = record { segment = area.page.segment; index = index }; policy = area.policy }) p a))
+    × (site s pid address len ≡ Ok (access_site (record { pid = pid; info = info; vpn = v; page = record { segment = area.page.segment; index = index }; policy = area.policy }) p a))
     × IsSiteOf s (record { pid = pid; info = info; vpn = v; page = record { segment = area.page.segment; index = index }; policy = area.policy }) p a
 touched_there s pid address len v first index info area known some within at over is =
     let p = mapped_some info_of (get nat_cmp s.processes pid) info known in

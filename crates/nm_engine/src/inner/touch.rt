@@ -9,13 +9,13 @@ ghost use Rattle.nm_types.specs.State.{Process, Placed};
 ghost use Rattle.nm_model.specs.definitions.Seen.{sight_at};
 ghost use Rattle.nm_model.specs.definitions.Order.{first_touch_order};
 ghost use Rattle.nm_model.specs.definitions.Touch.{Bytes, Done, site, first_free, filled, joined, touched_entry, read, write, site_refusal};
-ghost use Rattle.nm_engine.specs.views.MidRun.{spot_at, IsSiteOf, with_state};
+ghost use Rattle.nm_engine.specs.views.MidRun.{access_site, IsSiteOf, with_state};
 ghost use Rattle.nm_engine.specs.definitions.Does.{AsksLast, Touches, Accesses};
 ghost use Rattle.nm_model.specs.definitions.Seen.{frame_seen};
 
 use crate::ProcessInfo;
 use crate::inner::Inner;
-use crate::inner::touch_site::TouchSite;
+use crate::inner::resolved_address::ResolvedAddress;
 use nm_policy::first_touch_node;
 use nm_types::limits::PAGE_BYTES;
 use nm_types::{Errno, FrameId, MachineError, NodeId, Page, Pid, Policy, Sight, Vpn};
@@ -59,11 +59,11 @@ impl<A: Allocator + Copy> Inner<A> {
     }
 
     /// Where `len` bytes of a process from `addr` on are, or the first refusal.
-    pub(crate) fn resolve(&self, pid: Pid, addr: u64, len: u64) -> Result<TouchSite, Errno>
+    pub(crate) fn resolve(&self, pid: Pid, addr: u64, len: u64) -> Result<ResolvedAddress, Errno>
         // On success
         ensures ok { IfOk result
             (λ t. (p : Process) × (a : Placed)
-            × (site self.now.state pid addr len ≡ Ok (spot_at t p a))
+            × (site self.now.state pid addr len ≡ Ok (access_site t p a))
             × IsSiteOf self.now.state t p a) }
         ensures pid { IfOk result (λ t. t.pid ≡ pid) }
         ensures page { IfOk result (λ t. t.vpn ≡ addr / 4096) }
@@ -87,7 +87,7 @@ impl<A: Allocator + Copy> Inner<A> {
             segment,
             index: index + (vpn.number() - first.number()),
         };
-        Ok(TouchSite {
+        Ok(ResolvedAddress {
             pid,
             info,
             vpn,
@@ -100,7 +100,7 @@ impl<A: Allocator + Copy> Inner<A> {
     /// sees, or None if that is the page of zeros. If it sees a page before, nothing is refused.
     pub(crate) fn touch(
         &mut self,
-        t: TouchSite,
+        t: ResolvedAddress,
         writes: bool,
     ) -> Result<Option<FrameId>, MachineError>
         requires { (p : Process) × (a : Placed) × IsSiteOf self.old.state t p a }
@@ -109,7 +109,7 @@ impl<A: Allocator + Copy> Inner<A> {
         ensures touches { (p : Process) (a : Placed) →
             IsSiteOf self.old.state t p a →
             Touches result self.old.state self.new.state
-            (touched_entry self.old.state (spot_at t p a) writes (get nat_cmp p.sees t.vpn)) }
+            (touched_entry self.old.state (access_site t p a) writes (get nat_cmp p.sees t.vpn)) }
 
         // On success
         ensures frame { IfOk result (λ frame. frame ≡ frame_seen self.new.state t.pid t.vpn) }
@@ -145,7 +145,7 @@ impl<A: Allocator + Copy> Inner<A> {
     }
 
     /// Makes the process see the page shown there, which gets a frame if it has none.
-    fn join(&mut self, t: TouchSite) -> Result<FrameId, MachineError>
+    fn join(&mut self, t: ResolvedAddress) -> Result<FrameId, MachineError>
         requires touched { (p : Process) × (a : Placed) × IsSiteOf self.old.state t p a }
         requires unseen { sight_at self.old.state t.pid t.vpn ≡ None }
 
@@ -153,7 +153,7 @@ impl<A: Allocator + Copy> Inner<A> {
         ensures touches { (p : Process) (a : Placed) →
             IsSiteOf self.old.state t p a →
             Touches result self.old.state self.new.state
-            (joined self.old.state (spot_at t p a) (get page_cmp self.old.state.place t.page)) }
+            (joined self.old.state (access_site t p a) (get page_cmp self.old.state.place t.page)) }
 
         // On success
         ensures frame { IfOk result (λ frame. frame_seen self.new.state t.pid t.vpn ≡ Some frame) }
@@ -170,7 +170,7 @@ impl<A: Allocator + Copy> Inner<A> {
     }
 
     /// Gives the page the front frame of the first node in order that has one, and makes the process see it.
-    fn fill(&mut self, t: TouchSite) -> Result<FrameId, MachineError>
+    fn fill(&mut self, t: ResolvedAddress) -> Result<FrameId, MachineError>
         requires touched { (p : Process) × (a : Placed) × IsSiteOf self.old.state t p a }
         requires unplaced { get page_cmp self.old.state.place t.page ≡ None }
         requires unseen { (page : Page) → sight_at self.old.state t.pid t.vpn ≡ Some (Sees page) → ⊥ }
@@ -178,7 +178,7 @@ impl<A: Allocator + Copy> Inner<A> {
         // In any case
         ensures touches { (p : Process) (a : Placed) →
             IsSiteOf self.old.state t p a →
-            Touches result self.old.state self.new.state (filled self.old.state (spot_at t p a)) }
+            Touches result self.old.state self.new.state (filled self.old.state (access_site t p a)) }
 
         // On success
         ensures frame { IfOk result (λ frame. frame_seen self.new.state t.pid t.vpn ≡ Some frame) }

@@ -7,14 +7,14 @@ ghost use Rattle.nm_types.specs.Map.{get, page_cmp};
 ghost use Rattle.nm_types.specs.State.{Process, Placed, page_at};
 ghost use Rattle.nm_model.specs.definitions.Seen.{sight_at};
 ghost use Rattle.nm_model.specs.definitions.Touch.{touched_entry};
-ghost use Rattle.nm_engine.specs.views.MidRun.{spot_at, IsSiteOf, with_state};
+ghost use Rattle.nm_engine.specs.views.MidRun.{access_site, IsSiteOf, with_state};
 ghost use Rattle.nm_engine.specs.definitions.Does.{Touches};
 ghost use Rattle.nm_model.specs.definitions.Seen.{frame_seen};
 ghost use Rattle.nm_model.specs.definitions.Sound.{IsSoundMidRun};
 ghost use Rattle.nm_engine.specs.definitions.Undo.{CanUndo, IsUndoable, IsStillUndone, undone, all_undone, noted, with_undo};
 
 use crate::inner::Inner;
-use crate::inner::touch_site::TouchSite;
+use crate::inner::resolved_address::ResolvedAddress;
 use nm_types::{FrameId, MachineError, Page, Pid, Sight, Vpn};
 use std::alloc::Allocator;
 
@@ -44,7 +44,7 @@ impl<A: Allocator + Copy> Inner<A> {
     /// it is refused, or the host is out of memory, nothing is noted.
     pub(crate) fn touch_noted(
         &mut self,
-        t: TouchSite,
+        t: ResolvedAddress,
         writes: bool,
         undos: &mut Vec<Undo, A>,
     ) -> Result<Option<FrameId>, MachineError>
@@ -54,7 +54,7 @@ impl<A: Allocator + Copy> Inner<A> {
         ensures touches { (p : Process) (a : Placed) →
             IsSiteOf self.old.state t p a →
             Touches result self.old.state self.new.state
-            (touched_entry self.old.state (spot_at t p a) writes (get nat_cmp p.sees t.vpn)) }
+            (touched_entry self.old.state (access_site t p a) writes (get nat_cmp p.sees t.vpn)) }
         ensures frame { IfOk result (λ frame. frame ≡ frame_seen self.new.state t.pid t.vpn) }
         ensures some { IfOk result (λ frame. writes ≡ true → IsSome frame) }
         ensures zeros { IfOk result
@@ -79,7 +79,7 @@ impl<A: Allocator + Copy> Inner<A> {
     }
 
     /// What a touch finds.
-    fn before(&self, t: &TouchSite) -> Before
+    fn before(&self, t: &ResolvedAddress) -> Before
         requires { page_at self.now.state.areas t.now.pid t.now.vpn ≡ Some t.now.page }
         ensures is { result
             ≡ record {

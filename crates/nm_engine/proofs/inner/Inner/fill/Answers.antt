@@ -12,7 +12,7 @@ use Rattle.nm_frames.specs.Populated.{IsPopulated}
 use Rattle.nm_spaces.specs.views.AddressSpaces.{AddressSpacesView, table_of, with_new_page}
 use Rattle.nm_memory.specs.views.Frames.{FramesView, free_on}
 use Rattle.nm_engine.specs.views.Shown.{shown, shown_by, paged_frames}
-use Rattle.nm_engine.specs.views.MidRun.{MidRun, IsKept, IsSiteOf, spot_at}
+use Rattle.nm_engine.specs.views.MidRun.{MidRun, IsKept, IsSiteOf, access_site}
 use Rattle.nm_model.specs.definitions.Seen.{frame_of}
 use Rattle.nm_engine.proofs.Shown.BothParts.{kept_stocked, front_spare, stocked_both}
 use Rattle.nm_engine.proofs.Shown.PopulatedFrames.{same_shown, kept_again, view_again}
@@ -83,7 +83,7 @@ returns-clause-touches g c p a known =
     let is = c.in_ok-allocate.ensures.ok p touched.known in
     let to = stocked_both c.self.inside.spaces c.allocate.new.self c.populate.new.self c.take_front.new.self c.zero.new.self c.args.t.pid c.args.t.vpn p c.args.t.page c.in-Some.node c.in-Some-front.frame is c.take_front.ensures.rest c.zero.ensures front in
     let whole = kept_stocked c.self.inside.spaces c.populate.new.self c.self.inside.online c.self.inside.totals.moved c.self.inside.totals.failed kept c.in_ok-populate.ensures.shelf in
-    ap (λ (y : MidRun). filled y.state (spot_at c.args.t p a)) (sym view)
+    ap (λ (y : MidRun). filled y.state (access_site c.args.t p a)) (sym view)
     ∙ filled_is c.self.inside.spaces.processes (table_of c.self.inside.spaces) (paged_frames c.self.inside.spaces c.populate.new.self) c.self.inside.online c.self.inside.totals.moved c.self.inside.totals.failed _ c.args.t p a kept touched c.in-Some.node found
     ∙ ap Ok (sym (ap (λ (z : AddressSpacesView). shown z.processes (table_of z) (paged_frames c.allocate.new.self c.zero.new.self) c.self.inside.online c.self.inside.totals.moved c.self.inside.totals.failed) is
     ∙ filled_shows c.self.inside.spaces.processes (table_of c.self.inside.spaces) (paged_frames c.self.inside.spaces c.populate.new.self) c.self.inside.online c.self.inside.totals.moved c.self.inside.totals.failed _ c.args.t p a kept touched c.in-Some.node (with_new_page c.self.inside.spaces c.args.t.pid p c.args.t.vpn c.args.t.page c.in-Some-front.frame).processes (paged_frames c.allocate.new.self c.zero.new.self) whole refl to unplaced (found_free c.populate.new.self.free _ c.in-Some.node found)))

@@ -9,7 +9,7 @@ use Rattle.nm_engine.specs.definitions.Does.{Touches}
 use Rattle.nm_model.specs.definitions.Touch.{joined, with_sight}
 use Rattle.nm_spaces.specs.views.AddressSpaces.{AddressSpacesView, table_of, with_seen}
 use Rattle.nm_engine.specs.views.Shown.{shown_by, paged_frames}
-use Rattle.nm_engine.specs.views.MidRun.{MidRun, IsKept, IsSiteOf, spot_at, with_state}
+use Rattle.nm_engine.specs.views.MidRun.{MidRun, IsKept, IsSiteOf, access_site, with_state}
 use Rattle.nm_model.specs.definitions.Seen.{frame_of}
 use Rattle.nm_engine.proofs.Does.Touches.{inside, outside, seen_kept, sees_now}
 use Rattle.nm_laws.proofs.Seen.Frames.{none_sees}
@@ -29,9 +29,9 @@ pub returns-clause-touches : goal.returns-clause-touches
 returns-clause-touches g c p a known =
     let touched = inside _ _ _ _ c.self.view_is (λ s. IsSiteOf s c.args.t p a) known in
     let placed : get page_cmp c.self.inside.spaces.place c.args.t.page ≡ Some c.in-Some.frame = sym c.place.ensures.place ∙ c.in-Some.is in
-    ap (λ (y : MidRun). joined y.state (spot_at c.args.t p a) (get page_cmp y.state.place c.args.t.page)) (sym c.self.view_is)
-    ∙ ap (joined (shown_by c.self.inside.spaces c.self.inside.frames c.self.inside.online c.self.inside.totals.moved c.self.inside.totals.failed) (spot_at c.args.t p a)) placed
-    ∙ ap (λ (q : Page). Ok (with_sight (shown_by c.self.inside.spaces c.self.inside.frames c.self.inside.online c.self.inside.totals.moved c.self.inside.totals.failed) (spot_at c.args.t p a) (Sees q))) touched.page
+    ap (λ (y : MidRun). joined y.state (access_site c.args.t p a) (get page_cmp y.state.place c.args.t.page)) (sym c.self.view_is)
+    ∙ ap (joined (shown_by c.self.inside.spaces c.self.inside.frames c.self.inside.online c.self.inside.totals.moved c.self.inside.totals.failed) (access_site c.args.t p a)) placed
+    ∙ ap (λ (q : Page). Ok (with_sight (shown_by c.self.inside.spaces c.self.inside.frames c.self.inside.online c.self.inside.totals.moved c.self.inside.totals.failed) (access_site c.args.t p a) (Sees q))) touched.page
     ∙ ap (λ (z : AddressSpacesView). Ok (shown_by z c.self.inside.frames c.self.inside.online c.self.inside.totals.moved c.self.inside.totals.failed)) (sym (c.in_ok-see.ensures.ok p touched.known))
 
 pub returns-clause-frame : goal.returns-clause-frame
@@ -47,7 +47,7 @@ pub returns-in_default-clause-touches : goal.returns-in_default-clause-touches
 returns-in_default-clause-touches g c p a known =
     let s = c.args.self.now.state in
     let none : get page_cmp s.place c.args.t.page ≡ None = outside _ _ _ _ c.self.view_is (λ z. get page_cmp z.place c.args.t.page ≡ None) (sym c.place.ensures.place ∙ c.in_default.is) in
-    subst (λ f. Touches c.fill.result s c.fill.new.self.state f) (sym (ap (joined s (spot_at c.args.t p a)) none)) (c.fill.ensures.touches p a known)
+    subst (λ f. Touches c.fill.result s c.fill.new.self.state f) (sym (ap (joined s (access_site c.args.t p a)) none)) (c.fill.ensures.touches p a known)
 
 pub returns-in_default-clause-frame : goal.returns-in_default-clause-frame
 returns-in_default-clause-frame g c = c.fill.ensures.frame

@@ -4,14 +4,14 @@ use Rattle.nm_types.specs.declared.page.Page.{Page}
 use Rattle.nm_types.specs.declared.sight.Sight.{Sight}
 use Rattle.nm_types.specs.State.{State, Process, Placed}
 use Rattle.nm_model.specs.definitions.Areas.{is_shared}
-use Rattle.nm_engine.specs.declared.inner.touch_site.TouchSite.{TouchSite}
+use Rattle.nm_engine.specs.declared.inner.resolved_address.ResolvedAddress.{ResolvedAddress}
 use Rattle.nm_model.specs.definitions.Touch.{shown_at, filled, joined, with_sight, touched_entry}
 use Rattle.nm_types.specs.declared.sight.Sight.TheVariants.{Sees, ZeroPage}
 use Rattle.nm_types.specs.Map.{get, page_cmp}
 use Rattle.std.specs.Ordering.{nat_cmp}
 use Rattle.nm_model.specs.definitions.Seen.{sight_in, sight_at}
 use Rattle.nm_engine.specs.views.Shown.{shown, shown_by}
-use Rattle.nm_engine.specs.views.MidRun.{MidRun, IsKept, IsSiteOf, spot_at, with_state}
+use Rattle.nm_engine.specs.views.MidRun.{MidRun, IsKept, IsSiteOf, access_site, with_state}
 use Rattle.nm_model.specs.definitions.Seen.{frame_of, frame_seen}
 use Rattle.nm_engine.proofs.Does.Touches.{inside, outside, not_none, seen_kept, sees_now, private_here, private_unplaced_here, zero_unplaced}
 use Rattle.nm_laws.proofs.Seen.Frames.{none_sees, zero_sees}
@@ -22,34 +22,34 @@ use Rattle.nm_engine.proofs.inner.HandedOn.{touch_handed_on, nothing_touched}
 use Rattle.nm_engine.proofs.inner.Inner.touch.Goals as goal
 
 -- what the process sees is what its entry says
-entry_is : (s : State) (t : TouchSite) (p : Process) (a : Placed) → IsSiteOf s t p a → {o : Option Sight} → sight_at s t.pid t.vpn ≡ o → get nat_cmp p.sees t.vpn ≡ o
+entry_is : (s : State) (t : ResolvedAddress) (p : Process) (a : Placed) → IsSiteOf s t p a → {o : Option Sight} → sight_at s t.pid t.vpn ≡ o → get nat_cmp p.sees t.vpn ≡ o
 entry_is s t p a h e = ap (λ q. sight_in q t.vpn) (sym h.known) ∙ e
 
 -- the touch of a page that the process sees already, or of the page of zeros
-entry_touched : (s : State) (t : TouchSite) (p : Process) (a : Placed) (writes : Bool) (o : Option Sight) → IsSiteOf s t p a → sight_at s t.pid t.vpn ≡ o
-    → touched_entry s (spot_at t p a) writes (get nat_cmp p.sees t.vpn) ≡ touched_entry s (spot_at t p a) writes o
-entry_touched s t p a writes o h e = ap (touched_entry s (spot_at t p a) writes) (entry_is s t p a h e)
+entry_touched : (s : State) (t : ResolvedAddress) (p : Process) (a : Placed) (writes : Bool) (o : Option Sight) → IsSiteOf s t p a → sight_at s t.pid t.vpn ≡ o
+    → touched_entry s (access_site t p a) writes (get nat_cmp p.sees t.vpn) ≡ touched_entry s (access_site t p a) writes o
+entry_touched s t p a writes o h e = ap (touched_entry s (access_site t p a) writes) (entry_is s t p a h e)
 
-zero_touched : (s : State) (t : TouchSite) (p : Process) (a : Placed) (writes : Bool) → IsSiteOf s t p a → sight_at s t.pid t.vpn ≡ Some ZeroPage → {b : Bool} → writes ≡ b
-    → touched_entry s (spot_at t p a) writes (get nat_cmp p.sees t.vpn) ≡ (if b then filled s (spot_at t p a) else Ok s)
-zero_touched s t p a writes h e w = entry_touched s t p a writes (Some ZeroPage) h e ∙ ap (λ b. if b then filled s (spot_at t p a) else Ok s) w
+zero_touched : (s : State) (t : ResolvedAddress) (p : Process) (a : Placed) (writes : Bool) → IsSiteOf s t p a → sight_at s t.pid t.vpn ≡ Some ZeroPage → {b : Bool} → writes ≡ b
+    → touched_entry s (access_site t p a) writes (get nat_cmp p.sees t.vpn) ≡ (if b then filled s (access_site t p a) else Ok s)
+zero_touched s t p a writes h e w = entry_touched s t p a writes (Some ZeroPage) h e ∙ ap (λ b. if b then filled s (access_site t p a) else Ok s) w
 
 -- where it sees nothing, the page's segment decides
-shared_at : (s : State) (t : TouchSite) (p : Process) (a : Placed) → IsSiteOf s t p a → {b : Bool} → is_shared s.segments t.page.segment ≡ b → is_shared s.segments (shown_at (spot_at t p a)).segment ≡ b
+shared_at : (s : State) (t : ResolvedAddress) (p : Process) (a : Placed) → IsSiteOf s t p a → {b : Bool} → is_shared s.segments t.page.segment ≡ b → is_shared s.segments (shown_at (access_site t p a)).segment ≡ b
 shared_at s t p a h e = ap (λ (q : Page). is_shared s.segments q.segment) h.page ∙ e
 
-shared_touched : (s : State) (t : TouchSite) (p : Process) (a : Placed) (writes : Bool) → IsSiteOf s t p a → sight_at s t.pid t.vpn ≡ None → is_shared s.segments t.page.segment ≡ true
-    → touched_entry s (spot_at t p a) writes (get nat_cmp p.sees t.vpn) ≡ joined s (spot_at t p a) (get page_cmp s.place t.page)
+shared_touched : (s : State) (t : ResolvedAddress) (p : Process) (a : Placed) (writes : Bool) → IsSiteOf s t p a → sight_at s t.pid t.vpn ≡ None → is_shared s.segments t.page.segment ≡ true
+    → touched_entry s (access_site t p a) writes (get nat_cmp p.sees t.vpn) ≡ joined s (access_site t p a) (get page_cmp s.place t.page)
 shared_touched s t p a writes h e shared =
-    let at = spot_at t p a in
+    let at = access_site t p a in
     entry_touched s t p a writes None h e
     ∙ ap (λ b. if b then joined s at (get page_cmp s.place (shown_at at)) else (if writes then filled s at else Ok (with_sight s at ZeroPage))) (shared_at s t p a h shared)
     ∙ ap (λ (q : Page). joined s at (get page_cmp s.place q)) h.page
 
-private_touched : (s : State) (t : TouchSite) (p : Process) (a : Placed) (writes : Bool) → IsSiteOf s t p a → sight_at s t.pid t.vpn ≡ None → is_shared s.segments t.page.segment ≡ false → {b : Bool} → writes ≡ b
-    → touched_entry s (spot_at t p a) writes (get nat_cmp p.sees t.vpn) ≡ (if b then filled s (spot_at t p a) else Ok (with_sight s (spot_at t p a) ZeroPage))
+private_touched : (s : State) (t : ResolvedAddress) (p : Process) (a : Placed) (writes : Bool) → IsSiteOf s t p a → sight_at s t.pid t.vpn ≡ None → is_shared s.segments t.page.segment ≡ false → {b : Bool} → writes ≡ b
+    → touched_entry s (access_site t p a) writes (get nat_cmp p.sees t.vpn) ≡ (if b then filled s (access_site t p a) else Ok (with_sight s (access_site t p a) ZeroPage))
 private_touched s t p a writes h e private w =
-    let at = spot_at t p a in
+    let at = access_site t p a in
     entry_touched s t p a writes None h e
     ∙ ap (λ b. if b then joined s at (get page_cmp s.place (shown_at at)) else (if writes then filled s at else Ok (with_sight s at ZeroPage))) (shared_at s t p a h private)
     ∙ ap (λ b. if b then filled s at else Ok (with_sight s at ZeroPage)) w
@@ -168,7 +168,7 @@ returns-in_ok-see_zero-in-None-clause-touches g c p a known =
     private_touched c.args.self.now.state c.args.t p a c.args.writes known
     (outside _ _ _ _ c.self.view_is (λ z. sight_at z c.args.t.pid c.args.t.vpn ≡ None) (sym c.sight.ensures ∙ c.in-None.is))
     (outside _ _ _ _ c.self.view_is (λ z. is_shared z.segments c.args.t.page.segment ≡ false) (sym c.is_shared.ensures ∙ c.if-is_shared.false)) c.if-writes-2.false
-    ∙ ap (λ (y : MidRun). Ok (with_sight y.state (spot_at c.args.t p a) ZeroPage)) (sym c.self.view_is)
+    ∙ ap (λ (y : MidRun). Ok (with_sight y.state (access_site c.args.t p a) ZeroPage)) (sym c.self.view_is)
     ∙ ap (λ (z : AddressSpacesView). Ok (shown_by z i.frames i.online i.totals.moved i.totals.failed)) (sym (c.in_ok-see_zero-in-None.ensures.ok p touched.known))
 
 pub returns-in_err-see_zero-in-None-clause-touches : goal.returns-in_err-see_zero-in-None-clause-touches

@@ -6,7 +6,7 @@ use nm_types::{Page, Pid, Policy, Vpn};
 /// Where an access finds its bytes: a process, one of its page numbers, and the page that the area over it shows there,
 /// with the area's policy.
 #[derive(Clone, Copy)]
-pub(crate) struct TouchSite {
+pub(crate) struct ResolvedAddress {
     pub(crate) pid: Pid,
     pub(crate) info: ProcessInfo,
     pub(crate) vpn: Vpn,
