@@ -1,6 +1,8 @@
 //! A batch of pages to move: whether they may go to their nodes, and its runs, one after another, with the accesses
 //! made meanwhile.
 
+#![tactic(auto, using(crate::proofs::Trails::first_state))]
+
 ghost use Rattle.std.specs.Prelude.{◌≡◌, ◌+◌, ◌<◌, ◌≤◌, ◌/◌, [], All, EachIndex, IfOk, OnErr, OnOk, length, slice_index, vec_capacity, map};
 ghost use Rattle.std.specs.List.{sum_by};
 ghost use Rattle.nm_types.specs.Layout.{node_count};
@@ -84,7 +86,6 @@ pub fn run_count(nodes: &[u32], limit: usize) -> usize
 /// Makes runs one after another, with a crew that copies their pages, and puts the statuses into a list that has room
 /// for them. The accesses are made meanwhile, each in the run with its number. Allocates before the first run starts,
 /// except for what a run itself needs. An error means that the host is out of memory, and says after how many runs.
-#[tactic(auto, using(crate::proofs::Trails::first_state))]
 pub(crate) fn move_runs<
     R: Threads + Wait + Sync,
     A: Allocator + Copy + Send + Sync,
@@ -128,7 +129,6 @@ pub(crate) fn move_runs<
 /// Moves the pages of a batch, run after run, with at most `limit` entries in each run. The runs and lists are made
 /// before the first run starts, so that memory for them cannot be refused halfway. An error means that the host is out
 /// of memory, and says after how many runs; a batch of no pages and no accesses takes none.
-#[tactic(auto, using(crate::proofs::Trails::first_state))]
 pub(crate) fn move_batch<
     R: Threads + Wait + Sync,
     A: Allocator + Copy + Send + Sync,

@@ -1,5 +1,7 @@
 //! Batches and passes: all requests go to one node after another, until they have found a free frame.
 
+#![tactic(auto, using(crate::proofs::Trails::first_state))]
+
 ghost use Rattle.std.specs.Prelude.{◌≡◌, ◌^◌, ◌<◌, ◌≤◌, ℕ, false, true, All, Any, [], IfOk, OnErr, IfNone, IfSome, Some, length, vec_capacity};
 ghost use Rattle.std.specs.List.{AllByRecursion};
 ghost use Rattle.std.specs.Ordering.{int_eq};
@@ -36,7 +38,6 @@ pub(crate) struct Made<A: Allocator + Copy> {
 }
 
 /// Makes the runs of a batch, each of at most `limit` entries.
-#[tactic(auto, using(crate::proofs::Trails::first_state))]
 pub(crate) fn make_batch<
     R: Threads + Wait + Sync,
     A: Allocator + Copy + Send + Sync,
@@ -128,7 +129,6 @@ fn put_without_frame<A: Allocator + Copy>(
 
 /// Makes a pass: all requests go to one node. Allocates before its first run starts, except for what a run itself
 /// needs.
-#[tactic(auto, using(crate::proofs::Trails::first_state))]
 fn make_pass<R: Threads + Wait + Sync, A: Allocator + Copy + Send + Sync, G: Gate + Sync>(
     crew: &Crew<R, G>,
     alloc: A,

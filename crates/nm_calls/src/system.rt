@@ -90,6 +90,7 @@ impl<A: Allocator + Copy + Send + Sync> Model for System<A> {
     ghost invariant = { λ s. (0 < s.run_limit) × (0 < s.workers) × (s.workers ≤ 64) };
 }
 
+#[tactic(auto, unfolding(crate::specs::definitions::Outcome::refused, crate::specs::definitions::Outcome::refused_at_once, crate::specs::definitions::Outcome::ended, crate::specs::definitions::Outcome::runs_asked, crate::specs::definitions::Outcome::start, crate::specs::definitions::Outcome::sets_policy, crate::specs::definitions::Outcome::accesses_asked), using(crate::proofs::Outcomes::answers, crate::proofs::Outcomes::refuses, crate::proofs::Outcomes::unchanged, crate::proofs::Outcomes::host_leaves))]
 impl<A: Allocator + Copy + Send + Sync> System<A> {
     /// Makes a new machine, whose pages are copied by 1 to 64 workers, the caller and threads that each call starts: no
     /// process, every node online, every frame free, and each free list in ascending order. An error means that the
@@ -132,7 +133,6 @@ impl<A: Allocator + Copy + Send + Sync> System<A> {
     ///
     /// Errors, in order: EINVAL (pid 0 or one that is alive, a home that is not a node, an allowed set that is empty or
     /// has a node that the machine does not have); ENOMEM (1,024 processes are alive).
-    #[tactic(auto, unfolding(crate::specs::definitions::Outcome::refused, crate::specs::definitions::Outcome::refused_at_once, crate::specs::definitions::Outcome::ended, crate::specs::definitions::Outcome::runs_asked, crate::specs::definitions::Outcome::start, crate::specs::definitions::Outcome::sets_policy, crate::specs::definitions::Outcome::accesses_asked), using(crate::proofs::Outcomes::answers, crate::proofs::Outcomes::refuses, crate::proofs::Outcomes::unchanged))]
     pub fn spawn(
         &mut self,
         pid: Pid,
@@ -152,7 +152,6 @@ impl<A: Allocator + Copy + Send + Sync> System<A> {
     ///
     /// Errors, in order: ESRCH (no such process); EINVAL (an address that is not a multiple of 4,096, no page, an end
     /// past 2^47, an area in the way); ENOMEM (no segment number left).
-    #[tactic(auto, unfolding(crate::specs::definitions::Outcome::refused, crate::specs::definitions::Outcome::refused_at_once, crate::specs::definitions::Outcome::ended, crate::specs::definitions::Outcome::runs_asked, crate::specs::definitions::Outcome::start, crate::specs::definitions::Outcome::sets_policy, crate::specs::definitions::Outcome::accesses_asked), using(crate::proofs::Outcomes::answers, crate::proofs::Outcomes::refuses, crate::proofs::Outcomes::unchanged))]
     pub fn map(&mut self, pid: Pid, addr: u64, pages: u64, shared: bool) -> Result<u32, CallError>
         ensures { Does NewSegment result self.old self.new (MapPages pid addr pages shared) }
     {
@@ -164,7 +163,6 @@ impl<A: Allocator + Copy + Send + Sync> System<A> {
     ///
     /// Errors, in order: ESRCH (no such process); EINVAL (an address that is not a multiple of 4,096, no page, an end
     /// past 2^47, an area in the way; or a segment that is unknown, gone or private, or ends before the area would).
-    #[tactic(auto, unfolding(crate::specs::definitions::Outcome::refused, crate::specs::definitions::Outcome::refused_at_once, crate::specs::definitions::Outcome::ended, crate::specs::definitions::Outcome::runs_asked, crate::specs::definitions::Outcome::start, crate::specs::definitions::Outcome::sets_policy, crate::specs::definitions::Outcome::accesses_asked), using(crate::proofs::Outcomes::answers, crate::proofs::Outcomes::refuses, crate::proofs::Outcomes::unchanged))]
     pub fn attach(
         &mut self,
         pid: Pid,
@@ -184,7 +182,6 @@ impl<A: Allocator + Copy + Send + Sync> System<A> {
     ///
     /// Errors, in order: ESRCH (no such process); EINVAL (an address that is not a multiple of 4,096, no page, an end
     /// past 2^47); EBUSY (an area shows a page with a pin there).
-    #[tactic(auto, unfolding(crate::specs::definitions::Outcome::refused, crate::specs::definitions::Outcome::refused_at_once, crate::specs::definitions::Outcome::ended, crate::specs::definitions::Outcome::runs_asked, crate::specs::definitions::Outcome::start, crate::specs::definitions::Outcome::sets_policy, crate::specs::definitions::Outcome::accesses_asked), using(crate::proofs::Outcomes::answers, crate::proofs::Outcomes::refuses, crate::proofs::Outcomes::unchanged))]
     pub fn unmap(&mut self, pid: Pid, addr: u64, pages: u64) -> Result<(), CallError>
         ensures { Does (λ done. Done) result self.old self.new (Unmap pid addr pages) }
     {
@@ -194,7 +191,6 @@ impl<A: Allocator + Copy + Send + Sync> System<A> {
     /// Ends a process, which loses all its areas as by one `unmap`. Its pid may be used again.
     ///
     /// Errors, in order: ESRCH (no such process); EBUSY (one of its areas shows a page with a pin).
-    #[tactic(auto, unfolding(crate::specs::definitions::Outcome::refused, crate::specs::definitions::Outcome::refused_at_once, crate::specs::definitions::Outcome::ended, crate::specs::definitions::Outcome::runs_asked, crate::specs::definitions::Outcome::start, crate::specs::definitions::Outcome::sets_policy, crate::specs::definitions::Outcome::accesses_asked), using(crate::proofs::Outcomes::answers, crate::proofs::Outcomes::refuses, crate::proofs::Outcomes::unchanged))]
     pub fn exit(&mut self, pid: Pid) -> Result<(), CallError>
         ensures { Does (λ done. Done) result self.old self.new (Exit pid) }
     {
@@ -205,7 +201,6 @@ impl<A: Allocator + Copy + Send + Sync> System<A> {
     ///
     /// Errors, in order: ESRCH (no such process); EFAULT (no area, or the page of zeros); ENOENT (nothing was touched
     /// there); EBUSY (65,535 pins).
-    #[tactic(auto, unfolding(crate::specs::definitions::Outcome::refused, crate::specs::definitions::Outcome::refused_at_once, crate::specs::definitions::Outcome::ended, crate::specs::definitions::Outcome::runs_asked, crate::specs::definitions::Outcome::start, crate::specs::definitions::Outcome::sets_policy, crate::specs::definitions::Outcome::accesses_asked), using(crate::proofs::Outcomes::answers, crate::proofs::Outcomes::refuses, crate::proofs::Outcomes::unchanged))]
     pub fn pin(&mut self, pid: Pid, addr: u64) -> Result<(), Errno>
         ensures { DoesOrRefuses (λ done. Done) result self.old self.new (Pin pid addr) }
     {
@@ -215,7 +210,6 @@ impl<A: Allocator + Copy + Send + Sync> System<A> {
     /// Removes a pin from the page at an address, whoever added it. Does not allocate.
     ///
     /// Errors, in order: ESRCH, EFAULT and ENOENT as for `pin`; EINVAL (no pin).
-    #[tactic(auto, unfolding(crate::specs::definitions::Outcome::refused, crate::specs::definitions::Outcome::refused_at_once, crate::specs::definitions::Outcome::ended, crate::specs::definitions::Outcome::runs_asked, crate::specs::definitions::Outcome::start, crate::specs::definitions::Outcome::sets_policy, crate::specs::definitions::Outcome::accesses_asked), using(crate::proofs::Outcomes::answers, crate::proofs::Outcomes::refuses, crate::proofs::Outcomes::unchanged))]
     pub fn unpin(&mut self, pid: Pid, addr: u64) -> Result<(), Errno>
         ensures { DoesOrRefuses (λ done. Done) result self.old self.new (Unpin pid addr) }
     {
@@ -227,7 +221,6 @@ impl<A: Allocator + Copy + Send + Sync> System<A> {
     ///
     /// Errors, in order: ESRCH (no such process); EINVAL (no byte, or past the page's end); EFAULT (no area); ENOMEM
     /// (no free frame).
-    #[tactic(auto, unfolding(crate::specs::definitions::Outcome::refused, crate::specs::definitions::Outcome::refused_at_once, crate::specs::definitions::Outcome::ended, crate::specs::definitions::Outcome::runs_asked, crate::specs::definitions::Outcome::start, crate::specs::definitions::Outcome::sets_policy, crate::specs::definitions::Outcome::accesses_asked), using(crate::proofs::Outcomes::answers, crate::proofs::Outcomes::refuses, crate::proofs::Outcomes::unchanged))]
     pub fn read(&mut self, pid: Pid, addr: u64, len: u64) -> Result<Vec<u8, A>, CallError>
         ensures { Does (λ bytes. TheBytes bytes.items) result self.old self.new
             (ReadBytes pid addr len) }
@@ -237,7 +230,6 @@ impl<A: Allocator + Copy + Send + Sync> System<A> {
 
     /// Writes 1 to 4,096 bytes inside one page. The first write to a page takes a frame (numa(7)). Errors as for
     /// `read`.
-    #[tactic(auto, unfolding(crate::specs::definitions::Outcome::refused, crate::specs::definitions::Outcome::refused_at_once, crate::specs::definitions::Outcome::ended, crate::specs::definitions::Outcome::runs_asked, crate::specs::definitions::Outcome::start, crate::specs::definitions::Outcome::sets_policy, crate::specs::definitions::Outcome::accesses_asked), using(crate::proofs::Outcomes::answers, crate::proofs::Outcomes::refuses, crate::proofs::Outcomes::unchanged))]
     pub fn write(&mut self, pid: Pid, addr: u64, bytes: &[u8]) -> Result<(), CallError>
         ensures { Does (λ done. Done) result self.old self.new (WriteBytes pid addr bytes.now) }
     {
@@ -270,7 +262,6 @@ impl<A: Allocator + Copy + Send + Sync> System<A> {
     /// privilege); then for the first entry that is refused ENODEV (a node that does not exist or is offline) or else
     /// EACCES (a node that the process may not use, whoever calls). After `HostMemory { runs, .. }` the first `runs`
     /// runs remain.
-    #[tactic(auto, unfolding(crate::specs::definitions::Outcome::refused, crate::specs::definitions::Outcome::refused_at_once, crate::specs::definitions::Outcome::ended, crate::specs::definitions::Outcome::runs_asked, crate::specs::definitions::Outcome::start, crate::specs::definitions::Outcome::sets_policy, crate::specs::definitions::Outcome::accesses_asked), using(crate::proofs::Outcomes::answers, crate::proofs::Outcomes::refuses, crate::proofs::Outcomes::unchanged, crate::proofs::Outcomes::host_leaves))]
     pub fn move_pages<R: Threads + Wait + Sync, G: Gate + Sync>(
         &mut self,
         rt: &R,
@@ -325,7 +316,6 @@ impl<A: Allocator + Copy + Send + Sync> System<A> {
     /// have); ESRCH (no such process); EPERM (a process of another user, without privilege); EPERM (a node of `new`
     /// that the process may not use, without privilege); EINVAL (no node of `new` that is online and that the process
     /// may use). After `HostMemory { runs, .. }` the first `runs` runs remain.
-    #[tactic(auto, unfolding(crate::specs::definitions::Outcome::refused, crate::specs::definitions::Outcome::refused_at_once, crate::specs::definitions::Outcome::ended, crate::specs::definitions::Outcome::runs_asked, crate::specs::definitions::Outcome::start, crate::specs::definitions::Outcome::sets_policy, crate::specs::definitions::Outcome::accesses_asked), using(crate::proofs::Outcomes::answers, crate::proofs::Outcomes::refuses, crate::proofs::Outcomes::unchanged, crate::proofs::Outcomes::host_leaves))]
     pub fn migrate_pages<R: Threads + Wait + Sync, G: Gate + Sync>(
         &mut self,
         rt: &R,
@@ -364,7 +354,6 @@ impl<A: Allocator + Copy + Send + Sync> System<A> {
     /// and a flag to move, EIO is also returned if a listed page is not where the policy wants it after the moves:
     /// policy and moves remain. After `HostMemory { runs, policy_set }` the first `runs` runs remain, and the policy is
     /// set if `policy_set` says so.
-    #[tactic(auto, unfolding(crate::specs::definitions::Outcome::refused, crate::specs::definitions::Outcome::refused_at_once, crate::specs::definitions::Outcome::ended, crate::specs::definitions::Outcome::runs_asked, crate::specs::definitions::Outcome::start, crate::specs::definitions::Outcome::sets_policy, crate::specs::definitions::Outcome::accesses_asked), using(crate::proofs::Outcomes::answers, crate::proofs::Outcomes::refuses, crate::proofs::Outcomes::unchanged))]
     pub fn mbind<R: Threads + Wait + Sync, G: Gate + Sync>(
         &mut self,
         rt: &R,
@@ -403,7 +392,6 @@ impl<A: Allocator + Copy + Send + Sync> System<A> {
     /// Errors, in order: EINVAL (no such node); EBUSY (no other node is online). EBUSY is also returned if a page of
     /// the node stays: the moves remain, and the node is online. After `HostMemory { runs, .. }` the first `runs` runs
     /// remain, and the node is online.
-    #[tactic(auto, unfolding(crate::specs::definitions::Outcome::refused, crate::specs::definitions::Outcome::refused_at_once, crate::specs::definitions::Outcome::ended, crate::specs::definitions::Outcome::runs_asked, crate::specs::definitions::Outcome::start, crate::specs::definitions::Outcome::sets_policy, crate::specs::definitions::Outcome::accesses_asked), using(crate::proofs::Outcomes::answers, crate::proofs::Outcomes::refuses, crate::proofs::Outcomes::unchanged))]
     pub fn offline<R: Threads + Wait + Sync, G: Gate + Sync>(
         &mut self,
         rt: &R,
@@ -423,7 +411,6 @@ impl<A: Allocator + Copy + Send + Sync> System<A> {
 
     /// Brings a node online: its free frames may be taken again, and pages may go there. Does not allocate. A node that
     /// is online already is left as it is. Error: EINVAL (no such node).
-    #[tactic(auto, unfolding(crate::specs::definitions::Outcome::refused, crate::specs::definitions::Outcome::refused_at_once, crate::specs::definitions::Outcome::ended, crate::specs::definitions::Outcome::runs_asked, crate::specs::definitions::Outcome::start, crate::specs::definitions::Outcome::sets_policy, crate::specs::definitions::Outcome::accesses_asked), using(crate::proofs::Outcomes::answers, crate::proofs::Outcomes::refuses, crate::proofs::Outcomes::unchanged))]
     pub fn online(&mut self, node: NodeId) -> Result<(), Errno>
         ensures { DoesOrRefuses (λ done. Done) result self.old self.new (Online node) }
     {
@@ -437,7 +424,6 @@ impl<A: Allocator + Copy + Send + Sync> System<A> {
     /// Reports where pages are, each named by an address in it, as move_pages(2) without nodes does: the number of its
     /// node, -14 (EFAULT) if there is no area or only the page of zeros, -2 (ENOENT) if nothing was touched. Pid 0
     /// means the caller. Errors as for `move_pages`, except those of entries: ESRCH, EINVAL, EPERM, ESRCH, EPERM.
-    #[tactic(auto, unfolding(crate::specs::definitions::Outcome::refused, crate::specs::definitions::Outcome::refused_at_once, crate::specs::definitions::Outcome::ended, crate::specs::definitions::Outcome::runs_asked, crate::specs::definitions::Outcome::start, crate::specs::definitions::Outcome::sets_policy, crate::specs::definitions::Outcome::accesses_asked), using(crate::proofs::Outcomes::answers, crate::proofs::Outcomes::refuses, crate::proofs::Outcomes::unchanged))]
     pub fn query(
         &self,
         caller: Pid,
@@ -454,7 +440,6 @@ impl<A: Allocator + Copy + Send + Sync> System<A> {
 
     /// How many pages have moved, and how many entries have failed: `pgmigrate_success` and `pgmigrate_fail` of
     /// `/proc/vmstat`. Each stays at 2^64 - 1 once it is there. Between two calls a system is sound.
-    #[tactic(auto, unfolding(crate::specs::definitions::Outcome::refused, crate::specs::definitions::Outcome::ended))]
     pub fn vmstat(&self) -> Totals
         ensures sound { IsSound self.now.state }
         ensures moved { result.moved ≡ self.now.state.moved }
@@ -471,7 +456,6 @@ impl<A: Allocator + Copy + Send + Sync> System<A> {
     /// pages in it, `anon=` and their number, `mapmax=` and the greatest number of processes that see one of them, if
     /// that is over 1, `N0=`, `N1=` and so on with the number on that node, if there are any, and
     /// `kernelpagesize_kB=4`. The page of zeros does not count as a page. Error: ESRCH (no such process).
-    #[tactic(auto, unfolding(crate::specs::definitions::Outcome::refused, crate::specs::definitions::Outcome::refused_at_once, crate::specs::definitions::Outcome::ended, crate::specs::definitions::Outcome::runs_asked, crate::specs::definitions::Outcome::start, crate::specs::definitions::Outcome::sets_policy, crate::specs::definitions::Outcome::accesses_asked), using(crate::proofs::Outcomes::answers, crate::proofs::Outcomes::refuses, crate::proofs::Outcomes::unchanged))]
     pub fn numa_maps(&self, pid: Pid) -> Result<Vec<String<A>, A>, CallError>
         ensures { Does (λ lines. Lines (lines_shown lines.items)) result self.now self.now
             (NumaMaps pid) }
@@ -482,7 +466,6 @@ impl<A: Allocator + Copy + Send + Sync> System<A> {
     }
 
     /// The free frames of a node, front first. Error: EINVAL (no such node).
-    #[tactic(auto, unfolding(crate::specs::definitions::Outcome::refused, crate::specs::definitions::Outcome::refused_at_once, crate::specs::definitions::Outcome::ended, crate::specs::definitions::Outcome::runs_asked, crate::specs::definitions::Outcome::start, crate::specs::definitions::Outcome::sets_policy, crate::specs::definitions::Outcome::accesses_asked), using(crate::proofs::Outcomes::answers, crate::proofs::Outcomes::refuses, crate::proofs::Outcomes::unchanged))]
     pub fn free_list(&self, node: NodeId) -> Result<Vec<FrameId, A>, CallError>
         ensures { Does (λ frames. Frames frames.items) result self.now self.now (FreeList node) }
     {
@@ -491,7 +474,6 @@ impl<A: Allocator + Copy + Send + Sync> System<A> {
 
     /// The entries of a process, in address order, like `/proc/PID/pagemap`: the frame of each, or the page of zeros.
     /// Error: ESRCH (no such process).
-    #[tactic(auto, unfolding(crate::specs::definitions::Outcome::refused, crate::specs::definitions::Outcome::refused_at_once, crate::specs::definitions::Outcome::ended, crate::specs::definitions::Outcome::runs_asked, crate::specs::definitions::Outcome::start, crate::specs::definitions::Outcome::sets_policy, crate::specs::definitions::Outcome::accesses_asked), using(crate::proofs::Outcomes::answers, crate::proofs::Outcomes::refuses, crate::proofs::Outcomes::unchanged))]
     pub fn pagemap(&self, pid: Pid) -> Result<Vec<PagemapEntry, A>, CallError>
         ensures { Does (λ mapped. Entries (entries_mapped mapped.items)) result self.now self.now
             (Pagemap pid) }
