@@ -53,7 +53,7 @@ fn strays_among<A: Allocator + Copy>(
     pages: &[Located],
 ) -> Result<Vec<Located, A>, AllocError>
     ensures { IfOk result
-        (λ is_stray. is_stray.items
+        (λ strays. strays.items
         ≡ filter (λ (page : Located). not (follows policy.now page.node)) pages.now) }
 {
     pages
