@@ -85,7 +85,8 @@ pub fn run_count(nodes: &[u32], limit: usize) -> usize
 
 /// Makes runs one after another, with a crew that copies their pages, and puts the statuses into a list that has room
 /// for them. The accesses are made meanwhile, each in the run with its number. Allocates before the first run starts,
-/// except for what a run itself needs. An error means that the host is out of memory, and says after how many runs.
+/// except for what a run itself needs. An error means that the host is out of memory, and says after how many runs; no
+/// runs and no accesses take none.
 pub(crate) fn move_runs<
     R: Threads + Wait + Sync,
     A: Allocator + Copy + Send + Sync,
@@ -102,7 +103,9 @@ pub(crate) fn move_runs<
     requires alike { All (λ run. HasOneAll run.wanted.items) runs.now }
     requires empty { statuses.items ≡ [] }
     requires room { sum_by (λ run. length run.wanted.items) runs.now ≤ vec_capacity statuses }
-    ensures { Moves result machine.old machine.new (stretches_of runs.now) (shown_during during.now) }
+    ensures moves { Moves result machine.old machine.new (stretches_of runs.now)
+        (shown_during during.now) }
+    ensures asked { OnErr result (0 < length runs.now + length during.now) }
 {
     let accesses = by_run(alloc, during, runs.len())?;
     let mut told = Vec::with_capacity(alloc, runs.len())?;
@@ -184,13 +187,16 @@ fn copy_of<A: Allocator + Copy>(alloc: A, access: &Access<A>) -> Result<Access<A
     }
 }
 
-/// The accesses of each of the first `count` runs, each run's in order.
+/// The accesses of each of the first `count` runs, each run's in order. An error means that the host is out of memory;
+/// no runs take none.
 pub(crate) fn by_run<A: Allocator + Copy + Send + Sync>(
     alloc: A,
     during: &[InFlight<A>],
     count: usize,
 ) -> Result<Vec<Vec<Access<A>, A>, A>, AllocError>
-    ensures { IfOk result (λ lists. AreByRun lists.items count (shown_during during.now)) }
+    ensures lists { IfOk result
+        (λ lists. AreByRun lists.items count (shown_during during.now)) }
+    ensures asked { OnErr result (0 < count) }
 {
     let mut lists = Vec::with_capacity(alloc, count)?;
     for _ in 0..count {

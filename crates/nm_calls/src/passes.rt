@@ -37,7 +37,8 @@ pub(crate) struct Made<A: Allocator + Copy> {
     pub(crate) statuses: Vec<i32, A>,
 }
 
-/// Makes the runs of a batch, each of at most `limit` entries.
+/// Makes the runs of a batch, each of at most `limit` entries. An error means that the host is out of memory; a batch
+/// without requests takes none.
 pub(crate) fn make_batch<
     R: Threads + Wait + Sync,
     A: Allocator + Copy + Send + Sync,
@@ -52,8 +53,9 @@ pub(crate) fn make_batch<
     requires some { 0 < limit }
     requires targets { AllByRecursion (λ e. e.target < node_count (machine.old.layout)) requests.now }
     requires alike { HasOneAll (wanted_of requests.now) }
-    ensures { Batches result machine.old machine.new (cut_within limit requests.now)
+    ensures runs { Batches result machine.old machine.new (cut_within limit requests.now)
         (λ made ran. (made.runs ≡ length (cut_within limit requests.now)) × (made.statuses.items ≡ ran.statuses)) }
+    ensures asked { OnErr result (0 < length requests.now) }
 {
     let runs = cut_within(alloc, requests, limit)?;
     let statuses = Vec::with_capacity(alloc, requests.len())?;
