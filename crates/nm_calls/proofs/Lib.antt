@@ -27,5 +27,6 @@ pub mod Straying
 pub mod Nodes
 pub mod Sending
 pub mod Bound
+pub mod NoBytes
 pub mod Emptied
 pub mod Unasked

@@ -1,5 +1,6 @@
 -- The result of the runs of a batch, as stated by the functions that make them.
 use Rattle.std.proofs.Common.{◌≡◌, ℕ, Bool, true, false, ◌&&◌, inl, inr, List, [], refl, sym, ap, subst, ◌∙◌, arith, Result, Ok, Err}
+use Rattle.std.specs.Prelude.{OnErr}
 use Rattle.std.specs.Result.{IsErrAnd}
 use Rattle.std.proofs.lemmas.Result.{err_from_is_err_and}
 use Rattle.nm_types.specs.State.{State}
@@ -24,6 +25,11 @@ use Rattle.nm_calls.proofs.Trails.{first_state}
 -- the error that a question mark hands on
 err_of : {T : Type 0} (r : Result T CallError) (e : CallError) → IsErrAnd r (λ x. x ≡ e) → r ≡ Err e
 err_of r e h = let p = err_from_is_err_and r h in p.1 ∙ ap (λ (x : CallError). Err x) p.2
+
+-- what holds anyway holds after an error
+pub on_err : {T E P : Type 0} (r : Result T E) → P → OnErr r P
+on_err (Ok value) p = tt
+on_err (Err e) p = p
 
 -- no memory before the first run
 pub none_batched : {T : Type 0} (r : Result T CallError) (s : State) (rs : List Stretch) (Gives : T → Ran → Type 0) → IsErrAnd r (λ e. e ≡ out_of_memory 0) → Batches r s s rs Gives

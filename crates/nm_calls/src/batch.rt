@@ -1,6 +1,8 @@
 //! A batch of pages to move: whether they may go to their nodes, and its runs, one after another, with the accesses
 //! made meanwhile.
 
+#![tactic(auto, using(crate::proofs::Trails::first_state))]
+
 ghost use Rattle.std.specs.Prelude.{◌≡◌, ◌+◌, ◌<◌, ◌≤◌, ◌/◌, [], All, EachIndex, IfOk, OnErr, OnOk, length, slice_index, vec_capacity, map};
 ghost use Rattle.std.specs.List.{sum_by};
 ghost use Rattle.nm_types.specs.Layout.{node_count};
@@ -83,8 +85,8 @@ pub fn run_count(nodes: &[u32], limit: usize) -> usize
 
 /// Makes runs one after another, with a crew that copies their pages, and puts the statuses into a list that has room
 /// for them. The accesses are made meanwhile, each in the run with its number. Allocates before the first run starts,
-/// except for what a run itself needs. An error means that the host is out of memory, and says after how many runs.
-#[tactic(auto, using(crate::proofs::Trails::first_state))]
+/// except for what a run itself needs. An error means that the host is out of memory, and says after how many runs; no
+/// runs and no accesses take none.
 pub(crate) fn move_runs<
     R: Threads + Wait + Sync,
     A: Allocator + Copy + Send + Sync,
@@ -101,7 +103,9 @@ pub(crate) fn move_runs<
     requires alike { All (λ run. HasOneAll run.wanted.items) runs.now }
     requires empty { statuses.items ≡ [] }
     requires room { sum_by (λ run. length run.wanted.items) runs.now ≤ vec_capacity statuses }
-    ensures { Moves result machine.old machine.new (stretches_of runs.now) (shown_during during.now) }
+    ensures moves { Moves result machine.old machine.new (stretches_of runs.now)
+        (shown_during during.now) }
+    ensures asked { OnErr result (0 < length runs.now + length during.now) }
 {
     let accesses = by_run(alloc, during, runs.len())?;
     let mut told = Vec::with_capacity(alloc, runs.len())?;
@@ -128,7 +132,6 @@ pub(crate) fn move_runs<
 /// Moves the pages of a batch, run after run, with at most `limit` entries in each run. The runs and lists are made
 /// before the first run starts, so that memory for them cannot be refused halfway. An error means that the host is out
 /// of memory, and says after how many runs; a batch of no pages and no accesses takes none.
-#[tactic(auto, using(crate::proofs::Trails::first_state))]
 pub(crate) fn move_batch<
     R: Threads + Wait + Sync,
     A: Allocator + Copy + Send + Sync,
@@ -184,13 +187,16 @@ fn copy_of<A: Allocator + Copy>(alloc: A, access: &Access<A>) -> Result<Access<A
     }
 }
 
-/// The accesses of each of the first `count` runs, each run's in order.
+/// The accesses of each of the first `count` runs, each run's in order. An error means that the host is out of memory;
+/// no runs take none.
 pub(crate) fn by_run<A: Allocator + Copy + Send + Sync>(
     alloc: A,
     during: &[InFlight<A>],
     count: usize,
 ) -> Result<Vec<Vec<Access<A>, A>, A>, AllocError>
-    ensures { IfOk result (λ lists. AreByRun lists.items count (shown_during during.now)) }
+    ensures lists { IfOk result
+        (λ lists. AreByRun lists.items count (shown_during during.now)) }
+    ensures asked { OnErr result (0 < count) }
 {
     let mut lists = Vec::with_capacity(alloc, count)?;
     for _ in 0..count {

@@ -1,6 +1,6 @@
 //! A process's areas as text.
 
-ghost use Rattle.std.specs.Prelude.{◌≡◌, ℕ, ◌+◌, ◌++◌, ◌∷◌, ◌<◌, ◌≤◌, ◌^◌, All, Some, IfOk, OnOk, length, map, string_bytes, slice_index, count_by, ◌==◌};
+ghost use Rattle.std.specs.Prelude.{◌≡◌, ℕ, ◌+◌, ◌++◌, ◌∷◌, ◌<◌, ◌≤◌, ◌^◌, All, Some, IfOk, OnErr, OnOk, length, map, string_bytes, slice_index, count_by, ◌==◌};
 ghost use Rattle.nm_types.specs.Layout.{node_count};
 ghost use Rattle.nm_types.specs.Map.{get, page_cmp};
 ghost use Rattle.nm_calls.specs.definitions.Maps.{stretches, stretch_text, set_text, policy_text, pages_of, most_users, area_text, lines_shown};
@@ -222,7 +222,7 @@ fn area_text<A: Allocator + Copy + Send + Sync>(
     Ok(line)
 }
 
-/// A process's areas as text.
+/// A process's areas as text. An error means that the host is out of memory; no areas take none.
 pub(crate) fn areas_text<A: Allocator + Copy + Send + Sync>(
     alloc: A,
     machine: &Machine<A>,
@@ -230,8 +230,9 @@ pub(crate) fn areas_text<A: Allocator + Copy + Send + Sync>(
     areas: &[Line],
 ) -> Result<Vec<String<A>, A>, AllocError>
     requires { All (λ (area : Line). area.first + area.pages < 2 ^ 64) areas.now }
-    ensures { IfOk result
+    ensures list { IfOk result
         (λ lines. lines_shown lines.items ≡ map (area_text machine.now pid) areas.now) }
+    ensures asked { OnErr result (0 < length areas.now) }
 {
     let mut lines = Vec::with_capacity(alloc, areas.len())?;
     for area in areas {

@@ -1,5 +1,7 @@
 //! Batches and passes: all requests go to one node after another, until they have found a free frame.
 
+#![tactic(auto, using(crate::proofs::Trails::first_state))]
+
 ghost use Rattle.std.specs.Prelude.{◌≡◌, ◌^◌, ◌<◌, ◌≤◌, ℕ, false, true, All, Any, [], IfOk, OnErr, IfNone, IfSome, Some, length, vec_capacity};
 ghost use Rattle.std.specs.List.{AllByRecursion};
 ghost use Rattle.std.specs.Ordering.{int_eq};
@@ -35,8 +37,8 @@ pub(crate) struct Made<A: Allocator + Copy> {
     pub(crate) statuses: Vec<i32, A>,
 }
 
-/// Makes the runs of a batch, each of at most `limit` entries.
-#[tactic(auto, using(crate::proofs::Trails::first_state))]
+/// Makes the runs of a batch, each of at most `limit` entries. An error means that the host is out of memory; a batch
+/// without requests takes none.
 pub(crate) fn make_batch<
     R: Threads + Wait + Sync,
     A: Allocator + Copy + Send + Sync,
@@ -51,8 +53,9 @@ pub(crate) fn make_batch<
     requires some { 0 < limit }
     requires targets { AllByRecursion (λ e. e.target < node_count (machine.old.layout)) requests.now }
     requires alike { HasOneAll (wanted_of requests.now) }
-    ensures { Batches result machine.old machine.new (cut_within limit requests.now)
+    ensures runs { Batches result machine.old machine.new (cut_within limit requests.now)
         (λ made ran. (made.runs ≡ length (cut_within limit requests.now)) × (made.statuses.items ≡ ran.statuses)) }
+    ensures asked { OnErr result (0 < length requests.now) }
 {
     let runs = cut_within(alloc, requests, limit)?;
     let statuses = Vec::with_capacity(alloc, requests.len())?;
@@ -128,7 +131,6 @@ fn put_without_frame<A: Allocator + Copy>(
 
 /// Makes a pass: all requests go to one node. Allocates before its first run starts, except for what a run itself
 /// needs.
-#[tactic(auto, using(crate::proofs::Trails::first_state))]
 fn make_pass<R: Threads + Wait + Sync, A: Allocator + Copy + Send + Sync, G: Gate + Sync>(
     crew: &Crew<R, G>,
     alloc: A,

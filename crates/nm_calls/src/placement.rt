@@ -71,7 +71,7 @@ fn stray_of(page: &Located) -> Stray
 
 /// Pages as strays.
 fn strays_of<A: Allocator + Copy>(alloc: A, pages: &[Located]) -> Result<Vec<Stray, A>, AllocError>
-    ensures { IfOk result (λ is_stray. is_stray.items ≡ strays_of pages.now) }
+    ensures { IfOk result (λ strays. strays.items ≡ strays_of pages.now) }
 {
     pages.iter().map(|page| stray_of(page)).collect(alloc)
 }

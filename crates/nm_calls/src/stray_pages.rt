@@ -1,6 +1,6 @@
 //! The pages of a range that are not where its policy wants them.
 
-ghost use Rattle.std.specs.Prelude.{◌≡◌, ◌+◌, ◌-◌, ◌<◌, ◌≤◌, not, [], ◌∷◌, IfOk, IfSome, IfNone, None, length};
+ghost use Rattle.std.specs.Prelude.{◌≡◌, ◌+◌, ◌-◌, ◌<◌, ◌≤◌, not, [], ◌∷◌, IfOk, IfSome, IfNone, OnErr, None, length};
 ghost use Rattle.std.specs.List.{filter, list_any};
 ghost use Rattle.nm_model.specs.definitions.Order.{follows};
 ghost use Rattle.nm_types.specs.Map.{same_page};
@@ -53,7 +53,7 @@ fn strays_among<A: Allocator + Copy>(
     pages: &[Located],
 ) -> Result<Vec<Located, A>, AllocError>
     ensures { IfOk result
-        (λ is_stray. is_stray.items
+        (λ strays. strays.items
         ≡ filter (λ (page : Located). not (follows policy.now page.node)) pages.now) }
 {
     pages
@@ -63,11 +63,13 @@ fn strays_among<A: Allocator + Copy>(
         .collect(alloc)
 }
 
-/// The pages without repetition, each at its first place.
+/// The pages without repetition, each at its first place. An error means that the host is out of memory; no pages take
+/// none.
 fn once<A: Allocator + Copy>(alloc: A, pages: &[Located]) -> Result<Vec<Located, A>, AllocError>
     ensures list { IfOk result
         (λ all. all.items ≡ once (λ l m. same_page l.page m.page) pages.now) }
     ensures few { IfOk result (λ all. length all.items ≤ length pages.now) }
+    ensures asked { OnErr result (0 < length pages.now) }
 {
     let mut seen = BTreeSet::new(alloc);
     let mut all = Vec::new(alloc);

@@ -1,6 +1,14 @@
 //! A system: a machine, its limit on runs and its workers, and the calls that processes make.
 
-ghost use Rattle.std.specs.Prelude.{Bool, Err, IfOk, [], length, map, true, ℕ, ◌+◌, ◌<◌, ◌≡◌, ◌≤◌};
+ghost use Rattle.std.specs.Prelude.{Bool, Err, IfOk, OnErr, Some, [], length, map, true, ℕ, ◌+◌, ◌/◌, ◌<◌, ◌≡◌, ◌≤◌, ◌^◌};
+ghost use Rattle.std.specs.List.{list_any};
+ghost use Rattle.nm_types.specs.State.{free_list};
+ghost use Rattle.nm_types.specs.declared.page.Page.{Page};
+ghost use Rattle.nm_types.specs.declared.sight.Sight.TheVariants.{Sees};
+ghost use Rattle.nm_areas.specs.Lines.{lines_of};
+ghost use Rattle.nm_model.specs.definitions.AreaRefusal.{overlaps};
+ghost use Rattle.nm_model.specs.definitions.PageTables.{entries_of};
+ghost use Rattle.nm_model.specs.definitions.Seen.{sight_at};
 ghost use Rattle.nm_calls.specs.declared.call_error.CallError.TheVariants.{HostMemory};
 ghost use Rattle.nm_model.specs.definitions.Sound.{audited};
 ghost use Rattle.nm_model.specs.definitions.Sound.{IsSound};
@@ -32,12 +40,14 @@ use std::marker::Model;
 use std::sync::Wait;
 use std::thread::Threads;
 
-/// Entries in the form that `pagemap` returns.
+/// Entries in the form that `pagemap` returns. An error means that the host is out of memory; no entries take none.
 fn mapped_of<A: Allocator + Copy>(
     alloc: A,
     entries: &[(Vpn, Entry)],
 ) -> Result<Vec<PagemapEntry, A>, AllocError>
-    ensures { IfOk result (λ mapped. entries_mapped mapped.items ≡ entries_shown entries.now) }
+    ensures list { IfOk result
+        (λ mapped. entries_mapped mapped.items ≡ entries_shown entries.now) }
+    ensures asked { OnErr result (0 < length entries.now) }
 {
     let mut mapped = Vec::with_capacity(alloc, entries.len())?;
     for (vpn, entry) in entries {
@@ -51,14 +61,17 @@ fn mapped_of<A: Allocator + Copy>(
     Ok(mapped)
 }
 
-/// Where the pages at some addresses of a process are.
+/// Where the pages at some addresses of a process are. An error means that the host is out of memory; no addresses take
+/// none.
 fn statuses_of<A: Allocator + Copy + Send + Sync>(
     alloc: A,
     machine: &Machine<A>,
     pid: Pid,
     pages: &[u64],
 ) -> Result<Vec<i32, A>, AllocError>
-    ensures { IfOk result (λ statuses. statuses.items ≡ statuses_of machine.now pid pages.now) }
+    ensures list { IfOk result
+        (λ statuses. statuses.items ≡ statuses_of machine.now pid pages.now) }
+    ensures asked { OnErr result (0 < length pages.now) }
 {
     let mut statuses = Vec::with_capacity(alloc, pages.len())?;
     for address in pages {
@@ -90,6 +103,7 @@ impl<A: Allocator + Copy + Send + Sync> Model for System<A> {
     ghost invariant = { λ s. (0 < s.run_limit) × (0 < s.workers) × (s.workers ≤ 64) };
 }
 
+#[tactic(auto, unfolding(crate::specs::definitions::Outcome::refused, crate::specs::definitions::Outcome::refused_at_once, crate::specs::definitions::Outcome::ended, crate::specs::definitions::Outcome::runs_asked, crate::specs::definitions::Outcome::start, crate::specs::definitions::Outcome::sets_policy, crate::specs::definitions::Outcome::accesses_asked), using(crate::proofs::Outcomes::answers, crate::proofs::Outcomes::refuses, crate::proofs::Outcomes::unchanged, crate::proofs::Outcomes::host_leaves))]
 impl<A: Allocator + Copy + Send + Sync> System<A> {
     /// Makes a new machine, whose pages are copied by 1 to 64 workers, the caller and threads that each call starts: no
     /// process, every node online, every frame free, and each free list in ascending order. An error means that the
@@ -132,7 +146,6 @@ impl<A: Allocator + Copy + Send + Sync> System<A> {
     ///
     /// Errors, in order: EINVAL (pid 0 or one that is alive, a home that is not a node, an allowed set that is empty or
     /// has a node that the machine does not have); ENOMEM (1,024 processes are alive).
-    #[tactic(auto, unfolding(crate::specs::definitions::Outcome::refused, crate::specs::definitions::Outcome::refused_at_once, crate::specs::definitions::Outcome::ended, crate::specs::definitions::Outcome::runs_asked, crate::specs::definitions::Outcome::start, crate::specs::definitions::Outcome::sets_policy, crate::specs::definitions::Outcome::accesses_asked), using(crate::proofs::Outcomes::answers, crate::proofs::Outcomes::refuses, crate::proofs::Outcomes::unchanged))]
     pub fn spawn(
         &mut self,
         pid: Pid,
@@ -152,7 +165,6 @@ impl<A: Allocator + Copy + Send + Sync> System<A> {
     ///
     /// Errors, in order: ESRCH (no such process); EINVAL (an address that is not a multiple of 4,096, no page, an end
     /// past 2^47, an area in the way); ENOMEM (no segment number left).
-    #[tactic(auto, unfolding(crate::specs::definitions::Outcome::refused, crate::specs::definitions::Outcome::refused_at_once, crate::specs::definitions::Outcome::ended, crate::specs::definitions::Outcome::runs_asked, crate::specs::definitions::Outcome::start, crate::specs::definitions::Outcome::sets_policy, crate::specs::definitions::Outcome::accesses_asked), using(crate::proofs::Outcomes::answers, crate::proofs::Outcomes::refuses, crate::proofs::Outcomes::unchanged))]
     pub fn map(&mut self, pid: Pid, addr: u64, pages: u64, shared: bool) -> Result<u32, CallError>
         ensures { Does NewSegment result self.old self.new (MapPages pid addr pages shared) }
     {
@@ -164,7 +176,6 @@ impl<A: Allocator + Copy + Send + Sync> System<A> {
     ///
     /// Errors, in order: ESRCH (no such process); EINVAL (an address that is not a multiple of 4,096, no page, an end
     /// past 2^47, an area in the way; or a segment that is unknown, gone or private, or ends before the area would).
-    #[tactic(auto, unfolding(crate::specs::definitions::Outcome::refused, crate::specs::definitions::Outcome::refused_at_once, crate::specs::definitions::Outcome::ended, crate::specs::definitions::Outcome::runs_asked, crate::specs::definitions::Outcome::start, crate::specs::definitions::Outcome::sets_policy, crate::specs::definitions::Outcome::accesses_asked), using(crate::proofs::Outcomes::answers, crate::proofs::Outcomes::refuses, crate::proofs::Outcomes::unchanged))]
     pub fn attach(
         &mut self,
         pid: Pid,
@@ -183,20 +194,26 @@ impl<A: Allocator + Copy + Send + Sync> System<A> {
     /// process covers lose their frames, which go to the ends of their nodes' free lists, in address order.
     ///
     /// Errors, in order: ESRCH (no such process); EINVAL (an address that is not a multiple of 4,096, no page, an end
-    /// past 2^47); EBUSY (an area shows a page with a pin there).
-    #[tactic(auto, unfolding(crate::specs::definitions::Outcome::refused, crate::specs::definitions::Outcome::refused_at_once, crate::specs::definitions::Outcome::ended, crate::specs::definitions::Outcome::runs_asked, crate::specs::definitions::Outcome::start, crate::specs::definitions::Outcome::sets_policy, crate::specs::definitions::Outcome::accesses_asked), using(crate::proofs::Outcomes::answers, crate::proofs::Outcomes::refuses, crate::proofs::Outcomes::unchanged))]
+    /// past 2^47); EBUSY (an area shows a page with a pin there). Allocates only if an area of the process is in the
+    /// range.
     pub fn unmap(&mut self, pid: Pid, addr: u64, pages: u64) -> Result<(), CallError>
-        ensures { Does (λ done. Done) result self.old self.new (Unmap pid addr pages) }
+        ensures done { Does (λ done. Done) result self.old self.new (Unmap pid addr pages) }
+        ensures asked { (runs : ℕ) (policy_set : Bool) →
+            result ≡ Err (HostMemory runs policy_set) →
+            list_any (overlaps pid (addr / 4096) (addr / 4096 + pages)) self.old.state.areas ≡ true }
     {
         Ok(self.machine.unmap(pid, addr, pages)?)
     }
 
     /// Ends a process, which loses all its areas as by one `unmap`. Its pid may be used again.
     ///
-    /// Errors, in order: ESRCH (no such process); EBUSY (one of its areas shows a page with a pin).
-    #[tactic(auto, unfolding(crate::specs::definitions::Outcome::refused, crate::specs::definitions::Outcome::refused_at_once, crate::specs::definitions::Outcome::ended, crate::specs::definitions::Outcome::runs_asked, crate::specs::definitions::Outcome::start, crate::specs::definitions::Outcome::sets_policy, crate::specs::definitions::Outcome::accesses_asked), using(crate::proofs::Outcomes::answers, crate::proofs::Outcomes::refuses, crate::proofs::Outcomes::unchanged))]
+    /// Errors, in order: ESRCH (no such process); EBUSY (one of its areas shows a page with a pin). Allocates only if
+    /// the process has an area.
     pub fn exit(&mut self, pid: Pid) -> Result<(), CallError>
-        ensures { Does (λ done. Done) result self.old self.new (Exit pid) }
+        ensures done { Does (λ done. Done) result self.old self.new (Exit pid) }
+        ensures asked { (runs : ℕ) (policy_set : Bool) →
+            result ≡ Err (HostMemory runs policy_set) →
+            list_any (overlaps pid 0 (2 ^ 35)) self.old.state.areas ≡ true }
     {
         Ok(self.machine.exit(pid)?)
     }
@@ -205,7 +222,6 @@ impl<A: Allocator + Copy + Send + Sync> System<A> {
     ///
     /// Errors, in order: ESRCH (no such process); EFAULT (no area, or the page of zeros); ENOENT (nothing was touched
     /// there); EBUSY (65,535 pins).
-    #[tactic(auto, unfolding(crate::specs::definitions::Outcome::refused, crate::specs::definitions::Outcome::refused_at_once, crate::specs::definitions::Outcome::ended, crate::specs::definitions::Outcome::runs_asked, crate::specs::definitions::Outcome::start, crate::specs::definitions::Outcome::sets_policy, crate::specs::definitions::Outcome::accesses_asked), using(crate::proofs::Outcomes::answers, crate::proofs::Outcomes::refuses, crate::proofs::Outcomes::unchanged))]
     pub fn pin(&mut self, pid: Pid, addr: u64) -> Result<(), Errno>
         ensures { DoesOrRefuses (λ done. Done) result self.old self.new (Pin pid addr) }
     {
@@ -215,7 +231,6 @@ impl<A: Allocator + Copy + Send + Sync> System<A> {
     /// Removes a pin from the page at an address, whoever added it. Does not allocate.
     ///
     /// Errors, in order: ESRCH, EFAULT and ENOENT as for `pin`; EINVAL (no pin).
-    #[tactic(auto, unfolding(crate::specs::definitions::Outcome::refused, crate::specs::definitions::Outcome::refused_at_once, crate::specs::definitions::Outcome::ended, crate::specs::definitions::Outcome::runs_asked, crate::specs::definitions::Outcome::start, crate::specs::definitions::Outcome::sets_policy, crate::specs::definitions::Outcome::accesses_asked), using(crate::proofs::Outcomes::answers, crate::proofs::Outcomes::refuses, crate::proofs::Outcomes::unchanged))]
     pub fn unpin(&mut self, pid: Pid, addr: u64) -> Result<(), Errno>
         ensures { DoesOrRefuses (λ done. Done) result self.old self.new (Unpin pid addr) }
     {
@@ -227,7 +242,6 @@ impl<A: Allocator + Copy + Send + Sync> System<A> {
     ///
     /// Errors, in order: ESRCH (no such process); EINVAL (no byte, or past the page's end); EFAULT (no area); ENOMEM
     /// (no free frame).
-    #[tactic(auto, unfolding(crate::specs::definitions::Outcome::refused, crate::specs::definitions::Outcome::refused_at_once, crate::specs::definitions::Outcome::ended, crate::specs::definitions::Outcome::runs_asked, crate::specs::definitions::Outcome::start, crate::specs::definitions::Outcome::sets_policy, crate::specs::definitions::Outcome::accesses_asked), using(crate::proofs::Outcomes::answers, crate::proofs::Outcomes::refuses, crate::proofs::Outcomes::unchanged))]
     pub fn read(&mut self, pid: Pid, addr: u64, len: u64) -> Result<Vec<u8, A>, CallError>
         ensures { Does (λ bytes. TheBytes bytes.items) result self.old self.new
             (ReadBytes pid addr len) }
@@ -236,10 +250,15 @@ impl<A: Allocator + Copy + Send + Sync> System<A> {
     }
 
     /// Writes 1 to 4,096 bytes inside one page. The first write to a page takes a frame (numa(7)). Errors as for
-    /// `read`.
-    #[tactic(auto, unfolding(crate::specs::definitions::Outcome::refused, crate::specs::definitions::Outcome::refused_at_once, crate::specs::definitions::Outcome::ended, crate::specs::definitions::Outcome::runs_asked, crate::specs::definitions::Outcome::start, crate::specs::definitions::Outcome::sets_policy, crate::specs::definitions::Outcome::accesses_asked), using(crate::proofs::Outcomes::answers, crate::proofs::Outcomes::refuses, crate::proofs::Outcomes::unchanged))]
+    /// `read`. A write to a page that the process sees does not allocate.
     pub fn write(&mut self, pid: Pid, addr: u64, bytes: &[u8]) -> Result<(), CallError>
-        ensures { Does (λ done. Done) result self.old self.new (WriteBytes pid addr bytes.now) }
+        ensures done { Does (λ done. Done) result self.old self.new
+            (WriteBytes pid addr bytes.now) }
+        ensures asked { (runs : ℕ) (policy_set : Bool) →
+            result ≡ Err (HostMemory runs policy_set) →
+            (page : Page) →
+            sight_at self.old.state pid (addr / 4096) ≡ Some (Sees page) →
+            ⊥ }
     {
         Ok(self.machine.write(pid, addr, bytes)?)
     }
@@ -270,7 +289,6 @@ impl<A: Allocator + Copy + Send + Sync> System<A> {
     /// privilege); then for the first entry that is refused ENODEV (a node that does not exist or is offline) or else
     /// EACCES (a node that the process may not use, whoever calls). After `HostMemory { runs, .. }` the first `runs`
     /// runs remain.
-    #[tactic(auto, unfolding(crate::specs::definitions::Outcome::refused, crate::specs::definitions::Outcome::refused_at_once, crate::specs::definitions::Outcome::ended, crate::specs::definitions::Outcome::runs_asked, crate::specs::definitions::Outcome::start, crate::specs::definitions::Outcome::sets_policy, crate::specs::definitions::Outcome::accesses_asked), using(crate::proofs::Outcomes::answers, crate::proofs::Outcomes::refuses, crate::proofs::Outcomes::unchanged, crate::proofs::Outcomes::host_leaves))]
     pub fn move_pages<R: Threads + Wait + Sync, G: Gate + Sync>(
         &mut self,
         rt: &R,
@@ -325,7 +343,6 @@ impl<A: Allocator + Copy + Send + Sync> System<A> {
     /// have); ESRCH (no such process); EPERM (a process of another user, without privilege); EPERM (a node of `new`
     /// that the process may not use, without privilege); EINVAL (no node of `new` that is online and that the process
     /// may use). After `HostMemory { runs, .. }` the first `runs` runs remain.
-    #[tactic(auto, unfolding(crate::specs::definitions::Outcome::refused, crate::specs::definitions::Outcome::refused_at_once, crate::specs::definitions::Outcome::ended, crate::specs::definitions::Outcome::runs_asked, crate::specs::definitions::Outcome::start, crate::specs::definitions::Outcome::sets_policy, crate::specs::definitions::Outcome::accesses_asked), using(crate::proofs::Outcomes::answers, crate::proofs::Outcomes::refuses, crate::proofs::Outcomes::unchanged, crate::proofs::Outcomes::host_leaves))]
     pub fn migrate_pages<R: Threads + Wait + Sync, G: Gate + Sync>(
         &mut self,
         rt: &R,
@@ -359,12 +376,11 @@ impl<A: Allocator + Copy + Send + Sync> System<A> {
     /// MPOL_LOCAL, or none with MPOL_BIND or MPOL_INTERLEAVE; a node that the machine does not have; nodes none of
     /// which is online and allowed); EPERM (MPOL_MF_MOVE_ALL without privilege); EINVAL (an address that is not a
     /// multiple of 4,096, or `addr` plus `len` rounded up to whole pages is over 2^64 - 1); then a `len` of 0 changes
-    /// nothing; EFAULT (a page of the range has no area); EIO (MPOL_MF_STRICT (1) without a flag to move, and a page
-    /// that the caller sees in the range is not where the policy wants it). Each changes nothing. With MPOL_MF_STRICT
-    /// and a flag to move, EIO is also returned if a listed page is not where the policy wants it after the moves:
-    /// policy and moves remain. After `HostMemory { runs, policy_set }` the first `runs` runs remain, and the policy is
-    /// set if `policy_set` says so.
-    #[tactic(auto, unfolding(crate::specs::definitions::Outcome::refused, crate::specs::definitions::Outcome::refused_at_once, crate::specs::definitions::Outcome::ended, crate::specs::definitions::Outcome::runs_asked, crate::specs::definitions::Outcome::start, crate::specs::definitions::Outcome::sets_policy, crate::specs::definitions::Outcome::accesses_asked), using(crate::proofs::Outcomes::answers, crate::proofs::Outcomes::refuses, crate::proofs::Outcomes::unchanged))]
+    /// nothing and does not allocate; EFAULT (a page of the range has no area); EIO (MPOL_MF_STRICT (1) without a flag
+    /// to move, and a page that the caller sees in the range is not where the policy wants it). Each changes nothing.
+    /// With MPOL_MF_STRICT and a flag to move, EIO is also returned if a listed page is not where the policy wants it
+    /// after the moves: policy and moves remain. After `HostMemory { runs, policy_set }` the first `runs` runs remain,
+    /// and the policy is set if `policy_set` says so.
     pub fn mbind<R: Threads + Wait + Sync, G: Gate + Sync>(
         &mut self,
         rt: &R,
@@ -376,10 +392,16 @@ impl<A: Allocator + Copy + Send + Sync> System<A> {
         flags: u32,
         gate: &G,
     ) -> Result<(), CallError>
-        ensures { Does (λ done. Failed 0) result self.old self.new
+        ensures done { Does (λ done. Failed 0) result self.old self.new
             (Mbind caller addr len mode nodes flags) }
+        ensures asked { (runs : ℕ) (policy_set : Bool) →
+            result ≡ Err (HostMemory runs policy_set) →
+            0 < len }
     {
         let (asked, binding) = ready(&self.machine, caller, addr, len, mode, nodes, flags)?;
+        if len == 0 {
+            return Ok(());
+        }
         let limit = self.run_limit;
         let crew = Crew::new(rt, self.workers, gate);
         bind(
@@ -403,7 +425,6 @@ impl<A: Allocator + Copy + Send + Sync> System<A> {
     /// Errors, in order: EINVAL (no such node); EBUSY (no other node is online). EBUSY is also returned if a page of
     /// the node stays: the moves remain, and the node is online. After `HostMemory { runs, .. }` the first `runs` runs
     /// remain, and the node is online.
-    #[tactic(auto, unfolding(crate::specs::definitions::Outcome::refused, crate::specs::definitions::Outcome::refused_at_once, crate::specs::definitions::Outcome::ended, crate::specs::definitions::Outcome::runs_asked, crate::specs::definitions::Outcome::start, crate::specs::definitions::Outcome::sets_policy, crate::specs::definitions::Outcome::accesses_asked), using(crate::proofs::Outcomes::answers, crate::proofs::Outcomes::refuses, crate::proofs::Outcomes::unchanged))]
     pub fn offline<R: Threads + Wait + Sync, G: Gate + Sync>(
         &mut self,
         rt: &R,
@@ -423,7 +444,6 @@ impl<A: Allocator + Copy + Send + Sync> System<A> {
 
     /// Brings a node online: its free frames may be taken again, and pages may go there. Does not allocate. A node that
     /// is online already is left as it is. Error: EINVAL (no such node).
-    #[tactic(auto, unfolding(crate::specs::definitions::Outcome::refused, crate::specs::definitions::Outcome::refused_at_once, crate::specs::definitions::Outcome::ended, crate::specs::definitions::Outcome::runs_asked, crate::specs::definitions::Outcome::start, crate::specs::definitions::Outcome::sets_policy, crate::specs::definitions::Outcome::accesses_asked), using(crate::proofs::Outcomes::answers, crate::proofs::Outcomes::refuses, crate::proofs::Outcomes::unchanged))]
     pub fn online(&mut self, node: NodeId) -> Result<(), Errno>
         ensures { DoesOrRefuses (λ done. Done) result self.old self.new (Online node) }
     {
@@ -436,8 +456,8 @@ impl<A: Allocator + Copy + Send + Sync> System<A> {
 
     /// Reports where pages are, each named by an address in it, as move_pages(2) without nodes does: the number of its
     /// node, -14 (EFAULT) if there is no area or only the page of zeros, -2 (ENOENT) if nothing was touched. Pid 0
-    /// means the caller. Errors as for `move_pages`, except those of entries: ESRCH, EINVAL, EPERM, ESRCH, EPERM.
-    #[tactic(auto, unfolding(crate::specs::definitions::Outcome::refused, crate::specs::definitions::Outcome::refused_at_once, crate::specs::definitions::Outcome::ended, crate::specs::definitions::Outcome::runs_asked, crate::specs::definitions::Outcome::start, crate::specs::definitions::Outcome::sets_policy, crate::specs::definitions::Outcome::accesses_asked), using(crate::proofs::Outcomes::answers, crate::proofs::Outcomes::refuses, crate::proofs::Outcomes::unchanged))]
+    /// means the caller. Errors as for `move_pages`, except those of entries: ESRCH, EINVAL, EPERM, ESRCH, EPERM. A
+    /// call without addresses does not allocate.
     pub fn query(
         &self,
         caller: Pid,
@@ -445,8 +465,11 @@ impl<A: Allocator + Copy + Send + Sync> System<A> {
         pages: &[u64],
         flags: u32,
     ) -> Result<Vec<i32, A>, CallError>
-        ensures { Does (λ statuses. Statuses 0 statuses.items []) result self.now self.now
+        ensures done { Does (λ statuses. Statuses 0 statuses.items []) result self.now self.now
             (Query caller pid pages.now flags) }
+        ensures asked { (runs : ℕ) (policy_set : Bool) →
+            result ≡ Err (HostMemory runs policy_set) →
+            0 < length pages.now }
     {
         let permit = permit_of(&self.machine, caller, pid, flags)?;
         Ok(statuses_of(self.alloc, &self.machine, permit.pid, pages)?)
@@ -454,7 +477,6 @@ impl<A: Allocator + Copy + Send + Sync> System<A> {
 
     /// How many pages have moved, and how many entries have failed: `pgmigrate_success` and `pgmigrate_fail` of
     /// `/proc/vmstat`. Each stays at 2^64 - 1 once it is there. Between two calls a system is sound.
-    #[tactic(auto, unfolding(crate::specs::definitions::Outcome::refused, crate::specs::definitions::Outcome::ended))]
     pub fn vmstat(&self) -> Totals
         ensures sound { IsSound self.now.state }
         ensures moved { result.moved ≡ self.now.state.moved }
@@ -470,31 +492,39 @@ impl<A: Allocator + Copy + Send + Sync> System<A> {
     /// nodes that it kept, as `default`, `prefer:1`, `bind:0-1,3`, `interleave:0,2` or `local`; and if the process sees
     /// pages in it, `anon=` and their number, `mapmax=` and the greatest number of processes that see one of them, if
     /// that is over 1, `N0=`, `N1=` and so on with the number on that node, if there are any, and
-    /// `kernelpagesize_kB=4`. The page of zeros does not count as a page. Error: ESRCH (no such process).
-    #[tactic(auto, unfolding(crate::specs::definitions::Outcome::refused, crate::specs::definitions::Outcome::refused_at_once, crate::specs::definitions::Outcome::ended, crate::specs::definitions::Outcome::runs_asked, crate::specs::definitions::Outcome::start, crate::specs::definitions::Outcome::sets_policy, crate::specs::definitions::Outcome::accesses_asked), using(crate::proofs::Outcomes::answers, crate::proofs::Outcomes::refuses, crate::proofs::Outcomes::unchanged))]
+    /// `kernelpagesize_kB=4`. The page of zeros does not count as a page. Error: ESRCH (no such process). Allocates
+    /// only if the process has an area.
     pub fn numa_maps(&self, pid: Pid) -> Result<Vec<String<A>, A>, CallError>
-        ensures { Does (λ lines. Lines (lines_shown lines.items)) result self.now self.now
+        ensures done { Does (λ lines. Lines (lines_shown lines.items)) result self.now self.now
             (NumaMaps pid) }
+        ensures asked { (runs : ℕ) (policy_set : Bool) →
+            result ≡ Err (HostMemory runs policy_set) →
+            0 < length (lines_of self.now.state.segments self.now.state.areas pid) }
     {
         let areas = self.machine.lines(pid)?;
         prove!(self.machine.node_count() <= 64);
         Ok(areas_text(self.alloc, &self.machine, pid, areas.as_slice())?)
     }
 
-    /// The free frames of a node, front first. Error: EINVAL (no such node).
-    #[tactic(auto, unfolding(crate::specs::definitions::Outcome::refused, crate::specs::definitions::Outcome::refused_at_once, crate::specs::definitions::Outcome::ended, crate::specs::definitions::Outcome::runs_asked, crate::specs::definitions::Outcome::start, crate::specs::definitions::Outcome::sets_policy, crate::specs::definitions::Outcome::accesses_asked), using(crate::proofs::Outcomes::answers, crate::proofs::Outcomes::refuses, crate::proofs::Outcomes::unchanged))]
+    /// The free frames of a node, front first. Error: EINVAL (no such node). Allocates only if there are any.
     pub fn free_list(&self, node: NodeId) -> Result<Vec<FrameId, A>, CallError>
-        ensures { Does (λ frames. Frames frames.items) result self.now self.now (FreeList node) }
+        ensures done { Does (λ frames. Frames frames.items) result self.now self.now
+            (FreeList node) }
+        ensures asked { (runs : ℕ) (policy_set : Bool) →
+            result ≡ Err (HostMemory runs policy_set) →
+            0 < length (free_list self.now.state node) }
     {
         Ok(self.machine.free_list(node)?)
     }
 
     /// The entries of a process, in address order, like `/proc/PID/pagemap`: the frame of each, or the page of zeros.
-    /// Error: ESRCH (no such process).
-    #[tactic(auto, unfolding(crate::specs::definitions::Outcome::refused, crate::specs::definitions::Outcome::refused_at_once, crate::specs::definitions::Outcome::ended, crate::specs::definitions::Outcome::runs_asked, crate::specs::definitions::Outcome::start, crate::specs::definitions::Outcome::sets_policy, crate::specs::definitions::Outcome::accesses_asked), using(crate::proofs::Outcomes::answers, crate::proofs::Outcomes::refuses, crate::proofs::Outcomes::unchanged))]
+    /// Error: ESRCH (no such process). Allocates only if there are any.
     pub fn pagemap(&self, pid: Pid) -> Result<Vec<PagemapEntry, A>, CallError>
-        ensures { Does (λ mapped. Entries (entries_mapped mapped.items)) result self.now self.now
-            (Pagemap pid) }
+        ensures done { Does (λ mapped. Entries (entries_mapped mapped.items)) result self.now
+            self.now (Pagemap pid) }
+        ensures asked { (runs : ℕ) (policy_set : Bool) →
+            result ≡ Err (HostMemory runs policy_set) →
+            0 < length (entries_of self.now.state pid) }
     {
         let entries = self.machine.entries(pid)?;
         Ok(mapped_of(self.alloc, entries.as_slice())?)

@@ -70,8 +70,8 @@ loop-asked-preserved g c =
           }
     ]
 
-pub returns : goal.returns
-returns g c =
+pub returns-clause-lists : goal.returns-clause-lists
+returns-clause-lists g c =
     let none = drop_all c.loop-asked.asked-index c.args.during.now (omega (arith, c.loop-asked-test.false)) in (
       c.loop-asked.invariant.count,
       λ k lt. sym (append_none _) ∙ ap (λ ds. list_at (map accesses_shown c.loop-asked.lists.items) k ++ accesses_of k (shown_during ds)) (sym none) ∙ c.loop-asked.invariant.lists k lt,

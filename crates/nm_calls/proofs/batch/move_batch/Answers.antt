@@ -33,4 +33,4 @@ returns-in_err-statuses-clause-moves g c = none_moved _ _ _ _ c.from_residual-in
 pub returns-clause-moves : goal.returns-clause-moves
 returns-clause-moves g c =
     let runs = ap stretches_of c.as_slice-runs.ensures.value ∙ c.in_ok-runs.ensures.runs ∙ ap (cut_within c.args.limit) (c.as_slice.ensures.value ∙ c.in_ok-requests.ensures) in
-    moved_same c.move_runs.result _ _ _ _ _ _ runs refl c.move_runs.ensures
+    moved_same c.move_runs.result _ _ _ _ _ _ runs refl c.move_runs.ensures.moves

@@ -16,8 +16,8 @@ use Rattle.nm_calls.proofs.Trails.{states_are}
 use Rattle.nm_calls.proofs.Stretches.{none_run, one_more_run, some_run, all_run, next_left, entries_left, not_last}
 use Rattle.nm_calls.proofs.batch.move_runs.Goals as goal
 
-pub returns-in_default : goal.returns-in_default
-returns-in_default g c =
+pub returns-in_default-clause-moves : goal.returns-in_default-clause-moves
+returns-in_default-clause-moves g c =
     let runs = c.args.runs.now in
     let during = shown_during c.args.during.now in
     let few = not_last runs c.loop-k.k c.loop-k-test.true in
@@ -58,7 +58,7 @@ loop-k-preserved g c =
     let during = shown_during c.args.during.now in
     let own = accesses_of c.loop-k.k during in
     let made = run s asked.target asked.wanted.items own in
-    let lists = c.in_ok-accesses.ensures in
+    let lists = c.in_ok-accesses.ensures.lists in
     let few = c.loop-k-test.true in
     let there : c.loop-k.k < length c.in_ok-accesses.accesses.items = omega (arith, lists.0, few) in
     let these : map access_shown c.as_slice.result.now ≡ own =
@@ -86,19 +86,19 @@ loop-k-preserved g c =
       made = rw state (rw items (rw queues (one_more_run c.args.machine.now (stretches_of runs) (stretches_of (drop c.loop-k.k runs)) during c.loop-k.k s c.loop-k.statuses.items (map left_shown c.loop-k.told.items) (record { target = asked.target; wanted = asked.wanted.items }) (stretches_of (drop (c.loop-k.k + 1) runs)) (ap stretches_of next) c.loop-k.invariant.made)));
     }
 
-pub returns : goal.returns
-returns g c =
+pub returns-clause-moves : goal.returns-clause-moves
+returns-clause-moves g c =
     let runs = c.args.runs.now in
     let during = shown_during c.args.during.now in
     let none = drop_all c.loop-k.k runs (omega (arith, c.loop-k-test.false)) in
     let made = all_run c.args.machine.now (stretches_of runs) (stretches_of (drop c.loop-k.k runs)) during c.loop-k.k c.loop-k.machine c.loop-k.statuses.items (map left_shown c.loop-k.told.items) (ap stretches_of none) c.loop-k.invariant.made in
     (made.0, c.failures.ensures ∙ ap failures (c.as_slice-2.ensures.value ∙ made.0), c.in_order.ensures ∙ ap (in_order (keys_of during)) made.1, made.2)
 
-pub returns-in_err-accesses : goal.returns-in_err-accesses
-returns-in_err-accesses g c = none_moved _ _ _ _ c.from_residual.ensures.1
+pub returns-in_err-accesses-clause-moves : goal.returns-in_err-accesses-clause-moves
+returns-in_err-accesses-clause-moves g c = none_moved _ _ _ _ c.from_residual.ensures.1
 
-pub returns-in_err-told : goal.returns-in_err-told
-returns-in_err-told g c = none_moved _ _ _ _ c.from_residual-in_err-told.ensures.1
+pub returns-in_err-told-clause-moves : goal.returns-in_err-told-clause-moves
+returns-in_err-told-clause-moves g c = none_moved _ _ _ _ c.from_residual-in_err-told.ensures.1
 
-pub returns-in_err-answers : goal.returns-in_err-answers
-returns-in_err-answers g c = none_moved _ _ _ _ c.from_residual-in_err-answers.ensures.1
+pub returns-in_err-answers-clause-moves : goal.returns-in_err-answers-clause-moves
+returns-in_err-answers-clause-moves g c = none_moved _ _ _ _ c.from_residual-in_err-answers.ensures.1

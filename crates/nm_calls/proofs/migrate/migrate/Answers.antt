@@ -56,4 +56,4 @@ returns g c =
     let what = c.args.what in
     let list = c.in_ok-requests.ensures.list ∙ ap (migrate_list s what.pid what.all) (c.as_slice.ensures.value ∙ c.in_ok-pairs.ensures.value) in
     let runs = ap stretches_of c.as_slice-3.ensures.value ∙ c.in_ok-runs.ensures.runs ∙ ap (cut_within c.args.limit) (c.as_slice-2.ensures.value ∙ list) in
-    moved_same c.move_runs.result _ _ _ _ _ _ runs (ap shown_during c.as_slice-4.ensures) c.move_runs.ensures
+    moved_same c.move_runs.result _ _ _ _ _ _ runs (ap shown_during c.as_slice-4.ensures) c.move_runs.ensures.moves

@@ -24,7 +24,7 @@ make_batch-requires-clause-alike g c κs within =
 pub put_without_frame-requires-clause-paired : goal.put_without_frame-requires-clause-paired
 put_without_frame-requires-clause-paired g c =
     let is = c.as_slice.ensures.value ∙ c.in_ok-requests.ensures in
-    sym (ap length (c.as_slice-2.ensures.value ∙ c.in_ok-made.ensures.1.1) ∙ batch_statuses c.args.limit c.args.machine.now c.as_slice.result.now c.requires.some ∙ ap length is ∙ to_node_length c.args.node c.args.wanted.now)
+    sym (ap length (c.as_slice-2.ensures.value ∙ c.in_ok-made.ensures.runs.1.1) ∙ batch_statuses c.args.limit c.args.machine.now c.as_slice.result.now c.requires.some ∙ ap length is ∙ to_node_length c.args.node c.args.wanted.now)
 
 pub returns-in_err-requests : goal.returns-in_err-requests
 returns-in_err-requests g c = none_batched _ _ _ _ c.from_residual.ensures.1
@@ -35,13 +35,13 @@ returns-in_err-left g c = none_batched _ _ _ _ c.from_residual-in_err-left.ensur
 pub returns-in_err-made : goal.returns-in_err-made
 returns-in_err-made g c =
     let runs = ap (cut_within c.args.limit) (c.as_slice.ensures.value ∙ c.in_ok-requests.ensures) in
-    batch_told c.make_batch.result _ _ _ _ _ _ _ _ c.in_err-made.was c.from_residual-in_err-made.ensures.1 runs c.make_batch.ensures
+    batch_told c.make_batch.result _ _ _ _ _ _ _ _ c.in_err-made.was c.from_residual-in_err-made.ensures.1 runs c.make_batch.ensures.runs
 
 pub returns : goal.returns
 returns g c =
     let runs = ap (cut_within c.args.limit) (c.as_slice.ensures.value ∙ c.in_ok-requests.ensures) in
     let same = ap (λ rs. runs_from 0 c.args.machine.now rs []) runs in
-    let made = c.in_ok-made.ensures in (
+    let made = c.in_ok-made.ensures.runs in (
       made.0 ∙ ap (λ (ran : Ran). ran.state) same,
       (
         made.1.0 ∙ ap length runs,

@@ -16,4 +16,4 @@ returns g c =
     let some : 0 < length es = subst (λ l. 0 < length l) (sym value) (something_is _ _ c.in-Turns.requests.ok.0 (sym c.is_empty.ensures ∙ c.if-is_empty.false)) in
     let passed = subst (λ l. HavePassed s runs l s 0) (sym (append-nil runs)) (none_passed s runs) in
     subst (Stops true c.later.result s c.make_batch.new.machine) all
-    (stopped_later true c.in-Err.error c.later.result s s c.make_batch.new.machine runs runs [] _ 0 c.in-Err.ensures passed (some_run_of x.limit es c.requires.some some) c.later.ensures)
+    (stopped_later true c.in-Err.error c.later.result s s c.make_batch.new.machine runs runs [] _ 0 c.in-Err.ensures.runs passed (some_run_of x.limit es c.requires.some some) c.later.ensures)

@@ -3,6 +3,6 @@ use Rattle.nm_calls.specs.definitions.Outcome.{refused, refused_at_once, ended, 
 use Rattle.nm_calls.proofs.Outcomes.{answers, refuses, unchanged}
 use Rattle.nm_calls.proofs.system.System.exit.Goals as goal
 
-pub returns : goal.returns
+pub returns-clause-done : goal.returns-clause-done
 unfolding refused refused_at_once ended runs_asked start sets_policy accesses_asked
-returns g c = grind (arith, answers, refuses, unchanged)
+returns-clause-done g c = grind (arith, answers, refuses, unchanged)

@@ -3,10 +3,10 @@ use Rattle.nm_calls.specs.definitions.Outcome.{refused, refused_at_once, ended, 
 use Rattle.nm_calls.proofs.Outcomes.{answers, refuses, unchanged}
 use Rattle.nm_calls.proofs.system.System.free_list.Goals as goal
 
-pub returns-in_err-free_list : goal.returns-in_err-free_list
+pub returns-in_err-free_list-clause-done : goal.returns-in_err-free_list-clause-done
 unfolding refused refused_at_once ended runs_asked start sets_policy accesses_asked
-returns-in_err-free_list g c = grind (arith, answers, refuses, unchanged)
+returns-in_err-free_list-clause-done g c = grind (arith, answers, refuses, unchanged)
 
-pub returns : goal.returns
+pub returns-clause-done : goal.returns-clause-done
 unfolding refused refused_at_once ended runs_asked start sets_policy accesses_asked
-returns g c = grind (arith, answers, refuses, unchanged)
+returns-clause-done g c = grind (arith, answers, refuses, unchanged)

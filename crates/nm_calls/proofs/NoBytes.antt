@@ -1,0 +1,78 @@
+-- A policy for no bytes: no page strays, no run is made, and nothing changes.
+use Rattle.std.proofs.Common.{◌≡◌, ℕ, ◌+◌, ◌≤◌, Bool, true, false, ◌&&◌, List, [], ◌∷◌, None, refl, sym, ap, subst, ◌∙◌, arith, Result, Ok, if◌then◌else◌}
+use Rattle.std.specs.Prelude.{◌/◌, nat_le, nat_lt, not}
+use Rattle.std.specs.List.{filter, flat_map, list_any}
+use Rattle.std.proofs.lemmas.Bool.{leb-true, ltb-true, and_parts, false_from_ne_true}
+use Rattle.nm_types.specs.declared.area.Policy.{Policy}
+use Rattle.nm_types.specs.declared.area.Policy.TheVariants.{Default, Preferred, Bind, Interleave, Local}
+use Rattle.nm_types.specs.Map.{Map, same_page}
+use Rattle.nm_types.specs.State.{State}
+use Rattle.nm_policy.specs.Turns.{sent_to}
+use Rattle.nm_model.specs.definitions.Cut.{cut_within}
+use Rattle.nm_model.specs.definitions.Order.{follows}
+use Rattle.nm_model.specs.definitions.Run.{runs_from}
+use Rattle.nm_model.specs.definitions.Seen.{between, located_in, sights}
+use Rattle.nm_calls.specs.declared.call_error.CallError.{CallError}
+use Rattle.nm_calls.specs.declared.mbind.Binding.{Binding}
+use Rattle.nm_steps.specs.Calls.{Mbind}
+use Rattle.nm_calls.specs.definitions.Answers.{Failed}
+use Rattle.nm_calls.specs.definitions.Outcome.{outcome}
+use Rattle.nm_calls.specs.definitions.Mbind.{binding, each_to, has_stray, home_of, is_stray, mbind_refusal, mbind_runs, moves, nodes_tried, policed, runs_by, stray_pages, tells_late}
+use Rattle.nm_calls.specs.definitions.Migrate.{once}
+use Rattle.nm_calls.specs.definitions.Permission.{info_at, moves_all}
+use Rattle.nm_calls.specs.definitions.Systems.{SystemState}
+use Rattle.nm_calls.proofs.Bound.{binds_does}
+use Rattle.nm_calls.proofs.Passing.{passes_none}
+
+-- a range that ends where it begins has no page number
+none_between : {V : Type 0} (first end : ℕ) (m : Map ℕ V) → end ≤ first → between first end m ≡ []
+none_between first end [] few = refl
+none_between first end (e ∷ m) few =
+    let out : (nat_le first e.0 && nat_lt e.0 end) ≡ false =
+    false_from_ne_true _ (λ h. let both = and_parts (nat_le first e.0) (nat_lt e.0 end) h in omega (arith, leb-true first e.0 both.0, ltb-true e.0 end both.1, few)) in
+    rw out (none_between first end m few)
+
+no_strays : (s : State) (b : Binding) → b.end ≤ b.first → stray_pages s b ≡ []
+no_strays s b few =
+    ap (λ sees. once (λ l m. same_page l.page m.page) (filter (λ l. not (follows b.policy l.node)) (located_in s.layout s.place sees))) (none_between b.first b.end (sights s.processes b.pid) few)
+
+no_turns : (nodes : List ℕ) → flat_map (sent_to []) nodes ≡ []
+no_turns [] = refl
+no_turns (n ∷ nodes) = no_turns nodes
+
+no_moves : (limit : ℕ) (s : State) (policy : Policy) (home pid : ℕ) (all : Bool) → runs_by limit s policy home pid all [] ≡ []
+no_moves limit s Default home pid all = passes_none limit s (nodes_tried s home Default)
+no_moves limit s (Preferred node) home pid all = passes_none limit s (nodes_tried s home (Preferred node))
+no_moves limit s (Bind nodes) home pid all = passes_none limit s (nodes_tried s home (Bind nodes))
+no_moves limit s (Interleave nodes) home pid all = ap (λ sent. cut_within limit (each_to pid all sent)) (no_turns nodes)
+no_moves limit s Local home pid all = passes_none limit s (nodes_tried s home Local)
+
+no_runs : (limit : ℕ) (s : State) (b : Binding) (flags : ℕ) → b.end ≤ b.first → mbind_runs limit s b flags ≡ []
+no_runs limit s b flags few =
+    let none : (if moves flags then stray_pages s b else []) ≡ [] = elim (moves flags) as (λ m. (if m then stray_pages s b else []) ≡ []) [
+      | true ↦ no_strays s b few
+      | false ↦ refl
+    ] in
+    ap (runs_by limit s b.policy (home_of (info_at s b.pid)) b.pid (moves_all flags)) none ∙ no_moves limit s b.policy (home_of (info_at s b.pid)) b.pid (moves_all flags)
+
+and_false : (b : Bool) → (b && false) ≡ false
+and_false true = refl
+and_false false = refl
+
+module _ (y : SystemState) (caller addr mode : ℕ) (nodes : List ℕ) (flags : ℕ) where
+  bound_none : mbind_refusal y.state caller addr 0 mode nodes flags ≡ None → outcome y (Mbind caller addr 0 mode nodes flags) ≡ record { answer = Failed 0; system = y }
+  bound_none h =
+      let s = y.state in
+      let b = binding s caller addr 0 mode nodes in
+      let few : b.end ≤ b.first = omega arith in
+      let runs = no_runs y.run_limit s b flags few in
+      let stray : (tells_late flags && has_stray s (runs_from 0 s (mbind_runs y.run_limit s b flags) []).state b) ≡ false =
+      ap (λ pages. tells_late flags && list_any (is_stray (runs_from 0 s (mbind_runs y.run_limit s b flags) []).state b.policy) pages) (no_strays s b few) ∙ and_false (tells_late flags) in
+      let done : Result ℕ CallError = Ok 0 in
+      binds_does y caller addr 0 mode nodes flags done s h (stray, sym (ap (λ rs. (runs_from 0 s rs []).state) runs))
+
+  -- a call for no bytes that is not refused changes nothing
+  pub nothing_bound : (len : ℕ) → len ≡ 0 → mbind_refusal y.state caller addr len mode nodes flags ≡ None → outcome y (Mbind caller addr len mode nodes flags) ≡ record { answer = Failed 0; system = y }
+  nothing_bound len zero h =
+      subst (λ n. outcome y (Mbind caller addr n mode nodes flags) ≡ record { answer = Failed 0; system = y }) (sym zero)
+      (bound_none (subst (λ n. mbind_refusal y.state caller addr n mode nodes flags ≡ None) zero h))
