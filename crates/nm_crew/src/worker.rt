@@ -1,6 +1,6 @@
 //! The workers, and what each of them does.
 
-ghost use Rattle.std.specs.Prelude.{◌≡◌, []};
+ghost use Rattle.std.specs.Prelude.{◌≡◌, [], true};
 ghost use Rattle.nm_crew.specs.Named.{named};
 ghost use Rattle.nm_crew.specs.Hands.{IsReady, IsOver};
 
@@ -25,6 +25,7 @@ impl<A: Allocator + Copy, B: Room> Worker<A, B> {
     /// Works until no job is left to draw.
     pub(crate) fn run<G: Gate>(&mut self, board: &Board<A>, gate: &G, number: usize)
         requires { named board.now ≡ B.board }
+        ensures { self.new.hand.past_end ≡ true }
     {
         if !self.hand.past_end() {
             work_off(board, &mut self.hand, gate, number);

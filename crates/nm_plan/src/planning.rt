@@ -1,6 +1,6 @@
 //! Making the plan of a run.
 
-ghost use Rattle.std.specs.Prelude.{◌≡◌, ◌<◌, ◌+◌, ◌^◌, ◌++◌, drop, length, position, vec_len, vec_capacity, IfOk, OnOk, OnErr};
+ghost use Rattle.std.specs.Prelude.{◌≡◌, ◌<◌, ◌≤◌, ◌+◌, ◌^◌, ◌++◌, drop, length, position, vec_len, vec_capacity, IfOk, OnOk, OnErr};
 ghost use Rattle.std.specs.List.{zip};
 ghost use Rattle.nm_model.specs.definitions.Decide.{choose, is_short, planned};
 ghost use Rattle.nm_plan.specs.Found.{Finds};
@@ -14,7 +14,7 @@ use std::alloc::{AllocError, Allocator};
 
 /// Decides one request after these moves: a page that moves takes the first frame that none of them has taken. The
 /// number of moves so far is the index of that frame in `free_front`, so no free list changes before the plan is
-/// complete.
+/// complete. An error means that the host is out of memory; after fewer than eight moves none is asked for.
 fn choose<A: Allocator + Copy>(
     class: Class,
     free_front: &[FrameId],
@@ -42,6 +42,9 @@ fn choose<A: Allocator + Copy>(
         (drop (length moves.old.items) free_front.now) target).front) }
     ensures found { OnOk result (Finds search.new moves.new.items) }
     ensures capacity { OnOk result (vec_capacity moves.new ≡ vec_capacity moves.old) }
+
+    // Without memory
+    ensures asked { OnErr result (8 ≤ length moves.old.items) }
 {
     let Class::Move { page, from } = class else {
         let Class::Status(status) = class else {

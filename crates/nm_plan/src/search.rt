@@ -1,7 +1,7 @@
 //! Finding a page among the moves of a run.
 
-ghost use Rattle.std.specs.Prelude.{◌≡◌, ◌∷◌, ◌++◌, [], OnOk};
-ghost use Rattle.std.specs.Bool.{OnTrue};
+ghost use Rattle.std.specs.Prelude.{◌≡◌, ◌≤◌, ◌∷◌, ◌++◌, [], length, OnOk, OnErr};
+ghost use Rattle.std.specs.Bool.{OnTrue, OnFalse};
 ghost use Rattle.nm_model.specs.definitions.Decide.{has_moved};
 ghost use Rattle.nm_plan.specs.Found.{Ascends, IsPast, Finds};
 
@@ -32,7 +32,8 @@ fn is_among_ascending(moves: &[Taken], page: Page) -> bool
 
 /// Whether a page comes after that of the last of these moves, or there are none.
 fn is_past(moves: &[Taken], page: Page) -> bool
-    ensures { OnTrue result (IsPast moves.now page) }
+    ensures past { OnTrue result (IsPast moves.now page) }
+    ensures otherwise { OnFalse result (IsPast moves.now page → ⊥) }
 {
     moves.last().is_none_or(|last| last.page.cmp(&page).is_lt())
 }
@@ -69,11 +70,13 @@ impl<A: Allocator + Copy> Search<A> {
             || self.later.contains(&page)
     }
 
-    /// Notes a page that moves after these. An error means that the host is out of memory.
+    /// Notes a page that moves after these. An error means that the host is out of memory; after fewer than eight moves
+    /// none is asked for.
     pub(crate) fn add(&mut self, moves: &[Taken], page: Page) -> Result<(), AllocError>
         requires { Finds self.old moves.now }
-        ensures { OnOk result
+        ensures noted { OnOk result
             ((taken : Taken) → taken.page ≡ page → Finds self.new (moves.now ++ taken ∷ [])) }
+        ensures asked { OnErr result (8 ≤ length moves.now) }
     {
         let behind = moves.len() - self.ascending;
         if behind == 0 && is_past(moves, page) {

@@ -69,6 +69,7 @@ fn append_for<A: Allocator + Copy>(
 ) -> Result<(), AllocError>
     ensures ok { OnOk result (targets.new.items ≡ targets.old.items ++ sent_to dealt.now node) }
     ensures asked { OnErr result (0 < length dealt.now) }
+    ensures some { OnErr result (0 < length (sent_to dealt.now node)) }
 {
     for sent in dealt {
         if sent.to == node {

@@ -1,5 +1,5 @@
 -- Reading the items of a list one after the other, as a loop does.
-use Rattle.std.proofs.Common.{◌≡◌, ℕ, suc, ◌+◌, ◌≤◌, ◌<◌, List, [], ◌∷◌, ◌++◌, Option, Some, None, length, get_or, drop, option_map, refl, sym, ap, ◌∙◌, append_assoc, add-one, drop-cons, arith}
+use Rattle.std.proofs.Common.{◌≡◌, ℕ, zero, suc, ◌+◌, ◌≤◌, ◌<◌, List, [], ◌∷◌, ◌++◌, true, Option, Some, None, is_some, length, get_or, drop, option_map, refl, sym, ap, ◌∙◌, append_assoc, add-one, drop-cons, arith}
 use Rattle.std.proofs.lemmas.List.{append-nil, drop_all}
 use Rattle.serde_json.specs.Data.{Data}
 use Rattle.nm_steps.specs.Tree.{items_seen}
@@ -8,6 +8,7 @@ use Rattle.nm_steps.specs.declared.step_error.StepError.TheVariants.{Bad, Memory
 use Rattle.nm_steps.specs.Calls.{Call}
 use Rattle.nm_steps.specs.Form.{◌>>=◌, each, step_of}
 use Rattle.nm_steps.specs.Faults.{first_bad}
+use Rattle.nm_steps.specs.Memory.{starts}
 use Rattle.nm_steps.specs.Gives.{Fails}
 
 -- what was read before, and what is still read
@@ -32,6 +33,12 @@ module _ {A V : Type 0} (f : Data → Option A) (front : List A) (view : V → D
   ends Bad h so_far =
       let one : with_front front (each f (items_seen view (drop i vs))) ≡ None = rw (split, h) refl in
       sym so_far ∙ one
+
+-- the first item can be read, as this one can, and the first if this is a later one
+pub starts_by : {A V : Type 0} (f : Data → Option A) (view : V → Data) (vs : List V) (i : ℕ) (v : V) → i < length vs → v ≡ get_or vs i v → is_some (f (view v)) ≡ true → (0 < i → starts f (items_seen view vs) ≡ true) → starts f (items_seen view vs) ≡ true
+starts_by f view [] i v lt is h before = absurd (omega (arith, lt))
+starts_by f view (w ∷ ws) zero v lt is h before = ap (λ u. is_some (f (view u))) (sym is) ∙ h
+starts_by f view (w ∷ ws) (suc i) v lt is h before = before (omega arith)
 
 pub is_done : {A V : Type 0} (f : Data → Option A) (front : List A) (view : V → Data) (vs : List V) (i : ℕ) (total : Option (List A)) → length vs ≤ i → with_front front (each f (items_seen view (drop i vs))) ≡ total → total ≡ Some front
 is_done f front view vs i total le so_far =

@@ -2,9 +2,9 @@
 use Rattle.std.proofs.Common.{◌≡◌, ℕ, ◌+◌, ◌-◌, ◌%◌, ◌*◌, ◌^◌, ◌<◌, ◌≤◌, List, [], ◌∷◌, ◌++◌, length, get_or, take, Some, false, refl, sym, ap, ◌∙◌, arith, append-nil, lt-ltb, ne_eqb, length-take}
 use Rattle.std.proofs.lemmas.Bool.{le-ltb}
 use Rattle.std.proofs.lemmas.Int.Digits.{digits_more, digits_value_more}
-use Rattle.std.proofs.lemmas.Str.Parse.{digits_value_short, numerals_by_value, tells_digits}
+use Rattle.std.proofs.lemmas.Str.Parse.{digit_at, digits_value_short, numerals_by_value, tells_digits}
 use Rattle.std.specs.Char.{digit_value}
-use Rattle.std.specs.Str.Parse.{AllDigits, digits_value}
+use Rattle.std.specs.Str.Parse.{AllDigits, IsNumeral, digits_value}
 use Rattle.fast_float.specs.Text.{Parts, text_of, IsWellFormed}
 use Rattle.fast_float.proofs.Writing.{scan-text_of}
 use Rattle.serde_json.specs.Data.{unsigned}
@@ -40,6 +40,12 @@ digit_is b fits le =
     let high : b < 58 = omega (arith, fits, le) in
     let value : (b + 208) % 256 ≡ b - 48 = omega (arith, low, high) in
     rw (le-ltb b 48 low, lt-ltb b 58 high) (sym value)
+
+-- bytes with one that is no digit are no numeral
+pub no_numeral : (bytes : List ℕ) (i : ℕ) → i < length bytes → get_or bytes i 0 < 256 → 9 < (get_or bytes i 0 + 208) % 256 → IsNumeral 10 bytes → ⊥
+no_numeral bytes i lt fits other h =
+    let range = digit_at bytes i h.1 lt in
+    omega (arith, fits, other, range.0, range.1)
 
 module _ (bytes : List ℕ) (i number : ℕ) (lt : i < length bytes) (few : length bytes ≤ 19) (fits : get_or bytes i 0 < 256) (digit : (get_or bytes i 0 + 208) % 256 ≤ 9)
     (so_far : AllDigits 10 (take i bytes)) (is : number ≡ digits_value 10 (take i bytes)) where

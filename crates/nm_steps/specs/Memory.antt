@@ -1,15 +1,34 @@
 -- Which values are read into memory of the host.
-use Rattle.std.specs.Prelude.{ℕ, List, Bool, true, false, ◌&&◌, ◌||◌, Option, Some, None, codes}
+use Rattle.std.specs.Prelude.{ℕ, ◌%◌, ◌==◌, List, length, Bool, true, false, ◌&&◌, ◌||◌, Option, Some, None, is_some, codes}
 use Rattle.std.specs.Str.{bytes_eq}
 use Rattle.serde_json.specs.Data.{Data, Items, no_items, item}
 use Rattle.serde_json.specs.Find.{get}
-use Rattle.nm_steps.specs.Form.{items_at}
+use Rattle.nm_steps.specs.Form.{items_at, text_at, place_at}
 
 -- whether there is a list with an item
 abbrev pub has_items : Option Items → Bool
 has_items None = false
 has_items (Some no_items) = false
 has_items (Some (item d ds)) = true
+
+-- whether there is a first item, and f reads it
+abbrev pub starts : {A : Type 0} → (Data → Option A) → Items → Bool
+starts f no_items = false
+starts f (item d ds) = is_some (f d)
+
+-- the same of a list that may be missing
+abbrev pub starts_at : {A : Type 0} → (Data → Option A) → Option Items → Bool
+starts_at f None = false
+starts_at f (Some ds) = starts f ds
+
+-- whether there is a text, of an even length
+abbrev pub has_pairs : Option (List ℕ) → Bool
+has_pairs None = false
+has_pairs (Some digits) = length digits % 2 == 0
+
+-- whether a write is read up to its bytes, and has their digits in pairs
+abbrev pub write_has_pairs : Data → Bool
+write_has_pairs d = is_some (place_at d) && has_pairs (text_at (codes "data") d)
 
 -- whether the lists of a batch have an item
 abbrev pub batch_has_items : Data → Bool

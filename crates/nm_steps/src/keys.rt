@@ -1,12 +1,12 @@
 //! The values at the keys of a step, and the items of their lists.
 
-ghost use Rattle.std.specs.Prelude.{◌≡◌, ◌<◌, ◌^◌, length, true, IfOk, IfErr};
+ghost use Rattle.std.specs.Prelude.{◌≡◌, ◌<◌, ◌^◌, length, true, Some, IfOk, IfErr};
 ghost use Rattle.nm_steps.specs.Tree.{items_seen};
 ghost use Rattle.nm_steps.specs.Form.{number_at, small_at, text_at, flag_at, set_at, hex_at, bytes_of};
 ghost use Rattle.nm_steps.specs.Form as form;
 ghost use Rattle.nm_steps.specs.declared.step_error.StepError.TheVariants.{Bad, Memory};
 ghost use Rattle.nm_steps.specs.Gives.{Gives};
-ghost use Rattle.nm_steps.specs.Memory.{has_items};
+ghost use Rattle.nm_steps.specs.Memory.{has_items, has_pairs, starts, starts_at};
 
 use crate::json_value::JsonValue;
 use crate::step_error::StepError;
@@ -74,6 +74,8 @@ fn numbers_of<A: Allocator + Copy, V: JsonValue>(
     ensures value { Gives (λ v. v.items) result
         (form.each form.number_of (items_seen V.as_data values.now)) }
     ensures asked { result ≡ Err Memory → 0 < length values.now }
+    ensures first { result ≡ Err Memory →
+        starts form.number_of (items_seen V.as_data values.now) ≡ true }
 {
     let mut numbers = Vec::new(alloc);
     for value in values {
@@ -92,6 +94,8 @@ pub(crate) fn numbers<A: Allocator + Copy, V: JsonValue>(
     ensures value { Gives (λ v. v.items) result (form.numbers_at key.now (V.as_data value.now)) }
     ensures asked { result ≡ Err Memory →
         has_items (form.items_at key.now (V.as_data value.now)) ≡ true }
+    ensures first { result ≡ Err Memory →
+        starts_at form.number_of (form.items_at key.now (V.as_data value.now)) ≡ true }
 {
     numbers_of(alloc, list(value, key)?)
 }
@@ -112,6 +116,8 @@ fn smalls_of<A: Allocator + Copy, V: JsonValue>(
     ensures value { Gives (λ v. v.items) result
         (form.each (form.number_below (2 ^ 32)) (items_seen V.as_data values.now)) }
     ensures asked { result ≡ Err Memory → 0 < length values.now }
+    ensures first { result ≡ Err Memory →
+        starts (form.number_below (2 ^ 32)) (items_seen V.as_data values.now) ≡ true }
 {
     let mut numbers = Vec::new(alloc);
     for value in values {
@@ -130,6 +136,8 @@ pub(crate) fn smalls<A: Allocator + Copy, V: JsonValue>(
     ensures value { Gives (λ v. v.items) result (form.smalls_at key.now (V.as_data value.now)) }
     ensures asked { result ≡ Err Memory →
         has_items (form.items_at key.now (V.as_data value.now)) ≡ true }
+    ensures first { result ≡ Err Memory →
+        starts_at (form.number_below (2 ^ 32)) (form.items_at key.now (V.as_data value.now)) ≡ true }
 {
     smalls_of(alloc, list(value, key)?)
 }
@@ -171,7 +179,8 @@ pub(crate) fn set<V: JsonValue>(value: &V, key: &str) -> Result<NodeMask, StepEr
 
 /// The bytes that hexadecimal digits spell.
 fn bytes<A: Allocator + Copy>(alloc: A, text: &str) -> Result<Vec<u8, A>, StepError>
-    ensures { Gives (λ v. v.items) result (bytes_of text.now) }
+    ensures value { Gives (λ v. v.items) result (bytes_of text.now) }
+    ensures asked { result ≡ Err Memory → has_pairs (Some text.now) ≡ true }
 {
     match hex::decode(alloc, text) {
         Ok(bytes) => Ok(bytes),
@@ -186,7 +195,9 @@ pub(crate) fn hex<A: Allocator + Copy, V: JsonValue>(
     value: &V,
     key: &str,
 ) -> Result<Vec<u8, A>, StepError>
-    ensures { Gives (λ v. v.items) result (hex_at key.now (V.as_data value.now)) }
+    ensures value { Gives (λ v. v.items) result (hex_at key.now (V.as_data value.now)) }
+    ensures asked { result ≡ Err Memory →
+        has_pairs (text_at key.now (V.as_data value.now)) ≡ true }
 {
     bytes(alloc, text(value, key)?)
 }

@@ -9,7 +9,7 @@ ghost use Rattle.nm_steps.specs.Form.{small_at, place_at};
 ghost use Rattle.nm_steps.specs.Form as form;
 ghost use Rattle.nm_steps.specs.Views.{call_of, shown_during};
 ghost use Rattle.nm_steps.specs.Gives.{Gives};
-ghost use Rattle.nm_steps.specs.Memory.{takes_memory, batch_has_items, has_items};
+ghost use Rattle.nm_steps.specs.Memory.{takes_memory, batch_has_items, has_items, starts, write_has_pairs};
 ghost use Rattle.nm_steps.specs.declared.step_error.StepError.TheVariants.{Bad, Memory};
 
 use crate::call::{
@@ -45,7 +45,8 @@ fn write_access<A: Allocator + Copy + Send + Sync, V: JsonValue>(
     alloc: A,
     value: &V,
 ) -> Result<Access<A>, StepError>
-    ensures { Gives access_shown result (form.write_access (V.as_data value.now)) }
+    ensures access { Gives access_shown result (form.write_access (V.as_data value.now)) }
+    ensures asked { result ≡ Err Memory → write_has_pairs (V.as_data value.now) ≡ true }
 {
     Ok(Access::Write {
         pid: Pid::new(small(value, "pid")?),
@@ -63,6 +64,7 @@ fn access_named<A: Allocator + Copy + Send + Sync, V: JsonValue>(
 ) -> Result<Access<A>, StepError>
     ensures access { Gives access_shown result (form.access_named op.now (V.as_data value.now)) }
     ensures asked { result ≡ Err Memory → bytes_eq op.now (codes "write") ≡ true }
+    ensures pairs { result ≡ Err Memory → write_has_pairs (V.as_data value.now) ≡ true }
 {
     match op {
         "read" => read_access(value),
@@ -83,6 +85,7 @@ fn in_flight<A: Allocator + Copy + Send + Sync, V: JsonValue>(
     ensures asked { result ≡ Err Memory →
         option_map (λ op. bytes_eq op (codes "write")) (form.text_at (codes "op") (V.as_data value.now))
         ≡ Some true }
+    ensures pairs { result ≡ Err Memory → write_has_pairs (V.as_data value.now) ≡ true }
 {
     let run = number(value, "run")?;
     if run >= runs as u64 {
@@ -118,6 +121,8 @@ fn flights_of<A: Allocator + Copy + Send + Sync, V: JsonValue>(
     ensures flights { Gives (λ v. shown_during v.items) result
         (form.each (form.in_flight runs) (items_seen V.as_data values.now)) }
     ensures asked { result ≡ Err Memory → 0 < length values.now }
+    ensures first { result ≡ Err Memory →
+        starts (form.text_at (codes "op")) (items_seen V.as_data values.now) ≡ true }
 {
     let mut flights = Vec::new(alloc);
     for value in values {
@@ -254,8 +259,9 @@ fn write<A: Allocator + Copy + Send + Sync, V: JsonValue>(
     alloc: A,
     value: &V,
 ) -> Result<Call<A>, StepError>
-    ensures { Gives call_of result
+    ensures call { Gives call_of result
         (option_map form.access_step (form.write_access (V.as_data value.now))) }
+    ensures asked { result ≡ Err Memory → write_has_pairs (V.as_data value.now) ≡ true }
 {
     Ok(access_step(write_access(alloc, value)?))
 }
@@ -428,6 +434,8 @@ fn named<A: Allocator + Copy + Send + Sync, V: JsonValue>(
     requires { 0 < limit }
     ensures call { Gives call_of result (form.named limit op.now (V.as_data value.now)) }
     ensures asked { result ≡ Err Memory → takes_memory op.now (V.as_data value.now) ≡ true }
+    ensures pairs { result ≡ Err Memory → bytes_eq op.now (codes "write") ≡ true →
+        write_has_pairs (V.as_data value.now) ≡ true }
 {
     match op {
         "spawn" => spawn(value),

@@ -13,7 +13,7 @@ ghost use Rattle.nm_steps.specs.Plans.{plan_in};
 ghost use Rattle.nm_steps.specs.declared.trace_error.TraceError.TheVariants.{NotJson, BadMachine, HostMemory};
 ghost use Rattle.nm_steps.specs.declared.step_error.StepError.TheVariants.{Bad, Memory};
 ghost use Rattle.nm_steps.specs.Gives as of_step;
-ghost use Rattle.nm_steps.specs.Memory.{has_items, machine_has_items, trace_has_items};
+ghost use Rattle.nm_steps.specs.Memory.{has_items, machine_has_items, trace_has_items, starts, starts_at};
 ghost use Rattle.serde_json.specs.Find.{as_array};
 
 use crate::call::Call;
@@ -47,6 +47,8 @@ fn distances_of<A: Allocator + Copy, V: JsonValue>(
     ensures row { of_step.Gives (λ v. v.items) result
         (form.each (form.number_below (2 ^ 8)) (items_seen V.as_data values.now)) }
     ensures asked { result ≡ Err Memory → 0 < length values.now }
+    ensures first { result ≡ Err Memory →
+        starts (form.number_below (2 ^ 8)) (items_seen V.as_data values.now) ≡ true }
 {
     let mut row = Vec::new(alloc);
     for value in values {
@@ -60,6 +62,8 @@ fn distances_of<A: Allocator + Copy, V: JsonValue>(
 fn row_of<A: Allocator + Copy, V: JsonValue>(alloc: A, value: &V) -> Result<Vec<u8, A>, StepError>
     ensures row { of_step.Gives (λ v. v.items) result (form.row_of (V.as_data value.now)) }
     ensures asked { result ≡ Err Memory → has_items (as_array (V.as_data value.now)) ≡ true }
+    ensures first { result ≡ Err Memory →
+        starts_at (form.number_below (2 ^ 8)) (as_array (V.as_data value.now)) ≡ true }
 {
     distances_of(alloc, value.as_array().ok_or(StepError::Bad)?)
 }
@@ -72,6 +76,8 @@ fn rows_of<A: Allocator + Copy, V: JsonValue>(
     ensures rows { of_step.Gives (λ v. map (λ row. row.items) v.items) result
         (form.each form.row_of (items_seen V.as_data values.now)) }
     ensures asked { result ≡ Err Memory → 0 < length values.now }
+    ensures first { result ≡ Err Memory →
+        starts as_array (items_seen V.as_data values.now) ≡ true }
 {
     let mut rows = Vec::new(alloc);
     for value in values {
@@ -151,6 +157,8 @@ fn calls_of<A: Allocator + Copy + Send + Sync, V: JsonValue>(
     ensures calls { Gives (λ v. map call_of v.items) result
         (faults.calls_of limit (items_seen V.as_data values.now)) }
     ensures asked { result ≡ Err (HostMemory 0) → 0 < length values.now }
+    ensures first { result ≡ Err (HostMemory 0) →
+        starts (form.text_at (codes "op")) (items_seen V.as_data values.now) ≡ true }
 {
     let mut calls = Vec::new(alloc);
     for (k, value) in values.iter().enumerate() {

@@ -1,8 +1,11 @@
 //! A JSON text as a tree that borrows its strings and keeps its numbers as they are written.
 
-ghost use Rattle.std.specs.Prelude.{◌≡◌, ◌<◌, ◌==◌, ◌^◌, length, slice_index, true, false, Some, is_some, option_map, option_and_then, IsTrue, IfSome};
+ghost use Rattle.std.specs.Prelude.{◌≡◌, ◌<◌, ◌==◌, ◌^◌, length, slice_index, true, false, Some, is_some, option_map, option_and_then, IsTrue, IfSome, IfNone};
+ghost use Rattle.std.specs.Str.Parse.{IsNumeral};
 ghost use Rattle.fast_float.specs.Text.{minus};
 ghost use Rattle.json.specs.Json as grammar;
+ghost use Rattle.json.specs.Reads.{opens};
+ghost use Rattle.nm_steps.specs.declared.step_error.StepError.TheVariants.{Memory};
 ghost use Rattle.json.specs.Value.{value_view, items_view as json_items, members_view as json_members};
 ghost use Rattle.serde_json.specs.Data.{no_members, unsigned};
 ghost use Rattle.serde_json.specs.Find.{get, as_number, as_u64, as_bool, as_str, as_array};
@@ -24,8 +27,9 @@ const SHORT_DIGITS: usize = 19;
 
 /// The tree of all that a reader reads. `Bad` if that is not one value.
 fn next_tree<'a>(heap: Global, reader: &mut Reader<'a>) -> Result<Value<'a>, StepError>
-    ensures { Gives value_view result
+    ensures value { Gives value_view result
         (option_and_then (λ p. grammar.if_last p.0 p.1) (grammar.value 127 reader.old)) }
+    ensures asked { result ≡ Err Memory → IsTrue (opens reader.old) }
 {
     match Value::read(heap, reader, MAX_DEPTH) {
         Ok(value) => {
@@ -110,7 +114,8 @@ fn is_negative(number: &str) -> bool
 
 /// The number that one to 19 digits write. None where the bytes are more, or something else.
 fn short_of(bytes: &[u8]) -> Option<u64>
-    ensures { IfSome result (λ n. number_of bytes.now ≡ Some (unsigned n)) }
+    ensures value { IfSome result (λ n. number_of bytes.now ≡ Some (unsigned n)) }
+    ensures other { IfNone result (IsNumeral 10 bytes.now → 19 < length bytes.now) }
 {
     if bytes.is_empty() || bytes.len() > SHORT_DIGITS {
         return None;

@@ -1,4 +1,5 @@
-use Rattle.std.proofs.Common.{◌≡◌, ℕ, ◌+◌, ◌<◌, ◌==◌, cond, List, [], ◌∷◌, ◌++◌, length, take, get_or, sym, ap, ◌∙◌, append_assoc, arith}
+use Rattle.std.proofs.Common.{◌≡◌, ℕ, zero, suc, ◌+◌, ◌<◌, ◌==◌, Bool, true, false, cond, List, [], ◌∷◌, ◌++◌, length, take, get_or, sym, ap, ◌∙◌, append_assoc, arith}
+use Rattle.std.specs.Prelude.{Result, Ok, Err, OnErr}
 use Rattle.std.proofs.lemmas.List.{append-nil, take_all}
 use Rattle.std.proofs.lemmas.List.Elements.{filter_more}
 use Rattle.std.proofs.lemmas.Result.{IfOk-from_err}
@@ -12,6 +13,19 @@ one_more all node i x bs ts ns lt at had now =
     now ∙ (ap (λ l. l ++ cond (x.to == node) (x ∷ []) []) had ∙ (append_assoc bs (sent_to (take i all) node) (cond (x.to == node) (x ∷ []) [])
     ∙ ap (λ l. bs ++ l) (ap (λ (z : Sent). sent_to (take i all) node ++ cond (z.to == node) (z ∷ []) []) at ∙ sym (filter_more (λ s. s.to == node) all i x lt))))
 
+on_error : {T E : Type 0} (r : Result T E) (P : Type 0) → P → OnErr r P
+on_error (Ok x) P p = tt
+on_error (Err e) P p = p
+
+some_after : (b : Bool) (y : Sent) (ys : List Sent) → 0 < length ys → 0 < length (cond b (y ∷ ys) ys)
+some_after true y ys some = omega (arith, some)
+some_after false y ys some = some
+
+some_more : (all : List Sent) (node i : ℕ) (x : Sent) → i < length all → x ≡ get_or all i x → (x.to == node) ≡ true → 0 < length (sent_to all node)
+some_more [] node i x lt at is = absurd (omega (arith, lt))
+some_more (y ∷ ys) node zero x lt at is = rw (sym at, is) (omega arith)
+some_more (y ∷ ys) node (suc i) x lt at is = some_after (y.to == node) y (sent_to ys node) (some_more ys node i x (omega (arith, lt)) at is)
+
 pub loop-sent-init : goal.loop-sent-init
 loop-sent-init g c = sym (append-nil c.args.targets.now.items)
 
@@ -20,6 +34,9 @@ bounds-dealt-sent-index g c = c.loop-sent-test.true
 
 pub returns-in_err-push-clause-ok : goal.returns-in_err-push-clause-ok
 returns-in_err-push-clause-ok g c = IfOk-from_err _ _ c.from_residual.ensures.0
+
+pub returns-in_err-push-clause-some : goal.returns-in_err-push-clause-some
+returns-in_err-push-clause-some g c = on_error _ _ (some_more c.args.dealt.now c.args.node c.loop-sent.sent-index c.sent-item.result c.loop-sent-test.true c.sent-item.is (sym c.eq.ensures ∙ c.if-eq.true))
 
 pub loop-sent-smaller : goal.loop-sent-smaller
 loop-sent-smaller g c = omega (arith, c.loop-sent-test.true)

@@ -1,5 +1,9 @@
-use Rattle.nm_steps.proofs.Memory.{has_listed}
+use Rattle.nm_steps.specs.Form.{number_of}
+use Rattle.nm_steps.proofs.Memory.{has_listed, starts_listed}
 use Rattle.nm_steps.proofs.keys.numbers.Goals as goal
 
 pub returns-clause-asked : goal.returns-clause-asked
 returns-clause-asked g c = λ is. has_listed g.V.JsonValue.as_data c.in_ok-list.field-0.now _ c.in_ok-list.ensures.value (c.numbers_of.ensures.asked is)
+
+pub returns-clause-first : goal.returns-clause-first
+returns-clause-first g c = λ is. starts_listed g.V.JsonValue.as_data c.in_ok-list.field-0.now number_of _ c.in_ok-list.ensures.value (c.numbers_of.ensures.first is)
