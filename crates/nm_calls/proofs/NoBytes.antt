@@ -1,6 +1,6 @@
 -- A policy for no bytes: no page strays, no run is made, and nothing changes.
-use Rattle.std.proofs.Common.{◌≡◌, ℕ, ◌+◌, ◌≤◌, Bool, true, false, ◌&&◌, List, [], ◌∷◌, None, refl, sym, ap, subst, ◌∙◌, arith, Result, Ok, if◌then◌else◌}
-use Rattle.std.specs.Prelude.{◌/◌, nat_le, nat_lt, not}
+use Rattle.std.proofs.Common.{◌≡◌, ℕ, ◌≤◌, Bool, true, false, ◌&&◌, List, [], ◌∷◌, None, refl, sym, ap, subst, ◌∙◌, arith, Result, Ok, if◌then◌else◌}
+use Rattle.std.specs.Prelude.{nat_le, nat_lt, not}
 use Rattle.std.specs.List.{filter, flat_map, list_any}
 use Rattle.std.proofs.lemmas.Bool.{leb-true, ltb-true, and_parts, false_from_ne_true}
 use Rattle.nm_types.specs.declared.area.Policy.{Policy}
@@ -17,7 +17,7 @@ use Rattle.nm_calls.specs.declared.mbind.Binding.{Binding}
 use Rattle.nm_steps.specs.Calls.{Mbind}
 use Rattle.nm_calls.specs.definitions.Answers.{Failed}
 use Rattle.nm_calls.specs.definitions.Outcome.{outcome}
-use Rattle.nm_calls.specs.definitions.Mbind.{binding, each_to, has_stray, home_of, is_stray, mbind_refusal, mbind_runs, moves, nodes_tried, policed, runs_by, stray_pages, tells_late}
+use Rattle.nm_calls.specs.definitions.Mbind.{binding, each_to, has_stray, home_of, is_stray, mbind_refusal, mbind_runs, moves, nodes_tried, runs_by, stray_pages, tells_late}
 use Rattle.nm_calls.specs.definitions.Migrate.{once}
 use Rattle.nm_calls.specs.definitions.Permission.{info_at, moves_all}
 use Rattle.nm_calls.specs.definitions.Systems.{SystemState}

@@ -11,12 +11,10 @@ use Rattle.std.specs.BTreeSet.{insert_key}
 use Rattle.nm_types.specs.declared.errno.Errno.{Errno}
 use Rattle.nm_types.specs.declared.errno.Errno.TheVariants.{Enoent, Eacces, Ebusy}
 use Rattle.nm_types.specs.declared.page.Page.{Page}
-use Rattle.nm_types.specs.declared.sight.Sight.{Sight}
-use Rattle.nm_types.specs.declared.sight.Sight.TheVariants.{ZeroPage, Sees}
 use Rattle.nm_types.specs.Map.{get, page_cmp}
 use Rattle.nm_types.specs.Layout.{node_of}
 use Rattle.nm_types.specs.Nodes.{is_in}
-use Rattle.nm_types.specs.State.{State, page_at, free_list}
+use Rattle.nm_types.specs.State.{State, free_list}
 use Rattle.nm_types.proofs.Cases.{true_false, some_is}
 use Rattle.nm_types.proofs.Members.{is_in_insert}
 use Rattle.nm_types.specs.declared.request.Class.{Class}

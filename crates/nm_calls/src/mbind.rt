@@ -7,7 +7,7 @@ ghost use Rattle.nm_runs.specs.Targets.{Checks};
 ghost use Rattle.nm_model.specs.definitions.Effect.{policy_refusal, set_policy};
 ghost use Rattle.nm_calls.specs.definitions.Permission.{info_at};
 ghost use Rattle.nm_calls.specs.definitions.Permission.{usable};
-ghost use Rattle.nm_calls.specs.definitions.Mbind.{preferred, policy_of, policy_asked, is_misfit, is_bad_set, moves, stray_pages, is_stray, mode_refusal, range_of, range_refusal, home_of, is_strict, listed, mbind_runs, mbind_refusal, binding};
+ghost use Rattle.nm_calls.specs.definitions.Mbind.{preferred, policy_of, policy_asked, is_misfit, is_bad_set, moves, is_stray, mode_refusal, range_of, range_refusal, home_of, is_strict, listed, mbind_runs, mbind_refusal, binding};
 ghost use Rattle.nm_calls.specs.views.Runs.{nodes_named, Binds};
 
 use crate::call_error::CallError;

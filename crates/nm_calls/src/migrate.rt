@@ -1,6 +1,6 @@
 //! Moving pages from nodes to nodes, as migrate_pages(2) does: whether it is allowed, and its runs.
 
-ghost use Rattle.std.specs.Prelude.{◌≡◌, ◌<◌, ◌≤◌, [], IfOk, IsSome, Some};
+ghost use Rattle.std.specs.Prelude.{◌≡◌, ◌<◌, [], IfOk, IsSome, Some};
 ghost use Rattle.std.specs.List.{AllByRecursion};
 ghost use Rattle.nm_types.specs.Layout.{node_count};
 ghost use Rattle.nm_policy.specs.Pairs.{pairs};

@@ -9,8 +9,7 @@ ghost use Rattle.nm_policy.specs.Turns.{by_turns};
 ghost use Rattle.nm_types.specs.declared.request.Wanted.TheVariants.{At};
 ghost use Rattle.nm_model.specs.definitions.Areas.{Mapped};
 ghost use Rattle.nm_model.specs.definitions.Effect.{with_areas_of};
-ghost use Rattle.nm_calls.specs.definitions.Passes.{passes};
-ghost use Rattle.nm_calls.specs.definitions.Mbind.{requests_at, strays_of, each_to, runs_by, nodes_tried, is_stray, binding};
+ghost use Rattle.nm_calls.specs.definitions.Mbind.{requests_at, strays_of, each_to, runs_by, nodes_tried};
 ghost use Rattle.nm_calls.specs.views.Runs.{runs_in, CanGo, nodes_named, MakesRuns};
 
 use crate::call_error::CallError;

@@ -4,7 +4,7 @@ ghost use Rattle.std.specs.Prelude.{◌≡◌, ◌+◌, ◌-◌, ◌<◌, ◌≤
 ghost use Rattle.std.specs.List.{filter, list_any};
 ghost use Rattle.nm_model.specs.definitions.Order.{follows};
 ghost use Rattle.nm_types.specs.Map.{same_page};
-ghost use Rattle.nm_calls.specs.definitions.Mbind.{strays_between, stray_pages, is_stray, binding};
+ghost use Rattle.nm_calls.specs.definitions.Mbind.{strays_between, stray_pages, is_stray};
 ghost use Rattle.nm_calls.specs.definitions.Migrate.{once};
 
 use crate::mbind::Binding;
