@@ -39,7 +39,7 @@ pub(crate) struct Migration {
 
 /// Which of the nodes that a caller names the pages of a process may go to. Errors, in order: EPERM (a node that the
 /// process may not use, without privilege); EINVAL (no node that is online and allowed).
-#[tactic(auto, using(crate::proofs::Reach::none_is))]
+#[tactic(auto, using(crate::proofs::Policies::NamedNodes::none_is))]
 fn targets_of<A: Allocator + Copy + Send + Sync>(
     machine: &Machine<A>,
     privileged: bool,

@@ -68,7 +68,7 @@ pub(crate) fn acted_on(
 }
 
 /// The nodes of a set that are online and that a process may use.
-#[tactic(auto, using(crate::proofs::Reach::usable_is))]
+#[tactic(auto, using(crate::proofs::Policies::NamedNodes::usable_is))]
 pub(crate) fn usable<A: Allocator + Copy + Send + Sync>(
     machine: &Machine<A>,
     allowed: NodeMask,

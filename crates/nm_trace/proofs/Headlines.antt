@@ -9,8 +9,8 @@ use Rattle.nm_laws.proofs.Soundness.New.{new_sound}
 use Rattle.nm_steps.specs.Calls.{Call}
 use Rattle.nm_calls.specs.definitions.Outcome.{outcome}
 use Rattle.nm_calls.specs.definitions.Systems.{SystemState, system_with}
-use Rattle.nm_calls.proofs.Bytes.{calls_keep_memory}
-use Rattle.nm_calls.proofs.Staying.{calls_stay_sound}
+use Rattle.nm_calls.proofs.CallLaws.BytesStay.{calls_keep_memory}
+use Rattle.nm_calls.proofs.CallLaws.StaysSound.{calls_stay_sound}
 use Rattle.nm_steps.specs.Faults.{Plan}
 use Rattle.nm_trace.specs.Headline.{summary_of, KeepMemory, IsPlayed}
 use Rattle.nm_trace.specs.Played.{Plays}

@@ -1,8 +1,8 @@
 use Rattle.std.proofs.Common.{arith, ap, refl, ◌∙◌}
 use Rattle.nm_runs.specs.Stretches.{stretches_of}
 use Rattle.nm_model.specs.definitions.Cut.{cut_within}
-use Rattle.nm_calls.proofs.Made.{none_moved, moved_same}
-use Rattle.nm_calls.proofs.Requests.{targets_below, runs_alike, entries_fit}
+use Rattle.nm_calls.proofs.Batches.Results.{none_moved, moved_same}
+use Rattle.nm_calls.proofs.Batches.Requests.{targets_below, runs_alike, entries_fit}
 use Rattle.nm_calls.proofs.batch.move_batch.Goals as goal
 
 pub move_runs-requires-clause-targets : goal.move_runs-requires-clause-targets

@@ -9,11 +9,11 @@ use Rattle.nm_model.specs.definitions.Run.{accesses_of}
 use Rattle.nm_steps.specs.Views.{shown_during}
 use Rattle.std.specs.Map.{keys_of}
 use Rattle.nm_calls.specs.definitions.Batch.{in_order, left_shown}
-use Rattle.nm_calls.proofs.Lengths.{run_length, run_layout}
-use Rattle.nm_calls.proofs.Meanwhile.{list_there}
-use Rattle.nm_calls.proofs.Made.{none_moved}
+use Rattle.nm_calls.proofs.Batches.StatusCounts.{run_length, run_layout}
+use Rattle.nm_calls.proofs.InFlight.Loops.{list_there}
+use Rattle.nm_calls.proofs.Batches.Results.{none_moved}
 use Rattle.nm_calls.proofs.Trails.{states_are}
-use Rattle.nm_calls.proofs.Stretches.{none_run, one_more_run, some_run, all_run, next_left, entries_left, not_last}
+use Rattle.nm_calls.proofs.Batches.Progress.{none_run, one_more_run, some_run, all_run, next_left, entries_left, not_last}
 use Rattle.nm_calls.proofs.batch.move_runs.Goals as goal
 
 pub returns-in_default-clause-moves : goal.returns-in_default-clause-moves

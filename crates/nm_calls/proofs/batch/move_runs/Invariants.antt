@@ -4,7 +4,7 @@ use Rattle.nm_types.specs.Layout.{node_count}
 use Rattle.nm_runs.specs.Stretches.{stretches_of}
 use Rattle.nm_steps.specs.Views.{shown_during}
 use Rattle.nm_calls.specs.definitions.Batch.{left_shown}
-use Rattle.nm_calls.proofs.Stretches.{HaveRun}
+use Rattle.nm_calls.proofs.Batches.Progress.{HaveRun}
 use Rattle.nm_calls.proofs.batch.move_runs.Given as goal
 
 abbrev pub invariant-loop-k : goal.invariant-loop-k

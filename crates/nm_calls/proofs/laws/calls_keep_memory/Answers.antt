@@ -1,4 +1,4 @@
-use Rattle.nm_calls.proofs.Bytes.{calls_keep_memory, trail_keeps_memory, without_accesses}
+use Rattle.nm_calls.proofs.CallLaws.BytesStay.{calls_keep_memory, trail_keeps_memory, without_accesses}
 use Rattle.nm_calls.proofs.laws.calls_keep_memory.Goals as goal
 
 pub returns-clause-calls : goal.returns-clause-calls

@@ -1,4 +1,4 @@
-use Rattle.nm_calls.proofs.Staying.{calls_stay_sound}
+use Rattle.nm_calls.proofs.CallLaws.StaysSound.{calls_stay_sound}
 use Rattle.nm_calls.proofs.laws.calls_stay_sound.Goals as goal
 
 pub returns : goal.returns

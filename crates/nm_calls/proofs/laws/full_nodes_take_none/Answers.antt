@@ -1,4 +1,4 @@
-use Rattle.nm_calls.proofs.Full.{full_node_takes_none, left_would_move, moves_elsewhere, runs_go_by_length, next_pass_takes_none}
+use Rattle.nm_calls.proofs.NodesOffline.FullNodes.{full_node_takes_none, left_would_move, moves_elsewhere, runs_go_by_length, next_pass_takes_none}
 use Rattle.nm_calls.proofs.laws.full_nodes_take_none.Goals as goal
 
 pub returns-clause-full : goal.returns-clause-full

@@ -1,5 +1,5 @@
-use Rattle.nm_calls.proofs.Differ.{each_page_is_listed_once}
-use Rattle.nm_calls.proofs.Lists.{runs_go_online}
+use Rattle.nm_calls.proofs.PageLists.NoneTwice.{each_page_is_listed_once}
+use Rattle.nm_calls.proofs.PageLists.Pairs.{runs_go_online}
 use Rattle.nm_calls.proofs.laws.migrations_are_lists.Goals as goal
 
 pub returns-clause-once : goal.returns-clause-once

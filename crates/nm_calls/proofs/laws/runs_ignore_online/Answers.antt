@@ -1,4 +1,4 @@
-use Rattle.nm_calls.proofs.Unasked.{runs_ignore_online}
+use Rattle.nm_calls.proofs.NodesOffline.AnyNodesOnline.{runs_ignore_online}
 use Rattle.nm_calls.proofs.laws.runs_ignore_online.Goals as goal
 
 pub returns : goal.returns

@@ -4,7 +4,7 @@ use Rattle.std.specs.Ordering.{nat_cmp, ord_max}
 use Rattle.nm_types.specs.Layout.{node_count}
 use Rattle.nm_types.specs.Map.{get, page_cmp}
 use Rattle.nm_types.specs.declared.located.Located.{Located}
-use Rattle.nm_calls.proofs.Tallies.{Counted, none_counted, one_counted}
+use Rattle.nm_calls.proofs.Lines.Tallies.{Counted, none_counted, one_counted}
 use Rattle.nm_calls.proofs.maps.tally_of.Goals as goal
 
 pub loop-page-init : goal.loop-page-init

@@ -1,5 +1,5 @@
 use Rattle.std.proofs.Common.{drop}
-use Rattle.nm_calls.proofs.Tallies.{Counted}
+use Rattle.nm_calls.proofs.Lines.Tallies.{Counted}
 use Rattle.nm_calls.proofs.maps.tally_of.Given as goal
 
 abbrev pub invariant-loop-page : goal.invariant-loop-page

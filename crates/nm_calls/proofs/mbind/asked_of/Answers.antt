@@ -2,8 +2,8 @@ use Rattle.std.proofs.Common.{◌<◌, sym, subst, ◌∙◌}
 use Rattle.std.specs.List.{AllByRecursion}
 use Rattle.nm_types.specs.Layout.{node_count}
 use Rattle.nm_calls.specs.views.Runs.{nodes_named}
-use Rattle.nm_calls.proofs.Reach.{usable_nodes}
-use Rattle.nm_calls.proofs.Nodes.{named_of, good_names}
+use Rattle.nm_calls.proofs.Policies.NamedNodes.{usable_nodes}
+use Rattle.nm_calls.proofs.Policies.Nodes.{named_of, good_names}
 use Rattle.nm_calls.proofs.mbind.asked_of.Goals as goal
 
 pub returns-clause-nodes : goal.returns-clause-nodes

@@ -1,6 +1,6 @@
 use Rattle.std.proofs.Common.{◌≤◌, ◌^◌, sym, subst}
 use Rattle.std.specs.Prelude.{◌-◌}
-use Rattle.nm_calls.proofs.Bound.{pages_few}
+use Rattle.nm_calls.proofs.Policies.Results.{pages_few}
 use Rattle.nm_calls.proofs.mbind.ready.Goals as goal
 
 pub returns-clause-few : goal.returns-clause-few

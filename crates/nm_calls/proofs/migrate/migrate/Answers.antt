@@ -6,9 +6,9 @@ use Rattle.nm_runs.specs.Stretches.{stretches_of}
 use Rattle.nm_model.specs.definitions.Cut.{cut_within}
 use Rattle.nm_calls.specs.definitions.Migrate.{migrate_list}
 use Rattle.nm_steps.specs.Views.{shown_during}
-use Rattle.nm_calls.proofs.Made.{none_moved, moved_same}
-use Rattle.nm_calls.proofs.Requests.{run_targets, run_entries, run_kinds}
-use Rattle.nm_calls.proofs.Lists.{asked_targets, asked_alike}
+use Rattle.nm_calls.proofs.Batches.Results.{none_moved, moved_same}
+use Rattle.nm_calls.proofs.Batches.Requests.{run_targets, run_entries, run_kinds}
+use Rattle.nm_calls.proofs.PageLists.Pairs.{asked_targets, asked_alike}
 use Rattle.nm_calls.proofs.migrate.migrate.Goals as goal
 
 pub move_runs-requires-clause-targets : goal.move_runs-requires-clause-targets

@@ -1,7 +1,7 @@
 use Rattle.std.proofs.Common.{◌≡◌, ◌-◌, length, take, drop, refl, sym, ap, subst, ◌∙◌, arith, take_all, length-drop}
 use Rattle.std.specs.Str.{IsUtf8}
 use Rattle.nm_calls.specs.definitions.Maps.{address_text}
-use Rattle.nm_calls.proofs.Texts.{filled_is, address_utf8}
+use Rattle.nm_calls.proofs.Lines.Addresses.{filled_is, address_utf8}
 use Rattle.nm_calls.proofs.number_text.write_address.Goals as goal
 
 pub unreachable-requires : goal.unreachable-requires

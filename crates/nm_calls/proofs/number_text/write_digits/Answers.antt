@@ -1,5 +1,5 @@
 use Rattle.std.proofs.Common.{◌≡◌, ◌+◌, ◌-◌, drop, length-set, refl, ◌∙◌, arith}
-use Rattle.nm_calls.proofs.Texts.{all_spelled, one_fewer, some_places, digit_put, first_put, front_kept}
+use Rattle.nm_calls.proofs.Lines.Addresses.{all_spelled, one_fewer, some_places, digit_put, first_put, front_kept}
 use Rattle.nm_calls.proofs.number_text.write_digits.Goals as goal
 
 pub loop-rest-init : goal.loop-rest-init

@@ -1,6 +1,6 @@
 use Rattle.std.proofs.Common.{◌≡◌, ◌≤◌, ◌<◌, ◌+◌, ◌^◌, ◌++◌, length, drop, take, false}
 use Rattle.std.specs.Fmt.{digits}
-use Rattle.nm_calls.proofs.Texts.{spelled}
+use Rattle.nm_calls.proofs.Lines.Addresses.{spelled}
 use Rattle.nm_calls.proofs.number_text.write_digits.Given as goal
 
 abbrev pub invariant-loop-rest : goal.invariant-loop-rest

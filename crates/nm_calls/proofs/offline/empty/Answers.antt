@@ -11,9 +11,9 @@ use Rattle.nm_types.specs.declared.request.Wanted.TheVariants.{Whole}
 use Rattle.nm_model.specs.definitions.Effect.{set_online}
 use Rattle.nm_model.specs.definitions.Run.{runs_from}
 use Rattle.nm_calls.specs.definitions.Offline.{refuges, offline_runs}
-use Rattle.nm_calls.proofs.Emptied.{wholes_alike}
-use Rattle.nm_calls.proofs.Made.{none_emptied, keeps_stopped, still_found}
-use Rattle.nm_calls.proofs.Passing.{runs_layout}
+use Rattle.nm_calls.proofs.NodesOffline.Results.{wholes_alike}
+use Rattle.nm_calls.proofs.Batches.Results.{none_emptied, keeps_stopped, still_found}
+use Rattle.nm_calls.proofs.NodesOffline.Passes.{runs_layout}
 use Rattle.nm_calls.proofs.offline.empty.Goals as goal
 
 -- the passes over the nodes and pages that were listed are the runs of the call

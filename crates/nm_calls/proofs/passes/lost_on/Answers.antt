@@ -1,6 +1,6 @@
 use Rattle.std.proofs.Common.{sym, subst, ◌∙◌, arith}
 use Rattle.nm_calls.specs.laws.Full.{AreStanding}
-use Rattle.nm_calls.proofs.Standing.{all_would_move, standing_if, none_free}
+use Rattle.nm_calls.proofs.NodesOffline.PagesLeft.{all_would_move, standing_if, none_free}
 use Rattle.nm_calls.proofs.passes.lost_on.Goals.{in-Some, in-None}
 use Rattle.nm_calls.proofs.passes.lost_on.Goals as goal
 

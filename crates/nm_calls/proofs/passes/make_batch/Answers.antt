@@ -4,9 +4,9 @@ use Rattle.nm_types.specs.Layout.{node_count}
 use Rattle.nm_model.specs.definitions.Cut.{Stretch}
 use Rattle.nm_runs.specs.Stretches.{stretches_of}
 use Rattle.nm_steps.specs.Views.{shown_during}
-use Rattle.nm_calls.proofs.Made.{none_batched, batch_stopped, moved_batch, on_err}
-use Rattle.nm_calls.proofs.Requests.{run_targets, run_entries, runs_like}
-use Rattle.nm_calls.proofs.Passing.{few_runs}
+use Rattle.nm_calls.proofs.Batches.Results.{none_batched, batch_stopped, moved_batch, on_err}
+use Rattle.nm_calls.proofs.Batches.Requests.{run_targets, run_entries, runs_like}
+use Rattle.nm_calls.proofs.NodesOffline.Passes.{few_runs}
 use Rattle.nm_calls.proofs.passes.make_batch.Goals as goal
 
 pub move_runs-requires-clause-targets : goal.move_runs-requires-clause-targets

@@ -6,8 +6,8 @@ use Rattle.nm_model.specs.definitions.Cut.{cut_within}
 use Rattle.nm_model.specs.definitions.Run.{HasOneAll, Ran}
 use Rattle.nm_model.specs.definitions.Run.{runs_from}
 use Rattle.nm_calls.specs.definitions.Passes.{without_frame}
-use Rattle.nm_calls.proofs.Made.{none_batched, batch_told}
-use Rattle.nm_calls.proofs.Passing.{to_node_below, to_node_wanted, to_node_length, batch_statuses}
+use Rattle.nm_calls.proofs.Batches.Results.{none_batched, batch_told}
+use Rattle.nm_calls.proofs.NodesOffline.Passes.{to_node_below, to_node_wanted, to_node_length, batch_statuses}
 use Rattle.nm_calls.proofs.passes.make_pass.Goals as goal
 
 pub make_batch-requires-clause-targets : goal.make_batch-requires-clause-targets

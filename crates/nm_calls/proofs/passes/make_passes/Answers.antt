@@ -5,7 +5,7 @@ use Rattle.nm_model.specs.definitions.Cut.{cut_within}
 use Rattle.nm_model.specs.definitions.Run.{runs_from}
 use Rattle.nm_calls.specs.definitions.Passes.{passes, without_frame}
 use Rattle.nm_model.specs.definitions.Run.{HasOneAll}
-use Rattle.nm_calls.proofs.Passing.{HavePassed, more_passed, all_passed, passes_none, passes_at, few_runs, some_run_of, to_node_length, counted_later, stopped_later, alike_left, fewer_left, runs_layout, nothing_is, something_is}
+use Rattle.nm_calls.proofs.NodesOffline.Passes.{HavePassed, more_passed, all_passed, passes_none, passes_at, few_runs, some_run_of, to_node_length, counted_later, stopped_later, alike_left, fewer_left, runs_layout, nothing_is, something_is}
 use Rattle.nm_calls.proofs.passes.make_passes.Goals as goal
 
 pub returns-then-is_empty-clause-runs : goal.returns-then-is_empty-clause-runs

@@ -3,7 +3,7 @@ use Rattle.nm_types.specs.Layout.{node_count}
 use Rattle.nm_calls.specs.definitions.Passes.{passes}
 use Rattle.nm_calls.specs.views.Runs.{IsLeft}
 use Rattle.nm_model.specs.definitions.Run.{HasOneAll}
-use Rattle.nm_calls.proofs.Passing.{HavePassed}
+use Rattle.nm_calls.proofs.NodesOffline.Passes.{HavePassed}
 use Rattle.nm_calls.proofs.passes.make_passes.Given as goal
 
 abbrev pub invariant-loop-node : goal.invariant-loop-node

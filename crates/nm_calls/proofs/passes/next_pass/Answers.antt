@@ -3,8 +3,8 @@ use Rattle.std.specs.List.{AllByRecursion}
 use Rattle.nm_model.specs.definitions.Run.{with_counts}
 use Rattle.nm_calls.specs.definitions.Passes.{without_frame}
 use Rattle.nm_calls.specs.laws.Full.{AreStanding, WouldMove, pass, rounded_up}
-use Rattle.nm_calls.proofs.Full.{full_node_takes_none, left_would_move, runs_go_by_length}
-use Rattle.nm_calls.proofs.Standing.{standing_counted, move_counted}
+use Rattle.nm_calls.proofs.NodesOffline.FullNodes.{full_node_takes_none, left_would_move, runs_go_by_length}
+use Rattle.nm_calls.proofs.NodesOffline.PagesLeft.{standing_counted, move_counted}
 use Rattle.nm_calls.proofs.passes.next_pass.Goals as goal
 
 pub returns-in-Some-clause-runs : goal.returns-in-Some-clause-runs

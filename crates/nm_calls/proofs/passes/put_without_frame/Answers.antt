@@ -1,7 +1,7 @@
 use Rattle.std.proofs.Common.{pos, ◌≤◌, ◌++◌, ◌∷◌, [], cond, length, take, sym, ap, subst, ◌∙◌, arith, vec_capacity, length-append}
 use Rattle.std.proofs.lemmas.List.{append-nil}
 use Rattle.nm_calls.specs.definitions.Passes.{without_frame}
-use Rattle.nm_calls.proofs.Passing.{one_more_left}
+use Rattle.nm_calls.proofs.NodesOffline.Passes.{one_more_left}
 use Rattle.nm_calls.proofs.passes.put_without_frame.Goals.{then-is_short, else-is_short}
 use Rattle.nm_calls.proofs.passes.put_without_frame.Goals as goal
 

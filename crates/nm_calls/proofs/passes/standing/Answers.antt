@@ -2,7 +2,7 @@ use Rattle.std.proofs.Common.{◌+◌, take, sym, subst, ◌∙◌, arith}
 use Rattle.std.proofs.lemmas.List.{take_all}
 use Rattle.nm_types.proofs.Cases.{some_is}
 use Rattle.nm_calls.specs.laws.Full.{StandAmong, EachHasSome}
-use Rattle.nm_calls.proofs.Standing.{stands_there, some_there, stands_nowhere, past_all, none_is}
+use Rattle.nm_calls.proofs.NodesOffline.PagesLeft.{stands_there, some_there, stands_nowhere, past_all, none_is}
 use Rattle.nm_calls.proofs.passes.standing.Goals.{in-Some+then-index-lt64, in-Some+else-index-lt64, in_default}
 use Rattle.nm_calls.proofs.passes.standing.Goals as goal
 

@@ -1,6 +1,6 @@
 use Rattle.std.proofs.Common.{◌≤◌, length, sym, subst, arith}
 use Rattle.nm_laws.proofs.Soundness.Online.{set_is_few}
-use Rattle.nm_calls.proofs.Nodes.{tried_few}
+use Rattle.nm_calls.proofs.Policies.Nodes.{tried_few}
 use Rattle.nm_calls.proofs.placement.by_distance.Goals as goal
 
 pub prove-unreachable-requires : goal.prove-unreachable-requires

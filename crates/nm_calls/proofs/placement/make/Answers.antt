@@ -2,7 +2,7 @@ use Rattle.std.proofs.Common.{◌<◌, true, [], length, ap, sym, subst, ◌∙�
 use Rattle.nm_model.specs.definitions.Cut.{cut_within}
 use Rattle.std.proofs.lemmas.List.{append-nil}
 use Rattle.nm_calls.specs.views.Runs.{Stops, runs_in}
-use Rattle.nm_calls.proofs.Passing.{HavePassed, none_passed, some_run_of, stopped_later, something_is}
+use Rattle.nm_calls.proofs.NodesOffline.Passes.{HavePassed, none_passed, some_run_of, stopped_later, something_is}
 use Rattle.nm_calls.proofs.placement.make.Goals as goal
 
 pub returns : goal.returns

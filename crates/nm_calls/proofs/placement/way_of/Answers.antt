@@ -9,7 +9,7 @@ use Rattle.nm_model.specs.definitions.Run.{HasOneAll}
 use Rattle.nm_calls.specs.definitions.Passes.{passes}
 use Rattle.nm_calls.specs.definitions.Mbind.{nodes_tried, strays_of}
 use Rattle.nm_calls.specs.views.Runs.{nodes_named}
-use Rattle.nm_calls.proofs.Sending.{turns_go, turns_alike, tried_all, spots_alike, spots_length, passes_by}
+use Rattle.nm_calls.proofs.Policies.Moves.{turns_go, turns_alike, tried_all, spots_alike, spots_length, passes_by}
 use Rattle.nm_calls.proofs.placement.way_of.Goals as goal
 
 pub returns-in-Interleave-clause-can_go : goal.returns-in-Interleave-clause-can_go

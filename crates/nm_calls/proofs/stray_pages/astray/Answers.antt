@@ -3,7 +3,7 @@ use Rattle.std.specs.Prelude.{not}
 use Rattle.std.specs.List.{filter}
 use Rattle.nm_model.specs.definitions.Order.{follows}
 use Rattle.nm_types.specs.declared.located.Located.{Located}
-use Rattle.nm_calls.proofs.Straying.{pages_once, if_listed, few_pass}
+use Rattle.nm_calls.proofs.Policies.StrayPages.{pages_once, if_listed, few_pass}
 use Rattle.nm_calls.proofs.stray_pages.astray.Goals as goal
 
 pub returns-clause-list : goal.returns-clause-list

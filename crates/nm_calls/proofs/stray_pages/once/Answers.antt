@@ -1,6 +1,6 @@
 use Rattle.std.proofs.Common.{◌≡◌, suc, ◌+◌, List, [], ◌∷◌, length, drop, drop-cons, ap, sym, subst, ◌∙◌, arith, length-append}
 use Rattle.nm_types.specs.declared.located.Located.{Located}
-use Rattle.nm_calls.proofs.Straying.{HaveListed, one_listed, one_again, not_true, not_false}
+use Rattle.nm_calls.proofs.Policies.StrayPages.{HaveListed, one_listed, one_again, not_true, not_false}
 use Rattle.nm_calls.proofs.stray_pages.once.Goals as goal
 use Rattle.nm_calls.proofs.stray_pages.once.Goals.{then-branch+in_ok-push, else-branch}
 

@@ -1,5 +1,5 @@
 use Rattle.std.proofs.Common.{◌≤◌, drop, length}
-use Rattle.nm_calls.proofs.Straying.{HaveListed}
+use Rattle.nm_calls.proofs.Policies.StrayPages.{HaveListed}
 use Rattle.nm_calls.proofs.stray_pages.once.Given as goal
 
 abbrev pub invariant-loop-page : goal.invariant-loop-page

@@ -9,8 +9,8 @@ use Rattle.nm_calls.specs.definitions.Does.{Does}
 use Rattle.nm_calls.specs.views.Runs.{Binds}
 use Rattle.nm_calls.specs.definitions.Mbind.{mbind_refusal}
 use Rattle.nm_calls.specs.definitions.Outcome.{outcome}
-use Rattle.nm_calls.proofs.Bound.{binds_does, refuses_mbind}
-use Rattle.nm_calls.proofs.NoBytes.{nothing_bound}
+use Rattle.nm_calls.proofs.Policies.Results.{binds_does, refuses_mbind}
+use Rattle.nm_calls.proofs.Policies.NoBytes.{nothing_bound}
 use Rattle.nm_calls.proofs.system.System.mbind.Goals as goal
 
 pub returns-clause-done : goal.returns-clause-done

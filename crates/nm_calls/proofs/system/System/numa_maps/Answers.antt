@@ -1,5 +1,5 @@
 use Rattle.std.proofs.Common.{◌∙◌}
-use Rattle.nm_calls.proofs.Tallies.{lines_end}
+use Rattle.nm_calls.proofs.Lines.Tallies.{lines_end}
 use Rattle.nm_calls.proofs.system.System.numa_maps.Goals as goal
 
 pub areas_text-requires-after_bounds : goal.areas_text-requires-after_bounds

@@ -4,7 +4,7 @@ use Rattle.nm_calls.specs.definitions.Answers.{Done}
 use Rattle.nm_calls.specs.definitions.Systems.{SystemState, in_state}
 use Rattle.nm_calls.specs.definitions.Outcome.{outcome}
 use Rattle.nm_calls.specs.definitions.Does.{Does}
-use Rattle.nm_calls.proofs.Emptied.{empties_does, stays_offline}
+use Rattle.nm_calls.proofs.NodesOffline.Results.{empties_does, stays_offline}
 use Rattle.nm_calls.proofs.system.System.offline.Goals as goal
 
 pub returns-then-not-is_online : goal.returns-then-not-is_online

@@ -23,8 +23,8 @@ use Rattle.nm_calls.specs.definitions.Permission.{usable}
 use Rattle.nm_steps.specs.Calls.{MigratePages}
 use Rattle.nm_calls.specs.definitions.Outcome.{refused, runs_asked}
 use Rattle.nm_calls.specs.laws.Migrations.{RunsGoToNodesOnline}
-use Rattle.nm_calls.proofs.Requests.{cut_targets}
-use Rattle.nm_calls.proofs.Reach.{usable_online}
+use Rattle.nm_calls.proofs.Batches.Requests.{cut_targets}
+use Rattle.nm_calls.proofs.Policies.NamedNodes.{usable_online}
 use Rattle.nm_calls.proofs.Trails.{runs_unless}
 use Rattle.nm_calls.specs.definitions.Migrate.{pages_on, migrate_list, migrated_by, migration}
 

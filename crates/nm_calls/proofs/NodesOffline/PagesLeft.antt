@@ -27,8 +27,8 @@ use Rattle.nm_model.specs.definitions.Status.{node_or_error, node_status}
 use Rattle.nm_model.specs.definitions.Touch.{has_free}
 use Rattle.nm_model.specs.definitions.Run.{with_counts}
 use Rattle.nm_calls.specs.laws.Full.{StandsOn, StandAmong, EachHasSome, AreStanding, HasFailed, WouldMove}
-use Rattle.nm_calls.proofs.Full.{class_counted, all_elsewhere_move}
-use Rattle.nm_calls.proofs.Passing.{nothing_is}
+use Rattle.nm_calls.proofs.NodesOffline.FullNodes.{class_counted, all_elsewhere_move}
+use Rattle.nm_calls.proofs.NodesOffline.Passes.{nothing_is}
 
 -- a page has the status of its target where its frame is there
 stands_by_tests : (target : ℕ) (p : Page) (frame node : ℕ) (here kept pinned : Bool) → (node == target) ≡ here

@@ -21,8 +21,8 @@ use Rattle.nm_calls.specs.definitions.Mbind.{binding, each_to, has_stray, home_o
 use Rattle.nm_calls.specs.definitions.Migrate.{once}
 use Rattle.nm_calls.specs.definitions.Permission.{info_at, moves_all}
 use Rattle.nm_calls.specs.definitions.Systems.{SystemState}
-use Rattle.nm_calls.proofs.Bound.{binds_does}
-use Rattle.nm_calls.proofs.Passing.{passes_none}
+use Rattle.nm_calls.proofs.Policies.Results.{binds_does}
+use Rattle.nm_calls.proofs.NodesOffline.Passes.{passes_none}
 
 -- a range that ends where it begins has no page number
 none_between : {V : Type 0} (first end : ℕ) (m : Map ℕ V) → end ≤ first → between first end m ≡ []

@@ -19,7 +19,7 @@ use Rattle.nm_calls.specs.definitions.Does.{Does}
 use Rattle.nm_calls.specs.views.Runs.{Stops, Binds}
 use Rattle.nm_calls.proofs.Trails.{states_are, runs_unless, state_unless}
 use Rattle.nm_calls.proofs.Outcomes.{LeavesSome, answers, refuses}
-use Rattle.nm_calls.proofs.Refusals.{late_answer}
+use Rattle.nm_calls.proofs.CallLaws.RefusalsChangeNothing.{late_answer}
 
 -- a length of 64 bits has at most 2^52 pages
 pub pages_few : (first len : ℕ) → len < 2 ^ 64 → first + pages_of len - first ≤ 2 ^ 52

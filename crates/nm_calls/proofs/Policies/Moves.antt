@@ -19,7 +19,7 @@ use Rattle.nm_model.specs.definitions.Run.{IsByAddress, HasOneAll}
 use Rattle.nm_calls.specs.definitions.Passes.{passes}
 use Rattle.nm_calls.specs.definitions.Mbind.{requests_at, each_to, nodes_tried, runs_by}
 use Rattle.nm_calls.specs.views.Runs.{nodes_named}
-use Rattle.nm_calls.proofs.Lists.{of_member}
+use Rattle.nm_calls.proofs.PageLists.Pairs.{of_member}
 
 module _ (P : ℕ → Type 0) where
   sent_there : (all : List Sent) (node : ℕ) → P node → AllByRecursion (λ t. P t.to) (sent_to all node)

@@ -16,7 +16,7 @@ use Rattle.nm_model.specs.definitions.Seen.{sights}
 use Rattle.nm_calls.specs.definitions.Migrate.{pages_in}
 use Rattle.nm_calls.specs.definitions.Migrate.{pages_seen, is_on, pages_on}
 use Rattle.nm_calls.specs.laws.Migrations.{EachPageIsListedOnce}
-use Rattle.nm_calls.proofs.Firsts.{once_valued}
+use Rattle.nm_calls.proofs.PageLists.FirstPages.{once_valued}
 
 -- two page numbers with different pages
 abbrev Differs : ℕ × Page → ℕ × Page → Type 0

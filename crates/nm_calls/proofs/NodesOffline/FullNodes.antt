@@ -28,7 +28,7 @@ use Rattle.nm_model.specs.definitions.Run.{runs_from}
 use Rattle.nm_laws.proofs.InFlight.Elsewhere.{IsElsewhere, status_elsewhere}
 use Rattle.nm_calls.specs.definitions.Passes.{without_frame}
 use Rattle.nm_calls.specs.laws.Full.{StandsOn, WouldMove, pass, rounded_up, FullNodeTakesNone, LeftWouldMove, MovesElsewhere, RunsGoByLength, NextPassTakesNone}
-use Rattle.nm_calls.proofs.Lengths.{each_layout, run_length}
+use Rattle.nm_calls.proofs.Batches.StatusCounts.{each_layout, run_length}
 
 -- the status of a page that does not move is not that of one without a frame
 abbrev IsOther : Class → Type 0

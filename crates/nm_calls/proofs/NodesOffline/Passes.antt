@@ -21,7 +21,7 @@ use Rattle.nm_calls.specs.definitions.Passes.{passes, without_frame}
 use Rattle.nm_calls.specs.declared.call_error.CallError.{CallError}
 use Rattle.nm_calls.specs.declared.call_error.CallError.TheVariants.{Refused, HostMemory}
 use Rattle.nm_calls.specs.views.Runs.{Batches, Stops, IsCounted, later}
-use Rattle.nm_calls.proofs.Lengths.{run_layout, run_length}
+use Rattle.nm_calls.proofs.Batches.StatusCounts.{run_layout, run_length}
 use Rattle.nm_calls.proofs.Trails.{states_are}
 
 -- the state after runs, whatever their numbers

@@ -1,0 +1,5 @@
+pub mod ConsecutiveNodes
+pub mod Progress
+pub mod Requests
+pub mod Results
+pub mod StatusCounts

@@ -1,0 +1,3 @@
+pub mod BytesStay
+pub mod RefusalsChangeNothing
+pub mod StaysSound

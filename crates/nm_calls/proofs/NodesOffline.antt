@@ -1,0 +1,5 @@
+pub mod AnyNodesOnline
+pub mod FullNodes
+pub mod PagesLeft
+pub mod Passes
+pub mod Results

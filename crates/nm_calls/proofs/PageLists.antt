@@ -1,0 +1,5 @@
+pub mod FirstPages
+pub mod NoneTwice
+pub mod Pairs
+pub mod RequestsDiffer
+pub mod SeenPages
