@@ -53,9 +53,10 @@ fn push_stretch<A: Allocator>(
     push_number(line, "-", u64::from(last.number()))
 }
 
-/// Appends a set of nodes.
+/// Appends a set of nodes. An empty set takes no memory.
 fn push_set<A: Allocator>(line: &mut String<A>, nodes: NodeMask) -> Result<(), AllocError>
-    ensures { OnOk result (string_bytes line.new ≡ string_bytes line.old ++ set_text nodes) }
+    ensures text { OnOk result (string_bytes line.new ≡ string_bytes line.old ++ set_text nodes) }
+    ensures asked { OnErr result (0 < length nodes) }
 {
     let mut rest = nodes;
     let mut behind = false;
@@ -156,9 +157,11 @@ fn count_pages<A: Allocator + Copy + Send + Sync>(
     Ok(tally_of(machine, pages.as_slice()))
 }
 
-/// Appends how many pages are on a node, if any are.
+/// Appends how many pages are on a node, if any are. Allocates only then.
 fn push_node<A: Allocator>(line: &mut String<A>, node: usize, pages: u64) -> Result<(), AllocError>
-    ensures { OnOk result (string_bytes line.new ≡ string_bytes line.old ++ told_on node pages) }
+    ensures text { OnOk result
+        (string_bytes line.new ≡ string_bytes line.old ++ told_on node pages) }
+    ensures asked { OnErr result (0 < pages) }
 {
     if pages == 0 {
         return Ok(());
@@ -167,14 +170,16 @@ fn push_node<A: Allocator>(line: &mut String<A>, node: usize, pages: u64) -> Res
     push_number(line, "=", pages)
 }
 
-/// Appends how many pages are on each node that has any.
+/// Appends how many pages are on each node that has any. No nodes take no memory.
 fn push_nodes<A: Allocator>(
     line: &mut String<A>,
     on: &[u64; 64],
     count: usize,
 ) -> Result<(), AllocError>
     requires { count ≤ 64 }
-    ensures { OnOk result (string_bytes line.new ≡ string_bytes line.old ++ nodes_text on.now count) }
+    ensures text { OnOk result
+        (string_bytes line.new ≡ string_bytes line.old ++ nodes_text on.now count) }
+    ensures asked { OnErr result (0 < count) }
 {
     for node in 0..count {
         push_node(line, node, on[node])?;
@@ -182,15 +187,16 @@ fn push_nodes<A: Allocator>(
     Ok(())
 }
 
-/// Appends the counts, if there are pages.
+/// Appends the counts, if there are pages. Allocates only then.
 fn push_tally<A: Allocator>(
     line: &mut String<A>,
     tally: &Tally,
     nodes: usize,
 ) -> Result<(), AllocError>
     requires { nodes ≤ 64 }
-    ensures { OnOk result
+    ensures text { OnOk result
         (string_bytes line.new ≡ string_bytes line.old ++ tally_text tally.now nodes) }
+    ensures asked { OnErr result (0 < tally.now.pages) }
 {
     if tally.pages == 0 {
         return Ok(());

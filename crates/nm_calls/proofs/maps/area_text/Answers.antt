@@ -13,7 +13,7 @@ returns g c =
     let count = c.node_count.ensures.count in
     let told = ap (tally_text c.in_ok-tally.tally) count
     ∙ tally_tells s (pages_of s c.args.pid a) c.in_ok-tally.tally c.in_ok-tally.ensures.pages c.in_ok-tally.ensures.most c.in_ok-tally.ensures.on (omega (arith, few, count)) in
-    c.in_ok-push_tally.ensures
+    c.in_ok-push_tally.ensures.text
     ∙ ap (λ t. t ++ tally_text c.in_ok-tally.tally c.node_count.result) c.in_ok-push_policy.ensures
     ∙ ap (λ t. t ++ policy_text a.policy ++ tally_text c.in_ok-tally.tally c.node_count.result) c.in_ok-push_str.ensures.bytes
     ∙ ap (λ t. t ++ codes " " ++ policy_text a.policy ++ tally_text c.in_ok-tally.tally c.node_count.result) c.in_ok-push_address.ensures

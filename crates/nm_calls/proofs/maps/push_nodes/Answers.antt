@@ -6,7 +6,7 @@ use Rattle.nm_calls.proofs.maps.push_nodes.Goals as goal
 pub loop-node-preserved : goal.loop-node-preserved
 loop-node-preserved g c =
     let told = told_on c.loop-node.node (slice_index_or c.args.on.now c.loop-node.node 0) in
-    c.in_ok-push_node.ensures
+    c.in_ok-push_node.ensures.text
     ∙ ap (λ t. t ++ told) c.loop-node.invariant
     ∙ append_assoc (string_bytes c.args.line.now) (nodes_text c.args.on.now c.loop-node.node) told
     ∙ ap (λ t. string_bytes c.args.line.now ++ t) (sym (flat_map_up (λ node. told_on node (slice_index_or c.args.on.now node 0)) c.loop-node.node))

@@ -4,4 +4,7 @@ use Rattle.nm_calls.proofs.Batches.ConsecutiveNodes.{joined_by_commas}
 use Rattle.nm_calls.proofs.maps.push_set.Goals as goal
 
 pub loop-first-init : goal.loop-first-init
-loop-first-init g c = ap (λ t. string_bytes c.args.line.now ++ t) (sym (joined_by_commas (map stretch_text (stretches c.args.nodes))))
+loop-first-init g c = record {
+  some = λ some. some;
+  text = ap (λ t. string_bytes c.args.line.now ++ t) (sym (joined_by_commas (map stretch_text (stretches c.args.nodes))));
+}
