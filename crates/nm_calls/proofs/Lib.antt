@@ -1,6 +1,6 @@
+pub mod Accesses
 pub mod Batches
 pub mod CallLaws
-pub mod InFlight
 pub mod Lines
 pub mod NodesOffline
 pub mod Outcomes

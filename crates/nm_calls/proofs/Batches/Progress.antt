@@ -12,7 +12,7 @@ use Rattle.nm_runs.specs.Stretches.{stretches_of}
 use Rattle.nm_model.specs.definitions.Touch.{Access, AccessAnswer}
 use Rattle.nm_model.specs.definitions.Run.{run}
 use Rattle.nm_model.specs.definitions.Run.{accesses_of, runs_from}
-use Rattle.nm_calls.proofs.InFlight.Loops.{append_none}
+use Rattle.nm_calls.proofs.Accesses.Loops.{append_none}
 
 -- k runs of a batch are made, each with its accesses, and these are left
 pub record HaveRun (start : State) (all left : List Stretch) (during : List (ℕ × Access)) (k : ℕ) (s : State) (statuses : List ℤ) (answers : List (List AccessAnswer)) : Type 0 where

@@ -8,7 +8,7 @@ use Rattle.nm_model.specs.definitions.Run.{accesses_of}
 use Rattle.nm_laws.proofs.Lists.{drop_item}
 use Rattle.nm_steps.specs.Views.{shown_during}
 use Rattle.nm_calls.specs.definitions.Batch.{list_at}
-use Rattle.nm_calls.proofs.InFlight.Loops.{one_more_asked, none_asked, list_there, list_after, empty_more, append_none}
+use Rattle.nm_calls.proofs.Accesses.Loops.{one_more_asked, none_asked, list_there, list_after, empty_more, append_none}
 use Rattle.nm_calls.proofs.batch.by_run.Goals as goal
 use Rattle.nm_calls.proofs.batch.by_run.Goals.{in-Some+in_ok-copy_of+in_ok-push-2, in_default}
 

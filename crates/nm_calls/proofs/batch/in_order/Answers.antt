@@ -6,7 +6,7 @@ use Rattle.nm_laws.proofs.Lists.{drop_item}
 use Rattle.nm_steps.specs.Views.{shown_during}
 use Rattle.std.specs.Map.{keys_of}
 use Rattle.nm_calls.specs.definitions.Batch.{in_order, left_shown}
-use Rattle.nm_calls.proofs.InFlight.Loops.{unmade_told, none_told, one_told, list_there, list_after}
+use Rattle.nm_calls.proofs.Accesses.Loops.{unmade_told, none_told, one_told, list_there, list_after}
 use Rattle.nm_calls.proofs.batch.in_order.Goals as goal
 use Rattle.nm_calls.proofs.batch.in_order.Goals.{in-Some+in-Some-next, in-Some+in_default-next, in_default}
 

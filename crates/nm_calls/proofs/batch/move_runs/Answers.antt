@@ -10,7 +10,7 @@ use Rattle.nm_steps.specs.Views.{shown_during}
 use Rattle.std.specs.Map.{keys_of}
 use Rattle.nm_calls.specs.definitions.Batch.{in_order, left_shown}
 use Rattle.nm_calls.proofs.Batches.StatusCounts.{run_length, run_layout}
-use Rattle.nm_calls.proofs.InFlight.Loops.{list_there}
+use Rattle.nm_calls.proofs.Accesses.Loops.{list_there}
 use Rattle.nm_calls.proofs.Batches.Results.{none_moved}
 use Rattle.nm_calls.proofs.Trails.{states_are}
 use Rattle.nm_calls.proofs.Batches.Progress.{none_run, one_more_run, some_run, all_run, next_left, entries_left, not_last}

@@ -1,5 +1,5 @@
-use Rattle.nm_calls.proofs.InFlight.EachAnswered.{each_access_is_answered}
-use Rattle.nm_calls.proofs.InFlight.ByPlace.{answers_go_by_place}
+use Rattle.nm_calls.proofs.Accesses.EachAnswered.{each_access_is_answered}
+use Rattle.nm_calls.proofs.Accesses.ByPlace.{answers_go_by_place}
 use Rattle.nm_calls.proofs.laws.answers_go_by_place.Goals as goal
 
 pub returns-clause-place : goal.returns-clause-place

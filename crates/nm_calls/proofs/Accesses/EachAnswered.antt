@@ -19,8 +19,8 @@ use Rattle.nm_calls.specs.definitions.Batch.{list_at, in_order}
 use Rattle.nm_calls.specs.definitions.Systems.{SystemState}
 use Rattle.nm_calls.specs.definitions.Outcome.{refused, start, runs_asked, accesses_asked, ended, unless}
 use Rattle.nm_calls.specs.laws.Calls.{EachAccessIsAnswered}
-use Rattle.nm_calls.proofs.InFlight.Loops.{first_asked, differ}
-use Rattle.nm_calls.proofs.InFlight.ByPlace.{one_more, shorter}
+use Rattle.nm_calls.proofs.Accesses.Loops.{first_asked, differ}
+use Rattle.nm_calls.proofs.Accesses.ByPlace.{one_more, shorter}
 use Rattle.nm_calls.proofs.Trails.{runs_unless}
 
 all_length : (s : State) (moved : List Page) (accesses : List Access) → length (all_in_flight s moved accesses).answers ≡ length accesses
