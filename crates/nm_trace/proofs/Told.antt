@@ -9,7 +9,7 @@ use Rattle.nm_steps.specs.declared.trace_error.TraceError.{TraceError}
 use Rattle.nm_steps.specs.declared.trace_error.TraceError.TheVariants.{NotJson, BadMachine, BadStep, ReadFault, WriteFault, HostMemory}
 use Rattle.nm_steps.specs.Faults.{Fails}
 use Rattle.nm_trace.specs.Played.{Plays}
-use Rattle.nm_trace.specs.Telling.{ReadTold, TellsReads, is_of_writer, is_write_fault}
+use Rattle.nm_trace.specs.Telling.{TellsReads, is_write_fault}
 
 -- no fault of the bytes is a read fault
 pub fails_unread : {Y : Type 0} (e : TraceError) (found : Result Y TraceError) → Fails e found → e ≡ ReadFault → ⊥
@@ -31,7 +31,7 @@ reads_kept before now gave (Err WriteFault) kept unread = kept
 reads_kept before now gave (Err (HostMemory k)) kept unread = kept
 
 -- an error that is handed on says what it said
-pub reads_of_err : {X : Type 0} (before now : Bool) (gave : ℕ → Type 0) (e : TraceError) (result : Result X TraceError) → result ≡ Err e → ReadTold before now gave e → TellsReads before now gave result
+pub reads_of_err : {X : Type 0} (before now : Bool) (gave : ℕ → Type 0) (e : TraceError) (result : Result X TraceError) → result ≡ Err e → TellsReads {X = X} before now gave (Err e) → TellsReads before now gave result
 reads_of_err before now gave e result is h = subst (TellsReads before now gave) (sym is) h
 
 -- ---- a writer
@@ -50,8 +50,8 @@ some_taken n bytes before now some h =
 
 -- an error that is handed on is a write fault where it was one
 pub writes_of_err : {X Y : Type 0} (before now : Bool) (e : TraceError) (r : Result X TraceError) (s : Result Y TraceError) → r ≡ Err e → s ≡ Err e → now ≡ (is_write_fault r || before) → now ≡ (is_write_fault s || before)
-writes_of_err before now e r s is it h =
-    let told : now ≡ (is_of_writer e || before) = rw is at h in
+writes_of_err {X = X} before now e r s is it h =
+    let told : now ≡ (is_write_fault {X = X} (Err e) || before) = rw is at h in
     rw it told
 
 -- an error of reading is none

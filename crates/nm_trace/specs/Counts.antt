@@ -1,5 +1,5 @@
 -- How reads and writes are counted.
-use Rattle.std.proofs.Common.{◌≡◌, ℕ, ◌+◌, ◌-◌, ◌^◌, min, arith}
+use Rattle.std.proofs.Common.{◌≡◌, ℕ, ◌+◌, arith}
 use Rattle.std.specs.Prelude.{◌&&◌, ◌==◌, Bool, true, not, List, length, Result, Ok, Err}
 use Rattle.std.specs.Io.Iter.{u64_saturate}
 

@@ -14,15 +14,7 @@ abbrev pub TellsReads : {X : Type 0} → Bool → Bool → (ℕ → Type 0) → 
 TellsReads before now gave (Err ReadFault) = HasReadCause now gave
 TellsReads before now gave result = now ≡ before
 
--- what a fault says about the reader
-abbrev pub ReadTold : Bool → Bool → (ℕ → Type 0) → TraceError → Type 0
-ReadTold before now gave e = TellsReads {X = Unit {0}} before now gave (Err e)
-
 -- whether a result is a write fault
 abbrev pub is_write_fault : {X : Type 0} → Result X TraceError → Bool
 is_write_fault (Err WriteFault) = true
 is_write_fault result = false
-
--- whether a fault is the writer's
-abbrev pub is_of_writer : TraceError → Bool
-is_of_writer e = is_write_fault {X = Unit {0}} (Err e)

@@ -10,7 +10,7 @@ use nm_steps::TraceError;
 use std::alloc::Allocator;
 
 /// Writes bytes whole, or a prefix of them and a fault: the writer failed, or took no byte.
-fn write_lines<W: TellingWriter>(writer: &mut W, lines: &[u8]) -> Result<(), TraceError>
+pub fn write_lines<W: TellingWriter>(writer: &mut W, lines: &[u8]) -> Result<(), TraceError>
     ensures whole { OnOk result (Appends (W.contents writer.old) (W.contents writer.new) lines.now) }
     ensures broken { OnErr result
         (BreaksOff (W.contents writer.old) (W.contents writer.new) lines.now) }

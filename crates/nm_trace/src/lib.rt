@@ -11,6 +11,7 @@ mod telling;
 mod text;
 mod watched;
 
+pub use block::write_lines;
 pub use nm_steps::{Trace, TraceError, read_trace};
 pub use playing::{Summary, play};
 pub use running::{Played, TRACE_LIMIT, run_on, run_trace};

@@ -1,8 +1,8 @@
 -- Which stream failed.
-use Rattle.std.proofs.Common.{◌≡◌, ℕ, Bool, ◌||◌, ◌⊎◌, inl, inr, sym, ◌∙◌, arith}
+use Rattle.std.proofs.Common.{◌≡◌, ℕ, Bool, ◌||◌, ◌⊎◌, inl, inr, Err, sym, ◌∙◌, arith}
 use Rattle.nm_steps.specs.declared.trace_error.TraceError.{TraceError}
 use Rattle.nm_steps.specs.declared.trace_error.TraceError.TheVariants.{NotJson, BadMachine, BadStep, ReadFault, WriteFault, HostMemory}
-use Rattle.nm_trace.specs.Telling.{ReadTold, is_of_writer}
+use Rattle.nm_trace.specs.Telling.{TellsReads, is_write_fault}
 use Rattle.numatrace.specs.Status.{HasStreamCause, status_of}
 
 -- a status of 2 or 3 is no other one
@@ -14,7 +14,8 @@ no_stream : (k status : ℕ) → (k ≡ 4 → ⊥) → status ≡ k → status �
 no_stream k status not_four is four = not_four (sym is ∙ four)
 
 -- status 4 means that a stream failed
-pub stream_cause : (before now : Bool) (gave : ℕ → Type 0) (wrote writes : Bool) (e : TraceError) (status : ℕ) → ReadTold before now gave e → writes ≡ (is_of_writer e || wrote)
+pub stream_cause : (before now : Bool) (gave : ℕ → Type 0) (wrote writes : Bool) (e : TraceError) (status : ℕ) → TellsReads {X = Unit {0}} before now gave (Err e)
+    → writes ≡ (is_write_fault {X = Unit {0}} (Err e) || wrote)
     → status ≡ status_of e → status ≡ 4 → HasStreamCause now gave writes
 stream_cause before now gave wrote writes NotJson status r w is four = absurd (no_stream 2 status (λ h. omega (arith, h)) is four)
 stream_cause before now gave wrote writes BadMachine status r w is four = absurd (no_stream 2 status (λ h. omega (arith, h)) is four)

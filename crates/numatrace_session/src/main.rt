@@ -7,12 +7,11 @@
 //! and 4 where a stream fails, with one line on standard error for the last three.
 #![tactic(auto)]
 
-ghost use Rattle.std.specs.Prelude.{◌++◌, ◌∷◌, [], OnOk};
-ghost use Rattle.std.specs.Io.KnownBytes.{Appends};
-ghost use Rattle.numatrace_session.specs.Replies.{Replies};
+ghost use Rattle.std.specs.Prelude.{◌++◌, ◌∷◌, []};
+ghost use Rattle.numatrace_session.specs.Replies.{bad_step_reply, Replies, Tries, Writes};
 
 use nm_crew::OpenGate;
-use nm_trace::{Session, TraceError};
+use nm_trace::{Session, TellingWriter, TraceError, Watched, write_lines};
 use std::alloc::Global;
 use std::io::{BufRead, BufReader, BufWriter, ErrorKind, Read, Write};
 use std::process::ExitCode;
@@ -42,40 +41,59 @@ fn next_line(input: &mut impl BufRead, line: &mut Vec<u8>) -> Result<bool, End> 
     }
 }
 
-/// Writes the lines of a step, and an empty line.
-fn put_lines<W: Write>(out: &mut W, lines: &[u8]) -> Result<(), End>
-    ensures { OnOk result
-        (Appends (W.contents out.old) (W.contents out.new) (lines.now ++ 10 ∷ [])) }
+/// Writes bytes.
+fn put<W: TellingWriter>(out: &mut W, bytes: &[u8]) -> Result<(), End>
+    ensures { Writes (W.contents out.old) (W.contents out.new)
+        (W.has_failed out.old) (W.has_failed out.new) bytes.now result }
 {
-    if out.write_all(lines).is_err() || out.write_all(b"\n").is_err() {
+    let Ok(()) = write_lines(out, bytes) else {
         return Err(End::Stream);
-    }
+    };
     Ok(())
 }
 
-/// Writes what is wrong with a line that is no step, and an empty line.
-fn put_fault<W: Write>(out: &mut W, fault: TraceError) -> Result<(), End> {
-    if writeln!(out, "fault: {fault}\n").is_err() {
+/// Writes the lines of a step, and an empty line.
+fn put_lines<W: TellingWriter>(out: &mut W, lines: &[u8]) -> Result<(), End>
+    ensures { Writes (W.contents out.old) (W.contents out.new)
+        (W.has_failed out.old) (W.has_failed out.new) (lines.now ++ 10 ∷ []) result }
+{
+    let Ok(()) = write_lines(out, lines) else {
         return Err(End::Stream);
-    }
+    };
+    let Ok(()) = write_lines(out, b"\n") else {
+        return Err(End::Stream);
+    };
     Ok(())
+}
+
+/// Writes that the step with this number is none, and an empty line.
+fn put_bad_step<W: TellingWriter>(heap: Global, out: &mut W, step: usize) -> Result<(), End>
+    ensures { Tries (W.contents out.old) (W.contents out.new)
+        (W.has_failed out.old) (W.has_failed out.new) (bad_step_reply step) result }
+{
+    let Ok(text) = format!(in heap; "fault: bad step {step}\n\n") else {
+        return Err(End::HostMemory);
+    };
+    put(out, text.as_bytes())
 }
 
 /// Makes a step, and writes its reply.
-fn reply<R: Threads + Wait + Sync, W: Write>(
+#[tactic(auto, using(nm_trace::proofs::Known::appends_none))]
+fn reply<R: Threads + Wait + Sync, W: TellingWriter>(
     rt: &R,
     heap: Global,
     session: &mut Session<Global>,
     step: &[u8],
     out: &mut W,
 ) -> Result<(), End>
-    ensures { OnOk result
-        (Replies session.old session.new step.now (W.contents out.old) (W.contents out.new)) }
+    ensures { Replies session.old session.new step.now (W.contents out.old) (W.contents out.new)
+        (W.has_failed out.old) (W.has_failed out.new) result }
 {
     match session.step(rt, heap, step, &OpenGate) {
         Ok(lines) => put_lines(out, lines.as_slice()),
-        Err(TraceError::HostMemory(_)) => Err(End::HostMemory),
-        Err(fault) => put_fault(out, fault),
+        Err(TraceError::NotJson) => put(out, b"fault: not JSON\n\n"),
+        Err(TraceError::BadStep(number)) => put_bad_step(heap, out, number),
+        Err(_) => Err(End::HostMemory),
     }
 }
 
@@ -84,7 +102,7 @@ fn talk(
     rt: &(impl Threads + Wait + Sync),
     heap: Global,
     input: &mut BufReader<impl Read, Global>,
-    out: &mut impl Write,
+    out: &mut impl TellingWriter,
 ) -> Result<(), End> {
     let mut line = Vec::new(heap);
     next_line(input, &mut line)?;
@@ -115,9 +133,10 @@ fn serve(
     let Ok(mut input) = BufReader::new(heap, from) else {
         return Err(End::HostMemory);
     };
-    let Ok(mut out) = BufWriter::new(heap, to) else {
+    let Ok(out) = BufWriter::new(heap, to) else {
         return Err(End::HostMemory);
     };
+    let mut out = Watched::new(out);
     let ended = talk(rt, heap, &mut input, &mut out);
     if out.flush().is_err() {
         return Err(End::Stream);
