@@ -1,13 +1,14 @@
 -- Areas of a process, each right after another.
 use Rattle.std.proofs.Common.{◌≡◌, ℕ, ◌+◌, ◌≤◌, ◌<◌, true, false, ◌&&◌, refl, sym, ap, subst, ◌∙◌, arith}
-use Rattle.std.specs.Prelude.{Some, None, zero, suc, max, nat_lt}
+use Rattle.std.specs.Prelude.{Option, option_map, Some, None, zero, suc, max, nat_lt}
 use Rattle.std.specs.Option.{is_some}
 use Rattle.std.specs.List.{AllByRecursion}
 use Rattle.std.proofs.lemmas.Bool.{ltb-true, ltb-false}
+use Rattle.std.proofs.Math.Bool.{and-false}
 use Rattle.nm_types.specs.declared.area.Area.{Area}
 use Rattle.nm_types.specs.Map.{Map, get, spot_cmp}
 use Rattle.nm_types.specs.State.{Placed, covers, area_over}
-use Rattle.nm_types.proofs.Cases.{none_some, some_is}
+use Rattle.nm_types.proofs.Cases.{none_some, some_is, true_false}
 use Rattle.nm_model.specs.definitions.Areas.{AreasAreApart, IsSomePages}
 use Rattle.nm_model.specs.definitions.Areas.{is_mapped}
 use Rattle.nm_model.proofs.areas.Apart.{covers_parts, covers_from}
@@ -85,6 +86,22 @@ begins_from areas pid from at start x none low there =
 pub hole_first : (areas : Map (ℕ × ℕ) Area) (pid at n : ℕ) → 0 < n → area_over areas pid at ≡ None → is_mapped areas pid at n ≡ false
 hole_first areas pid at zero some none = absurd (omega (arith, some))
 hole_first areas pid at (suc n) some none = ap (λ o. is_some o && is_mapped areas pid (at + 1) n) none
+
+-- .. or one further on
+pub hole_within : (areas : Map (ℕ × ℕ) Area) (pid at n v : ℕ) → at ≤ v → v < at + n → area_over areas pid v ≡ None → is_mapped areas pid at n ≡ false
+hole_within areas pid at zero v low high none = absurd (omega (arith, low, high))
+hole_within areas pid at (suc n) v low high none =
+    elim (nat_lt at v) as (λ b. nat_lt at v ≡ b → is_mapped areas pid at (suc n) ≡ false) [
+      | true ↦ λ b. ap (λ rest. is_some (area_over areas pid at) && rest) (hole_within areas pid (at + 1) n v (omega (arith, ltb-true at v b)) (omega (arith, high)) none) ∙ and-false (is_some (area_over areas pid at))
+      | false ↦ λ b.
+          let same : at ≡ v = omega (arith, low, ltb-false at v b) in
+          ap (λ o. is_some o && is_mapped areas pid (at + 1) n) (ap (area_over areas pid) same ∙ none)
+    ] refl
+
+-- what was looked up as no area is none
+pub no_area : (found : Option (ℕ × Area)) (pid : ℕ) (over : Option Placed) → is_some found ≡ false → option_map {U = Placed} (λ a. ((pid, a.0), a.1)) found ≡ over → over ≡ None
+no_area None pid over none is = sym is
+no_area (Some a) pid over none is = absurd (true_false none)
 
 -- the same areas by another name
 module _ (inside areas : Map (ℕ × ℕ) Area) (is : inside ≡ areas) (pid at : ℕ) where

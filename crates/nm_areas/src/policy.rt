@@ -92,7 +92,14 @@ impl<A: Allocator + Copy> AreaTable<A> {
             Some((start, area)) => {
                 let end = first.number() + count;
                 let past = start.number() + area.pages;
-                past >= end || goes_on(&self.areas, pid, start, area, end)
+                if past >= end {
+                    return true;
+                }
+                // A range that ends in a hole needs no walk.
+                if self.over(pid, Vpn::new(end - 1)).is_none() {
+                    return false;
+                }
+                goes_on(&self.areas, pid, start, area, end)
             }
             None => count == 0,
         }

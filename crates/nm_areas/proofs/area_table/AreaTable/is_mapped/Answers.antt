@@ -1,5 +1,4 @@
-use Rattle.std.proofs.Common.{◌+◌, ◌-◌, ◌≡◌, refl, ap, sym, ◌∙◌, arith}
-use Rattle.std.proofs.lemmas.Bool.{le-leb}
+use Rattle.std.proofs.Common.{◌+◌, ◌-◌, ◌<◌, ◌≤◌, ◌≡◌, refl, ap, sym, ◌∙◌, arith}
 use Rattle.nm_model.specs.definitions.Areas.{EndsLow, IsSomePages}
 use Rattle.nm_model.specs.definitions.Areas.{is_mapped}
 use Rattle.nm_model.specs.views.Table.{Table}
@@ -7,7 +6,7 @@ use Rattle.nm_model.proofs.areas.Parted.{All-among}
 use Rattle.nm_model.proofs.areas.Cut.{over_facts}
 use Rattle.nm_model.proofs.areas.Repoliced.{mapped_next, mapped_whole}
 use Rattle.nm_areas.proofs.Searched.{over_all}
-use Rattle.nm_areas.proofs.Filled.{over_inside, mapped_inside}
+use Rattle.nm_areas.proofs.Filled.{over_inside, mapped_inside, hole_within, no_area}
 use Rattle.nm_areas.proofs.area_table.AreaTable.is_mapped.Goals as goal
 
 pub overflow_add-past : goal.overflow_add-past
@@ -29,11 +28,10 @@ goes_on-requires-clause-over g c =
 pub returns-then-past-end : goal.returns-then-past-end
 returns-then-past-end g c =
     let long = c.if-past-end.true in
-    le-leb _ _ long
-    ∙ sym (mapped_whole c.args.self.now.areas c.args.pid c.args.first c.args.count _ _ c.requires.apart c.in-Some.ensures (omega (arith, long, c.number.ensures, c.number-in-Some.ensures)))
+    sym (mapped_whole c.args.self.now.areas c.args.pid c.args.first c.args.count _ _ c.requires.apart c.in-Some.ensures (omega (arith, long, c.number.ensures, c.number-in-Some.ensures)))
 
-pub returns-else-past-end : goal.returns-else-past-end
-returns-else-past-end g c =
+pub returns-else-is_none : goal.returns-else-is_none
+returns-else-is_none g c =
     let areas = c.args.self.now.areas in
     let end = c.number.result + c.args.count in
     let facts = over_facts c.args.pid c.args.first areas _ _ c.in-Some.ensures in
@@ -41,3 +39,10 @@ returns-else-past-end g c =
     c.goes_on.ensures
     ∙ mapped_inside c.self.inside.areas.entries areas (ap (λ (t : Table). t.areas) c.self.view_is) c.args.pid _ _
     ∙ sym (ap (is_mapped areas c.args.pid c.args.first) size ∙ mapped_next areas c.args.pid c.args.first end _ _ _ c.requires.apart c.in-Some.ensures refl (omega (arith, facts.2, c.if-past-end.false, c.number-in-Some.ensures)))
+
+pub returns-then-is_none : goal.returns-then-is_none
+returns-then-is_none g c =
+    let facts = over_facts c.args.pid c.args.first c.args.self.now.areas _ _ c.in-Some.ensures in
+    let inside : c.args.first ≤ c.new.result = omega (arith, facts.2, c.if-past-end.false, c.number.ensures, c.number-in-Some.ensures, c.new.ensures) in
+    let last : c.new.result < c.args.first + c.args.count = omega (arith, inside, c.number.ensures, c.new.ensures) in
+    sym (hole_within c.args.self.now.areas c.args.pid c.args.first c.args.count c.new.result inside last (no_area _ c.args.pid _ c.if-is_none.ensures c.over-in-Some.ensures))
