@@ -95,11 +95,11 @@ impl<A: Allocator + Copy> AreaTable<A> {
                 if past >= end {
                     return true;
                 }
-                // A range that ends in a hole needs no walk.
-                if self.over(pid, Vpn::new(end - 1)).is_none() {
-                    return false;
+                if self.over(pid, Vpn::new(end - 1)).is_some() {
+                    return goes_on(&self.areas, pid, start, area, end);
                 }
-                goes_on(&self.areas, pid, start, area, end)
+                // A range that ends in a hole needs no walk.
+                false
             }
             None => count == 0,
         }

@@ -30,8 +30,8 @@ returns-then-past-end g c =
     let long = c.if-past-end.true in
     sym (mapped_whole c.args.self.now.areas c.args.pid c.args.first c.args.count _ _ c.requires.apart c.in-Some.ensures (omega (arith, long, c.number.ensures, c.number-in-Some.ensures)))
 
-pub returns-else-is_none : goal.returns-else-is_none
-returns-else-is_none g c =
+pub returns-then-is_some : goal.returns-then-is_some
+returns-then-is_some g c =
     let areas = c.args.self.now.areas in
     let end = c.number.result + c.args.count in
     let facts = over_facts c.args.pid c.args.first areas _ _ c.in-Some.ensures in
@@ -40,9 +40,9 @@ returns-else-is_none g c =
     ∙ mapped_inside c.self.inside.areas.entries areas (ap (λ (t : Table). t.areas) c.self.view_is) c.args.pid _ _
     ∙ sym (ap (is_mapped areas c.args.pid c.args.first) size ∙ mapped_next areas c.args.pid c.args.first end _ _ _ c.requires.apart c.in-Some.ensures refl (omega (arith, facts.2, c.if-past-end.false, c.number-in-Some.ensures)))
 
-pub returns-then-is_none : goal.returns-then-is_none
-returns-then-is_none g c =
+pub returns-else-is_some : goal.returns-else-is_some
+returns-else-is_some g c =
     let facts = over_facts c.args.pid c.args.first c.args.self.now.areas _ _ c.in-Some.ensures in
     let inside : c.args.first ≤ c.new.result = omega (arith, facts.2, c.if-past-end.false, c.number.ensures, c.number-in-Some.ensures, c.new.ensures) in
     let last : c.new.result < c.args.first + c.args.count = omega (arith, inside, c.number.ensures, c.new.ensures) in
-    sym (hole_within c.args.self.now.areas c.args.pid c.args.first c.args.count c.new.result inside last (no_area _ c.args.pid _ c.if-is_none.ensures c.over-in-Some.ensures))
+    sym (hole_within c.args.self.now.areas c.args.pid c.args.first c.args.count c.new.result inside last (no_area _ c.args.pid _ (sym c.if-is_some.ensures) c.over-in-Some.ensures))
