@@ -25,6 +25,7 @@ use nm_tables::Entry;
 use nm_types::{Errno, FrameId, Page, PageView, Pid, ProcessInfo, Seen, Sight, Vpn};
 use std::alloc::{AllocError, Allocator};
 use std::marker::Model;
+use walk::page_in;
 
 /// The page tables of all processes, the areas with the frames of pages, and for each frame the entries that name it
 /// and its pins. Contracts see what each process sees, page by page.
@@ -98,11 +99,7 @@ impl<A: Allocator + Copy> AddressSpaces<A> {
         ensures { result ≡ page_at self.now.areas pid vpn }
     {
         let (first, area) = self.areas.find(pid, vpn)?;
-        let Page { segment, index } = area.page;
-        Some(Page {
-            segment,
-            index: index + (vpn.number() - first.number()),
-        })
+        Some(page_in(first, &area, vpn))
     }
 
     /// What a process sees at a page number where an area shows this page.

@@ -164,7 +164,7 @@ fn is_over(first: Vpn, area: Area, vpn: Vpn) -> bool
 }
 
 /// The page that an area, which begins at a page number, shows at another one that it covers.
-fn page_in(first: Vpn, area: &Area, vpn: Vpn) -> Page
+pub(super) fn page_in(first: Vpn, area: &Area, vpn: Vpn) -> Page
     requires over { first ≤ vpn }
     requires index { area.now.page.index + (vpn - first) < 2 ^ 64 }
     ensures { result ≡ page_of ((0, first), area.now) vpn }
