@@ -1,7 +1,7 @@
 //! The machine's frames: their bytes, and the free ones.
 
 ghost use Rattle.std.specs.Prelude.{◌≡◌, ℕ, false, ◌+◌, ◌<◌, ◌≤◌, [], ◌∷◌, ◌++◌, map, length, vec_capacity, vec_len, Some, IfOk, OnOk, OnErr, replicate, take, drop, slice_get, slice_set};
-ghost use Rattle.nm_types.specs.Layout.{node_count, frame_count, node_of};
+ghost use Rattle.nm_types.specs.Layout.{node_count, frame_count};
 ghost use Rattle.nm_types.specs.Nodes.{is_in};
 ghost use Rattle.nm_model.specs.definitions.Touch.{has_free};
 ghost use Rattle.nm_model.specs.definitions.Frames.{list_of, with_list, appended, prepended};
@@ -103,21 +103,12 @@ impl<A: Allocator + Copy> Frames<A> {
     }
 
     /// How many nodes there are: 1 to 64.
-    pub fn node_count(&self) -> usize
+    pub(crate) fn node_count(&self) -> usize
         ensures count { result ≡ node_count self.now.layout }
         ensures few { result ≤ 64 }
         ensures others { (node : ℕ) → result ≤ node → has_free self.now.free node ≡ false }
     {
         self.geometry.node_count()
-    }
-
-    /// The node that owns a frame.
-    pub fn node_of(&self, frame: FrameId) -> NodeId
-        requires { frame < frame_count self.now.layout }
-        ensures node { result ≡ node_of self.now.layout frame }
-        ensures below { result < node_count self.now.layout }
-    {
-        self.geometry.node_of(frame)
     }
 
     /// How many free frames a node has. 0 if there is no such node.
@@ -273,13 +264,6 @@ impl<A: Allocator + Copy> Frames<A> {
         self.jobs.reserve(self.vacated.len() + count)
     }
 
-    /// How many frames the pages of this run have left.
-    pub fn vacated_count(&self) -> usize
-        ensures { result ≡ length self.now.vacated }
-    {
-        self.vacated.len()
-    }
-
     /// Takes the frames of these moves, which are at the front of a node's list: they belong to the run until its pages
     /// are in them.
     pub fn take_for(&mut self, node: NodeId, moves: &[Taken])
@@ -326,15 +310,18 @@ impl<A: Allocator + Copy> Frames<A> {
         push_left(&mut self.vacated, moves);
     }
 
-    /// Frees the frames that the pages of this run have left, in order, each at the end of its own node's list. This
-    /// waits for the end of the run, since pages are copied from these frames until then and no access in flight may
-    /// take one. Each list has room for all frames of its node, so this does not allocate.
-    pub fn free_vacated(&mut self)
+    /// Frees the frames that the pages of this run have left, in order, each at the end of its own node's list, and
+    /// returns how many they are. This waits for the end of the run, since pages are copied from these frames until then
+    /// and no access in flight may take one. Each list has room for all frames of its node, so this does not allocate.
+    pub fn free_vacated(&mut self) -> usize
         requires { CanFree (pool_of self.old) self.old.vacated }
-        ensures { self.new ≡ all_freed self.old }
+        ensures freed { self.new ≡ all_freed self.old }
+        ensures count { result ≡ length self.old.vacated }
     {
+        let count = self.vacated.len();
         free_frames(&mut self.nodes, self.vacated.as_slice());
         self.vacated.clear();
+        count
     }
 
     /// Frees a frame, at the end of its own node's list.

@@ -1,20 +1,17 @@
 //! The address spaces of all processes: page tables, areas, and the mappers of each frame.
 
-ghost use Rattle.std.specs.Prelude.{◌≡◌, ◌<◌, ◌≤◌, ◌+◌, ◌-◌, ◌^◌, length, Some, None, IsSome, IfSome, IfOk, IfErr, OnOk, OnErr};
+ghost use Rattle.std.specs.Prelude.{ℕ, ◌≡◌, ◌<◌, ◌≤◌, ◌+◌, ◌-◌, length, Some, None, IsSome, IfOk, IfErr, OnOk, OnErr};
 ghost use Rattle.std.specs.Option.{option_map};
-ghost use Rattle.std.specs.Map.{values_of};
 ghost use Rattle.std.specs.Ordering.{nat_cmp};
 ghost use Rattle.nm_types.specs.declared.page.Page.{Page};
 ghost use Rattle.nm_types.specs.declared.errno.Errno.TheVariants.{Ebusy, Einval};
 ghost use Rattle.nm_types.specs.declared.sight.Sight.TheVariants.{ZeroPage, Sees};
 ghost use Rattle.nm_types.specs.Map.{get, set, with_values, page_cmp};
-ghost use Rattle.nm_types.specs.State.{Process, Placed, area_over, page_at};
-ghost use Rattle.nm_model.specs.definitions.Areas.{is_shared};
-ghost use Rattle.nm_model.specs.definitions.Seen.{sight_in, look_in, look_at_place};
-ghost use Rattle.nm_runs.specs.Shown.{HasFrameBelow};
+ghost use Rattle.nm_types.specs.State.{Process, page_at};
+ghost use Rattle.nm_model.specs.definitions.Seen.{sight_in, look_at_place};
 ghost use Rattle.nm_model.specs.definitions.Effect.{info_of, untouched};
 ghost use Rattle.nm_model.specs.definitions.PageTables.{entry_of};
-ghost use Rattle.nm_spaces.specs.views.AddressSpaces.{no_spaces, with_seen, with_new_page, pins_here, with_pins_of};
+ghost use Rattle.nm_spaces.specs.views.AddressSpaces.{mapped_of, no_spaces, with_seen, with_new_page, pins_here, with_pins_of};
 
 mod areas;
 mod back;
@@ -25,9 +22,10 @@ use crate::process_table::ProcessTable;
 use nm_areas::Areas;
 use nm_rmap::ReverseMap;
 use nm_tables::Entry;
-use nm_types::{Area, Errno, FrameId, Page, PageView, Pid, ProcessInfo, Seen, Sight, Vpn};
+use nm_types::{Errno, FrameId, Page, PageView, Pid, ProcessInfo, Seen, Sight, Vpn};
 use std::alloc::{AllocError, Allocator};
 use std::marker::Model;
+use walk::page_in;
 
 /// The page tables of all processes, the areas with the frames of pages, and for each frame the entries that name it
 /// and its pins. Contracts see what each process sees, page by page.
@@ -86,26 +84,22 @@ impl<A: Allocator + Copy> AddressSpaces<A> {
         self.tasks.info(pid)
     }
 
-    /// The area of a process that covers a page number, with its first page number.
-    pub fn over(&self, pid: Pid, vpn: Vpn) -> Option<(Vpn, Area)>
-        ensures over { option_map {U = Placed} (λ found. ((pid, found.0), found.1)) result
-            ≡ area_over self.now.areas pid vpn }
-        ensures first { IfSome result (λ a. a.0 ≤ vpn) }
-        ensures index { IfSome result (λ a. a.1.page.index + (vpn - a.0) < 2 ^ 64) }
+    /// The areas of all processes, the segments that they show, and the frames of pages.
+    pub fn areas(&self) -> &Areas<A>
+        ensures areas { result.now ≡ mapped_of self.now }
+        ensures known { (page : Page) (frame : ℕ) →
+            get page_cmp self.now.place page ≡ Some frame →
+            frame < self.now.frames }
     {
-        self.areas.find(pid, vpn)
+        &self.areas
     }
 
     /// The page that an area of a process shows at a page number. None if there is no area.
     pub(crate) fn page_at(&self, pid: Pid, vpn: Vpn) -> Option<Page>
         ensures { result ≡ page_at self.now.areas pid vpn }
     {
-        let (first, area) = self.over(pid, vpn)?;
-        let Page { segment, index } = area.page;
-        Some(Page {
-            segment,
-            index: index + (vpn.number() - first.number()),
-        })
+        let (first, area) = self.areas.find(pid, vpn)?;
+        Some(page_in(first, &area, vpn))
     }
 
     /// What a process sees at a page number where an area shows this page.
@@ -134,65 +128,10 @@ impl<A: Allocator + Copy> AddressSpaces<A> {
         self.tasks.entries(pid)
     }
 
-    /// The frame of a page. None if it has none.
-    pub fn place(&self, page: Page) -> Option<FrameId>
-        ensures place { result ≡ get page_cmp self.now.place page }
-        ensures known { IfSome result (λ frame. frame < self.now.frames) }
-    {
-        self.areas.page_frame(page)
-    }
-
-    /// The frames of all pages that have one, in page order.
-    pub fn places(&self) -> Result<Vec<FrameId, A>, AllocError>
-        ensures places { IfOk result (λ frames. frames.items ≡ values_of self.now.place) }
-        ensures asked { OnErr result (0 < length self.now.place) }
-    {
-        self.areas.frames()
-    }
-
-    /// Whether a segment is shared. False if there is no such segment.
-    pub fn is_shared(&self, segment: u32) -> bool
-        ensures { result ≡ is_shared self.now.segments segment }
-    {
-        self.areas.is_shared(segment)
-    }
-
-    /// What a process sees at a page number. Looks up the area over it once.
-    pub fn look(&self, pid: Pid, vpn: Vpn) -> Seen
-        ensures look { result
-            ≡ look_in self.now.processes self.now.areas self.now.place self.now.pins pid vpn }
-        ensures known { HasFrameBelow self.now.frames result }
-    {
-        let Some(page) = self.page_at(pid, vpn) else {
-            return Seen::NoArea;
-        };
-        match self.tasks.entry(pid, vpn) {
-            None => Seen::Absent,
-            Some(entry) => match entry {
-                Entry::Zero => Seen::Zero,
-                Entry::Frame(frame) => self.look_at(page, frame),
-                Entry::Held(frame) => self.look_at(page, frame),
-            },
-        }
-    }
-
-    /// What is to be seen of a page, whoever sees it.
-    pub fn look_at_page(&self, page: Page) -> Seen
-        ensures look { result
-            ≡ look_at_place self.now.processes self.now.pins page (get page_cmp self.now.place page) }
-        ensures known { HasFrameBelow self.now.frames result }
-    {
-        match self.place(page) {
-            None => Seen::Absent,
-            Some(frame) => self.look_at(page, frame),
-        }
-    }
-
     /// What is to be seen of a page that has this frame.
     fn look_at(&self, page: Page, frame: FrameId) -> Seen
         requires { get page_cmp self.now.place page ≡ Some frame }
-        ensures look { result ≡ look_at_place self.now.processes self.now.pins page (Some frame) }
-        ensures known { HasFrameBelow self.now.frames result }
+        ensures { result ≡ look_at_place self.now.processes self.now.pins page (Some frame) }
     {
         Seen::At {
             page,
@@ -341,11 +280,25 @@ impl<A: Allocator + Copy> PageView for AddressSpaces<A> {
 
     ghost placed_at = { λ y p. look_at_place y.processes y.pins p (get page_cmp y.place p) };
 
+    /// Looks up the area over the page number once.
     fn seen(&self, pid: Pid, vpn: Vpn) -> Seen {
-        self.look(pid, vpn)
+        let Some(page) = self.page_at(pid, vpn) else {
+            return Seen::NoArea;
+        };
+        match self.tasks.entry(pid, vpn) {
+            None => Seen::Absent,
+            Some(entry) => match entry {
+                Entry::Zero => Seen::Zero,
+                Entry::Frame(frame) => self.look_at(page, frame),
+                Entry::Held(frame) => self.look_at(page, frame),
+            },
+        }
     }
 
     fn placed(&self, page: Page) -> Seen {
-        self.look_at_page(page)
+        match self.areas.page_frame(page) {
+            None => Seen::Absent,
+            Some(frame) => self.look_at(page, frame),
+        }
     }
 }

@@ -82,7 +82,7 @@ impl<A: Allocator + Copy> Inner<A> {
         if self.spaces.info(pid).is_none() {
             return Err(Errno::Esrch);
         }
-        self.spaces.check_policy(pid, addr, len)
+        self.spaces.areas().check_policy(pid, addr, len)
     }
 
     /// Sets the policy of the whole pages of a range of a process's addresses, and of no others.

@@ -28,7 +28,7 @@ impl<A: Allocator + Copy> Inner<A> {
         if self.spaces.info(pid).is_none() {
             return Err(MachineError::Refused(Errno::Esrch));
         }
-        Ok(self.spaces.lines(pid)?)
+        Ok(self.spaces.areas().lines(pid)?)
     }
 
     /// How many processes see the page in a frame.
@@ -95,7 +95,7 @@ impl<A: Allocator + Copy> Inner<A> {
         ensures { result
             ≡ option_map (node_of self.now.state.layout) (get page_cmp self.now.state.place page) }
     {
-        let frame = self.spaces.place(page)?;
+        let frame = self.spaces.areas().page_frame(page)?;
         Some(self.frames.geometry().node_of(frame))
     }
 
@@ -116,7 +116,7 @@ impl<A: Allocator + Copy> Inner<A> {
         let Sight::Sees(page) = sight else {
             return None;
         };
-        let frame = self.spaces.place(page)?;
+        let frame = self.spaces.areas().page_frame(page)?;
         let node = self.frames.geometry().node_of(frame);
         Some(Located {
             vpn,

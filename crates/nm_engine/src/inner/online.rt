@@ -22,7 +22,7 @@ impl<A: Allocator + Copy> Inner<A> {
         ensures state { self.new.state ≡ set_online self.old.state node online }
         ensures same { self.new ≡ with_state self.old self.new.state }
     {
-        prove!(self.frames.node_count() <= 64);
+        prove!(self.frames.geometry().node_count() <= 64);
         self.online = changed(self.online, node, online);
     }
 
@@ -32,7 +32,7 @@ impl<A: Allocator + Copy> Inner<A> {
         ensures few { IfOk result (λ pages. length pages.items ≤ 16384) }
         ensures asked { OnErr result (0 < length self.now.state.place) }
     {
-        let placed = self.spaces.placed()?;
+        let placed = self.spaces.areas().placed()?;
         let geometry = self.frames.geometry();
         prove!(geometry.node_count() <= 64);
         let pages = pages_among(self.alloc, geometry, placed.as_slice(), node)?;

@@ -12,7 +12,7 @@ ghost use Rattle.nm_types.specs.declared.sight.Sight.TheVariants.{Sees};
 ghost use Rattle.std.specs.Prelude.{Bool, IfErr, IfOk, Some, false, if◌then◌else◌, true, ℕ, ◌+◌, ◌/◌, ◌<◌, ◌≡◌, ◌≤◌};
 
 use crate::inner::Inner;
-use nm_types::{Errno, FrameId, Page, Pid, Seen, Vpn};
+use nm_types::{Errno, FrameId, Page, PageView, Pid, Seen, Vpn};
 use std::alloc::Allocator;
 
 impl<A: Allocator + Copy> Inner<A> {
@@ -35,7 +35,7 @@ impl<A: Allocator + Copy> Inner<A> {
         if self.spaces.info(pid).is_none() {
             return Err(Errno::Esrch);
         }
-        match self.spaces.look(pid, Vpn::of_address(addr)) {
+        match self.spaces.seen(pid, Vpn::of_address(addr)) {
             Seen::NoArea | Seen::Zero => Err(Errno::Efault),
             Seen::Absent => Err(Errno::Enoent),
             Seen::At { page, frame, .. } => Ok((page, frame)),

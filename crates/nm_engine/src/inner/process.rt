@@ -36,7 +36,7 @@ impl<A: Allocator + Copy> Inner<A> {
     pub(crate) fn names_missing_node(&self, nodes: NodeMask) -> bool
         ensures { result ≡ list_any (nat_le (node_count self.now.state.layout)) nodes }
     {
-        has_beyond(nodes, self.frames.node_count())
+        has_beyond(nodes, self.frames.geometry().node_count())
     }
 
     /// Adds a process.
@@ -52,7 +52,7 @@ impl<A: Allocator + Copy> Inner<A> {
         // Nothing else changes
         ensures same { self.new ≡ with_state self.old self.new.state }
     {
-        let count = self.frames.node_count();
+        let count = self.frames.geometry().node_count();
         if pid.number() == 0
             || self.spaces.info(pid).is_some()
             || info.home.index() >= count

@@ -21,7 +21,7 @@ use crate::ProcessInfo;
 use crate::inner::Inner;
 use crate::machine::Totals;
 use nm_tables::Entry;
-use nm_types::{Errno, FrameId, MachineError, NodeId, Page, Pid, Seen, Vpn};
+use nm_types::{Errno, FrameId, MachineError, NodeId, Page, PageView, Pid, Seen, Vpn};
 use std::alloc::{AllocError, Allocator};
 
 impl<A: Allocator + Copy> Inner<A> {
@@ -31,7 +31,7 @@ impl<A: Allocator + Copy> Inner<A> {
         ensures few { result ≤ 64 }
         ensures sound { self.now.left ≡ [] → IsSound self.now.state }
     {
-        self.frames.node_count()
+        self.frames.geometry().node_count()
     }
 
     /// Whether there is such a node, and it is online.
@@ -65,7 +65,7 @@ impl<A: Allocator + Copy> Inner<A> {
         ensures asked { result ≡ Err MachineError.HostMemory →
             0 < length (free_list self.now.state node) }
     {
-        if node.index() >= self.frames.node_count() {
+        if node.index() >= self.frames.geometry().node_count() {
             return Err(MachineError::Refused(Errno::Einval));
         }
         Ok(self.frames.free_list(self.alloc, node)?)
@@ -89,7 +89,7 @@ impl<A: Allocator + Copy> Inner<A> {
     pub(crate) fn look(&self, pid: Pid, vpn: Vpn) -> Seen
         ensures { result ≡ look self.now.state pid vpn }
     {
-        self.spaces.look(pid, vpn)
+        self.spaces.seen(pid, vpn)
     }
 
     /// What is to be seen of a page, whoever sees it.
@@ -98,18 +98,19 @@ impl<A: Allocator + Copy> Inner<A> {
             ≡ look_at_place self.now.state.processes self.now.state.pins page
             (get page_cmp self.now.state.place page) }
     {
-        self.spaces.look_at_page(page)
+        self.spaces.placed(page)
     }
 
     /// The number of the node of the page that a process sees at a page number, or an error's number with a minus sign.
     pub(crate) fn node_status(&self, pid: Pid, vpn: Vpn) -> i32
         ensures { result ≡ node_status self.now.state pid vpn }
     {
-        prove!(self.frames.node_count() <= 64);
-        match self.spaces.look(pid, vpn) {
+        let geometry = self.frames.geometry();
+        prove!(geometry.node_count() <= 64);
+        match self.spaces.seen(pid, vpn) {
             Seen::NoArea | Seen::Zero => -Errno::Efault.number(),
             Seen::Absent => -Errno::Enoent.number(),
-            Seen::At { frame, .. } => self.frames.node_of(frame).number() as i32,
+            Seen::At { frame, .. } => geometry.node_of(frame).number() as i32,
         }
     }
 
@@ -118,7 +119,7 @@ impl<A: Allocator + Copy> Inner<A> {
         ensures told { IfOk result (λ b. b ≡ audited self.now.state) }
         ensures sound { self.now.left ≡ [] → IfOk result (λ b. b ≡ true) }
     {
-        let places = self.spaces.places()?;
+        let places = self.spaces.areas().frames()?;
         let once = self.frames.audit(self.alloc, places.as_slice())?;
         Ok(once)
     }

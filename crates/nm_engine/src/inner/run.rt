@@ -46,15 +46,10 @@ impl<A: Allocator + Copy + Send + Sync> Inner<A> {
             (λ plan. IsPlanOf self.now.state requests.now.target requests.now.wanted.items plan) }
         ensures asked { OnErr result (0 < length requests.now.wanted.items) }
     {
-        prove!(self.frames.node_count() <= 64);
+        let geometry = self.frames.geometry();
+        prove!(geometry.node_count() <= 64);
         let target = requests.target;
-        let classes = classes(
-            crew,
-            self.alloc,
-            self.frames.geometry(),
-            &self.spaces,
-            requests,
-        )?;
+        let classes = classes(crew, self.alloc, geometry, &self.spaces, requests)?;
         let front = self.frames.free_front(self.alloc, target, classes.len())?;
         plan(self.alloc, classes.as_slice(), front.as_slice(), target)
     }
@@ -116,13 +111,12 @@ impl<A: Allocator + Copy + Send + Sync> Inner<A> {
             (failures statuses.now) }
         ensures left { self.new.left ≡ [] }
     {
-        let moved = self.frames.vacated_count() as u64;
         let failed = failures(statuses) as u64;
         let Totals {
             moved: before,
             failed: failed_before,
         } = self.totals;
-        self.frames.free_vacated();
+        let moved = self.frames.free_vacated() as u64;
         self.totals = Totals {
             moved: before.saturating_add(moved),
             failed: failed_before.saturating_add(failed),

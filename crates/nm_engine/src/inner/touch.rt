@@ -79,7 +79,7 @@ impl<A: Allocator + Copy> Inner<A> {
             return Err(Errno::Einval);
         }
         let vpn = Vpn::of_address(addr);
-        let Some((first, area)) = self.spaces.over(pid, vpn) else {
+        let Some((first, area)) = self.spaces.areas().find(pid, vpn) else {
             return Err(Errno::Efault);
         };
         let Page { segment, index } = area.page;
@@ -123,7 +123,7 @@ impl<A: Allocator + Copy> Inner<A> {
         ensures same { self.new ≡ with_state self.old self.new.state }
     {
         match self.spaces.sight(t.pid, t.vpn, t.page) {
-            Some(Sight::Sees(page)) => Ok(self.spaces.place(page)),
+            Some(Sight::Sees(page)) => Ok(self.spaces.areas().page_frame(page)),
             Some(Sight::ZeroPage) => {
                 if writes {
                     Ok(Some(self.fill(t)?))
@@ -132,7 +132,7 @@ impl<A: Allocator + Copy> Inner<A> {
                 }
             }
             None => {
-                if self.spaces.is_shared(t.page.segment) {
+                if self.spaces.areas().is_shared(t.page.segment) {
                     Ok(Some(self.join(t)?))
                 } else if writes {
                     Ok(Some(self.fill(t)?))
@@ -162,7 +162,7 @@ impl<A: Allocator + Copy> Inner<A> {
         ensures same { self.new ≡ with_state self.old self.new.state }
     {
         let page = t.page;
-        let Some(frame) = self.spaces.place(page) else {
+        let Some(frame) = self.spaces.areas().page_frame(page) else {
             return self.fill(t);
         };
         self.spaces.see(t.pid, t.vpn, page, frame)?;

@@ -96,7 +96,7 @@ impl<A: Allocator + Copy> Inner<A> {
             vpn: t.vpn,
             page: t.page,
             seen: self.spaces.sight(t.pid, t.vpn, t.page),
-            place: self.spaces.place(t.page),
+            place: self.spaces.areas().page_frame(t.page),
         }
     }
 

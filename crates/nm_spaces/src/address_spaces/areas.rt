@@ -1,6 +1,6 @@
 //! Adding, splitting and removing areas of address spaces.
 
-ghost use Rattle.std.specs.Prelude.{ℕ, true, false, ◌≡◌, ◌<◌, ◌≤◌, ◌+◌, ◌/◌, ◌⊎◌, [], length, None, Some, Err, IfOk, OnOk, OnErr, IfErr};
+ghost use Rattle.std.specs.Prelude.{ℕ, true, false, ◌≡◌, ◌<◌, ◌≤◌, ◌+◌, ◌/◌, ◌⊎◌, [], length, None, Some, Err, IfOk, OnOk, OnErr};
 ghost use Rattle.std.specs.List.{AllByRecursion, list_any};
 ghost use Rattle.std.specs.Map.{keys_of};
 ghost use Rattle.std.specs.Ordering.{nat_cmp};
@@ -22,7 +22,7 @@ use crate::address_spaces::AddressSpaces;
 use crate::process_table::ProcessTable;
 use nm_rmap::ReverseMap;
 use nm_tables::Entry;
-use nm_types::{Errno, FrameId, MachineError, Page, Pid, Policy, Vpn};
+use nm_types::{FrameId, MachineError, Page, Pid, Policy, Vpn};
 use std::alloc::Allocator;
 
 impl<A: Allocator + Copy> AddressSpaces<A> {
@@ -65,14 +65,6 @@ impl<A: Allocator + Copy> AddressSpaces<A> {
         ensures same { self.new ≡ with_mapped self.old (mapped_of self.new) }
     {
         self.areas.attach(pid, addr, segment, offset, pages)
-    }
-
-    /// Whether the areas allow setting the policy of a range of a process: EINVAL or EFAULT if not.
-    pub fn check_policy(&self, pid: Pid, addr: u64, len: u64) -> Result<(), Errno>
-        ensures ok { OnOk result (range_refusal (mapped_of self.now) pid addr len ≡ None) }
-        ensures err { IfErr result (λ e. range_refusal (mapped_of self.now) pid addr len ≡ Some e) }
-    {
-        self.areas.check_policy(pid, addr, len)
     }
 
     /// Sets the policy of the whole pages of a range of a process, and of no others.
@@ -122,7 +114,7 @@ impl<A: Allocator + Copy> AddressSpaces<A> {
         let Some(page) = self.page_at(pid, vpn) else {
             return false;
         };
-        match self.place(page) {
+        match self.areas.page_frame(page) {
             Some(frame) => self.rmap.pins(frame) > 0,
             None => false,
         }

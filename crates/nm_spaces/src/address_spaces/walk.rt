@@ -2,7 +2,6 @@
 
 ghost use Rattle.std.specs.Prelude.{All, IfNone, IfOk, IfSome, Some, true, [], length, option_map, ◌+◌, ◌-◌, ◌<◌, ◌^◌, ◌∷◌, ◌≡◌, ◌≤◌};
 ghost use Rattle.std.specs.Result.{OnErr};
-ghost use Rattle.nm_areas.specs.Lines.{lines_of};
 ghost use Rattle.nm_model.specs.definitions.PageTables.{page_here};
 ghost use Rattle.nm_model.specs.definitions.Seen.{located_in, in_frame, IsOver};
 ghost use Rattle.nm_model.specs.definitions.Seen.{between, sights};
@@ -13,29 +12,11 @@ ghost use Rattle.nm_types.specs.State.{Placed, area_over, page_at, page_of};
 ghost use Rattle.nm_types.specs.declared.page.Page.{Page};
 
 use crate::address_spaces::AddressSpaces;
-use nm_areas::Line;
 use nm_tables::Entry;
 use nm_types::{Area, FrameId, Geometry, Located, Page, Pid, Sight, Vpn};
 use std::alloc::{AllocError, Allocator};
 
 impl<A: Allocator + Copy> AddressSpaces<A> {
-    /// The areas of a process, in address order.
-    pub fn lines(&self, pid: Pid) -> Result<Vec<Line, A>, AllocError>
-        ensures lines { IfOk result
-            (λ lines. lines.items ≡ lines_of self.now.segments self.now.areas pid) }
-        ensures asked { OnErr result (0 < length (lines_of self.now.segments self.now.areas pid)) }
-    {
-        self.areas.lines(pid)
-    }
-
-    /// The pages that have a frame, each with its frame, by segment and index.
-    pub fn placed(&self) -> Result<Vec<(Page, FrameId), A>, AllocError>
-        ensures placed { IfOk result (λ placed. placed.items ≡ self.now.place) }
-        ensures asked { OnErr result (0 < length self.now.place) }
-    {
-        self.areas.placed()
-    }
-
     /// The first thing that a process sees from one page number up to another, with its page number.
     pub fn sight_from(&self, pid: Pid, first: Vpn, end: Vpn) -> Option<(Vpn, Sight)>
         ensures some { IfSome result (λ e. between first end (sights self.now.processes pid)
@@ -183,7 +164,7 @@ fn is_over(first: Vpn, area: Area, vpn: Vpn) -> bool
 }
 
 /// The page that an area, which begins at a page number, shows at another one that it covers.
-fn page_in(first: Vpn, area: &Area, vpn: Vpn) -> Page
+pub(super) fn page_in(first: Vpn, area: &Area, vpn: Vpn) -> Page
     requires over { first ≤ vpn }
     requires index { area.now.page.index + (vpn - first) < 2 ^ 64 }
     ensures { result ≡ page_of ((0, first), area.now) vpn }

@@ -1,5 +1,7 @@
 use Rattle.std.proofs.Common.{◌≡◌, [], ap, subst, ◌∙◌}
 use Rattle.std.proofs.lemmas.Result.{IfOk-from_err}
+use Rattle.std.specs.Map.{values_of}
+use Rattle.nm_model.specs.definitions.Areas.{Mapped}
 use Rattle.nm_engine.specs.views.MidRun.{MidRun}
 use Rattle.nm_model.specs.definitions.Sound.{audited, is_audited, numbered}
 use Rattle.nm_engine.specs.views.Shown.{shown_by}
@@ -12,14 +14,14 @@ returns-clause-sound g c none =
     let i = c.self.inside in
     let s = shown_by i.spaces i.frames i.online i.totals.moved i.totals.failed in
     let left : i.frames.vacated ≡ [] = ap (λ (a : MidRun). a.left) c.self.view_is ∙ none in
-    c.in_ok-once.ensures ∙ ap (is_audited s.layout (numbered 0 s.free)) (c.as_slice.ensures.value ∙ c.in_ok-places.ensures.places)
+    c.in_ok-once.ensures ∙ ap (is_audited s.layout (numbered 0 s.free)) (c.as_slice.ensures.value ∙ c.in_ok-places.ensures.frames ∙ ap (λ (m : Mapped). values_of m.place) c.areas.ensures.areas)
     ∙ sound_is_audited s (subst (λ l. IsSoundMidRun s l) left c.self.invariant.sound)
 
 pub returns-clause-told : goal.returns-clause-told
 returns-clause-told g c =
     let i = c.self.inside in
     let s = shown_by i.spaces i.frames i.online i.totals.moved i.totals.failed in
-    c.in_ok-once.ensures ∙ ap (is_audited s.layout (numbered 0 s.free)) (c.as_slice.ensures.value ∙ c.in_ok-places.ensures.places)
+    c.in_ok-once.ensures ∙ ap (is_audited s.layout (numbered 0 s.free)) (c.as_slice.ensures.value ∙ c.in_ok-places.ensures.frames ∙ ap (λ (m : Mapped). values_of m.place) c.areas.ensures.areas)
     ∙ ap (λ (a : MidRun). audited a.state) c.self.view_is
 
 pub returns-in_err-places-clause-told : goal.returns-in_err-places-clause-told

@@ -8,16 +8,16 @@ use Rattle.nm_engine.proofs.MidRun.RunPages.{end_shows, end_kept}
 use Rattle.nm_engine.proofs.Shown.FreeFrames.{can_free}
 use Rattle.nm_engine.proofs.inner.Inner.end_run.Goals as goal
 
-pub free_vacated-requires : goal.free_vacated-requires
-free_vacated-requires g c = can_free c.self.inside.spaces c.self.inside.frames c.self.inside.online c.self.inside.totals.moved c.self.inside.totals.failed c.self.invariant.sound
+pub free_vacated-moved-requires : goal.free_vacated-moved-requires
+free_vacated-moved-requires g c = can_free c.self.inside.spaces c.self.inside.frames c.self.inside.online c.self.inside.totals.moved c.self.inside.totals.failed c.self.invariant.sound
 
 pub invariant_of-self : goal.invariant_of-self
 invariant_of-self g c =
     let y = c.self.inside.spaces in
     let k : FramesView = c.self.inside.frames in
     end_kept y.processes (table_of y) (paged_frames y k) c.self.inside.online c.self.inside.totals.moved c.self.inside.totals.failed
-    (paged_frames y c.free_vacated.new.self) (length k.vacated) (failures c.args.statuses.now) _ _ (ap (paged_frames y) c.free_vacated.ensures)
-    (c.saturating_add.ensures ∙ ap (λ n. total_after c.self.inside.totals.moved n) c.vacated_count-moved.ensures)
+    (paged_frames y c.free_vacated-moved.new.self) (length k.vacated) (failures c.args.statuses.now) _ _ (ap (paged_frames y) c.free_vacated-moved.ensures.freed)
+    (c.saturating_add.ensures ∙ ap (λ n. total_after c.self.inside.totals.moved n) c.free_vacated-moved.ensures.count)
     (c.saturating_add-2.ensures ∙ ap (λ n. total_after c.self.inside.totals.failed n) c.failures-failed.ensures)
     c.self.invariant
 
@@ -26,8 +26,8 @@ returns-clause-state g c =
     let y = c.self.inside.spaces in
     let k : FramesView = c.self.inside.frames in
     end_shows y.processes (table_of y) (paged_frames y k) c.self.inside.online c.self.inside.totals.moved c.self.inside.totals.failed
-    (paged_frames y c.free_vacated.new.self) (length k.vacated) (failures c.args.statuses.now) _ _ (ap (paged_frames y) c.free_vacated.ensures)
-    (c.saturating_add.ensures ∙ ap (λ n. total_after c.self.inside.totals.moved n) c.vacated_count-moved.ensures)
+    (paged_frames y c.free_vacated-moved.new.self) (length k.vacated) (failures c.args.statuses.now) _ _ (ap (paged_frames y) c.free_vacated-moved.ensures.freed)
+    (c.saturating_add.ensures ∙ ap (λ n. total_after c.self.inside.totals.moved n) c.free_vacated-moved.ensures.count)
     (c.saturating_add-2.ensures ∙ ap (λ n. total_after c.self.inside.totals.failed n) c.failures-failed.ensures)
     ∙ ap (λ (x : MidRun). with_counts (with_all_free x.state x.left) (length x.left) (failures c.args.statuses.now)) c.self.view_is
 

@@ -6,6 +6,7 @@ use Rattle.nm_types.specs.declared.sight.Sight.TheVariants.{Sees}
 use Rattle.nm_types.specs.Map.{get, page_cmp}
 use Rattle.nm_model.specs.definitions.Seen.{sight_in, sight_at}
 use Rattle.nm_engine.specs.definitions.Does.{Touches}
+use Rattle.nm_model.specs.definitions.Areas.{Mapped}
 use Rattle.nm_model.specs.definitions.Touch.{joined, with_sight}
 use Rattle.nm_spaces.specs.views.AddressSpaces.{AddressSpacesView, table_of, with_seen}
 use Rattle.nm_engine.specs.views.Shown.{shown_by, paged_frames}
@@ -20,7 +21,7 @@ pub invariant_of-self-2 : goal.invariant_of-self-2
 invariant_of-self-2 g c =
     let touched = inside _ _ _ _ c.self.view_is (λ s. IsSiteOf s c.args.t c.requires.touched.0 c.requires.touched.1) c.requires.touched.2 in
     let unseen = inside _ _ _ _ c.self.view_is (λ s. sight_at s c.args.t.pid c.args.t.vpn ≡ None) c.requires.unseen in
-    let placed : get page_cmp c.self.inside.spaces.place c.args.t.page ≡ Some c.in-Some.frame = sym c.place.ensures.place ∙ c.in-Some.is in
+    let placed : get page_cmp c.self.inside.spaces.place c.args.t.page ≡ Some c.in-Some.frame = sym (c.page_frame.ensures ∙ ap (λ (m : Mapped). get page_cmp m.place c.args.t.page) c.areas.ensures.areas) ∙ c.in-Some.is in
     subst (λ (z : AddressSpacesView). IsKept (shown_by z c.self.inside.frames c.self.inside.online c.self.inside.totals.moved c.self.inside.totals.failed) c.self.inside.frames.vacated z.frames) (sym (c.in_ok-see.ensures.ok c.requires.touched.0 touched.known))
     (seen_kept c.self.inside.spaces.processes (table_of c.self.inside.spaces) (paged_frames c.self.inside.spaces c.self.inside.frames) c.self.inside.online c.self.inside.totals.moved c.self.inside.totals.failed _ c.args.t c.requires.touched.0 c.requires.touched.1 c.self.invariant touched (Sees c.args.t.page) _ refl
     (sym touched.page, subst (λ (o : Option ℕ). IsSome o) (sym placed) refl) (none_sees unseen))
@@ -28,7 +29,7 @@ invariant_of-self-2 g c =
 pub returns-clause-touches : goal.returns-clause-touches
 returns-clause-touches g c p a known =
     let touched = inside _ _ _ _ c.self.view_is (λ s. IsSiteOf s c.args.t p a) known in
-    let placed : get page_cmp c.self.inside.spaces.place c.args.t.page ≡ Some c.in-Some.frame = sym c.place.ensures.place ∙ c.in-Some.is in
+    let placed : get page_cmp c.self.inside.spaces.place c.args.t.page ≡ Some c.in-Some.frame = sym (c.page_frame.ensures ∙ ap (λ (m : Mapped). get page_cmp m.place c.args.t.page) c.areas.ensures.areas) ∙ c.in-Some.is in
     ap (λ (y : MidRun). joined y.state (access_site c.args.t p a) (get page_cmp y.state.place c.args.t.page)) (sym c.self.view_is)
     ∙ ap (joined (shown_by c.self.inside.spaces c.self.inside.frames c.self.inside.online c.self.inside.totals.moved c.self.inside.totals.failed) (access_site c.args.t p a)) placed
     ∙ ap (λ (q : Page). Ok (with_sight (shown_by c.self.inside.spaces c.self.inside.frames c.self.inside.online c.self.inside.totals.moved c.self.inside.totals.failed) (access_site c.args.t p a) (Sees q))) touched.page
@@ -40,13 +41,13 @@ returns-clause-frame g c =
     let is = c.in_ok-see.ensures.ok c.requires.touched.0 touched.known in
     ap (λ (z : AddressSpacesView). frame_of z.place (sight_in (get nat_cmp z.processes c.args.t.pid) c.args.t.vpn)) is
     ∙ ap (frame_of c.self.inside.spaces.place) (sees_now c.self.inside.spaces.processes (table_of c.self.inside.spaces) (paged_frames c.self.inside.spaces c.self.inside.frames) c.self.inside.online c.self.inside.totals.moved c.self.inside.totals.failed _ c.args.t c.requires.touched.0 c.requires.touched.1 c.self.invariant touched (Sees c.args.t.page) (with_seen c.self.inside.spaces c.args.t.pid c.requires.touched.0 c.args.t.vpn (Sees c.args.t.page)).processes refl)
-    ∙ sym c.place.ensures.place ∙ c.in-Some.is
+    ∙ sym (c.page_frame.ensures ∙ ap (λ (m : Mapped). get page_cmp m.place c.args.t.page) c.areas.ensures.areas) ∙ c.in-Some.is
 
 -- the page has no frame yet
 pub returns-in_default-clause-touches : goal.returns-in_default-clause-touches
 returns-in_default-clause-touches g c p a known =
     let s = c.args.self.now.state in
-    let none : get page_cmp s.place c.args.t.page ≡ None = outside _ _ _ _ c.self.view_is (λ z. get page_cmp z.place c.args.t.page ≡ None) (sym c.place.ensures.place ∙ c.in_default.is) in
+    let none : get page_cmp s.place c.args.t.page ≡ None = outside _ _ _ _ c.self.view_is (λ z. get page_cmp z.place c.args.t.page ≡ None) (sym (c.page_frame.ensures ∙ ap (λ (m : Mapped). get page_cmp m.place c.args.t.page) c.areas.ensures.areas) ∙ c.in_default.is) in
     subst (λ f. Touches c.fill.result s c.fill.new.self.state f) (sym (ap (joined s (access_site c.args.t p a)) none)) (c.fill.ensures.touches p a known)
 
 pub returns-in_default-clause-frame : goal.returns-in_default-clause-frame

@@ -19,13 +19,14 @@ pub classes-requires-clause-frames : goal.classes-requires-clause-frames
 classes-requires-clause-frames g c κs within =
     let i = c.self.inside in
     let y = i.spaces in
-    subst (λ (l : Layout). ShowsItsFrames l (λ pid v. look_in y.processes y.areas y.place y.pins pid v) (λ p. look_at_place y.processes y.pins p (get page_cmp y.place p))) (sym c.geometry.ensures)
+    subst (λ (l : Layout). ShowsItsFrames l (λ pid v. look_in y.processes y.areas y.place y.pins pid v) (λ p. look_at_place y.processes y.pins p (get page_cmp y.place p))) (sym c.geometry-geometry.ensures)
     (shows_its_frames (shown_by y i.frames i.online i.totals.moved i.totals.failed) i.frames.vacated c.self.invariant.sound.frames)
 
 pub plan-requires : goal.plan-requires
 plan-requires g c =
     let same = ap (λ (x : MidRun). node_count x.state.layout) c.self.view_is in
-    omega (arith, c.requires.target, c.node_count.ensures.few, c.node_count.ensures.count, same)
+    let seen = ap node_count c.geometry-geometry.ensures in
+    omega (arith, c.requires.target, c.node_count.ensures.machine.few_nodes, seen, same)
 
 pub returns-clause-plan : goal.returns-clause-plan
 returns-clause-plan g c =
@@ -35,7 +36,7 @@ returns-clause-plan g c =
     let ws = c.args.requests.now.wanted.items in
     let classes : c.as_slice.result.now ≡ map (status_or_move s t) ws =
     c.as_slice.ensures.value ∙ c.in_ok-classes.ensures.classes
-    ∙ ap (λ (l : Layout). map (class_shown l (λ pid v. look_in s.processes s.areas s.place s.pins pid v) (λ p. look_at_place s.processes s.pins p (get page_cmp s.place p)) t) ws) c.geometry.ensures
+    ∙ ap (λ (l : Layout). map (class_shown l (λ pid v. look_in s.processes s.areas s.place s.pins pid v) (λ p. look_at_place s.processes s.pins p (get page_cmp s.place p)) t) ws) c.geometry-geometry.ensures
     ∙ classes_by_view s t ws c.self.invariant.sound.order.processes in
     let front : c.as_slice-2.result.now ≡ take (length c.as_slice.result.now) (free_list s t) =
     c.as_slice-2.ensures.value ∙ c.in_ok-front.ensures.front ∙ ap (λ n. take n (free_list s t)) (c.len.ensures ∙ sym c.as_slice.ensures.len) in

@@ -3,7 +3,7 @@ use Rattle.std.specs.Prelude.{Option, Ok, if◌then◌else◌}
 use Rattle.nm_types.specs.declared.page.Page.{Page}
 use Rattle.nm_types.specs.declared.sight.Sight.{Sight}
 use Rattle.nm_types.specs.State.{State, Process, Placed}
-use Rattle.nm_model.specs.definitions.Areas.{is_shared}
+use Rattle.nm_model.specs.definitions.Areas.{Mapped, is_shared}
 use Rattle.nm_engine.specs.declared.inner.resolved_address.ResolvedAddress.{ResolvedAddress}
 use Rattle.nm_model.specs.definitions.Touch.{shown_at, filled, joined, with_sight, touched_entry}
 use Rattle.nm_types.specs.declared.sight.Sight.TheVariants.{Sees, ZeroPage}
@@ -66,7 +66,7 @@ fill-requires-then-writes-2-clause-unplaced g c =
     let touched = inside _ _ _ _ c.self.view_is (λ s. IsSiteOf s c.args.t c.requires.0 c.requires.1) c.requires.2 in
     let sees : sight_at (shown c.self.inside.spaces.processes (table_of c.self.inside.spaces) (paged_frames c.self.inside.spaces c.self.inside.frames) c.self.inside.online c.self.inside.totals.moved c.self.inside.totals.failed) c.args.t.pid c.args.t.vpn ≡ None = sym c.sight.ensures ∙ c.in-None.is in
     ap (λ (y : MidRun). get page_cmp y.state.place c.args.t.page) (sym c.self.view_is)
-    ∙ private_unplaced_here c.self.inside.spaces.processes (table_of c.self.inside.spaces) (paged_frames c.self.inside.spaces c.self.inside.frames) c.self.inside.online c.self.inside.totals.moved c.self.inside.totals.failed _ c.args.t c.requires.0 c.requires.1 c.self.invariant touched (none_sees sees) (sym c.is_shared.ensures ∙ c.if-is_shared.false)
+    ∙ private_unplaced_here c.self.inside.spaces.processes (table_of c.self.inside.spaces) (paged_frames c.self.inside.spaces c.self.inside.frames) c.self.inside.online c.self.inside.totals.moved c.self.inside.totals.failed _ c.args.t c.requires.0 c.requires.1 c.self.invariant touched (none_sees sees) (sym (c.is_shared.ensures ∙ ap (λ (m : Mapped). is_shared m.segments c.args.t.page.segment) c.areas-in-None.ensures.areas) ∙ c.if-is_shared.false)
 
 pub invariant_of-self-else-writes-2 : goal.invariant_of-self-else-writes-2
 invariant_of-self-else-writes-2 g c =
@@ -74,12 +74,12 @@ invariant_of-self-else-writes-2 g c =
     let sees : sight_at (shown c.self.inside.spaces.processes (table_of c.self.inside.spaces) (paged_frames c.self.inside.spaces c.self.inside.frames) c.self.inside.online c.self.inside.totals.moved c.self.inside.totals.failed) c.args.t.pid c.args.t.vpn ≡ None = sym c.sight.ensures ∙ c.in-None.is in
     subst (λ (z : AddressSpacesView). IsKept (shown_by z c.self.inside.frames c.self.inside.online c.self.inside.totals.moved c.self.inside.totals.failed) c.self.inside.frames.vacated z.frames) (sym (c.in_ok-see_zero-in-None.ensures.ok c.requires.0 touched.known))
     (seen_kept c.self.inside.spaces.processes (table_of c.self.inside.spaces) (paged_frames c.self.inside.spaces c.self.inside.frames) c.self.inside.online c.self.inside.totals.moved c.self.inside.totals.failed _ c.args.t c.requires.0 c.requires.1 c.self.invariant touched ZeroPage _ refl
-    (private_here c.self.inside.spaces.processes (table_of c.self.inside.spaces) (paged_frames c.self.inside.spaces c.self.inside.frames) c.self.inside.online c.self.inside.totals.moved c.self.inside.totals.failed _ c.args.t c.requires.0 c.requires.1 c.self.invariant touched (sym c.is_shared.ensures ∙ c.if-is_shared.false)) (none_sees sees))
+    (private_here c.self.inside.spaces.processes (table_of c.self.inside.spaces) (paged_frames c.self.inside.spaces c.self.inside.frames) c.self.inside.online c.self.inside.totals.moved c.self.inside.totals.failed _ c.args.t c.requires.0 c.requires.1 c.self.invariant touched (sym (c.is_shared.ensures ∙ ap (λ (m : Mapped). is_shared m.segments c.args.t.page.segment) c.areas-in-None.ensures.areas) ∙ c.if-is_shared.false)) (none_sees sees))
 
 pub returns-in-Some-Sees-clause-some : goal.returns-in-Some-Sees-clause-some
 returns-in-Some-Sees-clause-some g c writes =
     let sees : sight_at (shown c.self.inside.spaces.processes (table_of c.self.inside.spaces) (paged_frames c.self.inside.spaces c.self.inside.frames) c.self.inside.online c.self.inside.totals.moved c.self.inside.totals.failed) c.args.t.pid c.args.t.vpn ≡ Some (Sees c.in-Some-Sees.page) = sym c.sight.ensures ∙ c.in-Some-Sees.is ∙ ap Some c.in-Some-Sees.field-0-is in
-    subst (λ (o : Option ℕ). IsSome o) (sym c.place.ensures.place) (c.self.invariant.sound.shown c.args.t.pid c.args.t.vpn c.in-Some-Sees.page sees).1
+    subst (λ (o : Option ℕ). IsSome o) (sym (c.page_frame.ensures ∙ ap (λ (m : Mapped). get page_cmp m.place c.in-Some-Sees.page) c.areas.ensures.areas)) (c.self.invariant.sound.shown c.args.t.pid c.args.t.vpn c.in-Some-Sees.page sees).1
 
 pub returns-in_ok-see_zero-in-None-clause-frame : goal.returns-in_ok-see_zero-in-None-clause-frame
 returns-in_ok-see_zero-in-None-clause-frame g c =
@@ -91,7 +91,7 @@ returns-in_ok-see_zero-in-None-clause-frame g c =
 pub returns-in-Some-Sees-clause-zeros : goal.returns-in-Some-Sees-clause-zeros
 returns-in-Some-Sees-clause-zeros g c =
     let sees : sight_at (shown c.self.inside.spaces.processes (table_of c.self.inside.spaces) (paged_frames c.self.inside.spaces c.self.inside.frames) c.self.inside.online c.self.inside.totals.moved c.self.inside.totals.failed) c.args.t.pid c.args.t.vpn ≡ Some (Sees c.in-Some-Sees.page) = sym c.sight.ensures ∙ c.in-Some-Sees.is ∙ ap Some c.in-Some-Sees.field-0-is in
-    not_none _ c.place.result (subst (λ (o : Option ℕ). IsSome o) (sym c.place.ensures.place) (c.self.invariant.sound.shown c.args.t.pid c.args.t.vpn c.in-Some-Sees.page sees).1)
+    not_none _ c.page_frame.result (subst (λ (o : Option ℕ). IsSome o) (sym (c.page_frame.ensures ∙ ap (λ (m : Mapped). get page_cmp m.place c.in-Some-Sees.page) c.areas.ensures.areas)) (c.self.invariant.sound.shown c.args.t.pid c.args.t.vpn c.in-Some-Sees.page sees).1)
 
 pub returns-in_ok-see_zero-in-None-clause-zeros : goal.returns-in_ok-see_zero-in-None-clause-zeros
 returns-in_ok-see_zero-in-None-clause-zeros g c =
@@ -132,7 +132,7 @@ returns-in_ok-join-in-None-clause-touches g c p a known =
     let s = c.args.self.now.state in
     shared_touched s c.args.t p a c.args.writes known
     (outside _ _ _ _ c.self.view_is (λ z. sight_at z c.args.t.pid c.args.t.vpn ≡ None) (sym c.sight.ensures ∙ c.in-None.is))
-    (outside _ _ _ _ c.self.view_is (λ z. is_shared z.segments c.args.t.page.segment ≡ true) (sym c.is_shared.ensures ∙ c.if-is_shared.true))
+    (outside _ _ _ _ c.self.view_is (λ z. is_shared z.segments c.args.t.page.segment ≡ true) (sym (c.is_shared.ensures ∙ ap (λ (m : Mapped). is_shared m.segments c.args.t.page.segment) c.areas-in-None.ensures.areas) ∙ c.if-is_shared.true))
     ∙ c.in_ok-join-in-None.ensures.touches p a known
 
 pub returns-in_err-join-in-None-clause-touches : goal.returns-in_err-join-in-None-clause-touches
@@ -141,7 +141,7 @@ returns-in_err-join-in-None-clause-touches g c p a known =
     touch_handed_on c.join.result c.from_residual-in_err-join-in-None.result _ s c.join.new.self.state c.in_err-join-in-None.was c.from_residual-in_err-join-in-None.ensures
     (shared_touched s c.args.t p a c.args.writes known
     (outside _ _ _ _ c.self.view_is (λ z. sight_at z c.args.t.pid c.args.t.vpn ≡ None) (sym c.sight.ensures ∙ c.in-None.is))
-    (outside _ _ _ _ c.self.view_is (λ z. is_shared z.segments c.args.t.page.segment ≡ true) (sym c.is_shared.ensures ∙ c.if-is_shared.true)))
+    (outside _ _ _ _ c.self.view_is (λ z. is_shared z.segments c.args.t.page.segment ≡ true) (sym (c.is_shared.ensures ∙ ap (λ (m : Mapped). is_shared m.segments c.args.t.page.segment) c.areas-in-None.ensures.areas) ∙ c.if-is_shared.true)))
     (c.join.ensures.touches p a known)
 
 pub returns-in_ok-fill-in-None-clause-touches : goal.returns-in_ok-fill-in-None-clause-touches
@@ -149,7 +149,7 @@ returns-in_ok-fill-in-None-clause-touches g c p a known =
     let s = c.args.self.now.state in
     private_touched s c.args.t p a c.args.writes known
     (outside _ _ _ _ c.self.view_is (λ z. sight_at z c.args.t.pid c.args.t.vpn ≡ None) (sym c.sight.ensures ∙ c.in-None.is))
-    (outside _ _ _ _ c.self.view_is (λ z. is_shared z.segments c.args.t.page.segment ≡ false) (sym c.is_shared.ensures ∙ c.if-is_shared.false)) c.if-writes-2.true
+    (outside _ _ _ _ c.self.view_is (λ z. is_shared z.segments c.args.t.page.segment ≡ false) (sym (c.is_shared.ensures ∙ ap (λ (m : Mapped). is_shared m.segments c.args.t.page.segment) c.areas-in-None.ensures.areas) ∙ c.if-is_shared.false)) c.if-writes-2.true
     ∙ c.in_ok-fill-in-None.ensures.touches p a known
 
 pub returns-in_err-fill-in-None-clause-touches : goal.returns-in_err-fill-in-None-clause-touches
@@ -158,7 +158,7 @@ returns-in_err-fill-in-None-clause-touches g c p a known =
     touch_handed_on c.fill-then-writes-2.result c.from_residual-in_err-fill-in-None.result _ s c.fill-then-writes-2.new.self.state c.in_err-fill-in-None.was c.from_residual-in_err-fill-in-None.ensures
     (private_touched s c.args.t p a c.args.writes known
     (outside _ _ _ _ c.self.view_is (λ z. sight_at z c.args.t.pid c.args.t.vpn ≡ None) (sym c.sight.ensures ∙ c.in-None.is))
-    (outside _ _ _ _ c.self.view_is (λ z. is_shared z.segments c.args.t.page.segment ≡ false) (sym c.is_shared.ensures ∙ c.if-is_shared.false)) c.if-writes-2.true)
+    (outside _ _ _ _ c.self.view_is (λ z. is_shared z.segments c.args.t.page.segment ≡ false) (sym (c.is_shared.ensures ∙ ap (λ (m : Mapped). is_shared m.segments c.args.t.page.segment) c.areas-in-None.ensures.areas) ∙ c.if-is_shared.false)) c.if-writes-2.true)
     (c.fill-then-writes-2.ensures.touches p a known)
 
 pub returns-in_ok-see_zero-in-None-clause-touches : goal.returns-in_ok-see_zero-in-None-clause-touches
@@ -167,7 +167,7 @@ returns-in_ok-see_zero-in-None-clause-touches g c p a known =
     let touched = inside _ _ _ _ c.self.view_is (λ s. IsSiteOf s c.args.t p a) known in
     private_touched c.args.self.now.state c.args.t p a c.args.writes known
     (outside _ _ _ _ c.self.view_is (λ z. sight_at z c.args.t.pid c.args.t.vpn ≡ None) (sym c.sight.ensures ∙ c.in-None.is))
-    (outside _ _ _ _ c.self.view_is (λ z. is_shared z.segments c.args.t.page.segment ≡ false) (sym c.is_shared.ensures ∙ c.if-is_shared.false)) c.if-writes-2.false
+    (outside _ _ _ _ c.self.view_is (λ z. is_shared z.segments c.args.t.page.segment ≡ false) (sym (c.is_shared.ensures ∙ ap (λ (m : Mapped). is_shared m.segments c.args.t.page.segment) c.areas-in-None.ensures.areas) ∙ c.if-is_shared.false)) c.if-writes-2.false
     ∙ ap (λ (y : MidRun). Ok (with_sight y.state (access_site c.args.t p a) ZeroPage)) (sym c.self.view_is)
     ∙ ap (λ (z : AddressSpacesView). Ok (shown_by z i.frames i.online i.totals.moved i.totals.failed)) (sym (c.in_ok-see_zero-in-None.ensures.ok p touched.known))
 
@@ -179,7 +179,7 @@ returns-in_err-see_zero-in-None-clause-touches g c p a known =
 
 pub returns-in-Some-Sees-clause-frame : goal.returns-in-Some-Sees-clause-frame
 returns-in-Some-Sees-clause-frame g c =
-    c.place.ensures.place
+    c.page_frame.ensures ∙ ap (λ (m : Mapped). get page_cmp m.place c.in-Some-Sees.page) c.areas.ensures.areas
     ∙ ap (frame_of c.self.inside.spaces.place) (sym (sym c.sight.ensures ∙ c.in-Some-Sees.is ∙ ap Some c.in-Some-Sees.field-0-is))
     ∙ ap (λ (y : MidRun). frame_seen y.state c.args.t.pid c.args.t.vpn) c.self.view_is
 

@@ -25,8 +25,8 @@ free_frames-requires g c =
     let can = subst (λ (v : FramesView). CanFree (pool_of v) v.vacated) (sym c.self.view_is) c.requires in
     subst (CanFree k.nodes) (sym c.as_slice.ensures.value) (subst (λ (sizes : List ℕ). CanFree (record { sizes = sizes; lists = k.nodes.lists }) k.vacated.items) (sym c.self.invariant.0) can)
 
-pub returns : goal.returns
-returns g c =
+pub returns-clause-freed : goal.returns-clause-freed
+returns-clause-freed g c =
     let k = c.self.inside in
     let fields : Pool → List ℕ → ℕ → FramesView = λ p vacated room. record { layout = k.geometry; frames = k.frames; free = p.lists; vacated = vacated; room = min room (vec_capacity k.jobs) } in
     let freed : c.free_frames.new.nodes ≡ with_freed k.nodes k.vacated.items = c.free_frames.ensures ∙ ap (λ frames. with_freed k.nodes frames) c.as_slice.ensures.value in

@@ -8,8 +8,8 @@ use Rattle.nm_spaces.proofs.Moves.OnePage.{placed_in}
 use Rattle.nm_spaces.proofs.Tied.PinChanges.{pins_shown}
 use Rattle.nm_spaces.proofs.address_spaces.AddressSpaces.look_at.Goals as goal
 
-pub returns-clause-look : goal.returns-clause-look
-returns-clause-look g c =
+pub returns : goal.returns
+returns g c =
     let x = c.self.inside in
     let placed = placed_in c.args.self.now x.tasks x.areas x.rmap c.args.page c.args.frame c.self.view_is c.requires in
     let counted =
