@@ -113,9 +113,9 @@ fn is_bad_set<A: Allocator + Copy + Send + Sync>(
     nodes.len() != 0 && usable(machine, allowed, nodes).len() == 0
 }
 
-/// What a request asks for. Errors, in order: ESRCH (no such caller); EINVAL (an unknown flag or mode, nodes that do not
-/// fit the mode, a node that the machine does not have, no node that is online and allowed); EPERM (MPOL_MF_MOVE_ALL
-/// without privilege).
+/// What a request asks for. Errors, in order: ESRCH (no such caller); EINVAL (an unknown flag or mode, nodes that do
+/// not fit the mode, a node that the machine does not have, no node that is online and allowed); EPERM
+/// (MPOL_MF_MOVE_ALL without privilege).
 fn asked_of<A: Allocator + Copy + Send + Sync>(
     machine: &Machine<A>,
     request: &MbindRequest,
