@@ -21,10 +21,11 @@ ghost use Rattle.nm_memory.specs.views.Accesses.{answer_shown};
 
 use crate::answer::Moved;
 use crate::call_error::CallError;
+use crate::permission::Permit;
 use nm_crew::{Crew, Gate};
 use nm_engine::{AccessAnswer, Machine, failures};
 use nm_runs::{Request, Run, Wanted, check_batch, cut_within};
-use nm_steps::InFlight;
+use nm_steps::{Batch, InFlight, MoveRequest};
 use nm_types::{Access, Errno, NodeId, NodeMask, Pid, Vpn};
 use std::alloc::{AllocError, Allocator};
 use std::sync::Wait;
@@ -129,9 +130,10 @@ pub(crate) fn move_runs<
     })
 }
 
-/// Moves the pages of a batch, run after run, with at most `limit` entries in each run. The runs and lists are made
-/// before the first run starts, so that memory for them cannot be refused halfway. An error means that the host is out
-/// of memory, and says after how many runs; a batch of no pages and no accesses takes none.
+/// Moves the pages of a request, whose batch goes to nodes of the machine, run after run, with at most `limit` entries
+/// in each run. The runs and lists are made before the first run starts, so that memory for them cannot be refused
+/// halfway. An error means that the host is out of memory, and says after how many runs; a batch of no pages and no
+/// accesses takes none.
 pub(crate) fn move_batch<
     R: Threads + Wait + Sync,
     A: Allocator + Copy + Send + Sync,
@@ -140,21 +142,23 @@ pub(crate) fn move_batch<
     crew: &Crew<R, G>,
     alloc: A,
     machine: &mut Machine<A>,
-    pid: Pid,
-    all: bool,
-    pages: &[u64],
-    nodes: &[u32],
-    during: &[InFlight<A>],
+    permit: &Permit,
+    request: &MoveRequest<A>,
     limit: usize,
 ) -> Result<Moved<A>, CallError>
     requires some { 0 < limit }
-    requires nodes { EachIndex nodes.now
-        (λ k. slice_index nodes.now k < node_count machine.old.layout) }
-    requires paired { length pages.now ≡ length nodes.now }
+    requires nodes { EachIndex request.now.batch.nodes.items
+        (λ k. slice_index request.now.batch.nodes.items k < node_count machine.old.layout) }
     ensures moves { Moves result machine.old machine.new
-        (cut_within limit (requests_of pid all pages.now nodes.now)) (shown_during during.now) }
-    ensures asked { OnErr result (0 < length pages.now + length during.now) }
+        (cut_within limit (requests_of permit.now.pid permit.now.all request.now.batch.pages.items request.now.batch.nodes.items)) (shown_during request.now.during.items) }
+    ensures asked { OnErr result
+        (0 < length request.now.batch.pages.items + length request.now.during.items) }
 {
+    let MoveRequest { batch, during, .. } = request;
+    let Batch { pages, nodes } = batch;
+    let pages = pages.as_slice();
+    let nodes = nodes.as_slice();
+    let during = during.as_slice();
     if pages.is_empty() && during.is_empty() {
         return Ok(Moved {
             failed: 0,
@@ -162,7 +166,7 @@ pub(crate) fn move_batch<
             answers: Vec::new(alloc),
         });
     }
-    let requests = requests_of(alloc, pid, all, pages, nodes)?;
+    let requests = requests_of(alloc, permit.pid, permit.all, pages, nodes)?;
     let runs = cut_within(alloc, requests.as_slice(), limit)?;
     let statuses = Vec::with_capacity(alloc, pages.len())?;
     let runs = runs.as_slice();

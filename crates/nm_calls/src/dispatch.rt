@@ -5,17 +5,14 @@ ghost use Rattle.nm_memory.specs.views.Accesses.{answer_shown};
 ghost use Rattle.nm_steps.specs.Calls as calls;
 ghost use Rattle.nm_calls.specs.definitions.Answers as answers;
 ghost use Rattle.nm_calls.specs.definitions.Does.{Does};
-ghost use Rattle.nm_steps.specs.Views.{shown_during, call_of};
+ghost use Rattle.nm_steps.specs.Views.{call_of};
 ghost use Rattle.nm_calls.specs.views.Answers.{answer_of};
 
 use crate::answer::{Answer, Moved};
 use crate::call_error::CallError;
 use crate::system::System;
 use nm_crew::Gate;
-use nm_steps::{
-    Attachment, Batch, Call, MbindRequest, MigrateRequest, MoveRequest, NewArea, NewProcess,
-    Question,
-};
+use nm_steps::{Attachment, Call, MbindRequest, NewProcess, Question};
 use nm_types::NodeId;
 use std::alloc::Allocator;
 use std::sync::Wait;
@@ -29,32 +26,8 @@ fn spawn<A: Allocator + Copy + Send + Sync>(
     ensures { Does answer_of result system.old system.new
         (calls.Spawn process.now.pid process.now.uid process.now.home process.now.allowed process.now.privileged) }
 {
-    let NewProcess {
-        pid,
-        uid,
-        home,
-        allowed,
-        privileged,
-    } = process;
-    system.spawn(*pid, *uid, *home, *allowed, *privileged)?;
+    system.spawn(process)?;
     Ok(Answer::Done)
-}
-
-/// Makes an area over a new segment.
-fn map<A: Allocator + Copy + Send + Sync>(
-    system: &mut System<A>,
-    area: &NewArea,
-) -> Result<u32, CallError>
-    ensures { Does answers.NewSegment result system.old system.new
-        (calls.MapPages area.now.pid area.now.addr area.now.pages area.now.shared) }
-{
-    let NewArea {
-        pid,
-        addr,
-        pages,
-        shared,
-    } = area;
-    system.map(*pid, *addr, *pages, *shared)
 }
 
 /// Makes an area over a range of a shared segment.
@@ -65,64 +38,8 @@ fn attach<A: Allocator + Copy + Send + Sync>(
     ensures { Does answer_of result system.old system.new
         (calls.Attach area.now.pid area.now.addr area.now.segment area.now.offset area.now.pages) }
 {
-    let Attachment {
-        pid,
-        addr,
-        segment,
-        offset,
-        pages,
-    } = area;
-    system.attach(*pid, *addr, *segment, *offset, *pages)?;
+    system.attach(area)?;
     Ok(Answer::Done)
-}
-
-/// Moves pages.
-fn move_pages<R: Threads + Wait + Sync, A: Allocator + Copy + Send + Sync, G: Gate + Sync>(
-    rt: &R,
-    system: &mut System<A>,
-    request: &MoveRequest<A>,
-    gate: &G,
-) -> Result<Moved<A>, CallError>
-    ensures { Does (λ moved. answers.Statuses moved.failed moved.statuses.items (map answer_shown moved.answers.items)) result system.old system.new
-        (calls.MovePages request.now.caller request.now.pid request.now.batch.pages.items request.now.batch.nodes.items request.now.flags (shown_during request.now.during.items)) }
-{
-    let MoveRequest {
-        caller,
-        pid,
-        batch,
-        flags,
-        during,
-    } = request;
-    let Batch { pages, nodes } = batch;
-    system.move_pages(
-        rt,
-        *caller,
-        *pid,
-        pages.as_slice(),
-        nodes.as_slice(),
-        *flags,
-        during.as_slice(),
-        gate,
-    )
-}
-
-/// Moves a process's pages from nodes to nodes.
-fn migrate_pages<R: Threads + Wait + Sync, A: Allocator + Copy + Send + Sync, G: Gate + Sync>(
-    rt: &R,
-    system: &mut System<A>,
-    request: &MigrateRequest,
-    gate: &G,
-) -> Result<usize, CallError>
-    ensures { Does answers.Failed result system.old system.new
-        (calls.MigratePages request.now.caller request.now.pid request.now.old request.now.new) }
-{
-    let MigrateRequest {
-        caller,
-        pid,
-        old,
-        new,
-    } = request;
-    system.migrate_pages(rt, *caller, *pid, *old, *new, gate)
 }
 
 /// Sets the policy of a range.
@@ -135,15 +52,7 @@ fn mbind<R: Threads + Wait + Sync, A: Allocator + Copy + Send + Sync, G: Gate + 
     ensures { Does answer_of result system.old system.new
         (calls.Mbind request.now.caller request.now.addr request.now.len request.now.mode request.now.nodes request.now.flags) }
 {
-    let MbindRequest {
-        caller,
-        addr,
-        len,
-        mode,
-        nodes,
-        flags,
-    } = request;
-    system.mbind(rt, *caller, *addr, *len, *mode, *nodes, *flags, gate)?;
+    system.mbind(rt, request, gate)?;
     Ok(Answer::Failed(0))
 }
 
@@ -179,15 +88,9 @@ fn query<A: Allocator + Copy + Send + Sync>(
     ensures { Does (λ moved. answers.Statuses moved.failed moved.statuses.items (map answer_shown moved.answers.items)) result system.now system.now
         (calls.Query question.now.caller question.now.pid question.now.pages.items question.now.flags) }
 {
-    let Question {
-        caller,
-        pid,
-        pages,
-        flags,
-    } = question;
     Ok(Moved {
         failed: 0,
-        statuses: system.query(*caller, *pid, pages.as_slice(), *flags)?,
+        statuses: system.query(question)?,
         answers: Vec::new(system.allocator()),
     })
 }
@@ -205,7 +108,7 @@ impl<A: Allocator + Copy + Send + Sync> System<A> {
     {
         match call {
             Call::Spawn(process) => spawn(self, process),
-            Call::Map(area) => Ok(Answer::Segment(map(self, area)?)),
+            Call::Map(area) => Ok(Answer::Segment(self.map(area)?)),
             Call::Attach(area) => attach(self, area),
             Call::Unmap { pid, addr, pages } => {
                 self.unmap(*pid, *addr, *pages)?;
@@ -228,9 +131,9 @@ impl<A: Allocator + Copy + Send + Sync> System<A> {
                 self.write(*pid, *addr, bytes.as_slice())?;
                 Ok(Answer::Done)
             }
-            Call::MovePages(request) => Ok(Answer::Statuses(move_pages(rt, self, request, gate)?)),
-            Call::MigratePages(request) => Ok(Answer::Failed(migrate_pages(
-                rt, self, request, gate,
+            Call::MovePages(request) => Ok(Answer::Statuses(self.move_pages(rt, request, gate)?)),
+            Call::MigratePages(request) => Ok(Answer::Failed(self.migrate_pages(
+                rt, request, gate,
             )?)),
             Call::Mbind(request) => mbind(rt, self, request, gate),
             Call::Offline { node } => offline(rt, self, *node, gate),

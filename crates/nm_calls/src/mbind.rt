@@ -16,6 +16,7 @@ use crate::placement::{make, way_of};
 use crate::stray_pages::{astray, some_stray, stray_from};
 use nm_crew::{Crew, Gate};
 use nm_engine::{Located, Machine, ProcessInfo};
+use nm_steps::MbindRequest;
 use nm_types::limits::PAGE_BYTES;
 use nm_types::{Errno, MoveFlags, NodeId, NodeMask, Pid, Policy, Vpn};
 use std::alloc::{AllocError, Allocator};
@@ -112,28 +113,34 @@ fn is_bad_set<A: Allocator + Copy + Send + Sync>(
     nodes.len() != 0 && usable(machine, allowed, nodes).len() == 0
 }
 
-/// What a caller asks for. Errors, in order: ESRCH (no such caller); EINVAL (an unknown flag or mode, nodes that do not
-/// fit the mode, a node that the machine does not have, no node that is online and allowed); EPERM (MPOL_MF_MOVE_ALL
-/// without privilege).
+/// What a request asks for. Errors, in order: ESRCH (no such caller); EINVAL (an unknown flag or mode, nodes that do
+/// not fit the mode, a node that the machine does not have, no node that is online and allowed); EPERM
+/// (MPOL_MF_MOVE_ALL without privilege).
 fn asked_of<A: Allocator + Copy + Send + Sync>(
     machine: &Machine<A>,
-    caller: Pid,
-    mode: u32,
-    nodes: NodeMask,
-    flags: u32,
+    request: &MbindRequest,
 ) -> Result<Asked, Errno>
     // In any case
     ensures exact { Checks result
-        (mode_refusal machine.now (info_at machine.now caller) mode nodes flags) }
+        (mode_refusal machine.now (info_at machine.now request.now.caller) request.now.mode request.now.nodes request.now.flags) }
 
     // On success
-    ensures policy { IfOk result (λ asked. asked.policy ≡ policy_asked machine.now caller mode nodes) }
-    ensures home { IfOk result (λ asked. asked.home ≡ home_of (info_at machine.now caller)) }
-    ensures flags { IfOk result (λ asked. asked.flags ≡ flags) }
+    ensures policy { IfOk result
+        (λ asked. asked.policy ≡ policy_asked machine.now request.now.caller request.now.mode request.now.nodes) }
+    ensures home { IfOk result
+        (λ asked. asked.home ≡ home_of (info_at machine.now request.now.caller)) }
+    ensures flags { IfOk result (λ asked. asked.flags ≡ request.now.flags) }
     ensures nodes { IfOk result
         (λ asked. AllByRecursion (λ n. n < node_count (machine.now.layout))
         (nodes_named asked.policy)) }
 {
+    let MbindRequest {
+        caller,
+        mode,
+        nodes,
+        flags,
+        ..
+    } = *request;
     let Some(asking) = machine.process(caller) else {
         return Err(Errno::Esrch);
     };
@@ -168,15 +175,22 @@ fn wants_moves(flags: MoveFlags) -> bool
 /// without a flag to move, and a page that the caller sees in the range is not where the policy wants it).
 fn binding_of<A: Allocator + Copy + Send + Sync>(
     machine: &Machine<A>,
-    caller: Pid,
-    addr: u64,
-    len: u64,
+    request: &MbindRequest,
     policy: Policy,
     flags: MoveFlags,
 ) -> Result<Binding, Errno>
-    ensures exact { Checks result (range_refusal machine.now caller addr len policy flags) }
-    ensures range { IfOk result (λ b. b ≡ range_of caller addr len policy) }
+    ensures exact { Checks result
+        (range_refusal machine.now request.now.caller request.now.addr request.now.len policy flags) }
+    ensures range { IfOk result
+        (λ b. b ≡ range_of request.now.caller request.now.addr request.now.len policy) }
+    ensures few { IfOk result (λ b. b.end - b.first ≤ 2 ^ 52) }
 {
+    let MbindRequest {
+        caller,
+        addr,
+        len,
+        ..
+    } = *request;
     machine.check_policy(caller, addr, len)?;
     let first = Vpn::of_address(addr);
     let end = Vpn::new(first.number() + len.div_ceil(PAGE_BYTES as u64));
@@ -197,28 +211,26 @@ fn binding_of<A: Allocator + Copy + Send + Sync>(
 /// What a call asks for, and the range of its policy. Returns the errors of `asked_of`, then those of `binding_of`.
 pub(crate) fn ready<A: Allocator + Copy + Send + Sync>(
     machine: &Machine<A>,
-    caller: Pid,
-    addr: u64,
-    len: u64,
-    mode: u32,
-    nodes: NodeMask,
-    flags: u32,
+    request: &MbindRequest,
 ) -> Result<(Asked, Binding), Errno>
     // In any case
-    ensures exact { Checks result (mbind_refusal machine.now caller addr len mode nodes flags) }
+    ensures exact { Checks result
+        (mbind_refusal machine.now request.now.caller request.now.addr request.now.len request.now.mode request.now.nodes request.now.flags) }
 
     // On success
-    ensures free { IfOk result (λ r. policy_refusal machine.now caller addr len ≡ None) }
-    ensures binding { IfOk result (λ r. r.1 ≡ binding machine.now caller addr len mode nodes) }
-    ensures home { IfOk result (λ r. r.0.home ≡ home_of (info_at machine.now caller)) }
-    ensures flags { IfOk result (λ r. r.0.flags ≡ flags) }
+    ensures free { IfOk result
+        (λ r. policy_refusal machine.now request.now.caller request.now.addr request.now.len ≡ None) }
+    ensures binding { IfOk result
+        (λ r. r.1 ≡ binding machine.now request.now.caller request.now.addr request.now.len request.now.mode request.now.nodes) }
+    ensures home { IfOk result (λ r. r.0.home ≡ home_of (info_at machine.now request.now.caller)) }
+    ensures flags { IfOk result (λ r. r.0.flags ≡ request.now.flags) }
     ensures nodes { IfOk result
         (λ r. AllByRecursion (λ n. n < node_count (machine.now.layout)) (nodes_named r.1.policy)) }
     ensures few { IfOk result (λ r. r.1.end - r.1.first ≤ 2 ^ 52) }
 {
-    let asked = asked_of(machine, caller, mode, nodes, flags)?;
+    let asked = asked_of(machine, request)?;
     let Asked { policy, flags, .. } = asked;
-    let binding = binding_of(machine, caller, addr, len, policy, flags)?;
+    let binding = binding_of(machine, request, policy, flags)?;
     Ok((asked, binding))
 }
 
@@ -260,24 +272,23 @@ pub(crate) fn bind<R: Threads + Wait + Sync, A: Allocator + Copy + Send + Sync, 
     machine: &mut Machine<A>,
     binding: &Binding,
     asked: Asked,
-    addr: u64,
-    len: u64,
+    request: &MbindRequest,
     limit: usize,
 ) -> Result<(), CallError>
     requires some { 0 < limit }
-    requires free { policy_refusal machine.old binding.now.pid addr len ≡ None }
+    requires free { policy_refusal machine.old binding.now.pid request.now.addr request.now.len ≡ None }
     requires nodes { AllByRecursion (λ n. n < node_count (machine.old.layout))
         (nodes_named binding.now.policy) }
     requires home { asked.home ≡ home_of (info_at machine.old binding.now.pid) }
     requires few { binding.now.end - binding.now.first ≤ 2 ^ 52 }
-    ensures { Binds result machine.old (set_policy machine.old binding.now.pid addr len binding.now.policy) machine.new binding.now
-        (mbind_runs limit (set_policy machine.old binding.now.pid addr len binding.now.policy) binding.now asked.flags) asked.flags }
+    ensures { Binds result machine.old (set_policy machine.old binding.now.pid request.now.addr request.now.len binding.now.policy) machine.new binding.now
+        (mbind_runs limit (set_policy machine.old binding.now.pid request.now.addr request.now.len binding.now.policy) binding.now asked.flags) asked.flags }
 {
     let Asked { home, flags, .. } = asked;
     let all = flags.moves_all();
     let pages = listed(alloc, machine, binding, flags)?;
     let way = way_of(alloc, machine, home, binding, all, pages.as_slice())?;
-    machine.set_policy(binding.pid, addr, len, binding.policy)?;
+    machine.set_policy(binding.pid, request.addr, request.len, binding.policy)?;
     if let Err(error) = make(crew, alloc, machine, way, limit) {
         return Err(error);
     }

@@ -20,7 +20,7 @@ use nm_crew::{Crew, Gate};
 use nm_engine::{Machine, ProcessInfo};
 use nm_policy::pairs;
 use nm_runs::cut_within;
-use nm_steps::InFlight;
+use nm_steps::{InFlight, MigrateRequest};
 use nm_types::{Errno, NodeMask, Pid};
 use std::alloc::Allocator;
 use std::sync::Wait;
@@ -65,22 +65,26 @@ fn targets_of<A: Allocator + Copy + Send + Sync>(
 /// and allowed).
 pub(crate) fn migration_of<A: Allocator + Copy + Send + Sync>(
     machine: &Machine<A>,
-    caller: Pid,
-    pid: Pid,
-    old: NodeMask,
-    new: NodeMask,
+    request: &MigrateRequest,
 ) -> Result<Migration, Errno>
     // In any case
-    ensures exact { Checks result (migrate_refusal machine.now caller pid old new) }
+    ensures exact { Checks result
+        (migrate_refusal machine.now request.now.caller request.now.pid request.now.old request.now.new) }
 
     // On success
     ensures list { IfOk result
-        (λ m. migration machine.now caller pid old new
-        ≡ migrate_list machine.now m.pid m.all (pairs old m.targets)) }
+        (λ m. migration machine.now request.now.caller request.now.pid request.now.old request.now.new
+        ≡ migrate_list machine.now m.pid m.all (pairs request.now.old m.targets)) }
     ensures there { IfOk result (λ m. IsSome (info_at machine.now m.pid)) }
     ensures nodes { IfOk result
         (λ m. AllByRecursion (λ n. n < node_count (machine.now.layout)) m.targets) }
 {
+    let MigrateRequest {
+        caller,
+        pid,
+        old,
+        new,
+    } = *request;
     let Some(asking) = machine.process(caller) else {
         return Err(Errno::Esrch);
     };

@@ -29,12 +29,14 @@ use crate::maps::areas_text;
 use crate::mbind::{bind, ready};
 use crate::migrate::{migrate, migration_of};
 use crate::offline::{check_offline, empty};
-use crate::permission::{Permit, permit_of};
+use crate::permission::permit_of;
 use nm_crew::{Crew, Gate};
 use nm_engine::{Entry, Machine, Totals};
-use nm_steps::InFlight;
+use nm_steps::{
+    Attachment, MbindRequest, MigrateRequest, MoveRequest, NewArea, NewProcess, Question,
+};
 use nm_types::limits::MAX_BATCH;
-use nm_types::{Errno, FrameId, Geometry, NodeId, NodeMask, Pid, Vpn};
+use nm_types::{Errno, FrameId, Geometry, NodeId, Pid, Vpn};
 use std::alloc::{AllocError, Allocator};
 use std::marker::Model;
 use std::sync::Wait;
@@ -84,6 +86,9 @@ fn statuses_of<A: Allocator + Copy + Send + Sync>(
 /// A machine of nodes, processes and pages, the most entries that a run may have, and the number of workers that copy.
 /// Contracts see its state, which is sound, and that limit: the number of workers changes nothing that a call does or
 /// returns.
+///
+/// A call with four arguments or more takes them as one value, such as an `MbindRequest`: a struct with public fields,
+/// which `Call` has too.
 #[derive(Drop)]
 pub struct System<A: Allocator + Copy + Send + Sync> {
     machine: Machine<A>,
@@ -146,47 +151,53 @@ impl<A: Allocator + Copy + Send + Sync> System<A> {
     ///
     /// Errors, in order: EINVAL (pid 0 or one that is alive, a home that is not a node, an allowed set that is empty or
     /// has a node that the machine does not have); ENOMEM (1,024 processes are alive).
-    pub fn spawn(
-        &mut self,
-        pid: Pid,
-        uid: u32,
-        home: NodeId,
-        allowed: NodeMask,
-        privileged: bool,
-    ) -> Result<(), CallError>
+    pub fn spawn(&mut self, process: &NewProcess) -> Result<(), CallError>
         ensures { Does (λ done. Done) result self.old self.new
-            (Spawn pid uid home allowed privileged) }
+            (Spawn process.now.pid process.now.uid process.now.home process.now.allowed process.now.privileged) }
     {
+        let NewProcess {
+            pid,
+            uid,
+            home,
+            allowed,
+            privileged,
+        } = *process;
         Ok(self.machine.spawn(pid, uid, home, allowed, privileged)?)
     }
 
-    /// Makes an area of `pages` pages from address `addr` on, over a new segment, private or shared, with the default
-    /// policy (mmap(2)). Returns the segment's number.
+    /// Makes an area over a new segment, private or shared, with the default policy (mmap(2)). Returns the segment's
+    /// number.
     ///
     /// Errors, in order: ESRCH (no such process); EINVAL (an address that is not a multiple of 4,096, no page, an end
     /// past 2^47, an area in the way); ENOMEM (no segment number left).
-    pub fn map(&mut self, pid: Pid, addr: u64, pages: u64, shared: bool) -> Result<u32, CallError>
-        ensures { Does NewSegment result self.old self.new (MapPages pid addr pages shared) }
+    pub fn map(&mut self, area: &NewArea) -> Result<u32, CallError>
+        ensures { Does NewSegment result self.old self.new
+            (MapPages area.now.pid area.now.addr area.now.pages area.now.shared) }
     {
+        let NewArea {
+            pid,
+            addr,
+            pages,
+            shared,
+        } = *area;
         Ok(self.machine.map(pid, addr, pages, shared)?)
     }
 
-    /// Makes an area of `pages` pages from address `addr` on, over a shared segment from `offset` on, in pages, with
-    /// the default policy (mmap(2), MAP_SHARED).
+    /// Makes an area over a range of a shared segment, with the default policy (mmap(2), MAP_SHARED).
     ///
     /// Errors, in order: ESRCH (no such process); EINVAL (an address that is not a multiple of 4,096, no page, an end
     /// past 2^47, an area in the way; or a segment that is unknown, gone or private, or ends before the area would).
-    pub fn attach(
-        &mut self,
-        pid: Pid,
-        addr: u64,
-        segment: u64,
-        offset: u64,
-        pages: u64,
-    ) -> Result<(), CallError>
+    pub fn attach(&mut self, area: &Attachment) -> Result<(), CallError>
         ensures { Does (λ done. Done) result self.old self.new
-            (Attach pid addr segment offset pages) }
+            (Attach area.now.pid area.now.addr area.now.segment area.now.offset area.now.pages) }
     {
+        let Attachment {
+            pid,
+            addr,
+            segment,
+            offset,
+            pages,
+        } = *area;
         Ok(self.machine.attach(pid, addr, segment, offset, pages)?)
     }
 
@@ -263,10 +274,10 @@ impl<A: Allocator + Copy + Send + Sync> System<A> {
         Ok(self.machine.write(pid, addr, bytes)?)
     }
 
-    /// Moves pages, each named by an address in it, to the node at the same index of `nodes`, as move_pages(2) does.
-    /// `nodes` must be as long as `pages`. Pid 0 means the caller. Flags 0 act as MPOL_MF_MOVE (2): a page that another
-    /// process sees stays; with MPOL_MF_MOVE_ALL (4) it moves. The list is cut into its longest stretches for one
-    /// target, and each is a run, or several if it is longer than the limit.
+    /// Moves the pages of a batch, each named by an address in it, to the node at the same index, as move_pages(2)
+    /// does. Pid 0 means the caller. Flags 0 act as MPOL_MF_MOVE (2): a page that another process sees stays; with
+    /// MPOL_MF_MOVE_ALL (4) it moves. The list is cut into its longest stretches for one target, and each is a run, or
+    /// several if it is longer than the limit.
     ///
     /// The status of an entry is the first that holds: -14 (EFAULT) no area; -2 (ENOENT) nothing was touched there; -14
     /// the page of zeros; the target's number, if the page is there already; -13 (EACCES) another process sees it,
@@ -292,41 +303,29 @@ impl<A: Allocator + Copy + Send + Sync> System<A> {
     pub fn move_pages<R: Threads + Wait + Sync, G: Gate + Sync>(
         &mut self,
         rt: &R,
-        caller: Pid,
-        pid: Pid,
-        pages: &[u64],
-        nodes: &[u32],
-        flags: u32,
-        during: &[InFlight<A>],
+        request: &MoveRequest<A>,
         gate: &G,
     ) -> Result<Moved<A>, CallError>
-        requires paired { length pages.now ≡ length nodes.now }
         ensures done { Does
             (λ moved. Statuses moved.failed moved.statuses.items
             (map answer_shown moved.answers.items)) result self.old self.new
-            (MovePages caller pid pages.now nodes.now flags (shown_during during.now)) }
+            (MovePages request.now.caller request.now.pid request.now.batch.pages.items request.now.batch.nodes.items request.now.flags (shown_during request.now.during.items)) }
         ensures asked { (runs : ℕ) (policy_set : Bool) →
             result ≡ Err (HostMemory runs policy_set) →
-            0 < length pages.now + length during.now }
+            0 < length request.now.batch.pages.items + length request.now.during.items }
     {
-        let permit = permit_of(&self.machine, caller, pid, flags)?;
-        let Permit {
-            pid: owner,
-            allowed,
-            all,
-        } = permit;
-        check_targets(&self.machine, allowed, nodes)?;
+        let permit = permit_of(&self.machine, request.caller, request.pid, request.flags)?;
+        let batch = &request.batch;
+        let nodes = batch.nodes.as_slice();
+        check_targets(&self.machine, permit.allowed, nodes)?;
         let limit = self.run_limit;
         let crew = Crew::new(rt, self.workers, gate);
         move_batch(
             &crew,
             self.alloc,
             &mut self.machine,
-            owner,
-            all,
-            pages,
-            nodes,
-            during,
+            &permit,
+            request,
             limit,
         )
     }
@@ -346,24 +345,28 @@ impl<A: Allocator + Copy + Send + Sync> System<A> {
     pub fn migrate_pages<R: Threads + Wait + Sync, G: Gate + Sync>(
         &mut self,
         rt: &R,
-        caller: Pid,
-        pid: Pid,
-        old: NodeMask,
-        new: NodeMask,
+        request: &MigrateRequest,
         gate: &G,
     ) -> Result<usize, CallError>
-        ensures { Does Failed result self.old self.new (MigratePages caller pid old new) }
+        ensures { Does Failed result self.old self.new
+            (MigratePages request.now.caller request.now.pid request.now.old request.now.new) }
     {
-        let what = migration_of(&self.machine, caller, pid, old, new)?;
+        let what = migration_of(&self.machine, request)?;
         let limit = self.run_limit;
         let crew = Crew::new(rt, self.workers, gate);
-        let moved = migrate(&crew, self.alloc, &mut self.machine, what, old, limit)?;
+        let moved = migrate(
+            &crew,
+            self.alloc,
+            &mut self.machine,
+            what,
+            request.old,
+            limit,
+        )?;
         Ok(moved.failed)
     }
 
     /// Sets where new pages of the caller are placed in the `len` bytes from address `addr` on, rounded up to whole
-    /// pages, as mbind(2) does. The modes are MPOL_DEFAULT (0), MPOL_PREFERRED (1), MPOL_BIND (2), MPOL_INTERLEAVE (3)
-    /// and MPOL_LOCAL (4). The policy keeps those of `nodes` that are online and allowed; MPOL_PREFERRED keeps the
+    /// pages, as mbind(2) does. The policy keeps those of `nodes` that are online and allowed; MPOL_PREFERRED keeps the
     /// lowest, and without nodes acts as MPOL_LOCAL. The areas are split at both ends of the range, and never merged.
     /// With MPOL_MF_MOVE (2) or MPOL_MF_MOVE_ALL (4) the pages that the caller sees in the range and that are not where
     /// the policy wants them are listed, each once at its lowest address, and move: for MPOL_PREFERRED to its node; for
@@ -384,22 +387,17 @@ impl<A: Allocator + Copy + Send + Sync> System<A> {
     pub fn mbind<R: Threads + Wait + Sync, G: Gate + Sync>(
         &mut self,
         rt: &R,
-        caller: Pid,
-        addr: u64,
-        len: u64,
-        mode: u32,
-        nodes: NodeMask,
-        flags: u32,
+        request: &MbindRequest,
         gate: &G,
     ) -> Result<(), CallError>
         ensures done { Does (λ done. Failed 0) result self.old self.new
-            (Mbind caller addr len mode nodes flags) }
+            (Mbind request.now.caller request.now.addr request.now.len request.now.mode request.now.nodes request.now.flags) }
         ensures asked { (runs : ℕ) (policy_set : Bool) →
             result ≡ Err (HostMemory runs policy_set) →
-            0 < len }
+            0 < request.now.len }
     {
-        let (asked, binding) = ready(&self.machine, caller, addr, len, mode, nodes, flags)?;
-        if len == 0 {
+        let (asked, binding) = ready(&self.machine, request)?;
+        if request.len == 0 {
             return Ok(());
         }
         let limit = self.run_limit;
@@ -410,8 +408,7 @@ impl<A: Allocator + Copy + Send + Sync> System<A> {
             &mut self.machine,
             &binding,
             asked,
-            addr,
-            len,
+            request,
             limit,
         )
     }
@@ -458,21 +455,21 @@ impl<A: Allocator + Copy + Send + Sync> System<A> {
     /// node, -14 (EFAULT) if there is no area or only the page of zeros, -2 (ENOENT) if nothing was touched. Pid 0
     /// means the caller. Errors as for `move_pages`, except those of entries: ESRCH, EINVAL, EPERM, ESRCH, EPERM. A
     /// call without addresses does not allocate.
-    pub fn query(
-        &self,
-        caller: Pid,
-        pid: Pid,
-        pages: &[u64],
-        flags: u32,
-    ) -> Result<Vec<i32, A>, CallError>
+    pub fn query(&self, question: &Question<A>) -> Result<Vec<i32, A>, CallError>
         ensures done { Does (λ statuses. Statuses 0 statuses.items []) result self.now self.now
-            (Query caller pid pages.now flags) }
+            (Query question.now.caller question.now.pid question.now.pages.items question.now.flags) }
         ensures asked { (runs : ℕ) (policy_set : Bool) →
             result ≡ Err (HostMemory runs policy_set) →
-            0 < length pages.now }
+            0 < length question.now.pages.items }
     {
-        let permit = permit_of(&self.machine, caller, pid, flags)?;
-        Ok(statuses_of(self.alloc, &self.machine, permit.pid, pages)?)
+        let Question {
+            caller,
+            pid,
+            pages,
+            flags,
+        } = question;
+        let permit = permit_of(&self.machine, *caller, *pid, *flags)?;
+        Ok(statuses_of(self.alloc, &self.machine, permit.pid, pages.as_slice())?)
     }
 
     /// How many pages have moved, and how many entries have failed: `pgmigrate_success` and `pgmigrate_fail` of

@@ -8,4 +8,4 @@ pub returns-clause-nodes : goal.returns-clause-nodes
 returns-clause-nodes g c =
     let s = c.args.machine.now in
     subst (AllByRecursion (λ n. n < node_count s.layout)) (sym c.in_ok-targets.ensures.targets)
-    (usable_nodes s c.in_ok-asked.asked.allowed c.args.new (sym c.names_missing_node-else-names_missing_node.ensures ∙ c.if-names_missing_node-2.false))
+    (usable_nodes s c.in_ok-asked.asked.allowed c.args.request.now.new (sym c.names_missing_node-else-names_missing_node.ensures ∙ c.if-names_missing_node-2.false))

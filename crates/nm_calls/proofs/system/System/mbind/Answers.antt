@@ -15,7 +15,7 @@ use Rattle.nm_calls.proofs.system.System.mbind.Goals as goal
 
 pub returns-clause-done : goal.returns-clause-done
 returns-clause-done g c =
-    let x = c.args in
+    let x = c.args.request.now in
     let s = c.self.inside.machine in
     let limit = c.self.inside.run_limit in
     let new = c.bind.new.machine in
@@ -29,11 +29,11 @@ returns-clause-done g c =
     (binds_does y x.caller x.addr x.len x.mode x.nodes x.flags c.bind.result new c.in_ok-asked.ensures.exact asked)
 
 pub returns-in_err-asked-clause-done : goal.returns-in_err-asked-clause-done
-returns-in_err-asked-clause-done g c = refuses_mbind c.args.self.now c.args.caller c.args.addr c.args.len c.args.mode c.args.nodes c.args.flags c.from_residual.result c.in_err-asked.field-0.0 (subst (λ (z : SystemState). mbind_refusal z.state c.args.caller c.args.addr c.args.len c.args.mode c.args.nodes c.args.flags ≡ Some c.in_err-asked.field-0.0) c.self.view_is c.in_err-asked.ensures.exact) c.from_residual.ensures
+returns-in_err-asked-clause-done g c = let x = c.args.request.now in refuses_mbind c.args.self.now x.caller x.addr x.len x.mode x.nodes x.flags c.from_residual.result c.in_err-asked.field-0.0 (subst (λ (z : SystemState). mbind_refusal z.state x.caller x.addr x.len x.mode x.nodes x.flags ≡ Some c.in_err-asked.field-0.0) c.self.view_is c.in_err-asked.ensures.exact) c.from_residual.ensures
 
-pub returns-then-len-eq0-clause-done : goal.returns-then-len-eq0-clause-done
-returns-then-len-eq0-clause-done g c =
-    let x = c.args in
+pub returns-then-request-eq0-clause-done : goal.returns-then-request-eq0-clause-done
+returns-then-request-eq0-clause-done g c =
+    let x = c.args.request.now in
     let y : SystemState = record { state = c.self.inside.machine; run_limit = c.self.inside.run_limit } in
     subst (λ (z : SystemState). outcome z (Mbind x.caller x.addr x.len x.mode x.nodes x.flags) ≡ record { answer = Failed 0; system = z }) c.self.view_is
-    (nothing_bound y x.caller x.addr x.mode x.nodes x.flags x.len c.if-len-eq0.true c.in_ok-asked.ensures.exact)
+    (nothing_bound y x.caller x.addr x.mode x.nodes x.flags x.len c.if-request-eq0.true c.in_ok-asked.ensures.exact)
