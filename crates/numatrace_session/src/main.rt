@@ -7,7 +7,10 @@
 //! and 4 where a stream fails, with one line on standard error for the last three.
 #![tactic(auto)]
 
-ghost use Rattle.std.specs.Prelude.{◌++◌, ◌∷◌, []};
+ghost use Rattle.std.specs.Prelude.{◌≡◌, ◌⊎◌, ◌++◌, ◌∷◌, [], length, nat_lt, false, OnOk, IfOk, IfErr, IfSome};
+ghost use Rattle.std.specs.Io.{StopsAt};
+ghost use Rattle.std.specs.Io.BufRead.{take_through, DropsThrough};
+ghost use Rattle.std.specs.Io.KnownBytes.{Consumes, IsAtEnd, Keeps};
 ghost use Rattle.numatrace_session.specs.Replies.{bad_step_reply, Replies, Tries, Writes};
 
 use nm_crew::OpenGate;
@@ -30,7 +33,21 @@ enum End {
 }
 
 /// Reads the next line, with its end, in place of what is in the list. False where the input has ended.
-fn next_line(input: &mut impl BufRead, line: &mut Vec<u8>) -> Result<bool, End> {
+fn next_line<R: BufRead>(input: &mut R, line: &mut Vec<u8>) -> Result<bool, End>
+    // On success
+    ensures line { OnOk result (IfSome (R.remaining input.old)
+        (λ xs. line.new.items ≡ take_through 10 xs)) }
+    ensures rest { OnOk result (DropsThrough (R.remaining input.old) (R.remaining input.new) 10) }
+    ensures more { IfOk result (λ more. more ≡ nat_lt 0 (length line.new.items)) }
+    ensures end { IfOk result (λ more. more ≡ false → IsAtEnd (R.remaining input.old)) }
+
+    // In any case
+    ensures stops { StopsAt line.new.items 10 }
+    ensures none_lost { Consumes (R.remaining input.old) (R.remaining input.new) line.new.items }
+
+    // On a fault
+    ensures fault { IfErr result (λ e. (e ≡ End.HostMemory) ⊎ (e ≡ End.Stream)) }
+{
     line.clear();
     match input.read_until(b'\n', line) {
         Ok(count) => Ok(count > 0),
@@ -93,7 +110,10 @@ fn reply<R: Threads + Wait + Sync, W: TellingWriter>(
         Ok(lines) => put_lines(out, lines.as_slice()),
         Err(TraceError::NotJson) => put(out, b"fault: not JSON\n\n"),
         Err(TraceError::BadStep(number)) => put_bad_step(heap, out, number),
-        Err(_) => Err(End::HostMemory),
+        Err(TraceError::HostMemory(_)) => Err(End::HostMemory),
+        Err(TraceError::BadMachine | TraceError::ReadFault | TraceError::WriteFault) => {
+            unreachable!()
+        }
     }
 }
 
