@@ -30,7 +30,7 @@ some_items : {V : Type 0} (view : V → Data) (vs : List V) → 0 < length vs �
 some_items view [] some = absurd (omega (arith, some))
 some_items view (v ∷ vs) some = refl
 
-some_is : {A E : Type 0} (o : Option A) (e : E) (x : A) → ok_or o e ≡ Ok x → o ≡ Some x
+pub some_is : {A E : Type 0} (o : Option A) (e : E) (x : A) → ok_or o e ≡ Ok x → o ≡ Some x
 some_is None e x is = absurd (cc)
 some_is (Some y) e x is = cc
 

@@ -1,9 +1,19 @@
 -- Which values are read into memory of the host.
-use Rattle.std.specs.Prelude.{ℕ, ◌%◌, ◌==◌, List, length, Bool, true, false, ◌&&◌, ◌||◌, Option, Some, None, is_some, codes}
-use Rattle.std.specs.Str.{bytes_eq}
+use Rattle.std.specs.Prelude.{◌≡◌, ◌⊎◌, ℕ, ◌%◌, ◌==◌, ◌<◌, List, length, Bool, true, false, ◌&&◌, ◌||◌, Option, Some, None, is_some, codes}
+use Rattle.std.specs.Str.{bytes_eq, is_utf8}
+use Rattle.json.specs.Lex.{tokens}
+use Rattle.json.specs.Reads.{opens}
 use Rattle.serde_json.specs.Data.{Data, Items, no_items, item}
 use Rattle.serde_json.specs.Find.{get}
 use Rattle.nm_steps.specs.Form.{items_at, text_at, place_at}
+
+-- a text with a byte
+abbrev pub IsSomeText : List ℕ → Type 0
+IsSomeText bytes = (is_utf8 bytes ≡ true) × (0 < length bytes)
+
+-- a text is longer than the room that there is for it, or begins with a list or an object
+abbrev pub NeedsMemory : ℕ → List ℕ → Type 0
+NeedsMemory room text = (room < length text) ⊎ (opens (tokens text) ≡ true)
 
 -- whether there is a list with an item
 abbrev pub has_items : Option Items → Bool
@@ -30,14 +40,18 @@ has_pairs (Some digits) = length digits % 2 == 0
 abbrev pub write_has_pairs : Data → Bool
 write_has_pairs d = is_some (place_at d) && has_pairs (text_at (codes "data") d)
 
+-- whether the access with this name is such a write
+abbrev pub access_takes_memory : List ℕ → Data → Bool
+access_takes_memory op d = bytes_eq op (codes "write") && write_has_pairs d
+
 -- whether the lists of a batch have an item
 abbrev pub batch_has_items : Data → Bool
 batch_has_items d = has_items (items_at (codes "pages") d) || has_items (items_at (codes "nodes") d)
 
--- whether the step with this name has bytes, or a list with an item
+-- whether the step with this name has the digits of its bytes in pairs, or a list with an item
 abbrev pub takes_memory : List ℕ → Data → Bool
 takes_memory op d =
-    bytes_eq op (codes "write")
+    access_takes_memory op d
     || (bytes_eq op (codes "move_pages") && (batch_has_items d || has_items (items_at (codes "during") d)))
     || (bytes_eq op (codes "query") && has_items (items_at (codes "pages") d))
 

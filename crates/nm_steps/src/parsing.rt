@@ -1,7 +1,6 @@
 //! Steps in JSON: the call that each asks for.
 
 ghost use Rattle.std.specs.Prelude.{◌≡◌, ◌<◌, ◌++◌, ◌∷◌, ◌||◌, [], length, true, option_map, OnOk, IfErr, codes};
-ghost use Rattle.std.specs.Str.{bytes_eq};
 ghost use Rattle.nm_steps.specs.Tree.{items_seen};
 ghost use Rattle.nm_model.specs.views.Asked.{access_shown};
 ghost use Rattle.nm_steps.specs.Calls as calls;
@@ -9,7 +8,7 @@ ghost use Rattle.nm_steps.specs.Form.{small_at, place_at};
 ghost use Rattle.nm_steps.specs.Form as form;
 ghost use Rattle.nm_steps.specs.Views.{call_of, shown_during};
 ghost use Rattle.nm_steps.specs.Gives.{Gives};
-ghost use Rattle.nm_steps.specs.Memory.{takes_memory, batch_has_items, has_items, starts, write_has_pairs};
+ghost use Rattle.nm_steps.specs.Memory.{takes_memory, access_takes_memory, batch_has_items, has_items, starts, write_has_pairs};
 ghost use Rattle.nm_steps.specs.declared.step_error.StepError.TheVariants.{Bad, Memory};
 
 use crate::call::{
@@ -63,8 +62,7 @@ fn access_named<A: Allocator + Copy + Send + Sync, V: JsonValue>(
     value: &V,
 ) -> Result<Access<A>, StepError>
     ensures access { Gives access_shown result (form.access_named op.now (V.as_data value.now)) }
-    ensures asked { result ≡ Err Memory → bytes_eq op.now (codes "write") ≡ true }
-    ensures pairs { result ≡ Err Memory → write_has_pairs (V.as_data value.now) ≡ true }
+    ensures asked { result ≡ Err Memory → access_takes_memory op.now (V.as_data value.now) ≡ true }
 {
     match op {
         "read" => read_access(value),
@@ -83,9 +81,9 @@ fn in_flight<A: Allocator + Copy + Send + Sync, V: JsonValue>(
     ensures flight { Gives (λ d. (d.run, access_shown d.access)) result
         (form.in_flight runs (V.as_data value.now)) }
     ensures asked { result ≡ Err Memory →
-        option_map (λ op. bytes_eq op (codes "write")) (form.text_at (codes "op") (V.as_data value.now))
+        option_map (λ op. access_takes_memory op (V.as_data value.now))
+        (form.text_at (codes "op") (V.as_data value.now))
         ≡ Some true }
-    ensures pairs { result ≡ Err Memory → write_has_pairs (V.as_data value.now) ≡ true }
 {
     let run = number(value, "run")?;
     if run >= runs as u64 {
@@ -434,8 +432,6 @@ fn named<A: Allocator + Copy + Send + Sync, V: JsonValue>(
     requires { 0 < limit }
     ensures call { Gives call_of result (form.named limit op.now (V.as_data value.now)) }
     ensures asked { result ≡ Err Memory → takes_memory op.now (V.as_data value.now) ≡ true }
-    ensures pairs { result ≡ Err Memory → bytes_eq op.now (codes "write") ≡ true →
-        write_has_pairs (V.as_data value.now) ≡ true }
 {
     match op {
         "spawn" => spawn(value),

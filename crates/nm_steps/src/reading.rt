@@ -1,9 +1,11 @@
 //! Reading a trace from bytes.
 
-ghost use Rattle.std.specs.Prelude.{map, ◌≡◌, ◌<◌, ◌≤◌, ◌^◌, [], ◌∷◌, ◌++◌, length, true, IfOk, OnOk, IfErr, codes};
+ghost use Rattle.std.specs.Prelude.{map, ◌≡◌, ◌⊎◌, ◌<◌, ◌≤◌, ◌^◌, [], ◌∷◌, ◌++◌, length, true, IfOk, OnOk, IfErr, codes};
 ghost use Rattle.nm_steps.specs.Calls.{default_limit};
 ghost use Rattle.nm_steps.specs.Views.{call_of};
 ghost use Rattle.std.specs.Option.{ok_or};
+ghost use Rattle.std.specs.Str.{is_utf8};
+ghost use Rattle.json.specs.Scratch.{room};
 ghost use Rattle.nm_steps.specs.Tree.{view, items_seen};
 ghost use Rattle.serde_json.specs.View as owned;
 ghost use Rattle.nm_steps.specs.Form as form;
@@ -13,7 +15,7 @@ ghost use Rattle.nm_steps.specs.Plans.{plan_in};
 ghost use Rattle.nm_steps.specs.declared.trace_error.TraceError.TheVariants.{NotJson, BadMachine, HostMemory};
 ghost use Rattle.nm_steps.specs.declared.step_error.StepError.TheVariants.{Bad, Memory};
 ghost use Rattle.nm_steps.specs.Gives as of_step;
-ghost use Rattle.nm_steps.specs.Memory.{has_items, machine_has_items, trace_has_items, starts, starts_at};
+ghost use Rattle.nm_steps.specs.Memory.{IsSomeText, NeedsMemory, has_items, machine_has_items, trace_has_items, starts, starts_at};
 ghost use Rattle.serde_json.specs.Find.{as_array};
 
 use crate::call::Call;
@@ -241,13 +243,17 @@ fn trace_of<A: Allocator + Copy + Send + Sync, V: JsonValue>(
     })
 }
 
-/// The JSON tree of these bytes. Strings with escapes are written to `scratch`.
+/// The JSON tree of these bytes. Strings with escapes are written to `scratch`. `HostMemory(0)` if `heap` is out of
+/// memory: only of a text that is longer than the room in `scratch`, or begins with a list or an object.
 pub fn value_of<'a>(
     heap: Global,
     bytes: &'a [u8],
     scratch: &'a mut Scratch,
 ) -> Result<Value<'a>, TraceError>
-    ensures { Gives view result (ok_or (faults.value_of bytes.now) NotJson) }
+    ensures value { Gives view result (ok_or (faults.value_of bytes.now) NotJson) }
+    ensures asked { result ≡ Err (HostMemory 0) →
+        (is_utf8 bytes.now ≡ true) × NeedsMemory (room scratch.old) bytes.now }
+    ensures fault { IfErr result (λ e. (e ≡ NotJson) ⊎ (e ≡ HostMemory 0)) }
 {
     let Ok(text) = from_utf8(bytes) else {
         return Err(TraceError::NotJson);
@@ -263,14 +269,15 @@ pub fn value_of<'a>(
 /// bad step. Every step is checked before any is made. The trace is in the memory of `alloc`, and the JSON tree, until
 /// this call returns, in that of `heap`.
 ///
-/// `HostMemory(0)` if either is out of memory.
+/// `HostMemory(0)` if either is out of memory. Bytes that are not UTF-8, and an empty text, need none.
 #[tactic(auto, unfolding(crate::specs::Faults::trace_of))]
 pub fn read_trace<A: Allocator + Copy + Send + Sync>(
     alloc: A,
     heap: Global,
     bytes: &[u8],
 ) -> Result<Trace<A>, TraceError>
-    ensures { Gives plan_in result (faults.trace_of bytes.now) }
+    ensures trace { Gives plan_in result (faults.trace_of bytes.now) }
+    ensures asked { result ≡ Err (HostMemory 0) → IsSomeText bytes.now }
 {
     let mut scratch = Scratch::new(heap);
     let value = value_of(heap, bytes, &mut scratch)?;

@@ -5,6 +5,7 @@ ghost use Rattle.std.specs.Str.Parse.{IsNumeral};
 ghost use Rattle.fast_float.specs.Text.{minus};
 ghost use Rattle.json.specs.Json as grammar;
 ghost use Rattle.json.specs.Reads.{opens};
+ghost use Rattle.json.specs.Scratch.{room};
 ghost use Rattle.nm_steps.specs.declared.step_error.StepError.TheVariants.{Memory};
 ghost use Rattle.json.specs.Value.{value_view, items_view as json_items, members_view as json_members};
 ghost use Rattle.serde_json.specs.Data.{no_members, unsigned};
@@ -12,6 +13,7 @@ ghost use Rattle.serde_json.specs.Find.{get, as_number, as_u64, as_bool, as_str,
 ghost use Rattle.serde_json.specs.Read.{number_of, number_from, of_json, of_items, of_members, read};
 ghost use Rattle.nm_steps.specs.Tree.{view, items_seen};
 ghost use Rattle.nm_steps.specs.Gives.{Gives};
+ghost use Rattle.nm_steps.specs.Memory.{NeedsMemory};
 
 use crate::json_value::JsonValue;
 use crate::step_error::StepError;
@@ -51,7 +53,8 @@ pub(crate) fn read<'a>(
     text: &'a str,
     scratch: &'a mut Scratch,
 ) -> Result<Value<'a>, StepError>
-    ensures { Gives view result (read text.now) }
+    ensures value { Gives view result (read text.now) }
+    ensures asked { result ≡ Err Memory → NeedsMemory (room scratch.old) text.now }
 {
     let mut reader = Reader::new(text, scratch)?;
     let value = next_tree(heap, &mut reader)?;

@@ -11,9 +11,12 @@ use Rattle.nm_steps.specs.Calls.{Call, Spawn, MapPages, Attach, Unmap, Exit, Pin
 use Rattle.nm_calls.specs.definitions.Outcome.{Outcome, outcome, ended, emptied, unless, refused, start, runs_asked, accesses_asked}
 use Rattle.nm_calls.specs.definitions.Systems.{SystemState}
 use Rattle.nm_steps.specs.declared.trace_error.TraceError.{TraceError}
-use Rattle.nm_steps.specs.declared.trace_error.TraceError.TheVariants.{NotJson, BadStep}
+use Rattle.nm_steps.specs.declared.trace_error.TraceError.TheVariants.{NotJson, BadStep, HostMemory}
 use Rattle.nm_steps.specs.Form as form
+use Rattle.std.specs.Str.{is_utf8}
 use Rattle.nm_steps.specs.Faults.{◌>>=◌, value_of}
+use Rattle.nm_steps.specs.Memory.{IsSomeText, NeedsMemory}
+use Rattle.nm_steps.proofs.Utf8.{needs_some}
 use Rattle.nm_trace.specs.Played.{StopsIn}
 use Rattle.nm_trace.specs.Session.{SessionState, asked, next, next_lines, StopsShort, IsFed}
 
@@ -76,6 +79,11 @@ asked_is s bytes d limit call same value step =
     ap (λ (r : Result Data TraceError). r >>= (λ d. ok_or (form.step_of s.system.run_limit d) (BadStep s.steps))) value
     ∙ ap (λ n. ok_or (form.step_of n d) (BadStep s.steps)) same
     ∙ ap (λ o. ok_or o (BadStep s.steps)) step
+
+-- memory that is refused for the value of bytes
+pub value_memory : (room n : ℕ) (bytes : List ℕ) (e : TraceError) → e ≡ HostMemory n → (e ≡ NotJson) ⊎ (e ≡ HostMemory 0) → (e ≡ HostMemory 0 → (is_utf8 bytes ≡ true) × NeedsMemory room bytes) → IsSomeText bytes
+value_memory room n bytes e is (inl bad) told = absurd (cc)
+value_memory room n bytes e is (inr memory) told = let needs = told memory in (needs.0, needs_some room bytes needs.1)
 
 -- a call that is not counted
 pub stopped : (x y : SessionState) (t : SystemState) (bytes : List ℕ) (call : Call) → x ≡ y → asked x bytes ≡ Ok call

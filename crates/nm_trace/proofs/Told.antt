@@ -1,5 +1,5 @@
 -- What faults say of the reader and the writer.
-use Rattle.std.proofs.Common.{◌≡◌, ℕ, ◌<◌, ◌==◌, ◌||◌, ◌&&◌, ◌⊎◌, inl, inr, not, List, length, Option, Result, Ok, Err, Bool, true, false, refl, subst, sym, arith}
+use Rattle.std.proofs.Common.{◌≡◌, ℕ, ◌<◌, ◌≤◌, ◌==◌, ◌||◌, ◌&&◌, ◌⊎◌, inl, inr, not, List, length, Option, Result, Ok, Err, Bool, true, false, refl, subst, sym, arith}
 use Rattle.std.proofs.lemmas.Bool.{ne_eqb}
 use Rattle.std.specs.Prelude.{IfErr}
 use Rattle.nm_steps.specs.Calls.{Call}
@@ -7,7 +7,7 @@ use Rattle.nm_calls.specs.definitions.Systems.{SystemState}
 use Rattle.nm_trace.specs.declared.playing.Summary.{Summary}
 use Rattle.nm_steps.specs.declared.trace_error.TraceError.{TraceError}
 use Rattle.nm_steps.specs.declared.trace_error.TraceError.TheVariants.{NotJson, BadMachine, BadStep, ReadFault, WriteFault, HostMemory}
-use Rattle.nm_steps.specs.Faults.{Fails}
+use Rattle.nm_steps.specs.Faults.{Fails, trace_limit}
 use Rattle.nm_trace.specs.Played.{Plays}
 use Rattle.nm_trace.specs.Telling.{TellsReads, is_write_fault}
 
@@ -20,15 +20,16 @@ pub plays_unread : (s t : SystemState) (calls : List Call) (old new : Option (Li
 plays_unread s t calls old new (Ok summary) p = tt
 plays_unread s t calls old new (Err e) p = λ is. subst (λ (d : TraceError). Plays s calls t old new (Err d)) is p
 
--- where the reader has not failed anew, and there is no read fault
-pub reads_kept : {X : Type 0} (before now : Bool) (gave : ℕ → Type 0) (result : Result X TraceError) → now ≡ before → IfErr result (λ e. e ≡ ReadFault → ⊥) → TellsReads before now gave result
-reads_kept before now gave (Ok x) kept unread = kept
-reads_kept before now gave (Err NotJson) kept unread = kept
-reads_kept before now gave (Err BadMachine) kept unread = kept
-reads_kept before now gave (Err (BadStep k)) kept unread = kept
-reads_kept before now gave (Err ReadFault) kept unread = absurd (unread refl)
-reads_kept before now gave (Err WriteFault) kept unread = kept
-reads_kept before now gave (Err (HostMemory k)) kept unread = kept
+-- where the reader has not failed anew, gave all of a trace, and there is no read fault
+pub reads_kept : {X : Type 0} (before now : Bool) (gave : ℕ → Type 0) (n : ℕ) (result : Result X TraceError) → now ≡ before → gave n → n ≤ trace_limit
+    → ((k : ℕ) → result ≡ Err (HostMemory k) → 0 < n) → IfErr result (λ e. e ≡ ReadFault → ⊥) → TellsReads before now gave result
+reads_kept before now gave n (Ok x) kept given few some unread = (kept, (n, few, given))
+reads_kept before now gave n (Err NotJson) kept given few some unread = (kept, (n, few, given))
+reads_kept before now gave n (Err BadMachine) kept given few some unread = (kept, (n, few, given))
+reads_kept before now gave n (Err (BadStep k)) kept given few some unread = (kept, (n, few, given))
+reads_kept before now gave n (Err ReadFault) kept given few some unread = absurd (unread refl)
+reads_kept before now gave n (Err WriteFault) kept given few some unread = (kept, (n, few, given))
+reads_kept before now gave n (Err (HostMemory k)) kept given few some unread = (kept, (n, some k refl, given))
 
 -- an error that is handed on says what it said
 pub reads_of_err : {X : Type 0} (before now : Bool) (gave : ℕ → Type 0) (e : TraceError) (result : Result X TraceError) → result ≡ Err e → TellsReads {X = X} before now gave (Err e) → TellsReads before now gave result

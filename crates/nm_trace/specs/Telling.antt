@@ -1,7 +1,7 @@
 -- What the faults of a run say about its reader and its writer.
-use Rattle.std.specs.Prelude.{◌≡◌, ◌⊎◌, ℕ, ◌<◌, Bool, true, false, Result, Err}
+use Rattle.std.specs.Prelude.{◌≡◌, ◌⊎◌, ℕ, ◌<◌, ◌≤◌, Bool, true, false, Result, Err}
 use Rattle.nm_steps.specs.declared.trace_error.TraceError.{TraceError}
-use Rattle.nm_steps.specs.declared.trace_error.TraceError.TheVariants.{ReadFault, WriteFault}
+use Rattle.nm_steps.specs.declared.trace_error.TraceError.TheVariants.{ReadFault, WriteFault, HostMemory}
 use Rattle.nm_steps.specs.Faults.{trace_limit}
 
 -- the reader has failed, or gave more bytes than a trace may have
@@ -9,10 +9,12 @@ abbrev pub HasReadCause : Bool → (ℕ → Type 0) → Type 0
 HasReadCause now gave = (now ≡ true) ⊎ ((n : ℕ) × (trace_limit < n) × gave n)
 
 -- what a result says about the reader, given whether it had failed before and after, and how many bytes it gave in
--- between: a read fault has its cause, and with any other result the reader has not failed anew
+-- between: a read fault has its cause; with any other result the reader has not failed anew, and gave no more bytes than
+-- a trace may have, or if the host is out of memory, at least one
 abbrev pub TellsReads : {X : Type 0} → Bool → Bool → (ℕ → Type 0) → Result X TraceError → Type 0
 TellsReads before now gave (Err ReadFault) = HasReadCause now gave
-TellsReads before now gave result = now ≡ before
+TellsReads before now gave (Err (HostMemory k)) = (now ≡ before) × ((n : ℕ) × (0 < n) × gave n)
+TellsReads before now gave result = (now ≡ before) × ((n : ℕ) × (n ≤ trace_limit) × gave n)
 
 -- whether a result is a write fault
 abbrev pub is_write_fault : {X : Type 0} → Result X TraceError → Bool

@@ -1,7 +1,9 @@
 //! From a reader's bytes to a writer's report.
 
-ghost use Rattle.std.specs.Prelude.{◌≡◌, ◌≢◌, ◌⊎◌, ◌||◌, ◌<◌, ◌≤◌, length, Ok, IfOk, IfErr, IfSome};
+ghost use Rattle.std.specs.Prelude.{◌≡◌, ◌≢◌, ◌⊎◌, ◌||◌, ℕ, ◌<◌, ◌≤◌, length, Ok, IfOk, OnOk, IfErr, IfSome};
+ghost use Rattle.std.specs.Io.KnownBytes.{IsAtEnd};
 ghost use Rattle.nm_steps.specs.Faults.{OfSomeBytes, Plan, trace_of, trace_limit};
+ghost use Rattle.nm_steps.specs.Memory.{IsSomeText};
 ghost use Rattle.nm_trace.specs.Headline.{IsPlayed, summary_of};
 ghost use Rattle.nm_trace.specs.Played.{Runs, IsSilent, WritesFront};
 ghost use Rattle.nm_trace.specs.Telling.{TellsReads, is_write_fault};
@@ -26,6 +28,8 @@ fn read_all<A: Allocator + Copy, R: TellingReader>(
     // On success
     ensures bytes { IfOk result (λ v. IfSome (R.remaining reader.old) (λ xs. v.items ≡ xs)) }
     ensures within { IfOk result (λ v. length v.items ≤ trace_limit) }
+    ensures given { IfOk result (λ v. R.gave reader.old reader.new (length v.items)) }
+    ensures end { OnOk result (IsAtEnd (R.remaining reader.new)) }
 
     // On a fault
     ensures fault { IfErr result (λ e. (e ≡ TraceError.ReadFault) ⊎ (e ≡ TraceError.HostMemory 0)) }
@@ -91,6 +95,7 @@ fn run_bytes<
     // On a fault
     ensures silent { IfErr result (λ e. IsSilent e (W.contents writer.old) (W.contents writer.new)) }
     ensures unread { IfErr result (λ e. e ≢ TraceError.ReadFault) }
+    ensures asked { (k : ℕ) → result ≡ Err (TraceError.HostMemory k) → IsSomeText bytes.now }
 
     // The writer
     ensures writes { W.has_failed writer.new ≡ (is_write_fault result || W.has_failed writer.old) }

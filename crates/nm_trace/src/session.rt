@@ -1,10 +1,12 @@
 //! Playing traces as their steps arrive.
 
-ghost use Rattle.std.specs.Prelude.{◌≡◌, ◌<◌, ◌≤◌};
+ghost use Rattle.std.specs.Prelude.{◌≡◌, ◌<◌, ◌≤◌, true, option_map, codes};
 ghost use Rattle.nm_trace.specs.Session.{opened, IsCall, Steps};
 ghost use Rattle.nm_steps.specs.Tree.{view};
 ghost use Rattle.nm_steps.specs.Form as form;
 ghost use Rattle.nm_steps.specs.Faults.{Gives};
+ghost use Rattle.nm_steps.specs.Memory.{IsSomeText, takes_memory};
+ghost use Rattle.nm_steps.specs.declared.trace_error.TraceError.TheVariants.{HostMemory};
 
 use crate::block::Block;
 use crate::closed::Closed;
@@ -47,7 +49,11 @@ fn call_of<A: Allocator + Copy + Send + Sync>(
     step: usize,
 ) -> Result<Call<A>, TraceError>
     requires { 0 < limit }
-    ensures { IsCall step result (form.step_of limit (view value.now)) }
+    ensures call { IsCall step result (form.step_of limit (view value.now)) }
+    ensures asked { result ≡ Err (HostMemory step) →
+        option_map (λ op. takes_memory op (view value.now))
+        (form.text_at (codes "op") (view value.now))
+        ≡ Some true }
 {
     match step_of(alloc, value, limit) {
         Ok(call) => Ok(call),
@@ -59,11 +65,12 @@ fn call_of<A: Allocator + Copy + Send + Sync>(
 impl<A: Allocator + Copy + Send + Sync> Session<A> {
     /// Begins a session with the machine and the limit on runs at the top of a trace, with 1 to 64 workers. Reads the
     /// top as `read_trace` does, except that `steps` is not looked at, and may be missing. Faults, in order: `NotJson`,
-    /// `BadMachine`; `HostMemory(0)` if the host is out of memory.
+    /// `BadMachine`; `HostMemory(0)` if the host is out of memory: never for bytes that are not UTF-8.
     #[tactic(auto, unfolding(crate::specs::Session::opened, crate::specs::Session::begun))]
     pub fn open(alloc: A, heap: Global, bytes: &[u8], workers: usize) -> Result<Self, TraceError>
         requires { (0 < workers) × (workers ≤ 64) }
-        ensures { Gives (λ s. s) result (opened bytes.now) }
+        ensures session { Gives (λ s. s) result (opened bytes.now) }
+        ensures asked { result ≡ Err (HostMemory 0) → IsSomeText bytes.now }
     {
         let mut scratch = Scratch::new(heap);
         let value = value_of(heap, bytes, &mut scratch)?;
@@ -92,19 +99,26 @@ impl<A: Allocator + Copy + Send + Sync> Session<A> {
         bytes: &[u8],
         gate: &G,
     ) -> Result<Vec<u8, A>, TraceError>
-        ensures { Steps (λ lines. lines.items) self.old self.new bytes.now result }
+        ensures steps { Steps (λ lines. lines.items) self.old self.new bytes.now result }
+        ensures asked { result ≡ Err (HostMemory self.old.steps) → IsSomeText bytes.now }
     {
         let step = self.steps;
-        if step == usize::MAX {
-            return Err(TraceError::HostMemory(step));
-        }
         let mut scratch = Scratch::new(heap);
         let value = match value_of(heap, bytes, &mut scratch) {
             Ok(value) => value,
             Err(TraceError::NotJson) => return Err(TraceError::NotJson),
-            Err(_) => return Err(TraceError::HostMemory(step)),
+            Err(TraceError::HostMemory(_)) => return Err(TraceError::HostMemory(step)),
+            Err(
+                TraceError::BadMachine
+                | TraceError::BadStep(_)
+                | TraceError::ReadFault
+                | TraceError::WriteFault,
+            ) => unreachable!(),
         };
         let call = call_of(self.alloc, &value, self.run_limit, step)?;
+        if step == usize::MAX {
+            return Err(TraceError::HostMemory(step));
+        }
         let mut block = Block::new(self.alloc, usize::MAX);
         let mut closed = Closed::new();
         let Ok(()) = make_step(

@@ -1,5 +1,5 @@
 -- Which stream failed.
-use Rattle.std.proofs.Common.{◌≡◌, ℕ, Bool, ◌||◌, ◌⊎◌, inl, inr, Err, sym, ◌∙◌, arith}
+use Rattle.std.proofs.Common.{◌≡◌, ℕ, ◌<◌, Bool, ◌||◌, ◌⊎◌, inl, inr, Err, sym, ◌∙◌, arith}
 use Rattle.nm_steps.specs.declared.trace_error.TraceError.{TraceError}
 use Rattle.nm_steps.specs.declared.trace_error.TraceError.TheVariants.{NotJson, BadMachine, BadStep, ReadFault, WriteFault, HostMemory}
 use Rattle.nm_trace.specs.Telling.{TellsReads, is_write_fault}
@@ -13,6 +13,9 @@ neither status other (inr three) is not_two not_three = not_three (sym three ∙
 no_stream : (k status : ℕ) → (k ≡ 4 → ⊥) → status ≡ k → status ≡ 4 → ⊥
 no_stream k status not_four is four = not_four (sym is ∙ four)
 
+no_memory : (k status : ℕ) → (k ≡ 3 → ⊥) → status ≡ k → status ≡ 3 → ⊥
+no_memory k status not_three is three = not_three (sym is ∙ three)
+
 -- status 4 means that a stream failed
 pub stream_cause : (before now : Bool) (gave : ℕ → Type 0) (wrote writes : Bool) (e : TraceError) (status : ℕ) → TellsReads {X = Unit {0}} before now gave (Err e)
     → writes ≡ (is_write_fault {X = Unit {0}} (Err e) || wrote)
@@ -23,3 +26,14 @@ stream_cause before now gave wrote writes (BadStep k) status r w is four = absur
 stream_cause before now gave wrote writes ReadFault status r w is four = inl r
 stream_cause before now gave wrote writes WriteFault status r w is four = inr w
 stream_cause before now gave wrote writes (HostMemory k) status r w is four = absurd (no_stream 3 status (λ h. omega (arith, h)) is four)
+
+-- status 3 means that none failed, and that the reader gave a byte
+pub memory_cause : (before now : Bool) (gave : ℕ → Type 0) (wrote writes : Bool) (e : TraceError) (status : ℕ) → TellsReads {X = Unit {0}} before now gave (Err e)
+    → writes ≡ (is_write_fault {X = Unit {0}} (Err e) || wrote)
+    → status ≡ status_of e → status ≡ 3 → ((n : ℕ) × (0 < n) × gave n) × ((now ≡ before) × (writes ≡ wrote))
+memory_cause before now gave wrote writes NotJson status r w is three = absurd (no_memory 2 status (λ h. omega (arith, h)) is three)
+memory_cause before now gave wrote writes BadMachine status r w is three = absurd (no_memory 2 status (λ h. omega (arith, h)) is three)
+memory_cause before now gave wrote writes (BadStep k) status r w is three = absurd (no_memory 2 status (λ h. omega (arith, h)) is three)
+memory_cause before now gave wrote writes ReadFault status r w is three = absurd (no_memory 4 status (λ h. omega (arith, h)) is three)
+memory_cause before now gave wrote writes WriteFault status r w is three = absurd (no_memory 4 status (λ h. omega (arith, h)) is three)
+memory_cause before now gave wrote writes (HostMemory k) status r w is three = (r.1, (r.0, w))

@@ -17,7 +17,7 @@ nothing (Ok plan) old = ([], report_of plan, refl, appends_none old)
 nothing (Err e) old = appends_none old
 
 leaves : (status : ℕ) (refusals : Kinds) (trace : Result Plan TraceError) (old : Option (List ℕ)) → (status ≡ 0 → ⊥) → (status ≡ 2 → refusals ≡ [] → ⊥) → Leaves status refusals trace old old
-leaves status refusals trace old h two = (λ z. absurd (h z), λ z. inl (two z), nothing trace old)
+leaves status refusals trace old h two = (λ z. absurd (h z), λ z. inl (two z), λ _. inl (appends_none old), nothing trace old)
 
 pub unread : (remaining old : Option (List ℕ)) (status : ℕ) (refusals : Kinds) → (status ≡ 0 → ⊥) → (status ≡ 2 → refusals ≡ [] → ⊥) → OfSomeBytes remaining (λ trace. Leaves status refusals trace old old)
 unread None old status refusals h two = ([], tt, leaves status refusals (trace_within []) old h two)

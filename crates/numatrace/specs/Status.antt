@@ -1,5 +1,5 @@
 -- Exit statuses.
-use Rattle.std.specs.Prelude.{◌≡◌, ◌≢◌, ◌⊎◌, ℕ, Bool, true, List, [], Option, Result, Ok, Err}
+use Rattle.std.specs.Prelude.{◌≡◌, ◌≢◌, ◌⊎◌, ℕ, ◌<◌, Bool, true, List, [], length, take, Option, Result, Ok, Err}
 use Rattle.std.specs.declared.io.ErrorKind.{ErrorKind}
 use Rattle.std.specs.declared.io.ErrorKind.TheVariants.{OutOfMemory}
 use Rattle.nm_steps.specs.declared.trace_error.TraceError.{TraceError}
@@ -39,15 +39,26 @@ IsStatus status = (status ≡ 0) ⊎ ((status ≡ 2) ⊎ ((status ≡ 3) ⊎ (st
 abbrev pub ReportsWhole : Result Plan TraceError → Option (List ℕ) → Option (List ℕ) → Type 0
 ReportsWhole trace old new = (plan : Plan) × (trace ≡ Ok plan) × Appends old new (report_of plan)
 
+-- the lines of the steps before step k
+abbrev pub report_before : Plan → ℕ → List ℕ
+report_before plan k = report_of (record plan { calls = take k plan.calls })
+
+-- nothing was written; or there is a trace, and the lines of the steps before one of its steps were written
+abbrev pub ReportsBefore : Result Plan TraceError → Option (List ℕ) → Option (List ℕ) → Type 0
+ReportsBefore trace old new =
+    Appends old new []
+    ⊎ ((plan : Plan) × (k : ℕ) × (trace ≡ Ok plan) × (k < length plan.calls) × Appends old new (report_before plan k))
+
 -- the bytes are no trace
 abbrev pub IsBad : Result Plan TraceError → Type 0
 IsBad trace = (trace ≡ Err NotJson) ⊎ ((trace ≡ Err BadMachine) ⊎ ((k : ℕ) × (trace ≡ Err (BadStep k))))
 
--- a prefix of the report was written, and after status 0 all of it; status 2 means that the words are refused, or the
--- bytes are no trace
+-- a prefix of the report was written: after status 0 all of it, and after status 3 whole steps of it, or nothing; status 2
+-- means that the words are refused, or the bytes are no trace
 abbrev pub Leaves : ℕ → Kinds → Result Plan TraceError → Option (List ℕ) → Option (List ℕ) → Type 0
 Leaves status refusals trace old new =
-    (status ≡ 0 → ReportsWhole trace old new) × (status ≡ 2 → (refusals ≢ []) ⊎ IsBad trace) × WritesFront trace old new
+    (status ≡ 0 → ReportsWhole trace old new) × (status ≡ 2 → (refusals ≢ []) ⊎ IsBad trace)
+    × (status ≡ 3 → ReportsBefore trace old new) × WritesFront trace old new
 
 -- refused words end in status 2, or in 3 for lack of memory
 abbrev pub Refuses : Kinds → ℕ → Type 0

@@ -1,11 +1,12 @@
 -- What the reply to a line makes of a session, and of what is written.
-use Rattle.std.specs.Prelude.{◌≡◌, ℕ, Bool, true, List, [], ◌∷◌, ◌++◌, codes, decimal, Option, Result, Ok, Err}
+use Rattle.std.specs.Prelude.{◌≡◌, ℕ, Bool, true, List, [], ◌∷◌, ◌++◌, codes, decimal, Option, Some, None, Result, Ok, Err}
+use Rattle.std.specs.Io.BufRead.{take_through, drop_through}
 use Rattle.std.specs.Io.KnownBytes.{Appends}
 use Rattle.nm_steps.specs.Calls.{Call}
 use Rattle.nm_steps.specs.declared.trace_error.TraceError.{TraceError}
 use Rattle.nm_steps.specs.declared.trace_error.TraceError.TheVariants.{BadStep}
 use Rattle.nm_trace.specs.Played.{BreaksOff}
-use Rattle.nm_trace.specs.Session.{SessionState, StopsShort, asked, next, next_lines}
+use Rattle.nm_trace.specs.Session.{SessionState, StopsShort, asked, next, next_lines, opened}
 use Rattle.numatrace_session.specs.declared.End.{End}
 use Rattle.numatrace_session.specs.declared.End.TheVariants.{BadTop, HostMemory, Stream}
 
@@ -47,3 +48,42 @@ abbrev pub Replies : SessionState → SessionState → List ℕ → Option (List
 Replies s t line old new failed fails (Err HostMemory) = StopsShort s line t × Appends old new [] × (fails ≡ failed)
 Replies s t line old new failed fails result =
     Writes old new failed fails (reply_of s (asked s line)) result × (t ≡ after s (asked s line))
+
+-- ---- lines, one after another
+
+-- the session after lines
+abbrev pub after_lines : SessionState → List (List ℕ) → SessionState
+after_lines s [] = s
+after_lines s (line ∷ lines) = after_lines (after s (asked s line)) lines
+
+-- the replies to them
+abbrev pub replies_to : SessionState → List (List ℕ) → List ℕ
+replies_to s [] = []
+replies_to s (line ∷ lines) = reply_of s (asked s line) ++ replies_to (after s (asked s line)) lines
+
+-- bytes are these lines, each up to and with its line feed, and then a rest
+abbrev pub AreLines : List ℕ → List (List ℕ) → List ℕ → Type 0
+AreLines bytes [] rest = bytes ≡ rest
+AreLines bytes (line ∷ lines) rest = (line ≡ take_through 10 bytes) × AreLines (drop_through 10 bytes) lines rest
+
+-- lines are read: the next ones, where the bytes are known
+abbrev pub ReadsLines : Option (List ℕ) → Option (List ℕ) → List (List ℕ) → Type 0
+ReadsLines None new lines = Unit {0}
+ReadsLines (Some bytes) None lines = ⊥
+ReadsLines (Some bytes) (Some rest) lines = AreLines bytes lines rest
+
+-- lines are read, and each has its reply
+abbrev pub RepliesToLines : SessionState → SessionState → Option (List ℕ) → Option (List ℕ) → Option (List ℕ) → Option (List ℕ) → Type 0
+RepliesToLines s t left left_then old new =
+    (lines : List (List ℕ)) × ReadsLines left left_then lines × (t ≡ after_lines s lines) × Appends old new (replies_to s lines)
+
+-- a first line begins a session, and each further one has its reply
+abbrev pub Talks : Option (List ℕ) → Option (List ℕ) → Option (List ℕ) → Option (List ℕ) → Type 0
+Talks left left_then old new =
+    (top : List ℕ) × (s : SessionState) × (lines : List (List ℕ)) × (opened top ≡ Ok s) × ReadsLines left left_then (top ∷ lines)
+    × Appends old new (replies_to s lines)
+
+-- the first line begins none, and nothing is written
+abbrev pub IsRefused : Option (List ℕ) → Option (List ℕ) → Option (List ℕ) → Option (List ℕ) → TraceError → Type 0
+IsRefused left left_then old new fault =
+    (top : List ℕ) × (opened top ≡ Err fault) × ReadsLines left left_then (top ∷ []) × Appends old new []

@@ -7,8 +7,13 @@
 //! and 4 where a stream fails, with one line on standard error for the last three.
 #![tactic(auto)]
 
-ghost use Rattle.std.specs.Prelude.{◌++◌, ◌∷◌, []};
-ghost use Rattle.numatrace_session.specs.Replies.{bad_step_reply, Replies, Tries, Writes};
+ghost use Rattle.std.specs.Prelude.{◌≡◌, ◌⊎◌, ◌++◌, ◌∷◌, [], length, nat_lt, false, OnOk, IfOk, IfErr, IfSome};
+ghost use Rattle.std.specs.Io.{StopsAt};
+ghost use Rattle.std.specs.Io.BufRead.{take_through, DropsThrough};
+ghost use Rattle.std.specs.Io.KnownBytes.{Consumes, IsAtEnd, Keeps};
+ghost use Rattle.std.specs.Io.Buffered.{reader_remaining};
+ghost use Rattle.nm_steps.specs.declared.trace_error.TraceError.{TraceError};
+ghost use Rattle.numatrace_session.specs.Replies.{bad_step_reply, IsRefused, Replies, RepliesToLines, Talks, Tries, Writes};
 
 use nm_crew::OpenGate;
 use nm_trace::{Session, TellingWriter, TraceError, Watched, write_lines};
@@ -30,7 +35,21 @@ enum End {
 }
 
 /// Reads the next line, with its end, in place of what is in the list. False where the input has ended.
-fn next_line(input: &mut impl BufRead, line: &mut Vec<u8>) -> Result<bool, End> {
+fn next_line<R: BufRead>(input: &mut R, line: &mut Vec<u8>) -> Result<bool, End>
+    // On success
+    ensures line { OnOk result (IfSome (R.remaining input.old)
+        (λ xs. line.new.items ≡ take_through 10 xs)) }
+    ensures rest { OnOk result (DropsThrough (R.remaining input.old) (R.remaining input.new) 10) }
+    ensures more { IfOk result (λ more. more ≡ nat_lt 0 (length line.new.items)) }
+    ensures end { IfOk result (λ more. more ≡ false → IsAtEnd (R.remaining input.old)) }
+
+    // In any case
+    ensures stops { StopsAt line.new.items 10 }
+    ensures none_lost { Consumes (R.remaining input.old) (R.remaining input.new) line.new.items }
+
+    // On a fault
+    ensures fault { IfErr result (λ e. (e ≡ End.HostMemory) ⊎ (e ≡ End.Stream)) }
+{
     line.clear();
     match input.read_until(b'\n', line) {
         Ok(count) => Ok(count > 0),
@@ -93,17 +112,72 @@ fn reply<R: Threads + Wait + Sync, W: TellingWriter>(
         Ok(lines) => put_lines(out, lines.as_slice()),
         Err(TraceError::NotJson) => put(out, b"fault: not JSON\n\n"),
         Err(TraceError::BadStep(number)) => put_bad_step(heap, out, number),
-        Err(_) => Err(End::HostMemory),
+        Err(TraceError::HostMemory(_)) => Err(End::HostMemory),
+        Err(TraceError::BadMachine | TraceError::ReadFault | TraceError::WriteFault) => {
+            unreachable!()
+        }
     }
 }
 
+/// Writes the replies that wait, unless a further line is there already.
+fn flush_unless_asked<R: Read, W: TellingWriter>(
+    input: &BufReader<R, Global>,
+    out: &mut W,
+) -> Result<(), End>
+    ensures kept { Keeps (W.contents out.old) (W.contents out.new) }
+    ensures fault { IfErr result (λ e. e ≡ End.Stream) }
+{
+    if input.buffer().contains(&b'\n') {
+        return Ok(());
+    }
+    out.flush().map_err(|_| End::Stream)
+}
+
 /// Replies to each line until the input ends. Replies wait as long as further lines are there already.
-fn talk(
-    rt: &(impl Threads + Wait + Sync),
+fn reply_to_lines<T: Threads + Wait + Sync, R: Read, W: TellingWriter>(
+    rt: &T,
     heap: Global,
-    input: &mut BufReader<impl Read, Global>,
-    out: &mut impl TellingWriter,
-) -> Result<(), End> {
+    session: &mut Session<Global>,
+    input: &mut BufReader<R, Global>,
+    out: &mut W,
+) -> Result<(), End>
+    ensures lines { OnOk result (RepliesToLines session.old session.new
+        (reader_remaining R.remaining input.old) (reader_remaining R.remaining input.new)
+        (W.contents out.old) (W.contents out.new)) }
+    ensures end { OnOk result (IfSome (reader_remaining R.remaining input.old)
+        (λ _. IsAtEnd (reader_remaining R.remaining input.new))) }
+    ensures fault { IfErr result (λ e. (e ≡ End.HostMemory) ⊎ (e ≡ End.Stream)) }
+{
+    let mut line = Vec::new(heap);
+    for _ in rt.forever() {
+        if !next_line(input, &mut line)? {
+            return Ok(());
+        }
+        reply(rt, heap, session, line.as_slice(), out)?;
+        flush_unless_asked(input, out)?;
+    }
+    unreachable!()
+}
+
+/// Begins a session with the first line, and replies to each further one until the input ends.
+fn talk<T: Threads + Wait + Sync, R: Read, W: TellingWriter>(
+    rt: &T,
+    heap: Global,
+    input: &mut BufReader<R, Global>,
+    out: &mut W,
+) -> Result<(), End>
+    // On success
+    ensures talk { OnOk result (Talks
+        (reader_remaining R.remaining input.old) (reader_remaining R.remaining input.new)
+        (W.contents out.old) (W.contents out.new)) }
+    ensures end { OnOk result (IfSome (reader_remaining R.remaining input.old)
+        (λ _. IsAtEnd (reader_remaining R.remaining input.new))) }
+
+    // On a fault
+    ensures refused { (fault : TraceError) → result ≡ Err (End.BadTop fault) → IsRefused
+        (reader_remaining R.remaining input.old) (reader_remaining R.remaining input.new)
+        (W.contents out.old) (W.contents out.new) fault }
+{
     let mut line = Vec::new(heap);
     next_line(input, &mut line)?;
     let mut session = match Session::open(heap, heap, line.as_slice(), 1) {
@@ -111,16 +185,7 @@ fn talk(
         Err(TraceError::HostMemory(_)) => return Err(End::HostMemory),
         Err(fault) => return Err(End::BadTop(fault)),
     };
-    for _ in 0..u64::MAX {
-        if !next_line(input, &mut line)? {
-            return Ok(());
-        }
-        reply(rt, heap, &mut session, line.as_slice(), out)?;
-        if !input.buffer().contains(&b'\n') && out.flush().is_err() {
-            return Err(End::Stream);
-        }
-    }
-    Ok(())
+    reply_to_lines(rt, heap, &mut session, input, out)
 }
 
 /// Replies to what is read, and writes all replies, however the session ends.

@@ -1,4 +1,5 @@
-use Rattle.std.proofs.Common.{rules, ◌≡◌, [], refl}
+use Rattle.std.proofs.Common.{rules, ◌≡◌, ℕ, ◌+◌, ◌≤◌, ◌<◌, [], length, refl, subst, ◌∙◌, arith}
+use Rattle.nm_steps.specs.Faults.{trace_limit}
 use Rattle.nm_trace.proofs.Known.{consumes_nothing}
 use Rattle.nm_trace.proofs.running.read_all.Goals as goal
 
@@ -10,3 +11,36 @@ loop-buffer-init g c =
       given = rw none (g.met.R.TellingReader.gave_none c.args.reader.now);
       failed = refl;
     }
+
+pub returns-then-count-eq0-clause-given : goal.returns-then-count-eq0-clause-given
+returns-then-count-eq0-clause-given g c =
+    let so_far = length c.loop-buffer.bytes.items in
+    let none : so_far + c.in-Ok.count ≡ so_far = omega arith in
+    subst (λ (n : ℕ). g.R.TellingReader.gave c.args.reader.now c.read_telling.new.self n) none
+    (g.met.R.TellingReader.gave_more c.args.reader.now c.loop-buffer.reader c.read_telling.new.self so_far c.in-Ok.count c.loop-buffer.invariant.given c.in-Ok.ensures.given)
+
+pub returns-then-count-eq0-clause-told : goal.returns-then-count-eq0-clause-told
+returns-then-count-eq0-clause-told g c =
+    let so_far = length c.loop-buffer.bytes.items in
+    let none : so_far + c.in-Ok.count ≡ so_far = omega arith in
+    let few : so_far ≤ trace_limit = search rules in (
+      c.in-Ok.ensures.failed ∙ c.loop-buffer.invariant.failed,
+      (
+        so_far,
+        few,
+        subst (λ (n : ℕ). g.R.TellingReader.gave c.args.reader.now c.read_telling.new.self n) none
+            (g.met.R.TellingReader.gave_more c.args.reader.now c.loop-buffer.reader c.read_telling.new.self so_far c.in-Ok.count c.loop-buffer.invariant.given c.in-Ok.ensures.given),
+      ),
+    )
+
+pub returns-then-is_err-clause-told : goal.returns-then-is_err-clause-told
+returns-then-is_err-clause-told g c =
+    let so_far = length c.loop-buffer.bytes.items in
+    let some : 0 < so_far + c.in-Ok.count = omega arith in (
+      c.in-Ok.ensures.failed ∙ c.loop-buffer.invariant.failed,
+      (
+        so_far + c.in-Ok.count,
+        some,
+        g.met.R.TellingReader.gave_more c.args.reader.now c.loop-buffer.reader c.read_telling.new.self so_far c.in-Ok.count c.loop-buffer.invariant.given c.in-Ok.ensures.given,
+      ),
+    )

@@ -1,4 +1,4 @@
-use Rattle.std.proofs.Common.{rules, ◌≡◌, Err, ap, sym, subst}
+use Rattle.std.proofs.Common.{rules, ◌≡◌, ℕ, ◌<◌, List, length, Err, ap, sym, subst}
 use Rattle.std.specs.Prelude.{Ok, IfOk}
 use Rattle.nm_steps.specs.Faults.{Plan}
 use Rattle.nm_trace.specs.Headline.{IsPlayed, summary_of}
@@ -46,7 +46,10 @@ returns-in_err-bytes-clause-reads g c =
     reads_of_err _ _ _ c.in_err-bytes.field-0.0 c.from_residual.result is c.in_err-bytes.ensures.told
 
 pub returns-clause-reads : goal.returns-clause-reads
-returns-clause-reads g c = reads_kept _ _ _ c.run_bytes.result c.in_ok-bytes.ensures.told c.run_bytes.ensures.unread
+returns-clause-reads g c =
+    reads_kept _ _ (g.R.TellingReader.gave c.args.reader.now c.read_all.new.reader) (length c.in_ok-bytes.bytes.items) c.run_bytes.result c.in_ok-bytes.ensures.told.0 c.in_ok-bytes.ensures.given c.in_ok-bytes.ensures.within
+    (λ k is. subst (λ (bytes : List ℕ). 0 < length bytes) c.as_slice.ensures.value (c.run_bytes.ensures.asked k is).1)
+    c.run_bytes.ensures.unread
 
 pub returns-in_err-bytes-clause-writes : goal.returns-in_err-bytes-clause-writes
 returns-in_err-bytes-clause-writes g c =

@@ -1,17 +1,19 @@
-use Rattle.std.proofs.Common.{◌∙◌, ap, refl, sym, inl, inr}
+use Rattle.std.proofs.Common.{◌∙◌, Err, ap, refl, sym, inl, inr}
+use Rattle.json.specs.Scratch.{room}
 use Rattle.nm_steps.specs.Tree.{view}
 use Rattle.nm_trace.specs.Session.{SessionState}
 use Rattle.nm_steps.specs.Views.{call_of}
 use Rattle.nm_calls.specs.definitions.Systems.{SystemState}
 use Rattle.nm_trace.proofs.Waits.{all_waits}
-use Rattle.nm_trace.proofs.Sessions.{outcome_limit, asked_is, stopped, stepped}
+use Rattle.nm_steps.proofs.Utf8.{text_of_read}
+use Rattle.nm_trace.proofs.Sessions.{outcome_limit, asked_is, stopped, stepped, value_memory}
 use Rattle.nm_trace.proofs.session.Session.step.Goals as goal
 
-pub returns-in_default : goal.returns-in_default
-returns-in_default g c =
+pub returns-in_default-clause-steps : goal.returns-in_default-clause-steps
+returns-in_default-clause-steps g c =
     let before : SessionState = record { system = c.self.inside.system; steps = c.self.inside.steps } in
     let call = call_of c.in_ok-call.call in
-    let is = asked_is before c.args.bytes.now (view c.in-Ok.value) c.self.inside.run_limit call c.self.invariant.1 c.in-Ok.ensures c.in_ok-call.ensures in
+    let is = asked_is before c.args.bytes.now (view c.in-Ok.value) c.self.inside.run_limit call c.self.invariant.1 c.in-Ok.ensures.value c.in_ok-call.ensures.call in
     stopped before c.args.self.now c.make_step.new.system c.args.bytes.now call c.self.view_is is (inl c.in_default.ensures.told.0)
 
 pub invariant_of-self-then-is_broken : goal.invariant_of-self-then-is_broken
@@ -19,11 +21,11 @@ invariant_of-self-then-is_broken g c =
     let call = call_of c.in_ok-call.call in
     (c.self.invariant.0, ap (λ (u : SystemState). u.run_limit) c.in-Ok-make_step.ensures.told.1 ∙ outcome_limit c.self.inside.system call ∙ c.self.invariant.1)
 
-pub returns-then-is_broken : goal.returns-then-is_broken
-returns-then-is_broken g c =
+pub returns-then-is_broken-clause-steps : goal.returns-then-is_broken-clause-steps
+returns-then-is_broken-clause-steps g c =
     let before : SessionState = record { system = c.self.inside.system; steps = c.self.inside.steps } in
     let call = call_of c.in_ok-call.call in
-    let is = asked_is before c.args.bytes.now (view c.in-Ok.value) c.self.inside.run_limit call c.self.invariant.1 c.in-Ok.ensures c.in_ok-call.ensures in
+    let is = asked_is before c.args.bytes.now (view c.in-Ok.value) c.self.inside.run_limit call c.self.invariant.1 c.in-Ok.ensures.value c.in_ok-call.ensures.call in
     stopped before c.args.self.now c.make_step.new.system c.args.bytes.now call c.self.view_is is (inr c.in-Ok-make_step.ensures.told.1)
 
 pub invariant_of-self-2 : goal.invariant_of-self-2
@@ -31,10 +33,26 @@ invariant_of-self-2 g c =
     let call = call_of c.in_ok-call.call in
     (c.self.invariant.0, ap (λ (u : SystemState). u.run_limit) c.in-Ok-make_step.ensures.told.1 ∙ outcome_limit c.self.inside.system call ∙ c.self.invariant.1)
 
-pub returns : goal.returns
-returns g c =
+pub returns-clause-steps : goal.returns-clause-steps
+returns-clause-steps g c =
     let before : SessionState = record { system = c.self.inside.system; steps = c.self.inside.steps } in
     let call = call_of c.in_ok-call.call in
-    let is = asked_is before c.args.bytes.now (view c.in-Ok.value) c.self.inside.run_limit call c.self.invariant.1 c.in-Ok.ensures c.in_ok-call.ensures in
+    let is = asked_is before c.args.bytes.now (view c.in-Ok.value) c.self.inside.run_limit call c.self.invariant.1 c.in-Ok.ensures.value c.in_ok-call.ensures.call in
     let waits = all_waits _ _ _ _ _ _ _ (λ u. refl) c.new-block.ensures.waiting c.new-block.ensures.whole (sym c.is_broken.ensures ∙ c.if-is_broken.false) c.in-Ok-make_step.ensures.told.0 in
     stepped before c.args.self.now c.make_step.new.system c.args.bytes.now c.into_waiting.result.items call c.self.view_is is (c.into_waiting.ensures ∙ waits) c.in-Ok-make_step.ensures.told.1
+
+pub returns-in-Err-HostMemory-clause-asked : goal.returns-in-Err-HostMemory-clause-asked
+returns-in-Err-HostMemory-clause-asked g c = λ _.
+    value_memory (room c.new-scratch.result) _ c.args.bytes.now _ c.in-Err-HostMemory.field-0-is c.in-Err-HostMemory.ensures.fault (λ memory. c.in-Err-HostMemory.ensures.asked (ap Err memory))
+
+pub returns-in_err-call-clause-asked : goal.returns-in_err-call-clause-asked
+returns-in_err-call-clause-asked g c = λ _. text_of_read c.args.bytes.now _ c.in-Ok.ensures.value
+
+pub returns-then-step-clause-asked : goal.returns-then-step-clause-asked
+returns-then-step-clause-asked g c = λ _. text_of_read c.args.bytes.now _ c.in-Ok.ensures.value
+
+pub returns-in_default-clause-asked : goal.returns-in_default-clause-asked
+returns-in_default-clause-asked g c = λ _. text_of_read c.args.bytes.now _ c.in-Ok.ensures.value
+
+pub returns-then-is_broken-clause-asked : goal.returns-then-is_broken-clause-asked
+returns-then-is_broken-clause-asked g c = λ _. text_of_read c.args.bytes.now _ c.in-Ok.ensures.value

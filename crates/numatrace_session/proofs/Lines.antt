@@ -1,0 +1,70 @@
+-- Lines that are read and replied to.
+use Rattle.std.proofs.Common.{◌≡◌, ℕ, List, [], ◌∷◌, ◌++◌, Option, Some, None, IfSome, Result, Ok, Err, ap, refl, subst, sym, ◌∙◌, append_assoc}
+use Rattle.std.proofs.lemmas.List.{append-nil}
+use Rattle.std.specs.Io.BufRead.{take_through, drop_through, DropsThrough}
+use Rattle.std.specs.Io.KnownBytes.{Appends, Keeps}
+use Rattle.std.specs.Prelude.{OnOk}
+use Rattle.nm_trace.specs.Session.{SessionState, asked, opened}
+use Rattle.nm_trace.proofs.Known.{appends_kept, appends_more, appends_none}
+use Rattle.numatrace_session.specs.Replies.{after, after_lines, reply_of, replies_to, AreLines, ReadsLines, RepliesToLines, Talks}
+
+-- ---- reading
+
+are_more : (bytes : List ℕ) (lines : List (List ℕ)) (line rest : List ℕ) → AreLines bytes lines rest → line ≡ take_through 10 rest → AreLines bytes (lines ++ line ∷ []) (drop_through 10 rest)
+are_more bytes [] line rest h is = (is ∙ ap (take_through 10) (sym h), ap (drop_through 10) h)
+are_more bytes (l ∷ ls) line rest h is = (h.0, are_more (drop_through 10 bytes) ls line rest h.1 is)
+
+reads_none : (a : Option (List ℕ)) → ReadsLines a a []
+reads_none None = tt
+reads_none (Some xs) = refl
+
+reads_more : (a b c : Option (List ℕ)) (lines : List (List ℕ)) (line : List ℕ) → ReadsLines a b lines → IfSome b (λ xs. line ≡ take_through 10 xs) → DropsThrough b c 10 → ReadsLines a c (lines ++ line ∷ [])
+reads_more None b c lines line h is drops = tt
+reads_more (Some xs) None c lines line h is drops = absurd h
+reads_more (Some xs) (Some ys) c lines line h is drops =
+    subst (λ (o : Option (List ℕ)). ReadsLines (Some xs) o (lines ++ line ∷ [])) (sym drops) (are_more xs lines line ys h is)
+
+reads_top : (a b c : Option (List ℕ)) (top : List ℕ) (lines : List (List ℕ)) → IfSome a (λ xs. top ≡ take_through 10 xs) → DropsThrough a b 10 → ReadsLines b c lines → ReadsLines a c (top ∷ lines)
+reads_top None b c top lines is drops h = tt
+reads_top (Some xs) b None top lines is drops h = subst (λ (o : Option (List ℕ)). ReadsLines o None lines) drops h
+reads_top (Some xs) b (Some zs) top lines is drops h = (is, subst (λ (o : Option (List ℕ)). ReadsLines o (Some zs) lines) drops h)
+
+-- ---- replying
+
+after_more : (s : SessionState) (lines : List (List ℕ)) (line : List ℕ) → after_lines s (lines ++ line ∷ []) ≡ after (after_lines s lines) (asked (after_lines s lines) line)
+after_more s [] line = refl
+after_more s (l ∷ ls) line = after_more (after s (asked s l)) ls line
+
+replies_more : (s : SessionState) (lines : List (List ℕ)) (line : List ℕ) → replies_to s (lines ++ line ∷ []) ≡ replies_to s lines ++ reply_of (after_lines s lines) (asked (after_lines s lines) line)
+replies_more s [] line = append-nil (reply_of s (asked s line))
+replies_more s (l ∷ ls) line =
+    let first = reply_of s (asked s l) in
+    ap (λ (text : List ℕ). first ++ text) (replies_more (after s (asked s l)) ls line)
+    ∙ sym (append_assoc first (replies_to (after s (asked s l)) ls) (reply_of (after_lines (after s (asked s l)) ls) (asked (after_lines (after s (asked s l)) ls) line)))
+
+pub no_lines : (s : SessionState) (left old : Option (List ℕ)) → RepliesToLines s s left left old old
+no_lines s left old = ([], reads_none left, refl, appends_none old)
+
+-- one more line is read and replied to
+pub one_more : (s t u : SessionState) (a b c old new newer newest : Option (List ℕ)) (line : List ℕ) → RepliesToLines s t a b old new
+    → IfSome b (λ xs. line ≡ take_through 10 xs) → DropsThrough b c 10
+    → Appends new newer (reply_of t (asked t line)) → u ≡ after t (asked t line) → Keeps newer newest
+    → RepliesToLines s u a c old newest
+one_more s t u a b c old new newer newest line h is drops written made kept =
+    let lines = h.0 in
+    let before : t ≡ after_lines s lines = h.2 in
+    let text = ap (λ (v : SessionState). reply_of v (asked v line)) before in
+    let so_far = appends_more old new newer (replies_to s lines) (reply_of t (asked t line)) h.3 written in (
+      lines ++ line ∷ [],
+      reads_more a b c lines line h.1 is drops,
+      made ∙ ap (λ (v : SessionState). after v (asked v line)) before ∙ sym (after_more s lines line),
+      appends_kept old newer newest (replies_to s (lines ++ line ∷ []))
+          (subst (Appends old newer) (ap (λ (x : List ℕ). replies_to s lines ++ x) text ∙ sym (replies_more s lines line)) so_far) kept,
+    )
+
+-- ---- from the first line on
+
+pub talked : {X E : Type 0} (s t : SessionState) (a b c old new : Option (List ℕ)) (top : List ℕ) (result : Result X E) → opened top ≡ Ok s
+    → IfSome a (λ xs. top ≡ take_through 10 xs) → DropsThrough a b 10 → OnOk result (RepliesToLines s t b c old new) → OnOk result (Talks a c old new)
+talked s t a b c old new top (Ok done) begins is drops h = (top, s, h.0, begins, reads_top a b c top h.0 is drops h.1, h.3)
+talked s t a b c old new top (Err e) begins is drops h = tt
