@@ -32,7 +32,7 @@ ghost use Rattle.nm_engine.specs.definitions.Orders.{EndsSo};
 ghost use Rattle.nm_engine.specs.definitions.Does.{Makes, Alters, Tells, Accesses, AsksLast};
 
 use crate::answers::RunAnswer;
-use crate::inner::Inner;
+use crate::inner::{Inner, has_beyond};
 use crate::laws::interleavings;
 use crate::{Located, ProcessInfo};
 use nm_areas::Line;
@@ -93,7 +93,7 @@ impl<A: Allocator + Copy + Send + Sync> Machine<A> {
         ensures few { result ≤ 64 }
         ensures sound { IsSound self.now }
     {
-        self.inner.node_count()
+        self.inner.frames.geometry().node_count()
     }
 
     /// The nodes, their frames, and the distances between nodes (numa(7)).
@@ -101,28 +101,28 @@ impl<A: Allocator + Copy + Send + Sync> Machine<A> {
         ensures geometry { result.now ≡ self.now.layout }
         ensures sound { IsSound self.now }
     {
-        self.inner.geometry()
+        self.inner.frames.geometry()
     }
 
     /// The nodes that are online.
     pub fn online(&self) -> NodeMask
         ensures { result ≡ self.now.online }
     {
-        self.inner.online()
+        self.inner.online
     }
 
     /// Whether there is such a node, and it is online.
     pub fn is_online(&self, node: NodeId) -> bool
         ensures { result ≡ is_in self.now.online node }
     {
-        self.inner.is_online(node)
+        self.online().contains(node)
     }
 
     /// Whether a set has a node that the machine does not have.
     pub fn names_missing_node(&self, nodes: NodeMask) -> bool
         ensures { result ≡ list_any (nat_le (node_count self.now.layout)) nodes }
     {
-        self.inner.names_missing_node(nodes)
+        has_beyond(nodes, self.node_count())
     }
 
     /// Puts a node of the machine online or takes it offline, whatever it was before. Pages stay where they are, and so
@@ -148,7 +148,7 @@ impl<A: Allocator + Copy + Send + Sync> Machine<A> {
     pub fn process(&self, pid: Pid) -> Option<ProcessInfo>
         ensures { result ≡ option_map info_of (get nat_cmp self.now.processes pid) }
     {
-        self.inner.process(pid)
+        self.inner.spaces.info(pid)
     }
 
     /// How many pages have moved and how many requests have failed, as in `/proc/vmstat`. Between two calls a machine
@@ -158,7 +158,7 @@ impl<A: Allocator + Copy + Send + Sync> Machine<A> {
         ensures failed { result.failed ≡ self.now.failed }
         ensures sound { IsSound self.now }
     {
-        self.inner.totals()
+        self.inner.totals
     }
 
     /// Adds a process, with the credentials and the cpuset of credentials(7), capabilities(7) and cpuset(7). The home
@@ -285,7 +285,10 @@ impl<A: Allocator + Copy + Send + Sync> Machine<A> {
     pub fn check_policy(&self, pid: Pid, addr: u64, len: u64) -> Result<(), Errno>
         ensures { Checks result (policy_refusal self.now pid addr len) }
     {
-        self.inner.check_policy(pid, addr, len)
+        if self.inner.spaces.info(pid).is_none() {
+            return Err(Errno::Esrch);
+        }
+        self.inner.spaces.areas().check_policy(pid, addr, len)
     }
 
     /// Sets where new pages are placed in the `len` bytes from address `addr` on, rounded up to whole pages, as
@@ -424,7 +427,7 @@ impl<A: Allocator + Copy + Send + Sync> Machine<A> {
     pub fn has_free(&self, node: NodeId) -> bool
         ensures { result ≡ has_free self.now.free node }
     {
-        self.inner.has_free(node)
+        self.inner.frames.has_free(node)
     }
 
     /// The free frames of a node, front first. EINVAL if there is no such node. An empty list takes no memory.
@@ -458,7 +461,10 @@ impl<A: Allocator + Copy + Send + Sync> Machine<A> {
         ensures asked { result ≡ Err MachineError.HostMemory →
             0 < length (lines_of self.now.segments self.now.areas pid) }
     {
-        self.inner.lines(pid)
+        if self.inner.spaces.info(pid).is_none() {
+            return Err(MachineError::Refused(Errno::Esrch));
+        }
+        Ok(self.inner.spaces.areas().lines(pid)?)
     }
 
     /// The first page that a process sees at a page number from `first` up to but not including `end`, with its node.
@@ -484,7 +490,8 @@ impl<A: Allocator + Copy + Send + Sync> Machine<A> {
     pub fn node_of_page(&self, page: Page) -> Option<NodeId>
         ensures { result ≡ option_map (node_of self.now.layout) (get page_cmp self.now.place page) }
     {
-        self.inner.node_of_page(page)
+        let frame = self.inner.spaces.areas().page_frame(page)?;
+        Some(self.inner.frames.geometry().node_of(frame))
     }
 
     /// The pages that a process sees at page numbers from `first` up to but not including `end`, in order of page
@@ -518,7 +525,7 @@ impl<A: Allocator + Copy + Send + Sync> Machine<A> {
             get page_cmp self.now.place page ≡ Some frame →
             result ≡ length (users self.now.processes page) }
     {
-        self.inner.users_in(frame)
+        self.inner.spaces.users_in(frame)
     }
 
     /// Where the page is that a process sees at a page number, as move_pages(2) without nodes reports it: its node's

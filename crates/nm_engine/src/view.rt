@@ -13,10 +13,10 @@ impl<A: Allocator + Copy + Send + Sync> PageView for Machine<A> {
     ghost placed_at = { λ s p. look_at_place s.processes s.pins p (get page_cmp s.place p) };
 
     fn seen(&self, pid: Pid, vpn: Vpn) -> Seen {
-        self.inner.look(pid, vpn)
+        self.inner.spaces.seen(pid, vpn)
     }
 
     fn placed(&self, page: Page) -> Seen {
-        self.inner.look_at_page(page)
+        self.inner.spaces.placed(page)
     }
 }

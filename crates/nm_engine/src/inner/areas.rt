@@ -7,7 +7,6 @@ ghost use Rattle.nm_model.specs.definitions.Effect.{attach, dropped, map_new, un
 ghost use Rattle.nm_areas.specs.Splits.{HasSplit};
 ghost use Rattle.nm_model.specs.definitions.Areas.{pages_of};
 ghost use Rattle.nm_memory.specs.views.Frames.{CanFree, pool_of, with_freed};
-ghost use Rattle.nm_runs.specs.Targets.{Checks};
 ghost use Rattle.nm_engine.specs.views.MidRun.{with_state};
 ghost use Rattle.nm_model.specs.definitions.Effect.{policy_refusal, set_policy};
 ghost use Rattle.nm_model.specs.definitions.Effect.{attach_refusal, is_range, is_unknown, map_refusal, shows_pinned, unmap_refusal};
@@ -73,16 +72,6 @@ impl<A: Allocator + Copy> Inner<A> {
             return Err(MachineError::Refused(Errno::Esrch));
         }
         Ok(self.spaces.attach(pid, addr, segment, offset, pages)?)
-    }
-
-    /// Whether the policy of a range of a process may be set: ESRCH, EINVAL or EFAULT if not.
-    pub(crate) fn check_policy(&self, pid: Pid, addr: u64, len: u64) -> Result<(), Errno>
-        ensures { Checks result (policy_refusal self.now.state pid addr len) }
-    {
-        if self.spaces.info(pid).is_none() {
-            return Err(Errno::Esrch);
-        }
-        self.spaces.areas().check_policy(pid, addr, len)
     }
 
     /// Sets the policy of the whole pages of a range of a process's addresses, and of no others.

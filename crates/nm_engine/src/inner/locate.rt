@@ -1,46 +1,16 @@
 //! Where the pages are that a process sees.
 
-ghost use Rattle.std.specs.Prelude.{All, Err, IfNone, IfOk, IfSome, OnErr, Some, [], length, option_map, ◌+◌, ◌-◌, ◌<◌, ◌∷◌, ◌≡◌, ◌≤◌};
-ghost use Rattle.nm_areas.specs.Lines.{lines_of};
-ghost use Rattle.nm_engine.specs.definitions.Does.{AsksLast, Tells};
+ghost use Rattle.std.specs.Prelude.{All, IfNone, IfOk, IfSome, OnErr, Some, [], length, ◌+◌, ◌-◌, ◌<◌, ◌∷◌, ◌≡◌, ◌≤◌};
 ghost use Rattle.nm_model.specs.definitions.Seen.{between, located, located_between, sights};
-ghost use Rattle.nm_model.specs.definitions.Effect.{entries_refusal};
-ghost use Rattle.nm_model.specs.definitions.Seen.{users};
 ghost use Rattle.nm_types.specs.Layout.{node_count, node_of};
 ghost use Rattle.nm_types.specs.Map.{get, page_cmp};
-ghost use Rattle.nm_types.specs.declared.page.Page.{Page};
 
 use crate::Located;
 use crate::inner::Inner;
-use nm_areas::Line;
-use nm_types::{Errno, FrameId, MachineError, NodeId, Page, Pid, Sight, Vpn};
+use nm_types::{Pid, Sight, Vpn};
 use std::alloc::{AllocError, Allocator};
 
 impl<A: Allocator + Copy> Inner<A> {
-    /// The areas of a process, in address order.
-    pub(crate) fn lines(&self, pid: Pid) -> Result<Vec<Line, A>, MachineError>
-        ensures told { Tells result (entries_refusal self.now.state pid)
-            (λ lines. lines.items ≡ lines_of self.now.state.segments self.now.state.areas pid) }
-        ensures memory { AsksLast result (entries_refusal self.now.state pid) }
-        ensures asked { result ≡ Err MachineError.HostMemory →
-            0 < length (lines_of self.now.state.segments self.now.state.areas pid) }
-    {
-        if self.spaces.info(pid).is_none() {
-            return Err(MachineError::Refused(Errno::Esrch));
-        }
-        Ok(self.spaces.areas().lines(pid)?)
-    }
-
-    /// How many processes see the page in a frame.
-    pub(crate) fn users_in(&self, frame: FrameId) -> usize
-        requires { (page : Page) × (get page_cmp self.now.state.place page ≡ Some frame) }
-        ensures { (page : Page) →
-            get page_cmp self.now.state.place page ≡ Some frame →
-            result ≡ length (users self.now.state.processes page) }
-    {
-        self.spaces.users_in(frame)
-    }
-
     /// The pages that a process sees from one page number up to another, with their frames and nodes.
     pub(crate) fn pages_between(
         &self,
@@ -88,15 +58,6 @@ impl<A: Allocator + Copy> Inner<A> {
             }
         }
         None
-    }
-
-    /// The node that a page is on. None if it has no frame.
-    pub(crate) fn node_of_page(&self, page: Page) -> Option<NodeId>
-        ensures { result
-            ≡ option_map (node_of self.now.state.layout) (get page_cmp self.now.state.place page) }
-    {
-        let frame = self.spaces.areas().page_frame(page)?;
-        Some(self.frames.geometry().node_of(frame))
     }
 
     /// The page among what is seen at a page number, with its node.

@@ -18,7 +18,7 @@ use nm_types::{Errno, MachineError, NodeMask, Pid, Vpn};
 use std::alloc::Allocator;
 
 /// Whether a set has a node that is not below a count.
-fn has_beyond(nodes: NodeMask, count: usize) -> bool
+pub(crate) fn has_beyond(nodes: NodeMask, count: usize) -> bool
     requires { count ≤ 64 }
     ensures { result ≡ list_any (nat_le count) nodes }
 {
@@ -32,13 +32,6 @@ fn has_beyond(nodes: NodeMask, count: usize) -> bool
 }
 
 impl<A: Allocator + Copy> Inner<A> {
-    /// Whether a set has a node that the machine does not have.
-    pub(crate) fn names_missing_node(&self, nodes: NodeMask) -> bool
-        ensures { result ≡ list_any (nat_le (node_count self.now.state.layout)) nodes }
-    {
-        has_beyond(nodes, self.frames.geometry().node_count())
-    }
-
     /// Adds a process.
     pub(crate) fn spawn(&mut self, pid: Pid, info: ProcessInfo) -> Result<(), MachineError>
         requires { self.old.left ≡ [] }

@@ -5,58 +5,18 @@ ghost use Rattle.nm_model.specs.definitions.Sound.{audited};
 ghost use Rattle.nm_engine.specs.definitions.Does.{AsksLast, Tells};
 ghost use Rattle.nm_model.specs.definitions.PageTables.{entries_of};
 ghost use Rattle.nm_model.specs.definitions.Effect.{entries_refusal, list_refusal};
-ghost use Rattle.nm_model.specs.definitions.Sound.{IsSound};
-ghost use Rattle.nm_model.specs.definitions.Effect.{info_of};
-ghost use Rattle.nm_model.specs.definitions.Seen.{look, look_at_place};
 ghost use Rattle.nm_types.specs.Layout.{node_count};
-ghost use Rattle.nm_types.specs.Map.{get, page_cmp};
-ghost use Rattle.nm_types.specs.Nodes.{is_in};
 ghost use Rattle.nm_types.specs.State.{free_list};
 ghost use Rattle.nm_types.specs.declared.errno.Errno.{Errno};
 ghost use Rattle.nm_types.specs.declared.errno.Errno.TheVariants.{Esrch};
-ghost use Rattle.std.specs.Ordering.{nat_cmp};
-ghost use Rattle.std.specs.Prelude.{Err, IfOk, Some, [], length, option_map, true, ◌+◌, ◌<◌, ◌≡◌, ◌≤◌};
+ghost use Rattle.std.specs.Prelude.{Err, IfOk, Some, [], length, true, ◌+◌, ◌<◌, ◌≡◌};
 
-use crate::ProcessInfo;
 use crate::inner::Inner;
-use crate::machine::Totals;
 use nm_tables::Entry;
-use nm_types::{Errno, FrameId, MachineError, NodeId, Page, PageView, Pid, Seen, Vpn};
+use nm_types::{Errno, FrameId, MachineError, NodeId, PageView, Pid, Seen, Vpn};
 use std::alloc::{AllocError, Allocator};
 
 impl<A: Allocator + Copy> Inner<A> {
-    /// How many nodes there are: 1 to 64.
-    pub(crate) fn node_count(&self) -> usize
-        ensures count { result ≡ node_count self.now.state.layout }
-        ensures few { result ≤ 64 }
-        ensures sound { self.now.left ≡ [] → IsSound self.now.state }
-    {
-        self.frames.geometry().node_count()
-    }
-
-    /// Whether there is such a node, and it is online.
-    pub(crate) fn is_online(&self, node: NodeId) -> bool
-        ensures { result ≡ is_in self.now.state.online node }
-    {
-        self.online.contains(node)
-    }
-
-    /// What `spawn` fixed of a process. None if there is no process with this pid.
-    pub(crate) fn process(&self, pid: Pid) -> Option<ProcessInfo>
-        ensures { result ≡ option_map info_of (get nat_cmp self.now.state.processes pid) }
-    {
-        self.spaces.info(pid)
-    }
-
-    /// The totals so far.
-    pub(crate) fn totals(&self) -> Totals
-        ensures moved { result.moved ≡ self.now.state.moved }
-        ensures failed { result.failed ≡ self.now.state.failed }
-        ensures sound { self.now.left ≡ [] → IsSound self.now.state }
-    {
-        self.totals
-    }
-
     /// The free frames of a node, front first.
     pub(crate) fn free_list(&self, node: NodeId) -> Result<Vec<FrameId, A>, MachineError>
         ensures told { Tells result (list_refusal self.now.state node)
@@ -83,22 +43,6 @@ impl<A: Allocator + Copy> Inner<A> {
             Some(entries) => Ok(entries),
             None => Err(MachineError::Refused(Errno::Esrch)),
         }
-    }
-
-    /// What a process sees at a page number.
-    pub(crate) fn look(&self, pid: Pid, vpn: Vpn) -> Seen
-        ensures { result ≡ look self.now.state pid vpn }
-    {
-        self.spaces.seen(pid, vpn)
-    }
-
-    /// What is to be seen of a page, whoever sees it.
-    pub(crate) fn look_at_page(&self, page: Page) -> Seen
-        ensures { result
-            ≡ look_at_place self.now.state.processes self.now.state.pins page
-            (get page_cmp self.now.state.place page) }
-    {
-        self.spaces.placed(page)
     }
 
     /// The number of the node of the page that a process sees at a page number, or an error's number with a minus sign.
