@@ -1,12 +1,13 @@
 -- Lines that are read and replied to.
 use Rattle.std.proofs.Common.{◌≡◌, ℕ, List, [], ◌∷◌, ◌++◌, Option, Some, None, IfSome, Result, Ok, Err, ap, refl, subst, sym, ◌∙◌, append_assoc}
 use Rattle.std.proofs.lemmas.List.{append-nil}
+use Rattle.std.specs.List.{AllByRecursion}
 use Rattle.std.specs.Io.BufRead.{take_through, drop_through, DropsThrough}
 use Rattle.std.specs.Io.KnownBytes.{Appends, Keeps}
 use Rattle.std.specs.Prelude.{OnOk}
 use Rattle.nm_trace.specs.Session.{SessionState, asked, opened}
 use Rattle.nm_trace.proofs.Known.{appends_kept, appends_more, appends_none}
-use Rattle.numatrace_session.specs.Replies.{after, after_lines, reply_of, replies_to, AreLines, ReadsLines, RepliesToLines, Talks}
+use Rattle.numatrace_session.specs.Replies.{HasByte, after, after_lines, reply_of, replies_to, AreLines, ReadsLines, RepliesToLines, Talks}
 
 -- ---- reading
 
@@ -43,14 +44,18 @@ replies_more s (l ∷ ls) line =
     ∙ sym (append_assoc first (replies_to (after s (asked s l)) ls) (reply_of (after_lines (after s (asked s l)) ls) (asked (after_lines (after s (asked s l)) ls) line)))
 
 pub no_lines : (s : SessionState) (left old : Option (List ℕ)) → RepliesToLines s s left left old old
-no_lines s left old = ([], reads_none left, refl, appends_none old)
+no_lines s left old = ([], reads_none left, refl, appends_none old, tt)
+
+all_more : (lines : List (List ℕ)) (line : List ℕ) → AllByRecursion HasByte lines → HasByte line → AllByRecursion HasByte (lines ++ line ∷ [])
+all_more [] line h some = (some, tt)
+all_more (l ∷ ls) line h some = (h.0, all_more ls line h.1 some)
 
 -- one more line is read and replied to
 pub one_more : (s t u : SessionState) (a b c old new newer newest : Option (List ℕ)) (line : List ℕ) → RepliesToLines s t a b old new
     → IfSome b (λ xs. line ≡ take_through 10 xs) → DropsThrough b c 10
-    → Appends new newer (reply_of t (asked t line)) → u ≡ after t (asked t line) → Keeps newer newest
+    → Appends new newer (reply_of t (asked t line)) → u ≡ after t (asked t line) → Keeps newer newest → HasByte line
     → RepliesToLines s u a c old newest
-one_more s t u a b c old new newer newest line h is drops written made kept =
+one_more s t u a b c old new newer newest line h is drops written made kept some =
     let lines = h.0 in
     let before : t ≡ after_lines s lines = h.2 in
     let text = ap (λ (v : SessionState). reply_of v (asked v line)) before in
@@ -60,11 +65,12 @@ one_more s t u a b c old new newer newest line h is drops written made kept =
       made ∙ ap (λ (v : SessionState). after v (asked v line)) before ∙ sym (after_more s lines line),
       appends_kept old newer newest (replies_to s (lines ++ line ∷ []))
           (subst (Appends old newer) (ap (λ (x : List ℕ). replies_to s lines ++ x) text ∙ sym (replies_more s lines line)) so_far) kept,
+      all_more lines line h.4 some,
     )
 
 -- ---- from the first line on
 
 pub talked : {X E : Type 0} (s t : SessionState) (a b c old new : Option (List ℕ)) (top : List ℕ) (result : Result X E) → opened top ≡ Ok s
     → IfSome a (λ xs. top ≡ take_through 10 xs) → DropsThrough a b 10 → OnOk result (RepliesToLines s t b c old new) → OnOk result (Talks a c old new)
-talked s t a b c old new top (Ok done) begins is drops h = (top, s, h.0, begins, reads_top a b c top h.0 is drops h.1, h.3)
+talked s t a b c old new top (Ok done) begins is drops h = (top, s, h.0, begins, reads_top a b c top h.0 is drops h.1, h.3, h.4)
 talked s t a b c old new top (Err e) begins is drops h = tt

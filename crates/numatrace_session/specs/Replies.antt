@@ -1,5 +1,6 @@
 -- What the reply to a line makes of a session, and of what is written.
-use Rattle.std.specs.Prelude.{◌≡◌, ℕ, Bool, true, List, [], ◌∷◌, ◌++◌, codes, decimal, Option, Some, None, Result, Ok, Err}
+use Rattle.std.specs.Prelude.{◌≡◌, ℕ, ◌<◌, Bool, true, List, [], ◌∷◌, ◌++◌, length, codes, decimal, Option, Some, None, Result, Ok, Err}
+use Rattle.std.specs.List.{AllByRecursion}
 use Rattle.std.specs.Io.BufRead.{take_through, drop_through}
 use Rattle.std.specs.Io.KnownBytes.{Appends}
 use Rattle.nm_steps.specs.Calls.{Call}
@@ -72,16 +73,21 @@ ReadsLines None new lines = Unit {0}
 ReadsLines (Some bytes) None lines = ⊥
 ReadsLines (Some bytes) (Some rest) lines = AreLines bytes lines rest
 
+-- a line has a byte: at the end of the input there is none to reply to
+abbrev pub HasByte : List ℕ → Type 0
+HasByte line = 0 < length line
+
 -- lines are read, and each has its reply
 abbrev pub RepliesToLines : SessionState → SessionState → Option (List ℕ) → Option (List ℕ) → Option (List ℕ) → Option (List ℕ) → Type 0
 RepliesToLines s t left left_then old new =
     (lines : List (List ℕ)) × ReadsLines left left_then lines × (t ≡ after_lines s lines) × Appends old new (replies_to s lines)
+    × AllByRecursion HasByte lines
 
 -- a first line begins a session, and each further one has its reply
 abbrev pub Talks : Option (List ℕ) → Option (List ℕ) → Option (List ℕ) → Option (List ℕ) → Type 0
 Talks left left_then old new =
     (top : List ℕ) × (s : SessionState) × (lines : List (List ℕ)) × (opened top ≡ Ok s) × ReadsLines left left_then (top ∷ lines)
-    × Appends old new (replies_to s lines)
+    × Appends old new (replies_to s lines) × AllByRecursion HasByte lines
 
 -- the first line begins none, and nothing is written
 abbrev pub IsRefused : Option (List ℕ) → Option (List ℕ) → Option (List ℕ) → Option (List ℕ) → TraceError → Type 0

@@ -1,4 +1,5 @@
-use Rattle.std.proofs.Common.{ℕ, List, ap, subst, ◌∙◌}
+use Rattle.std.proofs.Common.{ℕ, List, ap, subst, sym, ◌∙◌}
+use Rattle.std.proofs.lemmas.Bool.{ltb-true}
 use Rattle.std.specs.Io.Buffered.{reader_remaining}
 use Rattle.std.specs.Io.KnownBytes.{Appends}
 use Rattle.nm_trace.specs.Session.{asked}
@@ -16,4 +17,4 @@ loop-preserved g c =
     let written = subst (λ (x : List ℕ). Appends (g.W.Write.contents c.loop.out) (g.W.Write.contents c.reply.new.out) (reply_of s (asked s x))) is c.in_ok-reply.ensures.0.0 in
     let made = c.in_ok-reply.ensures.1 ∙ ap (λ (x : List ℕ). after s (asked s x)) is in
     one_more c.args.session.now s c.reply.new.session _ (reader_remaining g.R.Read.remaining c.loop.input) (reader_remaining g.R.Read.remaining c.next_line.new.input) _ _ _ (g.W.Write.contents c.flush_unless_asked.new.out)
-    c.next_line.new.line.items c.loop.invariant c.in_ok-next_line.ensures.line c.in_ok-next_line.ensures.rest written made c.in_ok-flush_unless_asked.ensures.kept
+    c.next_line.new.line.items c.loop.invariant c.in_ok-next_line.ensures.line c.in_ok-next_line.ensures.rest written made c.in_ok-flush_unless_asked.ensures.kept (ltb-true 0 _ (sym c.in_ok-next_line.ensures.more ∙ c.if-not-branch.false))
