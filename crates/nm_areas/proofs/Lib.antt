@@ -21,6 +21,5 @@ pub mod Alone
 pub mod Rests
 pub mod Filled
 pub mod Tallied
-pub mod Swept
 pub mod Shifts
 mod CoverageExamples

@@ -93,6 +93,19 @@ module _ (areas : Map (ℕ × ℕ) Area) where
         ap (λ k. fold (place_left areas) place (pages_from segment at k)) parts_add ∙ skip_left place segment (s - at) (suc (past - (s + 1))) at none_there
         ∙ ap (λ k. fold (place_left areas) place (pages_from segment k (suc (past - (s + 1))))) there
 
+    -- up to that page
+    to_page : past - at ≡ (s - at) + (past - s)
+    to_page = omega (arith, low, high)
+
+    pub to_lost : all_lost areas place (pages_from segment at (past - at)) ≡ all_lost areas place (pages_from segment s (past - s))
+    to_lost =
+        ap (λ k. all_lost areas place (pages_from segment at k)) to_page ∙ skip_lost place segment (s - at) (past - s) at none_there ∙ ap (λ k. all_lost areas place (pages_from segment k (past - s))) there
+
+    pub to_left : fold (place_left areas) place (pages_from segment at (past - at)) ≡ fold (place_left areas) place (pages_from segment s (past - s))
+    to_left =
+        ap (λ k. fold (place_left areas) place (pages_from segment at k)) to_page ∙ skip_left place segment (s - at) (past - s) at none_there
+        ∙ ap (λ k. fold (place_left areas) place (pages_from segment k (past - s))) there
+
   -- where no further page has one
   module _ (place : Map Page ℕ) (segment at past : ℕ) (up : at ≤ past) (none : NoneHas place segment at past) where
     whole : past - at ≡ (past - at) + 0

@@ -6,13 +6,13 @@ use Rattle.nm_types.specs.declared.page.Page.{Page}
 use Rattle.nm_types.specs.declared.area.Area.{Area}
 use Rattle.nm_types.specs.declared.area.Segment.{Segment}
 use Rattle.nm_types.specs.Map.{Map, get, without, page_cmp}
-use Rattle.nm_areas.specs.declared.coverage.Step.{Step}
+use Rattle.nm_counts.specs.declared.step.Step.{Step}
 use Rattle.nm_areas.specs.Coverage.{step_of, IsCoverage, ends_at, covers_at}
 use Rattle.nm_model.specs.definitions.Areas.{is_shared}
 use Rattle.nm_model.specs.definitions.Areas.{pages_from, is_covered}
 use Rattle.nm_model.specs.definitions.Areas.{place_left, with_its_frame, lost, all_lost, page_in, pages_of_area}
 use Rattle.nm_areas.proofs.Counted.{areas_flat, not_covered, some_cover}
-use Rattle.nm_areas.proofs.Lost.{all_freed_next, all_left_next}
+use Rattle.nm_areas.proofs.Lost.{NoneHas, all_freed_next, all_left_next, freed_next, left_next, to_lost, to_left}
 use Rattle.nm_areas.proofs.Steps.{none_ends, flat_same}
 
 pages_append : (s at n r : ℕ) → pages_from s at (n + r) ≡ pages_from s at n ++ pages_from s (at + n) r
@@ -80,23 +80,6 @@ module _ (m : Map Page Step) (segments : Map ℕ Segment) (left : Map (ℕ × �
   parts = pages_parts s at change past (omega (arith, low)) high
 
   module _ (count : ℕ) (is : count ≡ covers_at left (page_in s at)) where
-    -- no other area covers it
-    module _ (free : count ≡ 0) where
-      no_area : (i : ℕ) → at ≤ i → i < at + (change - at) → is_covered left (page_in s i) ≡ false
-      no_area i from to = not_covered left (page_in s i) (same_count i from (omega (arith, to, low)) ∙ sym is ∙ free)
-
-      module _ (new : Map Page ℕ) (after : List (Page × ℕ)) (gone : new ≡ fold (place_left []) place (pages_from s at (change - at))) (more : after ≡ before ++ all_lost [] place (pages_from s at (change - at))) where
-        gone_left : new ≡ fold (place_left left) place (pages_from s at (change - at))
-        gone_left = gone ∙ free_left left s place at (change - at) no_area
-
-        pub free_freed : (total : List (Page × ℕ)) → before ++ all_lost left place (pages_from s at (past - at)) ≡ total → after ++ all_lost left new (pages_from s change (past - change)) ≡ total
-        free_freed total so_far =
-            all_freed_next left place new (pages_from s at (change - at)) (pages_from s change (past - change)) (pages_from s at (past - at)) gone_left parts before after total
-            (more ∙ ap (λ l. before ++ l) (free_lost left s place at (change - at) no_area)) so_far
-
-        pub free_places : (total : Map Page ℕ) → fold (place_left left) place (pages_from s at (past - at)) ≡ total → fold (place_left left) new (pages_from s change (past - change)) ≡ total
-        free_places total so_far = all_left_next left place new (pages_from s at (change - at)) (pages_from s change (past - change)) (pages_from s at (past - at)) gone_left parts total so_far
-
     -- another area covers it
     module _ (some : count ≡ 0 → ⊥) where
       an_area : (i : ℕ) → at ≤ i → i < at + (change - at) → is_covered left (page_in s i) ≡ true
@@ -110,6 +93,37 @@ module _ (m : Map Page Step) (segments : Map ℕ Segment) (left : Map (ℕ × �
       pub kept_places : (total : Map Page ℕ) → fold (place_left left) place (pages_from s at (past - at)) ≡ total → fold (place_left left) place (pages_from s change (past - change)) ≡ total
       kept_places total so_far =
           all_left_next left place place (pages_from s at (change - at)) (pages_from s change (past - change)) (pages_from s at (past - at)) (sym (kept_left left s place at (change - at) an_area)) parts total so_far
+
+-- from one page that has a frame to the next
+module _ (m : Map Page Step) (segments : Map ℕ Segment) (left : Map (ℕ × ℕ) Area) (cover : IsCoverage m segments left) (s : ℕ) (shared : is_shared segments s ≡ true) (at found past : ℕ) (low : at ≤ found) (high : found < past)
+    (place : Map Page ℕ) (absent : NoneHas left place s at found) (before : List (Page × ℕ)) (count : ℕ) (is : count ≡ covers_at left (page_in s found)) where
+  -- no other area covers it
+  module _ (free : count ≡ 0) (new : Map Page ℕ) (gone : new ≡ place_left [] place (page_in s found)) where
+    uncovered : is_covered left (page_in s found) ≡ false
+    uncovered = not_covered left (page_in s found) (sym is ∙ free)
+
+    gone_left : new ≡ place_left left place (page_in s found)
+    gone_left = gone ∙ ap (λ b. if b then place else without page_cmp place (page_in s found)) (sym uncovered)
+
+    pub free_freed : (after total : List (Page × ℕ)) → after ≡ before ++ lost [] place (page_in s found) → before ++ all_lost left place (pages_from s at (past - at)) ≡ total → after ++ all_lost left new (pages_from s (found + 1) (past - (found + 1))) ≡ total
+    free_freed after total more so_far =
+        freed_next left place new s at found past low high absent gone_left before after total
+        (more ∙ ap (λ b. before ++ (if b then [] else with_its_frame (page_in s found) (get page_cmp place (page_in s found)))) (sym uncovered)) so_far
+
+    pub free_places : (total : Map Page ℕ) → fold (place_left left) place (pages_from s at (past - at)) ≡ total → fold (place_left left) new (pages_from s (found + 1) (past - (found + 1))) ≡ total
+    free_places total so_far = left_next left place new s at found past low high absent gone_left total so_far
+
+  -- another area covers it, and as many cover the pages up to the next step
+  module _ (some : count ≡ 0 → ⊥) (change : ℕ) (up : found < change) (end : change ≤ past) (none : (i : ℕ) → found < i → i < change → get page_cmp m (page_in s i) ≡ None) where
+    pub skip_freed : (total : List (Page × ℕ)) → before ++ all_lost left place (pages_from s at (past - at)) ≡ total → before ++ all_lost left place (pages_from s change (past - change)) ≡ total
+    skip_freed total so_far =
+        kept_freed m segments left cover s shared found change past up end none place before count is some total
+        (ap (λ l. before ++ l) (sym (to_lost left place s at found past low high absent)) ∙ so_far)
+
+    pub skip_places : (total : Map Page ℕ) → fold (place_left left) place (pages_from s at (past - at)) ≡ total → fold (place_left left) place (pages_from s change (past - change)) ≡ total
+    skip_places total so_far =
+        kept_places m segments left cover s shared found change past up end none place before count is some total
+        (sym (to_left left place s at found past low high absent) ∙ so_far)
 
 -- none covers a page of an area
 pub alone_left : (left : Map (ℕ × ℕ) Area) (x : Area) (place : Map Page ℕ) → ((i : ℕ) → x.page.index ≤ i → i < x.page.index + x.pages → is_covered left (page_in x.page.segment i) ≡ false)

@@ -10,8 +10,8 @@ ghost use Rattle.nm_model.specs.definitions.AreaRefusal.{insert_refusal, stretch
 
 use crate::area_table::{AreaTable, new_area};
 use crate::counting::{count_in, count_out};
-use crate::coverage::Step;
 use crate::ranges::range_start;
+use nm_counts::Steps;
 use nm_types::limits::MAX_SEGMENTS;
 use nm_types::{Area, Errno, FrameId, MachineError, Page, Pid, Vpn};
 use std::alloc::Allocator;
@@ -25,7 +25,7 @@ use std::marker::Model;
 #[derive(Drop)]
 pub struct Areas<A: Allocator + Copy> {
     pub(crate) table: AreaTable<A>,
-    pub(crate) steps: BTreeMap<Page, Step, A>,
+    pub(crate) steps: Steps<A>,
     pub(crate) places: BTreeMap<Page, FrameId, A>,
     pub(crate) alloc: A,
 }
@@ -38,7 +38,7 @@ impl<A: Allocator + Copy> Model for Areas<A> {
 
     ghost view = { λ a. mapped a.table a.places.entries };
 
-    ghost invariant = { λ a. IsMapped (mapped a.table a.places.entries) × IsCoverage a.steps.entries a.table.segments a.table.areas };
+    ghost invariant = { λ a. IsMapped (mapped a.table a.places.entries) × IsCoverage a.steps a.table.segments a.table.areas };
 }
 
 impl<A: Allocator + Copy> Areas<A> {
@@ -48,7 +48,7 @@ impl<A: Allocator + Copy> Areas<A> {
     {
         Areas {
             table: AreaTable::new(alloc),
-            steps: BTreeMap::new(alloc),
+            steps: Steps::new(alloc),
             places: BTreeMap::new(alloc),
             alloc,
         }

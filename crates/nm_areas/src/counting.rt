@@ -12,29 +12,29 @@ ghost use Rattle.nm_types.specs.declared.area.Area.{Area};
 ghost use Rattle.nm_types.specs.declared.area.Segment.{Segment};
 
 use crate::area_table::AreaTable;
-use crate::coverage::{Step, cover, mark, uncover, unmark};
+use crate::coverage::{cover, mark, uncover, unmark};
+use nm_counts::Steps;
 use nm_types::{Area, Page, Pid, Vpn};
 use std::alloc::{AllocError, Allocator};
-use std::collections::BTreeMap;
 
 /// Counts an area that is to be added to a table, if it is over a shared segment. An error means that the steps are
 /// still those of the table. Allocates only for a shared segment.
 pub(crate) fn count_in<A: Allocator + Copy>(
     table: &AreaTable<A>,
-    steps: &mut BTreeMap<Page, Step, A>,
+    steps: &mut Steps<A>,
     area: Area,
     shared: bool,
 ) -> Result<(), AllocError>
-    requires steps { IsCoverage steps.old.entries table.now.segments table.now.areas }
+    requires steps { IsCoverage steps.old table.now.segments table.now.areas }
     requires whole { AllByRecursion IsSomePages table.now.areas }
     requires indices { area.page.index + area.pages < 2 ^ 64 }
 
     // On success
     ensures ok { OnOk result
-        (IsWith steps.new.entries table.now.segments table.now.areas area shared) }
+        (IsWith steps.new table.now.segments table.now.areas area shared) }
 
     // Without memory
-    ensures err { OnErr result (IsCoverage steps.new.entries table.now.segments table.now.areas) }
+    ensures err { OnErr result (IsCoverage steps.new table.now.segments table.now.areas) }
     ensures asked { OnErr result (shared ≡ true) }
 {
     if !shared {
@@ -48,15 +48,11 @@ pub(crate) fn count_in<A: Allocator + Copy>(
 }
 
 /// Removes an area that was counted from the count, if it is over a shared segment. Does not allocate.
-pub(crate) fn count_out<A: Allocator + Copy>(
-    steps: &mut BTreeMap<Page, Step, A>,
-    area: Area,
-    shared: bool,
-)
+pub(crate) fn count_out<A: Allocator + Copy>(steps: &mut Steps<A>, area: Area, shared: bool)
     requires indices { area.page.index + area.pages < 2 ^ 64 }
     ensures { (segments : Map ℕ Segment) (areas : Map (ℕ × ℕ) Area) →
-        IsWith steps.old.entries segments areas area shared →
-        IsCoverage steps.new.entries segments areas }
+        IsWith steps.old segments areas area shared →
+        IsCoverage steps.new segments areas }
 {
     if shared {
         uncover(steps, area);
@@ -67,15 +63,15 @@ pub(crate) fn count_out<A: Allocator + Copy>(
 /// those of the other areas. Does not allocate.
 pub(crate) fn count_out_own<A: Allocator + Copy>(
     table: &AreaTable<A>,
-    steps: &mut BTreeMap<Page, Step, A>,
+    steps: &mut Steps<A>,
     pid: Pid,
     first: Vpn,
     end: Vpn,
 )
     requires range { first ≤ end }
-    requires steps { IsCoverage steps.old.entries table.now.segments table.now.areas }
+    requires steps { IsCoverage steps.old table.now.segments table.now.areas }
     requires indices { AllByRecursion HasIndices table.now.areas }
-    ensures { IsCoverage steps.new.entries table.now.segments (others pid first end table.now.areas) }
+    ensures { IsCoverage steps.new table.now.segments (others pid first end table.now.areas) }
 {
     let mut at = first.number();
     while let Some((start, area)) = table.next_own(pid, Vpn::new(at), end) {
@@ -85,16 +81,12 @@ pub(crate) fn count_out_own<A: Allocator + Copy>(
 }
 
 /// Removes an area of a table from the count, if it is over a shared segment. Does not allocate.
-fn count_out_one<A: Allocator + Copy>(
-    table: &AreaTable<A>,
-    steps: &mut BTreeMap<Page, Step, A>,
-    area: Area,
-)
+fn count_out_one<A: Allocator + Copy>(table: &AreaTable<A>, steps: &mut Steps<A>, area: Area)
     requires indices { area.page.index + area.pages < 2 ^ 64 }
     ensures { (ends covers : Page → ℕ) →
-        IsSteps steps.old.entries (of_shared table.now.segments (λ p. ends p + ends_of p area))
+        IsSteps steps.old (of_shared table.now.segments (λ p. ends p + ends_of p area))
         (of_shared table.now.segments (λ p. covers p + covers_of p area)) →
-        IsSteps steps.new.entries (of_shared table.now.segments ends)
+        IsSteps steps.new (of_shared table.now.segments ends)
         (of_shared table.now.segments covers) }
 {
     if table.is_shared(area.page.segment) {
@@ -106,26 +98,26 @@ fn count_out_one<A: Allocator + Copy>(
 /// steps are still those of the table. Allocates only if an area covers one of the page numbers and begins before it.
 pub(crate) fn split_steps<A: Allocator + Copy>(
     table: &AreaTable<A>,
-    steps: &mut BTreeMap<Page, Step, A>,
+    steps: &mut Steps<A>,
     pid: Pid,
     first: Vpn,
     end: Vpn,
 ) -> Result<(), AllocError>
-    requires steps { IsCoverage steps.old.entries table.now.segments table.now.areas }
+    requires steps { IsCoverage steps.old table.now.segments table.now.areas }
     requires apart { AreasAreApart table.now.areas }
     requires whole { AllByRecursion IsSomePages table.now.areas }
     requires indices { AllByRecursion HasIndices table.now.areas }
 
     // On success
     ensures ok { OnOk result
-        (IsSteps steps.new.entries
+        (IsSteps steps.new
         (λ p. (of_shared table.now.segments (ends_at table.now.areas) p
         + of_shared table.now.segments (splits_at table.now.areas pid first) p)
         + of_shared table.now.segments (splits_at table.now.areas pid end) p)
         (of_shared table.now.segments (covers_at table.now.areas))) }
 
     // Without memory
-    ensures err { OnErr result (IsCoverage steps.new.entries table.now.segments table.now.areas) }
+    ensures err { OnErr result (IsCoverage steps.new table.now.segments table.now.areas) }
     ensures asked { OnErr result
         (HasSplit table.now.areas pid first ⊎ HasSplit table.now.areas pid end) }
 {
@@ -143,12 +135,12 @@ pub(crate) fn split_steps<A: Allocator + Copy>(
 /// Undoes what `split_steps` counted, where the areas were not split after all. Does not allocate.
 pub(crate) fn join_steps<A: Allocator + Copy>(
     table: &AreaTable<A>,
-    steps: &mut BTreeMap<Page, Step, A>,
+    steps: &mut Steps<A>,
     pid: Pid,
     first: Vpn,
     end: Vpn,
 )
-    requires steps { IsSteps steps.old.entries
+    requires steps { IsSteps steps.old
         (λ p. (of_shared table.now.segments (ends_at table.now.areas) p
         + of_shared table.now.segments (splits_at table.now.areas pid first) p)
         + of_shared table.now.segments (splits_at table.now.areas pid end) p)
@@ -156,7 +148,7 @@ pub(crate) fn join_steps<A: Allocator + Copy>(
     requires apart { AreasAreApart table.now.areas }
     requires whole { AllByRecursion IsSomePages table.now.areas }
     requires indices { AllByRecursion HasIndices table.now.areas }
-    ensures { IsCoverage steps.new.entries table.now.segments table.now.areas }
+    ensures { IsCoverage steps.new table.now.segments table.now.areas }
 {
     join_step(table, steps, pid, end);
     join_step(table, steps, pid, first);
@@ -166,7 +158,7 @@ pub(crate) fn join_steps<A: Allocator + Copy>(
 /// has changed. Allocates only if an area covers the page number and begins before it.
 fn split_step<A: Allocator + Copy>(
     table: &AreaTable<A>,
-    steps: &mut BTreeMap<Page, Step, A>,
+    steps: &mut Steps<A>,
     pid: Pid,
     at: Vpn,
 ) -> Result<(), AllocError>
@@ -177,15 +169,15 @@ fn split_step<A: Allocator + Copy>(
     // On success
     ensures ok { OnOk result
         ((ends covers : Page → ℕ) →
-        IsSteps steps.old.entries ends covers →
+        IsSteps steps.old ends covers →
         IsFlat ends covers →
         ((p : Page) → ends p + 2 < 2 ^ 64) →
-        IsSteps steps.new.entries
+        IsSteps steps.new
         (λ p. ends p
         + of_shared table.now.segments (splits_at table.now.areas pid at) p) covers) }
 
     // Without memory
-    ensures err { OnErr result (steps.new.entries ≡ steps.old.entries) }
+    ensures err { OnErr result (steps.new ≡ steps.old) }
     ensures asked { OnErr result (HasSplit table.now.areas pid at) }
 {
     match table.split_page(pid, at) {
@@ -195,20 +187,15 @@ fn split_step<A: Allocator + Copy>(
 }
 
 /// Undoes what `split_step` counted. Does not allocate.
-fn join_step<A: Allocator + Copy>(
-    table: &AreaTable<A>,
-    steps: &mut BTreeMap<Page, Step, A>,
-    pid: Pid,
-    at: Vpn,
-)
+fn join_step<A: Allocator + Copy>(table: &AreaTable<A>, steps: &mut Steps<A>, pid: Pid, at: Vpn)
     requires apart { AreasAreApart table.now.areas }
     requires whole { AllByRecursion IsSomePages table.now.areas }
     requires indices { AllByRecursion HasIndices table.now.areas }
     ensures { (ends covers : Page → ℕ) →
-        IsSteps steps.old.entries
+        IsSteps steps.old
         (λ p. ends p
         + of_shared table.now.segments (splits_at table.now.areas pid at) p) covers →
-        IsSteps steps.new.entries ends covers }
+        IsSteps steps.new ends covers }
 {
     if let Some(page) = table.split_page(pid, at) {
         unmark(steps, page, 2);

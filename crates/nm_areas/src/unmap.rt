@@ -19,9 +19,10 @@ ghost use Rattle.nm_types.specs.State.{page_at};
 use crate::area_table::AreaTable;
 use crate::areas::Areas;
 use crate::counting::{count_out_own, join_steps, split_steps};
-use crate::coverage::{Step, count_at, step_change};
+use crate::coverage::count_at;
 use crate::ranges::range_start;
 use crate::scan::next_of;
+use nm_counts::Steps;
 use nm_types::{Area, Errno, FrameId, MachineError, Page, Pid, Vpn};
 use std::alloc::Allocator;
 use std::collections::BTreeMap;
@@ -89,7 +90,7 @@ impl<A: Allocator + Copy> AreaTable<A> {
     /// other areas.
     fn lose_all(
         &self,
-        steps: &BTreeMap<Page, Step, A>,
+        steps: &Steps<A>,
         pid: Pid,
         first: Vpn,
         end: Vpn,
@@ -97,7 +98,7 @@ impl<A: Allocator + Copy> AreaTable<A> {
         freed: &mut Vec<(Page, FrameId), A>,
     )
         requires range { first ≤ end }
-        requires steps { IsCoverage steps.now.entries self.now.segments
+        requires steps { IsCoverage steps.now self.now.segments
             (others pid first end self.now.areas) }
         requires apart { AreasAreApart self.now.areas }
         requires once { PrivateIsOnce self.now.areas self.now.segments }
@@ -165,7 +166,7 @@ impl<A: Allocator + Copy> AreaTable<A> {
 /// Takes the frames of pages that an area shows and that none of the areas covers whose steps these are. Appends these
 /// pages to a list that has room for them. No other area covers a page of a private segment.
 fn lose_area<A: Allocator + Copy>(
-    steps: &BTreeMap<Page, Step, A>,
+    steps: &Steps<A>,
     area: Area,
     shared: bool,
     places: &mut BTreeMap<Page, FrameId, A>,
@@ -177,12 +178,12 @@ fn lose_area<A: Allocator + Copy>(
 
     // The pages lose their frames and join the list
     ensures places { (segments : Map ℕ Segment) (left : Map (ℕ × ℕ) Area) →
-        IsCoverage steps.now.entries segments left →
+        IsCoverage steps.now segments left →
         shared ≡ is_shared segments area.page.segment →
         IsAlone left area shared →
         places.new.entries ≡ fold (place_left left) places.old.entries (pages_of_area area) }
     ensures freed { (segments : Map ℕ Segment) (left : Map (ℕ × ℕ) Area) →
-        IsCoverage steps.now.entries segments left →
+        IsCoverage steps.now segments left →
         shared ≡ is_shared segments area.page.segment →
         IsAlone left area shared →
         freed.new.items ≡ freed.old.items ++ all_lost left places.old.entries (pages_of_area area) }
@@ -202,10 +203,10 @@ fn lose_area<A: Allocator + Copy>(
 }
 
 /// Takes the frames of pages of a shared segment that an area shows and that none of the areas covers whose steps these
-/// are. Appends these pages to a list that has room for them. Goes from step to step, since between two steps the
-/// number of areas over a page is the same.
+/// are. Appends these pages to a list that has room for them. Goes from one page that has a frame to the next; where
+/// areas cover one, to the next after the next step, since as many cover the pages between.
 fn lose<A: Allocator + Copy>(
-    steps: &BTreeMap<Page, Step, A>,
+    steps: &Steps<A>,
     area: Area,
     places: &mut BTreeMap<Page, FrameId, A>,
     freed: &mut Vec<(Page, FrameId), A>,
@@ -216,11 +217,11 @@ fn lose<A: Allocator + Copy>(
 
     // The pages lose their frames and join the list
     ensures places { (segments : Map ℕ Segment) (left : Map (ℕ × ℕ) Area) →
-        IsCoverage steps.now.entries segments left →
+        IsCoverage steps.now segments left →
         is_shared segments area.page.segment ≡ true →
         places.new.entries ≡ fold (place_left left) places.old.entries (pages_of_area area) }
     ensures freed { (segments : Map ℕ Segment) (left : Map (ℕ × ℕ) Area) →
-        IsCoverage steps.now.entries segments left →
+        IsCoverage steps.now segments left →
         is_shared segments area.page.segment ≡ true →
         freed.new.items ≡ freed.old.items ++ all_lost left places.old.entries (pages_of_area area) }
 
@@ -233,19 +234,17 @@ fn lose<A: Allocator + Copy>(
     let Page { segment, index } = area.page;
     let past = index + area.pages;
     let mut at = index;
-    let mut others = count_at(steps, area.page);
-    let after = Page {
-        segment,
-        index: index.saturating_add(1),
-    };
-    let mut rest = steps.range(after..);
-    while at < past {
-        let (change, next) = step_change(&mut rest, segment, past);
-        if others == 0 {
-            lose_stretch(segment, at, change, places, freed);
+    while let Some((found, frame)) = next_of(places, segment, at, past) {
+        let page = Page {
+            segment,
+            index: found,
+        };
+        if count_at(steps, page) == 0 {
+            lose_page(page, frame, places, freed);
+            at = found + 1;
+        } else {
+            at = steps.next_from(segment, found + 1, past);
         }
-        at = change;
-        others = next;
     }
 }
 

@@ -17,7 +17,7 @@ returns-clause-ok g c =
     let areas = c.args.table.now.areas in
     let segments = c.args.table.now.segments in
     let few = shared_few segments areas c.requires.whole in
-    subst (IsWith c.cover.new.steps.entries segments areas c.args.area) (sym c.if-not-shared.false)
+    subst (IsWith c.cover.new.steps segments areas c.args.area) (sym c.if-not-shared.false)
     (c.in_ok-cover.ensures.ok (of_shared segments (ends_at areas)) (of_shared segments (covers_at areas)) c.requires.steps (shared_flat segments areas)
     (λ p. let small = few p in (omega (arith, small.0, c.count-areas.ensures.small), omega (arith, small.1, c.count-areas.ensures.small))))
 

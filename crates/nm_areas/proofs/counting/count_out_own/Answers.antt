@@ -18,7 +18,7 @@ loop-start-init g c =
     let left = others a.pid a.first a.end areas in
     let own = λ (n : ℕ). filter (is_own a.pid n a.end) areas in
     record {
-      steps = masked_parts a.steps.now.entries a.table.now.segments areas left (own c.number-at.result)
+      steps = masked_parts a.steps.now a.table.now.segments areas left (own c.number-at.result)
           (λ (f : Placed → ℕ). sym (total_parts f (is_own a.pid a.first a.end) areas) ∙ ap (λ (n : ℕ). total f left + total f (own n)) (sym c.number-at.ensures)) c.requires.steps;
       low = omega (arith, c.number-at.ensures);
       up = omega (arith, c.number-at.ensures, c.requires.range);
@@ -40,7 +40,7 @@ loop-start-preserved g c =
     let behind = c.number-at-in-Some.result + 1 in
     record {
       steps = c.count_out_one.ensures (λ p. ends_at left p + ends_at (own behind) p) (λ p. covers_at left p + covers_at (own behind) p)
-          (masked_next c.loop-start.steps.entries a.table.now.segments left (own c.loop-start.at) (own behind) (a.pid, _) _
+          (masked_next c.loop-start.steps a.table.now.segments left (own c.loop-start.at) (own behind) (a.pid, _) _
           (λ (f : Placed → ℕ). own_sum f left areas a.pid c.loop-start.at _ a.end c.number-at-in-Some.result _ next c.number-at-in-Some.ensures) now.steps);
       low = omega (arith, now.low, some.0, c.new.ensures, c.number-at-in-Some.ensures);
       up = omega (arith, some.1, c.number-at-in-Some.ensures);
@@ -50,5 +50,5 @@ pub returns : goal.returns
 returns g c =
     let a = c.args in
     let areas = a.table.now.areas in
-    masked_end c.loop-start.steps.entries a.table.now.segments (others a.pid a.first a.end areas) (filter (is_own a.pid c.loop-start.at a.end) areas)
+    masked_end c.loop-start.steps a.table.now.segments (others a.pid a.first a.end areas) (filter (is_own a.pid c.loop-start.at a.end) areas)
     (own_none areas a.pid c.loop-start.at a.end (λ v low high. c.in_default.ensures.none v (omega (arith, low, c.new.ensures)) high)) c.loop-start.invariant.steps

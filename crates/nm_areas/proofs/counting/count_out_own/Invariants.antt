@@ -9,7 +9,7 @@ invariant-loop-start g l =
     let left = others l.pid l.fn.first l.end l.table.areas in
     let own = filter (is_own l.pid l.at l.end) l.table.areas in
     record {
-      steps : IsSteps l.steps.entries (of_shared l.table.segments (λ p. ends_at left p + ends_at own p)) (of_shared l.table.segments (λ p. covers_at left p + covers_at own p));
+      steps : IsSteps l.steps (of_shared l.table.segments (λ p. ends_at left p + ends_at own p)) (of_shared l.table.segments (λ p. covers_at left p + covers_at own p));
       low : l.fn.first ≤ l.at;
       up : l.at ≤ l.end;
     }

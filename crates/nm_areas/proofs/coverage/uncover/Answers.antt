@@ -11,6 +11,6 @@ returns g c ends covers steps =
     let area = c.args.area in
     let begin : Page → ℕ = λ p. if same_page area.page p then 1 else 0 in
     let end : Page → ℕ = λ p. if same_page (end_of area) p then 1 else 0 in
-    let first = shift_down c.args.steps.now.entries c.shift.new.steps.entries area.page.segment area.page.index (area.page.index + area.pages) (λ p. ends p + (begin p + end p)) covers c.shift.ensures steps in
-    let second = c.unmark.ensures (λ p. ends p + begin p) covers (steps_same c.shift.new.steps.entries (λ p. ends p + (begin p + end p)) covers (λ p. (ends p + begin p) + end p) covers first (λ p. omega arith) (λ p. refl)) in
+    let first = shift_down c.args.steps.now c.shift.new.self area.page.segment area.page.index (area.page.index + area.pages) (λ p. ends p + (begin p + end p)) covers c.shift.ensures steps in
+    let second = c.unmark.ensures (λ p. ends p + begin p) covers (steps_same c.shift.new.self (λ p. ends p + (begin p + end p)) covers (λ p. (ends p + begin p) + end p) covers first (λ p. omega arith) (λ p. refl)) in
     c.unmark-2.ensures ends covers second

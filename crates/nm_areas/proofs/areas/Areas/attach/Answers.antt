@@ -149,7 +149,7 @@ count_out-requires g c = record {
 
 pub invariant_of-self-in_default-attach : goal.invariant_of-self-in_default-attach
 invariant_of-self-in_default-attach g c =
-    stayed c.self.inside.table c.attach.new.self c.self.inside.places.entries c.count_in.new.steps.entries c.count_out.new.steps.entries c.new_area.result c.new_area-in_default-attach.result true c.self.invariant.0
+    stayed c.self.inside.table c.attach.new.self c.self.inside.places.entries c.count_in.new.steps c.count_out.new.steps c.new_area.result c.new_area-in_default-attach.result true c.self.invariant.0
     (c.new_area.ensures ∙ sym c.new_area-in_default-attach.ensures) c.in_ok-count_in.ensures.ok c.count_out.ensures c.in_default-attach.ensures.err
 
 pub invariant_of-self-in-Ok : goal.invariant_of-self-in-Ok
@@ -162,7 +162,7 @@ invariant_of-self-in-Ok g c =
       attached_mapped c.self.inside.table c.self.inside.places.entries c.self.invariant.0 c.args.pid c.in-Some.first (new_area number c.args.offset c.args.pages) range.2 range.3
           (stretch_ends c.self.inside.table.segments number c.args.offset c.args.pages c.self.invariant.0.lengths stretch)
           free c.attach.new.self there.0 there.1 c.in-Ok.ensures.ok,
-      came c.count_in.new.steps.entries c.self.inside.table c.attach.new.self (c.args.pid, c.in-Some.first) c.new_area.result (new_area number c.args.offset c.args.pages) true c.new_area.ensures
+      came c.count_in.new.steps c.self.inside.table c.attach.new.self (c.args.pid, c.in-Some.first) c.new_area.result (new_area number c.args.offset c.args.pages) true c.new_area.ensures
           (none_begins c.self.inside.table.areas c.args.pid c.in-Some.first c.args.pages range.2 c.self.invariant.0.whole free) (ap (λ (t : Table). t.areas) c.in-Ok.ensures.ok)
           (sym there.0 ∙ ap (λ (t : Table). is_shared t.segments number) (sym c.in-Ok.ensures.ok)) (λ n shown. ap (λ (t : Table). is_shared t.segments n) (sym c.in-Ok.ensures.ok)) c.in_ok-count_in.ensures.ok,
     )

@@ -168,7 +168,7 @@ insert-requires-clause-free g c =
 
 pub invariant_of-self-in_default-insert : goal.invariant_of-self-in_default-insert
 invariant_of-self-in_default-insert g c =
-    stayed c.self.inside.table c.insert.new.self c.self.inside.places.entries c.count_in.new.steps.entries c.count_out.new.steps.entries c.new_area.result c.new_area-in_default-insert.result c.args.shared c.self.invariant.0
+    stayed c.self.inside.table c.insert.new.self c.self.inside.places.entries c.count_in.new.steps c.count_out.new.steps c.new_area.result c.new_area-in_default-insert.result c.args.shared c.self.invariant.0
     (c.new_area.ensures ∙ sym c.new_area-in_default-insert.ensures) c.in_ok-count_in.ensures.ok c.count_out.ensures c.in_default-insert.ensures.err
 
 pub invariant_of-self-in-Ok-1 : goal.invariant_of-self-in-Ok-1
@@ -178,7 +178,7 @@ invariant_of-self-in-Ok-1 g c =
     let free = sym c.if-not-is_free.false ∙ c.is_free.ensures in (
       inserted_mapped c.self.inside.table c.insert.new.self c.self.inside.places.entries c.args.pid c.in-Some.first c.args.pages c.args.shared c.self.invariant.0 range.2 range.3
           free c.in-Ok.ensures.ok,
-      came c.count_in.new.steps.entries c.self.inside.table c.insert.new.self (c.args.pid, c.in-Some.first) c.new_area.result (new_area c.self.inside.table.next 0 c.args.pages) c.args.shared
+      came c.count_in.new.steps c.self.inside.table c.insert.new.self (c.args.pid, c.in-Some.first) c.new_area.result (new_area c.self.inside.table.next 0 c.args.pages) c.args.shared
           (c.new_area.ensures ∙ ap (λ (n : ℕ). new_area n 0 c.args.pages) c.next_segment-next.ensures)
           (none_begins c.self.inside.table.areas c.args.pid c.in-Some.first c.args.pages range.2 c.self.invariant.0.whole free) (ap (λ (t : Table). t.areas) c.in-Ok.ensures.ok)
           (new_shared c.self.inside.table.segments c.self.inside.table.next segment ∙ ap (λ (t : Table). is_shared t.segments c.self.inside.table.next) (sym c.in-Ok.ensures.ok))

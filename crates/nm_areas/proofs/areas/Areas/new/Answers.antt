@@ -3,7 +3,7 @@ use Rattle.std.specs.List.Sorted.{IsStrictlySortedBy}
 use Rattle.nm_types.proofs.Cases.{none_some}
 use Rattle.nm_types.specs.declared.page.Page.{Page}
 use Rattle.nm_types.specs.Map.{Map}
-use Rattle.nm_areas.specs.declared.coverage.Step.{Step}
+use Rattle.nm_counts.specs.declared.step.Step.{Step}
 use Rattle.nm_areas.specs.Coverage.{IsCoverage}
 use Rattle.nm_model.specs.definitions.Areas.{IsMapped, mapped}
 use Rattle.nm_model.specs.views.Table.{Table}
@@ -36,7 +36,7 @@ none_covered p = refl
 pub invariant_of-result : goal.invariant_of-result
 invariant_of-result g c = (
   subst (λ (t : Table). IsMapped (mapped t c.new-3.result.entries)) (sym c.new.ensures) (subst (λ (place : Map Page ℕ). IsMapped (mapped none place)) (sym c.new-3.ensures.empty) none_mapped),
-  subst (λ (t : Table). IsCoverage c.new-2.result.entries t.segments t.areas) (sym c.new.ensures) (subst (λ (steps : Map Page Step). IsCoverage steps none.segments none.areas) (sym c.new-2.ensures.empty) none_covered),
+  subst (λ (t : Table). IsCoverage c.new-2.result t.segments t.areas) (sym c.new.ensures) (subst (λ (steps : Map Page Step). IsCoverage steps none.segments none.areas) (sym c.new-2.ensures) none_covered),
 )
 
 pub returns : goal.returns

@@ -57,8 +57,8 @@ pub count_out_own-requires-clause-steps : goal.count_out_own-requires-clause-ste
 count_out_own-requires-clause-steps g c =
     let range = c.in-Some.ensures.some in
     let now = c.in-Ok.ensures.ok in
-    subst (λ (x : Map ℕ Segment). IsCoverage c.split_steps.new.steps.entries x c.cut.new.self.areas) (sym (ap (λ (t : Table). t.segments) now))
-    (was_cut c.split_steps.new.steps.entries c.self.inside.table.segments c.self.inside.table.areas c.args.pid c.in-Some.first c.new-end.result (omega (arith, range.2, c.new-end.ensures, c.number.ensures)) c.self.invariant.0.whole c.in_ok-split_steps.ensures.ok c.cut.new.self.areas
+    subst (λ (x : Map ℕ Segment). IsCoverage c.split_steps.new.steps x c.cut.new.self.areas) (sym (ap (λ (t : Table). t.segments) now))
+    (was_cut c.split_steps.new.steps c.self.inside.table.segments c.self.inside.table.areas c.args.pid c.in-Some.first c.new-end.result (omega (arith, range.2, c.new-end.ensures, c.number.ensures)) c.self.invariant.0.whole c.in_ok-split_steps.ensures.ok c.cut.new.self.areas
     (ap (λ (t : Table). t.areas) now))
 
 pub count_out_own-requires-clause-indices : goal.count_out_own-requires-clause-indices
@@ -70,8 +70,8 @@ invariant_of-self-2 g c =
     let range = c.in-Some.ensures.some in (
       after_mapped c.self.inside.table c.self.inside.places.entries c.self.invariant.0 c.args.pid c.in-Some.first c.new-end.result (omega (arith, range.2, c.new-end.ensures, c.number.ensures)) c.cut.new.self c.drop_own.new.self
           c.lose_all.new.places.entries c.in-Ok.ensures.ok c.drop_own.ensures c.lose_all.ensures.places,
-      subst (λ (t : Table). IsCoverage c.count_out_own.new.steps.entries t.segments t.areas) (sym c.drop_own.ensures)
-          (left_covered c.count_out_own.new.steps.entries c.cut.new.self.segments (others c.args.pid c.in-Some.first c.new-end.result c.cut.new.self.areas) c.count_out_own.ensures),
+      subst (λ (t : Table). IsCoverage c.count_out_own.new.steps t.segments t.areas) (sym c.drop_own.ensures)
+          (left_covered c.count_out_own.new.steps c.cut.new.self.segments (others c.args.pid c.in-Some.first c.new-end.result c.cut.new.self.areas) c.count_out_own.ensures),
     )
 
 pub returns-clause-done : goal.returns-clause-done
@@ -145,7 +145,7 @@ cut-requires-clause-ordered g c = c.self.invariant.0.ordered
 
 pub join_steps-requires-clause-steps : goal.join_steps-requires-clause-steps
 join_steps-requires-clause-steps g c =
-    subst (λ (t : Table). IsSteps c.split_steps.new.steps.entries (λ p. (of_shared t.segments (ends_at t.areas) p + of_shared t.segments (splits_at t.areas c.args.pid c.in-Some.first) p) + of_shared t.segments (splits_at t.areas c.args.pid c.new-end.result) p) (of_shared t.segments (covers_at t.areas)))
+    subst (λ (t : Table). IsSteps c.split_steps.new.steps (λ p. (of_shared t.segments (ends_at t.areas) p + of_shared t.segments (splits_at t.areas c.args.pid c.in-Some.first) p) + of_shared t.segments (splits_at t.areas c.args.pid c.new-end.result) p) (of_shared t.segments (covers_at t.areas)))
     (sym c.in_default-cut.ensures.err) c.in_ok-split_steps.ensures.ok
 
 pub join_steps-requires-clause-apart : goal.join_steps-requires-clause-apart

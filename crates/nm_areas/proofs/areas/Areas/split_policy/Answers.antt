@@ -25,8 +25,8 @@ invariant_of-self-in-Ok g c =
     let a = c.args in
     let range = c.in-Some.ensures.some in (
       policed_mapped t c.self.inside.places.entries c.self.invariant.0 c.set_policy.new.self a.pid _ _ a.policy (omega (arith, range.1, c.if-len-gt0.true)) c.in-Ok.ensures.ok,
-      subst (λ (x : Map ℕ Segment). IsCoverage c.split_steps.new.steps.entries x c.set_policy.new.self.areas) (sym (ap (λ (z : Table). z.segments) c.in-Ok.ensures.ok))
-          (was_policed c.split_steps.new.steps.entries t.segments t.areas a.pid _ c.new-end.result (omega (arith, c.new-end.ensures, c.number.ensures, range.1, c.if-len-gt0.true)) c.self.invariant.0.whole c.in_ok-split_steps.ensures.ok a.policy _ _ c.set_policy.new.self.areas
+      subst (λ (x : Map ℕ Segment). IsCoverage c.split_steps.new.steps x c.set_policy.new.self.areas) (sym (ap (λ (z : Table). z.segments) c.in-Ok.ensures.ok))
+          (was_policed c.split_steps.new.steps t.segments t.areas a.pid _ c.new-end.result (omega (arith, c.new-end.ensures, c.number.ensures, range.1, c.if-len-gt0.true)) c.self.invariant.0.whole c.in_ok-split_steps.ensures.ok a.policy _ _ c.set_policy.new.self.areas
           c.new-end.ensures c.number.ensures (ap (λ (z : Table). z.areas) c.in-Ok.ensures.ok)),
     )
 

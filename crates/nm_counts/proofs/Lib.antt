@@ -1,0 +1,10 @@
+pub mod Swept
+pub mod Orders
+pub mod Added
+pub mod Begun
+pub mod Ended
+pub mod Shifts
+pub mod Between
+pub mod Seen
+pub mod Moves
+pub mod Found

@@ -1,0 +1,11 @@
+//! Steps at pages, each with how many areas cover its page: over a long stretch all these numbers grow or fall at once.
+#![tactic(auto)]
+
+mod parts;
+mod step;
+mod steps;
+#[cfg(test)]
+mod tests;
+
+pub use step::Step;
+pub use steps::Steps;
