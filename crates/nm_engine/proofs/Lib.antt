@@ -1,3 +1,4 @@
+pub mod Between
 pub mod Does
 pub mod InFlight
 pub mod MidRun

@@ -1,1 +1,1 @@
-mod HandedOn
+pub mod HandedOn

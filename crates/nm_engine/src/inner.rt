@@ -1,16 +1,10 @@
 //! The parts of a machine.
 
-ghost use Rattle.std.specs.Prelude.{◌≡◌, ◌≤◌, ◌<◌, [], IfOk};
+ghost use Rattle.std.specs.Prelude.{◌≡◌, ◌≤◌, [], IfOk};
 ghost use Rattle.nm_types.specs.Nodes.{up_from};
 ghost use Rattle.nm_model.specs.definitions.Effect.{new_machine};
 
-mod areas;
 mod flight;
-mod locate;
-mod online;
-mod pins;
-mod process;
-mod query;
 mod resolved_address;
 mod run;
 mod touch;
@@ -20,7 +14,6 @@ use crate::machine::Totals;
 use nm_memory::Frames;
 use nm_spaces::AddressSpaces;
 use nm_types::{Geometry, NodeId, NodeMask, Pid, Vpn};
-pub(crate) use process::has_beyond;
 pub use run::failures;
 use std::alloc::{AllocError, Allocator};
 use std::marker::Model;
@@ -33,7 +26,7 @@ pub(crate) struct Inner<A: Allocator + Copy> {
     pub(crate) online: NodeMask,
     pub(crate) totals: Totals,
     /// Where a page was pinned last. Says nothing of whether it still has the pin.
-    last_pin: Option<(Pid, Vpn)>,
+    pub(crate) last_pin: Option<(Pid, Vpn)>,
     pub(crate) alloc: A,
 }
 

@@ -16,10 +16,9 @@ use Rattle.nm_spaces.specs.views.AddressSpaces.{AddressSpacesView, with_pins_of}
 use Rattle.nm_memory.specs.views.Frames.{FramesView}
 use Rattle.nm_engine.specs.views.Shown.{shown_by}
 use Rattle.nm_model.specs.definitions.Sound.{IsSoundMidRun}
-use Rattle.nm_engine.specs.views.MidRun.{MidRun, IsKept}
+use Rattle.nm_engine.specs.views.MidRun.{IsKept}
 use Rattle.nm_laws.proofs.Soundness.Called.{repinned_sound, few_pins}
 use Rattle.nm_model.proofs.looks.{sees_page}
-use Rattle.nm_engine.proofs.Does.Touches.{inside, outside}
 
 module _ (y z : AddressSpacesView) (k : FramesView) (online : List ℕ) (moved failed : ℕ) (page : Page) (n : ℕ) (kept : IsKept (shown_by y k online moved failed) k.vacated y.frames) where
   -- another number of pins, or none
@@ -47,15 +46,14 @@ pub err_then : {P Q : Type 0} (r : Result (Unit {0}) Errno) → (P → Q) → On
 err_then (Ok done) f p = tt
 err_then (Err e) f p = f p
 
--- a page that a process sees at an address, stated for the value and shown by the fields
-module _ (s : State) (l : List ℕ) (room : ℕ) (x : MidRun) (is : record { state = s; left = l; room = room } ≡ x) (pid address : ℕ) (page : Page) (sound : IsSoundMidRun s l)
-    (known : is_unknown x.state pid ≡ false) (seen : sight_at x.state pid (address / 4096) ≡ Some (Sees page)) where
+-- a page that a process sees at an address, stated for the machine and shown by its parts
+module _ (s now : State) (l : List ℕ) (is : s ≡ now) (pid address : ℕ) (page : Page) (sound : IsSoundMidRun s l) (known : is_unknown now pid ≡ false) (seen : sight_at now pid (address / 4096) ≡ Some (Sees page)) where
   seen_inside : sight_at s pid (address / 4096) ≡ Some (Sees page)
-  seen_inside = inside s l room x is (λ s. sight_at s pid (address / 4096) ≡ Some (Sees page)) seen
+  seen_inside = subst (λ (t : State). sight_at t pid (address / 4096) ≡ Some (Sees page)) (sym is) seen
 
   refusal_there : (is_bad : ℕ → Bool) (bad : Errno) → (if is_unknown s pid then Some Esrch else pins_refusal s is_bad bad (page_seen s pid (address / 4096))) ≡ (if is_bad (pins_of s page) then Some bad else None)
   refusal_there is_bad bad =
-      ap (λ b. if b then Some Esrch else pins_refusal s is_bad bad (page_seen s pid (address / 4096))) (inside s l room x is (λ s. is_unknown s pid ≡ false) known)
+      ap (λ b. if b then Some Esrch else pins_refusal s is_bad bad (page_seen s pid (address / 4096))) (subst (λ (t : State). is_unknown t pid ≡ false) (sym is) known)
       ∙ ap (pins_refusal s is_bad bad) (sees_page s l pid (address / 4096) page sound seen_inside)
 
   pin_inside : (t : State) (r : Result (Unit {0}) Errno) → OnOk r (pins_of s page < 65535) → OnOk r (t ≡ record s { pins = replace page_cmp s.pins page (pins_of s page + 1) })
@@ -81,9 +79,9 @@ module _ (s : State) (l : List ℕ) (room : ℕ) (x : MidRun) (is : record { sta
   )
 
   pub pin_alters : (t : State) (r : Result (Unit {0}) Errno) → OnOk r (pins_of s page < 65535) → OnOk r (t ≡ record s { pins = replace page_cmp s.pins page (pins_of s page + 1) })
-      → IfErr r (λ e. (e ≡ Ebusy) × (65535 ≤ pins_of s page)) → OnErr r (t ≡ s) → Alters r x.state t (pin_refusal x.state pid address) (pin x.state pid address)
-  pin_alters t r some ok full err = outside s l room x is (λ s. Alters r s t (pin_refusal s pid address) (pin s pid address)) (pin_inside t r some ok full err)
+      → IfErr r (λ e. (e ≡ Ebusy) × (65535 ≤ pins_of s page)) → OnErr r (t ≡ s) → Alters r now t (pin_refusal now pid address) (pin now pid address)
+  pin_alters t r some ok full err = subst (λ s. Alters r s t (pin_refusal s pid address) (pin s pid address)) is (pin_inside t r some ok full err)
 
   pub unpin_alters : (t : State) (r : Result (Unit {0}) Errno) → OnOk r (0 < pins_of s page) → OnOk r (t ≡ record s { pins = replace page_cmp s.pins page (pins_of s page - 1) })
-      → IfErr r (λ e. (e ≡ Einval) × (pins_of s page ≡ 0)) → OnErr r (t ≡ s) → Alters r x.state t (unpin_refusal x.state pid address) (unpin x.state pid address)
-  unpin_alters t r some ok none err = outside s l room x is (λ s. Alters r s t (unpin_refusal s pid address) (unpin s pid address)) (unpin_inside t r some ok none err)
+      → IfErr r (λ e. (e ≡ Einval) × (pins_of s page ≡ 0)) → OnErr r (t ≡ s) → Alters r now t (unpin_refusal now pid address) (unpin now pid address)
+  unpin_alters t r some ok none err = subst (λ s. Alters r s t (unpin_refusal s pid address) (unpin s pid address)) is (unpin_inside t r some ok none err)

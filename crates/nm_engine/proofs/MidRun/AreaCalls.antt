@@ -3,7 +3,7 @@ use Rattle.std.proofs.Common.{◌≡◌, ℕ, zero, suc, ◌+◌, ◌<◌, List,
 use Rattle.std.specs.Prelude.{Option, Some, None, IsTrue, drop, nat_le, not, length, ◌||◌, ◌==◌, if◌then◌else◌}
 use Rattle.std.specs.Option.{is_some, option_map}
 use Rattle.std.specs.List.{list_any, slice_get}
-use Rattle.std.proofs.lemmas.Bool.{false_from_ne_true, eqb-true, lt-leb}
+use Rattle.std.proofs.lemmas.Bool.{false≢true, false_from_ne_true, eqb-true, lt-leb}
 use Rattle.std.specs.Ordering.{nat_cmp, match_ordering}
 use Rattle.std.specs.declared.cmp.Ordering.TheVariants.{Greater}
 use Rattle.std.specs.Cmp.{nat_cmp_is}
@@ -82,6 +82,11 @@ none_holds a b c d e f ha hb hc hd he hf =
 no_process : (o : Option Process) → is_some (option_map info_of o) ≡ false → not (not (is_some o)) ≡ false
 no_process None h = refl
 no_process (Some p) h = absurd (true_false h)
+
+-- a process of which something is fixed is there
+pub known_there : (o : Option Process) (r : Option ProcessInfo) (b : Bool) → r ≡ option_map info_of o → is_some r ≡ not b → b ≡ false → not (is_some o) ≡ false
+known_there None r b e n f = absurd (false≢true (sym (ap is_some e) ∙ n ∙ ap not f))
+known_there (Some p) r b e n f = refl
 
 untrue : IsTrue false → ⊥
 untrue h = cc

@@ -1,6 +1,6 @@
 -- What changes of areas alone make of a machine's parts.
 use Rattle.std.proofs.Common.{◌≡◌, ℕ, List, [], Bool, sym, ap, subst, ◌∙◌}
-use Rattle.std.specs.Prelude.{Option, None, Err}
+use Rattle.std.specs.Prelude.{Option, None, Result, Ok, Err}
 use Rattle.nm_types.specs.declared.errno.Errno.{Errno}
 use Rattle.nm_types.specs.declared.area.Policy.{Policy}
 use Rattle.nm_types.specs.declared.machine_error.MachineError.{MachineError}
@@ -18,10 +18,11 @@ use Rattle.nm_engine.proofs.MidRun.AreaCalls.{kept_mapped}
 use Rattle.nm_laws.proofs.Soundness.Called.{map_sound, attach_sound}
 use Rattle.nm_laws.proofs.Soundness.Policed.{policy_sound}
 
--- a call that did nothing changed no area
-pub nothing_made : (T : Type 0) (e : MachineError) (old new : Mapped) (refusal : Option Errno) (after : Mapped) → Makes {T = T} (Err e) old new refusal after → new ≡ old
-nothing_made T (Refused errno) old new refusal after h = h.1
-nothing_made T HostMemory old new refusal after h = h
+-- a call either did nothing, or was not refused and did its work
+pub made_or_same : {T P : Type 0} {old new after : Mapped} {refusal : Option Errno} (r : Result T MachineError) → Makes r old new refusal after → (new ≡ old → P) → (refusal ≡ None → new ≡ after → P) → P
+made_or_same (Ok value) h same made = made h.0 h.1
+made_or_same (Err (Refused errno)) h same made = same h.1
+made_or_same (Err HostMemory) h same made = same h
 
 module _ (y z : AddressSpacesView) (k : FramesView) (online : List ℕ) (moved failed : ℕ) (is : z ≡ with_mapped y (mapped_of z)) (kept : IsKept (shown_by y k online moved failed) k.vacated y.frames) where
   pub kept_same : mapped_of z ≡ mapped_of y → IsKept (shown_by z k online moved failed) k.vacated z.frames

@@ -7,7 +7,7 @@ use Rattle.nm_types.specs.declared.errno.Errno.{Errno}
 use Rattle.nm_types.specs.declared.machine_error.MachineError.{MachineError}
 use Rattle.nm_types.specs.declared.machine_error.MachineError.TheVariants as error
 use Rattle.nm_types.specs.State.{State}
-use Rattle.nm_engine.specs.definitions.Does.{AsksLast, Makes, Touches}
+use Rattle.nm_engine.specs.definitions.Does.{AsksLast, Touches}
 
 -- a call that is not refused may ask for memory
 pub may_ask : {T : Type 0} (r : Result T MachineError) (refusal : Option Errno) → refusal ≡ None → AsksLast r refusal
@@ -16,10 +16,6 @@ may_ask (Err (error.Refused e)) refusal none = tt
 may_ask (Err error.HostMemory) refusal none = none
 
 -- no memory, and nothing changed
-pub nothing_made : {T S : Type 0} (r : Result T MachineError) (old new : S) (refusal : Option Errno) (after : S) → IsErr r × IsErrAnd r (λ x. x ≡ error.HostMemory) → new ≡ old → Makes r old new refusal after
-nothing_made (Ok v) old new refusal after h same = absurd (false≢true h.0)
-nothing_made {T} (Err x) old new refusal after h same = subst (λ z. Makes {T = T} (Err z) old new refusal after) (sym h.1) same
-
 pub nothing_touched : {T : Type 0} (r : Result T MachineError) (old new : State) (f : Result State Errno) → IsErr r × IsErrAnd r (λ x. x ≡ error.HostMemory) → new ≡ old → Touches r old new f
 nothing_touched (Ok v) old new f h same = absurd (false≢true h.0)
 nothing_touched {T} (Err x) old new f h same = subst (λ z. Touches {T = T} (Err z) old new f) (sym h.1) same

@@ -11,7 +11,7 @@ ghost use Rattle.nm_laws.specs.Moves.{CanMove};
 ghost use Rattle.nm_model.specs.definitions.Sound.{IsSound};
 ghost use Rattle.nm_model.specs.definitions.Touch.{Read, Write};
 ghost use Rattle.nm_engine.specs.views.MidRun.{with_state};
-ghost use Rattle.nm_model.specs.definitions.BeforeCopy.{before_copy, all_before_copy, without_fronts, with_fronts, frames_taken};
+ghost use Rattle.nm_model.specs.definitions.BeforeCopy.{before_copy, all_before_copy, without_fronts, frames_taken};
 ghost use Rattle.nm_engine.specs.definitions.Undo.{IsStillUndone};
 ghost use Rattle.nm_model.specs.views.Asked.{access_shown};
 ghost use Rattle.nm_memory.specs.views.Accesses.{pending_shown, written_by, HasRoom};
@@ -65,7 +65,7 @@ impl<A: Allocator + Copy> Inner<A> {
         match self.prepare(moves, accesses) {
             Ok(dues) => Ok(dues),
             Err(error) => {
-                self.give_back(target, moves);
+                self.frames.give_back(target, moves);
                 Err(error)
             }
         }
@@ -139,18 +139,6 @@ impl<A: Allocator + Copy> Inner<A> {
             }
         }
         Ok(dues)
-    }
-
-    /// Puts back the frames taken for moves to a node, if the pages have not moved.
-    fn give_back(&mut self, target: NodeId, moves: &[Taken])
-        requires taken { self.old.left ≡ frames_taken moves.now }
-        requires sound { IsSound (with_fronts (self.old.state) target (frames_taken moves.now)) }
-        requires inside { target < node_count self.old.state.layout }
-        ensures state { self.new.state ≡ with_fronts (self.old.state) target (frames_taken moves.now) }
-        ensures left { self.new.left ≡ [] }
-        ensures room { self.new.room ≡ self.old.room }
-    {
-        self.frames.give_back(target, moves);
     }
 
     /// Makes the touch of an access, which has this number among those of the run.

@@ -18,7 +18,7 @@ use nm_memory::{AccessAnswer, PendingAccess};
 use nm_plan::{Plan, Taken, plan};
 use nm_runs::{Class, Run, classify, classify_here};
 use nm_spaces::AddressSpaces;
-use nm_types::{Access, Errno, FrameId, Geometry, NodeId, Page, PageView};
+use nm_types::{Access, Errno, Geometry, NodeId, PageView};
 use std::alloc::{AllocError, Allocator};
 use std::mem;
 use std::sync::Wait;
@@ -120,21 +120,6 @@ impl<A: Allocator + Copy + Send + Sync> Inner<A> {
         self.totals = Totals {
             moved: before.saturating_add(moved),
             failed: failed_before.saturating_add(failed),
-        };
-    }
-
-    /// Adds to the totals.
-    pub(crate) fn count(&mut self, moved: usize, failed: usize)
-        ensures state { self.new.state ≡ with_counts self.old.state moved failed }
-        ensures left { self.new.left ≡ self.old.left }
-    {
-        let Totals {
-            moved: before,
-            failed: failed_before,
-        } = self.totals;
-        self.totals = Totals {
-            moved: before.saturating_add(moved as u64),
-            failed: failed_before.saturating_add(failed as u64),
         };
     }
 }

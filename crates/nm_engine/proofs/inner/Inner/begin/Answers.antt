@@ -1,43 +1,59 @@
-use Rattle.std.proofs.Common.{◌≡◌, ◌<◌, map, ap, sym, subst, ◌∙◌, arith}
+use Rattle.std.proofs.Common.{◌<◌, map, ap, sym, subst, ◌∙◌, arith}
 use Rattle.nm_types.specs.Layout.{node_count}
 use Rattle.nm_types.specs.State.{State}
 use Rattle.nm_types.specs.declared.taken.Taken.{Taken}
+use Rattle.nm_memory.specs.views.Frames.{FramesView}
+use Rattle.nm_memory.proofs.FreeLists.Returned.{sound_returns}
 use Rattle.nm_model.specs.views.Asked.{access_shown}
 use Rattle.nm_model.specs.definitions.BeforeCopy.{all_before_copy, with_fronts, frames_taken}
-use Rattle.nm_engine.specs.views.MidRun.{MidRun}
 use Rattle.nm_model.specs.definitions.Sound.{IsSound}
+use Rattle.nm_engine.specs.views.MidRun.{MidRun, IsKept}
+use Rattle.nm_engine.specs.views.Shown.{shown_by}
 use Rattle.nm_engine.proofs.InFlight.TakenFrames.{back_again}
 use Rattle.nm_engine.proofs.inner.Inner.begin.Goals as goal
 
-pub give_back-requires-clause-sound : goal.give_back-requires-clause-sound
-give_back-requires-clause-sound g c =
-    let s = c.args.self.now.state in
+pub give_back-requires-clause-node : goal.give_back-requires-clause-node
+give_back-requires-clause-node g c =
+    let there = ap (λ (x : MidRun). x.state) (c.self.view_is ∙ c.in-Err.ensures.err) ∙ c.in_ok-take_frames.ensures.state in
+    subst (λ (x : State). c.args.target < node_count x.layout) (sym there) c.requires.target
+
+pub give_back-requires-clause-can : goal.give_back-requires-clause-can
+give_back-requires-clause-can g c =
+    let i = c.self.inside in
+    let s = shown_by i.spaces i.frames i.online i.totals.moved i.totals.failed in
     let t = c.args.target in
     let moves = c.args.moves.now in
     let sound = c.in_ok-take_frames.ensures.sound in
-    let there = ap (λ (x : MidRun). x.state) c.in-Err.ensures.err ∙ c.in_ok-take_frames.ensures.state in
-    subst IsSound (sym (ap (λ (x : State). with_fronts x t (frames_taken moves)) there ∙ back_again s t moves (omega (arith, sound.frames.lists, c.requires.target)) c.requires.moves)) sound
+    let there = ap (λ (x : MidRun). x.state) (c.self.view_is ∙ c.in-Err.ensures.err) ∙ c.in_ok-take_frames.ensures.state in
+    let back = ap (λ (x : State). with_fronts x t (frames_taken moves)) there ∙ back_again c.args.self.now.state t moves (omega (arith, sound.frames.lists, c.requires.target)) c.requires.moves in
+    let nodes = ap (λ (x : State). node_count x.layout) there in
+    sound_returns s t (frames_taken moves) (omega (arith, nodes, c.self.invariant.sound.frames.lists, c.requires.target)) (subst IsSound (sym back) sound)
+
+pub invariant_of-self : goal.invariant_of-self
+invariant_of-self g c =
+    let i = c.self.inside in
+    let t = c.args.target in
+    let moves = c.args.moves.now in
+    let sound = c.in_ok-take_frames.ensures.sound in
+    let there = ap (λ (x : MidRun). x.state) (c.self.view_is ∙ c.in-Err.ensures.err) ∙ c.in_ok-take_frames.ensures.state in
+    let back = ap (λ (x : State). with_fronts x t (frames_taken moves)) there ∙ back_again c.args.self.now.state t moves (omega (arith, sound.frames.lists, c.requires.target)) c.requires.moves in
+    subst (λ (k : FramesView). IsKept (shown_by i.spaces k i.online i.totals.moved i.totals.failed) k.vacated i.spaces.frames) (sym c.give_back.ensures.given)
+    (record { sound = subst IsSound (sym back) sound; as_many = c.self.invariant.as_many })
 
 pub returns-in-Err-clause-err : goal.returns-in-Err-clause-err
 returns-in-Err-clause-err g c =
-    let s = c.args.self.now.state in
+    let i = c.self.inside in
     let t = c.args.target in
     let moves = c.args.moves.now in
     let sound = c.in_ok-take_frames.ensures.sound in
-    let there = ap (λ (x : MidRun). x.state) c.in-Err.ensures.err ∙ c.in_ok-take_frames.ensures.state in
-    let state : c.give_back.new.self.state ≡ s =
-    c.give_back.ensures.state ∙ ap (λ (x : State). with_fronts x t (frames_taken moves)) there ∙ back_again s t moves (omega (arith, sound.frames.lists, c.requires.target)) c.requires.moves in
-    let left = c.give_back.ensures.left ∙ sym c.requires.none in
-    let room = c.give_back.ensures.room ∙ ap (λ (x : MidRun). x.room) c.in-Err.ensures.err ∙ c.in_ok-take_frames.ensures.room in
-    λ i. record { state = state i; left = left i; room = room i }
-
-pub give_back-requires-clause-taken : goal.give_back-requires-clause-taken
-give_back-requires-clause-taken g c = ap (λ (x : MidRun). x.left) c.in-Err.ensures.err ∙ c.in_ok-take_frames.ensures.left
-
-pub give_back-requires-clause-inside : goal.give_back-requires-clause-inside
-give_back-requires-clause-inside g c =
-    let there = ap (λ (x : MidRun). x.state) c.in-Err.ensures.err ∙ c.in_ok-take_frames.ensures.state in
-    subst (λ (x : State). c.args.target < node_count x.layout) (sym there) c.requires.target
+    let view = c.self.view_is ∙ c.in-Err.ensures.err in
+    let there = ap (λ (x : MidRun). x.state) view ∙ c.in_ok-take_frames.ensures.state in
+    let back = ap (λ (x : State). with_fronts x t (frames_taken moves)) there ∙ back_again c.args.self.now.state t moves (omega (arith, sound.frames.lists, c.requires.target)) c.requires.moves in
+    let given = c.give_back.ensures.given in
+    let state = ap (λ (k : FramesView). shown_by i.spaces k i.online i.totals.moved i.totals.failed) given ∙ back in
+    let left = ap (λ (k : FramesView). k.vacated) given ∙ sym c.requires.none in
+    let room = ap (λ (k : FramesView). k.room) given ∙ ap (λ (x : MidRun). x.room) view ∙ c.in_ok-take_frames.ensures.room in
+    λ j. record { state = state j; left = left j; room = room j }
 
 -- what was made ready is made ready where the frames are taken
 pub returns-in-Ok-clause-state : goal.returns-in-Ok-clause-state

@@ -1,0 +1,178 @@
+//! Adding, splitting and removing areas.
+
+ghost use Rattle.std.specs.Prelude.{Err, IfOk, None, false, length, map, true, ◌+◌, ◌/◌, ◌<◌, ◌≡◌, ◌⊎◌};
+ghost use Rattle.nm_model.specs.definitions.AreaRefusal.{overlaps};
+ghost use Rattle.std.specs.List.{list_any};
+ghost use Rattle.nm_engine.specs.definitions.Does.{AsksLast, Makes, Tells};
+ghost use Rattle.nm_model.specs.definitions.Effect.{attach, attach_refusal, dropped, entries_refusal, is_range, is_unknown, map_new, map_refusal, policy_refusal, set_policy, shows_pinned, unmap, unmap_refusal};
+ghost use Rattle.nm_areas.specs.Splits.{HasSplit};
+ghost use Rattle.nm_model.specs.definitions.Areas.{pages_of};
+ghost use Rattle.nm_memory.specs.views.Frames.{CanFree, pool_of, with_freed};
+ghost use Rattle.nm_areas.specs.Lines.{lines_of};
+ghost use Rattle.nm_runs.specs.Targets.{Checks};
+
+use crate::machine::Machine;
+use nm_areas::{Line, range_start};
+use nm_memory::Frames;
+use nm_types::{Errno, FrameId, MachineError, Page, Pid, Policy, Vpn};
+use std::alloc::Allocator;
+
+impl<A: Allocator + Copy + Send + Sync> Machine<A> {
+    /// Makes a segment of `pages` pages, private or shared, and an area of the process over all of it from address
+    /// `addr` on, with the default policy (mmap(2)). Returns the segment's number, which no other segment ever gets.
+    ///
+    /// Errors, in order: ESRCH if there is no such process; EINVAL if the address is not a multiple of 4,096, `pages`
+    /// is 0, the end is past 2^47, or an area of the process is in the way; ENOMEM if 65,536 segments have been made. A
+    /// refused call uses up no number.
+    pub fn map(
+        &mut self,
+        pid: Pid,
+        addr: u64,
+        pages: u64,
+        shared: bool,
+    ) -> Result<u32, MachineError>
+        ensures done { Makes result self.old self.new (map_refusal self.old pid addr pages)
+            (map_new self.old pid addr pages shared) }
+        ensures memory { AsksLast result (map_refusal self.old pid addr pages) }
+        ensures number { IfOk result (λ number. number ≡ self.old.next_segment) }
+    {
+        if self.inner.spaces.info(pid).is_none() {
+            return Err(MachineError::Refused(Errno::Esrch));
+        }
+        Ok(self.inner.spaces.map(pid, addr, pages, shared)?)
+    }
+
+    /// Makes an area of the process from address `addr` on, over `pages` pages of a shared segment from `offset` on, in
+    /// pages, with the default policy (mmap(2), MAP_SHARED).
+    ///
+    /// Errors, in order: ESRCH if there is no such process; EINVAL as for `map`, or if the segment does not exist, is
+    /// private, or ends before the area would.
+    pub fn attach(
+        &mut self,
+        pid: Pid,
+        addr: u64,
+        segment: u64,
+        offset: u64,
+        pages: u64,
+    ) -> Result<(), MachineError>
+        ensures done { Makes result self.old self.new
+            (attach_refusal self.old pid addr segment offset pages)
+            (attach self.old pid addr segment offset pages) }
+        ensures memory { AsksLast result (attach_refusal self.old pid addr segment offset pages) }
+    {
+        if self.inner.spaces.info(pid).is_none() {
+            return Err(MachineError::Refused(Errno::Esrch));
+        }
+        Ok(self.inner.spaces.attach(pid, addr, segment, offset, pages)?)
+    }
+
+    /// Unmaps `pages` pages of a process from address `addr` on; the range may have holes (munmap(2)). The process
+    /// loses what it sees there, and the parts of its areas there. Pages that no area of any process covers lose their
+    /// frames, which become free in address order, each page at its lowest address.
+    ///
+    /// Errors, in order: ESRCH if there is no such process; EINVAL if the address is not a multiple of 4,096, `pages`
+    /// is 0, or the end is past 2^47; EBUSY if an area of the process shows a page with a pin there. Allocates only if
+    /// an area of the process is in the range.
+    pub fn unmap(&mut self, pid: Pid, addr: u64, pages: u64) -> Result<(), MachineError>
+        ensures done { Makes result self.old self.new (unmap_refusal self.old pid addr pages)
+            (unmap self.old pid addr pages) }
+        ensures memory { AsksLast result (unmap_refusal self.old pid addr pages) }
+        ensures asked { result ≡ Err MachineError.HostMemory →
+            list_any (overlaps pid (addr / 4096) (addr / 4096 + pages)) self.old.areas ≡ true }
+    {
+        if self.inner.spaces.info(pid).is_none() {
+            return Err(MachineError::Refused(Errno::Esrch));
+        }
+        let Some(first) = range_start(addr, pages) else {
+            return Err(MachineError::Refused(Errno::Einval));
+        };
+        if self.shows_pinned(pid, first, Vpn::new(first.number() + pages)) {
+            return Err(MachineError::Refused(Errno::Ebusy));
+        }
+        self.let_go(pid, addr, pages)
+    }
+
+    /// Unmaps `pages` pages of a process from an address on, none of which may have a pin. The frames of pages that no
+    /// area covers become free, in address order.
+    pub(crate) fn let_go(&mut self, pid: Pid, addr: u64, pages: u64) -> Result<(), MachineError>
+        requires known { is_unknown self.old pid ≡ false }
+        requires range { is_range addr pages ≡ true }
+        requires unpinned { shows_pinned self.old.areas self.old.pins pid (addr / 4096)
+            (addr / 4096 + pages)
+            ≡ false }
+        ensures done { Makes result self.old self.new None
+            (dropped self.old pid (addr / 4096) (addr / 4096 + pages)) }
+        ensures asked { result ≡ Err MachineError.HostMemory →
+            list_any (overlaps pid (addr / 4096) (addr / 4096 + pages)) self.old.areas ≡ true }
+    {
+        let freed = self.inner.spaces.remove(pid, addr, pages)?;
+        free_each(&mut self.inner.frames, freed.as_slice());
+        Ok(())
+    }
+
+    /// Whether `set_policy` would set a policy. If not, returns the same ESRCH, EINVAL or EFAULT. Does not allocate.
+    pub fn check_policy(&self, pid: Pid, addr: u64, len: u64) -> Result<(), Errno>
+        ensures { Checks result (policy_refusal self.now pid addr len) }
+    {
+        if self.inner.spaces.info(pid).is_none() {
+            return Err(Errno::Esrch);
+        }
+        self.inner.spaces.areas().check_policy(pid, addr, len)
+    }
+
+    /// Sets where new pages are placed in the `len` bytes from address `addr` on, rounded up to whole pages, as
+    /// mbind(2) does. The process's areas are split at both ends of the range, and never merged; no page moves.
+    ///
+    /// Errors, in order: ESRCH if there is no such process; EINVAL if the address is not a multiple of 4,096, or the
+    /// range ends past 2^64 - 1; EFAULT if a page of the range has no area. A `len` of 0 that is not refused changes
+    /// nothing. Allocates only where an area is split. An error, also for lack of host memory, changes nothing.
+    pub fn set_policy(
+        &mut self,
+        pid: Pid,
+        addr: u64,
+        len: u64,
+        policy: Policy,
+    ) -> Result<(), MachineError>
+        ensures done { Makes result self.old self.new (policy_refusal self.old pid addr len)
+            (set_policy self.old pid addr len policy) }
+        ensures memory { AsksLast result (policy_refusal self.old pid addr len) }
+        ensures asked { result ≡ Err MachineError.HostMemory → 0 < len }
+        ensures split { result ≡ Err MachineError.HostMemory →
+            HasSplit self.old.areas pid (addr / 4096)
+            ⊎ HasSplit self.old.areas pid (addr / 4096 + pages_of len) }
+    {
+        if self.inner.spaces.info(pid).is_none() {
+            return Err(MachineError::Refused(Errno::Esrch));
+        }
+        Ok(self.inner.spaces.set_policy(pid, addr, len, policy)?)
+    }
+
+    /// The areas of a process, in address order, as in `/proc/PID/numa_maps` (numa(7)). ESRCH if there is no such
+    /// process. An empty list takes no memory.
+    pub fn lines(&self, pid: Pid) -> Result<Vec<Line, A>, MachineError>
+        ensures told { Tells result (entries_refusal self.now pid)
+            (λ lines. lines.items ≡ lines_of self.now.segments self.now.areas pid) }
+        ensures memory { AsksLast result (entries_refusal self.now pid) }
+        ensures asked { result ≡ Err MachineError.HostMemory →
+            0 < length (lines_of self.now.segments self.now.areas pid) }
+    {
+        if self.inner.spaces.info(pid).is_none() {
+            return Err(MachineError::Refused(Errno::Esrch));
+        }
+        Ok(self.inner.spaces.areas().lines(pid)?)
+    }
+}
+
+/// Frees the frames of pages, in order, each at the end of its own node's list.
+fn free_each<A: Allocator + Copy>(frames: &mut Frames<A>, freed: &[(Page, FrameId)])
+    requires { CanFree (pool_of frames.old) (map (λ f. f.1) freed.now) }
+    ensures { frames.new
+        ≡ record (frames.old) {
+          free = (with_freed (pool_of frames.old)
+              (map (λ f. f.1) freed.now)).lists;
+        } }
+{
+    for (_, frame) in freed {
+        frames.free(*frame);
+    }
+}

@@ -1,0 +1,99 @@
+//! Adding and removing processes.
+
+ghost use Rattle.std.specs.Prelude.{Err, nat_le, option_map, true, ◌^◌, ◌≡◌, ◌≤◌};
+ghost use Rattle.nm_model.specs.definitions.AreaRefusal.{overlaps};
+ghost use Rattle.std.specs.List.{list_any};
+ghost use Rattle.nm_engine.specs.definitions.Does.{AsksLast, Makes};
+ghost use Rattle.nm_types.specs.Map.{get};
+ghost use Rattle.std.specs.Ordering.{nat_cmp};
+ghost use Rattle.nm_model.specs.definitions.Effect.{exit, exit_refusal, info_of, spawn, spawn_refusal};
+
+use crate::ProcessInfo;
+use crate::machine::Machine;
+use nm_types::limits::{MAX_PROCESSES, PAGE_NUMBERS};
+use nm_types::{Errno, MachineError, NodeId, NodeMask, Pid, Vpn};
+use std::alloc::Allocator;
+
+/// Whether a set has a node that is not below a count.
+pub(crate) fn has_beyond(nodes: NodeMask, count: usize) -> bool
+    requires { count ≤ 64 }
+    ensures { result ≡ list_any (nat_le count) nodes }
+{
+    let mut rest = nodes;
+    while let Some(node) = rest.take_first() {
+        if node.index() >= count {
+            return true;
+        }
+    }
+    false
+}
+
+impl<A: Allocator + Copy + Send + Sync> Machine<A> {
+    /// What `spawn` fixed of a process. None if there is no process with this pid.
+    pub fn process(&self, pid: Pid) -> Option<ProcessInfo>
+        ensures { result ≡ option_map info_of (get nat_cmp self.now.processes pid) }
+    {
+        self.inner.spaces.info(pid)
+    }
+
+    /// Adds a process, with the credentials and the cpuset of credentials(7), capabilities(7) and cpuset(7). The home
+    /// node need be neither allowed nor online.
+    ///
+    /// Errors, in order: EINVAL if the pid is 0 or alive, the home is not a node of the machine, or the allowed set is
+    /// empty or has a node that the machine does not have; ENOMEM if 1,024 processes are alive.
+    pub fn spawn(
+        &mut self,
+        pid: Pid,
+        uid: u32,
+        home: NodeId,
+        allowed: NodeMask,
+        privileged: bool,
+    ) -> Result<(), MachineError>
+        ensures done { Makes result self.old self.new (spawn_refusal self.old pid home allowed)
+            (spawn self.old pid uid home allowed privileged) }
+        ensures memory { AsksLast result (spawn_refusal self.old pid home allowed) }
+    {
+        let count = self.inner.frames.geometry().node_count();
+        if pid.number() == 0
+            || self.inner.spaces.info(pid).is_some()
+            || home.index() >= count
+            || allowed.is_empty()
+            || has_beyond(allowed, count)
+        {
+            return Err(MachineError::Refused(Errno::Einval));
+        }
+        if self.inner.spaces.len() >= MAX_PROCESSES {
+            return Err(MachineError::Refused(Errno::Enomem));
+        }
+        let info = ProcessInfo {
+            uid,
+            privileged,
+            home,
+            allowed,
+        };
+        self.inner.spaces.add(pid, info)?;
+        Ok(())
+    }
+
+    /// Ends a process: it loses all that it has, as by one `unmap`, and its pid may be used again.
+    ///
+    /// Errors, in order: ESRCH if there is no such process; EBUSY if one of its areas shows a page with a pin. Allocates
+    /// only if the process has an area.
+    pub fn exit(&mut self, pid: Pid) -> Result<(), MachineError>
+        ensures done { Makes result self.old self.new (exit_refusal self.old pid)
+            (exit self.old pid) }
+        ensures memory { AsksLast result (exit_refusal self.old pid) }
+        ensures asked { result ≡ Err MachineError.HostMemory →
+            list_any (overlaps pid 0 (2 ^ 35)) self.old.areas ≡ true }
+    {
+        if self.inner.spaces.info(pid).is_none() {
+            return Err(MachineError::Refused(Errno::Esrch));
+        }
+        if self.shows_pinned(pid, Vpn::new(0), Vpn::new(PAGE_NUMBERS)) {
+            return Err(MachineError::Refused(Errno::Ebusy));
+        }
+        self.let_go(pid, 0, PAGE_NUMBERS)?;
+        self.inner.spaces.remove_task(pid);
+        Ok(())
+    }
+}
