@@ -5,6 +5,7 @@ pub mod Does
 pub mod Entries
 pub mod Maps
 pub mod Mbind
+pub mod Memory
 pub mod Migrate
 pub mod Offline
 pub mod Outcome

@@ -1,10 +1,13 @@
 //! Making calls that are given as values.
 
-ghost use Rattle.std.specs.Prelude.{map};
+ghost use Rattle.std.specs.Prelude.{Bool, Err, length, map, true, ℕ, ◌<◌, ◌≡◌};
+ghost use Rattle.nm_types.specs.Nodes.{is_in};
 ghost use Rattle.nm_memory.specs.views.Accesses.{answer_shown};
 ghost use Rattle.nm_steps.specs.Calls as calls;
+ghost use Rattle.nm_calls.specs.declared.call_error.CallError.TheVariants.{HostMemory};
 ghost use Rattle.nm_calls.specs.definitions.Answers as answers;
 ghost use Rattle.nm_calls.specs.definitions.Does.{Does};
+ghost use Rattle.nm_calls.specs.definitions.Memory.{MayAllocate};
 ghost use Rattle.nm_steps.specs.Views.{call_of};
 ghost use Rattle.nm_calls.specs.views.Answers.{answer_of};
 
@@ -49,8 +52,11 @@ fn mbind<R: Threads + Wait + Sync, A: Allocator + Copy + Send + Sync, G: Gate + 
     request: &MbindRequest,
     gate: &G,
 ) -> Result<Answer<A>, CallError>
-    ensures { Does answer_of result system.old system.new
+    ensures done { Does answer_of result system.old system.new
         (calls.Mbind request.now.caller request.now.addr request.now.len request.now.mode request.now.nodes request.now.flags) }
+    ensures asked { (runs : ℕ) (policy_set : Bool) →
+        result ≡ Err (HostMemory runs policy_set) →
+        0 < request.now.len }
 {
     system.mbind(rt, request, gate)?;
     Ok(Answer::Failed(0))
@@ -63,7 +69,10 @@ fn offline<R: Threads + Wait + Sync, A: Allocator + Copy + Send + Sync, G: Gate 
     node: NodeId,
     gate: &G,
 ) -> Result<Answer<A>, CallError>
-    ensures { Does answer_of result system.old system.new (calls.Offline node) }
+    ensures done { Does answer_of result system.old system.new (calls.Offline node) }
+    ensures asked { (runs : ℕ) (policy_set : Bool) →
+        result ≡ Err (HostMemory runs policy_set) →
+        is_in system.old.state.online node ≡ true }
 {
     system.offline(rt, node, gate)?;
     Ok(Answer::Done)
@@ -74,7 +83,8 @@ fn online<A: Allocator + Copy + Send + Sync>(
     system: &mut System<A>,
     node: NodeId,
 ) -> Result<Answer<A>, CallError>
-    ensures { Does answer_of result system.old system.new (calls.Online node) }
+    ensures done { Does answer_of result system.old system.new (calls.Online node) }
+    ensures asked { (runs : ℕ) (policy_set : Bool) → result ≡ Err (HostMemory runs policy_set) → ⊥ }
 {
     system.online(node)?;
     Ok(Answer::Done)
@@ -85,8 +95,11 @@ fn query<A: Allocator + Copy + Send + Sync>(
     system: &System<A>,
     question: &Question<A>,
 ) -> Result<Moved<A>, CallError>
-    ensures { Does (λ moved. answers.Statuses moved.failed moved.statuses.items (map answer_shown moved.answers.items)) result system.now system.now
+    ensures done { Does (λ moved. answers.Statuses moved.failed moved.statuses.items (map answer_shown moved.answers.items)) result system.now system.now
         (calls.Query question.now.caller question.now.pid question.now.pages.items question.now.flags) }
+    ensures asked { (runs : ℕ) (policy_set : Bool) →
+        result ≡ Err (HostMemory runs policy_set) →
+        0 < length question.now.pages.items }
 {
     Ok(Moved {
         failed: 0,
@@ -97,14 +110,18 @@ fn query<A: Allocator + Copy + Send + Sync>(
 
 impl<A: Allocator + Copy + Send + Sync> System<A> {
     /// Makes a call that is given as a value. It returns the same errors as the method of the same name, and leaves the
-    /// same state if the host is out of memory. The workers of a call that moves pages call the gate.
+    /// same state if the host is out of memory. The workers of a call that moves pages call the gate. Allocates only
+    /// where `MayAllocate` holds: there is something to unmap, move, set or list, say.
     pub fn call<R: Threads + Wait + Sync, G: Gate + Sync>(
         &mut self,
         rt: &R,
         call: &Call<A>,
         gate: &G,
     ) -> Result<Answer<A>, CallError>
-        ensures { Does answer_of result self.old self.new (call_of call.now) }
+        ensures done { Does answer_of result self.old self.new (call_of call.now) }
+        ensures asked { (runs : ℕ) (policy_set : Bool) →
+            result ≡ Err (HostMemory runs policy_set) →
+            MayAllocate self.old.state (call_of call.now) }
     {
         match call {
             Call::Spawn(process) => spawn(self, process),

@@ -2,6 +2,7 @@
 
 ghost use Rattle.std.specs.Prelude.{Bool, Err, IfOk, OnErr, Some, [], length, map, true, ℕ, ◌+◌, ◌/◌, ◌<◌, ◌≡◌, ◌≤◌, ◌^◌};
 ghost use Rattle.std.specs.List.{list_any};
+ghost use Rattle.nm_types.specs.Nodes.{is_in};
 ghost use Rattle.nm_types.specs.State.{free_list};
 ghost use Rattle.nm_types.specs.declared.page.Page.{Page};
 ghost use Rattle.nm_types.specs.declared.sight.Sight.TheVariants.{Sees};
@@ -428,7 +429,10 @@ impl<A: Allocator + Copy + Send + Sync> System<A> {
         node: NodeId,
         gate: &G,
     ) -> Result<(), CallError>
-        ensures { Does (λ done. Done) result self.old self.new (Offline node) }
+        ensures done { Does (λ done. Done) result self.old self.new (Offline node) }
+        ensures asked { (runs : ℕ) (policy_set : Bool) →
+            result ≡ Err (HostMemory runs policy_set) →
+            is_in self.old.state.online node ≡ true }
     {
         check_offline(&self.machine, node)?;
         if !self.machine.is_online(node) {

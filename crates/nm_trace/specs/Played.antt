@@ -4,6 +4,7 @@ use Rattle.std.specs.Io.KnownBytes.{Appends}
 use Rattle.nm_calls.specs.definitions.Systems.{SystemState, system_with}
 use Rattle.nm_steps.specs.Calls.{Call}
 use Rattle.nm_calls.specs.definitions.Does.{HostLeaves}
+use Rattle.nm_calls.specs.definitions.Memory.{MayAllocate}
 use Rattle.nm_trace.specs.declared.playing.Summary.{Summary}
 use Rattle.nm_steps.specs.declared.trace_error.TraceError.{TraceError}
 use Rattle.nm_steps.specs.declared.trace_error.TraceError.TheVariants.{ReadFault, WriteFault, HostMemory}
@@ -21,6 +22,11 @@ StopsIn s call t = (runs : ℕ) × (policy_set : Bool) × HostLeaves s call runs
 -- after the first k calls the next one stopped
 abbrev pub StopsAt : SystemState → List Call → ℕ → SystemState → Type 0
 StopsAt s calls k t = (call : Call) × (slice_get calls k ≡ Some call) × StopsIn (state_after s (take k calls)) call t
+
+-- the call after the first k asks for memory
+abbrev pub StopsFor : SystemState → List Call → ℕ → Type 0
+StopsFor s calls k =
+    (call : Call) × (slice_get calls k ≡ Some call) × MayAllocate (state_after s (take k calls)).state call
 
 -- a play makes every call and writes the report on them; if the writer fails, some first calls were made, and the
 -- report on them breaks off; if the host has no memory for step k, the report on the steps before it is written, and

@@ -7,14 +7,14 @@ use Rattle.nm_calls.specs.definitions.Does.{Does}
 use Rattle.nm_calls.proofs.NodesOffline.Results.{empties_does, stays_offline}
 use Rattle.nm_calls.proofs.system.System.offline.Goals as goal
 
-pub returns-then-not-is_online : goal.returns-then-not-is_online
-returns-then-not-is_online g c =
+pub returns-then-not-is_online-clause-done : goal.returns-then-not-is_online-clause-done
+returns-then-not-is_online-clause-done g c =
     let y : SystemState = record { state = c.self.inside.machine; run_limit = c.self.inside.run_limit } in
     subst (λ (z : SystemState). outcome z (Offline c.args.node) ≡ record { answer = Done; system = z }) c.self.view_is
     (stays_offline y c.args.node c.in_ok-check_offline.ensures.exact (sym c.is_online.ensures ∙ c.if-not-is_online.true))
 
-pub returns : goal.returns
-returns g c =
+pub returns-clause-done : goal.returns-clause-done
+returns-clause-done g c =
     let y : SystemState = record { state = c.self.inside.machine; run_limit = c.self.inside.run_limit } in
     subst (λ (z : SystemState). Does (λ done. Done) c.empty.result z (in_state y c.empty.new.machine) (Offline c.args.node)) c.self.view_is
     (empties_does y c.args.node c.empty.result c.empty.new.machine c.in_ok-check_offline.ensures.exact c.empty.ensures)
