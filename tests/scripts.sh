@@ -201,6 +201,24 @@ wait "$building" || status=$?
 [ "$status" = 130 ] || fail "a build that is told to stop ends with $status"
 expect_kept "a build that is told to stop loses what was kept"
 
+# One that is told to stop while it moves back what was proved moves all of it.
+: > "$there/notes"
+cat > "$there/bin/mv" << END
+#!/bin/sh
+case \$1 in crates/nm_crew/out/room/*) echo moves >> "$there/notes"; sleep 1 ;; esac
+exec $(command -v mv) "\$@"
+END
+chmod +x "$there/bin/mv"
+env FAILS= SLOW= NOTES="$there/notes" ALL="$all" PATH="$there/bin:$PATH" "$all/build" 2> "$there/err" &
+building=$!
+until grep -q '^moves' "$there/notes"; do sleep 0.1; done
+kill "$building"
+status=0
+wait "$building" || status=$?
+rm "$there/bin/mv"
+[ "$status" = 130 ] || fail "a build that is told to stop while it moves what was proved ends with $status"
+expect_kept "a build that is told to stop while it moves what was proved loses what was kept"
+
 # What a killed build left in a room is recovered by the next.
 mkdir -p "$all/crates/nm_crew/out/room/crates/nm_crew/out"
 mv "$all/crates/nm_crew/out/kept" "$all/crates/nm_crew/out/room/crates/nm_crew/out/"
