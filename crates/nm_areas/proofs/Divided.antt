@@ -1,5 +1,6 @@
 -- Page numbers at which an area is split.
-use Rattle.std.proofs.Common.{ℕ, arith}
+use Rattle.std.proofs.Common.{ℕ, ◌≡◌, subst, arith}
+use Rattle.std.specs.Prelude.{◌⊎◌}
 use Rattle.std.specs.List.{AllByRecursion}
 use Rattle.nm_types.specs.declared.area.Area.{Area}
 use Rattle.nm_types.specs.Map.{Map}
@@ -16,3 +17,9 @@ still_split pid first at areas whole apart there =
     let low = part.low in
     let less = there.2 in
     (from.0, over_among areas pid at from.0 apart from.1 (part_covers pid first first from.0 there.0 pid at part over.1), omega (arith, low, less))
+
+-- where areas are split, in numbers of the call
+pub split_in : (areas own : Map (ℕ × ℕ) Area) (pid first end at past : ℕ) → areas ≡ own → first ≡ at → end ≡ past → HasSplit areas pid first ⊎ HasSplit areas pid end → HasSplit own pid at ⊎ HasSplit own pid past
+split_in areas own pid first end at past same begin stop there =
+    subst (λ (m : Map (ℕ × ℕ) Area). HasSplit m pid at ⊎ HasSplit m pid past) same
+    (subst (λ n. HasSplit areas pid n ⊎ HasSplit areas pid past) begin (subst (λ n. HasSplit areas pid first ⊎ HasSplit areas pid n) stop there))

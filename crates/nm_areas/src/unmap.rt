@@ -4,7 +4,8 @@ ghost use Rattle.std.specs.List.{AllByRecursion, fold, list_any};
 ghost use Rattle.std.specs.List.Sorted.{IsStrictlySortedBy};
 ghost use Rattle.std.specs.Map.{keys_of};
 ghost use Rattle.std.specs.Ordering.{nat_cmp};
-ghost use Rattle.std.specs.Prelude.{IfOk, None, OnOk, Some, false, true, length, min, vec_capacity, vec_len, ℕ, [], ◌*◌, ◌++◌, ◌+◌, ◌-◌, ◌/◌, ◌<◌, ◌^◌, ◌≡◌, ◌≤◌};
+ghost use Rattle.std.specs.Prelude.{Err, IfOk, None, OnOk, Some, false, true, length, min, vec_capacity, vec_len, ℕ, [], ◌*◌, ◌++◌, ◌+◌, ◌-◌, ◌/◌, ◌<◌, ◌^◌, ◌≡◌, ◌≤◌, ◌⊎◌};
+ghost use Rattle.nm_areas.specs.Splits.{HasSplit};
 ghost use Rattle.nm_types.specs.Does.{Makes};
 ghost use Rattle.nm_areas.specs.Coverage.{IsCoverage};
 ghost use Rattle.nm_model.specs.definitions.Areas.{is_shared};
@@ -34,8 +35,9 @@ impl<A: Allocator + Copy> Areas<A> {
     /// address order, each page at its lowest address.
     ///
     /// Errors: EINVAL if the address is not a multiple of 4,096, `pages` is 0, or the pages end past 2^47. Allocates
-    /// only if the call is not refused and an area of the process covers a page of the range; the returned list has
-    /// room for at most as many pages as have frames, and at most as many as the range has.
+    /// only if the call is not refused, an area of the process covers a page of the range, and some page has a frame or
+    /// an area begins before one end of the range and covers it; the returned list has room for at most as many pages as
+    /// have frames, and at most as many as the range has.
     pub fn remove(
         &mut self,
         pid: Pid,
@@ -50,6 +52,10 @@ impl<A: Allocator + Copy> Areas<A> {
         ensures memory { result ≡ Err MachineError.HostMemory → remove_refusal addr pages ≡ None }
         ensures asked { result ≡ Err MachineError.HostMemory →
             list_any (overlaps pid (addr / 4096) (addr / 4096 + pages)) self.old.areas ≡ true }
+        ensures needed { result ≡ Err MachineError.HostMemory →
+            (0 < length self.old.place)
+            ⊎ HasSplit self.old.areas pid (addr / 4096)
+            ⊎ HasSplit self.old.areas pid (addr / 4096 + pages) }
 
         // On success
         ensures pages { OnOk result

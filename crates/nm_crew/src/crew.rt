@@ -1,6 +1,6 @@
 //! Copying by a crew of workers.
 
-ghost use Rattle.std.specs.Prelude.{◌≡◌, ◌⊎◌, ◌+◌, ◌<◌, ◌≤◌, map, vec_len};
+ghost use Rattle.std.specs.Prelude.{◌≡◌, ◌⊎◌, ◌+◌, ◌<◌, ◌≤◌, ℕ, length, map, vec_len};
 ghost use Rattle.std.specs.Thread.{IsSync, IsSend};
 ghost use Rattle.nm_frames.specs.Job.{copied};
 ghost use Rattle.nm_board.specs.Tickets.{InTicketOrder};
@@ -72,8 +72,7 @@ pub(crate) fn copy_with<
     ensures jobs { result.0.items ≡ map copied jobs.items }
     ensures work { W.post work result.1 }
 {
-    let size = size_of(jobs.as_slice());
-    let others = others(size, gate.worth_from(), jobs.len(), workers);
+    let others = others(jobs.as_slice(), gate.worth_from(), workers);
     if others == 0 {
         return copy_alone(jobs, gate, work);
     }
@@ -85,16 +84,17 @@ pub(crate) fn copy_with<
     }
 }
 
-/// How many workers to use besides the caller to copy `size` bytes by this many jobs: none if it is worth it only from
-/// more bytes on, and never more than there are jobs.
-fn others(size: usize, worth_from: usize, jobs: usize, workers: usize) -> usize
+/// How many workers to use besides the caller to copy these jobs: none if they have fewer bytes to copy than make it worth
+/// it, and never more than there are jobs.
+fn others<A: Allocator + Copy>(jobs: &[CopyJob<A>], worth_from: usize, workers: usize) -> usize
     requires { 0 < workers }
-    ensures { result ≡ others_of size worth_from jobs workers }
+    ensures { (size : ℕ) × IsSizeOfAll jobs.now size
+        × (result ≡ others_of size worth_from (length jobs.now) workers) }
 {
-    if size < worth_from {
+    if size_of(jobs) < worth_from {
         0
     } else {
-        (workers - 1).min(jobs)
+        (workers - 1).min(jobs.len())
     }
 }
 

@@ -201,19 +201,21 @@ impl<A: Allocator + Copy> Frames<A> {
         copy_bytes(&self.frames, frame, at, len, bytes);
     }
 
-    /// Gives a frame its bytes in memory, unless it has them. An error means that the host is out of memory.
+    /// Gives a frame its bytes in memory, unless it has them. An error means that the host is out of memory, and that the
+    /// frame did not have them.
     pub fn populate(&mut self, alloc: A, frame: FrameId) -> Result<(), AllocError>
         requires { frame < frame_count self.old.layout }
         ensures kept { KeepsBytes self.old.frames self.new.frames }
         ensures same { self.new ≡ record (self.old) { frames = self.new.frames } }
         ensures populated { OnOk result (IsPopulated self.new.frames frame) }
+        ensures absent { OnErr result (IsPopulated self.old.frames frame → ⊥) }
         ensures shelf { HasAllFrames self.new }
     {
         populate(&mut self.frames, alloc, frame)
     }
 
     /// Gives the frames that pages of moves take their bytes in memory, as far as they lack them. An error means that the
-    /// host is out of memory.
+    /// host is out of memory, and that one of them did not have its bytes.
     pub fn populate_each(&mut self, alloc: A, moves: &[Taken]) -> Result<(), AllocError>
         requires { AllByRecursion (λ frame. frame < frame_count self.old.layout) (frames_taken moves.now) }
         ensures kept { KeepsBytes self.old.frames self.new.frames }
@@ -221,6 +223,8 @@ impl<A: Allocator + Copy> Frames<A> {
         ensures populated { OnOk result
             (AllByRecursion (IsPopulated self.new.frames) (frames_taken moves.now)) }
         ensures asked { OnErr result (0 < length moves.now) }
+        ensures absent { OnErr result
+            (AllByRecursion (IsPopulated self.old.frames) (frames_taken moves.now) → ⊥) }
         ensures shelf { HasAllFrames self.new }
     {
         populate_each(&mut self.frames, alloc, moves)
@@ -254,11 +258,12 @@ impl<A: Allocator + Copy> Frames<A> {
         self.frames.zero(frame);
     }
 
-    /// Reserves room for `count` moves of a run.
+    /// Reserves room for `count` moves of a run. An error means that the host is out of memory, and that there was less room.
     pub fn reserve(&mut self, count: usize) -> Result<(), AllocError>
         ensures room { OnOk result (length self.new.vacated + count ≤ self.new.room) }
         ensures same { self.new ≡ record (self.old) { room = self.new.room } }
         ensures asked { OnErr result (0 < length self.old.vacated + count) }
+        ensures full { OnErr result (self.old.room < length self.old.vacated + count) }
     {
         self.vacated.reserve(count)?;
         self.jobs.reserve(self.vacated.len() + count)
@@ -408,7 +413,8 @@ impl<A: Allocator + Copy + Send + Sync> Frames<A> {
 }
 
 /// Gives a frame its bytes in memory, unless it has them, and then those behind it, as far as the host has memory: frames
-/// that are used together so have their bytes together. An error means that the host is out of memory.
+/// that are used together so have their bytes together. An error means that the host is out of memory, and that the frame
+/// did not have its bytes.
 fn populate<A: Allocator + Copy>(
     frames: &mut FrameStore<A>,
     alloc: A,
@@ -418,6 +424,7 @@ fn populate<A: Allocator + Copy>(
     requires home { (f : ℕ) → f < length frames.old → IsHome frames.old f }
     ensures kept { KeepsBytes frames.old frames.new }
     ensures populated { OnOk result (IsPopulated frames.new frame) }
+    ensures absent { OnErr result (IsPopulated frames.old frame → ⊥) }
 {
     if !frames.is_populated(frame) {
         frames.populate(alloc, frame)?;
@@ -444,7 +451,7 @@ fn populate_behind<A: Allocator + Copy>(frames: &mut FrameStore<A>, alloc: A, fr
 }
 
 /// Gives the frames that pages of moves take their bytes in memory, as far as they lack them. An error means that the host
-/// is out of memory.
+/// is out of memory, and that one of them did not have its bytes.
 fn populate_each<A: Allocator + Copy>(
     frames: &mut FrameStore<A>,
     alloc: A,
@@ -455,6 +462,8 @@ fn populate_each<A: Allocator + Copy>(
     ensures kept { KeepsBytes frames.old frames.new }
     ensures populated { OnOk result (AllByRecursion (IsPopulated frames.new) (frames_taken moves.now)) }
     ensures asked { OnErr result (0 < length moves.now) }
+    ensures absent { OnErr result
+        (AllByRecursion (IsPopulated frames.old) (frames_taken moves.now) → ⊥) }
 {
     for taken in moves {
         populate(frames, alloc, taken.to)?;

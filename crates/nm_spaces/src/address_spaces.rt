@@ -1,6 +1,6 @@
 //! The address spaces of all processes: page tables, areas, and the mappers of each frame.
 
-ghost use Rattle.std.specs.Prelude.{ℕ, ◌≡◌, ◌<◌, ◌≤◌, ◌+◌, ◌-◌, length, Some, None, IsSome, IfOk, IfErr, OnOk, OnErr};
+ghost use Rattle.std.specs.Prelude.{ℕ, ◌≡◌, ◌<◌, ◌≤◌, ◌+◌, ◌-◌, ◌/◌, length, Some, None, IsSome, IfOk, IfErr, OnOk, OnErr};
 ghost use Rattle.std.specs.Option.{option_map};
 ghost use Rattle.std.specs.Ordering.{nat_cmp};
 ghost use Rattle.nm_types.specs.declared.page.Page.{Page};
@@ -155,7 +155,8 @@ impl<A: Allocator + Copy> AddressSpaces<A> {
         self.tasks.add(pid, info)
     }
 
-    /// Makes a process see the page of zeros at a page number.
+    /// Makes a process see the page of zeros at a page number. An error means that the host is out of memory, which
+    /// happens only if the process sees nothing in the aligned block of 512 page numbers around this one.
     pub fn see_zero(&mut self, pid: Pid, vpn: Vpn) -> Result<(), AllocError>
         requires known { IsSome (get nat_cmp self.old.processes pid) }
         requires unseen { (q : Page) →
@@ -170,6 +171,10 @@ impl<A: Allocator + Copy> AddressSpaces<A> {
 
         // Without memory
         ensures err { OnErr result (self.new ≡ self.old) }
+        ensures empty { OnErr result
+            ((v : ℕ) →
+            v / 512 ≡ vpn / 512 →
+            sight_in (get nat_cmp self.old.processes pid) v ≡ None) }
     {
         self.tasks.set(pid, vpn, Entry::Zero)
     }

@@ -1,6 +1,6 @@
 //! The table of processes.
 
-ghost use Rattle.std.specs.Prelude.{ℕ, ◌≡◌, ◌≤◌, ◌<◌, nat_eq, true, false, slice_get, [], length, Some, None, IsSome, IfSome, IfNone, IfOk, OnOk, OnErr};
+ghost use Rattle.std.specs.Prelude.{ℕ, ◌≡◌, ◌≤◌, ◌<◌, ◌/◌, nat_eq, true, false, slice_get, [], length, Some, None, IsSome, IfSome, IfNone, IfOk, OnOk, OnErr};
 ghost use Rattle.std.specs.Option.{option_copied, option_map};
 ghost use Rattle.std.specs.List.Sorted.{IsStrictlySortedBy};
 ghost use Rattle.std.specs.Map.{keys_of, lookup};
@@ -138,7 +138,8 @@ impl<A: Allocator + Copy> ProcessTable<A> {
         Ok(())
     }
 
-    /// Sets the entry at a page number of a process.
+    /// Sets the entry at a page number of a process. An error means that the host is out of memory, which happens only if
+    /// the process has no entry in the aligned block of 512 page numbers around this one.
     pub(crate) fn set(&mut self, pid: Pid, vpn: Vpn, entry: Entry) -> Result<(), AllocError>
         requires { IsSome (get nat_cmp self.old pid) }
         ensures ok { OnOk result
@@ -146,6 +147,8 @@ impl<A: Allocator + Copy> ProcessTable<A> {
             get nat_cmp self.old pid ≡ Some t →
             self.new ≡ replace nat_cmp self.old pid (with_entry t vpn entry)) }
         ensures err { OnErr result (self.new ≡ self.old) }
+        ensures empty { OnErr result
+            ((v : ℕ) → v / 512 ≡ vpn / 512 → entry_at self.old pid v ≡ None) }
     {
         let Some(task) = self.tasks.get_mut(&pid) else {
             unreachable!()

@@ -1,5 +1,5 @@
 -- Reading the items of a list one after the other, as a loop does.
-use Rattle.std.proofs.Common.{◌≡◌, ℕ, zero, suc, ◌+◌, ◌≤◌, ◌<◌, List, [], ◌∷◌, ◌++◌, true, Option, Some, None, is_some, length, get_or, drop, option_map, refl, sym, ap, ◌∙◌, append_assoc, add-one, drop-cons, arith}
+use Rattle.std.proofs.Common.{◌≡◌, ℕ, zero, suc, ◌+◌, ◌≤◌, ◌<◌, List, [], ◌∷◌, ◌++◌, Bool, true, Option, Some, None, is_some, length, get_or, drop, option_map, refl, sym, ap, ◌∙◌, append_assoc, add-one, drop-cons, arith}
 use Rattle.std.proofs.lemmas.List.{append-nil, drop_all}
 use Rattle.serde_json.specs.Data.{Data}
 use Rattle.nm_steps.specs.Tree.{items_seen}
@@ -8,7 +8,7 @@ use Rattle.nm_steps.specs.declared.step_error.StepError.TheVariants.{Bad, Memory
 use Rattle.nm_steps.specs.Calls.{Call}
 use Rattle.nm_steps.specs.Form.{◌>>=◌, each, step_of}
 use Rattle.nm_steps.specs.Faults.{first_bad}
-use Rattle.nm_steps.specs.Memory.{starts}
+use Rattle.nm_steps.specs.Memory.{starts, begins}
 use Rattle.nm_steps.specs.Gives.{Fails}
 
 -- what was read before, and what is still read
@@ -39,6 +39,12 @@ pub starts_by : {A V : Type 0} (f : Data → Option A) (view : V → Data) (vs :
 starts_by f view [] i v lt is h before = absurd (omega (arith, lt))
 starts_by f view (w ∷ ws) zero v lt is h before = ap (λ u. is_some (f (view u))) (sym is) ∙ h
 starts_by f view (w ∷ ws) (suc i) v lt is h before = before (omega arith)
+
+-- the first item is such a one, as this one is, and the first if this is a later one
+pub begins_by : {V : Type 0} (such : Data → Bool) (view : V → Data) (vs : List V) (i : ℕ) (v : V) → i < length vs → v ≡ get_or vs i v → such (view v) ≡ true → (0 < i → begins such (items_seen view vs) ≡ true) → begins such (items_seen view vs) ≡ true
+begins_by such view [] i v lt is h before = absurd (omega (arith, lt))
+begins_by such view (w ∷ ws) zero v lt is h before = ap (λ u. such (view u)) (sym is) ∙ h
+begins_by such view (w ∷ ws) (suc i) v lt is h before = before (omega arith)
 
 pub is_done : {A V : Type 0} (f : Data → Option A) (front : List A) (view : V → Data) (vs : List V) (i : ℕ) (total : Option (List A)) → length vs ≤ i → with_front front (each f (items_seen view (drop i vs))) ≡ total → total ≡ Some front
 is_done f front view vs i total le so_far =

@@ -1,11 +1,11 @@
 -- Which values are read into memory of the host.
-use Rattle.std.specs.Prelude.{◌≡◌, ◌⊎◌, ℕ, ◌%◌, ◌==◌, ◌<◌, List, length, Bool, true, false, ◌&&◌, ◌||◌, Option, Some, None, is_some, codes}
+use Rattle.std.specs.Prelude.{◌≡◌, ◌⊎◌, ℕ, ◌%◌, ◌^◌, ◌==◌, ◌<◌, List, length, Bool, true, false, ◌&&◌, ◌||◌, Option, Some, None, is_some, option_map, codes}
 use Rattle.std.specs.Str.{bytes_eq, is_utf8}
 use Rattle.json.specs.Lex.{tokens}
 use Rattle.json.specs.Reads.{opens}
 use Rattle.serde_json.specs.Data.{Data, Items, no_items, item}
-use Rattle.serde_json.specs.Find.{get}
-use Rattle.nm_steps.specs.Form.{items_at, text_at, place_at}
+use Rattle.serde_json.specs.Find.{get, as_array}
+use Rattle.nm_steps.specs.Form.{◌>>=◌, below, number_of, number_below, number_at, small_at, numbers_at, smalls_at, items_at, text_at, place_at, row_of, machine_of, limit_of, batch_of, in_flight, step_of}
 
 -- a text with a byte
 abbrev pub IsSomeText : List ℕ → Type 0
@@ -31,6 +31,16 @@ abbrev pub starts_at : {A : Type 0} → (Data → Option A) → Option Items →
 starts_at f None = false
 starts_at f (Some ds) = starts f ds
 
+-- whether there is a first item, and it is such a one
+abbrev pub begins : (Data → Bool) → Items → Bool
+begins such no_items = false
+begins such (item d ds) = such d
+
+-- the same of a list that may be missing
+abbrev pub begins_at : (Data → Bool) → Option Items → Bool
+begins_at such None = false
+begins_at such (Some ds) = begins such ds
+
 -- whether there is a text, of an even length
 abbrev pub has_pairs : Option (List ℕ) → Bool
 has_pairs None = false
@@ -44,25 +54,78 @@ write_has_pairs d = is_some (place_at d) && has_pairs (text_at (codes "data") d)
 abbrev pub access_takes_memory : List ℕ → Data → Bool
 access_takes_memory op d = bytes_eq op (codes "write") && write_has_pairs d
 
--- whether the lists of a batch have an item
-abbrev pub batch_has_items : Data → Bool
-batch_has_items d = has_items (items_at (codes "pages") d) || has_items (items_at (codes "nodes") d)
+-- whether a batch is read up to the first number of a list
+abbrev pub batch_starts : Data → Bool
+batch_starts d =
+    starts_at number_of (items_at (codes "pages") d)
+    || (is_some (numbers_at (codes "pages") d) && starts_at (number_below (2 ^ 32)) (items_at (codes "nodes") d))
 
--- whether the step with this name has the digits of its bytes in pairs, or a list with an item
+-- whether a step's caller and process are read
+abbrev pub names_both : Data → Bool
+names_both d = is_some (small_at (codes "caller") d) && is_some (small_at (codes "pid") d)
+
+-- whether a move is read up to the first number of its batch, or up to the first of its accesses in flight
+abbrev pub move_takes_memory : Data → Bool
+move_takes_memory d =
+    names_both d
+    && (batch_starts d
+    || (is_some (batch_of d) && is_some (small_at (codes "flags") d) && has_items (items_at (codes "during") d)))
+
+-- whether a query is read up to the first number of its pages
+abbrev pub query_takes_memory : Data → Bool
+query_takes_memory d = names_both d && starts_at number_of (items_at (codes "pages") d)
+
+-- whether the step with this name has the digits of its bytes in pairs, or is read up to the first item of a list
 abbrev pub takes_memory : List ℕ → Data → Bool
 takes_memory op d =
     access_takes_memory op d
-    || (bytes_eq op (codes "move_pages") && (batch_has_items d || has_items (items_at (codes "during") d)))
-    || (bytes_eq op (codes "query") && has_items (items_at (codes "pages") d))
+    || (bytes_eq op (codes "move_pages") && move_takes_memory d)
+    || (bytes_eq op (codes "query") && query_takes_memory d)
 
--- whether a trace's machine has a list with an item
-abbrev pub machine_has_items : Data → Bool
-machine_has_items d =
+-- ---- items of lists: those that are read, and those whose reading takes memory
+
+-- whether it is a row that is read, or one up to its first number
+abbrev pub row_asks : Data → Bool
+row_asks d = is_some (row_of d) || starts_at (number_below (2 ^ 8)) (as_array d)
+
+-- whether something is there, and true
+abbrev pub holds : Option Bool → Bool
+holds None = false
+holds (Some b) = b
+
+-- whether it names a run, below the number of runs
+abbrev pub names_run : ℕ → Data → Bool
+names_run runs d = is_some (number_at (codes "run") d >>= below runs)
+
+-- whether it is an access in flight that is read, or one up to its bytes
+abbrev pub flight_asks : ℕ → Data → Bool
+flight_asks runs d =
+    is_some (in_flight runs d)
+    || (names_run runs d && holds (option_map (λ op. access_takes_memory op d) (text_at (codes "op") d)))
+
+-- whether it is a step that is read, or one up to what takes memory
+abbrev pub step_asks : ℕ → Data → Bool
+step_asks limit d =
+    is_some (step_of limit d) || holds (option_map (λ op. takes_memory op d) (text_at (codes "op") d))
+
+-- ---- traces
+
+-- whether a trace's machine is read up to the first number of its nodes, or up to what takes memory in its first row
+abbrev pub machine_takes_memory : Data → Bool
+machine_takes_memory d =
     elim (get (codes "machine") d) [
       | None ↦ false
-      | Some m ↦ has_items (items_at (codes "nodes") m) || has_items (items_at (codes "distance") m)
+      | Some m ↦
+          starts_at (number_below (2 ^ 32)) (items_at (codes "nodes") m)
+          || (is_some (smalls_at (codes "nodes") m) && begins_at row_asks (items_at (codes "distance") m))
     ]
 
--- whether a trace has one, in its machine or as its steps
-abbrev pub trace_has_items : Data → Bool
-trace_has_items d = machine_has_items d || has_items (items_at (codes "steps") d)
+-- whether a trace is read up to what takes memory in its machine, or in its first step
+abbrev pub trace_takes_memory : Data → Bool
+trace_takes_memory d =
+    machine_takes_memory d
+    || (is_some (machine_of d)
+    && elim (limit_of d) [
+      | None ↦ false
+      | Some limit ↦ begins_at (step_asks limit) (items_at (codes "steps") d)
+    ])

@@ -1,6 +1,6 @@
 //! Steps in JSON: the call that each asks for.
 
-ghost use Rattle.std.specs.Prelude.{◌≡◌, ◌<◌, ◌++◌, ◌∷◌, ◌||◌, [], length, true, option_map, OnOk, IfErr, codes};
+ghost use Rattle.std.specs.Prelude.{◌≡◌, ◌<◌, ◌++◌, ◌∷◌, [], length, true, option_map, OnOk, IfErr, codes};
 ghost use Rattle.nm_steps.specs.Tree.{items_seen};
 ghost use Rattle.nm_model.specs.views.Asked.{access_shown};
 ghost use Rattle.nm_steps.specs.Calls as calls;
@@ -8,7 +8,7 @@ ghost use Rattle.nm_steps.specs.Form.{small_at, place_at};
 ghost use Rattle.nm_steps.specs.Form as form;
 ghost use Rattle.nm_steps.specs.Views.{call_of, shown_during};
 ghost use Rattle.nm_steps.specs.Gives.{Gives};
-ghost use Rattle.nm_steps.specs.Memory.{takes_memory, access_takes_memory, batch_has_items, has_items, starts, write_has_pairs};
+ghost use Rattle.nm_steps.specs.Memory.{takes_memory, access_takes_memory, batch_starts, begins, flight_asks, has_items, move_takes_memory, names_run, query_takes_memory, write_has_pairs};
 ghost use Rattle.nm_steps.specs.declared.step_error.StepError.TheVariants.{Bad, Memory};
 
 use crate::call::{
@@ -84,6 +84,7 @@ fn in_flight<A: Allocator + Copy + Send + Sync, V: JsonValue>(
         option_map (λ op. access_takes_memory op (V.as_data value.now))
         (form.text_at (codes "op") (V.as_data value.now))
         ≡ Some true }
+    ensures run { result ≡ Err Memory → names_run runs (V.as_data value.now) ≡ true }
 {
     let run = number(value, "run")?;
     if run >= runs as u64 {
@@ -120,7 +121,7 @@ fn flights_of<A: Allocator + Copy + Send + Sync, V: JsonValue>(
         (form.each (form.in_flight runs) (items_seen V.as_data values.now)) }
     ensures asked { result ≡ Err Memory → 0 < length values.now }
     ensures first { result ≡ Err Memory →
-        starts (form.text_at (codes "op")) (items_seen V.as_data values.now) ≡ true }
+        begins (flight_asks runs) (items_seen V.as_data values.now) ≡ true }
 {
     let mut flights = Vec::new(alloc);
     for value in values {
@@ -272,7 +273,7 @@ fn batch_of<A: Allocator + Copy + Send + Sync, V: JsonValue>(
 ) -> Result<Batch<A>, StepError>
     ensures batch { Gives (λ batch. (batch.pages.items, batch.nodes.items)) result
         (form.batch_of (V.as_data value.now)) }
-    ensures asked { result ≡ Err Memory → batch_has_items (V.as_data value.now) ≡ true }
+    ensures asked { result ≡ Err Memory → batch_starts (V.as_data value.now) ≡ true }
 {
     let pages = numbers(alloc, value, "pages")?;
     let nodes = smalls(alloc, value, "nodes")?;
@@ -290,9 +291,7 @@ fn move_pages<A: Allocator + Copy + Send + Sync, V: JsonValue>(
 ) -> Result<Call<A>, StepError>
     requires { 0 < limit }
     ensures call { Gives call_of result (form.move_pages_of limit (V.as_data value.now)) }
-    ensures asked { result ≡ Err Memory →
-        (batch_has_items (V.as_data value.now)
-        || has_items (form.items_at (codes "during") (V.as_data value.now))) ≡ true }
+    ensures asked { result ≡ Err Memory → move_takes_memory (V.as_data value.now) ≡ true }
 {
     let caller = small(value, "caller")?;
     let pid = small(value, "pid")?;
@@ -365,8 +364,7 @@ fn query<A: Allocator + Copy + Send + Sync, V: JsonValue>(
     value: &V,
 ) -> Result<Call<A>, StepError>
     ensures call { Gives call_of result (form.query_of (V.as_data value.now)) }
-    ensures asked { result ≡ Err Memory →
-        has_items (form.items_at (codes "pages") (V.as_data value.now)) ≡ true }
+    ensures asked { result ≡ Err Memory → query_takes_memory (V.as_data value.now) ≡ true }
 {
     let caller = small(value, "caller")?;
     let pid = small(value, "pid")?;

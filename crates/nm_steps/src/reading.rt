@@ -15,7 +15,7 @@ ghost use Rattle.nm_steps.specs.Plans.{plan_in};
 ghost use Rattle.nm_steps.specs.declared.trace_error.TraceError.TheVariants.{NotJson, BadMachine, HostMemory};
 ghost use Rattle.nm_steps.specs.declared.step_error.StepError.TheVariants.{Bad, Memory};
 ghost use Rattle.nm_steps.specs.Gives as of_step;
-ghost use Rattle.nm_steps.specs.Memory.{IsSomeText, NeedsMemory, has_items, machine_has_items, trace_has_items, starts, starts_at};
+ghost use Rattle.nm_steps.specs.Memory.{IsSomeText, NeedsMemory, begins, has_items, machine_takes_memory, row_asks, starts, starts_at, step_asks, trace_takes_memory};
 ghost use Rattle.serde_json.specs.Find.{as_array};
 
 use crate::call::Call;
@@ -79,7 +79,7 @@ fn rows_of<A: Allocator + Copy, V: JsonValue>(
         (form.each form.row_of (items_seen V.as_data values.now)) }
     ensures asked { result ≡ Err Memory → 0 < length values.now }
     ensures first { result ≡ Err Memory →
-        starts as_array (items_seen V.as_data values.now) ≡ true }
+        begins row_asks (items_seen V.as_data values.now) ≡ true }
 {
     let mut rows = Vec::new(alloc);
     for value in values {
@@ -96,7 +96,7 @@ fn machine_of<A: Allocator + Copy, V: JsonValue>(
     value: &V,
 ) -> Result<Geometry<A>, StepError>
     ensures machine { of_step.Gives (λ g. g) result (form.machine_of (V.as_data value.now)) }
-    ensures asked { result ≡ Err Memory → machine_has_items (V.as_data value.now) ≡ true }
+    ensures asked { result ≡ Err Memory → machine_takes_memory (V.as_data value.now) ≡ true }
 {
     let machine = value.get("machine").ok_or(StepError::Bad)?;
     let sizes = smalls(alloc, machine, "nodes")?;
@@ -160,7 +160,7 @@ fn calls_of<A: Allocator + Copy + Send + Sync, V: JsonValue>(
         (faults.calls_of limit (items_seen V.as_data values.now)) }
     ensures asked { result ≡ Err (HostMemory 0) → 0 < length values.now }
     ensures first { result ≡ Err (HostMemory 0) →
-        starts (form.text_at (codes "op")) (items_seen V.as_data values.now) ≡ true }
+        begins (step_asks limit) (items_seen V.as_data values.now) ≡ true }
 {
     let mut calls = Vec::new(alloc);
     for (k, value) in values.iter().enumerate() {
@@ -191,7 +191,7 @@ pub fn geometry_of<A: Allocator + Copy, V: JsonValue>(
 ) -> Result<Geometry<A>, TraceError>
     ensures machine { Gives (λ g. g) result
         (ok_or (form.machine_of (V.as_data value.now)) BadMachine) }
-    ensures asked { result ≡ Err (HostMemory 0) → machine_has_items (V.as_data value.now) ≡ true }
+    ensures asked { result ≡ Err (HostMemory 0) → machine_takes_memory (V.as_data value.now) ≡ true }
 {
     machine_of(alloc, value).map_err(bad_machine)
 }
@@ -230,7 +230,7 @@ fn trace_of<A: Allocator + Copy + Send + Sync, V: JsonValue>(
     value: &V,
 ) -> Result<Trace<A>, TraceError>
     ensures trace { Gives plan_in result (faults.plan_of (V.as_data value.now)) }
-    ensures asked { result ≡ Err (HostMemory 0) → trace_has_items (V.as_data value.now) ≡ true }
+    ensures asked { result ≡ Err (HostMemory 0) → trace_takes_memory (V.as_data value.now) ≡ true }
 {
     let geometry = geometry_of(alloc, value)?;
     let run_limit = run_limit_of(value)?;
@@ -292,7 +292,7 @@ impl<A: Allocator + Copy + Send + Sync> Trace<A> {
     pub fn from_value(alloc: A, value: &serde_json::Value) -> Result<Trace<A>, TraceError>
         ensures trace { Gives plan_in result (faults.plan_of (owned.view value.now)) }
         ensures asked { result ≡ Err (HostMemory 0) →
-            trace_has_items (owned.view value.now) ≡ true }
+            trace_takes_memory (owned.view value.now) ≡ true }
     {
         trace_of(alloc, value)
     }

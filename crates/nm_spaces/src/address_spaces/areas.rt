@@ -149,6 +149,10 @@ impl<A: Allocator + Copy> AddressSpaces<A> {
         ensures err { OnErr result (self.new ≡ self.old) }
         ensures asked { result ≡ Err MachineError.HostMemory →
             list_any (overlaps pid (addr / 4096) (addr / 4096 + pages)) self.old.areas ≡ true }
+        ensures needed { result ≡ Err MachineError.HostMemory →
+            (0 < length self.old.place)
+            ⊎ HasSplit self.old.areas pid (addr / 4096)
+            ⊎ HasSplit self.old.areas pid (addr / 4096 + pages) }
     {
         let freed = self.areas.remove(pid, addr, pages)?;
         let first = Vpn::of_address(addr);

@@ -9,7 +9,7 @@ use Rattle.nm_memory.proofs.Copies.Populated.{keeps_self, keeps_then, keeps_popu
 use Rattle.nm_memory.proofs.frames.populate_each.Goals as goal
 
 pub loop-taken-init : goal.loop-taken-init
-loop-taken-init g c = record { kept = keeps_self c.args.frames.now; inside = c.requires.frames; home = c.requires.home; populated = λ s kept all. all }
+loop-taken-init g c = record { kept = keeps_self c.args.frames.now; inside = c.requires.frames; home = c.requires.home; whole = λ all. all; populated = λ s kept all. all }
 
 pub populate-requires-clause-frame : goal.populate-requires-clause-frame
 populate-requires-clause-frame g c =
@@ -32,6 +32,7 @@ loop-taken-preserved g c =
       kept = keeps_then c.args.frames.now before after c.loop-taken.invariant.kept now;
       inside = subst (λ n. AllByRecursion (λ frame. frame < n) (frames_taken (drop (k + 1) c.args.moves.now))) (sym now.as_many) inside.1;
       home = homes_then before after now c.loop-taken.invariant.home;
+      whole = λ all. (subst (λ (ts : List Taken). AllByRecursion (IsPopulated c.args.frames.now) (frames_taken ts)) at (c.loop-taken.invariant.whole all)).1;
       populated = λ s kept all.
           c.loop-taken.invariant.populated s (keeps_then before after s now kept)
           (subst (λ (ts : List Taken). AllByRecursion (IsPopulated s) (frames_taken ts)) (sym at) (keeps_populated after s t.to kept c.in_ok-populate.ensures.populated, all));

@@ -11,5 +11,6 @@ invariant-loop-taken g l = let rest = frames_taken (drop l.taken-index l.moves) 
   kept : KeepsBytes l.fn.frames l.frames;
   inside : AllByRecursion (λ frame. frame < length l.frames) rest;
   home : (f : ℕ) → f < length l.frames → IsHome l.frames f;
+  whole : AllByRecursion (IsPopulated l.fn.frames) (frames_taken l.moves) → AllByRecursion (IsPopulated l.fn.frames) rest;
   populated : (s : Store) → KeepsBytes l.frames s → AllByRecursion (IsPopulated s) rest → AllByRecursion (IsPopulated s) (frames_taken l.moves);
 }

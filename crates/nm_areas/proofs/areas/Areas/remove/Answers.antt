@@ -1,5 +1,6 @@
-use Rattle.std.proofs.Common.{◌≡◌, ℕ, ◌+◌, ◌/◌, Bool, true, false, not, length, refl, ap, sym, subst, ◌∙◌, arith}
+use Rattle.std.proofs.Common.{◌≡◌, ℕ, ◌+◌, ◌/◌, ◌<◌, Bool, true, false, not, length, min, refl, ap, sym, subst, ◌∙◌, arith, inl, inr}
 use Rattle.std.specs.Prelude.{Some, None, if◌then◌else◌}
+use Rattle.std.proofs.lemmas.Bool.{cases_order}
 use Rattle.std.specs.List.{AllByRecursion}
 use Rattle.std.specs.List.Sorted.{IsStrictlySortedBy}
 use Rattle.std.specs.Map.{keys_of}
@@ -11,8 +12,10 @@ use Rattle.nm_model.specs.views.Table.{Table}
 use Rattle.nm_areas.specs.Coverage.{IsCoverage, IsSteps, of_shared, ends_at, covers_at, splits_at}
 use Rattle.nm_types.specs.declared.area.Segment.{Segment}
 use Rattle.nm_types.specs.Map.{Map}
+use Rattle.nm_types.proofs.Cases.{true_false}
 use Rattle.nm_areas.proofs.Alone.{cut_apart, cut_once}
 use Rattle.nm_areas.proofs.Covered.{was_cut}
+use Rattle.nm_areas.proofs.Divided.{split_in}
 use Rattle.nm_areas.proofs.Masked.{left_covered}
 use Rattle.nm_model.specs.definitions.Areas.{removed, frames_lost, others, page_outside}
 use Rattle.nm_model.proofs.areas.Shown.{left_shows}
@@ -236,3 +239,27 @@ returns-in_err-split_steps-clause-asked g c = λ _.
 pub returns-in_default-cut-clause-asked : goal.returns-in_default-cut-clause-asked
 returns-in_default-cut-clause-asked g c = λ _.
     taken (mapped c.self.inside.table c.self.inside.places.entries) c.args.self.now c.args.pid c.args.addr c.args.pages c.in-Some.first c.is_free.result c.self.view_is c.in-Some.ensures.some.0 c.is_free.ensures c.if-is_free.false
+
+-- ---- it is asked for a list of pages that have frames, or where an area is split
+
+-- there are pages with frames if the list needs room
+some_places : (places pages most : ℕ) → most ≡ min places pages → (most ≡ 0 → false ≡ true) → 0 < places
+some_places places pages most is fails = elim (cases_order 0 places) [
+  | inl none ↦ absurd (true_false (sym (fails (omega (arith, is, none)))))
+  | inr some ↦ elim some [ inl more ↦ more | inr less ↦ omega (arith, less) ]
+]
+
+pub returns-in_err-freed-clause-needed : goal.returns-in_err-freed-clause-needed
+returns-in_err-freed-clause-needed g c = λ _.
+    let many = some_places c.len.result c.args.pages c.min-most.result c.min-most.ensures c.in_err-freed.ensures.succeeds in
+    inl (omega (arith, many, c.len.ensures.len, ap (λ (m : Mapped). length m.place) c.self.view_is))
+
+pub returns-in_err-split_steps-clause-needed : goal.returns-in_err-split_steps-clause-needed
+returns-in_err-split_steps-clause-needed g c = λ _.
+    let range = c.in-Some.ensures.some in
+    inr (split_in c.self.inside.table.areas c.args.self.now.areas c.args.pid _ _ _ _ (ap (λ (m : Mapped). m.areas) c.self.view_is) range.0 (omega (arith, c.new-end.ensures, c.number.ensures, range.0)) c.in_err-split_steps.ensures.asked)
+
+pub returns-in_default-cut-clause-needed : goal.returns-in_default-cut-clause-needed
+returns-in_default-cut-clause-needed g c = λ _.
+    let range = c.in-Some.ensures.some in
+    inr (split_in c.self.inside.table.areas c.args.self.now.areas c.args.pid _ _ _ _ (ap (λ (m : Mapped). m.areas) c.self.view_is) range.0 (omega (arith, c.new-end.ensures, c.number.ensures, range.0)) c.in_default-cut.ensures.asked)

@@ -1,6 +1,4 @@
-use Rattle.std.proofs.Common.{ℕ, ◌≡◌, ap, sym, subst, ◌∙◌, arith}
-use Rattle.std.specs.Prelude.{◌⊎◌}
-use Rattle.nm_types.specs.declared.area.Area.{Area}
+use Rattle.std.proofs.Common.{ℕ, ap, sym, subst, ◌∙◌, arith}
 use Rattle.nm_types.specs.declared.area.Segment.{Segment}
 use Rattle.nm_types.specs.Map.{Map}
 use Rattle.nm_areas.specs.Coverage.{IsCoverage}
@@ -9,15 +7,9 @@ use Rattle.nm_model.specs.views.Table.{Table}
 use Rattle.nm_model.specs.definitions.Areas.{Mapped}
 use Rattle.nm_model.proofs.areas.Shown.{repoliced_shows}
 use Rattle.nm_model.proofs.areas.Policed.{policed_mapped}
-use Rattle.nm_areas.specs.Splits.{HasSplit}
 use Rattle.nm_areas.proofs.Covered.{was_policed}
+use Rattle.nm_areas.proofs.Divided.{split_in}
 use Rattle.nm_areas.proofs.areas.Areas.split_policy.Goals as goal
-
--- where areas are split, in numbers of the call
-split_in : (areas own : Map (ℕ × ℕ) Area) (pid first end at past : ℕ) → areas ≡ own → first ≡ at → end ≡ past → HasSplit areas pid first ⊎ HasSplit areas pid end → HasSplit own pid at ⊎ HasSplit own pid past
-split_in areas own pid first end at past same begin stop there =
-    subst (λ (m : Map (ℕ × ℕ) Area). HasSplit m pid at ⊎ HasSplit m pid past) same
-    (subst (λ n. HasSplit areas pid n ⊎ HasSplit areas pid past) begin (subst (λ n. HasSplit areas pid first ⊎ HasSplit areas pid n) stop there))
 
 pub invariant_of-self-in-Ok : goal.invariant_of-self-in-Ok
 invariant_of-self-in-Ok g c =

@@ -1,4 +1,7 @@
 use Rattle.std.proofs.Common.{subst, ap}
+use Rattle.std.specs.Prelude.{OnErr}
+use Rattle.std.specs.List.{AllByRecursion}
+use Rattle.nm_frames.specs.Populated.{IsPopulated}
 use Rattle.nm_model.specs.definitions.BeforeCopy.{frames_taken}
 use Rattle.nm_memory.specs.views.Frames.{FramesView, KeepsBytes}
 use Rattle.nm_memory.proofs.Shelves.{all_below, every_home, store_kept}
@@ -24,3 +27,7 @@ returns-clause-same g c = ap (λ (v : FramesView). record v { frames = c.populat
 
 pub returns-clause-shelf : goal.returns-clause-shelf
 returns-clause-shelf g c = store_kept _ c.populate_each.new.frames c.populate_each.ensures.kept c.self.invariant.1
+
+pub returns-clause-absent : goal.returns-clause-absent
+returns-clause-absent g c =
+    subst (λ (v : FramesView). OnErr c.populate_each.result (AllByRecursion (IsPopulated v.frames) (frames_taken c.args.moves.now) → ⊥)) c.self.view_is c.populate_each.ensures.absent

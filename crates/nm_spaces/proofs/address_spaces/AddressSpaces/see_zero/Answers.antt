@@ -1,11 +1,12 @@
 use Rattle.std.proofs.Common.{ℕ, refl, sym, subst, ap, ◌∙◌}
-use Rattle.std.specs.Prelude.{IsSome}
+use Rattle.std.specs.Prelude.{IsSome, None}
 use Rattle.nm_types.specs.declared.sight.Sight.TheVariants.{ZeroPage}
 use Rattle.nm_types.specs.Map.{Map}
 use Rattle.nm_model.specs.definitions.PageTables.{Task}
 use Rattle.nm_spaces.specs.views.AddressSpaces.{spaces_view, with_seen}
 use Rattle.nm_spaces.specs.definitions.Tied.{IsTied}
-use Rattle.nm_spaces.proofs.ProcessTable.Changes.{on_ok, on_both}
+use Rattle.nm_spaces.proofs.ProcessTable.Changes.{on_ok, on_err, on_both}
+use Rattle.nm_spaces.proofs.Tied.Beginnings.{seen_here}
 use Rattle.nm_spaces.proofs.Tied.Touches.{task_at, process_at, unmapped_at, zero_tied, zero_shows}
 use Rattle.nm_spaces.proofs.address_spaces.AddressSpaces.see_zero.Goals as goal
 
@@ -37,3 +38,10 @@ returns-clause-ok g c =
     ∙ zero_shows x.tasks x.areas x.rmap c.args.pid t.0 c.args.vpn c.self.invariant t.1 free
     ∙ (λ i. with_seen (c.self.view_is i) c.args.pid (same i) c.args.vpn ZeroPage))
     c.set.ensures.ok
+
+pub returns-clause-empty : goal.returns-clause-empty
+returns-clause-empty g c =
+    let x = c.self.inside in
+    on_err c.set.result
+    (λ none v near. sym (seen_here c.args.self.now x.tasks x.areas x.rmap c.args.pid v None c.self.view_is (sym (none v near))))
+    c.set.ensures.empty
