@@ -26,7 +26,7 @@ unread s t a b c old new failed fails bytes e h gone same (inr is) =
 -- it could not be replied to
 pub unreplied : (s t u : SessionState) (a b c old new newer : Option (List ℕ)) (failed mid fails : Bool) (line : List ℕ) (e : End) → RepliesToLines s t a b old new
     → IfSome b (λ xs. line ≡ take_through 10 xs) → DropsThrough b c 10 → Consumes b c line → HasByte line
-    → mid ≡ failed → Replies t u line new newer mid fails (Err e) → EndsEarly e s a c old new failed fails
+    → mid ≡ failed → Replies t u line new newer mid fails (Err e) → EndsEarly e s a c old newer failed fails
 unreplied s t u a b c old new newer failed mid fails line (BadTop fault) h is drops gone some same w = absurd w.0
 unreplied s t u a b c old new newer failed mid fails line HostMemory h is drops gone some same w =
     (h.0, (b, line, h.1, gone), h.4, appends_nothing old new newer (replies_to s h.0) h.3 w.1, w.2 ∙ same)
