@@ -139,13 +139,9 @@ impl<W: Write> Write for Watched<W> {
             (W.contents (watched_inner self.new)) }
         ensures failed { watched_failed self.new ≡ (is_err result || watched_failed self.old) }
     {
-        match self.inner.flush() {
-            Ok(()) => Ok(()),
-            Err(error) => {
-                self.has_failed = true;
-                Err(error)
-            }
-        }
+        let flushed = self.inner.flush();
+        self.has_failed = flushed.is_err() || self.has_failed;
+        flushed
     }
 }
 
@@ -161,12 +157,8 @@ impl<W: Write + Drop, A: Allocator> FlushingWriter for Watched<BufWriter<W, A>> 
     ghost is_flushed = { λ w. writer_buffer (watched_inner w) ≡ [] };
 
     fn flush_telling(&mut self) -> io::Result<()> {
-        match self.inner.flush() {
-            Ok(()) => Ok(()),
-            Err(error) => {
-                self.has_failed = true;
-                Err(error)
-            }
-        }
+        let emptied = self.inner.flush();
+        self.has_failed = emptied.is_err() || self.has_failed;
+        emptied
     }
 }
