@@ -29,7 +29,7 @@ reads_kept before now gave n (Err BadMachine) kept given few some unread = (kept
 reads_kept before now gave n (Err (BadStep k)) kept given few some unread = (kept, (n, few, given))
 reads_kept before now gave n (Err ReadFault) kept given few some unread = absurd (unread refl)
 reads_kept before now gave n (Err WriteFault) kept given few some unread = (kept, (n, few, given))
-reads_kept before now gave n (Err (HostMemory k)) kept given few some unread = (kept, (n, some k refl, given))
+reads_kept before now gave n (Err (HostMemory k)) kept given few some unread = (kept, (n, some k refl, λ _. few, given))
 
 -- an error that is handed on says what it said
 pub reads_of_err : {X : Type 0} (before now : Bool) (gave : ℕ → Type 0) (e : TraceError) (result : Result X TraceError) → result ≡ Err e → TellsReads {X = X} before now gave (Err e) → TellsReads before now gave result

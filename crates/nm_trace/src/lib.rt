@@ -16,5 +16,5 @@ pub use nm_steps::{Trace, TraceError, read_trace};
 pub use playing::{Summary, play};
 pub use running::{Played, TRACE_LIMIT, run_on, run_trace};
 pub use session::Session;
-pub use telling::{TellingReader, TellingWriter};
+pub use telling::{FlushingWriter, TellingReader, TellingWriter};
 pub use watched::Watched;

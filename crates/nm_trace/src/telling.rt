@@ -1,9 +1,9 @@
 //! Readers and writers that report whether they have failed.
 
-ghost use Rattle.std.specs.Prelude.{◌≡◌, ◌||◌, ◌+◌, ℕ, Bool, false, length, is_err, MatchResult, refl};
+ghost use Rattle.std.specs.Prelude.{◌≡◌, ◌||◌, ◌+◌, ℕ, Bool, false, length, is_err, MatchResult, OnOk, refl};
 ghost use Rattle.std.specs.Io.{ReadsAtMost, WritesAtMost};
 ghost use Rattle.std.specs.Io.Cursor.{cursor_position};
-ghost use Rattle.std.specs.Io.KnownBytes.{ReadConsumes, WriteAppends};
+ghost use Rattle.std.specs.Io.KnownBytes.{Keeps, ReadConsumes, WriteAppends};
 ghost use Rattle.nm_trace.specs.Counts.{is_failed_write, none_left, more_left, none_on, more_on, more_of_none};
 
 use std::alloc::Allocator;
@@ -49,6 +49,18 @@ pub trait TellingWriter: Write {
             (Self.contents self.new) result buf.now }
         ensures failed { has_failed self.new
             ≡ (is_failed_write result buf.now || has_failed self.old) };
+}
+
+/// A writer that keeps what it took until it is flushed, and reports whether it has failed.
+pub trait FlushingWriter: TellingWriter {
+    /// Nothing that it took waits in it.
+    ghost is_flushed: { Self → Type 0 };
+
+    /// Does what `flush` does, and keeps the report.
+    fn flush_telling(&mut self) -> io::Result<()>
+        ensures bytes { Keeps (Self.contents self.old) (Self.contents self.new) }
+        ensures flushed { OnOk result (is_flushed self.new) }
+        ensures failed { Self.has_failed self.new ≡ (is_err result || Self.has_failed self.old) };
 }
 
 impl TellingReader for &[u8] {

@@ -1,17 +1,20 @@
 //! A flag and a count beside a reader or a writer.
 
 ghost use Rattle.std.specs.Prelude.{◌≡◌, ◌||◌, ◌+◌, ◌∷◌, [], ℕ, false, is_err, IfOk, OnErr};
+ghost use Rattle.std.specs.Io.Buffered.{writer_buffer};
 ghost use Rattle.std.specs.Io.{ReadsAtMost, WritesAtMost};
 ghost use Rattle.std.specs.Io.Iter.{u64_saturate};
 ghost use Rattle.std.specs.Io.KnownBytes.{Keeps, ReadConsumes, WriteAppends};
 ghost use Rattle.nm_trace.specs.Counts.{is_failed_write, none_counted, more_counted};
 ghost use Rattle.nm_trace.specs.Watched.{watched_failed, watched_given, watched_inner};
 
-use crate::telling::{TellingReader, TellingWriter};
+use crate::telling::{FlushingWriter, TellingReader, TellingWriter};
+use std::alloc::Allocator;
 use std::io;
-use std::io::{Read, Write};
+use std::io::{BufWriter, Read, Write};
 
-/// A reader or a writer of any kind, with a flag that is set when a read or write fails, and a count of the bytes read.
+/// A reader or a writer of any kind, with a flag that is set when a read, a write or a flush fails, and a count of the
+/// bytes read.
 #[derive(Drop)]
 pub struct Watched<T> {
     inner: T,
@@ -33,7 +36,8 @@ impl<T> Watched<T> {
         }
     }
 
-    /// Whether a read or a write has failed. A write fails with an error, or if it takes no byte although there is one.
+    /// Whether a read, a write or a flush has failed. A write fails with an error, or if it takes no byte although there
+    /// is one.
     pub fn has_failed(&self) -> bool
         ensures { result ≡ watched_failed self.now }
     {
@@ -133,9 +137,11 @@ impl<W: Write> Write for Watched<W> {
     fn flush(&mut self) -> io::Result<()>
         ensures bytes { Keeps (W.contents (watched_inner self.old))
             (W.contents (watched_inner self.new)) }
-        ensures failed { watched_failed self.new ≡ watched_failed self.old }
+        ensures failed { watched_failed self.new ≡ (is_err result || watched_failed self.old) }
     {
-        self.inner.flush()
+        let flushed = self.inner.flush();
+        self.has_failed = flushed.is_err() || self.has_failed;
+        flushed
     }
 }
 
@@ -144,5 +150,15 @@ impl<W: Write> TellingWriter for Watched<W> {
 
     fn write_telling(&mut self, buf: &[u8]) -> io::Result<usize> {
         self.write(buf)
+    }
+}
+
+impl<W: Write + Drop, A: Allocator> FlushingWriter for Watched<BufWriter<W, A>> {
+    ghost is_flushed = { λ w. writer_buffer (watched_inner w) ≡ [] };
+
+    fn flush_telling(&mut self) -> io::Result<()> {
+        let emptied = self.inner.flush();
+        self.has_failed = emptied.is_err() || self.has_failed;
+        emptied
     }
 }

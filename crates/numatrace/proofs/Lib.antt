@@ -1,3 +1,4 @@
 pub mod Unread
 pub mod Streams
 pub mod Refused
+pub mod Ended

@@ -36,4 +36,4 @@ memory_cause before now gave wrote writes BadMachine status r w is three = absur
 memory_cause before now gave wrote writes (BadStep k) status r w is three = absurd (no_memory 2 status (λ h. omega (arith, h)) is three)
 memory_cause before now gave wrote writes ReadFault status r w is three = absurd (no_memory 4 status (λ h. omega (arith, h)) is three)
 memory_cause before now gave wrote writes WriteFault status r w is three = absurd (no_memory 4 status (λ h. omega (arith, h)) is three)
-memory_cause before now gave wrote writes (HostMemory k) status r w is three = (r.1, (r.0, w))
+memory_cause before now gave wrote writes (HostMemory k) status r w is three = ((r.1.0, r.1.1, r.1.3), (r.0, w))

@@ -8,7 +8,7 @@ use Rattle.nm_steps.specs.Faults.{Plan, OfSomeBytes, trace_within}
 use Rattle.nm_trace.specs.Played.{report_of, WritesFront}
 use Rattle.numatrace.specs.Status.{Leaves}
 
-appends_none : (a : Option (List ℕ)) → Appends a a []
+pub appends_none : (a : Option (List ℕ)) → Appends a a []
 appends_none None = tt
 appends_none (Some ks) = sym (append-nil ks)
 

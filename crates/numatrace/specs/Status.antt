@@ -4,7 +4,7 @@ use Rattle.std.specs.declared.io.ErrorKind.{ErrorKind}
 use Rattle.std.specs.declared.io.ErrorKind.TheVariants.{OutOfMemory}
 use Rattle.nm_steps.specs.declared.trace_error.TraceError.{TraceError}
 use Rattle.nm_steps.specs.declared.trace_error.TraceError.TheVariants.{NotJson, BadMachine, BadStep, ReadFault, WriteFault, HostMemory}
-use Rattle.nm_steps.specs.Faults.{Plan}
+use Rattle.nm_steps.specs.Faults.{Plan, OfSomeBytes}
 use Rattle.std.specs.Io.KnownBytes.{Appends}
 use Rattle.nm_trace.specs.Played.{report_of, WritesFront}
 use Rattle.nm_trace.specs.Telling.{HasReadCause}
@@ -67,3 +67,24 @@ Refuses refusals status = (refusals ≡ []) ⊎ ((status ≡ 2) ⊎ (status ≡ 
 -- the reader has failed or gave more bytes than a trace may have, or the writer has failed
 abbrev pub HasStreamCause : Bool → (ℕ → Type 0) → Bool → Type 0
 HasStreamCause reader gave writer = HasReadCause reader gave ⊎ (writer ≡ true)
+
+-- how the program ends, with a status, after words that are refused for these causes: what it leaves of the reader of the
+-- trace, the writer of the report and that of faults
+pub record Ends {R W E : Type 0} (remaining : R → Option (List ℕ)) (read_failed : R → Bool) (gave : R → R → ℕ → Type 0)
+    (contents : W → Option (List ℕ)) (write_failed : W → Bool) (refusals : Kinds) (status : ℕ)
+    (r s : R) (w v : W) (e f : E) : Type 0 where
+  -- in any case
+  pub known : IsStatus status
+  pub reports : OfSomeBytes (remaining r) (λ trace. Leaves status refusals trace (contents w) (contents v))
+  -- if words are refused
+  pub refused : Refuses refusals status
+  pub untouched : (refusals ≡ []) ⊎ ((s ≡ r) × (v ≡ w))
+  -- after status 4
+  pub streams : status ≡ 4 → HasStreamCause (read_failed s) (gave r s) (write_failed v)
+  -- after status 3
+  pub asked : status ≡ 3 → ((n : ℕ) × (0 < n) × gave r s n) ⊎ ((s ≡ r) × (v ≡ w))
+  pub unfailed : status ≡ 3 → (read_failed s ≡ read_failed r) × (write_failed v ≡ write_failed w)
+  -- after status 2
+  pub bad : status ≡ 2 → Appends (contents w) (contents v) []
+  -- after status 0
+  pub quiet : status ≡ 0 → f ≡ e

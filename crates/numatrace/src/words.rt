@@ -1,9 +1,7 @@
 //! The program, for any words, reader and writers.
 
-ghost use Rattle.std.specs.Prelude.{◌≡◌, ◌⊎◌, ℕ, ◌<◌, [], map, string_bytes};
-ghost use Rattle.std.specs.Io.KnownBytes.{Appends};
-ghost use Rattle.nm_steps.specs.Faults.{OfSomeBytes};
-ghost use Rattle.numatrace.specs.Status.{status_of, words_status, refused_status, HasStreamCause, IsStatus, Leaves, Refuses};
+ghost use Rattle.std.specs.Prelude.{◌≡◌, ◌⊎◌, map, string_bytes};
+ghost use Rattle.numatrace.specs.Status.{status_of, words_status, refused_status, Ends};
 ghost use Rattle.nm_words.specs.Words.{refusals_of};
 
 use clap::Error;
@@ -87,32 +85,8 @@ pub fn run_words<
     W: TellingWriter,
     E: Write,
 >(rt: &T, alloc: A, heap: Global, words: &[String], reader: &mut R, out: &mut W, err: &mut E) -> u8
-    // In any case
-    ensures status { IsStatus result }
-    ensures reports { OfSomeBytes (R.remaining reader.old) (λ trace.
-        Leaves result (refusals_of (map string_bytes words.now)) trace (W.contents out.old) (W.contents out.new)) }
-
-    // If words are refused
-    ensures refused { Refuses (refusals_of (map string_bytes words.now)) result }
-    ensures untouched { (refusals_of (map string_bytes words.now) ≡ [])
-        ⊎ ((reader.new ≡ reader.old) × (out.new ≡ out.old)) }
-
-    // After status 4
-    ensures streams { result ≡ 4 →
-        HasStreamCause (R.has_failed reader.new) (R.gave reader.old reader.new)
-        (W.has_failed out.new) }
-
-    // After status 3
-    ensures asked { result ≡ 3 → ((n : ℕ) × (0 < n) × R.gave reader.old reader.new n)
-        ⊎ ((reader.new ≡ reader.old) × (out.new ≡ out.old)) }
-    ensures unfailed { result ≡ 3 → (R.has_failed reader.new ≡ R.has_failed reader.old)
-        × (W.has_failed out.new ≡ W.has_failed out.old) }
-
-    // After status 2
-    ensures bad { result ≡ 2 → Appends (W.contents out.old) (W.contents out.new) [] }
-
-    // After status 0
-    ensures quiet { result ≡ 0 → err.new ≡ err.old }
+    ensures { Ends R.remaining R.has_failed R.gave W.contents W.has_failed
+        (refusals_of (map string_bytes words.now)) result reader.old reader.new out.old out.new err.old err.new }
 {
     run_words_through(rt, alloc, heap, words, reader, out, err, &OpenGate)
 }
@@ -135,32 +109,8 @@ pub(crate) fn run_words_through<
     err: &mut E,
     gate: &G,
 ) -> u8
-    // In any case
-    ensures status { IsStatus result }
-    ensures reports { OfSomeBytes (R.remaining reader.old) (λ trace.
-        Leaves result (refusals_of (map string_bytes words.now)) trace (W.contents out.old) (W.contents out.new)) }
-
-    // If words are refused
-    ensures refused { Refuses (refusals_of (map string_bytes words.now)) result }
-    ensures untouched { (refusals_of (map string_bytes words.now) ≡ [])
-        ⊎ ((reader.new ≡ reader.old) × (out.new ≡ out.old)) }
-
-    // After status 4
-    ensures streams { result ≡ 4 →
-        HasStreamCause (R.has_failed reader.new) (R.gave reader.old reader.new)
-        (W.has_failed out.new) }
-
-    // After status 3
-    ensures asked { result ≡ 3 → ((n : ℕ) × (0 < n) × R.gave reader.old reader.new n)
-        ⊎ ((reader.new ≡ reader.old) × (out.new ≡ out.old)) }
-    ensures unfailed { result ≡ 3 → (R.has_failed reader.new ≡ R.has_failed reader.old)
-        × (W.has_failed out.new ≡ W.has_failed out.old) }
-
-    // After status 2
-    ensures bad { result ≡ 2 → Appends (W.contents out.old) (W.contents out.new) [] }
-
-    // After status 0
-    ensures quiet { result ≡ 0 → err.new ≡ err.old }
+    ensures { Ends R.remaining R.has_failed R.gave W.contents W.has_failed
+        (refusals_of (map string_bytes words.now)) result reader.old reader.new out.old out.new err.old err.new }
 {
     let workers = match read_words(heap, words) {
         Ok(workers) => workers,

@@ -15,17 +15,17 @@ are_more : (bytes : List ℕ) (lines : List (List ℕ)) (line rest : List ℕ) �
 are_more bytes [] line rest h is = (is ∙ ap (take_through 10) (sym h), ap (drop_through 10) h)
 are_more bytes (l ∷ ls) line rest h is = (h.0, are_more (drop_through 10 bytes) ls line rest h.1 is)
 
-reads_none : (a : Option (List ℕ)) → ReadsLines a a []
+pub reads_none : (a : Option (List ℕ)) → ReadsLines a a []
 reads_none None = tt
 reads_none (Some xs) = refl
 
-reads_more : (a b c : Option (List ℕ)) (lines : List (List ℕ)) (line : List ℕ) → ReadsLines a b lines → IfSome b (λ xs. line ≡ take_through 10 xs) → DropsThrough b c 10 → ReadsLines a c (lines ++ line ∷ [])
+pub reads_more : (a b c : Option (List ℕ)) (lines : List (List ℕ)) (line : List ℕ) → ReadsLines a b lines → IfSome b (λ xs. line ≡ take_through 10 xs) → DropsThrough b c 10 → ReadsLines a c (lines ++ line ∷ [])
 reads_more None b c lines line h is drops = tt
 reads_more (Some xs) None c lines line h is drops = absurd h
 reads_more (Some xs) (Some ys) c lines line h is drops =
     subst (λ (o : Option (List ℕ)). ReadsLines (Some xs) o (lines ++ line ∷ [])) (sym drops) (are_more xs lines line ys h is)
 
-reads_top : (a b c : Option (List ℕ)) (top : List ℕ) (lines : List (List ℕ)) → IfSome a (λ xs. top ≡ take_through 10 xs) → DropsThrough a b 10 → ReadsLines b c lines → ReadsLines a c (top ∷ lines)
+pub reads_top : (a b c : Option (List ℕ)) (top : List ℕ) (lines : List (List ℕ)) → IfSome a (λ xs. top ≡ take_through 10 xs) → DropsThrough a b 10 → ReadsLines b c lines → ReadsLines a c (top ∷ lines)
 reads_top None b c top lines is drops h = tt
 reads_top (Some xs) b None top lines is drops h = subst (λ (o : Option (List ℕ)). ReadsLines o None lines) drops h
 reads_top (Some xs) b (Some zs) top lines is drops h = (is, subst (λ (o : Option (List ℕ)). ReadsLines o (Some zs) lines) drops h)
@@ -36,7 +36,7 @@ after_more : (s : SessionState) (lines : List (List ℕ)) (line : List ℕ) → 
 after_more s [] line = refl
 after_more s (l ∷ ls) line = after_more (after s (asked s l)) ls line
 
-replies_more : (s : SessionState) (lines : List (List ℕ)) (line : List ℕ) → replies_to s (lines ++ line ∷ []) ≡ replies_to s lines ++ reply_of (after_lines s lines) (asked (after_lines s lines) line)
+pub replies_more : (s : SessionState) (lines : List (List ℕ)) (line : List ℕ) → replies_to s (lines ++ line ∷ []) ≡ replies_to s lines ++ reply_of (after_lines s lines) (asked (after_lines s lines) line)
 replies_more s [] line = append-nil (reply_of s (asked s line))
 replies_more s (l ∷ ls) line =
     let first = reply_of s (asked s l) in
@@ -46,7 +46,7 @@ replies_more s (l ∷ ls) line =
 pub no_lines : (s : SessionState) (left old : Option (List ℕ)) → RepliesToLines s s left left old old
 no_lines s left old = ([], reads_none left, refl, appends_none old, tt)
 
-all_more : (lines : List (List ℕ)) (line : List ℕ) → AllByRecursion HasByte lines → HasByte line → AllByRecursion HasByte (lines ++ line ∷ [])
+pub all_more : (lines : List (List ℕ)) (line : List ℕ) → AllByRecursion HasByte lines → HasByte line → AllByRecursion HasByte (lines ++ line ∷ [])
 all_more [] line h some = (some, tt)
 all_more (l ∷ ls) line h some = (h.0, all_more ls line h.1 some)
 

@@ -1,8 +1,8 @@
 -- What the reply to a line makes of a session, and of what is written.
-use Rattle.std.specs.Prelude.{◌≡◌, ℕ, ◌<◌, Bool, true, List, [], ◌∷◌, ◌++◌, length, codes, decimal, Option, Some, None, Result, Ok, Err}
-use Rattle.std.specs.List.{AllByRecursion}
+use Rattle.std.specs.Prelude.{◌≡◌, ◌==◌, ℕ, ◌<◌, ◌⊎◌, Bool, true, List, [], ◌∷◌, ◌++◌, length, codes, decimal, Option, Some, None, Result, Ok, Err}
+use Rattle.std.specs.List.{AllByRecursion, list_any}
 use Rattle.std.specs.Io.BufRead.{take_through, drop_through}
-use Rattle.std.specs.Io.KnownBytes.{Appends}
+use Rattle.std.specs.Io.KnownBytes.{Appends, Consumes}
 use Rattle.nm_steps.specs.Calls.{Call}
 use Rattle.nm_steps.specs.declared.trace_error.TraceError.{TraceError}
 use Rattle.nm_steps.specs.declared.trace_error.TraceError.TheVariants.{BadStep}
@@ -93,3 +93,39 @@ Talks left left_then old new =
 abbrev pub IsRefused : Option (List ℕ) → Option (List ℕ) → Option (List ℕ) → Option (List ℕ) → TraceError → Type 0
 IsRefused left left_then old new fault =
     (top : List ℕ) × (opened top ≡ Err fault) × ReadsLines left left_then (top ∷ []) × Appends old new []
+
+-- ---- where a session ends before its input does
+
+-- a line feed is among these bytes
+abbrev pub has_line : List ℕ → Bool
+has_line bytes = list_any (λ b. b == 10) bytes
+
+-- lines are read, and some bytes after them
+abbrev pub ReadsBeyond : Option (List ℕ) → Option (List ℕ) → List (List ℕ) → Type 0
+ReadsBeyond left left_then lines =
+    (between : Option (List ℕ)) × (bytes : List ℕ) × ReadsLines left between lines × Consumes between left_then bytes
+
+-- after lines that are read, all replies to them are written and the writer has not failed anew, or it has, and a front
+-- of them is written
+abbrev pub WritesReplies : SessionState → List (List ℕ) → Option (List ℕ) → Option (List ℕ) → Bool → Bool → Type 0
+WritesReplies s lines old new failed fails =
+    (Appends old new (replies_to s lines) × (fails ≡ failed))
+    ⊎ ((front : List ℕ) × (rest : List ℕ) × (front ++ rest ≡ replies_to s lines) × Appends old new front × (fails ≡ true))
+
+-- replies to lines end early: for lack of memory, with all replies to the lines before; where a stream fails, with a front
+-- of them if it is the writer
+abbrev pub EndsEarly : End → SessionState → Option (List ℕ) → Option (List ℕ) → Option (List ℕ) → Option (List ℕ) → Bool → Bool → Type 0
+EndsEarly (BadTop fault) s left left_then old new failed fails = ⊥
+EndsEarly HostMemory s left left_then old new failed fails =
+    (lines : List (List ℕ)) × ReadsBeyond left left_then lines × AllByRecursion HasByte lines
+    × Appends old new (replies_to s lines) × (fails ≡ failed)
+EndsEarly Stream s left left_then old new failed fails =
+    (lines : List (List ℕ)) × ReadsBeyond left left_then lines × AllByRecursion HasByte lines
+    × WritesReplies s lines old new failed fails
+
+-- a session ends early: nothing was written, or its first line has begun it, and the replies to further ones end early
+abbrev pub EndsTalk : End → Option (List ℕ) → Option (List ℕ) → Option (List ℕ) → Option (List ℕ) → Bool → Bool → Type 0
+EndsTalk end left left_then old new failed fails =
+    (Appends old new [] × (fails ≡ failed))
+    ⊎ ((top : List ℕ) × (s : SessionState) × (between : Option (List ℕ)) × (opened top ≡ Ok s) × ReadsLines left between (top ∷ [])
+    × EndsEarly end s between left_then old new failed fails)

@@ -7,16 +7,16 @@
 //! and 4 where a stream fails, with one line on standard error for the last three.
 #![tactic(auto)]
 
-ghost use Rattle.std.specs.Prelude.{◌≡◌, ◌⊎◌, ◌++◌, ◌∷◌, [], length, nat_lt, false, OnOk, IfOk, IfErr, IfSome};
+ghost use Rattle.std.specs.Prelude.{◌≡◌, ◌⊎◌, ◌||◌, ◌++◌, ◌∷◌, [], length, nat_lt, true, false, Ok, OnOk, IfOk, IfErr, IfSome, is_err};
 ghost use Rattle.std.specs.Io.{StopsAt};
 ghost use Rattle.std.specs.Io.BufRead.{take_through, DropsThrough};
 ghost use Rattle.std.specs.Io.KnownBytes.{Consumes, IsAtEnd, Keeps};
-ghost use Rattle.std.specs.Io.Buffered.{reader_remaining};
+ghost use Rattle.std.specs.Io.Buffered.{reader_buffer, reader_remaining};
 ghost use Rattle.nm_steps.specs.declared.trace_error.TraceError.{TraceError};
-ghost use Rattle.numatrace_session.specs.Replies.{bad_step_reply, IsRefused, Replies, RepliesToLines, Talks, Tries, Writes};
+ghost use Rattle.numatrace_session.specs.Replies.{bad_step_reply, has_line, EndsEarly, EndsTalk, IsRefused, Replies, RepliesToLines, Talks, Tries, Writes};
 
 use nm_crew::OpenGate;
-use nm_trace::{Session, TellingWriter, TraceError, Watched, write_lines};
+use nm_trace::{FlushingWriter, Session, TellingWriter, TraceError, Watched, write_lines};
 use std::alloc::Global;
 use std::io::{BufRead, BufReader, BufWriter, ErrorKind, Read, Write};
 use std::process::ExitCode;
@@ -120,33 +120,51 @@ fn reply<R: Threads + Wait + Sync, W: TellingWriter>(
 }
 
 /// Writes the replies that wait, unless a further line is there already.
-fn flush_unless_asked<R: Read, W: TellingWriter>(
+fn flush_unless_asked<R: Read, W: FlushingWriter>(
     input: &BufReader<R, Global>,
     out: &mut W,
 ) -> Result<(), End>
+    // If a further line is there
+    ensures waits { has_line (reader_buffer input.now) ≡ true → (result ≡ Ok tt) × (out.new ≡ out.old) }
+
+    // If none is
+    ensures flushed { has_line (reader_buffer input.now) ≡ false → OnOk result (W.is_flushed out.new) }
+
+    // In any case
     ensures kept { Keeps (W.contents out.old) (W.contents out.new) }
+    ensures told { W.has_failed out.new ≡ (is_err result || W.has_failed out.old) }
     ensures fault { IfErr result (λ e. e ≡ End.Stream) }
 {
     if input.buffer().contains(&b'\n') {
         return Ok(());
     }
-    out.flush().map_err(|_| End::Stream)
+    let Ok(()) = out.flush_telling() else {
+        return Err(End::Stream);
+    };
+    Ok(())
 }
 
 /// Replies to each line until the input ends. Replies wait as long as further lines are there already.
-fn reply_to_lines<T: Threads + Wait + Sync, R: Read, W: TellingWriter>(
+fn reply_to_lines<T: Threads + Wait + Sync, R: Read, W: FlushingWriter>(
     rt: &T,
     heap: Global,
     session: &mut Session<Global>,
     input: &mut BufReader<R, Global>,
     out: &mut W,
 ) -> Result<(), End>
+    // On success
     ensures lines { OnOk result (RepliesToLines session.old session.new
         (reader_remaining R.remaining input.old) (reader_remaining R.remaining input.new)
         (W.contents out.old) (W.contents out.new)) }
     ensures end { OnOk result (IfSome (reader_remaining R.remaining input.old)
         (λ _. IsAtEnd (reader_remaining R.remaining input.new))) }
+    ensures told { OnOk result (W.has_failed out.new ≡ W.has_failed out.old) }
+
+    // On a fault
     ensures fault { IfErr result (λ e. (e ≡ End.HostMemory) ⊎ (e ≡ End.Stream)) }
+    ensures early { IfErr result (λ e. EndsEarly e session.old
+        (reader_remaining R.remaining input.old) (reader_remaining R.remaining input.new)
+        (W.contents out.old) (W.contents out.new) (W.has_failed out.old) (W.has_failed out.new)) }
 {
     let mut line = Vec::new(heap);
     for _ in rt.forever() {
@@ -160,7 +178,7 @@ fn reply_to_lines<T: Threads + Wait + Sync, R: Read, W: TellingWriter>(
 }
 
 /// Begins a session with the first line, and replies to each further one until the input ends.
-fn talk<T: Threads + Wait + Sync, R: Read, W: TellingWriter>(
+fn talk<T: Threads + Wait + Sync, R: Read, W: FlushingWriter>(
     rt: &T,
     heap: Global,
     input: &mut BufReader<R, Global>,
@@ -177,6 +195,9 @@ fn talk<T: Threads + Wait + Sync, R: Read, W: TellingWriter>(
     ensures refused { (fault : TraceError) → result ≡ Err (End.BadTop fault) → IsRefused
         (reader_remaining R.remaining input.old) (reader_remaining R.remaining input.new)
         (W.contents out.old) (W.contents out.new) fault }
+    ensures early { IfErr result (λ e. EndsTalk e
+        (reader_remaining R.remaining input.old) (reader_remaining R.remaining input.new)
+        (W.contents out.old) (W.contents out.new) (W.has_failed out.old) (W.has_failed out.new)) }
 {
     let mut line = Vec::new(heap);
     next_line(input, &mut line)?;

@@ -41,6 +41,7 @@ returns-then-is_err-clause-told g c =
       (
         so_far + c.in-Ok.count,
         some,
+        λ later. absurd (omega (arith, later)),
         g.met.R.TellingReader.gave_more c.args.reader.now c.loop-buffer.reader c.read_telling.new.self so_far c.in-Ok.count c.loop-buffer.invariant.given c.in-Ok.ensures.given,
       ),
     )

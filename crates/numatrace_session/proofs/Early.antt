@@ -1,0 +1,64 @@
+-- Where a session ends before its input does.
+use Rattle.std.proofs.Common.{◌≡◌, ℕ, List, [], ◌∷◌, ◌++◌, Bool, true, Option, IfSome, Result, Ok, Err, ap, refl, subst, sym, ◌∙◌, ◌⊎◌, inl, inr, append_assoc}
+use Rattle.std.proofs.lemmas.List.{append-nil}
+use Rattle.std.specs.Prelude.{IfErr}
+use Rattle.std.specs.Io.BufRead.{take_through, DropsThrough}
+use Rattle.std.specs.Io.KnownBytes.{Consumes}
+use Rattle.nm_trace.specs.Session.{SessionState, asked, opened}
+use Rattle.nm_trace.proofs.Known.{appends_more, appends_nothing, consumes_none}
+use Rattle.numatrace_session.specs.declared.End.{End}
+use Rattle.numatrace_session.specs.declared.End.TheVariants.{BadTop, HostMemory, Stream}
+use Rattle.numatrace_session.specs.Replies.{HasByte, reply_of, replies_to, EndsEarly, EndsTalk, Replies, RepliesToLines}
+use Rattle.numatrace_session.proofs.Lines.{all_more, reads_more, reads_none, reads_top, replies_more}
+
+-- what holds of an error holds of the result that has it
+pub if_err : {X E : Type 0} (Holds : E → Type 0) (e : E) (result : Result X E) → result ≡ Err e → Holds e → IfErr result Holds
+if_err Holds e result is h = subst (λ r. IfErr r Holds) (sym is) h
+
+-- the next line could not be read
+pub unread : (s t : SessionState) (a b c old new : Option (List ℕ)) (failed fails : Bool) (bytes : List ℕ) (e : End) → RepliesToLines s t a b old new
+    → Consumes b c bytes → fails ≡ failed → ((e ≡ HostMemory) ⊎ (e ≡ Stream)) → EndsEarly e s a c old new failed fails
+unread s t a b c old new failed fails bytes e h gone same (inl is) =
+    subst (λ (d : End). EndsEarly d s a c old new failed fails) (sym is) (h.0, (b, bytes, h.1, gone), h.4, h.3, same)
+unread s t a b c old new failed fails bytes e h gone same (inr is) =
+    subst (λ (d : End). EndsEarly d s a c old new failed fails) (sym is) (h.0, (b, bytes, h.1, gone), h.4, inl (h.3, same))
+
+-- it could not be replied to
+pub unreplied : (s t u : SessionState) (a b c old new newer : Option (List ℕ)) (failed mid fails : Bool) (line : List ℕ) (e : End) → RepliesToLines s t a b old new
+    → IfSome b (λ xs. line ≡ take_through 10 xs) → DropsThrough b c 10 → Consumes b c line → HasByte line
+    → mid ≡ failed → Replies t u line new newer mid fails (Err e) → EndsEarly e s a c old newer failed fails
+unreplied s t u a b c old new newer failed mid fails line (BadTop fault) h is drops gone some same w = absurd w.0
+unreplied s t u a b c old new newer failed mid fails line HostMemory h is drops gone some same w =
+    (h.0, (b, line, h.1, gone), h.4, appends_nothing old new newer (replies_to s h.0) h.3 w.1, w.2 ∙ same)
+unreplied s t u a b c old new newer failed mid fails line Stream h is drops gone some same w =
+    let lines = h.0 in
+    let so_far = replies_to s lines in
+    let broken = w.0.0 in
+    let text = ap (λ (v : SessionState). reply_of v (asked v line)) h.2 in (
+      lines ++ line ∷ [],
+      (c, [], reads_more a b c lines line h.1 is drops, consumes_none c),
+      all_more lines line h.4 some,
+      inr (
+        so_far ++ broken.0,
+        broken.1,
+        append_assoc so_far broken.0 broken.1 ∙ (ap (λ (x : List ℕ). so_far ++ x) (broken.2 ∙ text) ∙ sym (replies_more s lines line)),
+        appends_more old new newer so_far broken.0 h.3 broken.4,
+        w.0.1,
+      ),
+    )
+
+-- the replies could not be flushed
+pub unflushed : (s t : SessionState) (a c old new : Option (List ℕ)) (failed fails : Bool) (e : End) → RepliesToLines s t a c old new
+    → e ≡ Stream → fails ≡ true → EndsEarly e s a c old new failed fails
+unflushed s t a c old new failed fails e h is told =
+    let whole = replies_to s h.0 in
+    subst (λ (d : End). EndsEarly d s a c old new failed fails) (sym is)
+    (h.0, (c, [], h.1, consumes_none c), h.4, inr (whole, [], append-nil whole, h.3, told))
+
+-- ---- from the first line on
+
+pub ends_begun : {X : Type 0} (s : SessionState) (a b c old new : Option (List ℕ)) (failed fails : Bool) (top : List ℕ) (result : Result X End) → opened top ≡ Ok s
+    → IfSome a (λ xs. top ≡ take_through 10 xs) → DropsThrough a b 10 → IfErr result (λ e. EndsEarly e s b c old new failed fails)
+    → IfErr result (λ e. EndsTalk e a c old new failed fails)
+ends_begun s a b c old new failed fails top (Ok done) begins is drops h = tt
+ends_begun s a b c old new failed fails top (Err e) begins is drops h = inr (top, s, b, begins, reads_top a b b top [] is drops (reads_none b), h)
