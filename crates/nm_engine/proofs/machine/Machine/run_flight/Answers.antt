@@ -15,7 +15,7 @@ use Rattle.nm_model.specs.definitions.Touch.{AllAnswered}
 use Rattle.nm_laws.specs.Laws.{with_moves}
 use Rattle.nm_engine.specs.views.MidRun.{MidRun}
 use Rattle.nm_laws.specs.Moves.{CanMove, IsPlanOf}
-use Rattle.nm_model.specs.definitions.Run.{Ran, run}
+use Rattle.nm_model.specs.definitions.Run.{Ran, run, failures}
 use Rattle.nm_model.specs.definitions.Sound.{IsSound}
 use Rattle.nm_model.specs.definitions.Touch.{Access, AccessAnswer}
 use Rattle.nm_laws.proofs.Early.Flown.{run_state, run_answers}
@@ -68,6 +68,9 @@ carry_out-answers-requires-clause-due g c κs within =
     let ready = planned_phases r t moves accesses c.args.self.now ws c.in_ok-plan.plan at plan c.moves-moves.ensures c.in_ok-dues.ensures.sound c.requires.target in
     subst (λ (ds : List PendingAccess). AllByRecursion (IsPending (pages_of moves) c.begin.new.self.state) ds) (sym c.in_ok-dues.ensures.dues)
     (subst (λ (x : State). AllByRecursion (IsPending (pages_of moves) x) (touched_all r t moves accesses).dues) (sym c.in_ok-dues.ensures.state) ready.1.due)
+
+pub returns-clause-failed : goal.returns-clause-failed
+returns-clause-failed g c = c.end_run-failed.ensures.failed ∙ ap failures (c.statuses.ensures ∙ sym c.into_statuses.ensures)
 
 pub returns-clause-answers : goal.returns-clause-answers
 returns-clause-answers g c =
