@@ -23,7 +23,7 @@ use crate::answer::Moved;
 use crate::call_error::CallError;
 use crate::permission::Permit;
 use nm_crew::{Crew, Gate};
-use nm_engine::{AccessAnswer, Machine, failures};
+use nm_engine::{AccessAnswer, Machine};
 use nm_runs::{Request, Run, Wanted, check_batch, cut_within};
 use nm_steps::{Batch, InFlight, MoveRequest};
 use nm_types::{Access, Errno, NodeId, NodeMask, Pid, Vpn};
@@ -45,7 +45,8 @@ pub(crate) fn check_targets<A: Allocator + Copy + Send + Sync>(
     ensures exact { Checks result
         (first_refusal (node_count (machine.now.layout)) machine.now.online allowed nodes.now) }
 {
-    check_batch(machine.node_count(), machine.online(), allowed, nodes)
+    let count = machine.geometry().node_count();
+    check_batch(count, machine.online(), allowed, nodes)
 }
 
 /// The request for the page at an address of a process.
@@ -111,6 +112,7 @@ pub(crate) fn move_runs<
     let accesses = by_run(alloc, during, runs.len())?;
     let mut told = Vec::with_capacity(alloc, runs.len())?;
     let answers = Vec::with_capacity(alloc, during.len())?;
+    let mut failed = 0;
     for (k, run) in runs.iter().enumerate() {
         let Ok(flown) = machine.run_flight(crew, run, accesses[k].as_slice()) else {
             return Err(CallError::HostMemory {
@@ -121,10 +123,11 @@ pub(crate) fn move_runs<
         statuses
             .extend_from_slice(flown.statuses.as_slice())
             .unwrap();
+        failed += flown.failed;
         told.push_reserved(flown.answers.into_iter());
     }
     Ok(Moved {
-        failed: failures(statuses.as_slice()),
+        failed,
         statuses,
         answers: in_order(during, told, answers),
     })

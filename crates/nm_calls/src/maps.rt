@@ -122,7 +122,7 @@ fn tally_of<A: Allocator + Copy + Send + Sync>(machine: &Machine<A>, pages: &[Lo
     for page in pages {
         let users = machine.users_in(page.frame);
         let node = page.node.index();
-        prove!(machine.node_count() <= 64);
+        prove!(machine.geometry().node_count() <= 64);
         count += 1;
         most = most.max(users);
         on[node] += 1;
@@ -224,7 +224,7 @@ fn area_text<A: Allocator + Copy + Send + Sync>(
     line.push_str(" ")?;
     push_policy(&mut line, area.policy)?;
     let tally = count_pages(machine, pid, area)?;
-    push_tally(&mut line, &tally, machine.node_count())?;
+    push_tally(&mut line, &tally, machine.geometry().node_count())?;
     Ok(line)
 }
 

@@ -11,7 +11,7 @@ ghost use Rattle.nm_calls.specs.definitions.Mbind.{preferred, policy_of, policy_
 ghost use Rattle.nm_calls.specs.views.Runs.{nodes_named, Binds};
 
 use crate::call_error::CallError;
-use crate::permission::usable;
+use crate::permission::{names_missing_node, usable};
 use crate::placement::{make, way_of};
 use crate::stray_pages::{astray, some_stray, stray_from};
 use nm_crew::{Crew, Gate};
@@ -107,7 +107,7 @@ fn is_bad_set<A: Allocator + Copy + Send + Sync>(
 ) -> bool
     ensures { result ≡ is_bad_set machine.now allowed mode nodes }
 {
-    if mode > MPOL_LOCAL || !fits(mode, nodes) || machine.names_missing_node(nodes) {
+    if mode > MPOL_LOCAL || !fits(mode, nodes) || names_missing_node(machine, nodes) {
         return true;
     }
     nodes.len() != 0 && usable(machine, allowed, nodes).len() == 0

@@ -15,7 +15,7 @@ use crate::answer::Moved;
 use crate::batch::move_runs;
 use crate::call_error::CallError;
 use crate::listing::migrate_list;
-use crate::permission::{acted_on, owner_of, usable};
+use crate::permission::{acted_on, names_missing_node, owner_of, usable};
 use nm_crew::{Crew, Gate};
 use nm_engine::{Machine, ProcessInfo};
 use nm_policy::pairs;
@@ -88,7 +88,7 @@ pub(crate) fn migration_of<A: Allocator + Copy + Send + Sync>(
     let Some(asking) = machine.process(caller) else {
         return Err(Errno::Esrch);
     };
-    if machine.names_missing_node(old) || machine.names_missing_node(new) {
+    if names_missing_node(machine, old) || names_missing_node(machine, new) {
         return Err(Errno::Einval);
     }
     let owner = owner_of(caller, pid);

@@ -39,10 +39,10 @@ pub(crate) fn check_offline<A: Allocator + Copy + Send + Sync>(
     ensures exact { Checks result (offline_refusal machine.now node) }
     ensures node { OnOk result (node < node_count (machine.now.layout)) }
 {
-    if node.index() >= machine.node_count() {
+    if node.index() >= machine.geometry().node_count() {
         return Err(Errno::Einval);
     }
-    if machine.is_online(node) && others(machine, node).len() == 0 {
+    if machine.online().contains(node) && others(machine, node).len() == 0 {
         return Err(Errno::Ebusy);
     }
     Ok(())

@@ -226,7 +226,7 @@ fn lost_on<A: Allocator + Copy + Send + Sync>(
     if !left.tried || machine.has_free(node) {
         return None;
     }
-    prove!(machine.node_count() <= 64);
+    prove!(machine.geometry().node_count() <= 64);
     let nodes = match left.standing {
         Some(nodes) => nodes,
         None => standing(machine, left.wanted.as_slice()),

@@ -3,7 +3,7 @@
 ghost use Rattle.std.specs.Prelude.{◌≡◌, IfOk, Some};
 ghost use Rattle.nm_runs.specs.Targets.{Checks};
 ghost use Rattle.nm_calls.specs.definitions.Permission.{flags_refusal, moves_all, owner_of, allowed_at, query_refusal, right_refusal};
-ghost use Rattle.nm_calls.specs.definitions.Permission.{usable};
+ghost use Rattle.nm_calls.specs.definitions.Permission.{names_missing_node, usable};
 
 use nm_engine::{Machine, ProcessInfo};
 use nm_types::{Errno, MoveFlags, NodeMask, Pid};
@@ -65,6 +65,23 @@ pub(crate) fn acted_on(
         return Err(Errno::Eperm);
     }
     Ok(asked)
+}
+
+/// Whether a set has a node that the machine does not have.
+pub(crate) fn names_missing_node<A: Allocator + Copy + Send + Sync>(
+    machine: &Machine<A>,
+    nodes: NodeMask,
+) -> bool
+    ensures { result ≡ names_missing_node machine.now nodes }
+{
+    let count = machine.geometry().node_count();
+    let mut rest = nodes;
+    while let Some(node) = rest.take_first() {
+        if node.index() >= count {
+            return true;
+        }
+    }
+    false
 }
 
 /// The nodes of a set that are online and that a process may use.

@@ -435,7 +435,7 @@ impl<A: Allocator + Copy + Send + Sync> System<A> {
             is_in self.old.state.online node ≡ true }
     {
         check_offline(&self.machine, node)?;
-        if !self.machine.is_online(node) {
+        if !self.machine.online().contains(node) {
             return Ok(());
         }
         let limit = self.run_limit;
@@ -448,7 +448,7 @@ impl<A: Allocator + Copy + Send + Sync> System<A> {
     pub fn online(&mut self, node: NodeId) -> Result<(), Errno>
         ensures { DoesOrRefuses (λ done. Done) result self.old self.new (Online node) }
     {
-        if node.index() >= self.machine.node_count() {
+        if node.index() >= self.machine.geometry().node_count() {
             return Err(Errno::Einval);
         }
         self.machine.set_online(node, true);
@@ -503,7 +503,7 @@ impl<A: Allocator + Copy + Send + Sync> System<A> {
             0 < length (lines_of self.now.state.segments self.now.state.areas pid) }
     {
         let areas = self.machine.lines(pid)?;
-        prove!(self.machine.node_count() <= 64);
+        prove!(self.machine.geometry().node_count() <= 64);
         Ok(areas_text(self.alloc, &self.machine, pid, areas.as_slice())?)
     }
 

@@ -14,7 +14,6 @@ use crate::machine::Totals;
 use nm_memory::Frames;
 use nm_spaces::AddressSpaces;
 use nm_types::{Geometry, NodeId, NodeMask, Pid, Vpn};
-pub use run::failures;
 use std::alloc::{AllocError, Allocator};
 use std::marker::Model;
 

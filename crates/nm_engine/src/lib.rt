@@ -5,10 +5,8 @@ mod answers;
 mod inner;
 pub mod laws;
 mod machine;
-mod view;
 
 pub use answers::RunAnswer;
-pub use inner::failures;
 pub use machine::{Machine, Totals};
 pub use nm_areas::Line;
 pub use nm_memory::AccessAnswer;

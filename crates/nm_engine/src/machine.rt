@@ -1,13 +1,11 @@
 //! The machine.
 
-ghost use Rattle.std.specs.Prelude.{◌≡◌, ◌<◌, ◌≤◌, ◌+◌, ◌-◌, ◌/◌, [], ◌∷◌, map, length, nat_le, Some, Err, IfOk, OnOk, OnErr};
-ghost use Rattle.std.specs.List.{list_any};
+ghost use Rattle.std.specs.Prelude.{◌≡◌, ◌<◌, ◌+◌, ◌/◌, [], ◌∷◌, map, length, Some, Err, IfOk, OnOk, OnErr};
 ghost use Rattle.nm_types.specs.declared.page.Page.{Page};
 ghost use Rattle.nm_types.specs.declared.sight.Sight.TheVariants.{Sees};
 ghost use Rattle.nm_types.specs.Layout.{node_count};
-ghost use Rattle.nm_types.specs.Nodes.{is_in};
 ghost use Rattle.nm_model.specs.definitions.Touch.{Bytes, Done, read, write, site_refusal};
-ghost use Rattle.nm_model.specs.definitions.Run.{total_after, with_counts, run, HasOneAll};
+ghost use Rattle.nm_model.specs.definitions.Run.{total_after, with_counts, run, failures, HasOneAll};
 ghost use Rattle.nm_model.specs.views.Asked.{access_shown};
 ghost use Rattle.nm_memory.specs.views.Accesses.{answer_shown};
 ghost use Rattle.nm_model.specs.definitions.Effect.{new_machine};
@@ -28,10 +26,7 @@ use crate::inner::Inner;
 use crate::laws::interleavings;
 use nm_crew::{Crew, Gate};
 use nm_runs::Run;
-use nm_types::{
-    Access, Errno, FrameId, Geometry, MachineError, NodeId, NodeMask, Page, Pid, Policy, Vpn,
-};
-use process::has_beyond;
+use nm_types::{Access, Geometry, MachineError, NodeMask, Pid};
 use std::alloc::{AllocError, Allocator};
 use std::marker::Model;
 use std::sync::Wait;
@@ -49,7 +44,7 @@ pub struct Totals {
 
 impl Totals {
     /// The totals after this many more moves and failures.
-    fn after(self, moved: u64, failed: u64) -> Self
+    pub(crate) fn after(self, moved: u64, failed: u64) -> Self
         ensures moved { result.moved ≡ total_after self.moved moved }
         ensures failed { result.failed ≡ total_after self.failed failed }
     {
@@ -90,16 +85,7 @@ impl<A: Allocator + Copy + Send + Sync> Machine<A> {
         })
     }
 
-    /// How many nodes the machine has: 1 to 64.
-    pub fn node_count(&self) -> usize
-        ensures count { result ≡ node_count self.now.layout }
-        ensures few { result ≤ 64 }
-        ensures sound { IsSound self.now }
-    {
-        self.inner.frames.geometry().node_count()
-    }
-
-    /// The nodes, their frames, and the distances between nodes (numa(7)).
+    /// The nodes, their frames, and the distances between nodes (numa(7)). Between two calls a machine is sound.
     pub fn geometry(&self) -> &Geometry<A>
         ensures geometry { result.now ≡ self.now.layout }
         ensures sound { IsSound self.now }
@@ -112,20 +98,6 @@ impl<A: Allocator + Copy + Send + Sync> Machine<A> {
         ensures { result ≡ self.now.online }
     {
         self.inner.online
-    }
-
-    /// Whether there is such a node, and it is online.
-    pub fn is_online(&self, node: NodeId) -> bool
-        ensures { result ≡ is_in self.now.online node }
-    {
-        self.online().contains(node)
-    }
-
-    /// Whether a set has a node that the machine does not have.
-    pub fn names_missing_node(&self, nodes: NodeMask) -> bool
-        ensures { result ≡ list_any (nat_le (node_count self.now.layout)) nodes }
-    {
-        has_beyond(nodes, self.node_count())
     }
 
     /// Reads 1 to 4,096 bytes inside one page. Memory never written reads as zeros. The first touch of shared memory
@@ -190,6 +162,7 @@ impl<A: Allocator + Copy + Send + Sync> Machine<A> {
             (λ flown. flown.statuses.items
             ≡ (run self.old requests.now.target requests.now.wanted.items
             (map access_shown accesses.now)).statuses) }
+        ensures failed { IfOk result (λ flown. flown.failed ≡ failures flown.statuses.items) }
         ensures answers { IfOk result
             (λ flown. map answer_shown flown.answers.items ∷ []
             ≡ (run self.old requests.now.target requests.now.wanted.items
@@ -221,9 +194,10 @@ impl<A: Allocator + Copy + Send + Sync> Machine<A> {
         let answers = self
             .inner
             .carry_out(crew, requests.target, moves, accesses, dues, answers);
-        self.inner.end_run(plan.statuses());
+        let failed = self.inner.end_run(plan.statuses());
         Ok(RunAnswer {
             statuses: plan.into_statuses(),
+            failed,
             answers,
         })
     }

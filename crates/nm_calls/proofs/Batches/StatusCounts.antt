@@ -1,7 +1,12 @@
--- How many statuses a run gives, which keeps the nodes.
-use Rattle.std.proofs.Common.{◌≡◌, ℕ, suc, true, false, List, [], ◌∷◌, length, map, Option, Some, None, Result, Ok, Err, refl, ap, ◌∙◌}
+-- How many statuses a run gives, which keeps the nodes, and how many of them are of failed requests.
+use Rattle.std.proofs.Common.{◌≡◌, ℕ, ℤ, suc, Bool, true, false, ◌+◌, ◌≤◌, ◌||◌, List, [], ◌∷◌, ◌++◌, length, length-append, map, Option, Some, None, Result, Ok, Err, refl, sym, ap, ◌∙◌}
 use Rattle.std.specs.Prelude.{◌/◌, ◌%◌, if◌then◌else◌}
+use Rattle.std.specs.List.{filter}
+use Rattle.std.specs.Ordering.{int_eq}
+use Rattle.std.proofs.lemmas.List.Elements.{filter-append}
+use Rattle.std.proofs.lemmas.List.Sums.{length-filter, count_by-le-length}
 use Rattle.nm_types.specs.declared.errno.Errno.{Errno}
+use Rattle.nm_types.specs.declared.errno.Errno.TheVariants.{Ebusy, Enomem}
 use Rattle.nm_types.specs.declared.sight.Sight.{Sight}
 use Rattle.nm_types.specs.declared.sight.Sight.TheVariants.{ZeroPage, Sees}
 use Rattle.nm_types.specs.declared.page.Page.{Page}
@@ -9,12 +14,25 @@ use Rattle.nm_types.specs.State.{State, free_list}
 use Rattle.nm_types.specs.declared.request.Class.{Class}
 use Rattle.nm_types.specs.declared.request.Class.TheVariants.{Status, Move}
 use Rattle.nm_types.specs.declared.request.Wanted.{Wanted}
-use Rattle.nm_model.specs.definitions.Status.{status_or_move}
+use Rattle.nm_model.specs.definitions.Status.{code, status_or_move}
 use Rattle.nm_model.specs.definitions.Seen.{sight_at}
 use Rattle.nm_model.specs.definitions.Touch.{Access, Read, Write, Held, Answered, access, touch, read_after, write_after, with_bytes}
 use Rattle.nm_model.specs.definitions.Touch.{is_held, site_of_access, in_flight, all_in_flight}
 use Rattle.nm_laws.proofs.Early.Seen.{Shows, touch_shows}
-use Rattle.nm_model.specs.definitions.Run.{one_request, each_request, run, decision, moved_page, with_free, with_all_free, frames_left}
+use Rattle.nm_model.specs.definitions.Run.{one_request, each_request, run, decision, moved_page, with_free, with_all_free, frames_left, failures}
+
+-- whether a status is that of a failed request
+abbrev is_failure : ℤ → Bool
+is_failure status = int_eq status (code Ebusy) || int_eq status (code Enomem)
+
+-- the failures of two lists in a row
+pub failures-append : (xs ys : List ℤ) → failures (xs ++ ys) ≡ failures xs + failures ys
+failures-append xs ys =
+    let both = sym (length-filter is_failure (xs ++ ys)) ∙ ap length (filter-append is_failure xs ys) ∙ length-append (filter is_failure xs) (filter is_failure ys) in
+    both ∙ (λ i. length-filter is_failure xs i + length-filter is_failure ys i)
+
+pub failures-le-length : (xs : List ℤ) → failures xs ≤ length xs
+failures-le-length xs = count_by-le-length is_failure xs
 
 each_length : (s : State) (target : ℕ) (ws : List Wanted) → length (each_request s target ws).statuses ≡ length ws
 each_length s target [] = refl

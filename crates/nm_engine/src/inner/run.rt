@@ -12,7 +12,6 @@ ghost use Rattle.nm_model.specs.definitions.BeforeCopy.{with_fronts, frames_take
 ghost use Rattle.nm_memory.specs.views.Accesses.{answer_shown, pending_shown, HasRoom};
 
 use crate::inner::Inner;
-use crate::machine::Totals;
 use nm_crew::{Crew, Gate};
 use nm_memory::{AccessAnswer, PendingAccess};
 use nm_plan::{Plan, Taken, plan};
@@ -104,23 +103,20 @@ impl<A: Allocator + Copy + Send + Sync> Inner<A> {
         answers
     }
 
-    /// Ends a run: its moves and failures are counted, and the frames that its pages left become free.
-    pub(crate) fn end_run(&mut self, statuses: &[i32])
+    /// Ends a run: its moves and failures are counted, and the frames that its pages left become free. Returns the
+    /// number of failures.
+    pub(crate) fn end_run(&mut self, statuses: &[i32]) -> usize
         ensures state { self.new.state
             ≡ with_counts (with_all_free self.old.state self.old.left) (length self.old.left)
             (failures statuses.now) }
         ensures left { self.new.left ≡ [] }
+        ensures failed { result ≡ failures statuses.now }
     {
-        let failed = failures(statuses) as u64;
-        let Totals {
-            moved: before,
-            failed: failed_before,
-        } = self.totals;
+        let failed = failures(statuses);
+        let totals = self.totals;
         let moved = self.frames.free_vacated() as u64;
-        self.totals = Totals {
-            moved: before.saturating_add(moved),
-            failed: failed_before.saturating_add(failed),
-        };
+        self.totals = totals.after(moved, failed as u64);
+        failed
     }
 }
 
@@ -155,7 +151,7 @@ fn classes<
 
 /// How many of these statuses are of failed requests: the page has a pin (EBUSY), or the target has no free frame
 /// (ENOMEM). This is what `pgmigrate_fail` of `/proc/vmstat` counts.
-pub fn failures(statuses: &[i32]) -> usize
+fn failures(statuses: &[i32]) -> usize
     ensures { result ≡ failures statuses.now }
 {
     let pinned = -Errno::Ebusy.number();

@@ -15,7 +15,7 @@ use nm_types::{Errno, MachineError, NodeId, NodeMask, Pid, Vpn};
 use std::alloc::Allocator;
 
 /// Whether a set has a node that is not below a count.
-pub(crate) fn has_beyond(nodes: NodeMask, count: usize) -> bool
+fn has_beyond(nodes: NodeMask, count: usize) -> bool
     requires { count ≤ 64 }
     ensures { result ≡ list_any (nat_le count) nodes }
 {

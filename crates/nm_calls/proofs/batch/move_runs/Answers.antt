@@ -9,7 +9,7 @@ use Rattle.nm_model.specs.definitions.Run.{accesses_of}
 use Rattle.nm_steps.specs.Views.{shown_during}
 use Rattle.std.specs.Map.{keys_of}
 use Rattle.nm_calls.specs.definitions.Batch.{in_order, left_shown}
-use Rattle.nm_calls.proofs.Batches.StatusCounts.{run_length, run_layout}
+use Rattle.nm_calls.proofs.Batches.StatusCounts.{run_length, run_layout, failures-append, failures-le-length}
 use Rattle.nm_calls.proofs.Accesses.Loops.{list_there}
 use Rattle.nm_calls.proofs.Batches.Results.{none_moved}
 use Rattle.nm_calls.proofs.Trails.{states_are}
@@ -33,6 +33,7 @@ loop-k-init g c =
       queues = ap length none;
       places = c.in_ok-told.ensures.capacity;
       nodes = refl;
+      failed = sym (ap failures c.requires.empty);
       made = none_run c.args.machine.now (stretches_of c.args.runs.now) _ (shown_during c.args.during.now) 0 c.args.statuses.items _ refl refl c.requires.empty (ap (map left_shown) none);
     }
 
@@ -49,6 +50,16 @@ unwrap-requires g c =
     let n = ap length c.as_slice-in-loop-k.ensures.value ∙ ap length c.in-Ok.ensures.statuses ∙ run_length c.loop-k.machine asked.target asked.wanted.items (map access_shown c.as_slice.result.now) in
     let left = entries_left _ _ asked (next_left c.args.runs.now c.loop-k.k asked c.loop-k-test.true c.index-runs-k.is) in
     c.extend_from_slice.ensures.succeeds (omega (arith, n, left, c.loop-k.invariant.room))
+
+pub overflow_add-failed : goal.overflow_add-failed
+overflow_add-failed g c =
+    let old = c.loop-k.statuses.items in
+    let new = c.in-Ok.flown.statuses.items in
+    let all = c.extend_from_slice.new.self in
+    let items : all.items ≡ old ++ new = grind (arith, c.extend_from_slice.ensures.items, c.unwrap.ensures, c.as_slice-in-loop-k.ensures.value) in
+    let sum = ap failures items ∙ failures-append old new in
+    let most = failures-le-length all.items in
+    omega (arith, sum, most, all.ok.0, all.ok.1, all.small, c.loop-k.invariant.failed, c.in-Ok.ensures.failed)
 
 pub loop-k-preserved : goal.loop-k-preserved
 loop-k-preserved g c =
@@ -75,6 +86,8 @@ loop-k-preserved g c =
     ap (map left_shown) c.push_reserved.ensures.items ∙ map-append left_shown c.loop-k.told.items (c.into_iter.result ∷ [])
     ∙ ap (λ xs. map left_shown c.loop-k.told.items ++ map answer_shown xs ∷ []) c.into_iter.ensures.rest
     ∙ ap (λ l. map left_shown c.loop-k.told.items ++ l) answers in
+    let failed : c.in-Ok.flown.failed ≡ failures made.statuses = c.in-Ok.ensures.failed ∙ ap failures statuses in
+    let sum = ap failures items ∙ failures-append c.loop-k.statuses.items made.statuses in
     let len = ap length items ∙ length-append c.loop-k.statuses.items made.statuses in
     let count = run_length s asked.target asked.wanted.items own in
     let more = ap length c.push_reserved.ensures.items ∙ length-append c.loop-k.told.items (c.into_iter.result ∷ []) in
@@ -83,6 +96,7 @@ loop-k-preserved g c =
       queues = omega (arith, more, c.loop-k.invariant.queues);
       places = omega (arith, c.push_reserved.ensures.capacity, c.loop-k.invariant.places);
       nodes = ap (λ s. node_count s.layout) state ∙ ap node_count (run_layout s asked.target asked.wanted.items own) ∙ c.loop-k.invariant.nodes;
+      failed = omega (arith, sum, failed, c.loop-k.invariant.failed);
       made = rw state (rw items (rw queues (one_more_run c.args.machine.now (stretches_of runs) (stretches_of (drop c.loop-k.k runs)) during c.loop-k.k s c.loop-k.statuses.items (map left_shown c.loop-k.told.items) (record { target = asked.target; wanted = asked.wanted.items }) (stretches_of (drop (c.loop-k.k + 1) runs)) (ap stretches_of next) c.loop-k.invariant.made)));
     }
 
@@ -92,7 +106,7 @@ returns-clause-moves g c =
     let during = shown_during c.args.during.now in
     let none = drop_all c.loop-k.k runs (omega (arith, c.loop-k-test.false)) in
     let made = all_run c.args.machine.now (stretches_of runs) (stretches_of (drop c.loop-k.k runs)) during c.loop-k.k c.loop-k.machine c.loop-k.statuses.items (map left_shown c.loop-k.told.items) (ap stretches_of none) c.loop-k.invariant.made in
-    (made.0, c.failures.ensures ∙ ap failures (c.as_slice-2.ensures.value ∙ made.0), c.in_order.ensures ∙ ap (in_order (keys_of during)) made.1, made.2)
+    (made.0, c.loop-k.invariant.failed ∙ ap failures made.0, c.in_order.ensures ∙ ap (in_order (keys_of during)) made.1, made.2)
 
 pub returns-in_err-accesses-clause-moves : goal.returns-in_err-accesses-clause-moves
 returns-in_err-accesses-clause-moves g c = none_moved _ _ _ _ c.from_residual.ensures.1

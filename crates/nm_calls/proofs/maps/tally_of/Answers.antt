@@ -25,7 +25,7 @@ loop-page-preserved g c =
     let more : suc k ≡ k + 1 = omega arith in
     let rest = drop-cons all k p low ∙ ap (λ (x : Located). x ∷ drop (suc k) all) (sym c.page-item.is) ∙ ap (λ j. p ∷ drop j all) more in
     let below = subst (λ (q : Located). q.node < node_count s.layout) (sym c.page-item.is) (c.requires.nodes k p low) in
-    let small : p.node < 64 = omega (arith, below, c.node_count.ensures.few, c.node_count.ensures.count) in
+    let small : p.node < 64 = omega (arith, below, c.node_count.ensures.machine.few_nodes, ap node_count c.geometry.ensures.geometry) in
     let placed = subst (λ (q : Located). get page_cmp s.place q.page ≡ Some q.frame) (sym c.page-item.is) (c.requires.placed k p low) in
     let most = c.max-most.ensures ∙ ap (ord_max nat_cmp c.loop-page.most) (c.users_in-users.ensures.users p.page placed) in
     subst (λ (i : ℕ). Counted s all (drop (k + 1) all) (c.loop-page.count + 1) c.max-most.result (slice_set c.loop-page.on i (slice_index_or c.loop-page.on i 0 + 1))) (sym c.index-node.ensures)

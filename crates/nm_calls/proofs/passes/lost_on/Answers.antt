@@ -1,4 +1,5 @@
-use Rattle.std.proofs.Common.{sym, subst, ◌∙◌, arith}
+use Rattle.std.proofs.Common.{sym, ap, subst, ◌∙◌, arith}
+use Rattle.nm_types.specs.Layout.{node_count}
 use Rattle.nm_calls.specs.laws.Full.{AreStanding}
 use Rattle.nm_calls.proofs.NodesOffline.PagesLeft.{all_would_move, standing_if, none_free}
 use Rattle.nm_calls.proofs.passes.lost_on.Goals.{in-Some, in-None}
@@ -17,5 +18,5 @@ returns-clause-lost g c =
       | in-Some w ↦ subst (λ ns. AreStanding s ns ws) (sym w.nodes-is) (standing_if s left.standing w.in-Some.nodes ws c.requires.left.1 w.in-Some.is)
       | in-None w ↦ subst (λ ns. AreStanding s ns ws) (sym w.nodes-is) (subst (AreStanding s w.standing-nodes.result) w.as_slice.ensures.value w.standing-nodes.ensures)
     ] in
-    all_would_move s nodes c.args.node ws (omega (arith, c.requires.node, c.node_count.ensures.count, c.node_count.ensures.few))
+    all_would_move s nodes c.args.node ws (omega (arith, c.requires.node, c.node_count.ensures.machine.few_nodes, ap node_count c.geometry.ensures.geometry))
     (sym c.contains.ensures ∙ c.if-contains.false) are.all (c.requires.left.0 c.if-not-left.false)

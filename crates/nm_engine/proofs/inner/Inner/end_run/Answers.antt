@@ -17,8 +17,8 @@ invariant_of-self g c =
     let k : FramesView = c.self.inside.frames in
     end_kept y.processes (table_of y) (paged_frames y k) c.self.inside.online c.self.inside.totals.moved c.self.inside.totals.failed
     (paged_frames y c.free_vacated-moved.new.self) (length k.vacated) (failures c.args.statuses.now) _ _ (ap (paged_frames y) c.free_vacated-moved.ensures.freed)
-    (c.saturating_add.ensures ∙ ap (λ n. total_after c.self.inside.totals.moved n) c.free_vacated-moved.ensures.count)
-    (c.saturating_add-2.ensures ∙ ap (λ n. total_after c.self.inside.totals.failed n) c.failures-failed.ensures)
+    (c.after-self-inside.ensures.moved ∙ ap (λ n. total_after c.self.inside.totals.moved n) c.free_vacated-moved.ensures.count)
+    (c.after-self-inside.ensures.failed ∙ ap (λ n. total_after c.self.inside.totals.failed n) c.failures-failed.ensures)
     c.self.invariant
 
 pub returns-clause-state : goal.returns-clause-state
@@ -27,8 +27,8 @@ returns-clause-state g c =
     let k : FramesView = c.self.inside.frames in
     end_shows y.processes (table_of y) (paged_frames y k) c.self.inside.online c.self.inside.totals.moved c.self.inside.totals.failed
     (paged_frames y c.free_vacated-moved.new.self) (length k.vacated) (failures c.args.statuses.now) _ _ (ap (paged_frames y) c.free_vacated-moved.ensures.freed)
-    (c.saturating_add.ensures ∙ ap (λ n. total_after c.self.inside.totals.moved n) c.free_vacated-moved.ensures.count)
-    (c.saturating_add-2.ensures ∙ ap (λ n. total_after c.self.inside.totals.failed n) c.failures-failed.ensures)
+    (c.after-self-inside.ensures.moved ∙ ap (λ n. total_after c.self.inside.totals.moved n) c.free_vacated-moved.ensures.count)
+    (c.after-self-inside.ensures.failed ∙ ap (λ n. total_after c.self.inside.totals.failed n) c.failures-failed.ensures)
     ∙ ap (λ (x : MidRun). with_counts (with_all_free x.state x.left) (length x.left) (failures c.args.statuses.now)) c.self.view_is
 
 pub returns-clause-left : goal.returns-clause-left

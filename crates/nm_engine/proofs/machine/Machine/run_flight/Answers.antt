@@ -15,7 +15,7 @@ use Rattle.nm_model.specs.definitions.Touch.{AllAnswered}
 use Rattle.nm_laws.specs.Laws.{with_moves}
 use Rattle.nm_engine.specs.views.MidRun.{MidRun}
 use Rattle.nm_laws.specs.Moves.{CanMove, IsPlanOf}
-use Rattle.nm_model.specs.definitions.Run.{Ran, run}
+use Rattle.nm_model.specs.definitions.Run.{Ran, run, failures}
 use Rattle.nm_model.specs.definitions.Sound.{IsSound}
 use Rattle.nm_model.specs.definitions.Touch.{Access, AccessAnswer}
 use Rattle.nm_laws.proofs.Early.Flown.{run_state, run_answers}
@@ -69,6 +69,9 @@ carry_out-answers-requires-clause-due g c κs within =
     subst (λ (ds : List PendingAccess). AllByRecursion (IsPending (pages_of moves) c.begin.new.self.state) ds) (sym c.in_ok-dues.ensures.dues)
     (subst (λ (x : State). AllByRecursion (IsPending (pages_of moves) x) (touched_all r t moves accesses).dues) (sym c.in_ok-dues.ensures.state) ready.1.due)
 
+pub returns-clause-failed : goal.returns-clause-failed
+returns-clause-failed g c = c.end_run-failed.ensures.failed ∙ ap failures (c.statuses.ensures ∙ sym c.into_statuses.ensures)
+
 pub returns-clause-answers : goal.returns-clause-answers
 returns-clause-answers g c =
     let r = c.reserve.new.self.state in
@@ -97,7 +100,7 @@ returns-clause-state g c =
     let ready = planned_phases r t moves accesses c.args.self.now ws c.in_ok-plan.plan at plan c.moves-moves.ensures c.in_ok-dues.ensures.sound c.requires.target in
     let made : List PendingAccess → State → AllAnswered = λ ds x. all_after_copy (with_moves (with_fronts x t (frames_taken moves)) t moves) ds in
     let early = touched_all r t moves accesses in
-    c.end_run.ensures.state
+    c.end_run-failed.ensures.state
     ∙ run_state r t ws c.in_ok-plan.plan moves accesses (all_after_copy (with_moves (given_back r t moves accesses) t moves) early.dues) ready.0 c.moves-moves.ensures ready.1.flight c.carry_out-answers.new.self.state c.carry_out-answers.new.self.left c.statuses.result.now
     (c.carry_out-answers.ensures.state ∙ ap (λ (x : State). (made (map (pending_shown c.args.accesses.now) c.in_ok-dues.dues.items) x).state) c.in_ok-dues.ensures.state ∙ ap (λ (ds : List PendingAccess). (made ds early.state).state) c.in_ok-dues.ensures.dues)
     c.carry_out-answers.ensures.left c.statuses.ensures
