@@ -1,3 +1,4 @@
+pub mod Ascending
 pub mod FirstPages
 pub mod NoneTwice
 pub mod Pairs

@@ -1,9 +1,10 @@
 //! The pages of a range that are not where its policy wants them.
 
-ghost use Rattle.std.specs.Prelude.{◌≡◌, ◌+◌, ◌-◌, ◌<◌, ◌≤◌, not, [], ◌∷◌, IfOk, IfSome, IfNone, OnErr, None, length};
+ghost use Rattle.std.specs.Prelude.{◌≡◌, ◌+◌, ◌-◌, ◌<◌, ◌≤◌, not, true, [], ◌∷◌, IfOk, IfSome, IfNone, OnErr, None, length};
 ghost use Rattle.std.specs.List.{filter, list_any};
+ghost use Rattle.std.specs.Ordering.{is_lt};
 ghost use Rattle.nm_model.specs.definitions.Order.{follows};
-ghost use Rattle.nm_types.specs.Map.{same_page};
+ghost use Rattle.nm_types.specs.Map.{page_cmp, same_page};
 ghost use Rattle.nm_calls.specs.definitions.Mbind.{strays_between, stray_pages, is_stray};
 ghost use Rattle.nm_calls.specs.definitions.Migrate.{once};
 
@@ -63,6 +64,20 @@ fn strays_among<A: Allocator + Copy>(
         .collect(alloc)
 }
 
+/// Whether a page comes before another.
+fn is_before(page: &Located, next: &Located) -> bool
+    ensures { result ≡ is_lt (page_cmp page.now.page next.now.page) }
+{
+    page.page < next.page
+}
+
+/// Whether each of these pages comes before the next. Then none is there twice.
+fn are_ascending(pages: &[Located]) -> bool
+    ensures { result ≡ true → once (λ l m. same_page l.page m.page) pages.now ≡ pages.now }
+{
+    pages.is_sorted_by(is_before)
+}
+
 /// The pages without repetition, each at its first place. An error means that the host is out of memory; no pages take
 /// none.
 fn once<A: Allocator + Copy>(alloc: A, pages: &[Located]) -> Result<Vec<Located, A>, AllocError>
@@ -99,6 +114,9 @@ pub(crate) fn astray<A: Allocator + Copy + Send + Sync>(
     } = binding;
     let found = machine.pages_between(pid, first, end)?;
     let strays = strays_among(alloc, &policy, found.as_slice())?;
+    if are_ascending(strays.as_slice()) {
+        return Ok(strays);
+    }
     once(alloc, strays.as_slice())
 }
 

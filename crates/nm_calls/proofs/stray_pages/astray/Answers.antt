@@ -1,4 +1,4 @@
-use Rattle.std.proofs.Common.{length, ap, ◌∙◌, arith}
+use Rattle.std.proofs.Common.{length, ap, sym, ◌∙◌, arith}
 use Rattle.std.specs.Prelude.{not}
 use Rattle.std.specs.List.{filter}
 use Rattle.nm_model.specs.definitions.Order.{follows}
@@ -6,15 +6,28 @@ use Rattle.nm_types.specs.declared.located.Located.{Located}
 use Rattle.nm_calls.proofs.Policies.StrayPages.{pages_once, if_listed, few_pass}
 use Rattle.nm_calls.proofs.stray_pages.astray.Goals as goal
 
+pub returns-then-are_ascending-clause-list : goal.returns-then-are_ascending-clause-list
+returns-then-are_ascending-clause-list g c =
+    let test = λ (page : Located). not (follows c.args.binding.policy page.node) in
+    let strays = c.as_slice-2.ensures.value ∙ c.in_ok-strays.ensures ∙ ap (filter test) (c.as_slice.ensures.value ∙ c.in_ok-found.ensures.pages) in
+    sym c.as_slice-2.ensures.value ∙ sym (c.are_ascending.ensures c.if-are_ascending.true) ∙ ap pages_once strays
+
+pub returns-then-are_ascending-clause-few : goal.returns-then-are_ascending-clause-few
+returns-then-are_ascending-clause-few g c =
+    let test = λ (page : Located). not (follows c.args.binding.policy page.node) in
+    let strays = ap length c.in_ok-strays.ensures in
+    let found = ap length c.as_slice.ensures.value in
+    omega (arith, strays, found, few_pass test c.as_slice.result.now, c.in_ok-found.ensures.few)
+
 pub returns-clause-list : goal.returns-clause-list
 returns-clause-list g c =
     let test = λ (page : Located). not (follows c.args.binding.policy page.node) in
-    let strays = c.as_slice-2.ensures.value ∙ c.in_ok-strays.ensures ∙ ap (filter test) (c.as_slice.ensures.value ∙ c.in_ok-found.ensures.pages) in
+    let strays = c.as_slice-3.ensures.value ∙ c.in_ok-strays.ensures ∙ ap (filter test) (c.as_slice.ensures.value ∙ c.in_ok-found.ensures.pages) in
     if_listed c.once.result (λ pages is. is ∙ ap pages_once strays) c.once.ensures.list
 
 pub returns-clause-few : goal.returns-clause-few
 returns-clause-few g c =
     let test = λ (page : Located). not (follows c.args.binding.policy page.node) in
-    let strays = ap length (c.as_slice-2.ensures.value ∙ c.in_ok-strays.ensures) in
+    let strays = ap length (c.as_slice-3.ensures.value ∙ c.in_ok-strays.ensures) in
     let found = ap length c.as_slice.ensures.value in
     if_listed c.once.result (λ pages few. omega (arith, few, strays, found, few_pass test c.as_slice.result.now, c.in_ok-found.ensures.few)) c.once.ensures.few
