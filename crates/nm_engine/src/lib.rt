@@ -5,6 +5,7 @@ mod answers;
 mod inner;
 pub mod laws;
 mod machine;
+mod view;
 
 pub use answers::RunAnswer;
 pub use machine::{Machine, Totals};
