@@ -1,3 +1,4 @@
 pub mod Replied
 pub mod Lines
 pub mod Early
+pub mod Served

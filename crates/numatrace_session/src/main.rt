@@ -11,6 +11,7 @@ ghost use Rattle.std.specs.Prelude.{◌≡◌, ◌⊎◌, ◌||◌, ◌++◌, �
 ghost use Rattle.std.specs.Io.{StopsAt};
 ghost use Rattle.std.specs.Io.BufRead.{take_through, DropsThrough};
 ghost use Rattle.std.specs.Io.KnownBytes.{Consumes, IsAtEnd, Keeps};
+ghost use Rattle.nm_trace.specs.Session.{SessionState, opened};
 ghost use Rattle.std.specs.Io.Buffered.{reader_buffer, reader_remaining};
 ghost use Rattle.nm_steps.specs.declared.trace_error.TraceError.{TraceError};
 ghost use Rattle.numatrace_session.specs.Replies.{bad_step_reply, has_line, EndsEarly, EndsTalk, IsRefused, Replies, RepliesToLines, Talks, Tries, Writes};
@@ -209,25 +210,52 @@ fn talk<T: Threads + Wait + Sync, R: Read, W: FlushingWriter>(
     reply_to_lines(rt, heap, &mut session, input, out)
 }
 
-/// Replies to what is read, and writes all replies, however the session ends.
-fn serve(
-    rt: &(impl Threads + Wait + Sync),
+/// Talks, and then writes the replies that wait, however that ends.
+fn talk_to_end<T: Threads + Wait + Sync, R: Read, W: FlushingWriter>(
+    rt: &T,
     heap: Global,
-    from: impl Read + Drop,
-    to: impl Write + Drop,
-) -> Result<(), End> {
+    input: &mut BufReader<R, Global>,
+    out: &mut W,
+) -> Result<(), End>
+    // On success
+    ensures talk { OnOk result (Talks
+        (reader_remaining R.remaining input.old) (reader_remaining R.remaining input.new)
+        (W.contents out.old) (W.contents out.new)) }
+
+    // On a fault
+    ensures refused { (fault : TraceError) → result ≡ Err (End.BadTop fault) → IsRefused
+        (reader_remaining R.remaining input.old) (reader_remaining R.remaining input.new)
+        (W.contents out.old) (W.contents out.new) fault }
+
+    // In any case
+    ensures flushed { (result ≡ Err End.Stream) ⊎ W.is_flushed out.new }
+{
+    let ended = talk(rt, heap, input, out);
+    let Ok(()) = out.flush_telling() else {
+        return Err(End::Stream);
+    };
+    ended
+}
+
+/// Replies to what is read, through buffers.
+fn serve<T: Threads + Wait + Sync, R: Read + Drop, W: Write + Drop>(
+    rt: &T,
+    heap: Global,
+    from: R,
+    to: W,
+) -> Result<(), End>
+    ensures begun { OnOk result (IfSome (R.remaining from) (λ bytes.
+        (s : SessionState) × (opened (take_through 10 bytes) ≡ Ok s))) }
+    ensures refused { (fault : TraceError) → result ≡ Err (End.BadTop fault) →
+        IfSome (R.remaining from) (λ bytes. opened (take_through 10 bytes) ≡ Err fault) }
+{
     let Ok(mut input) = BufReader::new(heap, from) else {
         return Err(End::HostMemory);
     };
     let Ok(out) = BufWriter::new(heap, to) else {
         return Err(End::HostMemory);
     };
-    let mut out = Watched::new(out);
-    let ended = talk(rt, heap, &mut input, &mut out);
-    if out.flush().is_err() {
-        return Err(End::Stream);
-    }
-    ended
+    talk_to_end(rt, heap, &mut input, &mut Watched::new(out))
 }
 
 fn main(rt: HostRuntime) -> ExitCode {

@@ -40,7 +40,7 @@ returns-in_err-reply-clause-early g c =
     let line = c.next_line.new.line.items in
     let t = c.loop.session in
     let made = subst (λ (x : List ℕ). Replies t c.reply.new.session x (g.W.Write.contents c.loop.out) (g.W.Write.contents c.reply.new.out) (g.W.TellingWriter.has_failed c.loop.out) (g.W.TellingWriter.has_failed c.reply.new.out) (Err c.in_err-reply.field-0.0))
-        c.as_slice.ensures.value c.in_err-reply.ensures in
+    c.as_slice.ensures.value c.in_err-reply.ensures in
     if_err (λ e. EndsEarly e c.args.session.now (reader_remaining g.R.Read.remaining c.args.input.now) (reader_remaining g.R.Read.remaining c.next_line.new.input) (g.W.Write.contents c.args.out.now) (g.W.Write.contents c.reply.new.out) (g.W.TellingWriter.has_failed c.args.out.now) (g.W.TellingWriter.has_failed c.reply.new.out))
     c.in_err-reply.field-0.0 c.from_residual-in_err-reply.result is
     (unreplied c.args.session.now t c.reply.new.session _ (reader_remaining g.R.Read.remaining c.loop.input) (reader_remaining g.R.Read.remaining c.next_line.new.input) _ (g.W.Write.contents c.loop.out) _ _ (g.W.TellingWriter.has_failed c.loop.out) _ line c.in_err-reply.field-0.0

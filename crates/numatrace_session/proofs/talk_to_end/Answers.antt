@@ -1,0 +1,13 @@
+use Rattle.std.specs.Io.Buffered.{reader_remaining}
+use Rattle.numatrace_session.proofs.Served.{refused_kept, talks_kept}
+use Rattle.numatrace_session.proofs.talk_to_end.Goals as goal
+
+pub returns-clause-talk : goal.returns-clause-talk
+returns-clause-talk g c =
+    talks_kept (reader_remaining g.R.Read.remaining c.args.input.now) (reader_remaining g.R.Read.remaining c.talk-ended.new.input) (g.W.Write.contents c.args.out.now) (g.W.Write.contents c.talk-ended.new.out) (g.W.Write.contents c.flush_telling.new.self)
+    c.talk-ended.result c.talk-ended.ensures.talk c.in-Ok.ensures.bytes
+
+pub returns-clause-refused : goal.returns-clause-refused
+returns-clause-refused g c = λ fault is.
+    refused_kept (reader_remaining g.R.Read.remaining c.args.input.now) (reader_remaining g.R.Read.remaining c.talk-ended.new.input) (g.W.Write.contents c.args.out.now) (g.W.Write.contents c.talk-ended.new.out) (g.W.Write.contents c.flush_telling.new.self)
+    fault (c.talk-ended.ensures.refused fault is) c.in-Ok.ensures.bytes
