@@ -1,6 +1,6 @@
 -- What is served through buffers.
-use Rattle.std.proofs.Common.{◌≡◌, ℕ, List, [], ◌∷◌, Option, Some, None, IfSome, Result, Ok, Err, refl, sym, ap, ◌∙◌}
-use Rattle.std.specs.Prelude.{OnOk}
+use Rattle.std.proofs.Common.{◌≡◌, ℕ, Bool, List, [], ◌∷◌, Option, Some, None, IfSome, Result, Ok, Err, refl, sym, ap, subst, ◌∙◌, inl, inr}
+use Rattle.std.specs.Prelude.{IfErr, OnOk}
 use Rattle.std.specs.Io.BufRead.{take_through}
 use Rattle.std.specs.Io.Buffered.{reader_buffer, reader_capacity, reader_inner, reader_remaining}
 use Rattle.std.specs.Io.KnownBytes.{Keeps, prepend_known}
@@ -8,7 +8,9 @@ use Rattle.std.specs.declared.io.buffered.BufReader.{BufReader}
 use Rattle.nm_steps.specs.declared.trace_error.TraceError.{TraceError}
 use Rattle.nm_trace.specs.Session.{SessionState, opened}
 use Rattle.nm_trace.proofs.Known.{appends_kept}
-use Rattle.numatrace_session.specs.Replies.{replies_to, IsRefused, ReadsLines, Talks}
+use Rattle.numatrace_session.specs.declared.End.{End}
+use Rattle.numatrace_session.specs.declared.End.TheVariants.{HostMemory}
+use Rattle.numatrace_session.specs.Replies.{replies_to, EndsTalk, IsRefused, ReadsLines, Talks}
 
 -- what was written stays
 pub talks_kept : {X E : Type 0} (a b old new newer : Option (List ℕ)) (result : Result X E) → OnOk result (Talks a b old new) → Keeps new newer → OnOk result (Talks a b old newer)
@@ -17,6 +19,20 @@ talks_kept a b old new newer (Err e) h kept = tt
 
 pub refused_kept : (a b old new newer : Option (List ℕ)) (fault : TraceError) → IsRefused a b old new fault → Keeps new newer → IsRefused a b old newer fault
 refused_kept a b old new newer fault h kept = (h.0, h.1, h.2, appends_kept old new newer [] h.3 kept)
+
+ends_kept : (a b old new newer : Option (List ℕ)) (failed mid fails : Bool) → EndsTalk HostMemory a b old new failed mid → Keeps new newer → fails ≡ mid
+    → EndsTalk HostMemory a b old newer failed fails
+ends_kept a b old new newer failed mid fails (inl h) kept same = inl (appends_kept old new newer [] h.0 kept, same ∙ h.1)
+ends_kept a b old new newer failed mid fails (inr h) kept same =
+    let early = h.5 in
+    inr (h.0, h.1, h.2, h.3, h.4, (early.0, early.1, early.2, appends_kept old new newer (replies_to h.1 early.0) early.3 kept, same ∙ early.4))
+
+-- .. also where memory was refused
+pub memory_kept : {X : Type 0} (a b old new newer : Option (List ℕ)) (failed mid fails : Bool) (result : Result X End)
+    → IfErr result (λ e. EndsTalk e a b old new failed mid) → result ≡ Err HostMemory → Keeps new newer → fails ≡ mid
+    → EndsTalk HostMemory a b old newer failed fails
+memory_kept a b old new newer failed mid fails result h is kept same =
+    ends_kept a b old new newer failed mid fails (subst (λ r. IfErr r (λ e. EndsTalk e a b old new failed mid)) is h) kept same
 
 -- ---- the first line
 

@@ -221,11 +221,16 @@ fn talk_to_end<T: Threads + Wait + Sync, R: Read, W: FlushingWriter>(
     ensures talk { OnOk result (Talks
         (reader_remaining R.remaining input.old) (reader_remaining R.remaining input.new)
         (W.contents out.old) (W.contents out.new)) }
+    ensures end { OnOk result (IfSome (reader_remaining R.remaining input.old)
+        (λ _. IsAtEnd (reader_remaining R.remaining input.new))) }
 
     // On a fault
     ensures refused { (fault : TraceError) → result ≡ Err (End.BadTop fault) → IsRefused
         (reader_remaining R.remaining input.old) (reader_remaining R.remaining input.new)
         (W.contents out.old) (W.contents out.new) fault }
+    ensures memory { result ≡ Err End.HostMemory → EndsTalk End.HostMemory
+        (reader_remaining R.remaining input.old) (reader_remaining R.remaining input.new)
+        (W.contents out.old) (W.contents out.new) (W.has_failed out.old) (W.has_failed out.new) }
 
     // In any case
     ensures flushed { (result ≡ Err End.Stream) ⊎ W.is_flushed out.new }

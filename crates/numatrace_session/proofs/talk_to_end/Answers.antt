@@ -1,5 +1,5 @@
 use Rattle.std.specs.Io.Buffered.{reader_remaining}
-use Rattle.numatrace_session.proofs.Served.{refused_kept, talks_kept}
+use Rattle.numatrace_session.proofs.Served.{memory_kept, refused_kept, talks_kept}
 use Rattle.numatrace_session.proofs.talk_to_end.Goals as goal
 
 pub returns-clause-talk : goal.returns-clause-talk
@@ -11,3 +11,8 @@ pub returns-clause-refused : goal.returns-clause-refused
 returns-clause-refused g c = λ fault is.
     refused_kept (reader_remaining g.R.Read.remaining c.args.input.now) (reader_remaining g.R.Read.remaining c.talk-ended.new.input) (g.W.Write.contents c.args.out.now) (g.W.Write.contents c.talk-ended.new.out) (g.W.Write.contents c.flush_telling.new.self)
     fault (c.talk-ended.ensures.refused fault is) c.in-Ok.ensures.bytes
+
+pub returns-clause-memory : goal.returns-clause-memory
+returns-clause-memory g c = λ is.
+    memory_kept (reader_remaining g.R.Read.remaining c.args.input.now) (reader_remaining g.R.Read.remaining c.talk-ended.new.input) (g.W.Write.contents c.args.out.now) (g.W.Write.contents c.talk-ended.new.out) (g.W.Write.contents c.flush_telling.new.self)
+    _ _ _ c.talk-ended.result c.talk-ended.ensures.early is c.in-Ok.ensures.bytes c.in-Ok.ensures.failed
