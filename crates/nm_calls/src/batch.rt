@@ -3,15 +3,13 @@
 
 #![tactic(auto, using(crate::proofs::Trails::first_state))]
 
-ghost use Rattle.std.specs.Prelude.{◌≡◌, ◌+◌, ◌<◌, ◌≤◌, ◌/◌, [], All, EachIndex, IfOk, OnErr, OnOk, length, slice_index, vec_capacity, map};
+ghost use Rattle.std.specs.Prelude.{◌≡◌, ◌+◌, ◌<◌, ◌≤◌, [], All, EachIndex, IfOk, OnErr, OnOk, length, slice_index, vec_capacity, map};
 ghost use Rattle.std.specs.List.{sum_by};
 ghost use Rattle.nm_types.specs.Layout.{node_count};
-ghost use Rattle.nm_types.specs.declared.request.Wanted.TheVariants.{At};
 ghost use Rattle.nm_runs.specs.Stretches.{stretches_of};
-ghost use Rattle.nm_model.specs.definitions.Cut.{cut_within, run_count};
+ghost use Rattle.nm_model.specs.definitions.Cut.{cut_within, requests_of, run_count};
 ghost use Rattle.nm_runs.specs.Targets.{first_refusal, Checks};
 ghost use Rattle.nm_model.specs.definitions.Run.{HasOneAll};
-ghost use Rattle.nm_calls.specs.definitions.Batch.{requests_of};
 ghost use Rattle.nm_calls.specs.definitions.Does.{Moves};
 ghost use Rattle.nm_steps.specs.Views.{shown_during};
 ghost use Rattle.std.specs.Map.{keys_of};
@@ -24,9 +22,9 @@ use crate::call_error::CallError;
 use crate::permission::Permit;
 use nm_crew::{Crew, Gate};
 use nm_engine::{AccessAnswer, Machine};
-use nm_runs::{Request, Run, Wanted, check_batch, cut_within};
+use nm_runs::{Run, check_batch, cut_pages};
 use nm_steps::{Batch, InFlight, MoveRequest};
-use nm_types::{Access, Errno, NodeId, NodeMask, Pid, Vpn};
+use nm_types::{Access, Errno, NodeMask};
 use std::alloc::{AllocError, Allocator};
 use std::sync::Wait;
 use std::thread::Threads;
@@ -47,34 +45,6 @@ pub(crate) fn check_targets<A: Allocator + Copy + Send + Sync>(
 {
     let count = machine.geometry().node_count();
     check_batch(count, machine.online(), allowed, nodes)
-}
-
-/// The request for the page at an address of a process.
-fn request_of(pid: Pid, all: bool, address: u64, node: u32) -> Request
-    ensures { result ≡ record { target = node; wanted = At pid (address / 4096) all } }
-{
-    let vpn = Vpn::of_address(address);
-    Request {
-        target: NodeId::new(node),
-        wanted: Wanted::At { pid, vpn, all },
-    }
-}
-
-/// The requests for some addresses of a process, each with the node at the same index.
-fn requests_of<A: Allocator + Copy + Send + Sync>(
-    alloc: A,
-    pid: Pid,
-    all: bool,
-    pages: &[u64],
-    nodes: &[u32],
-) -> Result<Vec<Request, A>, AllocError>
-    ensures { IfOk result (λ requests. requests.items ≡ requests_of pid all pages.now nodes.now) }
-{
-    pages
-        .iter()
-        .zip(nodes)
-        .map(|(address, node)| request_of(pid, all, *address, *node))
-        .collect(alloc)
 }
 
 /// How many runs a batch of pages for these nodes has under a limit of at least 1 entry in each run. Does not allocate.
@@ -169,8 +139,7 @@ pub(crate) fn move_batch<
             answers: Vec::new(alloc),
         });
     }
-    let requests = requests_of(alloc, permit.pid, permit.all, pages, nodes)?;
-    let runs = cut_within(alloc, requests.as_slice(), limit)?;
+    let runs = cut_pages(alloc, permit.pid, permit.all, pages, nodes, limit)?;
     let statuses = Vec::with_capacity(alloc, pages.len())?;
     let runs = runs.as_slice();
     move_runs(crew, alloc, machine, runs, during, statuses)

@@ -9,7 +9,7 @@ use Rattle.std.specs.List.{take_while}
 use Rattle.nm_types.specs.declared.request.Wanted.{Wanted}
 use Rattle.nm_types.specs.declared.request.Wanted.TheVariants.{Whole}
 use Rattle.nm_model.specs.definitions.Cut.{Request, Stretch, in_front, cut, wanted_of, first_target, same_front, IsFirst}
-use Rattle.nm_model.specs.definitions.Cut.{for_nodes}
+use Rattle.nm_model.specs.definitions.Cut.{for_nodes, targets_of}
 
 -- how many at the front name this node
 abbrev front : ℕ → List Request → ℕ
@@ -71,6 +71,22 @@ first_stretch (e ∷ es) target wanted some ht hw =
 pub first_is : (es : List Request) (e : Request) → 0 < length es → (slice_index_or es 0 e).target ≡ first_target es
 first_is [] e some = grind arith
 first_is (f ∷ es) e some = refl
+
+by_target : (t : ℕ) (e : Request) (es : List Request) (b : Bool) → length (take_while (λ m. m == t) (targets_of es)) ≡ front t es
+    → length (cond b (e.target ∷ take_while (λ m. m == t) (targets_of es)) []) ≡ length (cond b (e ∷ take_while (λ (f : Request). f.target == t) es) [])
+by_target t e es true h = ap suc h
+by_target t e es false h = refl
+
+-- the requests at the front that name a node are as many as the nodes at the front that are this one
+front_of_targets : (t : ℕ) (es : List Request) → length (take_while (λ n. n == t) (targets_of es)) ≡ front t es
+front_of_targets t [] = refl
+front_of_targets t (e ∷ es) =
+    let right = take_while-cons (λ (f : Request). f.target == t) e es in
+    ap length (take_while-cons (λ m. m == t) e.target (targets_of es)) ∙ by_target t e es (e.target == t) (front_of_targets t es) ∙ sym (ap length right)
+
+pub same_targets : (es : List Request) → 0 < length es → length (take_while (λ n. n == slice_index (targets_of es) 0) (targets_of es)) ≡ same_front es
+same_targets [] some = let z : ⊥ = omega (arith, some) in absurd z
+same_targets (e ∷ es) some = front_of_targets e.target (e ∷ es)
 
 -- a request for a node
 abbrev no_page : Wanted

@@ -1,8 +1,9 @@
 //! What to do with each request of a run, from a look at what it names.
 
-ghost use Rattle.std.specs.Prelude.{◌≡◌, ◌<◌, ◌^◌, length, map, IfOk, OnErr};
+ghost use Rattle.std.specs.Prelude.{◌≡◌, ◌<◌, ◌^◌, length, map, IfOk, IfSome, IfNone, Some, OnErr};
 ghost use Rattle.nm_types.specs.Layout.{frame_count};
 ghost use Rattle.nm_model.specs.definitions.Status.{class_of_look};
+ghost use Rattle.nm_types.specs.declared.request.Class.{Class};
 ghost use Rattle.nm_runs.specs.Shown.{class_shown, HasFrameBelow, ShowsItsFrames};
 
 use crate::{Class, Run, Wanted};
@@ -66,6 +67,41 @@ fn class_of<A: Allocator + Copy, V: PageView>(
     }
 }
 
+/// What to do with a request, if it is the one that was looked up last.
+fn known_class(last: &Option<(Wanted, Class)>, wanted: &Wanted) -> Option<Class>
+    ensures same { IfSome result (λ class. last.now ≡ Some (wanted.now, class)) }
+    ensures other { IfNone result ((class : Class) → last.now ≡ Some (wanted.now, class) → ⊥) }
+{
+    match last {
+        Some((request, class)) => { if request == wanted { Some(*class) } else { None } }
+        None => None,
+    }
+}
+
+/// A request and what to do with it. `last` is the same of the request before: what is asked again is not looked up
+/// again.
+fn classified<A: Allocator + Copy, V: PageView>(
+    geometry: &Geometry<A>,
+    view: &V,
+    target: NodeId,
+    wanted: &Wanted,
+    last: &Option<(Wanted, Class)>,
+) -> (Wanted, Class)
+    requires target { target < 2 ^ 31 }
+    requires frames { ShowsItsFrames geometry.now (V.seen_at view.now) (V.placed_at view.now) }
+    requires last { IfSome last.now
+        (λ l. l.1
+        ≡ class_shown geometry.now (V.seen_at view.now) (V.placed_at view.now) target l.0) }
+    ensures wanted { result.0 ≡ wanted.now }
+    ensures class { result.1
+        ≡ class_shown geometry.now (V.seen_at view.now) (V.placed_at view.now) target wanted.now }
+{
+    match known_class(last, wanted) {
+        Some(class) => (*wanted, class),
+        None => (*wanted, class_of(geometry, view, target, *wanted)),
+    }
+}
+
 /// What to do with each request of a run, in order, from a look at what it names. The view must show frames of this
 /// machine only. Looks on the calling thread. An error means that the host is out of memory; a run without requests takes
 /// none. The target's number is also used as a status, so it must be below 2^31.
@@ -85,8 +121,11 @@ pub fn classify_here<A: Allocator + Copy, V: PageView>(
     ensures asked { OnErr result (0 < length run.now.wanted.items) }
 {
     let mut classes = Vec::with_capacity(alloc, run.wanted.len())?;
+    let mut last = None;
     for wanted in &run.wanted {
-        classes.push_reserved(class_of(geometry, view, run.target, *wanted));
+        let found = classified(geometry, view, run.target, wanted, &last);
+        classes.push_reserved(found.1);
+        last = Some(found);
     }
     Ok(classes)
 }

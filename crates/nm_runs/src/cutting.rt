@@ -1,12 +1,14 @@
 //! Cutting a batch of requests into runs.
 
-ghost use Rattle.std.specs.Prelude.{◌≡◌, ◌<◌, ◌≤◌, ◌==◌, IfOk, OnErr, length, slice_index};
+ghost use Rattle.std.specs.Prelude.{◌≡◌, ◌<◌, ◌≤◌, ◌==◌, ◌/◌, IfOk, OnErr, length, map, slice_index};
 ghost use Rattle.std.specs.List.{take_while};
 ghost use Rattle.nm_model.specs.definitions.Cut.{cut, wanted_of, same_front, IsFirst};
 ghost use Rattle.nm_runs.specs.Stretches.{stretches_of};
-ghost use Rattle.nm_model.specs.definitions.Cut.{cut_within, run_count};
+ghost use Rattle.nm_model.specs.definitions.Cut.{cut_within, requests_of, run_count};
+ghost use Rattle.nm_types.specs.declared.request.Wanted.TheVariants.{At};
 
 use crate::{Request, Run, Wanted};
+use nm_types::{NodeId, Pid, Vpn};
 use std::alloc::{AllocError, Allocator};
 
 /// How many requests at the front are for the same node as the first.
@@ -114,4 +116,77 @@ pub fn run_count(nodes: &[u32], limit: usize) -> usize
         count += 1;
     }
     count
+}
+
+/// What is asked of the pages at these addresses of a process. An error means that the host is out of memory.
+fn wanted_at<A: Allocator + Copy>(
+    alloc: A,
+    pid: Pid,
+    all: bool,
+    addresses: &[u64],
+) -> Result<Vec<Wanted, A>, AllocError>
+    ensures { IfOk result (λ wanted. wanted.items ≡ map (λ a. At pid (a / 4096) all) addresses.now) }
+{
+    addresses
+        .iter()
+        .map(|address| Wanted::At {
+            pid,
+            vpn: Vpn::of_address(*address),
+            all,
+        })
+        .collect(alloc)
+}
+
+/// The run at the front of a batch of pages, each with the node at the same index: its longest stretch for one node.
+fn first_pages<A: Allocator + Copy>(
+    alloc: A,
+    pid: Pid,
+    all: bool,
+    pages: &[u64],
+    nodes: &[u32],
+) -> Result<Run<A>, AllocError>
+    requires paired { length pages.now ≡ length nodes.now }
+    requires some { 0 < length nodes.now }
+
+    // On success
+    ensures some { IfOk result (λ run. 0 < length run.wanted.items) }
+    ensures within { IfOk result (λ run. length run.wanted.items ≤ length nodes.now) }
+    ensures first { IfOk result
+        (λ run. IsFirst (requests_of pid all pages.now nodes.now) run.target run.wanted.items) }
+{
+    let count = same_nodes(nodes);
+    Ok(Run {
+        target: NodeId::new(nodes[0]),
+        wanted: wanted_at(alloc, pid, all, &pages[..count])?,
+    })
+}
+
+/// The runs of a batch of pages of a process under a limit of at least 1, as `cut_within` cuts their requests. The pages
+/// are named by an address in each, and each goes to the node at the same index. An error means that the host is out of
+/// memory; no pages take none.
+pub fn cut_pages<A: Allocator + Copy>(
+    alloc: A,
+    pid: Pid,
+    all: bool,
+    pages: &[u64],
+    nodes: &[u32],
+    limit: usize,
+) -> Result<Vec<Run<A>, A>, AllocError>
+    requires paired { length pages.now ≡ length nodes.now }
+    requires some { 0 < limit }
+    ensures runs { IfOk result
+        (λ runs. stretches_of runs.items ≡ cut_within limit (requests_of pid all pages.now nodes.now)) }
+    ensures asked { OnErr result (0 < length nodes.now) }
+{
+    let mut cut = Vec::new(alloc);
+    let mut done = 0;
+    while done < nodes.len() {
+        let (_, targets) = nodes.split_at(done);
+        let (_, addresses) = pages.split_at(done);
+        let most = targets.len().min(limit);
+        let next = first_pages(alloc, pid, all, &addresses[..most], &targets[..most])?;
+        done += next.wanted.len();
+        cut.push(next)?;
+    }
+    Ok(cut)
 }

@@ -1,7 +1,7 @@
 ghost use Rattle.std.specs.Prelude.{◌≡◌, IfOk};
 ghost use Rattle.nm_types.specs.Layout.{frame_count};
 
-use crate::{Class, Request, Run, Wanted, check_batch, classify, cut, cut_within, laws, run_count};
+use crate::{Class, Request, Run, Wanted, check_batch, classify, cut, cut_pages, cut_within, laws, run_count};
 use nm_types::{Errno, FrameId, Geometry, NodeId, NodeMask, Page, PageView, Pid, Seen, Vpn};
 use std::alloc::{AllocError, Global};
 use std::process::Abort;
@@ -84,6 +84,22 @@ fn cuts_within_a_limit(rt: HostRuntime) -> Result<(), Fail> {
         let made = runs_within(&rt, alloc, targets, limit)?;
         assert!(rt; made.as_slice() == want, "under {limit}");
     }
+    Ok(())
+}
+
+#[test]
+fn pages_are_cut_by_their_nodes(rt: HostRuntime) -> Result<(), Fail> {
+    let alloc = rt.alloc();
+    let pid = Pid::new(7);
+    let pages = [0x1000, 0x2fff, 0x3000];
+    let runs = cut_pages(alloc, pid, true, pages.as_slice(), &[1, 1, 0], 2)?;
+    assert!(rt; told(alloc, runs.as_slice())?.as_slice() == [(1, 2), (0, 1)]);
+    let second = Wanted::At {
+        pid,
+        vpn: Vpn::new(2),
+        all: true,
+    };
+    assert!(rt; runs[0].wanted[1] == second);
     Ok(())
 }
 

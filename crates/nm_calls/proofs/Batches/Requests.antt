@@ -8,11 +8,10 @@ use Rattle.nm_runs.specs.declared.Run.{Run}
 use Rattle.nm_types.specs.declared.request.Wanted.{Wanted}
 use Rattle.nm_model.specs.definitions.Cut.{Request, Stretch, all_to, joined, size_of, wanted_of}
 use Rattle.nm_runs.specs.Stretches.{stretches_of}
-use Rattle.nm_model.specs.definitions.Cut.{cut_within}
+use Rattle.nm_model.specs.definitions.Cut.{cut_within, requests_of}
 use Rattle.nm_runs.proofs.Pieces.{each_limit_cuts}
 use Rattle.nm_model.specs.definitions.Run.{IsByAddress, IsByPage, HasOneAll}
 use Rattle.nm_engine.proofs.Runs.AlikeRequests.{each_has_one_all}
-use Rattle.nm_calls.specs.definitions.Batch.{requests_of}
 
 -- what holds of each request of a run
 abbrev OfRun : (Request → Type 0) → Stretch → Type 0

@@ -1,11 +1,8 @@
--- Batches of pages to move: what is refused, what is requested, and which accesses are made meanwhile.
-use Rattle.std.specs.Prelude.{ℕ, ◌/◌, Bool, List, map, Option, option_and_then}
-use Rattle.std.specs.List.{zip}
+-- Batches of pages to move: what is refused, and which accesses are made meanwhile.
+use Rattle.std.specs.Prelude.{ℕ, List, map, Option, option_and_then}
 use Rattle.nm_types.specs.declared.errno.Errno.{Errno}
 use Rattle.nm_types.specs.Layout.{node_count}
 use Rattle.nm_types.specs.State.{State}
-use Rattle.nm_types.specs.declared.request.Wanted.TheVariants.{At}
-use Rattle.nm_model.specs.definitions.Cut.{Request}
 use Rattle.nm_runs.specs.Targets.{earlier, first_refusal}
 use Rattle.nm_calls.specs.definitions.Permission.{owner_of, allowed_at, query_refusal}
 use Rattle.std.specs.Prelude.{◌≡◌, ◌<◌, ◌==◌, count_by, [], ◌∷◌, ◌++◌, take, drop, length, slice_index_or, slice_set, Vec}
@@ -22,11 +19,6 @@ abbrev pub move_refusal : State → ℕ → ℕ → List ℕ → ℕ → Option 
 move_refusal s caller pid nodes flags =
     let of_nodes = λ (allowed : List ℕ). first_refusal (node_count s.layout) s.online allowed nodes in
     earlier (query_refusal s caller pid flags) (option_and_then of_nodes (allowed_at s (owner_of caller pid)))
-
--- the requests of a batch: each address of the process, with the node at the same index
-abbrev pub requests_of : ℕ → Bool → List ℕ → List ℕ → List Request
-requests_of pid all addresses nodes =
-    map (λ e. record { target = e.1; wanted = At pid (e.0 / 4096) all }) (zip addresses nodes)
 
 -- the list at an index, or an empty list if there is none
 abbrev pub list_at : {X : Type 0} → List (List X) → ℕ → List X

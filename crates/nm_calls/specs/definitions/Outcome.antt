@@ -5,7 +5,7 @@ use Rattle.std.specs.Option.{is_some}
 use Rattle.nm_types.specs.declared.errno.Errno.{Errno}
 use Rattle.nm_types.specs.State.{State, free_list}
 use Rattle.nm_model.specs.definitions.Cut.{Stretch}
-use Rattle.nm_model.specs.definitions.Cut.{cut_within}
+use Rattle.nm_model.specs.definitions.Cut.{cut_within, requests_of}
 use Rattle.nm_model.specs.definitions.Touch.{Access, read, write, site_refusal}
 use Rattle.nm_model.specs.definitions.Touch as engine
 use Rattle.nm_model.specs.definitions.Effect.{set_online, spawn, map_new, attach, unmap, exit, pin, unpin}
@@ -20,7 +20,7 @@ use Rattle.nm_calls.specs.definitions.Entries.{entries_shown}
 use Rattle.nm_calls.specs.definitions.Maps.{numa_maps}
 use Rattle.nm_calls.specs.definitions.Permission.{query_refusal, moves_all, owner_of}
 use Rattle.nm_types.specs.declared.errno.Errno.TheVariants.{Eio, Ebusy}
-use Rattle.nm_calls.specs.definitions.Batch.{move_refusal, requests_of}
+use Rattle.nm_calls.specs.definitions.Batch.{move_refusal}
 use Rattle.nm_calls.specs.definitions.Batch.{in_order}
 use Rattle.nm_calls.specs.definitions.Migrate.{migrate_refusal, migration}
 use Rattle.nm_calls.specs.definitions.Mbind.{mbind_refusal, policed, binding, mbind_runs, has_stray, tells_late}

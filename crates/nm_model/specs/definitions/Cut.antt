@@ -1,13 +1,18 @@
 -- A batch as a list of runs.
-use Rattle.std.specs.Prelude.{◌≡◌, ◌≢◌, ℕ, ◌<◌, ◌==◌, List, [], ◌∷◌, map, length, drop, if◌then◌else◌, zero, suc, ◌≤◌, ◌^◌, take}
-use Rattle.std.specs.List.{AllByRecursion, flat_map, take_while}
+use Rattle.std.specs.Prelude.{◌≡◌, ◌≢◌, ℕ, ◌<◌, ◌/◌, ◌==◌, Bool, List, [], ◌∷◌, map, length, drop, if◌then◌else◌, zero, suc, ◌≤◌, ◌^◌, take}
+use Rattle.std.specs.List.{AllByRecursion, flat_map, take_while, zip}
 use Rattle.nm_types.specs.declared.request.Wanted.{Wanted}
 use Rattle.nm_types.specs.declared.request.Request as declared
-use Rattle.nm_types.specs.declared.request.Wanted.TheVariants.{Whole}
+use Rattle.nm_types.specs.declared.request.Wanted.TheVariants.{At, Whole}
 
 -- a request of a batch, with the node that it names
 abbrev pub Request : Type 0
 Request = declared.Request
+
+-- the requests of a batch: each address of the process, with the node at the same index
+abbrev pub requests_of : ℕ → Bool → List ℕ → List ℕ → List Request
+requests_of pid all addresses nodes =
+    map (λ e. record { target = e.1; wanted = At pid (e.0 / 4096) all }) (zip addresses nodes)
 
 -- the target and the requests of a run
 pub record Stretch : Type 0 where

@@ -12,11 +12,15 @@ map_push f xs i x ys zs y lt is e h push =
 pub loop-wanted-init : goal.loop-wanted-init
 loop-wanted-init g c = record {
   classes = c.in_ok-classes.ensures.items;
+  last = tt;
   room = omega (arith, c.in_ok-classes.ensures.len, c.in_ok-classes.ensures.capacity);
 }
 
-pub class_of-requires-clause-frames : goal.class_of-requires-clause-frames
-class_of-requires-clause-frames g c = c.requires.frames
+pub classified-found-requires-clause-frames : goal.classified-found-requires-clause-frames
+classified-found-requires-clause-frames g c = c.requires.frames
+
+pub classified-found-requires-clause-last : goal.classified-found-requires-clause-last
+classified-found-requires-clause-last g c = c.loop-wanted.invariant.last
 
 pub push_reserved-requires : goal.push_reserved-requires
 push_reserved-requires g c =
@@ -35,7 +39,8 @@ loop-wanted-preserved g c =
     record {
       classes =
           map_push (class_shown c.args.geometry.now (g.V.PageView.seen_at c.args.view.now) (g.V.PageView.placed_at c.args.view.now) c.args.run.now.target) items i c.wanted-item.result
-          c.loop-wanted.classes.items c.push_reserved.new.self.items c.class_of.result c.loop-wanted-test.true c.wanted-item.is c.class_of.ensures c.loop-wanted.invariant.classes c.push_reserved.ensures.items;
+          c.loop-wanted.classes.items c.push_reserved.new.self.items c.classified-found.result.1 c.loop-wanted-test.true c.wanted-item.is c.classified-found.ensures.class c.loop-wanted.invariant.classes c.push_reserved.ensures.items;
+      last = c.classified-found.ensures.class ∙ ap (class_shown c.args.geometry.now (g.V.PageView.seen_at c.args.view.now) (g.V.PageView.placed_at c.args.view.now) c.args.run.now.target) (sym c.classified-found.ensures.wanted);
       room = omega (arith, left, less, c.loop-wanted.invariant.room, c.loop-wanted-test.true, c.push_reserved.ensures.len, c.push_reserved.ensures.capacity);
     }
 
