@@ -1,22 +1,32 @@
--- What a leaf, a block and a page table have from one page number to another.
-use Rattle.std.proofs.Common.{◌≡◌, ℕ, ◌+◌, ◌*◌, ◌/◌, ◌^◌, ◌≤◌, ◌<◌, List, Option, [], ◌∷◌, ◌++◌, length, refl, sym, ap, ◌∙◌, arith, append-nil, append_assoc}
+-- What a leaf, the parts of a node and a page table have from one page number to another.
+use Rattle.std.proofs.Common.{◌≡◌, ℕ, ◌+◌, ◌*◌, ◌/◌, ◌^◌, ◌≤◌, ◌<◌, List, Option, [], ◌∷◌, ◌++◌, length, get_or, take, drop, false, cond, refl, sym, ap, subst, ◌∙◌, arith, append-nil, append_assoc}
 use Rattle.std.specs.Prelude.{Some, None}
+use Rattle.std.specs.List.{AllByRecursion}
+use Rattle.std.specs.List.Sorted.{IsStrictlySortedBy}
+use Rattle.std.specs.Map.{keys_of}
 use Rattle.std.specs.Ordering.{nat_cmp}
+use Rattle.std.specs.Cmp.{ranked}
+use Rattle.std.specs.declared.cmp.Ordering.TheVariants.{Less}
 use Rattle.std.specs.declared.ops.Bound.TheVariants.{Included}
 use Rattle.std.specs.BTreeMap.Range.{range_contains}
-use Rattle.std.proofs.lemmas.List.{length-append}
+use Rattle.std.proofs.Math.Decide.{dec_lt}
+use Rattle.std.proofs.lemmas.List.{length-append, take-append-drop}
 use Rattle.std.proofs.lemmas.List.Elements.{filter-append}
 use Rattle.nm_types.specs.Map.{Map, get}
+use Rattle.nm_tables.specs.Tree.{joined, IsPart}
+use Rattle.nm_tables.specs.Orders.{all-append}
+use Rattle.nm_tables.specs.Nodes.{shown, IsNode}
+use Rattle.nm_tables.specs.Parts.{BeginsAt}
 use Rattle.nm_tables.specs.Leaves.{leaf_entries, leaf_ordered, stands_at}
 use Rattle.nm_tables.specs.Lists.{Extends, IsCutShort}
-use Rattle.nm_tables.specs.Blocks.{slot_entries, IsSlot, IsSlotOf, entries_by, AreBlocks}
+use Rattle.nm_tables.specs.Blocks.{entries_there, slot_entries, IsOf, IsSlot, IsSlotOf, entries_by, AreBlocks}
 use Rattle.nm_types.specs.declared.entry.Entry.{Entry}
 use Rattle.nm_tables.specs.declared.places.Places.{Places}
 use Rattle.nm_tables.specs.declared.slot.Slot.{Slot}
+use Rattle.nm_tables.specs.declared.slot.Slot.TheVariants.{Leaf}
 use Rattle.nm_tables.proofs.Leaves.{leaf-at, leaf-none}
-use Rattle.nm_tables.proofs.Slots.{blocks-ordered, blocks-found, blocks-get, blocks-none}
-use Rattle.nm_tables.proofs.Walks.{sorted-filter, all-filter}
-use Rattle.nm_tables.proofs.Within.{within, get_in, within_same, within_from, within_none, within_all, within_next}
+use Rattle.nm_tables.proofs.Slots.{block_number, slot_part, leaf_found, blocks-ordered, blocks-found, blocks-none}
+use Rattle.nm_tables.proofs.Within.{within, below, beyond, within_from, within_none, within_all, within_next}
 
 -- more is appended
 pub extended : {X : Type 0} (old now more new : List X) → Extends old now → new ≡ now ++ more → Extends old new
@@ -64,35 +74,154 @@ module _ (p : Places) (last : ℕ) where
     pub leaf-done : ((i : ℕ) → from ≤ i → i < 512 → stands_at p i ≡ None) → within (p.block * 512 + from) last (leaf_entries p) ≡ []
     leaf-done none = within_none last (leaf_entries p) (leaf_ordered p) (p.block * 512 + from) (λ k a b. leaf-none p k (λ i l z. none i (omega (arith, a, z)) l))
 
-module _ (leaves : List Places) (index : Map ℕ Slot) (is : AreBlocks leaves index) (first last : ℕ) where
-  are_within : (a z : ℕ) → AreBlocks leaves (within a z index)
-  are_within a z =
-      (sorted-filter (range_contains nat_cmp (Included a) (Included z)) index is.0, all-filter (range_contains nat_cmp (Included a) (Included z)) (λ e. IsSlot e.1 × IsSlotOf leaves e.1 e.0) index is.1)
+module _ {X : Type 0} (P : X → Type 0) where
+  all_first : (a b : List X) → AllByRecursion P (a ++ b) → AllByRecursion P a
+  all_first [] b h = tt
+  all_first (x ∷ a) b h = (h.0, all_first a b h.1)
 
-  found_within : (q : ℕ) → get nat_cmp (within (first / 512) (last / 512) index) (q / 512) ≡ get nat_cmp index (q / 512) → (o : Option Slot) → get nat_cmp index (q / 512) ≡ o
-      → get nat_cmp (entries_by leaves (within (first / 512) (last / 512) index)) q ≡ get nat_cmp (entries_by leaves index) q
-  found_within q same None o = blocks-none leaves (within (first / 512) (last / 512) index) (are_within (first / 512) (last / 512)) q (same ∙ o) ∙ sym (blocks-none leaves index is q o)
-  found_within q same (Some slot) o =
-      blocks-get leaves (within (first / 512) (last / 512) index) (are_within (first / 512) (last / 512)) q slot (same ∙ o) ∙ sym (blocks-get leaves index is q slot o)
+  all_second : (a b : List X) → AllByRecursion P (a ++ b) → AllByRecursion P b
+  all_second [] b h = h
+  all_second (x ∷ a) b h = all_second a b h.1
 
-  -- the entries are those of the blocks there
-  pub list-start : within first last (entries_by leaves (within (first / 512) (last / 512) index)) ≡ within first last (entries_by leaves index)
-  list-start =
-      within_same first last (entries_by leaves (within (first / 512) (last / 512) index)) (entries_by leaves index)
-      (blocks-ordered leaves (within (first / 512) (last / 512) index) (are_within (first / 512) (last / 512))) (blocks-ordered leaves index is)
-      (λ q low high. found_within q (get_in (first / 512) (last / 512) index (q / 512) (omega (arith, low)) (omega (arith, high))) (get nat_cmp index (q / 512)) refl)
+  all_weaker : (Q : X → Type 0) → ((x : X) → P x → Q x) → (xs : List X) → AllByRecursion P xs → AllByRecursion Q xs
+  all_weaker Q f [] h = tt
+  all_weaker Q f (x ∷ xs) h = (f x h.0, all_weaker Q f xs h.1)
 
-  module _ (list to : Map ℕ Entry) (from : ℕ) (before : list ++ within first last (entries_by leaves (within from (last / 512) index)) ≡ to) where
-    pub list-step : (block : ℕ) (slot : Slot) → from ≤ block → block ≤ last / 512 → get nat_cmp index block ≡ Some slot → ((k : ℕ) → from ≤ k → k < block → get nat_cmp index k ≡ None)
-        → (list ++ within first last (slot_entries leaves slot)) ++ within first last (entries_by leaves (within (block + 1) (last / 512) index)) ≡ to
-    list-step block slot low high h none =
-        append_assoc list (within first last (slot_entries leaves slot)) (within first last (entries_by leaves (within (block + 1) (last / 512) index)))
-        ∙ ap (λ m. list ++ m) (sym (filter-append (λ e. range_contains nat_cmp (Included first) (Included last) e.0) (slot_entries leaves slot) (entries_by leaves (within (block + 1) (last / 512) index))))
-        ∙ ap (λ m. list ++ within first last (entries_by leaves m)) (sym (within_next (last / 512) index is.0 from block slot low high h none)) ∙ before
+module _ {P : Type 0} where
+  keys_first : (Q : ℕ → Type 0) (a b : Map ℕ P) → AllByRecursion Q (keys_of (a ++ b)) → AllByRecursion Q (keys_of a)
+  keys_first Q [] b h = tt
+  keys_first Q (e ∷ a) b h = (h.0, keys_first Q a b h.1)
 
-    pub list-end : ((k : ℕ) → from ≤ k → k ≤ last / 512 → get nat_cmp index k ≡ None) → list ≡ to
-    list-end none =
-        sym (append-nil list) ∙ ap (λ m. list ++ within first last (entries_by leaves m)) (sym (within_none (last / 512) index is.0 from none)) ∙ before
+  sorted_first : (a b : Map ℕ P) → IsStrictlySortedBy nat_cmp (keys_of (a ++ b)) → IsStrictlySortedBy nat_cmp (keys_of a)
+  unfolding IsStrictlySortedBy
+  sorted_first [] b s = tt
+  sorted_first (e ∷ a) b s = (keys_first (λ k. nat_cmp e.0 k ≡ Less) a b s.0, sorted_first a b s.1)
+
+  sorted_second : (a b : Map ℕ P) → IsStrictlySortedBy nat_cmp (keys_of (a ++ b)) → IsStrictlySortedBy nat_cmp (keys_of b)
+  unfolding IsStrictlySortedBy
+  sorted_second [] b s = s
+  sorted_second (e ∷ a) b s = sorted_second a b s.1
+
+  keys_later : (e : ℕ × P) (ps : Map ℕ P) → IsStrictlySortedBy nat_cmp (keys_of (e ∷ ps)) → AllByRecursion (λ k. nat_cmp e.0 k ≡ Less) (keys_of ps)
+  unfolding IsStrictlySortedBy
+  keys_later e ps s = s.0
+
+  module _ (whole : P → Type 0) (is_in : P → ℕ → Type 0) where
+    -- some first parts of a node, and those after them
+    pub node_first : (a b : Map ℕ P) → IsNode whole is_in (a ++ b) → IsNode whole is_in a
+    node_first a b is = (sorted_first a b is.0, all_first (λ e. whole e.1 × is_in e.1 e.0) a b is.1)
+
+    pub node_second : (a b : Map ℕ P) → IsNode whole is_in (a ++ b) → IsNode whole is_in b
+    node_second a b is = (sorted_second a b is.0, all_second (λ e. whole e.1 × is_in e.1 e.0) a b is.1)
+
+    pub later_kept : (e : ℕ × P) (ps : Map ℕ P) → IsNode whole is_in (e ∷ ps) → IsNode whole is_in ps
+    later_kept e ps is = node_second (e ∷ []) ps is
+
+module _ {P V : Type 0} (entries : P → Map ℕ V) where
+  -- the entries of some parts, and of others after them
+  pub joined-append : (a b : Map ℕ P) → joined (shown entries (a ++ b)) ≡ joined (shown entries a) ++ joined (shown entries b)
+  joined-append [] b = refl
+  joined-append (e ∷ a) b = ap (λ m. entries e.1 ++ m) (joined-append a b) ∙ sym (append_assoc (entries e.1) (joined (shown entries a)) (joined (shown entries b)))
+
+  module _ (number : ℕ → ℕ) (whole : P → Type 0) (is_in : P → ℕ → Type 0)
+      (part : (x : P) (i : ℕ) → whole x → is_in x i → IsPart number i (entries x)) (Q : ℕ → Type 0) where
+    of_part : (i : ℕ) (ks : List ℕ) → AllByRecursion (λ k. number k ≡ i) ks → Q i → AllByRecursion (λ k. Q (number k)) ks
+    of_part i [] h q = tt
+    of_part i (k ∷ ks) h q = (subst Q (sym h.0) q, of_part i ks h.1 q)
+
+    -- what holds of the parts' numbers holds of those of their keys
+    of_keys : (parts : Map ℕ P) → AllByRecursion (λ e. whole e.1 × is_in e.1 e.0) parts → AllByRecursion Q (keys_of parts)
+        → AllByRecursion (λ k. Q (number k)) (keys_of (joined (shown entries parts)))
+    of_keys [] h q = tt
+    of_keys (e ∷ parts) h q =
+        all-append (λ k. Q (number k)) (entries e.1) (joined (shown entries parts))
+        (of_part e.0 (keys_of (entries e.1)) (part e.1 e.0 h.0.0 h.0.1).1 q.0) (of_keys parts h.1 q.1)
+
+module _ (first last : ℕ) where
+  nothing : (m : Map ℕ Entry) → AllByRecursion (λ k. range_contains nat_cmp (Included first) (Included last) k ≡ false) (keys_of m) → within first last m ≡ []
+  nothing [] h = refl
+  nothing (e ∷ m) h = ap (λ b. cond b (e ∷ within first last m) (within first last m)) h.0 ∙ nothing m h.1
+
+module _ {P : Type 0} (slots : P → Map ℕ Slot) (number : ℕ → ℕ) (whole : P → Type 0) (is_in : P → ℕ → Type 0)
+    (part : (x : P) (i : ℕ) → whole x → is_in x i → IsPart number i (slots x)) (upwards : (a b : ℕ) → a ≤ b → number a ≤ number b)
+    (leaves : List Places) (first last : ℕ) where
+  -- what these parts have there
+  abbrev pub there : Map ℕ P → Map ℕ Entry
+  there parts = within first last (entries_by leaves (joined (shown slots parts)))
+
+  none_there : (Q : ℕ → Type 0) → ((v : ℕ) → Q (number (v / 512)) → range_contains nat_cmp (Included first) (Included last) v ≡ false)
+      → (parts : Map ℕ P) → IsNode whole is_in parts → AreBlocks leaves (joined (shown slots parts)) → AllByRecursion Q (keys_of parts) → there parts ≡ []
+  none_there Q out parts is named all =
+      nothing first last (entries_by leaves (joined (shown slots parts)))
+      (all_weaker (λ v. Q (number (v / 512))) (λ v. range_contains nat_cmp (Included first) (Included last) v ≡ false) out (keys_of (entries_by leaves (joined (shown slots parts))))
+      (of_keys (slot_entries leaves) block_number IsSlot (IsSlotOf leaves) (slot_part leaves) (λ b. Q (number b)) (joined (shown slots parts)) named.1
+      (of_keys slots number whole is_in part Q parts is.1 all)))
+
+  too_low : (v : ℕ) → number (v / 512) < number (first / 512) → Dec (v < first) → range_contains nat_cmp (Included first) (Included last) v ≡ false
+  too_low v l (yes low) = below first last v low
+  too_low v l (no n) = let up = upwards (first / 512) (v / 512) (omega (arith, n)) in absurd (omega (arith, up, l))
+
+  too_high : (v : ℕ) → number (last / 512) < number (v / 512) → Dec (last < v) → range_contains nat_cmp (Included first) (Included last) v ≡ false
+  too_high v l (yes high) = beyond first last v high
+  too_high v l (no n) = let up = upwards (v / 512) (last / 512) (omega (arith, n)) in absurd (omega (arith, up, l))
+
+  there-append : (a b : Map ℕ P) → there (a ++ b) ≡ there a ++ there b
+  there-append a b =
+      ap (λ m. within first last (entries_by leaves m)) (joined-append slots a b)
+      ∙ ap (within first last) (joined-append (slot_entries leaves) (joined (shown slots a)) (joined (shown slots b)))
+      ∙ filter-append (λ e. range_contains nat_cmp (Included first) (Included last) e.0) (entries_by leaves (joined (shown slots a))) (entries_by leaves (joined (shown slots b)))
+
+  -- the parts from the first on that may have a page number there
+  module _ (parts : Map ℕ P) (i : ℕ) (is : IsNode whole is_in parts) (named : AreBlocks leaves (joined (shown slots parts))) where
+    apart : IsNode whole is_in (take i parts ++ drop i parts)
+    apart = subst (IsNode whole is_in) (sym (take-append-drop i parts)) is
+
+    named_apart : AreBlocks leaves (joined (shown slots (take i parts)) ++ joined (shown slots (drop i parts)))
+    named_apart = subst (AreBlocks leaves) (ap (λ ps. joined (shown slots ps)) (sym (take-append-drop i parts)) ∙ joined-append slots (take i parts) (drop i parts)) named
+
+    pub rest_kept : IsNode whole is_in (drop i parts)
+    rest_kept = node_second whole is_in (take i parts) (drop i parts) apart
+
+    pub rest_named : AreBlocks leaves (joined (shown slots (drop i parts)))
+    rest_named = node_second IsSlot (IsSlotOf leaves) (joined (shown slots (take i parts))) (joined (shown slots (drop i parts))) named_apart
+
+    pub rest_there : BeginsAt parts (number (first / 512)) i → there (drop i parts) ≡ there parts
+    rest_there begins =
+        ap (λ m. m ++ there (drop i parts))
+        (sym (none_there (λ k. k < number (first / 512)) (λ v l. too_low v l (dec_lt v first)) (take i parts)
+        (node_first whole is_in (take i parts) (drop i parts) apart)
+        (node_first IsSlot (IsSlotOf leaves) (joined (shown slots (take i parts))) (joined (shown slots (drop i parts))) named_apart) begins.1))
+        ∙ sym (there-append (take i parts) (drop i parts)) ∙ ap there (take-append-drop i parts)
+
+  module _ (e : ℕ × P) (ps : Map ℕ P) (is : IsNode whole is_in (e ∷ ps)) (named : AreBlocks leaves (joined (shown slots (e ∷ ps)))) where
+    -- the slots of a part name leaves, and those of the parts after it
+    pub part_named : AreBlocks leaves (slots e.1)
+    part_named = node_first IsSlot (IsSlotOf leaves) (slots e.1) (joined (shown slots ps)) named
+
+    pub later_named : AreBlocks leaves (joined (shown slots ps))
+    later_named = node_second IsSlot (IsSlotOf leaves) (slots e.1) (joined (shown slots ps)) named
+
+    module _ (list to : Map ℕ Entry) (before : list ++ there (e ∷ ps) ≡ to) where
+      -- what the part has is appended
+      pub list-step : (list ++ within first last (entries_by leaves (slots e.1))) ++ there ps ≡ to
+      list-step =
+          append_assoc list (within first last (entries_by leaves (slots e.1))) (there ps)
+          ∙ ap (λ m. list ++ m) (sym (ap (within first last) (joined-append (slot_entries leaves) (slots e.1) (joined (shown slots ps)))
+          ∙ filter-append (λ e. range_contains nat_cmp (Included first) (Included last) e.0) (entries_by leaves (slots e.1)) (entries_by leaves (joined (shown slots ps)))))
+          ∙ before
+
+      -- the part and those after it have too high numbers
+      pub list-end : number (last / 512) < e.0 → list ≡ to
+      list-end l =
+          let later = all_weaker (λ k. nat_cmp e.0 k ≡ Less) (λ k. number (last / 512) < k) (λ k less. let up : e.0 < k = ranked e.0 k Less (sym less) in omega (arith, l, up)) (keys_of ps) (keys_later e ps is.0) in
+          sym (append-nil list)
+          ∙ ap (λ m. list ++ m) (sym (none_there (λ k. number (last / 512) < k) (λ v l. too_high v l (dec_lt last v)) (e ∷ ps) is named (l, later)))
+          ∙ before
+
+-- a leaf has the entries of the block whose slot names it
+pub of_cell : (leaves : List Places) (slot : Slot) (i block : ℕ) (d : Places) → slot ≡ Leaf i → IsOf leaves slot block → leaf_entries (get_or leaves i d) ≡ slot_entries leaves slot ++ []
+of_cell leaves slot i block d is of =
+    sym (append-nil (slot_entries leaves slot) ∙ ap (slot_entries leaves) is ∙ ap entries_there (leaf_found leaves i block d (subst (λ s. IsOf leaves s block) is of)))
 
 -- no page number is greater than the last of 64 bits
 beyond_all : (leaves : List Places) (index : Map ℕ Slot) → AreBlocks leaves index → (q : ℕ) → 2 ^ 64 ≤ q → (o : Option Slot) → get nat_cmp index (q / 512) ≡ o → get nat_cmp (entries_by leaves index) q ≡ None

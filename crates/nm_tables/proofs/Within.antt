@@ -36,10 +36,10 @@ and_no false = refl
 inside : (a z k : ℕ) → a ≤ k → k ≤ z → range_contains nat_cmp (Included a) (Included z) k ≡ true
 inside a z k low high = ap (λ b. b && not (is_lt (nat_cmp z k))) (from_it a k low) ∙ ap (λ b. true && not b) (lt_no z k high)
 
-below : (a z k : ℕ) → k < a → range_contains nat_cmp (Included a) (Included z) k ≡ false
+pub below : (a z k : ℕ) → k < a → range_contains nat_cmp (Included a) (Included z) k ≡ false
 below a z k l = ap (λ b. b && not (is_lt (nat_cmp z k))) (le_no a k l)
 
-beyond : (a z k : ℕ) → z < k → range_contains nat_cmp (Included a) (Included z) k ≡ false
+pub beyond : (a z k : ℕ) → z < k → range_contains nat_cmp (Included a) (Included z) k ≡ false
 beyond a z k l = ap (λ b. is_le (nat_cmp a k) && not b) (lt_yes z k l) ∙ and_no (is_le (nat_cmp a k))
 
 not_below : (a z k : ℕ) → range_contains nat_cmp (Included a) (Included z) k ≡ true → Dec (k < a) → a ≤ k
@@ -78,7 +78,7 @@ module _ {V : Type 0} where
   within a z m = entries_between nat_cmp (Included a) (Included z) m
 
   module _ (a z : ℕ) (m : Map ℕ V) where
-    pub get_in : (q : ℕ) → a ≤ q → q ≤ z → get nat_cmp (within a z m) q ≡ get nat_cmp m q
+    get_in : (q : ℕ) → a ≤ q → q ≤ z → get nat_cmp (within a z m) q ≡ get nat_cmp m q
     get_in q low high = get-filter (range_contains nat_cmp (Included a) (Included z)) m q (inside a z q low high)
 
     get_below : (q : ℕ) → q < a → get nat_cmp (within a z m) q ≡ None
@@ -98,15 +98,6 @@ module _ {V : Type 0} where
   within_alike : (a b z : ℕ) (m n : Map ℕ V) → IsStrictlySortedBy nat_cmp (keys_of m) → IsStrictlySortedBy nat_cmp (keys_of n)
       → ((q : ℕ) → q ≤ z → get nat_cmp (within a z m) q ≡ get nat_cmp (within b z n) q) → within a z m ≡ within b z n
   within_alike a b z m n sm sn same = alike (within a z m) (within b z n) (in_order a z m sm) (in_order b z n sn) (λ q. alike_by a b z m n same q (dec_lt z q))
-
-  same_at : (a z : ℕ) (m n : Map ℕ V) → ((q : ℕ) → a ≤ q → q ≤ z → get nat_cmp m q ≡ get nat_cmp n q) → (q : ℕ) → q ≤ z → Dec (q < a) → get nat_cmp (within a z m) q ≡ get nat_cmp (within a z n) q
-  same_at a z m n same q high (yes l) = get_below a z m q l ∙ sym (get_below a z n q l)
-  same_at a z m n same q high (no s) = get_in a z m q (omega (arith, s)) high ∙ same q (omega (arith, s)) high ∙ sym (get_in a z n q (omega (arith, s)) high)
-
-  -- two maps that have the same there
-  pub within_same : (a z : ℕ) (m n : Map ℕ V) → IsStrictlySortedBy nat_cmp (keys_of m) → IsStrictlySortedBy nat_cmp (keys_of n)
-      → ((q : ℕ) → a ≤ q → q ≤ z → get nat_cmp m q ≡ get nat_cmp n q) → within a z m ≡ within a z n
-  within_same a z m n sm sn same = within_alike a a z m n sm sn (λ q high. same_at a z m n same q high (dec_lt q a))
 
   module _ (z : ℕ) (m : Map ℕ V) (sorted : IsStrictlySortedBy nat_cmp (keys_of m)) where
     from_at : (a b q : ℕ) → q ≤ z → (a ≤ q → q < b → get nat_cmp m q ≡ None) → (b ≤ q → q < a → get nat_cmp m q ≡ None) → Dec (q < a) → Dec (q < b)

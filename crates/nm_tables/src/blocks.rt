@@ -13,7 +13,7 @@ ghost use Rattle.nm_tables.specs.declared.slot.Slot.TheVariants.{Lone, Leaf};
 
 use crate::Entry;
 use crate::index::Index;
-use crate::leaf::{clear_in, entry_in, first_in, has_no_other, list_leaf, set_in};
+use crate::leaf::{block_of, clear_in, entry_in, first_in, has_no_other, set_in};
 use crate::places::Places;
 use crate::slot::Slot;
 use nm_types::Vpn;
@@ -30,14 +30,6 @@ pub(crate) struct Blocks<A: Allocator + Copy> {
     leaves: Vec<Places, A>,
     /// How many blocks have no leaf. There is room for as many more leaves.
     without: usize,
-}
-
-/// The number of the block that a page number is in: all but its last nine bits.
-fn block_of(vpn: Vpn) -> u64
-    ensures number { result ≡ vpn / 512 }
-    ensures fits { result < 2 ^ 55 }
-{
-    vpn.number() / 512
 }
 
 impl<A: Allocator + Copy> Blocks<A> {
@@ -292,47 +284,7 @@ impl<A: Allocator + Copy> Blocks<A> {
             ++ entries_between nat_cmp (Included first) (Included last)
             (block_entries self.now))) }
     {
-        let mut from = block_of(first);
-        while let Some((block, slot)) = self.block_from(from) {
-            if block > block_of(last) {
-                return Ok(());
-            }
-            self.list_slot(slot, first, last, list)?;
-            from = block + 1;
-        }
-        Ok(())
-    }
-
-    /// Does the same for the entries of a block with this slot.
-    fn list_slot(
-        &self,
-        slot: Slot,
-        first: Vpn,
-        last: Vpn,
-        list: &mut Vec<(Vpn, Entry), A>,
-    ) -> Result<(), AllocError>
-        requires { (block : ℕ) × IsSlotOf self.now.leaves.items slot block }
-        ensures ok { OnOk result
-            (list.new.items
-            ≡ list.old.items
-            ++ entries_between nat_cmp (Included first) (Included last)
-            (slot_entries self.now.leaves.items slot)) }
-        ensures before { Extends list.old.items list.new.items }
-        ensures short { OnErr result
-            (IsCutShort list.new.items
-            (list.old.items
-            ++ entries_between nat_cmp (Included first) (Included last)
-            (slot_entries self.now.leaves.items slot))) }
-    {
-        match slot {
-            Slot::Lone(own, entry) => {
-                if own < first || last < own {
-                    return Ok(());
-                }
-                list.push((own, entry))?;
-                Ok(())
-            }
-            Slot::Leaf(number) => list_leaf(&self.leaves[number], first, last, list),
-        }
+        self.index
+            .list_within(self.leaves.as_slice(), first, last, list)
     }
 }

@@ -9,9 +9,12 @@ ghost use Rattle.nm_tables.specs.Tree.{joined};
 ghost use Rattle.nm_tables.specs.Nodes.{shown, IsFilledNode};
 ghost use Rattle.nm_tables.specs.Branches.{parts_of, IsOne};
 
+use crate::Entry;
 use crate::node::Node;
+use crate::places::Places;
 use crate::slot::Slot;
 use crate::subtree::Subtree;
+use nm_types::Vpn;
 use std::alloc::{AllocError, Allocator};
 use std::mem;
 
@@ -114,6 +117,19 @@ impl<T: Subtree<A>, A: Allocator + Copy> Subtree<A> for Branch<T, A> {
         match self {
             Branch::One(_, part) => part.first_from(at),
             Branch::Many(node) => node.first_from(at),
+        }
+    }
+
+    fn list_within(
+        &self,
+        leaves: &[Places],
+        first: Vpn,
+        last: Vpn,
+        list: &mut Vec<(Vpn, Entry), A>,
+    ) -> Result<(), AllocError> {
+        match self {
+            Branch::One(_, part) => part.list_within(leaves, first, last, list),
+            Branch::Many(node) => node.list_within(leaves, first, last, list),
         }
     }
 

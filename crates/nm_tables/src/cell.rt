@@ -2,8 +2,12 @@
 
 ghost use Rattle.std.specs.Prelude.{◌≡◌, ◌≤◌, ◌<◌};
 
+use crate::Entry;
+use crate::leaf::list_leaf;
+use crate::places::Places;
 use crate::slot::Slot;
 use crate::subtree::Subtree;
+use nm_types::Vpn;
 use std::alloc::{AllocError, Allocator};
 
 /// A block with its slot.
@@ -44,6 +48,25 @@ impl<A: Allocator + Copy> Subtree<A> for Cell {
             None
         } else {
             Some((self.block, self.slot))
+        }
+    }
+
+    fn list_within(
+        &self,
+        leaves: &[Places],
+        first: Vpn,
+        last: Vpn,
+        list: &mut Vec<(Vpn, Entry), A>,
+    ) -> Result<(), AllocError> {
+        match self.slot {
+            Slot::Lone(own, entry) => {
+                if own < first || last < own {
+                    return Ok(());
+                }
+                list.push((own, entry))?;
+                Ok(())
+            }
+            Slot::Leaf(number) => list_leaf(&leaves[number], first, last, list),
         }
     }
 

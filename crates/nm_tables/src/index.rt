@@ -1,15 +1,22 @@
 //! The blocks of a page table that have entries, in order.
 
-ghost use Rattle.std.specs.Prelude.{◌≡◌, ◌≤◌, ◌<◌, ℕ, [], None, Some, IsSome, IfSome, IfNone, OnOk, OnErr};
+ghost use Rattle.std.specs.Prelude.{◌≡◌, ◌≤◌, ◌<◌, ℕ, [], ◌++◌, None, Some, IsSome, IfSome, IfNone, OnOk, OnErr};
 ghost use Rattle.std.specs.List.Sorted.{IsStrictlySortedBy};
 ghost use Rattle.std.specs.Map.{keys_of};
 ghost use Rattle.std.specs.Ordering.{nat_cmp};
+ghost use Rattle.std.specs.declared.ops.Bound.TheVariants.{Included};
+ghost use Rattle.std.specs.BTreeMap.Range.{entries_between};
 ghost use Rattle.nm_types.specs.Map.{get, set, replace, without};
+ghost use Rattle.nm_tables.specs.Lists.{Extends, IsCutShort};
+ghost use Rattle.nm_tables.specs.Blocks.{entries_by, AreBlocks};
 
+use crate::Entry;
 use crate::branch::Branch;
 use crate::cell::Cell;
+use crate::places::Places;
 use crate::slot::Slot;
 use crate::subtree::Subtree;
+use nm_types::Vpn;
 use std::alloc::{AllocError, Allocator};
 use std::marker::Model;
 
@@ -74,6 +81,35 @@ impl<A: Allocator + Copy> Index<A> {
         match &self.root {
             None => None,
             Some(root) => root.first_from(at),
+        }
+    }
+
+    /// Appends the entries that the blocks have from one page number to another, both included, to a list, in ascending
+    /// order. The slots name leaves of `leaves`. An error means that only some first ones of them were appended, or
+    /// none.
+    pub(crate) fn list_within(
+        &self,
+        leaves: &[Places],
+        first: Vpn,
+        last: Vpn,
+        list: &mut Vec<(Vpn, Entry), A>,
+    ) -> Result<(), AllocError>
+        requires { AreBlocks leaves.now self.now }
+        ensures ok { OnOk result
+            (list.new.items
+            ≡ list.old.items
+            ++ entries_between nat_cmp (Included first) (Included last)
+            (entries_by leaves.now self.now)) }
+        ensures before { Extends list.old.items list.new.items }
+        ensures short { OnErr result
+            (IsCutShort list.new.items
+            (list.old.items
+            ++ entries_between nat_cmp (Included first) (Included last)
+            (entries_by leaves.now self.now))) }
+    {
+        match &self.root {
+            None => Ok(()),
+            Some(root) => root.list_within(leaves, first, last, list),
         }
     }
 

@@ -13,6 +13,14 @@ use crate::places::Places;
 use nm_types::Vpn;
 use std::alloc::{AllocError, Allocator};
 
+/// The number of the block that a page number is in: all but its last nine bits.
+pub(crate) fn block_of(vpn: Vpn) -> u64
+    ensures number { result ≡ vpn / 512 }
+    ensures fits { result < 2 ^ 55 }
+{
+    vpn.number() / 512
+}
+
 /// The place of a page number in its leaf: its last nine bits.
 fn place_of(vpn: Vpn) -> usize
     ensures { result ≡ vpn % 512 }

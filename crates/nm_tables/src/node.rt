@@ -6,8 +6,12 @@ ghost use Rattle.std.specs.Map.{keys_of};
 ghost use Rattle.std.specs.Ordering.{nat_cmp};
 ghost use Rattle.nm_tables.specs.Parts.{StandsAt, FitsAt, BeginsAt};
 
+use crate::Entry;
+use crate::leaf::block_of;
+use crate::places::Places;
 use crate::slot::Slot;
 use crate::subtree::Subtree;
+use nm_types::Vpn;
 use std::alloc::{AllocError, Allocator};
 
 /// The parts of an inner node that has several, by their numbers, in ascending order; the node has 512 places for them.
@@ -105,6 +109,24 @@ impl<T: Subtree<A>, A: Allocator + Copy> Subtree<A> for Node<T, A> {
             }
         }
         None
+    }
+
+    fn list_within(
+        &self,
+        leaves: &[Places],
+        first: Vpn,
+        last: Vpn,
+        list: &mut Vec<(Vpn, Entry), A>,
+    ) -> Result<(), AllocError> {
+        let from = place_from(self.parts.as_slice(), T::number_of(block_of(first)));
+        let end = T::number_of(block_of(last));
+        for (number, part) in &self.parts[from..] {
+            if end < *number {
+                return Ok(());
+            }
+            part.list_within(leaves, first, last, list)?;
+        }
+        Ok(())
     }
 
     fn set(&mut self, alloc: A, block: u64, slot: Slot) -> Result<(), AllocError> {

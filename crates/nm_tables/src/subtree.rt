@@ -1,14 +1,21 @@
 //! A part of an index.
 
-ghost use Rattle.std.specs.Prelude.{◌≡◌, ◌≤◌, ◌<◌, ℕ, [], ◌∷◌, true, false, None, Some, IsSome, IfSome, IfNone, IfOk, OnOk, OnErr};
+ghost use Rattle.std.specs.Prelude.{◌≡◌, ◌≤◌, ◌<◌, ℕ, [], ◌∷◌, ◌++◌, true, false, None, Some, IsSome, IfSome, IfNone, IfOk, OnOk, OnErr};
 ghost use Rattle.std.specs.List.Sorted.{IsStrictlySortedBy};
 ghost use Rattle.std.specs.Map.{keys_of};
 ghost use Rattle.std.specs.Ordering.{nat_cmp};
+ghost use Rattle.std.specs.declared.ops.Bound.TheVariants.{Included};
+ghost use Rattle.std.specs.BTreeMap.Range.{entries_between};
 ghost use Rattle.nm_types.specs.Map.{Map, get, set, replace, without};
+ghost use Rattle.nm_tables.specs.Lists.{Extends, IsCutShort};
+ghost use Rattle.nm_tables.specs.Blocks.{entries_by, AreBlocks};
 ghost use Rattle.nm_tables.specs.Tree.{IsPart};
 ghost use Rattle.nm_tables.specs.declared.slot.Slot.{Slot};
 
+use crate::Entry;
+use crate::places::Places;
 use crate::slot::Slot;
+use nm_types::Vpn;
 use std::alloc::{AllocError, Allocator};
 
 /// A part of an index: blocks whose numbers begin with the same bits, and the more blocks the higher the part is in the
@@ -57,6 +64,30 @@ pub(crate) trait Subtree<A: Allocator + Copy>: Drop {
 
         // If there is none
         ensures none { IfNone result ((v : ℕ) → at ≤ v → get nat_cmp (slots self.now) v ≡ None) };
+
+    /// Appends the entries that its blocks have from one page number to another, both included, to a list, in ascending
+    /// order. Its slots name leaves of `leaves`. An error means that only some first ones of them were appended, or
+    /// none.
+    fn list_within(
+        &self,
+        leaves: &[Places],
+        first: Vpn,
+        last: Vpn,
+        list: &mut Vec<(Vpn, Entry), A>,
+    ) -> Result<(), AllocError>
+        requires kept { whole self.now }
+        requires named { AreBlocks leaves.now (slots self.now) }
+        ensures ok { OnOk result
+            (list.new.items
+            ≡ list.old.items
+            ++ entries_between nat_cmp (Included first) (Included last)
+            (entries_by leaves.now (slots self.now))) }
+        ensures before { Extends list.old.items list.new.items }
+        ensures short { OnErr result
+            (IsCutShort list.new.items
+            (list.old.items
+            ++ entries_between nat_cmp (Included first) (Included last)
+            (entries_by leaves.now (slots self.now)))) };
 
     /// Sets the slot of a block of this part.
     fn set(&mut self, alloc: A, block: u64, slot: Slot) -> Result<(), AllocError>

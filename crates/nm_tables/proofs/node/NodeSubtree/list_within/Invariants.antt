@@ -1,0 +1,19 @@
+use Rattle.std.proofs.Common.{◌≡◌, ◌++◌, drop}
+use Rattle.nm_tables.specs.Tree.{joined}
+use Rattle.nm_tables.specs.Nodes.{shown, IsNode}
+use Rattle.nm_tables.specs.Blocks.{entries_by, AreBlocks}
+use Rattle.nm_tables.specs.Lists.{Extends}
+use Rattle.nm_tables.proofs.Within.{within}
+use Rattle.nm_tables.proofs.node.NodeSubtree.list_within.Given as goal
+
+-- the entries of the parts from here on are left
+abbrev pub invariant-loop-number : goal.invariant-loop-number
+invariant-loop-number g l =
+    let slots = g.T.Subtree.slots in
+    let rest = drop l.number-index l.number-items in
+    record {
+      kept : IsNode g.T.Subtree.whole g.T.Subtree.is_in rest;
+      named : AreBlocks l.leaves (joined (shown slots rest));
+      left : l.list.items ++ within l.first l.last (entries_by l.leaves (joined (shown slots rest))) ≡ l.initial.list.items ++ within l.first l.last (entries_by l.leaves (joined (shown slots l.self.parts.items)));
+      before : Extends l.initial.list.items l.list.items;
+    }
