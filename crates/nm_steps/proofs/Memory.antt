@@ -1,13 +1,16 @@
 -- What is told as lack of memory.
-use Rattle.std.proofs.Common.{◌≡◌, ℕ, ◌^◌, ◌<◌, List, [], ◌∷◌, length, Bool, true, false, ◌||◌, ◌&&◌, Option, Some, None, is_some, option_and_then, refl, ap, ◌∙◌, sym, arith, codes}
-use Rattle.std.specs.Prelude.{Result, Ok, Err, IsErr, IsErrAnd}
+use Rattle.std.proofs.Common.{◌≡◌, ℕ, ◌^◌, ◌<◌, ◌==◌, List, [], ◌∷◌, length, Bool, true, false, ◌||◌, ◌&&◌, Option, Some, None, is_some, option_and_then, refl, ap, ◌∙◌, sym, arith, codes}
+use Rattle.std.proofs.lemmas.Bool.{le-ltb}
+use Rattle.std.specs.Prelude.{Result, Ok, Err, IsErr, IsErrAnd, nat_le, if◌then◌else◌}
 use Rattle.std.specs.Option.{ok_or}
-use Rattle.serde_json.specs.Data.{Data, Items}
+use Rattle.serde_json.specs.Data.{Data, Items, no_items, item}
 use Rattle.serde_json.specs.Find.{get, as_array}
 use Rattle.nm_types.specs.Layout.{Layout}
+use Rattle.nm_types.specs.Refusal.{refusal}
+use Rattle.nm_model.specs.definitions.Cut.{run_count}
 use Rattle.nm_steps.specs.Tree.{items_seen}
-use Rattle.nm_steps.specs.Form.{number_below, smalls_at, items_at, machine_of, limit_of}
-use Rattle.nm_steps.specs.Memory.{has_items, holds, begins, begins_at, row_asks, step_asks, machine_takes_memory, trace_takes_memory, starts, starts_at}
+use Rattle.nm_steps.specs.Form.{◌>>=◌, below, each, number_of, number_at, numbers_at, number_below, smalls_at, items_at, batch_of, in_flight, machine_of, row_of}
+use Rattle.nm_steps.specs.Memory.{has_items, holds, begins, begins_at, batch_starts, flight_asks, row_asks, machine_takes_memory, starts, starts_at}
 
 -- an error that a question mark hands on is that of the call
 pub handed_on : {X Y E : Type 0} (r : Result X E) (called : Result Y E) (e f : E) → IsErr r × IsErrAnd r (λ x. x ≡ e) → called ≡ Err e → r ≡ Err f → called ≡ Err f
@@ -53,7 +56,7 @@ module _ {V : Type 0} (view : V → Data) (vs : List V) where
   pub starts_listed : {B : Type 0} (f : Data → Option B) (o : Option Items) → o ≡ Some (items_seen view vs) → starts f (items_seen view vs) ≡ true → starts_at f o ≡ true
   starts_listed f o is first = rw is first
 
-  begins_listed : (such : Data → Bool) (o : Option Items) → o ≡ Some (items_seen view vs) → begins such (items_seen view vs) ≡ true → begins_at such o ≡ true
+  pub begins_listed : (such : Data → Bool) (o : Option Items) → o ≡ Some (items_seen view vs) → begins such (items_seen view vs) ≡ true → begins_at such o ≡ true
   begins_listed such o is first = rw is first
 
   -- these values are the rows of a machine
@@ -61,12 +64,6 @@ module _ {V : Type 0} (view : V → Data) (vs : List V) where
       → machine_takes_memory d ≡ true
   has_rows d m sizes machine nodes is first =
       rw (machine, machine_takes_memory) (or_right (starts_at (number_below (2 ^ 32)) (items_at (codes "nodes") m)) _ (and_both _ _ (is_there _ sizes nodes) (begins_listed row_asks _ is first)))
-
-  -- these values are the steps of a trace
-  pub has_steps : {E : Type 0} (d : Data) (e : E) (layout : Layout) (limit : ℕ) → ok_or (machine_of d) e ≡ Ok layout → ok_or (limit_of d) e ≡ Ok limit → ok_or (items_at (codes "steps") d) e ≡ Ok (items_seen view vs)
-      → begins (step_asks limit) (items_seen view vs) ≡ true → trace_takes_memory d ≡ true
-  has_steps d e layout limit machine runs is first =
-      or_right (machine_takes_memory d) _ (and_both _ _ (is_there _ layout (some_is _ e _ machine)) (rw (some_is _ e _ runs) (begins_listed (step_asks limit) _ (some_is _ e _ is) first)))
 
 -- the nodes of a machine begin with a number
 pub has_sizes : (d m : Data) → get (codes "machine") d ≡ Some m → starts_at (number_below (2 ^ 32)) (items_at (codes "nodes") m) ≡ true → machine_takes_memory d ≡ true
@@ -82,3 +79,81 @@ is_asked a o h = or_right a (holds o) (ap holds h)
 
 pub is_asked_in : (a b : Bool) (o : Option Bool) → b ≡ true → o ≡ Some true → (a || (b && holds o)) ≡ true
 is_asked_in a b o h k = or_right a (b && holds o) (and_both b (holds o) h (ap holds k))
+
+-- ---- lists that were read
+
+first_read : {A : Type 0} (f : Data → Option A) (ds : Items) (o : Option A) (p : Option (List A)) (xs : List A) → (o >>= λ x. p >>= λ xs. Some (x ∷ xs)) ≡ Some xs → is_some o ≡ true
+first_read f ds None p xs is = absurd (cc)
+first_read f ds (Some x) p xs is = refl
+
+-- a list with an item begins with one that f reads
+starts_read : {A : Type 0} (f : Data → Option A) (o : Option Items) (xs : List A) → option_and_then (each f) o ≡ Some xs → 0 < length xs → starts_at f o ≡ true
+starts_read f None xs is some = absurd (cc)
+starts_read f (Some no_items) [] is some = absurd (omega (arith, some))
+starts_read f (Some no_items) (x ∷ xs) is some = absurd (cc)
+starts_read f (Some (item d ds)) xs is some = first_read f ds (f d) (each f ds) xs is
+
+if_some : {A : Type 0} (test : Bool) (x y : A) → (if test then Some x else None) ≡ Some y → x ≡ y
+if_some true x y is = cc
+if_some false x y is = absurd (cc)
+
+pages_read : (o p : Option (List ℕ)) (batch : List ℕ × List ℕ)
+    → (◌>>=◌ {B = List ℕ × List ℕ} o (λ ms. ◌>>=◌ {B = List ℕ × List ℕ} p (λ ns. let both : List ℕ × List ℕ = (ms, ns) in if nat_le (length ms) 16384 && (length ms == length ns) then Some both else None))) ≡ Some batch
+    → o ≡ Some batch.0
+pages_read None p batch is = absurd (cc)
+pages_read (Some ms) None batch is = absurd (cc)
+pages_read (Some ms) (Some ns) batch is =
+    let both : List ℕ × List ℕ = (ms, ns) in
+    let same : both ≡ batch = if_some (nat_le (length ms) 16384 && (length ms == length ns)) both batch is in
+    ap (λ (b : List ℕ × List ℕ). Some b.0) same
+
+none_below : (o : Option ℕ) → (o >>= below 0) ≡ None
+none_below None = refl
+none_below (Some n) = rw (le-ltb n 0 (omega arith)) refl
+
+-- without runs there is no access in flight
+no_flight : (d : Data) → flight_asks 0 d ≡ false
+unfolding in_flight
+no_flight d = rw (none_below (number_at (codes "run") d)) refl
+
+no_flights : (o : Option Items) → begins_at (flight_asks 0) o ≡ true → ⊥
+no_flights None is = absurd (cc)
+no_flights (Some no_items) is = absurd (cc)
+no_flights (Some (item d ds)) is =
+    let none = no_flight d in absurd (cc)
+
+some_runs : (limit : ℕ) (nodes : List ℕ) (o : Option Items) → begins_at (flight_asks (run_count limit nodes)) o ≡ true → 0 < length nodes
+some_runs limit [] o is = absurd (no_flights o is)
+some_runs limit (n ∷ ns) o is = omega arith
+
+-- a batch with an access in flight begins with a page
+pub batch_begins : (limit : ℕ) (d : Data) (batch : List ℕ × List ℕ) (o : Option Items) → batch_of d ≡ Some batch → length batch.0 ≡ length batch.1 → begins_at (flight_asks (run_count limit batch.1)) o ≡ true
+    → batch_starts d ≡ true
+unfolding batch_of
+batch_begins limit d batch o is paired first =
+    let some = some_runs limit batch.1 o first in
+    or_left _ _
+    (starts_read number_of (items_at (codes "pages") d) batch.0 (pages_read (numbers_at (codes "pages") d) (smalls_at (codes "nodes") d) batch is) (omega (arith, paired, some)))
+
+nodes_read : (p : Option (List ℕ)) (q : Option (List (List ℕ))) (layout : Layout)
+    → (p >>= λ sizes. q >>= λ distances. elim (refusal (record { sizes = sizes; distances = distances })) [ None ↦ Some (record { sizes = sizes; distances = distances }) | Some fault ↦ None ]) ≡ Some layout
+    → (sizes : List ℕ) × (p ≡ Some sizes) × (0 < length sizes)
+nodes_read None q layout is = absurd (cc)
+nodes_read (Some []) None layout is = absurd (cc)
+nodes_read (Some []) (Some distances) layout is = absurd (cc)
+nodes_read (Some (size ∷ sizes)) q layout is = (size ∷ sizes, refl, omega arith)
+
+nodes_begin : (o : Option Data) (layout : Layout)
+    → (o >>= λ m. smalls_at (codes "nodes") m >>= λ sizes. (items_at (codes "distance") m >>= each row_of) >>= λ distances. elim (refusal (record { sizes = sizes; distances = distances })) [ None ↦ Some (record { sizes = sizes; distances = distances }) | Some fault ↦ None ]) ≡ Some layout
+    → (m : Data) × (o ≡ Some m) × (starts_at (number_below (2 ^ 32)) (items_at (codes "nodes") m) ≡ true)
+nodes_begin None layout is = absurd (cc)
+nodes_begin (Some m) layout is =
+    let nodes = nodes_read (smalls_at (codes "nodes") m) (items_at (codes "distance") m >>= each row_of) layout is in
+    (m, refl, starts_read (number_below (2 ^ 32)) (items_at (codes "nodes") m) nodes.0 nodes.1 nodes.2)
+
+-- a machine begins with a number of its nodes
+pub machine_begins : (d : Data) (layout : Layout) → machine_of d ≡ Some layout → machine_takes_memory d ≡ true
+unfolding machine_of
+machine_begins d layout is =
+    let nodes = nodes_begin (get (codes "machine") d) layout is in
+    has_sizes d nodes.0 nodes.1 nodes.2

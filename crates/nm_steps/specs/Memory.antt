@@ -5,7 +5,7 @@ use Rattle.json.specs.Lex.{tokens}
 use Rattle.json.specs.Reads.{opens}
 use Rattle.serde_json.specs.Data.{Data, Items, no_items, item}
 use Rattle.serde_json.specs.Find.{get, as_array}
-use Rattle.nm_steps.specs.Form.{◌>>=◌, below, number_of, number_below, number_at, small_at, numbers_at, smalls_at, items_at, text_at, place_at, row_of, machine_of, limit_of, batch_of, in_flight, step_of}
+use Rattle.nm_steps.specs.Form.{◌>>=◌, below, number_of, number_below, number_at, small_at, numbers_at, smalls_at, items_at, text_at, place_at, row_of, in_flight, step_of}
 
 -- a text with a byte
 abbrev pub IsSomeText : List ℕ → Type 0
@@ -64,12 +64,9 @@ batch_starts d =
 abbrev pub names_both : Data → Bool
 names_both d = is_some (small_at (codes "caller") d) && is_some (small_at (codes "pid") d)
 
--- whether a move is read up to the first number of its batch, or up to the first of its accesses in flight
+-- whether a move is read up to the first number of its batch
 abbrev pub move_takes_memory : Data → Bool
-move_takes_memory d =
-    names_both d
-    && (batch_starts d
-    || (is_some (batch_of d) && is_some (small_at (codes "flags") d) && has_items (items_at (codes "during") d)))
+move_takes_memory d = names_both d && batch_starts d
 
 -- whether a query is read up to the first number of its pages
 abbrev pub query_takes_memory : Data → Bool
@@ -119,13 +116,3 @@ machine_takes_memory d =
           starts_at (number_below (2 ^ 32)) (items_at (codes "nodes") m)
           || (is_some (smalls_at (codes "nodes") m) && begins_at row_asks (items_at (codes "distance") m))
     ]
-
--- whether a trace is read up to what takes memory in its machine, or in its first step
-abbrev pub trace_takes_memory : Data → Bool
-trace_takes_memory d =
-    machine_takes_memory d
-    || (is_some (machine_of d)
-    && elim (limit_of d) [
-      | None ↦ false
-      | Some limit ↦ begins_at (step_asks limit) (items_at (codes "steps") d)
-    ])

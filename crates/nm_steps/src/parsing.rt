@@ -1,6 +1,6 @@
 //! Steps in JSON: the call that each asks for.
 
-ghost use Rattle.std.specs.Prelude.{◌≡◌, ◌<◌, ◌++◌, ◌∷◌, [], length, true, option_map, OnOk, IfErr, codes};
+ghost use Rattle.std.specs.Prelude.{◌≡◌, ◌<◌, ◌++◌, ◌∷◌, [], true, option_map, OnOk, IfErr, codes};
 ghost use Rattle.nm_steps.specs.Tree.{items_seen};
 ghost use Rattle.nm_model.specs.views.Asked.{access_shown};
 ghost use Rattle.nm_steps.specs.Calls as calls;
@@ -8,7 +8,7 @@ ghost use Rattle.nm_steps.specs.Form.{small_at, place_at};
 ghost use Rattle.nm_steps.specs.Form as form;
 ghost use Rattle.nm_steps.specs.Views.{call_of, shown_during};
 ghost use Rattle.nm_steps.specs.Gives.{Gives};
-ghost use Rattle.nm_steps.specs.Memory.{takes_memory, access_takes_memory, batch_starts, begins, flight_asks, has_items, move_takes_memory, names_run, query_takes_memory, write_has_pairs};
+ghost use Rattle.nm_steps.specs.Memory.{takes_memory, access_takes_memory, batch_starts, begins, begins_at, flight_asks, move_takes_memory, names_run, query_takes_memory, write_has_pairs};
 ghost use Rattle.nm_steps.specs.declared.step_error.StepError.TheVariants.{Bad, Memory};
 
 use crate::call::{
@@ -119,8 +119,7 @@ fn flights_of<A: Allocator + Copy + Send + Sync, V: JsonValue>(
 ) -> Result<Vec<InFlight<A>, A>, StepError>
     ensures flights { Gives (λ v. shown_during v.items) result
         (form.each (form.in_flight runs) (items_seen V.as_data values.now)) }
-    ensures asked { result ≡ Err Memory → 0 < length values.now }
-    ensures first { result ≡ Err Memory →
+    ensures asked { result ≡ Err Memory →
         begins (flight_asks runs) (items_seen V.as_data values.now) ≡ true }
 {
     let mut flights = Vec::new(alloc);
@@ -140,7 +139,7 @@ fn flights_at<A: Allocator + Copy + Send + Sync, V: JsonValue>(
     ensures flights { Gives (λ v. shown_during v.items) result
         (form.during_at runs (V.as_data value.now)) }
     ensures asked { result ≡ Err Memory →
-        has_items (form.items_at (codes "during") (V.as_data value.now)) ≡ true }
+        begins_at (flight_asks runs) (form.items_at (codes "during") (V.as_data value.now)) ≡ true }
 {
     match value.get("during") {
         None => Ok(Vec::new(alloc)),

@@ -15,7 +15,7 @@ ghost use Rattle.nm_steps.specs.Plans.{plan_in};
 ghost use Rattle.nm_steps.specs.declared.trace_error.TraceError.TheVariants.{NotJson, BadMachine, HostMemory};
 ghost use Rattle.nm_steps.specs.declared.step_error.StepError.TheVariants.{Bad, Memory};
 ghost use Rattle.nm_steps.specs.Gives as of_step;
-ghost use Rattle.nm_steps.specs.Memory.{IsSomeText, NeedsMemory, begins, has_items, machine_takes_memory, row_asks, starts, starts_at, step_asks, trace_takes_memory};
+ghost use Rattle.nm_steps.specs.Memory.{IsSomeText, NeedsMemory, begins, has_items, machine_takes_memory, row_asks, starts, starts_at, step_asks};
 ghost use Rattle.serde_json.specs.Find.{as_array};
 
 use crate::call::Call;
@@ -230,7 +230,7 @@ fn trace_of<A: Allocator + Copy + Send + Sync, V: JsonValue>(
     value: &V,
 ) -> Result<Trace<A>, TraceError>
     ensures trace { Gives plan_in result (faults.plan_of (V.as_data value.now)) }
-    ensures asked { result ≡ Err (HostMemory 0) → trace_takes_memory (V.as_data value.now) ≡ true }
+    ensures asked { result ≡ Err (HostMemory 0) → machine_takes_memory (V.as_data value.now) ≡ true }
 {
     let geometry = geometry_of(alloc, value)?;
     let run_limit = run_limit_of(value)?;
@@ -292,7 +292,7 @@ impl<A: Allocator + Copy + Send + Sync> Trace<A> {
     pub fn from_value(alloc: A, value: &serde_json::Value) -> Result<Trace<A>, TraceError>
         ensures trace { Gives plan_in result (faults.plan_of (owned.view value.now)) }
         ensures asked { result ≡ Err (HostMemory 0) →
-            trace_takes_memory (owned.view value.now) ≡ true }
+            machine_takes_memory (owned.view value.now) ≡ true }
     {
         trace_of(alloc, value)
     }
