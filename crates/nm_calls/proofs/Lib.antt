@@ -2,6 +2,7 @@ pub mod Accesses
 pub mod Batches
 pub mod CallLaws
 pub mod Lines
+pub mod Looks
 pub mod NodesOffline
 pub mod Outcomes
 pub mod PageLists

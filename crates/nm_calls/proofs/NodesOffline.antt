@@ -1,4 +1,5 @@
 pub mod AnyNodesOnline
+pub mod Asked
 pub mod FullNodes
 pub mod PagesLeft
 pub mod Passes

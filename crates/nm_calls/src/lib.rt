@@ -15,6 +15,7 @@ mod offline;
 mod passes;
 mod permission;
 mod placement;
+mod status;
 mod stray_pages;
 mod system;
 

@@ -7,8 +7,9 @@ ghost use Rattle.nm_calls.specs.definitions.Maps.{stretches, stretch_text, set_t
 ghost use Rattle.nm_calls.specs.views.Tally.{comma, told_on, nodes_text, tally_text};
 
 use crate::number_text::{push_address, push_number};
-use nm_engine::{Line, Located, Machine};
-use nm_types::{NodeId, NodeMask, Pid, Policy, Vpn};
+use nm_areas::Line;
+use nm_engine::Machine;
+use nm_types::{Located, NodeId, NodeMask, Pid, Policy, Vpn};
 use std::alloc::{AllocError, Allocator};
 
 /// Removes from `rest` the nodes that follow `first` without a gap, and returns the last of them, or `first` if there
@@ -120,7 +121,7 @@ fn tally_of<A: Allocator + Copy + Send + Sync>(machine: &Machine<A>, pages: &[Lo
     let mut most = 0;
     let mut on = [0u64; 64];
     for page in pages {
-        let users = machine.users_in(page.frame);
+        let users = machine.spaces().users_in(page.frame);
         let node = page.node.index();
         prove!(machine.geometry().node_count() <= 64);
         count += 1;
@@ -136,6 +137,7 @@ fn tally_of<A: Allocator + Copy + Send + Sync>(machine: &Machine<A>, pages: &[Lo
 
 /// Counts the pages that a process sees in an area. Walks once over what the process has there.
 fn count_pages<A: Allocator + Copy + Send + Sync>(
+    alloc: A,
     machine: &Machine<A>,
     pid: Pid,
     area: &Line,
@@ -153,7 +155,9 @@ fn count_pages<A: Allocator + Copy + Send + Sync>(
 {
     let first = area.first.number();
     let end = Vpn::new(first + area.pages);
-    let pages = machine.pages_between(pid, area.first, end)?;
+    let pages = machine
+        .spaces()
+        .pages_between(alloc, machine.geometry(), pid, area.first, end)?;
     Ok(tally_of(machine, pages.as_slice()))
 }
 
@@ -223,7 +227,7 @@ fn area_text<A: Allocator + Copy + Send + Sync>(
     push_address(&mut line, area.first)?;
     line.push_str(" ")?;
     push_policy(&mut line, area.policy)?;
-    let tally = count_pages(machine, pid, area)?;
+    let tally = count_pages(alloc, machine, pid, area)?;
     push_tally(&mut line, &tally, machine.geometry().node_count())?;
     Ok(line)
 }

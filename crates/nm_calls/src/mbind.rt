@@ -15,10 +15,10 @@ use crate::permission::{names_missing_node, usable};
 use crate::placement::{make, way_of};
 use crate::stray_pages::{astray, some_stray, stray_from};
 use nm_crew::{Crew, Gate};
-use nm_engine::{Located, Machine, ProcessInfo};
+use nm_engine::Machine;
 use nm_steps::MbindRequest;
 use nm_types::limits::PAGE_BYTES;
-use nm_types::{Errno, MoveFlags, NodeId, NodeMask, Pid, Policy, Vpn};
+use nm_types::{Errno, Located, MoveFlags, NodeId, NodeMask, Pid, Policy, ProcessInfo, Vpn};
 use std::alloc::{AllocError, Allocator};
 use std::sync::Wait;
 use std::thread::Threads;
@@ -141,7 +141,7 @@ fn asked_of<A: Allocator + Copy + Send + Sync>(
         flags,
         ..
     } = *request;
-    let Some(asking) = machine.process(caller) else {
+    let Some(asking) = machine.spaces().info(caller) else {
         return Err(Errno::Esrch);
     };
     let ProcessInfo {

@@ -17,11 +17,11 @@ use crate::call_error::CallError;
 use crate::listing::migrate_list;
 use crate::permission::{acted_on, names_missing_node, owner_of, usable};
 use nm_crew::{Crew, Gate};
-use nm_engine::{Machine, ProcessInfo};
+use nm_engine::Machine;
 use nm_policy::pairs;
 use nm_runs::cut_within;
 use nm_steps::{InFlight, MigrateRequest};
-use nm_types::{Errno, NodeMask, Pid};
+use nm_types::{Errno, NodeMask, Pid, ProcessInfo};
 use std::alloc::Allocator;
 use std::sync::Wait;
 use std::thread::Threads;
@@ -85,7 +85,7 @@ pub(crate) fn migration_of<A: Allocator + Copy + Send + Sync>(
         old,
         new,
     } = *request;
-    let Some(asking) = machine.process(caller) else {
+    let Some(asking) = machine.spaces().info(caller) else {
         return Err(Errno::Esrch);
     };
     if names_missing_node(machine, old) || names_missing_node(machine, new) {
@@ -93,7 +93,7 @@ pub(crate) fn migration_of<A: Allocator + Copy + Send + Sync>(
     }
     let owner = owner_of(caller, pid);
     let privileged = asking.privileged;
-    let asked = acted_on(asking, machine.process(owner))?;
+    let asked = acted_on(asking, machine.spaces().info(owner))?;
     let targets = targets_of(machine, privileged, new, asked)?;
     Ok(Migration {
         pid: owner,

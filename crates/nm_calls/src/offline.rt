@@ -87,8 +87,8 @@ fn is_on<A: Allocator + Copy + Send + Sync>(
 ) -> bool
     ensures { result ≡ is_on machine.now node.now page.now }
 {
-    match machine.node_of_page(*page) {
-        Some(at) => at == *node,
+    match machine.spaces().areas().page_frame(*page) {
+        Some(frame) => machine.geometry().node_of(frame) == *node,
         None => false,
     }
 }

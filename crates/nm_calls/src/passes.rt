@@ -23,7 +23,7 @@ use nm_crew::{Crew, Gate};
 use nm_engine::Machine;
 use nm_runs::{Request, Wanted, cut_within};
 use nm_steps::InFlight;
-use nm_types::{Errno, NodeId, NodeMask};
+use nm_types::{Errno, NodeId, NodeMask, PageView, Seen};
 use std::alloc::{AllocError, Allocator};
 use std::sync::Wait;
 use std::thread::Threads;
@@ -175,15 +175,15 @@ fn place_of<A: Allocator + Copy + Send + Sync>(
     ensures there { (node : ℕ) → StandsOn machine.now node wanted.now → result ≡ Some node }
     ensures alone { IfSome result (λ node. StandsOn machine.now node wanted.now) }
 {
-    match wanted {
-        Wanted::At { pid, vpn, .. } => {
-            let status = machine.node_status(*pid, *vpn);
-            if status < 0 {
-                return None;
-            }
-            Some(NodeId::new(status.unsigned_abs()))
-        }
-        Wanted::Whole(page) => machine.node_of_page(*page),
+    let seen = match wanted {
+        Wanted::At { pid, vpn, .. } => machine.spaces().seen(*pid, *vpn),
+        Wanted::Whole(page) => machine.spaces().placed(*page),
+    };
+    match seen {
+        Seen::At { frame, .. } => Some(machine.geometry().node_of(frame)),
+        Seen::NoArea => None,
+        Seen::Absent => None,
+        Seen::Zero => None,
     }
 }
 

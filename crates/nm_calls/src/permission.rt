@@ -5,8 +5,8 @@ ghost use Rattle.nm_runs.specs.Targets.{Checks};
 ghost use Rattle.nm_calls.specs.definitions.Permission.{flags_refusal, moves_all, owner_of, allowed_at, query_refusal, right_refusal};
 ghost use Rattle.nm_calls.specs.definitions.Permission.{names_missing_node, usable};
 
-use nm_engine::{Machine, ProcessInfo};
-use nm_types::{Errno, MoveFlags, NodeMask, Pid};
+use nm_engine::Machine;
+use nm_types::{Errno, MoveFlags, NodeMask, Pid, ProcessInfo};
 use std::alloc::Allocator;
 
 /// What a caller may do with a process's pages.
@@ -114,12 +114,12 @@ pub(crate) fn permit_of<A: Allocator + Copy + Send + Sync>(
     ensures allowed { IfOk result
         (λ permit. allowed_at machine.now (owner_of caller pid) ≡ Some permit.allowed) }
 {
-    let Some(asking) = machine.process(caller) else {
+    let Some(asking) = machine.spaces().info(caller) else {
         return Err(Errno::Esrch);
     };
     let all = asks_all(flags, asking.privileged)?;
     let owner = owner_of(caller, pid);
-    let asked = acted_on(asking, machine.process(owner))?;
+    let asked = acted_on(asking, machine.spaces().info(owner))?;
     Ok(Permit {
         pid: owner,
         allowed: asked.allowed,

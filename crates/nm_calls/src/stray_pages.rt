@@ -4,14 +4,15 @@ ghost use Rattle.std.specs.Prelude.{◌≡◌, ◌+◌, ◌-◌, ◌<◌, ◌≤
 ghost use Rattle.std.specs.List.{filter, list_any};
 ghost use Rattle.std.specs.Ordering.{is_lt};
 ghost use Rattle.nm_model.specs.definitions.Order.{follows};
+ghost use Rattle.nm_model.specs.definitions.Seen.{located};
 ghost use Rattle.nm_types.specs.Map.{page_cmp, same_page};
 ghost use Rattle.nm_calls.specs.definitions.Mbind.{strays_between, stray_pages, is_stray};
 ghost use Rattle.nm_calls.specs.definitions.Migrate.{once};
 
 use crate::mbind::Binding;
-use nm_engine::{Located, Machine};
+use nm_engine::Machine;
 use nm_policy::follows;
-use nm_types::{Pid, Policy, Vpn};
+use nm_types::{Located, Pid, Policy, Sight, Vpn};
 use std::alloc::{AllocError, Allocator};
 use std::collections::BTreeSet;
 
@@ -20,6 +21,40 @@ fn is_astray(policy: &Policy, page: &Located) -> bool
     ensures { result ≡ not (follows policy.now page.now.node) }
 {
     !follows(*policy, page.node)
+}
+
+/// The page among what is seen at a page number, if it is not where a policy wants it.
+fn stray_at<A: Allocator + Copy + Send + Sync>(
+    machine: &Machine<A>,
+    policy: &Policy,
+    vpn: Vpn,
+    sight: Sight,
+) -> Option<Located>
+    ensures some { IfSome result
+        (λ e. filter (λ (page : Located). not (follows policy.now page.node))
+        (located machine.now.layout machine.now.place vpn sight)
+        ≡ e ∷ []) }
+    ensures vpn { IfSome result (λ e. e.vpn ≡ vpn) }
+    ensures none { IfNone result
+        (filter (λ (page : Located). not (follows policy.now page.node))
+        (located machine.now.layout machine.now.place vpn sight)
+        ≡ []) }
+{
+    let Sight::Sees(page) = sight else {
+        return None;
+    };
+    let frame = machine.spaces().areas().page_frame(page)?;
+    let node = machine.geometry().node_of(frame);
+    let found = Located {
+        vpn,
+        page,
+        frame,
+        node,
+    };
+    if is_astray(policy, &found) {
+        return Some(found);
+    }
+    None
 }
 
 /// The first page that a process sees from one page number up to another that is not where a policy wants it. Does not
@@ -38,11 +73,11 @@ pub(crate) fn stray_from<A: Allocator + Copy + Send + Sync>(
     ensures range { IfSome result (λ e. (first ≤ e.vpn) × (e.vpn < end)) }
 {
     let mut at = first.number();
-    while let Some(found) = machine.page_from(pid, Vpn::new(at), end) {
-        if is_astray(policy, &found) {
+    while let Some((vpn, sight)) = machine.spaces().sight_from(pid, Vpn::new(at), end) {
+        at = vpn.number() + 1;
+        if let Some(found) = stray_at(machine, policy, vpn, sight) {
             return Some(found);
         }
-        at = found.vpn.number() + 1;
     }
     None
 }
@@ -112,7 +147,9 @@ pub(crate) fn astray<A: Allocator + Copy + Send + Sync>(
         end,
         policy,
     } = binding;
-    let found = machine.pages_between(pid, first, end)?;
+    let found = machine
+        .spaces()
+        .pages_between(alloc, machine.geometry(), pid, first, end)?;
     let strays = strays_among(alloc, &policy, found.as_slice())?;
     if are_ascending(strays.as_slice()) {
         return Ok(strays);
@@ -128,8 +165,8 @@ fn strays_now<A: Allocator + Copy + Send + Sync>(
 ) -> bool
     ensures { result ≡ is_stray machine.now policy.now found.now }
 {
-    match machine.node_of_page(found.page) {
-        Some(node) => !follows(*policy, node),
+    match machine.spaces().areas().page_frame(found.page) {
+        Some(frame) => !follows(*policy, machine.geometry().node_of(frame)),
         None => false,
     }
 }

@@ -19,23 +19,26 @@ ghost use Rattle.nm_calls.specs.definitions.Answers.{Done, NewSegment, TheBytes,
 ghost use Rattle.nm_calls.specs.definitions.Entries.{entries_mapped, entries_shown};
 ghost use Rattle.nm_calls.specs.definitions.Maps.{lines_shown};
 ghost use Rattle.nm_calls.specs.definitions.Systems.{new_system, system_with};
-ghost use Rattle.nm_calls.specs.definitions.Outcome.{statuses_of, outcome};
+ghost use Rattle.nm_calls.specs.definitions.Outcome.{outcome};
 ghost use Rattle.nm_calls.specs.definitions.Does.{Does, DoesOrRefuses};
 ghost use Rattle.nm_steps.specs.Views.{shown_during};
 
 use crate::answer::{Moved, PagemapEntry};
 use crate::batch::{check_targets, move_batch};
 use crate::call_error::CallError;
+use crate::listing::entries_of;
 use crate::maps::areas_text;
 use crate::mbind::{bind, ready};
 use crate::migrate::{migrate, migration_of};
 use crate::offline::{check_offline, empty};
 use crate::permission::permit_of;
+use crate::status::statuses_of;
 use nm_crew::{Crew, Gate};
-use nm_engine::{Entry, Machine, Totals};
+use nm_engine::{Machine, Totals};
 use nm_steps::{
     Attachment, MbindRequest, MigrateRequest, MoveRequest, NewArea, NewProcess, Question,
 };
+use nm_tables::Entry;
 use nm_types::limits::MAX_BATCH;
 use nm_types::{Errno, FrameId, Geometry, NodeId, Pid, Vpn};
 use std::alloc::{AllocError, Allocator};
@@ -62,26 +65,6 @@ fn mapped_of<A: Allocator + Copy>(
         mapped.push(PagemapEntry { vpn: *vpn, frame })?;
     }
     Ok(mapped)
-}
-
-/// Where the pages at some addresses of a process are. An error means that the host is out of memory; no addresses take
-/// none.
-fn statuses_of<A: Allocator + Copy + Send + Sync>(
-    alloc: A,
-    machine: &Machine<A>,
-    pid: Pid,
-    pages: &[u64],
-) -> Result<Vec<i32, A>, AllocError>
-    ensures list { IfOk result
-        (λ statuses. statuses.items ≡ statuses_of machine.now pid pages.now) }
-    ensures asked { OnErr result (0 < length pages.now) }
-{
-    let mut statuses = Vec::with_capacity(alloc, pages.len())?;
-    for address in pages {
-        let status = machine.node_status(pid, Vpn::of_address(*address));
-        statuses.push(status)?;
-    }
-    Ok(statuses)
 }
 
 /// A machine of nodes, processes and pages, the most entries that a run may have, and the number of workers that copy.
@@ -502,7 +485,11 @@ impl<A: Allocator + Copy + Send + Sync> System<A> {
             result ≡ Err (HostMemory runs policy_set) →
             0 < length (lines_of self.now.state.segments self.now.state.areas pid) }
     {
-        let areas = self.machine.lines(pid)?;
+        let spaces = self.machine.spaces();
+        if spaces.info(pid).is_none() {
+            return Err(CallError::Refused(Errno::Esrch));
+        }
+        let areas = spaces.areas().lines(pid)?;
         prove!(self.machine.geometry().node_count() <= 64);
         Ok(areas_text(self.alloc, &self.machine, pid, areas.as_slice())?)
     }
@@ -527,7 +514,7 @@ impl<A: Allocator + Copy + Send + Sync> System<A> {
             result ≡ Err (HostMemory runs policy_set) →
             0 < length (entries_of self.now.state pid) }
     {
-        let entries = self.machine.entries(pid)?;
+        let entries = entries_of(&self.machine, pid)?;
         Ok(mapped_of(self.alloc, entries.as_slice())?)
     }
 

@@ -1,3 +1,4 @@
 -- What contracts see the values of the code as.
-pub mod Shown
 pub mod MidRun
+pub mod Shown
+pub mod Spaces

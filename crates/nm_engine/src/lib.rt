@@ -5,11 +5,8 @@ mod answers;
 mod inner;
 pub mod laws;
 mod machine;
-mod view;
 
 pub use answers::RunAnswer;
 pub use machine::{Machine, Totals};
-pub use nm_areas::Line;
 pub use nm_memory::AccessAnswer;
-pub use nm_tables::Entry;
-pub use nm_types::{Access, Located, MachineError, ProcessInfo};
+pub use nm_types::{Access, MachineError};

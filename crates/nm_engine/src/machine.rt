@@ -13,9 +13,9 @@ ghost use Rattle.nm_model.specs.definitions.Seen.{sight_at};
 ghost use Rattle.nm_model.specs.definitions.Sound.{IsSound};
 ghost use Rattle.nm_engine.specs.definitions.Orders.{EndsSo};
 ghost use Rattle.nm_engine.specs.definitions.Does.{Accesses, AsksLast};
+ghost use Rattle.nm_engine.specs.views.Spaces.{spaces_of};
 
 mod areas;
-mod locate;
 mod online;
 mod pins;
 mod process;
@@ -26,6 +26,7 @@ use crate::inner::Inner;
 use crate::laws::interleavings;
 use nm_crew::{Crew, Gate};
 use nm_runs::Run;
+use nm_spaces::AddressSpaces;
 use nm_types::{Access, Geometry, MachineError, NodeMask, Pid};
 use std::alloc::{AllocError, Allocator};
 use std::marker::Model;
@@ -91,6 +92,13 @@ impl<A: Allocator + Copy + Send + Sync> Machine<A> {
         ensures sound { IsSound self.now }
     {
         self.inner.frames.geometry()
+    }
+
+    /// The address spaces of all processes: what each sees, its areas, and the frames and pins of pages.
+    pub fn spaces(&self) -> &AddressSpaces<A>
+        ensures { result.now ≡ spaces_of self.now }
+    {
+        &self.inner.spaces
     }
 
     /// The nodes that are online.

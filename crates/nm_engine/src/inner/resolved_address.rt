@@ -1,7 +1,6 @@
 //! Where an access finds its bytes.
 
-use crate::ProcessInfo;
-use nm_types::{Page, Pid, Policy, Vpn};
+use nm_types::{Page, Pid, Policy, ProcessInfo, Vpn};
 
 /// Where an access finds its bytes: a process, one of its page numbers, and the page that the area over it shows there,
 /// with the area's policy.

@@ -13,12 +13,11 @@ ghost use Rattle.nm_engine.specs.views.MidRun.{access_site, IsSiteOf, with_state
 ghost use Rattle.nm_engine.specs.definitions.Does.{AsksLast, Touches, Accesses};
 ghost use Rattle.nm_model.specs.definitions.Seen.{frame_seen};
 
-use crate::ProcessInfo;
 use crate::inner::Inner;
 use crate::inner::resolved_address::ResolvedAddress;
 use nm_policy::first_touch_node;
 use nm_types::limits::PAGE_BYTES;
-use nm_types::{Errno, FrameId, MachineError, NodeId, Page, Pid, Policy, Sight, Vpn};
+use nm_types::{Errno, FrameId, MachineError, NodeId, Page, Pid, Policy, ProcessInfo, Sight, Vpn};
 use std::alloc::Allocator;
 
 impl<A: Allocator + Copy> Inner<A> {

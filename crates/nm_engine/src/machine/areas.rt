@@ -1,18 +1,17 @@
 //! Adding, splitting and removing areas.
 
-ghost use Rattle.std.specs.Prelude.{Err, IfOk, None, false, length, map, true, ◌+◌, ◌/◌, ◌<◌, ◌≡◌, ◌⊎◌};
+ghost use Rattle.std.specs.Prelude.{Err, IfOk, None, false, map, true, ◌+◌, ◌/◌, ◌<◌, ◌≡◌, ◌⊎◌};
 ghost use Rattle.nm_model.specs.definitions.AreaRefusal.{overlaps};
 ghost use Rattle.std.specs.List.{list_any};
-ghost use Rattle.nm_engine.specs.definitions.Does.{AsksLast, Makes, Tells};
-ghost use Rattle.nm_model.specs.definitions.Effect.{attach, attach_refusal, dropped, entries_refusal, is_range, is_unknown, map_new, map_refusal, policy_refusal, set_policy, shows_pinned, unmap, unmap_refusal};
+ghost use Rattle.nm_engine.specs.definitions.Does.{AsksLast, Makes};
+ghost use Rattle.nm_model.specs.definitions.Effect.{attach, attach_refusal, dropped, is_range, is_unknown, map_new, map_refusal, policy_refusal, set_policy, shows_pinned, unmap, unmap_refusal};
 ghost use Rattle.nm_areas.specs.Splits.{HasSplit};
 ghost use Rattle.nm_model.specs.definitions.Areas.{pages_of};
 ghost use Rattle.nm_memory.specs.views.Frames.{CanFree, pool_of, with_freed};
-ghost use Rattle.nm_areas.specs.Lines.{lines_of};
 ghost use Rattle.nm_runs.specs.Targets.{Checks};
 
 use crate::machine::Machine;
-use nm_areas::{Line, range_start};
+use nm_areas::range_start;
 use nm_memory::Frames;
 use nm_types::{Errno, FrameId, MachineError, Page, Pid, Policy, Vpn};
 use std::alloc::Allocator;
@@ -145,21 +144,6 @@ impl<A: Allocator + Copy + Send + Sync> Machine<A> {
             return Err(MachineError::Refused(Errno::Esrch));
         }
         Ok(self.inner.spaces.set_policy(pid, addr, len, policy)?)
-    }
-
-    /// The areas of a process, in address order, as in `/proc/PID/numa_maps` (numa(7)). ESRCH if there is no such
-    /// process. An empty list takes no memory.
-    pub fn lines(&self, pid: Pid) -> Result<Vec<Line, A>, MachineError>
-        ensures told { Tells result (entries_refusal self.now pid)
-            (λ lines. lines.items ≡ lines_of self.now.segments self.now.areas pid) }
-        ensures memory { AsksLast result (entries_refusal self.now pid) }
-        ensures asked { result ≡ Err MachineError.HostMemory →
-            0 < length (lines_of self.now.segments self.now.areas pid) }
-    {
-        if self.inner.spaces.info(pid).is_none() {
-            return Err(MachineError::Refused(Errno::Esrch));
-        }
-        Ok(self.inner.spaces.areas().lines(pid)?)
     }
 }
 

@@ -1,17 +1,14 @@
 //! Adding and removing processes.
 
-ghost use Rattle.std.specs.Prelude.{Err, nat_le, option_map, true, ◌^◌, ◌≡◌, ◌≤◌};
+ghost use Rattle.std.specs.Prelude.{Err, nat_le, true, ◌^◌, ◌≡◌, ◌≤◌};
 ghost use Rattle.nm_model.specs.definitions.AreaRefusal.{overlaps};
 ghost use Rattle.std.specs.List.{list_any};
 ghost use Rattle.nm_engine.specs.definitions.Does.{AsksLast, Makes};
-ghost use Rattle.nm_types.specs.Map.{get};
-ghost use Rattle.std.specs.Ordering.{nat_cmp};
-ghost use Rattle.nm_model.specs.definitions.Effect.{exit, exit_refusal, info_of, spawn, spawn_refusal};
+ghost use Rattle.nm_model.specs.definitions.Effect.{exit, exit_refusal, spawn, spawn_refusal};
 
-use crate::ProcessInfo;
 use crate::machine::Machine;
 use nm_types::limits::{MAX_PROCESSES, PAGE_NUMBERS};
-use nm_types::{Errno, MachineError, NodeId, NodeMask, Pid, Vpn};
+use nm_types::{Errno, MachineError, NodeId, NodeMask, Pid, ProcessInfo, Vpn};
 use std::alloc::Allocator;
 
 /// Whether a set has a node that is not below a count.
@@ -29,13 +26,6 @@ fn has_beyond(nodes: NodeMask, count: usize) -> bool
 }
 
 impl<A: Allocator + Copy + Send + Sync> Machine<A> {
-    /// What `spawn` fixed of a process. None if there is no process with this pid.
-    pub fn process(&self, pid: Pid) -> Option<ProcessInfo>
-        ensures { result ≡ option_map info_of (get nat_cmp self.now.processes pid) }
-    {
-        self.inner.spaces.info(pid)
-    }
-
     /// Adds a process, with the credentials and the cpuset of credentials(7), capabilities(7) and cpuset(7). The home
     /// node need be neither allowed nor online.
     ///

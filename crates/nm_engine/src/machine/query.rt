@@ -1,17 +1,14 @@
-//! What a machine has, and where the pages are that processes see.
+//! What a machine has counted, and its free frames.
 
 ghost use Rattle.std.specs.Prelude.{Err, IfOk, length, true, ◌<◌, ◌≡◌};
 ghost use Rattle.nm_engine.specs.definitions.Does.{AsksLast, Tells};
 ghost use Rattle.nm_model.specs.definitions.Sound.{IsSound, audited};
-ghost use Rattle.nm_model.specs.definitions.Status.{node_status};
-ghost use Rattle.nm_model.specs.definitions.PageTables.{entries_of};
-ghost use Rattle.nm_model.specs.definitions.Effect.{entries_refusal, list_refusal};
+ghost use Rattle.nm_model.specs.definitions.Effect.{list_refusal};
 ghost use Rattle.nm_types.specs.State.{free_list};
 ghost use Rattle.nm_model.specs.definitions.Touch.{has_free};
 
 use crate::machine::{Machine, Totals};
-use nm_tables::Entry;
-use nm_types::{Errno, FrameId, MachineError, NodeId, PageView, Pid, Seen, Vpn};
+use nm_types::{Errno, FrameId, MachineError, NodeId};
 use std::alloc::{AllocError, Allocator};
 
 impl<A: Allocator + Copy + Send + Sync> Machine<A> {
@@ -43,36 +40,6 @@ impl<A: Allocator + Copy + Send + Sync> Machine<A> {
             return Err(MachineError::Refused(Errno::Einval));
         }
         Ok(self.inner.frames.free_list(self.alloc, node)?)
-    }
-
-    /// What a process has at the page numbers that it has touched, in ascending order, as in `/proc/PID/pagemap`. ESRCH
-    /// if there is no such process. An empty list takes no memory.
-    pub fn entries(&self, pid: Pid) -> Result<Vec<(Vpn, Entry), A>, MachineError>
-        ensures told { Tells result (entries_refusal self.now pid)
-            (λ entries. entries.items ≡ entries_of self.now pid) }
-        ensures memory { AsksLast result (entries_refusal self.now pid) }
-        ensures asked { result ≡ Err MachineError.HostMemory →
-            0 < length (entries_of self.now pid) }
-    {
-        match self.inner.spaces.entries(pid)? {
-            Some(entries) => Ok(entries),
-            None => Err(MachineError::Refused(Errno::Esrch)),
-        }
-    }
-
-    /// Where the page is that a process sees at a page number, as move_pages(2) without nodes reports it: its node's
-    /// number, or an error's number with a minus sign: -14 (EFAULT) if there is no area, or only the page of zeros; -2
-    /// (ENOENT) if nothing was touched.
-    pub fn node_status(&self, pid: Pid, vpn: Vpn) -> i32
-        ensures { result ≡ node_status self.now pid vpn }
-    {
-        let geometry = self.inner.frames.geometry();
-        prove!(geometry.node_count() <= 64);
-        match self.inner.spaces.seen(pid, vpn) {
-            Seen::NoArea | Seen::Zero => -Errno::Efault.number(),
-            Seen::Absent => -Errno::Enoent.number(),
-            Seen::At { frame, .. } => geometry.node_of(frame).number() as i32,
-        }
     }
 
     /// Whether each frame of the machine is in exactly one place: once in its own node's free list, or the frame of one

@@ -3,13 +3,16 @@ use Rattle.std.specs.Prelude.{not}
 use Rattle.std.specs.List.{filter}
 use Rattle.nm_model.specs.definitions.Order.{follows}
 use Rattle.nm_types.specs.declared.located.Located.{Located}
+use Rattle.nm_calls.proofs.Looks.{located_is}
 use Rattle.nm_calls.proofs.Policies.StrayPages.{pages_once, if_listed, few_pass}
 use Rattle.nm_calls.proofs.stray_pages.astray.Goals as goal
 
 pub returns-then-are_ascending-clause-list : goal.returns-then-are_ascending-clause-list
 returns-then-are_ascending-clause-list g c =
     let test = λ (page : Located). not (follows c.args.binding.policy page.node) in
-    let strays = c.as_slice-2.ensures.value ∙ c.in_ok-strays.ensures ∙ ap (filter test) (c.as_slice.ensures.value ∙ c.in_ok-found.ensures.pages) in
+    let b = c.args.binding in
+    let found = c.in_ok-found.ensures.pages ∙ located_is c.args.machine.now c.geometry.result.now c.spaces.result.now b.pid b.first b.end c.geometry.ensures.geometry c.spaces.ensures in
+    let strays = c.as_slice-2.ensures.value ∙ c.in_ok-strays.ensures ∙ ap (filter test) (c.as_slice.ensures.value ∙ found) in
     sym c.as_slice-2.ensures.value ∙ sym (c.are_ascending.ensures c.if-are_ascending.true) ∙ ap pages_once strays
 
 pub returns-then-are_ascending-clause-few : goal.returns-then-are_ascending-clause-few
@@ -22,7 +25,9 @@ returns-then-are_ascending-clause-few g c =
 pub returns-clause-list : goal.returns-clause-list
 returns-clause-list g c =
     let test = λ (page : Located). not (follows c.args.binding.policy page.node) in
-    let strays = c.as_slice-3.ensures.value ∙ c.in_ok-strays.ensures ∙ ap (filter test) (c.as_slice.ensures.value ∙ c.in_ok-found.ensures.pages) in
+    let b = c.args.binding in
+    let found = c.in_ok-found.ensures.pages ∙ located_is c.args.machine.now c.geometry.result.now c.spaces.result.now b.pid b.first b.end c.geometry.ensures.geometry c.spaces.ensures in
+    let strays = c.as_slice-3.ensures.value ∙ c.in_ok-strays.ensures ∙ ap (filter test) (c.as_slice.ensures.value ∙ found) in
     if_listed c.once.result (λ pages is. is ∙ ap pages_once strays) c.once.ensures.list
 
 pub returns-clause-few : goal.returns-clause-few

@@ -3,7 +3,7 @@ use Rattle.std.proofs.lemmas.Int.{to_z-of_z}
 use Rattle.std.specs.Prelude.{◌/◌}
 use Rattle.std.proofs.lemmas.List.{map_more}
 use Rattle.nm_model.specs.definitions.Status.{node_status}
-use Rattle.nm_calls.proofs.system.statuses_of.Goals as goal
+use Rattle.nm_calls.proofs.status.statuses_of.Goals as goal
 
 pub loop-address-preserved : goal.loop-address-preserved
 loop-address-preserved g c =
