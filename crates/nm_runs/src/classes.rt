@@ -73,7 +73,13 @@ fn known_class(last: &Option<(Wanted, Class)>, wanted: &Wanted) -> Option<Class>
     ensures other { IfNone result ((class : Class) → last.now ≡ Some (wanted.now, class) → ⊥) }
 {
     match last {
-        Some((request, class)) => { if request == wanted { Some(*class) } else { None } }
+        Some((request, class)) => {
+            if request == wanted {
+                Some(*class)
+            } else {
+                None
+            }
+        }
         None => None,
     }
 }

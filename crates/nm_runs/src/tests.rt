@@ -1,7 +1,9 @@
 ghost use Rattle.std.specs.Prelude.{◌≡◌, IfOk};
 ghost use Rattle.nm_types.specs.Layout.{frame_count};
 
-use crate::{Class, Request, Run, Wanted, check_batch, classify, cut, cut_pages, cut_within, laws, run_count};
+use crate::{
+    Class, Request, Run, Wanted, check_batch, classify, cut, cut_pages, cut_within, laws, run_count,
+};
 use nm_types::{Errno, FrameId, Geometry, NodeId, NodeMask, Page, PageView, Pid, Seen, Vpn};
 use std::alloc::{AllocError, Global};
 use std::process::Abort;

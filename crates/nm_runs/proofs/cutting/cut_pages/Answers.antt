@@ -26,10 +26,10 @@ loop-done-preserved g c =
     let taken = length-take most targets in
     let taken_all = length-take most rest in
     let same : requests_of c.args.pid c.args.all (take most c.split_at-in-loop-done.result.1.now) (take most targets) ≡ take most rest =
-        ap (λ ps. requests_of c.args.pid c.args.all (take most ps) (take most targets)) c.split_at-in-loop-done.ensures.back
-        ∙ ap (λ ns. requests_of c.args.pid c.args.all (take most (drop at pages)) (take most ns)) c.split_at.ensures.back
-        ∙ sym (pages_take c.args.pid c.args.all most (drop at pages) (drop at nodes) (omega (arith, left, left_pages, c.requires.paired)))
-        ∙ sym (ap (take most) (pages_drop c.args.pid c.args.all at pages nodes c.requires.paired)) in
+    ap (λ ps. requests_of c.args.pid c.args.all (take most ps) (take most targets)) c.split_at-in-loop-done.ensures.back
+    ∙ ap (λ ns. requests_of c.args.pid c.args.all (take most (drop at pages)) (take most ns)) c.split_at.ensures.back
+    ∙ sym (pages_take c.args.pid c.args.all most (drop at pages) (drop at nodes) (omega (arith, left, left_pages, c.requires.paired)))
+    ∙ sym (ap (take most) (pages_drop c.args.pid c.args.all at pages nodes c.requires.paired)) in
     let first = subst (λ (l : List Request). IsFirst l run.target run.wanted.items) same ran.first in
     record {
       within = omega (arith, ran.within, left, taken, behind, c.len-done.ensures, run.wanted.ok.0, c.loop-done.invariant.within);
