@@ -1,4 +1,4 @@
-//! The classes of requests over a machine's own states: what a run of moves decides from, where the machine itself is
+//! The classes of requests over a machine's own states: what a run of moves decides from, where its address spaces are
 //! what is looked at.
 //!
 //! The expected classes follow from the rule alone. Of a request, the first case that holds: -14 where there is no area;
@@ -143,7 +143,7 @@ fn has_classes(
 ) -> Result<bool, AllocError>
     requires { requests.now.target < 2 ^ 31 }
 {
-    let classes = classify_here(alloc, machine.geometry(), machine, requests)?;
+    let classes = classify_here(alloc, machine.geometry(), machine.spaces(), requests)?;
     Ok(classes.as_slice() == want)
 }
 

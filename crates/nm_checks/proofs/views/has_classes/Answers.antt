@@ -1,9 +1,9 @@
-use Rattle.std.proofs.Common.{◌≡◌, ℕ, [], sym, subst}
+use Rattle.std.proofs.Common.{◌≡◌, ℕ, sym, subst}
 use Rattle.nm_types.specs.Layout.{Layout}
 use Rattle.nm_types.specs.declared.page.Page.{Page}
 use Rattle.nm_types.specs.declared.seen.Seen.{Seen}
 use Rattle.nm_runs.specs.Shown.{ShowsItsFrames}
-use Rattle.nm_engine.proofs.Runs.OneByOne.{shows_its_frames}
+use Rattle.nm_calls.proofs.Looks.{lent_shows}
 use Rattle.nm_checks.proofs.views.has_classes.Goals as goal
 
 of_layout : (l m : Layout) (seen_at : ℕ → ℕ → Seen) (placed_at : Page → Seen) → l ≡ m → ShowsItsFrames m seen_at placed_at → ShowsItsFrames l seen_at placed_at
@@ -11,4 +11,4 @@ of_layout l m seen_at placed_at same h = subst (λ (x : Layout). ShowsItsFrames 
 
 -- a sound machine shows frames of its own alone
 pub classify_here-requires-clause-frames : goal.classify_here-requires-clause-frames
-classify_here-requires-clause-frames c = of_layout _ _ _ _ c.geometry.ensures.geometry (shows_its_frames c.args.machine.now [] c.geometry.ensures.sound.frames)
+classify_here-requires-clause-frames c = of_layout _ _ _ _ c.geometry.ensures.geometry (lent_shows c.args.machine.now c.spaces.result.now c.geometry.ensures.sound c.spaces.ensures)
