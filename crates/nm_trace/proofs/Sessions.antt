@@ -80,10 +80,14 @@ asked_is s bytes d limit call same value step =
     ∙ ap (λ n. ok_or (form.step_of n d) (BadStep s.steps)) same
     ∙ ap (λ o. ok_or o (BadStep s.steps)) step
 
--- memory that is refused for the value of bytes
+-- bytes whose value needs memory are a text with a byte
+pub text_of_memory : (room : ℕ) (bytes : List ℕ) → (is_utf8 bytes ≡ true) × NeedsMemory room bytes → IsSomeText bytes
+text_of_memory room bytes needs = (needs.0, needs_some room bytes needs.1)
+
+-- .. and so are those for whose value memory is refused
 pub value_memory : (room n : ℕ) (bytes : List ℕ) (e : TraceError) → e ≡ HostMemory n → (e ≡ NotJson) ⊎ (e ≡ HostMemory 0) → (e ≡ HostMemory 0 → (is_utf8 bytes ≡ true) × NeedsMemory room bytes) → IsSomeText bytes
 value_memory room n bytes e is (inl bad) told = absurd (cc)
-value_memory room n bytes e is (inr memory) told = let needs = told memory in (needs.0, needs_some room bytes needs.1)
+value_memory room n bytes e is (inr memory) told = text_of_memory room bytes (told memory)
 
 -- a call that is not counted
 pub stopped : (x y : SessionState) (t : SystemState) (bytes : List ℕ) (call : Call) → x ≡ y → asked x bytes ≡ Ok call

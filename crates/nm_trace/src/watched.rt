@@ -119,6 +119,7 @@ impl<W: Write> Write for Watched<W> {
             (W.contents (watched_inner self.new)) result buf.now }
         ensures failed { watched_failed self.new
             ≡ (is_failed_write result buf.now || watched_failed self.old) }
+        ensures given { watched_given self.new ≡ watched_given self.old }
     {
         match self.inner.write(buf) {
             Ok(count) => {
@@ -138,6 +139,7 @@ impl<W: Write> Write for Watched<W> {
         ensures bytes { Keeps (W.contents (watched_inner self.old))
             (W.contents (watched_inner self.new)) }
         ensures failed { watched_failed self.new ≡ (is_err result || watched_failed self.old) }
+        ensures given { watched_given self.new ≡ watched_given self.old }
     {
         let flushed = self.inner.flush();
         self.has_failed = flushed.is_err() || self.has_failed;
