@@ -1,5 +1,4 @@
 pub mod AnyNodesOnline
-pub mod Asked
 pub mod FullNodes
 pub mod PagesLeft
 pub mod Passes
