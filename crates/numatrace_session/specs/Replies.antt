@@ -1,8 +1,8 @@
 -- What the reply to a line makes of a session, and of what is written.
-use Rattle.std.specs.Prelude.{◌≡◌, ◌==◌, ℕ, ◌<◌, ◌⊎◌, Bool, true, List, [], ◌∷◌, ◌++◌, length, codes, decimal, Option, Some, None, Result, Ok, Err}
+use Rattle.std.specs.Prelude.{◌≡◌, ◌==◌, ℕ, ◌<◌, ◌⊎◌, Bool, true, List, [], ◌∷◌, ◌++◌, length, codes, decimal, Option, Some, None, IfSome, Result, Ok, Err, OnOk}
 use Rattle.std.specs.List.{AllByRecursion, list_any}
 use Rattle.std.specs.Io.BufRead.{take_through, drop_through}
-use Rattle.std.specs.Io.KnownBytes.{Appends, Consumes}
+use Rattle.std.specs.Io.KnownBytes.{Appends, Consumes, IsAtEnd}
 use Rattle.nm_steps.specs.Calls.{Call}
 use Rattle.nm_steps.specs.declared.trace_error.TraceError.{TraceError}
 use Rattle.nm_steps.specs.declared.trace_error.TraceError.TheVariants.{BadStep}
@@ -89,10 +89,18 @@ Talks left left_then old new =
     (top : List ℕ) × (s : SessionState) × (lines : List (List ℕ)) × (opened top ≡ Ok s) × ReadsLines left left_then (top ∷ lines)
     × Appends old new (replies_to s lines) × AllByRecursion HasByte lines
 
+-- without a fault, bytes that are known are read to their end
+abbrev pub ReachesEnd : Result (Unit {0}) End → Option (List ℕ) → Option (List ℕ) → Type 0
+ReachesEnd result left left_then = OnOk result (IfSome left (λ _. IsAtEnd left_then))
+
 -- the first line begins none, and nothing is written
 abbrev pub IsRefused : Option (List ℕ) → Option (List ℕ) → Option (List ℕ) → Option (List ℕ) → TraceError → Type 0
 IsRefused left left_then old new fault =
     (top : List ℕ) × (opened top ≡ Err fault) × ReadsLines left left_then (top ∷ []) × Appends old new []
+
+-- a bad top is told only where the first line begins no session, and nothing is written
+abbrev pub Refuses : Result (Unit {0}) End → Option (List ℕ) → Option (List ℕ) → Option (List ℕ) → Option (List ℕ) → Type 0
+Refuses result left left_then old new = (fault : TraceError) → result ≡ Err (BadTop fault) → IsRefused left left_then old new fault
 
 -- ---- where a session ends before its input does
 
@@ -129,3 +137,10 @@ EndsTalk end left left_then old new failed fails =
     (Appends old new [] × (fails ≡ failed))
     ⊎ ((top : List ℕ) × (s : SessionState) × (between : Option (List ℕ)) × (opened top ≡ Ok s) × ReadsLines left between (top ∷ [])
     × EndsEarly end s between left_then old new failed fails)
+
+-- a session ends early, once the replies that wait were flushed; or they could not be, and the writer has failed, which
+-- may have failed before
+abbrev pub EndsFlushed : End → Option (List ℕ) → Option (List ℕ) → Option (List ℕ) → Option (List ℕ) → Bool → Bool → Type 0
+EndsFlushed Stream left left_then old new failed fails =
+    EndsTalk Stream left left_then old new failed fails ⊎ EndsTalk Stream left left_then old new true fails
+EndsFlushed end left left_then old new failed fails = EndsTalk end left left_then old new failed fails

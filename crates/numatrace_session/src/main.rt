@@ -14,7 +14,7 @@ ghost use Rattle.std.specs.Io.KnownBytes.{Consumes, IsAtEnd, Keeps};
 ghost use Rattle.nm_trace.specs.Session.{SessionState, opened};
 ghost use Rattle.std.specs.Io.Buffered.{reader_buffer, reader_remaining};
 ghost use Rattle.nm_steps.specs.declared.trace_error.TraceError.{TraceError};
-ghost use Rattle.numatrace_session.specs.Replies.{bad_step_reply, has_line, EndsEarly, EndsTalk, IsRefused, Replies, RepliesToLines, Talks, Tries, Writes};
+ghost use Rattle.numatrace_session.specs.Replies.{bad_step_reply, has_line, EndsEarly, EndsFlushed, EndsTalk, ReachesEnd, Refuses, Replies, RepliesToLines, Talks, Tries, Writes};
 
 use nm_crew::OpenGate;
 use nm_trace::{FlushingWriter, Session, TellingWriter, TraceError, Watched, write_lines};
@@ -157,8 +157,8 @@ fn reply_to_lines<T: Threads + Wait + Sync, R: Read, W: FlushingWriter>(
     ensures lines { OnOk result (RepliesToLines session.old session.new
         (reader_remaining R.remaining input.old) (reader_remaining R.remaining input.new)
         (W.contents out.old) (W.contents out.new)) }
-    ensures end { OnOk result (IfSome (reader_remaining R.remaining input.old)
-        (λ _. IsAtEnd (reader_remaining R.remaining input.new))) }
+    ensures end { ReachesEnd result
+        (reader_remaining R.remaining input.old) (reader_remaining R.remaining input.new) }
     ensures told { OnOk result (W.has_failed out.new ≡ W.has_failed out.old) }
 
     // On a fault
@@ -189,13 +189,14 @@ fn talk<T: Threads + Wait + Sync, R: Read, W: FlushingWriter>(
     ensures talk { OnOk result (Talks
         (reader_remaining R.remaining input.old) (reader_remaining R.remaining input.new)
         (W.contents out.old) (W.contents out.new)) }
-    ensures end { OnOk result (IfSome (reader_remaining R.remaining input.old)
-        (λ _. IsAtEnd (reader_remaining R.remaining input.new))) }
+    ensures end { ReachesEnd result
+        (reader_remaining R.remaining input.old) (reader_remaining R.remaining input.new) }
+    ensures told { OnOk result (W.has_failed out.new ≡ W.has_failed out.old) }
 
     // On a fault
-    ensures refused { (fault : TraceError) → result ≡ Err (End.BadTop fault) → IsRefused
+    ensures refused { Refuses result
         (reader_remaining R.remaining input.old) (reader_remaining R.remaining input.new)
-        (W.contents out.old) (W.contents out.new) fault }
+        (W.contents out.old) (W.contents out.new) }
     ensures early { IfErr result (λ e. EndsTalk e
         (reader_remaining R.remaining input.old) (reader_remaining R.remaining input.new)
         (W.contents out.old) (W.contents out.new) (W.has_failed out.old) (W.has_failed out.new)) }
@@ -221,16 +222,17 @@ fn talk_to_end<T: Threads + Wait + Sync, R: Read, W: FlushingWriter>(
     ensures talk { OnOk result (Talks
         (reader_remaining R.remaining input.old) (reader_remaining R.remaining input.new)
         (W.contents out.old) (W.contents out.new)) }
-    ensures end { OnOk result (IfSome (reader_remaining R.remaining input.old)
-        (λ _. IsAtEnd (reader_remaining R.remaining input.new))) }
+    ensures end { ReachesEnd result
+        (reader_remaining R.remaining input.old) (reader_remaining R.remaining input.new) }
+    ensures told { OnOk result (W.has_failed out.new ≡ W.has_failed out.old) }
 
     // On a fault
-    ensures refused { (fault : TraceError) → result ≡ Err (End.BadTop fault) → IsRefused
+    ensures refused { Refuses result
         (reader_remaining R.remaining input.old) (reader_remaining R.remaining input.new)
-        (W.contents out.old) (W.contents out.new) fault }
-    ensures memory { result ≡ Err End.HostMemory → EndsTalk End.HostMemory
+        (W.contents out.old) (W.contents out.new) }
+    ensures early { IfErr result (λ e. EndsFlushed e
         (reader_remaining R.remaining input.old) (reader_remaining R.remaining input.new)
-        (W.contents out.old) (W.contents out.new) (W.has_failed out.old) (W.has_failed out.new) }
+        (W.contents out.old) (W.contents out.new) (W.has_failed out.old) (W.has_failed out.new)) }
 
     // In any case
     ensures flushed { (result ≡ Err End.Stream) ⊎ W.is_flushed out.new }

@@ -1,5 +1,5 @@
 use Rattle.std.specs.Io.Buffered.{reader_remaining}
-use Rattle.numatrace_session.proofs.Served.{memory_kept, refused_kept, talks_kept}
+use Rattle.numatrace_session.proofs.Served.{ends_kept, ends_lost, refused_kept, talks_kept}
 use Rattle.numatrace_session.proofs.talk_to_end.Goals as goal
 
 pub returns-clause-talk : goal.returns-clause-talk
@@ -12,7 +12,12 @@ returns-clause-refused g c = λ fault is.
     refused_kept (reader_remaining g.R.Read.remaining c.args.input.now) (reader_remaining g.R.Read.remaining c.talk-ended.new.input) (g.W.Write.contents c.args.out.now) (g.W.Write.contents c.talk-ended.new.out) (g.W.Write.contents c.flush_telling.new.self)
     fault (c.talk-ended.ensures.refused fault is) c.in-Ok.ensures.bytes
 
-pub returns-clause-memory : goal.returns-clause-memory
-returns-clause-memory g c = λ is.
-    memory_kept (reader_remaining g.R.Read.remaining c.args.input.now) (reader_remaining g.R.Read.remaining c.talk-ended.new.input) (g.W.Write.contents c.args.out.now) (g.W.Write.contents c.talk-ended.new.out) (g.W.Write.contents c.flush_telling.new.self)
-    _ _ _ c.talk-ended.result c.talk-ended.ensures.early is c.in-Ok.ensures.bytes c.in-Ok.ensures.failed
+pub returns-clause-early : goal.returns-clause-early
+returns-clause-early g c =
+    ends_kept (reader_remaining g.R.Read.remaining c.args.input.now) (reader_remaining g.R.Read.remaining c.talk-ended.new.input) (g.W.Write.contents c.args.out.now) (g.W.Write.contents c.talk-ended.new.out) (g.W.Write.contents c.flush_telling.new.self)
+    _ _ _ c.talk-ended.result c.talk-ended.ensures.early c.in-Ok.ensures.bytes c.in-Ok.ensures.failed
+
+pub returns-in_default-clause-early : goal.returns-in_default-clause-early
+returns-in_default-clause-early g c =
+    ends_lost (reader_remaining g.R.Read.remaining c.args.input.now) (reader_remaining g.R.Read.remaining c.talk-ended.new.input) (g.W.Write.contents c.args.out.now) (g.W.Write.contents c.talk-ended.new.out) (g.W.Write.contents c.flush_telling.new.self)
+    _ _ _ c.talk-ended.result c.talk-ended.ensures.talk c.talk-ended.ensures.early c.in_default.ensures.bytes c.in_default.ensures.failed
