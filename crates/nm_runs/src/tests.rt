@@ -92,16 +92,18 @@ fn cuts_within_a_limit(rt: HostRuntime) -> Result<(), Fail> {
 #[test]
 fn pages_are_cut_by_their_nodes(rt: HostRuntime) -> Result<(), Fail> {
     let alloc = rt.alloc();
-    let pid = Pid::new(7);
-    let pages = [0x1000, 0x2fff, 0x3000];
-    let runs = cut_pages(alloc, pid, true, pages.as_slice(), &[1, 1, 0], 2)?;
-    assert!(rt; told(alloc, runs.as_slice())?.as_slice() == [(1, 2), (0, 1)]);
-    let second = Wanted::At {
-        pid,
-        vpn: Vpn::new(2),
-        all: true,
-    };
-    assert!(rt; runs[0].wanted[1] == second);
+    let pages = [0x1000u64, 0x2fff, 0x3000];
+    let nodes = [1u32, 1, 0];
+    let runs = cut_pages(
+        alloc,
+        Pid::new(7),
+        true,
+        pages.as_slice(),
+        nodes.as_slice(),
+        2,
+    )?;
+    let want = [(1u32, 2usize), (0, 1)];
+    assert!(rt; told(alloc, runs.as_slice())?.as_slice() == want.as_slice());
     Ok(())
 }
 

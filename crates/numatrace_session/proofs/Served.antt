@@ -81,8 +81,12 @@ pub ends_lost : {X : Type 0} (a b old new newer : Option (List ℕ)) (failed mid
 ends_lost a b old new newer failed mid fails (Ok done) talks early kept told =
     let apart = first_apart a b talks.0 talks.2 talks.4 in
     inr (inr (
-        talks.0, talks.1, apart.0, talks.3, apart.1,
-        (talks.2, (b, [], apart.2, consumes_none b), talks.6, inl (appends_kept old new newer (replies_to talks.1 talks.2) talks.5 kept, told)),
+      talks.0,
+      talks.1,
+      apart.0,
+      talks.3,
+      apart.1,
+      (talks.2, (b, [], apart.2, consumes_none b), talks.6, inl (appends_kept old new newer (replies_to talks.1 talks.2) talks.5 kept, told)),
     ))
 ends_lost a b old new newer failed mid fails (Err end) talks early kept told = inr (talk_lost end a b old new newer failed mid fails early kept told)
 
