@@ -7,7 +7,7 @@ use Rattle.nm_calls.proofs.Batches.Requests.{targets_below, runs_alike, entries_
 use Rattle.nm_calls.proofs.batch.move_batch.Goals as goal
 
 pub cut_pages-requires-clause-paired : goal.cut_pages-requires-clause-paired
-cut_pages-requires-clause-paired g c κs within =
+cut_pages-requires-clause-paired g c =
     ap length c.as_slice-pages.ensures.value ∙ c.args.request.now.batch.paired ∙ ap length (sym c.as_slice-nodes.ensures.value)
 
 pub move_runs-requires-clause-targets : goal.move_runs-requires-clause-targets
