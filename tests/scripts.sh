@@ -147,6 +147,19 @@ count() {
 expect_kept() {
     [ "$(cat "$all/crates/nm_crew/out/kept")$(count room)" = kept0 ] || fail "$1"
 }
+# Waits until the build that is under way notes this.
+until_noted() {
+    left=3000
+    until grep -q "$1" "$there/notes"; do
+        left=$((left - 1))
+        [ "$left" -gt 0 ] && kill -0 "$building" 2> /dev/null || fail "a build does not come to $1: $(cat "$there/err")"
+        sleep 0.1
+    done
+}
+# Waits until no process that a stopped build had started is left: the build's lock is theirs as well.
+until_free() {
+    flock -w 300 "$all/crates" true || fail "processes of a build that was told to stop do not end"
+}
 
 # Each crate of the programs is proved once, after those below it, that of sessions last; no room is left, and no crate is proved that
 # the programs do not need.
@@ -190,7 +203,7 @@ expect_kept "a build that fails loses what was kept"
 : > "$there/notes"
 env FAILS= SLOW=nm_crew NOTES="$there/notes" ALL="$all" PATH="$there/bin:$PATH" "$all/build" 2> "$there/err" &
 building=$!
-until grep -q 'begins nm_crew' "$there/notes"; do sleep 0.1; done
+until_noted '^begins nm_crew'
 status=0
 PATH="$there/bin:$PATH" "$all/build" 2> "$there/second" || status=$?
 [ "$status" = 1 ] || fail "two builds run at a time"
@@ -199,6 +212,7 @@ kill "$building"
 status=0
 wait "$building" || status=$?
 [ "$status" = 130 ] || fail "a build that is told to stop ends with $status"
+until_free
 expect_kept "a build that is told to stop loses what was kept"
 
 # One that is told to stop while it moves back what was proved moves all of it.
@@ -211,12 +225,13 @@ END
 chmod +x "$there/bin/mv"
 env FAILS= SLOW= NOTES="$there/notes" ALL="$all" PATH="$there/bin:$PATH" "$all/build" 2> "$there/err" &
 building=$!
-until grep -q '^moves' "$there/notes"; do sleep 0.1; done
+until_noted '^moves'
 kill "$building"
 status=0
 wait "$building" || status=$?
 rm "$there/bin/mv"
 [ "$status" = 130 ] || fail "a build that is told to stop while it moves what was proved ends with $status"
+until_free
 expect_kept "a build that is told to stop while it moves what was proved loses what was kept"
 
 # What a killed build left in a room is recovered by the next.
