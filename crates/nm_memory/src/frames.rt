@@ -6,7 +6,7 @@ ghost use Rattle.nm_types.specs.Nodes.{is_in};
 ghost use Rattle.nm_model.specs.definitions.Touch.{has_free};
 ghost use Rattle.nm_model.specs.definitions.Frames.{list_of, with_list, appended, prepended};
 ghost use Rattle.std.specs.List.{AllByRecursion};
-ghost use Rattle.nm_spaces.specs.views.Held.{AreHeld};
+ghost use Rattle.nm_spaces.specs.definitions.Moves.{CanRemap, all_moved};
 ghost use Rattle.nm_memory.specs.views.Copies.{CanCopy, HasBoth, with_copies, emptied};
 ghost use Rattle.nm_model.specs.definitions.BeforeCopy.{frames_taken};
 ghost use Rattle.nm_memory.specs.definitions.AfterCopy.{all_stored_after_copy, CanDo};
@@ -20,16 +20,18 @@ ghost use Rattle.nm_frames.specs.Populated.{IsPopulated};
 ghost use Rattle.nm_model.specs.definitions.Memory.{stretch_of};
 
 mod copying;
+mod run_in_flight;
 
 use crate::answers::AccessAnswer;
 use crate::audit;
 use crate::pending_access::PendingAccess;
-use copying::copy_pages;
+use copying::copy_beside;
 use nm_crew::{Crew, Gate};
 use nm_frames::{CopyJob, FrameStore};
 use nm_nodes::NodePool;
-use nm_spaces::HeldSpaces;
+use nm_spaces::AddressSpaces;
 use nm_types::{Access, FrameId, Geometry, NodeId, NodeMask, Taken};
+use run_in_flight::RunInFlight;
 use std::alloc::{AllocError, Allocator};
 use std::marker::Model;
 use std::mem;
@@ -356,26 +358,28 @@ impl<A: Allocator + Copy> Frames<A> {
 }
 
 impl<A: Allocator + Copy + Send + Sync> Frames<A> {
-    /// Has a crew copy the pages of these moves to their new frames, and meanwhile does what is left to do for accesses
-    /// to other pages. The answers go into a list that has room for them.
-    pub fn copy_pages<R: Threads + Wait + Sync, G: Gate + Sync>(
+    /// Carries out moves: the pages go on their way to their new frames, a crew copies them, and meanwhile what is left to
+    /// do for accesses to other pages is done; then they have arrived. Returns the address spaces, and the answers in the
+    /// list that it is given, which has room for them.
+    pub fn carry_out<R: Threads + Wait + Sync, G: Gate + Sync>(
         &mut self,
         crew: &Crew<R, G>,
         alloc: A,
+        spaces: AddressSpaces<A>,
         moves: &[Taken],
-        held: &HeldSpaces<A>,
         accesses: &[Access<A>],
         dues: Vec<PendingAccess<A>, A>,
         answers: Vec<AccessAnswer<A>, A>,
-    ) -> Vec<AccessAnswer<A>, A>
+    ) -> (AddressSpaces<A>, Vec<AccessAnswer<A>, A>)
         // The moves
+        requires remap { CanRemap spaces moves.now }
         requires can { CanCopy self.old.frames moves.now }
         requires populated { AllByRecursion (HasBoth self.old.frames) moves.now }
         requires few { length moves.now ≤ self.old.room }
-        requires held { AreHeld held.now.tables moves.now }
 
         // What is left to do
-        requires due { AllByRecursion (CanDo held.now.spaces.place (emptied self.old.frames moves.now))
+        requires due { AllByRecursion
+            (CanDo (all_moved spaces moves.now).place (emptied self.old.frames moves.now))
             (map (pending_shown accesses.now) dues.items) }
         requires room { AllByRecursion HasRoom dues.items }
 
@@ -384,31 +388,29 @@ impl<A: Allocator + Copy + Send + Sync> Frames<A> {
         requires space { vec_len dues ≤ vec_capacity answers }
 
         // Afterwards
+        ensures spaces { result.0 ≡ all_moved spaces moves.now }
         ensures frames { self.new
             ≡ record (self.old) {
-              frames = (all_stored_after_copy held.now.spaces.place
+              frames = (all_stored_after_copy (all_moved spaces moves.now).place
                   (with_copies self.old.frames moves.now)
                   (map (pending_shown accesses.now) dues.items)).store;
               room = self.new.room;
             } }
-        ensures answers { map answer_shown result.items
-            ≡ (all_stored_after_copy held.now.spaces.place (with_copies self.old.frames moves.now)
+        ensures answers { map answer_shown result.1.items
+            ≡ (all_stored_after_copy (all_moved spaces moves.now).place
+            (with_copies self.old.frames moves.now)
             (map (pending_shown accesses.now) dues.items)).answers }
     {
-        let jobs = mem::replace(&mut self.jobs, Vec::new(alloc));
-        let (jobs, answers) = copy_pages(
-            crew,
-            alloc,
-            &mut self.frames,
-            moves,
-            jobs,
-            held,
-            accesses,
-            dues,
-            answers,
+        let mut jobs = mem::replace(&mut self.jobs, Vec::new(alloc));
+        let store = mem::replace(&mut self.frames, FrameStore::none(alloc));
+        let run = RunInFlight::begin(spaces, store, moves, &mut jobs);
+        let (mut copied, (run, answers)) = copy_beside(
+            crew, alloc, run, jobs, accesses, dues, answers,
         );
-        self.jobs = jobs;
-        answers
+        let (spaces, store) = run.finish(&mut copied);
+        self.frames = store;
+        self.jobs = copied;
+        (spaces, answers)
     }
 }
 

@@ -95,11 +95,10 @@ impl<A: Allocator + Copy + Send + Sync> Inner<A> {
     {
         self.frames.vacate_each(moves);
         let spaces = mem::replace(&mut self.spaces, AddressSpaces::none(self.alloc));
-        let held = spaces.hold(moves);
-        let answers = self
+        let (spaces, answers) = self
             .frames
-            .copy_pages(crew, self.alloc, moves, &held, accesses, dues, answers);
-        self.spaces = held.settle(moves);
+            .carry_out(crew, self.alloc, spaces, moves, accesses, dues, answers);
+        self.spaces = spaces;
         answers
     }
 

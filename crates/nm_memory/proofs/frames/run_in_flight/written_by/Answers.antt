@@ -1,7 +1,7 @@
 use Rattle.std.proofs.Common.{Some, length, refl, ap, sym, ◌∙◌}
 use Rattle.std.proofs.lemmas.Option.{slice_get_read}
 use Rattle.nm_memory.specs.views.Accesses.{written_by}
-use Rattle.nm_memory.proofs.frames.copying.written_by.Goals as goal
+use Rattle.nm_memory.proofs.frames.run_in_flight.written_by.Goals as goal
 
 pub returns-in-Some-Write : goal.returns-in-Some-Write
 returns-in-Some-Write g c =
