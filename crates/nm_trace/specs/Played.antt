@@ -19,14 +19,11 @@ BreaksOff old new text = (front : List ℕ) × (rest : List ℕ) × (front ++ re
 abbrev pub StopsIn : SystemState → Call → SystemState → Type 0
 StopsIn s call t = (runs : ℕ) × (policy_set : Bool) × HostLeaves s call runs policy_set t
 
--- after the first k calls the next one stopped
+-- after the first k calls the next one, which asks for memory, stopped
 abbrev pub StopsAt : SystemState → List Call → ℕ → SystemState → Type 0
-StopsAt s calls k t = (call : Call) × (slice_get calls k ≡ Some call) × StopsIn (state_after s (take k calls)) call t
-
--- the call after the first k asks for memory
-abbrev pub StopsFor : SystemState → List Call → ℕ → Type 0
-StopsFor s calls k =
-    (call : Call) × (slice_get calls k ≡ Some call) × MayAllocate (state_after s (take k calls)).state call
+StopsAt s calls k t =
+    let before = state_after s (take k calls) in
+    (call : Call) × (slice_get calls k ≡ Some call) × MayAllocate before.state call × StopsIn before call t
 
 -- a play makes every call and writes the report on them; if the writer fails, some first calls were made, and the
 -- report on them breaks off; if the host has no memory for step k, the report on the steps before it is written, and

@@ -1,9 +1,9 @@
 //! Playing a trace and writing its report.
 
-ghost use Rattle.std.specs.Prelude.{◌≡◌, ◌||◌, ℕ, Err, OnErr, map};
+ghost use Rattle.std.specs.Prelude.{◌≡◌, ◌||◌, OnErr, map};
 ghost use Rattle.nm_calls.specs.definitions.Memory.{MayAllocate};
 ghost use Rattle.nm_steps.specs.Views.{call_of};
-ghost use Rattle.nm_trace.specs.Played.{Plays, StopsFor};
+ghost use Rattle.nm_trace.specs.Played.{Plays};
 ghost use Rattle.nm_trace.specs.Telling.{is_write_fault};
 ghost use Rattle.nm_trace.specs.Waiting.{Tells};
 
@@ -78,7 +78,6 @@ pub(crate) fn play_calls<
     ensures plays { Plays system.old (map call_of calls.now) system.new (W.contents writer.old)
         (W.contents writer.new) result }
     ensures told { W.has_failed writer.new ≡ (is_write_fault result || W.has_failed writer.old) }
-    ensures asked { (k : ℕ) → result ≡ Err (TraceError.HostMemory k) → StopsFor system.old (map call_of calls.now) k }
 {
     let mut block = Block::new(alloc, BLOCK_BYTES);
     for (k, call) in calls.iter().enumerate() {
@@ -121,8 +120,6 @@ pub fn play<
     ensures plays { Plays system.old (map call_of trace.now.calls.items) system.new
         (W.contents writer.old) (W.contents writer.new) result }
     ensures told { W.has_failed writer.new ≡ (is_write_fault result || W.has_failed writer.old) }
-    ensures asked { (k : ℕ) → result ≡ Err (TraceError.HostMemory k) →
-        StopsFor system.old (map call_of trace.now.calls.items) k }
 {
     play_calls(rt, alloc, system, trace.calls.as_slice(), writer, gate)
 }

@@ -3,7 +3,7 @@ use Rattle.std.proofs.lemmas.List.{take_all, length-map}
 use Rattle.std.proofs.lemmas.Option.{slice_get_read}
 use Rattle.std.specs.Io.KnownBytes.{Appends}
 use Rattle.nm_steps.specs.Views.{call_of}
-use Rattle.nm_trace.specs.Played.{BreaksOff, StopsFor}
+use Rattle.nm_trace.specs.Played.{BreaksOff}
 use Rattle.nm_trace.specs.Report.{report_from, state_after}
 use Rattle.nm_trace.specs.Waiting.{Stands}
 use Rattle.nm_trace.proofs.InParts.{call_at, state_more, report_more}
@@ -15,10 +15,11 @@ returns-in_default-finish-clause-plays g c =
     let calls = map call_of c.args.calls.now in
     let at = call_at call_of c.args.calls.now c.loop-k.k c.index-calls-k.result c.loop-k-test.true c.index-calls-k.is in
     let l = c.loop-k.invariant in
-    let stop = rw l.made at c.in_default.ensures.told in (
+    let stop = rw l.made at c.in_default.ensures.told in
+    let asks = rw l.made at c.in_default.ensures.asked in (
       c.loop-k.k,
       omega (arith, at.0),
-      inr (_, slice_get_read calls _ c.loop-k.k _ refl at.0 at.1, stop.0),
+      inr (_, slice_get_read calls _ c.loop-k.k _ refl at.0 at.1, asks, stop.0),
       ends_broken g.W.Write.contents _ _ _ _ _ _ _ l.whole stop.1 stop.2 l.stands c.in_default-finish.ensures.broken,
     )
 
@@ -27,8 +28,9 @@ returns-in_default-clause-plays g c =
     let calls = map call_of c.args.calls.now in
     let at = call_at call_of c.args.calls.now c.loop-k.k c.index-calls-k.result c.loop-k-test.true c.index-calls-k.is in
     let l = c.loop-k.invariant in
-    let stop = rw l.made at c.in_default.ensures.told in (
-      (_, slice_get_read calls _ c.loop-k.k _ refl at.0 at.1, stop.0),
+    let stop = rw l.made at c.in_default.ensures.told in
+    let asks = rw l.made at c.in_default.ensures.asked in (
+      (_, slice_get_read calls _ c.loop-k.k _ refl at.0 at.1, asks, stop.0),
       ends_whole g.W.Write.contents _ _ _ _ _ _ _ l.whole stop.1 stop.2 l.stands c.in-Ok-finish.ensures.whole,
     )
 
@@ -77,12 +79,3 @@ returns-clause-plays g c =
       l.made ∙ ap (state_after c.args.system.now) all,
       subst (Appends _ _) (ap (report_from 0 c.args.system.now) all) (ends_whole g.W.Write.contents _ _ _ c.loop-k.writer c.loop-k.writer c.loop-k.block c.loop-k.block l.whole refl refl l.stands c.in-Ok-finish-2.ensures.whole),
     )
-
-pub returns-in_default-clause-asked : goal.returns-in_default-clause-asked
-returns-in_default-clause-asked g c = λ k is.
-    let calls = map call_of c.args.calls.now in
-    let at = call_at call_of c.args.calls.now c.loop-k.k c.index-calls-k.result c.loop-k-test.true c.index-calls-k.is in
-    let l = c.loop-k.invariant in
-    let same : c.loop-k.k ≡ k = cc in
-    let stop = rw l.made at c.in_default.ensures.asked in
-    subst (StopsFor c.args.system.now calls) same (_, slice_get_read calls _ c.loop-k.k _ refl at.0 at.1, stop)
