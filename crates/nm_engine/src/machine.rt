@@ -160,7 +160,7 @@ impl<A: Allocator + Copy + Send + Sync> Machine<A> {
         &mut self,
         crew: &Crew<R, G>,
         requests: &Run<A>,
-        accesses: &[Access<A>],
+        accesses: &[&Access<A>],
     ) -> Result<RunAnswer<A>, AllocError>
         requires target { requests.now.target < node_count self.old.layout }
         requires alike { HasOneAll requests.now.wanted.items }
@@ -169,21 +169,21 @@ impl<A: Allocator + Copy + Send + Sync> Machine<A> {
         ensures statuses { IfOk result
             (λ flown. flown.statuses.items
             ≡ (run self.old requests.now.target requests.now.wanted.items
-            (map access_shown accesses.now)).statuses) }
+            (map (λ a. access_shown a.now) accesses.now)).statuses) }
         ensures failed { IfOk result (λ flown. flown.failed ≡ failures flown.statuses.items) }
         ensures answers { IfOk result
             (λ flown. map answer_shown flown.answers.items ∷ []
             ≡ (run self.old requests.now.target requests.now.wanted.items
-            (map access_shown accesses.now)).answers) }
+            (map (λ a. access_shown a.now) accesses.now)).answers) }
         ensures state { OnOk result
             (self.new
             ≡ (run self.old requests.now.target requests.now.wanted.items
-            (map access_shown accesses.now)).state) }
+            (map (λ a. access_shown a.now) accesses.now)).state) }
 
         // Whatever order the events of such a run take
         ensures orders { IfOk result
             (λ flown. EndsSo self.old requests.now.target requests.now.wanted.items
-            (map access_shown accesses.now) (record {
+            (map (λ a. access_shown a.now) accesses.now) (record {
               state = self.new;
               statuses = flown.statuses.items;
               answers = map answer_shown flown.answers.items ∷ [];
@@ -201,7 +201,7 @@ impl<A: Allocator + Copy + Send + Sync> Machine<A> {
         let dues = self.inner.begin(requests.target, moves, accesses)?;
         let answers = self
             .inner
-            .carry_out(crew, requests.target, moves, accesses, dues, answers);
+            .carry_out(crew, requests.target, moves, dues, answers);
         let failed = self.inner.end_run(plan.statuses());
         Ok(RunAnswer {
             statuses: plan.into_statuses(),

@@ -30,7 +30,7 @@ use nm_crew::{Crew, Gate};
 use nm_frames::{CopyJob, FrameStore};
 use nm_nodes::NodePool;
 use nm_spaces::AddressSpaces;
-use nm_types::{Access, FrameId, Geometry, NodeId, NodeMask, Taken};
+use nm_types::{FrameId, Geometry, NodeId, NodeMask, Taken};
 use run_in_flight::RunInFlight;
 use std::alloc::{AllocError, Allocator};
 use std::marker::Model;
@@ -367,8 +367,7 @@ impl<A: Allocator + Copy + Send + Sync> Frames<A> {
         alloc: A,
         spaces: AddressSpaces<A>,
         moves: &[Taken],
-        accesses: &[Access<A>],
-        dues: Vec<PendingAccess<A>, A>,
+        dues: Vec<PendingAccess<'_, A>, A>,
         answers: Vec<AccessAnswer<A>, A>,
     ) -> (AddressSpaces<A>, Vec<AccessAnswer<A>, A>)
         // The moves
@@ -380,7 +379,7 @@ impl<A: Allocator + Copy + Send + Sync> Frames<A> {
         // What is left to do
         requires due { AllByRecursion
             (CanDo (all_moved spaces moves.now).place (emptied self.old.frames moves.now))
-            (map (pending_shown accesses.now) dues.items) }
+            (map pending_shown dues.items) }
         requires room { AllByRecursion HasRoom dues.items }
 
         // The list for the answers
@@ -393,20 +392,18 @@ impl<A: Allocator + Copy + Send + Sync> Frames<A> {
             ≡ record (self.old) {
               frames = (all_stored_after_copy (all_moved spaces moves.now).place
                   (with_copies self.old.frames moves.now)
-                  (map (pending_shown accesses.now) dues.items)).store;
+                  (map pending_shown dues.entry.items)).store;
               room = self.new.room;
             } }
         ensures answers { map answer_shown result.1.items
             ≡ (all_stored_after_copy (all_moved spaces moves.now).place
             (with_copies self.old.frames moves.now)
-            (map (pending_shown accesses.now) dues.items)).answers }
+            (map pending_shown dues.entry.items)).answers }
     {
         let mut jobs = mem::replace(&mut self.jobs, Vec::new(alloc));
         let store = mem::replace(&mut self.frames, FrameStore::none(alloc));
         let run = RunInFlight::begin(spaces, store, moves, &mut jobs);
-        let (mut copied, (run, answers)) = copy_beside(
-            crew, alloc, run, jobs, accesses, dues, answers,
-        );
+        let (mut copied, (run, answers)) = copy_beside(crew, alloc, run, jobs, dues, answers);
         let (spaces, store) = run.finish(&mut copied);
         self.frames = store;
         self.jobs = copied;

@@ -4,9 +4,9 @@ use crate::answers::AccessAnswer;
 use nm_types::Page;
 use std::alloc::Allocator;
 
-/// What is left to do for an access after its touch. None of it allocates.
+/// What is left to do for an access after its touch. None of it allocates. The bytes that an access writes are its own.
 #[derive(Drop)]
-pub enum PendingAccess<A: Allocator + Copy> {
+pub enum PendingAccess<'d, A: Allocator + Copy> {
     /// Nothing: its answer is known.
     Known(AccessAnswer<A>),
     /// Reading `len` bytes of a page, from index `at` on, into a list that has room for them.
@@ -16,10 +16,10 @@ pub enum PendingAccess<A: Allocator + Copy> {
         len: usize,
         bytes: Vec<u8, A>,
     },
-    /// Writing the bytes of the access with this number to a page, from index `at` on.
+    /// Writing these bytes to a page, from index `at` on.
     Write {
         page: Page,
         at: usize,
-        access: usize,
+        bytes: &'d [u8],
     },
 }

@@ -1,10 +1,9 @@
 //! Accesses that processes make while the pages of a run move: whatever has to be allocated for them is allocated
 //! before.
 
-ghost use Rattle.std.specs.Prelude.{◌≡◌, ◌≤◌, ◌<◌, List, [], Some, map, length, slice_get, ◌+◌, vec_len, IfOk, OnOk, OnErr};
+ghost use Rattle.std.specs.Prelude.{◌≡◌, ◌≤◌, ◌<◌, [], map, length, ◌+◌, vec_len, IfOk, OnOk, OnErr};
 ghost use Rattle.std.specs.List.{AllByRecursion, list_any};
 ghost use Rattle.nm_types.specs.declared.page.Page.{Page};
-ghost use Rattle.nm_types.specs.declared.access.Access.{Access as Asked};
 ghost use Rattle.nm_types.specs.Layout.{node_count};
 ghost use Rattle.nm_types.specs.Map.{same_page};
 ghost use Rattle.nm_laws.specs.Moves.{CanMove};
@@ -14,7 +13,7 @@ ghost use Rattle.nm_engine.specs.views.MidRun.{with_state};
 ghost use Rattle.nm_model.specs.definitions.BeforeCopy.{before_copy, all_before_copy, without_fronts, frames_taken};
 ghost use Rattle.nm_engine.specs.definitions.Undo.{IsStillUndone};
 ghost use Rattle.nm_model.specs.views.Asked.{access_shown};
-ghost use Rattle.nm_memory.specs.views.Accesses.{pending_shown, written_by, HasRoom};
+ghost use Rattle.nm_memory.specs.views.Accesses.{pending_shown, HasRoom};
 
 use crate::inner::Inner;
 use crate::inner::touch::push_zeros;
@@ -29,12 +28,12 @@ impl<A: Allocator + Copy> Inner<A> {
     /// Takes the frames of moves to a node, and makes all touches of the accesses that come while the pages are on
     /// their way. Returns what is then left to do for each access, none of which allocates. An error means that the
     /// host is out of memory, and that nothing has changed.
-    pub(crate) fn begin(
+    pub(crate) fn begin<'d>(
         &mut self,
         target: NodeId,
         moves: &[Taken],
-        accesses: &[Access<A>],
-    ) -> Result<Vec<PendingAccess<A>, A>, AllocError>
+        accesses: &[&'d Access<A>],
+    ) -> Result<Vec<PendingAccess<'d, A>, A>, AllocError>
         requires target { target < node_count self.old.state.layout }
         requires room { length moves.now ≤ self.old.room }
         requires none { self.old.left ≡ [] }
@@ -44,11 +43,11 @@ impl<A: Allocator + Copy> Inner<A> {
         ensures state { OnOk result
             (self.new.state
             ≡ (all_before_copy (without_fronts self.old.state target (length moves.now))
-            (map (λ t. t.page) moves.now) (map access_shown accesses.now)).state) }
+            (map (λ t. t.page) moves.now) (map (λ a. access_shown a.now) accesses.now)).state) }
         ensures dues { IfOk result
-            (λ dues. map (pending_shown accesses.now) dues.items
+            (λ dues. map pending_shown dues.items
             ≡ (all_before_copy (without_fronts self.old.state target (length moves.now))
-            (map (λ t. t.page) moves.now) (map access_shown accesses.now)).dues) }
+            (map (λ t. t.page) moves.now) (map (λ a. access_shown a.now) accesses.now)).dues) }
         ensures ready { IfOk result (λ dues. AllByRecursion HasRoom dues.items) }
         ensures len { IfOk result (λ dues. vec_len dues ≡ length accesses.now) }
         ensures left { OnOk result (self.new.left ≡ frames_taken moves.now) }
@@ -99,20 +98,20 @@ impl<A: Allocator + Copy> Inner<A> {
 
     /// Makes the touches of the accesses that come while the pages of these moves are on their way. An error means that
     /// the host is out of memory, and that nothing has changed.
-    fn prepare(
+    fn prepare<'d>(
         &mut self,
         moves: &[Taken],
-        accesses: &[Access<A>],
-    ) -> Result<Vec<PendingAccess<A>, A>, AllocError>
+        accesses: &[&'d Access<A>],
+    ) -> Result<Vec<PendingAccess<'d, A>, A>, AllocError>
         // On success
         ensures state { OnOk result
             (self.new.state
             ≡ (all_before_copy self.old.state (map (λ t. t.page) moves.now)
-            (map access_shown accesses.now)).state) }
+            (map (λ a. access_shown a.now) accesses.now)).state) }
         ensures dues { IfOk result
-            (λ dues. map (pending_shown accesses.now) dues.items
+            (λ dues. map pending_shown dues.items
             ≡ (all_before_copy self.old.state (map (λ t. t.page) moves.now)
-            (map access_shown accesses.now)).dues) }
+            (map (λ a. access_shown a.now) accesses.now)).dues) }
         ensures room { IfOk result (λ dues. AllByRecursion HasRoom dues.items) }
         ensures len { IfOk result (λ dues. vec_len dues ≡ length accesses.now) }
 
@@ -129,8 +128,8 @@ impl<A: Allocator + Copy> Inner<A> {
         }
         let mut undos = Vec::new(self.alloc);
         let moving = pages_of(self.alloc, moves)?;
-        for (number, access) in accesses.iter().enumerate() {
-            match self.touch_early(&moving, access, number, &mut undos) {
+        for access in accesses {
+            match self.touch_early(&moving, *access, &mut undos) {
                 Ok(due) => dues.push_reserved(due),
                 Err(error) => {
                     self.take_back(&mut undos);
@@ -141,22 +140,19 @@ impl<A: Allocator + Copy> Inner<A> {
         Ok(dues)
     }
 
-    /// Makes the touch of an access, which has this number among those of the run.
-    fn touch_early(
+    /// Makes the touch of an access.
+    fn touch_early<'d>(
         &mut self,
         moving: &BTreeSet<Page, A>,
-        access: &Access<A>,
-        number: usize,
+        access: &'d Access<A>,
         undos: &mut Vec<Undo, A>,
-    ) -> Result<PendingAccess<A>, AllocError>
+    ) -> Result<PendingAccess<'d, A>, AllocError>
         // On success
         ensures state { OnOk result
             (self.new.state
             ≡ (before_copy self.old.state moving.now.keys (access_shown access.now)).state) }
         ensures due { IfOk result
-            (λ due. (accesses : List (Asked _)) →
-            slice_get accesses number ≡ Some access.now →
-            pending_shown accesses due
+            (λ due. pending_shown due
             ≡ (before_copy self.old.state moving.now.keys (access_shown access.now)).due) }
         ensures room { IfOk result (λ due. HasRoom due) }
 
@@ -172,26 +168,25 @@ impl<A: Allocator + Copy> Inner<A> {
         match access {
             Access::Read { pid, addr, len } => self.read_early(moving, *pid, *addr, *len, undos),
             Access::Write { pid, addr, bytes } => {
-                self.write_early(moving, *pid, *addr, bytes.as_slice(), number, undos)
+                self.write_early(moving, *pid, *addr, bytes.as_slice(), undos)
             }
         }
     }
 
     /// Makes the touch of a read.
-    fn read_early(
+    fn read_early<'d>(
         &mut self,
         moving: &BTreeSet<Page, A>,
         pid: Pid,
         addr: u64,
         len: u64,
         undos: &mut Vec<Undo, A>,
-    ) -> Result<PendingAccess<A>, AllocError>
+    ) -> Result<PendingAccess<'d, A>, AllocError>
         // On success
         ensures state { OnOk result
             (self.new.state ≡ (before_copy self.old.state moving.now.keys (Read pid addr len)).state) }
         ensures due { IfOk result
-            (λ due. (accesses : List (Asked _)) →
-            pending_shown accesses due
+            (λ due. pending_shown due
             ≡ (before_copy self.old.state moving.now.keys (Read pid addr len)).due) }
         ensures room { IfOk result (λ due. HasRoom due) }
 
@@ -231,24 +226,21 @@ impl<A: Allocator + Copy> Inner<A> {
         }
     }
 
-    /// Makes the touch of a write, which is the access with this number.
-    fn write_early(
+    /// Makes the touch of a write.
+    fn write_early<'d>(
         &mut self,
         moving: &BTreeSet<Page, A>,
         pid: Pid,
         addr: u64,
-        bytes: &[u8],
-        number: usize,
+        bytes: &'d [u8],
         undos: &mut Vec<Undo, A>,
-    ) -> Result<PendingAccess<A>, AllocError>
+    ) -> Result<PendingAccess<'d, A>, AllocError>
         // On success
         ensures state { OnOk result
             (self.new.state
             ≡ (before_copy self.old.state moving.now.keys (Write pid addr bytes.now)).state) }
         ensures due { IfOk result
-            (λ due. (accesses : List (Asked _)) →
-            written_by (slice_get accesses number) ≡ bytes.now →
-            pending_shown accesses due
+            (λ due. pending_shown due
             ≡ (before_copy self.old.state moving.now.keys (Write pid addr bytes.now)).due) }
         ensures room { IfOk result (λ due. HasRoom due) }
 
@@ -272,7 +264,7 @@ impl<A: Allocator + Copy> Inner<A> {
             Ok(_) => Ok(PendingAccess::Write {
                 page: resolved.page,
                 at: Vpn::offset(addr),
-                access: number,
+                bytes,
             }),
             Err(MachineError::Refused(error)) => Ok(PendingAccess::Known(AccessAnswer::Refused(
                 error,

@@ -17,7 +17,7 @@ use nm_memory::{AccessAnswer, PendingAccess};
 use nm_plan::{Plan, Taken, plan};
 use nm_runs::{Class, Run, classify, classify_here};
 use nm_spaces::AddressSpaces;
-use nm_types::{Access, Errno, Geometry, NodeId, PageView};
+use nm_types::{Errno, Geometry, NodeId, PageView};
 use std::alloc::{AllocError, Allocator};
 use std::mem;
 use std::sync::Wait;
@@ -61,8 +61,7 @@ impl<A: Allocator + Copy + Send + Sync> Inner<A> {
         crew: &Crew<R, G>,
         target: NodeId,
         moves: &[Taken],
-        accesses: &[Access<A>],
-        dues: Vec<PendingAccess<A>, A>,
+        dues: Vec<PendingAccess<'_, A>, A>,
         answers: Vec<AccessAnswer<A>, A>,
     ) -> Vec<AccessAnswer<A>, A>
         // The moves
@@ -75,7 +74,7 @@ impl<A: Allocator + Copy + Send + Sync> Inner<A> {
 
         // What is left to do
         requires due { AllByRecursion (IsPending (map (λ t. t.page) moves.now) self.old.state)
-            (map (pending_shown accesses.now) dues.items) }
+            (map pending_shown dues.items) }
         requires room { AllByRecursion HasRoom dues.items }
 
         // The list for the answers
@@ -86,18 +85,18 @@ impl<A: Allocator + Copy + Send + Sync> Inner<A> {
         ensures state { self.new.state
             ≡ (all_after_copy
             (with_moves (with_fronts (self.old.state) target (frames_taken moves.now)) target moves.now)
-            (map (pending_shown accesses.now) dues.items)).state }
+            (map pending_shown dues.entry.items)).state }
         ensures answers { map answer_shown result.items
             ≡ (all_after_copy
             (with_moves (with_fronts (self.old.state) target (frames_taken moves.now)) target moves.now)
-            (map (pending_shown accesses.now) dues.items)).answers }
+            (map pending_shown dues.entry.items)).answers }
         ensures left { self.new.left ≡ frames_left moves.now }
     {
         self.frames.vacate_each(moves);
         let spaces = mem::replace(&mut self.spaces, AddressSpaces::none(self.alloc));
         let (spaces, answers) = self
             .frames
-            .carry_out(crew, self.alloc, spaces, moves, accesses, dues, answers);
+            .carry_out(crew, self.alloc, spaces, moves, dues, answers);
         self.spaces = spaces;
         answers
     }

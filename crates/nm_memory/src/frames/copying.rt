@@ -12,7 +12,6 @@ use crate::frames::run_in_flight::RunInFlight;
 use crate::pending_access::PendingAccess;
 use nm_crew::{Crew, Gate};
 use nm_frames::CopyJob;
-use nm_types::Access;
 use std::alloc::Allocator;
 use std::sync::Wait;
 use std::thread::Threads;
@@ -29,8 +28,7 @@ pub(super) fn copy_beside<
     alloc: A,
     run: RunInFlight<'m, A>,
     jobs: Vec<CopyJob<A>, A>,
-    accesses: &[Access<A>],
-    dues: Vec<PendingAccess<A>, A>,
+    dues: Vec<PendingAccess<'_, A>, A>,
     answers: Vec<AccessAnswer<A>, A>,
 ) -> (
     Vec<CopyJob<A>, A>,
@@ -40,7 +38,7 @@ pub(super) fn copy_beside<
 
     // What is left to do
     requires due { AllByRecursion (CanDo run.spaces.place run.store)
-        (map (pending_shown accesses.now) dues.items) }
+        (map pending_shown dues.items) }
     requires room { AllByRecursion HasRoom dues.items }
 
     // The list for the answers
@@ -52,11 +50,11 @@ pub(super) fn copy_beside<
     ensures run { result.1.0
         ≡ record (run.entry) {
           store = (all_stored_after_copy run.entry.spaces.place run.entry.store
-              (map (pending_shown accesses.now) dues.items)).store;
+              (map pending_shown dues.entry.items)).store;
         } }
     ensures answers { map answer_shown result.1.1.items
         ≡ (all_stored_after_copy run.entry.spaces.place run.entry.store
-        (map (pending_shown accesses.now) dues.items)).answers }
+        (map pending_shown dues.entry.items)).answers }
 {
     let gate = crew.gate();
     crew.copy_while(
@@ -64,19 +62,19 @@ pub(super) fn copy_beside<
         jobs,
         move || -> (RunInFlight<A>, Vec<AccessAnswer<A>, A>)
             requires due { AllByRecursion (CanDo run.spaces.place run.store)
-                (map (pending_shown accesses.now) dues.items) }
+                (map pending_shown dues.items) }
             requires room { AllByRecursion HasRoom dues.items }
             requires unanswered { answers.items ≡ [] }
             requires space { vec_len dues ≤ vec_capacity answers }
             ensures run { result.0
                 ≡ record (run.entry) {
                   store = (all_stored_after_copy run.entry.spaces.place run.entry.store
-                      (map (pending_shown accesses.entry.now) dues.items)).store;
+                      (map pending_shown dues.entry.items)).store;
                 } }
             ensures answers { map answer_shown result.1.items
                 ≡ (all_stored_after_copy run.entry.spaces.place run.entry.store
-                (map (pending_shown accesses.entry.now) dues.items)).answers }
-        { answer_each(run, accesses, dues, answers, gate) },
+                (map pending_shown dues.entry.items)).answers }
+        { answer_each(run, dues, answers, gate) },
     )
 }
 
@@ -84,14 +82,13 @@ pub(super) fn copy_beside<
 /// before each access.
 fn answer_each<'m, A: Allocator + Copy, G: Gate>(
     mut run: RunInFlight<'m, A>,
-    accesses: &[Access<A>],
-    dues: Vec<PendingAccess<A>, A>,
+    dues: Vec<PendingAccess<'_, A>, A>,
     mut answers: Vec<AccessAnswer<A>, A>,
     gate: &G,
 ) -> (RunInFlight<'m, A>, Vec<AccessAnswer<A>, A>)
     // What is left to do
     requires due { AllByRecursion (CanDo run.spaces.place run.store)
-        (map (pending_shown accesses.now) dues.items) }
+        (map pending_shown dues.items) }
     requires room { AllByRecursion HasRoom dues.items }
 
     // The list for the answers
@@ -102,15 +99,15 @@ fn answer_each<'m, A: Allocator + Copy, G: Gate>(
     ensures run { result.0
         ≡ record (run.entry) {
           store = (all_stored_after_copy run.entry.spaces.place run.entry.store
-              (map (pending_shown accesses.now) dues.items)).store;
+              (map pending_shown dues.entry.items)).store;
         } }
     ensures answers { map answer_shown result.1.items
         ≡ (all_stored_after_copy run.entry.spaces.place run.entry.store
-        (map (pending_shown accesses.now) dues.items)).answers }
+        (map pending_shown dues.entry.items)).answers }
 {
     for due in dues {
         gate.access(answers.len());
-        let answer = run.access(accesses, due);
+        let answer = run.access(due);
         answers.push_reserved(answer);
     }
     (run, answers)

@@ -8,7 +8,7 @@ ghost use Rattle.nm_model.specs.definitions.PageTables.{entry_at};
 ghost use Rattle.nm_spaces.specs.definitions.Moves.{CanRemap, all_moved};
 ghost use Rattle.nm_spaces.specs.views.Held.{entry_here};
 ghost use Rattle.nm_memory.specs.definitions.AfterCopy.{store_after_copy, answer_from_store, frame_at, CanDo};
-ghost use Rattle.nm_memory.specs.views.Accesses.{answer_shown, pending_shown, written_by, HasRoom};
+ghost use Rattle.nm_memory.specs.views.Accesses.{answer_shown, pending_shown, HasRoom};
 ghost use Rattle.nm_memory.specs.views.Copies.{CanCopy, HasBoth, emptied, jobs_of, refilled, CanRefill};
 
 use crate::answers::AccessAnswer;
@@ -16,7 +16,7 @@ use crate::frames::copy_bytes;
 use crate::pending_access::PendingAccess;
 use nm_frames::{CopyJob, FrameStore};
 use nm_spaces::{AddressSpaces, HeldSpaces};
-use nm_types::{Access, FrameId, Page, Taken};
+use nm_types::{FrameId, Page, Taken};
 use std::alloc::Allocator;
 use std::marker::Model;
 
@@ -77,19 +77,15 @@ impl<'m, A: Allocator + Copy> RunInFlight<'m, A> {
     }
 
     /// Does what is left to do for an access to a page that is not on its way. Does not allocate.
-    pub(super) fn access(
-        &mut self,
-        accesses: &[Access<A>],
-        due: PendingAccess<A>,
-    ) -> AccessAnswer<A>
-        requires due { CanDo self.old.spaces.place self.old.store (pending_shown accesses.now due) }
+    pub(super) fn access(&mut self, due: PendingAccess<'_, A>) -> AccessAnswer<A>
+        requires due { CanDo self.old.spaces.place self.old.store (pending_shown due) }
         requires room { HasRoom due }
         ensures run { self.new
             ≡ record (self.old) {
-              store = store_after_copy self.old.spaces.place self.old.store (pending_shown accesses.now due);
+              store = store_after_copy self.old.spaces.place self.old.store (pending_shown due.entry);
             } }
         ensures answer { answer_shown result
-            ≡ answer_from_store self.old.spaces.place self.old.store (pending_shown accesses.now due) }
+            ≡ answer_from_store self.old.spaces.place self.old.store (pending_shown due.entry) }
     {
         match due {
             PendingAccess::Known(answer) => answer,
@@ -103,9 +99,9 @@ impl<'m, A: Allocator + Copy> RunInFlight<'m, A> {
                 copy_bytes(&self.store, frame, at, len, &mut bytes);
                 AccessAnswer::Bytes(bytes)
             }
-            PendingAccess::Write { page, at, access } => {
+            PendingAccess::Write { page, at, bytes } => {
                 let frame = frame_of(&self.spaces, page);
-                self.store.write(frame, at, written_by(accesses, access));
+                self.store.write(frame, at, bytes);
                 AccessAnswer::Done
             }
         }
@@ -165,16 +161,6 @@ fn put_back_each<A: Allocator + Copy>(frames: &mut FrameStore<A>, jobs: &mut Vec
         let CopyJob { source, target, .. } = job;
         frames.put_back(source);
         frames.put_back(target);
-    }
-}
-
-/// The bytes that the access with this number writes. Empty if it is a read.
-fn written_by<A: Allocator + Copy>(accesses: &[Access<A>], number: usize) -> &[u8]
-    ensures { result.now ≡ written_by (slice_get accesses.now number) }
-{
-    match accesses.get(number) {
-        Some(Access::Write { bytes, .. }) => bytes.as_slice(),
-        _ => &[],
     }
 }
 

@@ -58,11 +58,11 @@ returns-in-Err-clause-err g c =
 -- what was made ready is made ready where the frames are taken
 pub returns-in-Ok-clause-state : goal.returns-in-Ok-clause-state
 returns-in-Ok-clause-state g c =
-    c.in-Ok.ensures.state ∙ ap (λ (x : State). (all_before_copy x (map (λ (t : Taken). t.page) c.args.moves.now) (map access_shown c.args.accesses.now)).state) c.in_ok-take_frames.ensures.state
+    c.in-Ok.ensures.state ∙ ap (λ (x : State). (all_before_copy x (map (λ (t : Taken). t.page) c.args.moves.now) (map (λ a. access_shown a.now) c.args.accesses.now)).state) c.in_ok-take_frames.ensures.state
 
 pub returns-in-Ok-clause-dues : goal.returns-in-Ok-clause-dues
 returns-in-Ok-clause-dues g c =
-    c.in-Ok.ensures.dues ∙ ap (λ (x : State). (all_before_copy x (map (λ (t : Taken). t.page) c.args.moves.now) (map access_shown c.args.accesses.now)).dues) c.in_ok-take_frames.ensures.state
+    c.in-Ok.ensures.dues ∙ ap (λ (x : State). (all_before_copy x (map (λ (t : Taken). t.page) c.args.moves.now) (map (λ a. access_shown a.now) c.args.accesses.now)).dues) c.in_ok-take_frames.ensures.state
 
 pub returns-in-Ok-clause-ready : goal.returns-in-Ok-clause-ready
 returns-in-Ok-clause-ready g c = c.in-Ok.ensures.room

@@ -20,7 +20,7 @@ carry_out-spaces-requires-clause-remap g c κs within =
     let k : FramesView = i.frames in
     let moves = c.args.moves.now in
     let t = c.args.target in
-    let dues = map (pending_shown c.args.accesses.now) c.args.dues.items in
+    let dues = map pending_shown c.args.dues.items in
     let h = prepared y k i.online i.totals.moved i.totals.failed t moves dues c.args.self.now c.self.view_is c.self.invariant c.vacate_each.ensures.shelf
     c.requires.target c.requires.taken c.requires.sound c.requires.moves c.requires.due c.vacate_each.ensures.populated in
     subst (λ (z : AddressSpacesView). CanRemap z moves) (sym c.replace-spaces.ensures.value) (remap y k i.online i.totals.moved i.totals.failed t moves dues h)
@@ -32,7 +32,7 @@ carry_out-spaces-requires-clause-can g c κs within =
     let k : FramesView = i.frames in
     let moves = c.args.moves.now in
     let t = c.args.target in
-    let dues = map (pending_shown c.args.accesses.now) c.args.dues.items in
+    let dues = map pending_shown c.args.dues.items in
     let h = prepared y k i.online i.totals.moved i.totals.failed t moves dues c.args.self.now c.self.view_is c.self.invariant c.vacate_each.ensures.shelf
     c.requires.target c.requires.taken c.requires.sound c.requires.moves c.requires.due c.vacate_each.ensures.populated in
     subst (λ (v : FramesView). CanCopy v.frames moves) (sym c.vacate_each.ensures.vacated) (can_copy y k i.online i.totals.moved i.totals.failed t moves dues h)
@@ -44,7 +44,7 @@ carry_out-spaces-requires-clause-populated g c κs within =
     let k : FramesView = i.frames in
     let moves = c.args.moves.now in
     let t = c.args.target in
-    let dues = map (pending_shown c.args.accesses.now) c.args.dues.items in
+    let dues = map pending_shown c.args.dues.items in
     let h = prepared y k i.online i.totals.moved i.totals.failed t moves dues c.args.self.now c.self.view_is c.self.invariant c.vacate_each.ensures.shelf
     c.requires.target c.requires.taken c.requires.sound c.requires.moves c.requires.due c.vacate_each.ensures.populated in
     subst (λ (v : FramesView). AllByRecursion (HasBoth v.frames) moves) (sym c.vacate_each.ensures.vacated) (both_whole y k i.online i.totals.moved i.totals.failed t moves dues h)
@@ -56,7 +56,7 @@ carry_out-spaces-requires-clause-due g c κs within =
     let k : FramesView = i.frames in
     let moves = c.args.moves.now in
     let t = c.args.target in
-    let dues = map (pending_shown c.args.accesses.now) c.args.dues.items in
+    let dues = map pending_shown c.args.dues.items in
     let h = prepared y k i.online i.totals.moved i.totals.failed t moves dues c.args.self.now c.self.view_is c.self.invariant c.vacate_each.ensures.shelf
     c.requires.target c.requires.taken c.requires.sound c.requires.moves c.requires.due c.vacate_each.ensures.populated in
     subst (λ (z : AddressSpacesView). AllByRecursion (CanDo (all_moved z moves).place (emptied c.vacate_each.new.self.frames moves)) dues) (sym c.replace-spaces.ensures.value)
@@ -65,7 +65,7 @@ carry_out-spaces-requires-clause-due g c κs within =
 pub vacate_each-requires-clause-populated : goal.vacate_each-requires-clause-populated
 vacate_each-requires-clause-populated g c =
     let i = c.self.inside in
-    let dues = map (pending_shown c.args.accesses.now) c.args.dues.items in
+    let dues = map pending_shown c.args.dues.items in
     lefts_populated i.spaces i.frames i.online i.totals.moved i.totals.failed c.args.target c.args.moves.now dues c.args.self.now c.self.view_is c.requires.sound c.requires.moves
 
 pub invariant_of-self : goal.invariant_of-self
@@ -75,7 +75,7 @@ invariant_of-self g c =
     let k : FramesView = i.frames in
     let moves = c.args.moves.now in
     let t = c.args.target in
-    let dues = map (pending_shown c.args.accesses.now) c.args.dues.items in
+    let dues = map pending_shown c.args.dues.items in
     let h = prepared y k i.online i.totals.moved i.totals.failed t moves dues c.args.self.now c.self.view_is c.self.invariant c.vacate_each.ensures.shelf
     c.requires.target c.requires.taken c.requires.sound c.requires.moves c.requires.due c.vacate_each.ensures.populated in
     let w = c.carry_out-spaces.new.self in
@@ -90,7 +90,7 @@ returns-clause-state g c =
     let k : FramesView = i.frames in
     let moves = c.args.moves.now in
     let t = c.args.target in
-    let dues = map (pending_shown c.args.accesses.now) c.args.dues.items in
+    let dues = map pending_shown c.args.dues.items in
     let h = prepared y k i.online i.totals.moved i.totals.failed t moves dues c.args.self.now c.self.view_is c.self.invariant c.vacate_each.ensures.shelf
     c.requires.target c.requires.taken c.requires.sound c.requires.moves c.requires.due c.vacate_each.ensures.populated in
     let w = c.carry_out-spaces.new.self in
@@ -106,7 +106,7 @@ returns-clause-answers g c =
     let k : FramesView = i.frames in
     let moves = c.args.moves.now in
     let t = c.args.target in
-    let dues = map (pending_shown c.args.accesses.now) c.args.dues.items in
+    let dues = map pending_shown c.args.dues.items in
     let h = prepared y k i.online i.totals.moved i.totals.failed t moves dues c.args.self.now c.self.view_is c.self.invariant c.vacate_each.ensures.shelf
     c.requires.target c.requires.taken c.requires.sound c.requires.moves c.requires.due c.vacate_each.ensures.populated in
     c.carry_out-spaces.ensures.answers

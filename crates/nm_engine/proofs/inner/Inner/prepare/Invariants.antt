@@ -8,15 +8,15 @@ use Rattle.nm_engine.specs.views.MidRun.{with_state}
 use Rattle.nm_engine.specs.definitions.Undo.{CanUndo, all_undone}
 use Rattle.nm_engine.proofs.inner.Inner.prepare.Given as goal
 
-abbrev pub invariant-loop-number : goal.invariant-loop-number
-invariant-loop-number g l =
-    let rest : AllBeforeCopy = all_before_copy l.self.state l.moving.keys (map access_shown (drop l.number l.accesses)) in
-    let all : AllBeforeCopy = all_before_copy l.fn.self.state l.moving.keys (map access_shown l.accesses) in record {
+abbrev pub invariant-loop-access : goal.invariant-loop-access
+invariant-loop-access g l =
+    let rest : AllBeforeCopy = all_before_copy l.self.state l.moving.keys (map (λ a. access_shown a.now) (drop l.access-index l.accesses)) in
+    let all : AllBeforeCopy = all_before_copy l.fn.self.state l.moving.keys (map (λ a. access_shown a.now) l.accesses) in record {
       state : rest.state ≡ all.state;
-      dues : map (pending_shown l.accesses) l.dues.items ++ rest.dues ≡ all.dues;
+      dues : map pending_shown l.dues.items ++ rest.dues ≡ all.dues;
       room : AllByRecursion HasRoom l.dues.items;
-      len : length l.dues.items ≡ l.number;
-      within : l.number ≤ length l.accesses;
+      len : length l.dues.items ≡ l.access-index;
+      within : l.access-index ≤ length l.accesses;
       fits : length l.accesses ≤ vec_capacity l.dues;
       same : l.self ≡ with_state l.fn.self l.self.state;
       back : CanUndo l.self.state l.fn.self.left l.undos.items × (all_undone l.self.state l.undos.items ≡ l.fn.self.state);

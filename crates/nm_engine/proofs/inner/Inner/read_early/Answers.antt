@@ -14,7 +14,7 @@ use Rattle.nm_engine.proofs.Undo.Touches.{touches_err}
 use Rattle.nm_engine.proofs.inner.Inner.read_early.Goals as goal
 
 pub returns-in-Ok-Some-clause-due : goal.returns-in-Ok-Some-clause-due
-returns-in-Ok-Some-clause-due g c accesses =
+returns-in-Ok-Some-clause-due g c =
     let there = c.in-Ok.ensures.ok in
     let page : c.in-Ok.resolved.page ≡ _ = sym there.3.page in
     let free = ap (λ p. list_any (same_page p) c.args.moving.now.keys) there.3.page ∙ sym c.contains.ensures ∙ c.if-contains.false in
@@ -43,7 +43,7 @@ returns-in-Ok-None-clause-state g c =
     sym (ap (λ (e : BeforeCopy). e.state) goes)
 
 pub returns-in-Ok-None-clause-due : goal.returns-in-Ok-None-clause-due
-returns-in-Ok-None-clause-due g c accesses =
+returns-in-Ok-None-clause-due g c =
     let there = c.in-Ok.ensures.ok in
     let new = c.touch_noted.new.self.state in
     let at = c.args.addr % 4096 in
@@ -59,7 +59,7 @@ returns-in-Err-clause-state g c =
     sym (ap (λ (e : BeforeCopy). e.state) (read_refused c.args.self.now.state c.args.moving.now.keys c.args.pid c.args.addr c.args.len c.in-Err.error c.in-Err.ensures.err))
 
 pub returns-in-Err-clause-due : goal.returns-in-Err-clause-due
-returns-in-Err-clause-due g c accesses =
+returns-in-Err-clause-due g c =
     sym (ap (λ (e : BeforeCopy). e.due) (read_refused c.args.self.now.state c.args.moving.now.keys c.args.pid c.args.addr c.args.len c.in-Err.error c.in-Err.ensures.err))
 
 pub returns-then-contains-clause-state : goal.returns-then-contains-clause-state
@@ -69,7 +69,7 @@ returns-then-contains-clause-state g c =
     sym (ap (λ (e : BeforeCopy). e.state) (read_held c.args.self.now.state c.args.moving.now.keys c.args.pid c.args.addr c.args.len _ there.2 held))
 
 pub returns-then-contains-clause-due : goal.returns-then-contains-clause-due
-returns-then-contains-clause-due g c accesses =
+returns-then-contains-clause-due g c =
     let there = c.in-Ok.ensures.ok in
     let held = ap (λ p. list_any (same_page p) c.args.moving.now.keys) there.3.page ∙ sym c.contains.ensures ∙ c.if-contains.true in
     sym (ap (λ (e : BeforeCopy). e.due) (read_held c.args.self.now.state c.args.moving.now.keys c.args.pid c.args.addr c.args.len _ there.2 held))

@@ -15,13 +15,13 @@ some_frame (Some f) some = (f, refl)
 some_frame None some = cc
 
 pub returns-in-Ok-touch_noted-clause-due : goal.returns-in-Ok-touch_noted-clause-due
-returns-in-Ok-touch_noted-clause-due g c accesses is =
+returns-in-Ok-touch_noted-clause-due g c =
     let there = c.in-Ok.ensures.ok in
     let page : c.in-Ok.resolved.page ≡ _ = sym there.3.page in
     let free = ap (λ p. list_any (same_page p) c.args.moving.now.keys) there.3.page ∙ sym c.contains.ensures ∙ c.if-contains.false in
     let some = some_frame c.in-Ok-touch_noted.field-0 (c.in-Ok-touch_noted.ensures.some refl) in
     let seen = ap (λ (x : ℕ × ℕ). frame_seen c.touch_noted.new.self.state x.0 x.1) (λ i. (sym c.in-Ok.ensures.pid i, sym c.in-Ok.ensures.page i)) ∙ sym c.in-Ok-touch_noted.ensures.frame ∙ some.1 in
-    ap (λ (new : List ℕ). ToWrite c.in-Ok.resolved.page c.offset.result new) is ∙ ap (λ n. ToWrite c.in-Ok.resolved.page n c.args.bytes.now) c.offset.ensures.value
+    ap (λ n. ToWrite c.in-Ok.resolved.page n c.args.bytes.now) c.offset.ensures.value
     ∙ ap (λ p. ToWrite p (c.args.addr % 4096) c.args.bytes.now) page
     ∙ sym (write_due c.args.self.now.state c.touch_noted.new.self.state c.args.self.now.left c.args.moving.now.keys c.args.pid c.args.addr some.0 _ c.in-Ok-touch_noted.ensures.sound free seen c.args.bytes.now there.2
     (c.in-Ok-touch_noted.ensures.touches there.0 there.1 there.3))

@@ -29,7 +29,7 @@ carry_out-answers-requires-clause-target g c κs within =
     let nodes = ap (λ (x : MidRun). node_count x.state.layout) same ∙ ap (λ (s : State). node_count s.layout) c.self.view_is in
     let moves : List Taken = c.moves-moves.result.now in
     let stays = ap (λ (s : State). node_count s.layout) c.in_ok-dues.ensures.state
-    ∙ ap node_count (all_layout (pages_of moves) (map (access_shown {A = g.row.A.Denot}) c.args.accesses.now) (without_fronts c.reserve.new.self.state c.args.requests.now.target (length moves))) in
+    ∙ ap node_count (all_layout (pages_of moves) (map (λ a. access_shown {A = g.row.A.Denot} a.now) c.args.accesses.now) (without_fronts c.reserve.new.self.state c.args.requests.now.target (length moves))) in
     omega (arith, nodes, stays, c.requires.target)
 
 pub carry_out-answers-requires-clause-sound : goal.carry_out-answers-requires-clause-sound
@@ -38,7 +38,7 @@ carry_out-answers-requires-clause-sound g c κs within =
     let t = c.args.requests.now.target in
     let ws = c.args.requests.now.wanted.items in
     let moves : List Taken = c.moves-moves.result.now in
-    let accesses : List Access = map (access_shown {A = g.row.A.Denot}) c.args.accesses.now in
+    let accesses : List Access = map (λ a. access_shown {A = g.row.A.Denot} a.now) c.args.accesses.now in
     let at = ap (λ (x : MidRun). x.state) c.in_ok-reserve.ensures.same ∙ c.self.view_is in
     let plan = subst (λ (x : State). IsPlanOf x t ws c.in_ok-plan.plan) c.self.view_is c.in_ok-plan.ensures.plan in
     let ready = planned_phases r t moves accesses c.args.self.now ws c.in_ok-plan.plan at plan c.moves-moves.ensures c.in_ok-dues.ensures.sound c.requires.target in
@@ -50,7 +50,7 @@ carry_out-answers-requires-clause-moves g c κs within =
     let t = c.args.requests.now.target in
     let ws = c.args.requests.now.wanted.items in
     let moves : List Taken = c.moves-moves.result.now in
-    let accesses : List Access = map (access_shown {A = g.row.A.Denot}) c.args.accesses.now in
+    let accesses : List Access = map (λ a. access_shown {A = g.row.A.Denot} a.now) c.args.accesses.now in
     let at = ap (λ (x : MidRun). x.state) c.in_ok-reserve.ensures.same ∙ c.self.view_is in
     let plan = subst (λ (x : State). IsPlanOf x t ws c.in_ok-plan.plan) c.self.view_is c.in_ok-plan.ensures.plan in
     let ready = planned_phases r t moves accesses c.args.self.now ws c.in_ok-plan.plan at plan c.moves-moves.ensures c.in_ok-dues.ensures.sound c.requires.target in
@@ -62,7 +62,7 @@ carry_out-answers-requires-clause-due g c κs within =
     let t = c.args.requests.now.target in
     let ws = c.args.requests.now.wanted.items in
     let moves : List Taken = c.moves-moves.result.now in
-    let accesses : List Access = map (access_shown {A = g.row.A.Denot}) c.args.accesses.now in
+    let accesses : List Access = map (λ a. access_shown {A = g.row.A.Denot} a.now) c.args.accesses.now in
     let at = ap (λ (x : MidRun). x.state) c.in_ok-reserve.ensures.same ∙ c.self.view_is in
     let plan = subst (λ (x : State). IsPlanOf x t ws c.in_ok-plan.plan) c.self.view_is c.in_ok-plan.ensures.plan in
     let ready = planned_phases r t moves accesses c.args.self.now ws c.in_ok-plan.plan at plan c.moves-moves.ensures c.in_ok-dues.ensures.sound c.requires.target in
@@ -78,14 +78,14 @@ returns-clause-answers g c =
     let t = c.args.requests.now.target in
     let ws = c.args.requests.now.wanted.items in
     let moves : List Taken = c.moves-moves.result.now in
-    let accesses : List Access = map (access_shown {A = g.row.A.Denot}) c.args.accesses.now in
+    let accesses : List Access = map (λ a. access_shown {A = g.row.A.Denot} a.now) c.args.accesses.now in
     let at = ap (λ (x : MidRun). x.state) c.in_ok-reserve.ensures.same ∙ c.self.view_is in
     let plan = subst (λ (x : State). IsPlanOf x t ws c.in_ok-plan.plan) c.self.view_is c.in_ok-plan.ensures.plan in
     let ready = planned_phases r t moves accesses c.args.self.now ws c.in_ok-plan.plan at plan c.moves-moves.ensures c.in_ok-dues.ensures.sound c.requires.target in
     let early = touched_all r t moves accesses in
     let made : List PendingAccess → State → AllAnswered = λ ds x. all_after_copy (with_moves (with_fronts x t (frames_taken moves)) t moves) ds in
     run_answers r t ws c.in_ok-plan.plan moves accesses (all_after_copy (with_moves (given_back r t moves accesses) t moves) early.dues) ready.0 c.moves-moves.ensures ready.1.flight (map (answer_shown {A = g.row.A.Denot}) c.carry_out-answers.result.items)
-    (c.carry_out-answers.ensures.answers ∙ ap (λ (x : State). (made (map (pending_shown c.args.accesses.now) c.in_ok-dues.dues.items) x).answers) c.in_ok-dues.ensures.state ∙ ap (λ (ds : List PendingAccess). (made ds early.state).answers) c.in_ok-dues.ensures.dues)
+    (c.carry_out-answers.ensures.answers ∙ ap (λ (x : State). (made (map pending_shown c.in_ok-dues.dues.items) x).answers) c.in_ok-dues.ensures.state ∙ ap (λ (ds : List PendingAccess). (made ds early.state).answers) c.in_ok-dues.ensures.dues)
     ∙ ap (λ (s : State). (run s t ws accesses).answers) at
 
 pub returns-clause-state : goal.returns-clause-state
@@ -94,7 +94,7 @@ returns-clause-state g c =
     let t = c.args.requests.now.target in
     let ws = c.args.requests.now.wanted.items in
     let moves : List Taken = c.moves-moves.result.now in
-    let accesses : List Access = map (access_shown {A = g.row.A.Denot}) c.args.accesses.now in
+    let accesses : List Access = map (λ a. access_shown {A = g.row.A.Denot} a.now) c.args.accesses.now in
     let at = ap (λ (x : MidRun). x.state) c.in_ok-reserve.ensures.same ∙ c.self.view_is in
     let plan = subst (λ (x : State). IsPlanOf x t ws c.in_ok-plan.plan) c.self.view_is c.in_ok-plan.ensures.plan in
     let ready = planned_phases r t moves accesses c.args.self.now ws c.in_ok-plan.plan at plan c.moves-moves.ensures c.in_ok-dues.ensures.sound c.requires.target in
@@ -102,7 +102,7 @@ returns-clause-state g c =
     let early = touched_all r t moves accesses in
     c.end_run-failed.ensures.state
     ∙ run_state r t ws c.in_ok-plan.plan moves accesses (all_after_copy (with_moves (given_back r t moves accesses) t moves) early.dues) ready.0 c.moves-moves.ensures ready.1.flight c.carry_out-answers.new.self.state c.carry_out-answers.new.self.left c.statuses.result.now
-    (c.carry_out-answers.ensures.state ∙ ap (λ (x : State). (made (map (pending_shown c.args.accesses.now) c.in_ok-dues.dues.items) x).state) c.in_ok-dues.ensures.state ∙ ap (λ (ds : List PendingAccess). (made ds early.state).state) c.in_ok-dues.ensures.dues)
+    (c.carry_out-answers.ensures.state ∙ ap (λ (x : State). (made (map pending_shown c.in_ok-dues.dues.items) x).state) c.in_ok-dues.ensures.state ∙ ap (λ (ds : List PendingAccess). (made ds early.state).state) c.in_ok-dues.ensures.dues)
     c.carry_out-answers.ensures.left c.statuses.ensures
     ∙ ap (λ (s : State). (run s t ws accesses).state) at
 
@@ -117,7 +117,7 @@ returns-clause-orders g c m events n starts unfolds same ended =
     let s = c.args.self.now in
     let t = c.args.requests.now.target in
     let ws = c.args.requests.now.wanted.items in
-    let accesses : List Access = map (access_shown {A = g.row.A.Denot}) c.args.accesses.now in
+    let accesses : List Access = map (λ a. access_shown {A = g.row.A.Denot} a.now) c.args.accesses.now in
     let plan = subst (λ (x : State). IsPlanOf x t ws c.in_ok-plan.plan) c.self.view_is c.in_ok-plan.ensures.plan in
     let done = as_told (run s t ws accesses) _ _ _ (returns-clause-state g c) (c.into_statuses.ensures ∙ sym plan.agrees.statuses) (returns-clause-answers g c) in
     subst (λ (r : Ran). IsRun n r) ((λ i. run (starts i) t ws (same i)) ∙ done) (c.interleavings.ensures.orders m t ws events n unfolds ended)

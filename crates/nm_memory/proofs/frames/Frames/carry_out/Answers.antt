@@ -41,7 +41,7 @@ pub copy_beside-copied-requires-clause-due : goal.copy_beside-copied-requires-cl
 copy_beside-copied-requires-clause-due g c κs within =
     let k = c.self.inside in
     let moves = c.args.moves.now in
-    let dues = map (pending_shown c.args.accesses.now) c.args.dues.items in
+    let dues = map pending_shown c.args.dues.items in
     let place = (all_moved c.args.spaces moves).place in
     let gone = c.begin-run.ensures.store ∙ ap (λ (s : Store). emptied s moves) c.replace-store.ensures.value in
     subst (λ (y : AddressSpacesView). AllByRecursion (CanDo y.place c.begin-run.result.store) dues) (sym c.begin-run.ensures.spaces)
@@ -52,7 +52,7 @@ pub finish-spaces-requires : goal.finish-spaces-requires
 finish-spaces-requires g c =
     let k = c.self.inside in
     let moves = c.args.moves.now in
-    let dues = map (pending_shown c.args.accesses.now) c.args.dues.items in
+    let dues = map pending_shown c.args.dues.items in
     let place = (all_moved c.args.spaces moves).place in
     let none = ap (λ jobs. jobs.items) c.replace-jobs.ensures.value ∙ c.self.invariant.2 in
     let first : vec_len c.replace-jobs.result ≡ 0 = c.replace-jobs.result.ok.0 ∙ ap length none in
@@ -74,7 +74,7 @@ pub invariant_of-self : goal.invariant_of-self
 invariant_of-self g c =
     let k = c.self.inside in
     let moves = c.args.moves.now in
-    let dues = map (pending_shown c.args.accesses.now) c.args.dues.items in
+    let dues = map pending_shown c.args.dues.items in
     let place = (all_moved c.args.spaces moves).place in
     let none = ap (λ jobs. jobs.items) c.replace-jobs.ensures.value ∙ c.self.invariant.2 in
     let first : vec_len c.replace-jobs.result ≡ 0 = c.replace-jobs.result.ok.0 ∙ ap length none in
@@ -109,7 +109,7 @@ pub returns-clause-frames : goal.returns-clause-frames
 returns-clause-frames g c =
     let k = c.self.inside in
     let moves = c.args.moves.now in
-    let dues = map (pending_shown c.args.accesses.now) c.args.dues.items in
+    let dues = map pending_shown c.args.dues.items in
     let place = (all_moved c.args.spaces moves).place in
     let none = ap (λ jobs. jobs.items) c.replace-jobs.ensures.value ∙ c.self.invariant.2 in
     let first : vec_len c.replace-jobs.result ≡ 0 = c.replace-jobs.result.ok.0 ∙ ap length none in
@@ -133,7 +133,7 @@ pub returns-clause-answers : goal.returns-clause-answers
 returns-clause-answers g c =
     let k = c.self.inside in
     let moves = c.args.moves.now in
-    let dues = map (pending_shown c.args.accesses.now) c.args.dues.items in
+    let dues = map pending_shown c.args.dues.items in
     let place = (all_moved c.args.spaces moves).place in
     let none = ap (λ jobs. jobs.items) c.replace-jobs.ensures.value ∙ c.self.invariant.2 in
     let first : vec_len c.replace-jobs.result ≡ 0 = c.replace-jobs.result.ok.0 ∙ ap length none in

@@ -12,7 +12,7 @@ use Rattle.nm_memory.proofs.frames.copying.answer_each.Goals as goal
 pub loop-due-init : goal.loop-due-init
 loop-due-init g c =
     let all = c.into_iter-due-iterator.ensures.into_iter_gives.0 in
-    let shown = pending_shown c.args.accesses.now in
+    let shown = pending_shown in
     let run = c.args.run in
     let none = ap length c.requires.unanswered in
     let many = c.args.dues.ok.0 in
@@ -28,7 +28,7 @@ loop-due-init g c =
 
 pub access-answer-requires-clause-due : goal.access-answer-requires-clause-due
 access-answer-requires-clause-due g c =
-    (subst (λ ds. AllByRecursion (CanDo c.loop-due.run.spaces.place c.loop-due.run.store) (map (pending_shown c.args.accesses.now) ds)) c.in-Some.ensures.steps.0 c.loop-due.invariant.due).0
+    (subst (λ ds. AllByRecursion (CanDo c.loop-due.run.spaces.place c.loop-due.run.store) (map pending_shown ds)) c.in-Some.ensures.steps.0 c.loop-due.invariant.due).0
 
 pub access-answer-requires-clause-room : goal.access-answer-requires-clause-room
 access-answer-requires-clause-room g c = (subst (λ ds. AllByRecursion HasRoom ds) c.in-Some.ensures.steps.0 c.loop-due.invariant.room).0
@@ -41,7 +41,7 @@ push_reserved-requires g c =
 
 pub loop-due-preserved : goal.loop-due-preserved
 loop-due-preserved g c =
-    let shown = pending_shown c.args.accesses.now in
+    let shown = pending_shown in
     let run = c.loop-due.run in
     let one = c.in-Some.due in
     let rest = c.next.new.self.rest.items in
@@ -73,11 +73,11 @@ no_items (x ∷ xs) none = absurd (omega (arith, none))
 pub returns-clause-run : goal.returns-clause-run
 returns-clause-run g c =
     let ends = no_items c.loop-due.due-iterator.rest.items (sym c.loop-due.due-iterator.rest.ok.0 ∙ c.in-None.ensures.steps.0) in
-    ap (λ ds. flown c.loop-due.run (map (pending_shown c.args.accesses.now) ds)) (sym ends) ∙ c.loop-due.invariant.run
+    ap (λ ds. flown c.loop-due.run (map pending_shown ds)) (sym ends) ∙ c.loop-due.invariant.run
 
 pub returns-clause-answers : goal.returns-clause-answers
 returns-clause-answers g c =
     let ends = no_items c.loop-due.due-iterator.rest.items (sym c.loop-due.due-iterator.rest.ok.0 ∙ c.in-None.ensures.steps.0) in
     let before = map (answer_shown {A = g.row.A.Denot}) c.loop-due.answers.items in
     sym (append-nil before)
-    ∙ ap (λ ds. before ++ told c.loop-due.run (map (pending_shown c.args.accesses.now) ds)) (sym ends) ∙ c.loop-due.invariant.answers
+    ∙ ap (λ ds. before ++ told c.loop-due.run (map pending_shown ds)) (sym ends) ∙ c.loop-due.invariant.answers

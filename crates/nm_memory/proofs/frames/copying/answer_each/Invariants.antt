@@ -8,8 +8,8 @@ use Rattle.nm_memory.proofs.frames.copying.answer_each.Given as goal
 
 abbrev pub invariant-loop-due : goal.invariant-loop-due
 invariant-loop-due g l =
-    let rest = map (pending_shown l.accesses) l.due-iterator.rest.items in
-    let all = map (pending_shown l.accesses) l.fn.dues.items in record {
+    let rest = map pending_shown l.due-iterator.rest.items in
+    let all = map pending_shown l.fn.dues.items in record {
       due : AllByRecursion (CanDo l.run.spaces.place l.run.store) rest;
       room : AllByRecursion HasRoom l.due-iterator.rest.items;
       run : flown l.run rest ≡ flown l.fn.run all;
