@@ -1,3 +1,4 @@
 pub mod ByPlace
 pub mod EachAnswered
+pub mod Lent
 pub mod Loops

@@ -145,33 +145,16 @@ pub(crate) fn move_batch<
     move_runs(crew, alloc, machine, runs, during, statuses)
 }
 
-/// The same access with bytes of its own.
-fn copy_of<A: Allocator + Copy>(alloc: A, access: &Access<A>) -> Result<Access<A>, AllocError>
-    ensures { IfOk result (λ copy. access_shown copy ≡ access_shown access.now) }
-{
-    match access {
-        Access::Read { pid, addr, len } => Ok(Access::Read {
-            pid: *pid,
-            addr: *addr,
-            len: *len,
-        }),
-        Access::Write { pid, addr, bytes } => Ok(Access::Write {
-            pid: *pid,
-            addr: *addr,
-            bytes: bytes.as_slice().to_vec(alloc)?,
-        }),
-    }
-}
-
 /// The accesses of each of the first `count` runs, each run's in order. An error means that the host is out of memory;
 /// no runs take none.
-pub(crate) fn by_run<A: Allocator + Copy + Send + Sync>(
+pub(crate) fn by_run<'d, A: Allocator + Copy + Send + Sync>(
     alloc: A,
-    during: &[InFlight<A>],
+    during: &'d [InFlight<A>],
     count: usize,
-) -> Result<Vec<Vec<Access<A>, A>, A>, AllocError>
+) -> Result<Vec<Vec<&'d Access<A>, A>, A>, AllocError>
     ensures lists { IfOk result
-        (λ lists. AreByRun lists.items count (shown_during during.now)) }
+        (λ lists. AreByRun (map (λ list. map (λ a. access_shown a.now) list.items) lists.items) count
+        (shown_during during.now)) }
     ensures asked { OnErr result (0 < count) }
 {
     let mut lists = Vec::with_capacity(alloc, count)?;
@@ -180,7 +163,7 @@ pub(crate) fn by_run<A: Allocator + Copy + Send + Sync>(
     }
     for asked in during {
         if let Some(list) = lists.get_mut(asked.run) {
-            list.push(copy_of(alloc, &asked.access)?)?;
+            list.push(&asked.access)?;
         }
     }
     Ok(lists)

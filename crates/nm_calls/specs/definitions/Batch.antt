@@ -5,12 +5,10 @@ use Rattle.nm_types.specs.Layout.{node_count}
 use Rattle.nm_types.specs.State.{State}
 use Rattle.nm_runs.specs.Targets.{earlier, first_refusal}
 use Rattle.nm_calls.specs.definitions.Permission.{owner_of, allowed_at, query_refusal}
-use Rattle.std.specs.Prelude.{◌≡◌, ◌<◌, ◌==◌, count_by, [], ◌∷◌, ◌++◌, take, drop, length, slice_index_or, slice_set, Vec}
+use Rattle.std.specs.Prelude.{◌≡◌, ◌<◌, ◌==◌, count_by, [], ◌∷◌, ◌++◌, take, drop, length, slice_index_or, slice_set}
 use Rattle.std.specs.declared.vec.IntoIter.{IntoIter}
-use Rattle.nm_types.specs.declared.access.Access.{Access as Asked}
 use Rattle.nm_memory.specs.declared.answers.AccessAnswer.{AccessAnswer as Given}
 use Rattle.nm_model.specs.definitions.Touch.{Access, AccessAnswer}
-use Rattle.nm_model.specs.views.Asked.{access_shown}
 use Rattle.nm_memory.specs.views.Accesses.{answer_shown}
 use Rattle.nm_model.specs.definitions.Run.{accesses_of}
 
@@ -39,10 +37,9 @@ by_place before (run ∷ runs) answers =
     take 1 (drop (count_by (λ r. r == run) before) (list_at answers run)) ++ by_place (run ∷ before) runs answers
 
 -- these are the lists of the accesses of the first `count` runs
-abbrev pub AreByRun : {A : Type 0} → List (Vec (Asked A) A) → ℕ → List (ℕ × Access) → Type 0
+abbrev pub AreByRun : List (List Access) → ℕ → List (ℕ × Access) → Type 0
 AreByRun lists count during =
-    (length lists ≡ count)
-    × ((k : ℕ) → k < count → list_at (map (λ list. map access_shown list.items) lists) k ≡ accesses_of k during)
+    (length lists ≡ count) × ((k : ℕ) → k < count → list_at lists k ≡ accesses_of k during)
 
 -- the answers of a run that are left
 abbrev pub left_shown : {A : Type 0} → IntoIter (Given A) A → List AccessAnswer

@@ -1,7 +1,6 @@
 use Rattle.std.proofs.Common.{arith, ◌≡◌, ◌+◌, ◌++◌, ◌∷◌, ◌<◌, [], ℕ, List, drop, length, map, length-append, ap, sym, ◌∙◌, Vec}
 use Rattle.std.specs.Prelude.{slice_set}
 use Rattle.std.proofs.lemmas.List.{map-append, length-map, length-set, drop_all}
-use Rattle.nm_types.specs.declared.access.Access.{Access as Asked}
 use Rattle.nm_model.specs.definitions.Touch.{Access}
 use Rattle.nm_model.specs.views.Asked.{access_shown}
 use Rattle.nm_model.specs.definitions.Run.{accesses_of}
@@ -9,11 +8,9 @@ use Rattle.nm_laws.proofs.Lists.{drop_item}
 use Rattle.nm_steps.specs.Views.{shown_during}
 use Rattle.nm_calls.specs.definitions.Batch.{list_at}
 use Rattle.nm_calls.proofs.Accesses.Loops.{one_more_asked, none_asked, list_there, list_after, empty_more, append_none}
+use Rattle.nm_calls.proofs.Accesses.Lent.{one_lent, lent_shown}
 use Rattle.nm_calls.proofs.batch.by_run.Goals as goal
-use Rattle.nm_calls.proofs.batch.by_run.Goals.{in-Some+in_ok-copy_of+in_ok-push-2, in_default}
-
-abbrev accesses_shown : {A : Type 0} → Vec (Asked A) A → List Access
-accesses_shown list = map access_shown list.items
+use Rattle.nm_calls.proofs.batch.by_run.Goals.{in-Some+in_ok-push-2, in_default}
 
 pub loop-preserved : goal.loop-preserved
 loop-preserved g c =
@@ -23,9 +20,9 @@ loop-preserved g c =
     record {
       count = omega (arith, len, c.loop.invariant.count);
       empty = λ k.
-          ap (λ lists. list_at (map accesses_shown lists) k) items ∙ ap (λ l. list_at l k) (map-append accesses_shown before (c.new.result ∷ []))
-          ∙ ap (λ xs. list_at (map accesses_shown before ++ map access_shown xs ∷ []) k) c.new.ensures.items
-          ∙ empty_more (map accesses_shown before) c.loop.invariant.empty k;
+          ap (λ lists. list_at (map lent_shown lists) k) items ∙ ap (λ l. list_at l k) (map-append lent_shown before (c.new.result ∷ []))
+          ∙ ap (λ xs. list_at (map lent_shown before ++ map one_lent xs ∷ []) k) c.new.ensures.items
+          ∙ empty_more (map lent_shown before) c.loop.invariant.empty k;
     }
 
 pub loop-asked-preserved : goal.loop-asked-preserved
@@ -35,25 +32,24 @@ loop-asked-preserved g c =
     let asked = c.asked-item.result in
     let next = drop_item during at asked c.loop-asked-test.true c.asked-item.is in
     let lists = c.loop-asked.lists.items in
-    let shown = map accesses_shown lists in
-    let same = length-map lists accesses_shown in
+    let shown = map lent_shown lists in
+    let same = length-map lists lent_shown in
     let count = c.loop-asked.invariant.count in
     let rest = shown_during (drop (at + 1) during) in
     let all = shown_during during in
     let is : (k : ℕ) → k < c.args.count → list_at shown k ++ accesses_of k ((asked.run, access_shown asked.access) ∷ rest) ≡ accesses_of k all =
     λ k lt. ap (λ ds. list_at shown k ++ accesses_of k (shown_during ds)) (sym next) ∙ c.loop-asked.invariant.lists k lt in
     elim c.match-get_mut.branch [
-      | in-Some+in_ok-copy_of+in_ok-push-2 w ↦
+      | in-Some+in_ok-push-2 w ↦
           let there = w.in-Some.ensures.item.3.0 in
           let a = access_shown asked.access in
           let list = w.in-Some.list.now in
           let items = ap (λ (v : Vec _ _). v.items) w.lists-is in
-          let before = list_there accesses_shown lists asked.run list there w.in-Some.ensures.value in
-          let pushed : accesses_shown w.push-in-Some.new.self ≡ list_at shown asked.run ++ a ∷ [] =
-          ap (map access_shown) w.in_ok-push-2.ensures.items ∙ map-append access_shown list.items (w.in_ok-copy_of.field-0 ∷ [])
-          ∙ ap (λ x. map access_shown list.items ++ x ∷ []) w.in_ok-copy_of.ensures ∙ ap (λ l. l ++ a ∷ []) (sym before) in
-          let after : map accesses_shown c.match-get_mut.lists.items ≡ slice_set shown asked.run (list_at shown asked.run ++ a ∷ []) =
-          list_after accesses_shown lists _ asked.run w.push-in-Some.new.self items ∙ ap (slice_set shown asked.run) pushed in
+          let before = list_there lent_shown lists asked.run list there w.in-Some.ensures.value in
+          let pushed : lent_shown w.push-in-Some.new.self ≡ list_at shown asked.run ++ a ∷ [] =
+          ap (map one_lent) w.in_ok-push-2.ensures.items ∙ map-append one_lent list.items _ ∙ ap (λ l. l ++ a ∷ []) (sym before) in
+          let after : map lent_shown c.match-get_mut.lists.items ≡ slice_set shown asked.run (list_at shown asked.run ++ a ∷ []) =
+          list_after lent_shown lists _ asked.run w.push-in-Some.new.self items ∙ ap (slice_set shown asked.run) pushed in
           record {
             count = ap length items ∙ length-set lists asked.run w.push-in-Some.new.self ∙ count;
             lists = λ k lt.
@@ -65,7 +61,7 @@ loop-asked-preserved g c =
           record {
             count = ap (λ (v : Vec _ _). length v.items) w.lists-is ∙ count;
             lists = λ k lt.
-                ap (λ (v : Vec _ _). list_at (map accesses_shown v.items) k ++ accesses_of k rest) w.lists-is
+                ap (λ (v : Vec _ _). list_at (map lent_shown v.items) k ++ accesses_of k rest) w.lists-is
                 ∙ none_asked shown rest all asked.run (access_shown asked.access) k (omega (arith, same, count, lt)) (omega (arith, same, past)) (is k lt);
           }
     ]
@@ -73,6 +69,6 @@ loop-asked-preserved g c =
 pub returns-clause-lists : goal.returns-clause-lists
 returns-clause-lists g c =
     let none = drop_all c.loop-asked.asked-index c.args.during.now (omega (arith, c.loop-asked-test.false)) in (
-      c.loop-asked.invariant.count,
-      λ k lt. sym (append_none _) ∙ ap (λ ds. list_at (map accesses_shown c.loop-asked.lists.items) k ++ accesses_of k (shown_during ds)) (sym none) ∙ c.loop-asked.invariant.lists k lt,
+      length-map c.loop-asked.lists.items lent_shown ∙ c.loop-asked.invariant.count,
+      λ k lt. sym (append_none _) ∙ ap (λ ds. list_at (map lent_shown c.loop-asked.lists.items) k ++ accesses_of k (shown_during ds)) (sym none) ∙ c.loop-asked.invariant.lists k lt,
     )

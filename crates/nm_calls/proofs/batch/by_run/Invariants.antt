@@ -8,11 +8,11 @@ use Rattle.nm_calls.proofs.batch.by_run.Given as goal
 abbrev pub invariant-loop : goal.invariant-loop
 invariant-loop g l = record {
   count : length l.lists.items ≡ l.counter;
-  empty : (k : ℕ) → list_at (map (λ list. map access_shown list.items) l.lists.items) k ≡ [];
+  empty : (k : ℕ) → list_at (map (λ list. map (λ a. access_shown a.now) list.items) l.lists.items) k ≡ [];
 }
 
 abbrev pub invariant-loop-asked : goal.invariant-loop-asked
 invariant-loop-asked g l = record {
   count : length l.lists.items ≡ l.count;
-  lists : (k : ℕ) → k < l.count → list_at (map (λ list. map access_shown list.items) l.lists.items) k ++ accesses_of k (shown_during (drop l.asked-index l.during)) ≡ accesses_of k (shown_during l.during);
+  lists : (k : ℕ) → k < l.count → list_at (map (λ list. map (λ a. access_shown a.now) list.items) l.lists.items) k ++ accesses_of k (shown_during (drop l.asked-index l.during)) ≡ accesses_of k (shown_during l.during);
 }

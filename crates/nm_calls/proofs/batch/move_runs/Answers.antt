@@ -1,5 +1,5 @@
 use Rattle.std.proofs.Common.{◌≡◌, ◌<◌, ◌+◌, ◌++◌, ◌∷◌, arith, ap, refl, map, subst, sym, ◌∙◌, [], drop, length, length-append}
-use Rattle.std.proofs.lemmas.List.{map-append, drop_all}
+use Rattle.std.proofs.lemmas.List.{map-append, length-map, drop_all}
 use Rattle.nm_types.specs.Layout.{node_count}
 use Rattle.nm_runs.specs.Stretches.{stretches_of}
 use Rattle.nm_model.specs.views.Asked.{access_shown}
@@ -11,6 +11,7 @@ use Rattle.std.specs.Map.{keys_of}
 use Rattle.nm_calls.specs.definitions.Batch.{in_order, left_shown}
 use Rattle.nm_calls.proofs.Batches.StatusCounts.{run_length, run_layout, failures-append, failures-le-length}
 use Rattle.nm_calls.proofs.Accesses.Loops.{list_there}
+use Rattle.nm_calls.proofs.Accesses.Lent.{one_lent, lent_shown}
 use Rattle.nm_calls.proofs.Batches.Results.{none_moved}
 use Rattle.nm_calls.proofs.Trails.{states_are}
 use Rattle.nm_calls.proofs.Batches.Progress.{none_run, one_more_run, some_run, all_run, next_left, entries_left, not_last}
@@ -47,7 +48,7 @@ run_flight-requires-clause-alike g c κs within = rw c.index-runs-k.is (c.requir
 pub unwrap-requires : goal.unwrap-requires
 unwrap-requires g c =
     let asked = c.index-runs-k.result in
-    let n = ap length c.as_slice-in-loop-k.ensures.value ∙ ap length c.in-Ok.ensures.statuses ∙ run_length c.loop-k.machine asked.target asked.wanted.items (map access_shown c.as_slice.result.now) in
+    let n = ap length c.as_slice-in-loop-k.ensures.value ∙ ap length c.in-Ok.ensures.statuses ∙ run_length c.loop-k.machine asked.target asked.wanted.items (map one_lent c.as_slice.result.now) in
     let left = entries_left _ _ asked (next_left c.args.runs.now c.loop-k.k asked c.loop-k-test.true c.index-runs-k.is) in
     c.extend_from_slice.ensures.succeeds (omega (arith, n, left, c.loop-k.invariant.room))
 
@@ -71,10 +72,12 @@ loop-k-preserved g c =
     let made = run s asked.target asked.wanted.items own in
     let lists = c.in_ok-accesses.ensures.lists in
     let few = c.loop-k-test.true in
-    let there : c.loop-k.k < length c.in_ok-accesses.accesses.items = omega (arith, lists.0, few) in
-    let these : map access_shown c.as_slice.result.now ≡ own =
-    ap (map access_shown) c.as_slice.ensures.value
-    ∙ sym (list_there (λ list. map access_shown list.items) c.in_ok-accesses.accesses.items c.loop-k.k c.index.result.now there c.index.ensures) ∙ lists.1 c.loop-k.k few in
+    let shown = lent_shown {A = g.row.A.Denot} in
+    let many = length-map c.in_ok-accesses.accesses.items shown in
+    let there : c.loop-k.k < length c.in_ok-accesses.accesses.items = omega (arith, many, lists.0, few) in
+    let these : map one_lent c.as_slice.result.now ≡ own =
+    ap (map one_lent) c.as_slice.ensures.value
+    ∙ sym (list_there shown c.in_ok-accesses.accesses.items c.loop-k.k c.index.result.now there c.index.ensures) ∙ lists.1 c.loop-k.k few in
     let next = next_left runs c.loop-k.k asked few c.index-runs-k.is in
     let left = entries_left _ _ asked next in
     let state = c.in-Ok.ensures.state ∙ ap (λ xs. (run s asked.target asked.wanted.items xs).state) these in
