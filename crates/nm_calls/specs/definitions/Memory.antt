@@ -1,5 +1,5 @@
 -- Which calls allocate.
-use Rattle.std.specs.Prelude.{◌≡◌, ℕ, ◌+◌, ◌/◌, ◌<◌, ◌^◌, true, length, Some}
+use Rattle.std.specs.Prelude.{◌≡◌, ◌+◌, ◌/◌, ◌<◌, ◌^◌, true, length, Some}
 use Rattle.std.specs.List.{list_any}
 use Rattle.nm_types.specs.declared.page.Page.{Page}
 use Rattle.nm_types.specs.declared.sight.Sight.TheVariants.{Sees}
@@ -9,7 +9,7 @@ use Rattle.nm_areas.specs.Lines.{lines_of}
 use Rattle.nm_model.specs.definitions.AreaRefusal.{overlaps}
 use Rattle.nm_model.specs.definitions.PageTables.{entries_of}
 use Rattle.nm_model.specs.definitions.Seen.{sight_at}
-use Rattle.nm_steps.specs.Calls.{Call, Spawn, MapPages, Attach, Unmap, Exit, Pin, Unpin, ReadBytes, WriteBytes, MovePages, MigratePages, Query, FreeList, Pagemap, Vmstat, NumaMaps, Mbind, Offline, Online}
+use Rattle.nm_steps.specs.Calls.{Call, Unmap, Exit, Pin, Unpin, WriteBytes, MovePages, Query, FreeList, Pagemap, Vmstat, NumaMaps, Mbind, Offline, Online}
 
 -- what has to hold where a call asks for memory: there is something to unmap, to move, to set or to list, or it writes
 -- to a page that the process does not see yet

@@ -2,7 +2,6 @@ use Rattle.std.proofs.Common.{◌≡◌, ◌<◌, ◌+◌, ◌++◌, ◌∷◌, 
 use Rattle.std.proofs.lemmas.List.{map-append, length-map, drop_all}
 use Rattle.nm_types.specs.Layout.{node_count}
 use Rattle.nm_runs.specs.Stretches.{stretches_of}
-use Rattle.nm_model.specs.views.Asked.{access_shown}
 use Rattle.nm_memory.specs.views.Accesses.{answer_shown}
 use Rattle.nm_model.specs.definitions.Run.{run, failures}
 use Rattle.nm_model.specs.definitions.Run.{accesses_of}
