@@ -11,6 +11,10 @@ module _ {A : Type 0} {parts inside : Inside A} where
   pub shows : {now : State} → parts ≡ inside → inside.inner.state ≡ now → parts.inner.state ≡ now
   shows is at = ap (λ (m : Inside A). m.inner.state) is ∙ at
 
+  -- .. and are the parts as they were before they were opened
+  pub opened : parts ≡ inside → parts.inner ≡ inside.inner
+  opened is = ap (λ (m : Inside A). m.inner) is
+
   pub none_left : parts ≡ inside → inside.inner.left ≡ [] → parts.inner.left ≡ []
   none_left is none = ap (λ (m : Inside A). m.inner.left) is ∙ none
 

@@ -7,7 +7,7 @@ ghost use Rattle.nm_model.specs.definitions.Effect.{new_machine};
 mod flight;
 mod resolved_address;
 mod run;
-mod touch;
+pub(crate) mod touch;
 mod undo;
 
 use crate::machine::Totals;

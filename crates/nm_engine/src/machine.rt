@@ -23,11 +23,12 @@ mod query;
 
 use crate::answers::RunAnswer;
 use crate::inner::Inner;
+use crate::inner::touch::push_zeros;
 use crate::laws::interleavings;
 use nm_crew::{Crew, Gate};
 use nm_runs::Run;
 use nm_spaces::AddressSpaces;
-use nm_types::{Access, Geometry, MachineError, NodeMask, Pid};
+use nm_types::{Access, Geometry, MachineError, NodeMask, Pid, Vpn};
 use std::alloc::{AllocError, Allocator};
 use std::marker::Model;
 use std::sync::Wait;
@@ -118,7 +119,17 @@ impl<A: Allocator + Copy + Send + Sync> Machine<A> {
             (read self.old pid addr len) }
         ensures memory { AsksLast result (site_refusal self.old pid addr len) }
     {
-        self.inner.read(pid, addr, len)
+        let resolved = self.inner.resolve(pid, addr, len)?;
+        let len = len as usize;
+        let mut bytes = Vec::with_capacity(self.alloc, len)?;
+        match self.inner.touch(resolved, false)? {
+            Some(frame) => self
+                .inner
+                .frames
+                .read(frame, Vpn::offset(addr), len, &mut bytes),
+            None => push_zeros(&mut bytes, len),
+        }
+        Ok(bytes)
     }
 
     /// Writes 1 to 4,096 bytes inside one page. The first write to a page takes a frame as its area's policy says
@@ -135,7 +146,12 @@ impl<A: Allocator + Copy + Send + Sync> Machine<A> {
             sight_at self.old pid (addr / 4096) ≡ Some (Sees page) →
             ⊥ }
     {
-        self.inner.write(pid, addr, bytes)
+        let resolved = self.inner.resolve(pid, addr, bytes.len() as u64)?;
+        let Some(frame) = self.inner.touch(resolved, true)? else {
+            unreachable!()
+        };
+        self.inner.frames.write(frame, Vpn::offset(addr), bytes);
+        Ok(())
     }
 
     /// Decides the requests of a run one after another, and returns a status for each, as in move_pages(2): the

@@ -1,6 +1,6 @@
-//! Reads and writes.
+//! Touches: what reads and writes do before they reach the bytes.
 
-ghost use Rattle.std.specs.Prelude.{◌≡◌, ◌+◌, ◌/◌, ◌%◌, ◌≤◌, ◌++◌, true, length, replicate, vec_len, vec_capacity, Ok, Err, Some, None, IfOk, IfErr, IfNone, IsSome, OnErr};
+ghost use Rattle.std.specs.Prelude.{◌≡◌, ◌+◌, ◌/◌, ◌%◌, ◌≤◌, ◌++◌, true, replicate, vec_len, vec_capacity, Ok, Err, Some, None, IfOk, IfErr, IfNone, IsSome, OnErr};
 ghost use Rattle.std.specs.Ordering.{nat_cmp};
 ghost use Rattle.nm_types.specs.declared.page.Page.{Page};
 ghost use Rattle.nm_types.specs.declared.sight.Sight.TheVariants.{Sees, ZeroPage};
@@ -8,9 +8,9 @@ ghost use Rattle.nm_types.specs.Map.{get, page_cmp};
 ghost use Rattle.nm_types.specs.State.{Process, Placed};
 ghost use Rattle.nm_model.specs.definitions.Seen.{sight_at};
 ghost use Rattle.nm_model.specs.definitions.Order.{first_touch_order};
-ghost use Rattle.nm_model.specs.definitions.Touch.{Bytes, Done, site, first_free, filled, joined, touched_entry, read, write, site_refusal};
+ghost use Rattle.nm_model.specs.definitions.Touch.{site, first_free, filled, joined, touched_entry};
 ghost use Rattle.nm_engine.specs.views.MidRun.{access_site, IsSiteOf, with_state};
-ghost use Rattle.nm_engine.specs.definitions.Does.{AsksLast, Touches, Accesses};
+ghost use Rattle.nm_engine.specs.definitions.Does.{Touches};
 ghost use Rattle.nm_model.specs.definitions.Seen.{frame_seen};
 
 use crate::inner::Inner;
@@ -21,42 +21,6 @@ use nm_types::{Errno, FrameId, MachineError, NodeId, Page, Pid, Policy, ProcessI
 use std::alloc::Allocator;
 
 impl<A: Allocator + Copy> Inner<A> {
-    /// Reads bytes inside one page of a process.
-    pub(crate) fn read(&mut self, pid: Pid, addr: u64, len: u64) -> Result<Vec<u8, A>, MachineError>
-        ensures answer { Accesses result (λ bytes. Bytes bytes.items) self.old.state self.new.state
-            (read self.old.state pid addr len) }
-        ensures memory { AsksLast result (site_refusal self.old.state pid addr len) }
-        ensures same { self.new ≡ with_state self.old self.new.state }
-    {
-        let resolved = self.resolve(pid, addr, len)?;
-        let len = len as usize;
-        let mut bytes = Vec::with_capacity(self.alloc, len)?;
-        match self.touch(resolved, false)? {
-            Some(frame) => self.frames.read(frame, Vpn::offset(addr), len, &mut bytes),
-            None => push_zeros(&mut bytes, len),
-        }
-        Ok(bytes)
-    }
-
-    /// Writes bytes inside one page of a process.
-    pub(crate) fn write(&mut self, pid: Pid, addr: u64, bytes: &[u8]) -> Result<(), MachineError>
-        ensures answer { Accesses result (λ done. Done) self.old.state self.new.state
-            (write self.old.state pid addr bytes.now) }
-        ensures memory { AsksLast result (site_refusal self.old.state pid addr (length bytes.now)) }
-        ensures asked { result ≡ Err MachineError.HostMemory →
-            (page : Page) →
-            sight_at self.old.state pid (addr / 4096) ≡ Some (Sees page) →
-            ⊥ }
-        ensures same { self.new ≡ with_state self.old self.new.state }
-    {
-        let resolved = self.resolve(pid, addr, bytes.len() as u64)?;
-        let Some(frame) = self.touch(resolved, true)? else {
-            unreachable!()
-        };
-        self.frames.write(frame, Vpn::offset(addr), bytes);
-        Ok(())
-    }
-
     /// Where `len` bytes of a process from `addr` on are, or the first refusal.
     pub(crate) fn resolve(&self, pid: Pid, addr: u64, len: u64) -> Result<ResolvedAddress, Errno>
         // On success

@@ -1,4 +1,4 @@
-use Rattle.std.proofs.Common.{◌≡◌, ℕ, ◌%◌, List, Some, refl, ap, sym, ◌∙◌}
+use Rattle.std.proofs.Common.{◌≡◌, ℕ, ◌%◌, Some, refl, ap, sym, ◌∙◌}
 use Rattle.std.specs.Prelude.{Option, None, IsSome}
 use Rattle.std.specs.List.{list_any}
 use Rattle.nm_types.specs.Map.{same_page}
