@@ -271,22 +271,21 @@ impl<A: Allocator + Copy> Frames<A> {
         self.jobs.reserve(self.vacated.len() + count)
     }
 
-    /// Takes the frames of these moves, which are at the front of a node's list: they belong to the run until its pages
-    /// are in them.
-    pub fn take_for(&mut self, node: NodeId, moves: &[Taken])
+    /// Takes `count` frames from the front of a node's list, or all if there are fewer: they belong to a run until its
+    /// pages are in them. Does not allocate.
+    pub fn take_for_run(&mut self, node: NodeId, count: usize)
         requires node { node < node_count self.old.layout }
-        requires room { length self.old.vacated + length moves.now ≤ self.old.room }
-        requires populated { AllByRecursion (IsPopulated self.old.frames) (frames_taken moves.now) }
+        requires room { length self.old.vacated + count ≤ self.old.room }
+        requires populated { AllByRecursion (IsPopulated self.old.frames)
+            (take count (free_on self.old node)) }
         ensures taken { self.new
             ≡ record (self.old) {
-              free = slice_set self.old.free node
-                  (drop (length moves.now) (free_on self.old node));
-              vacated = self.old.vacated ++ frames_taken moves.now;
+              free = slice_set self.old.free node (drop count (free_on self.old node));
+              vacated = self.old.vacated ++ take count (free_on self.old node);
             } }
         ensures shelf { HasAllFrames self.old }
     {
-        take_fronts(&mut self.nodes, node, moves.len());
-        push_tos(&mut self.vacated, moves);
+        self.nodes.take_many(node, count, &mut self.vacated);
     }
 
     /// Puts the frames taken for these moves back at the front of the list of the node that they came from.
@@ -470,16 +469,6 @@ fn populate_each<A: Allocator + Copy>(
     Ok(())
 }
 
-/// Takes `count` frames from the front of a node's list.
-fn take_fronts<A: Allocator + Copy>(nodes: &mut NodePool<A>, node: NodeId, count: usize)
-    requires { node < length nodes.old.lists }
-    ensures { nodes.new ≡ with_list nodes.old node (drop count (list_of nodes.old node)) }
-{
-    for _ in 0..count {
-        nodes.take_front(node);
-    }
-}
-
 /// Puts the frames taken for these moves back at the front of the node's list.
 fn return_tos<A: Allocator + Copy>(nodes: &mut NodePool<A>, node: NodeId, moves: &[Taken])
     requires node { node < length nodes.old.lists }
@@ -490,17 +479,6 @@ fn return_tos<A: Allocator + Copy>(nodes: &mut NodePool<A>, node: NodeId, moves:
     while left > 0 {
         left -= 1;
         nodes.prepend(moves[left].to);
-    }
-}
-
-/// Appends the frames that the pages of these moves take to a list that has room for them.
-fn push_tos<A: Allocator + Copy>(taken: &mut Vec<FrameId, A>, moves: &[Taken])
-    requires { vec_len taken.old + length moves.now ≤ vec_capacity taken.old }
-    ensures items { taken.new.items ≡ taken.old.items ++ frames_taken moves.now }
-    ensures room { vec_capacity taken.new ≡ vec_capacity taken.old }
-{
-    for t in moves {
-        taken.push_reserved(t.to);
     }
 }
 

@@ -92,7 +92,7 @@ impl<A: Allocator + Copy> Inner<A> {
         ensures asked { OnErr result (0 < length moves.now) }
     {
         self.frames.populate_each(self.alloc, moves)?;
-        self.frames.take_for(target, moves);
+        self.frames.take_for_run(target, moves.len());
         Ok(())
     }
 

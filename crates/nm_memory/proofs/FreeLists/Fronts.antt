@@ -3,7 +3,6 @@ use Rattle.std.proofs.Common.{◌≡◌, ℕ, suc, ◌<◌, List, [], ◌∷◌,
 use Rattle.std.specs.Prelude.{slice_index_or, slice_set}
 use Rattle.std.proofs.Math.Seq.{drop-nil}
 use Rattle.std.proofs.lemmas.List.{get_or-set_same, set-set}
-use Rattle.nm_model.specs.definitions.Frames.{Pool, list_of, with_list, without_front}
 
 drop_drop : (n : ℕ) (l : List ℕ) → drop n (drop 1 l) ≡ drop (suc n) l
 drop_drop n [] = drop-nil n ∙ sym (drop-nil (suc n))
@@ -14,10 +13,3 @@ pub fronts_list : (free : List (List ℕ)) (target n : ℕ) (l : List ℕ) → t
 fronts_list free target n l inside =
     set-set free target (drop 1 l) (drop n (slice_index_or (slice_set free target (drop 1 l)) target []))
     ∙ ap (λ (xs : List ℕ). slice_set free target xs) (ap (λ (xs : List ℕ). drop n xs) (get_or-set_same free target (drop 1 l) [] inside) ∙ drop_drop n l)
-
--- the front of a node's list, and then those after it
-pub fronts_step : (p q : Pool) (node n m : ℕ) → q ≡ without_front p node → node < length p.lists → m ≡ suc n → with_list q node (drop n (list_of q node)) ≡ with_list p node (drop m (list_of p node))
-fronts_step p q node n m is inside e =
-    ap (λ (r : Pool). with_list r node (drop n (list_of r node))) is
-    ∙ ap (λ (ls : List (List ℕ)). record { sizes = p.sizes; lists = ls }) (fronts_list p.lists node n (list_of p node) inside)
-    ∙ ap (λ k. with_list p node (drop k (list_of p node))) (sym e)

@@ -1,0 +1,44 @@
+use Rattle.std.proofs.Common.{ℕ, List, ◌+◌, ◌≤◌, ◌++◌, min, length, take, drop, vec_capacity, ap, sym, subst, ◌∙◌, arith}
+use Rattle.std.specs.Prelude.{slice_set}
+use Rattle.std.specs.List.{AllByRecursion}
+use Rattle.nm_frames.specs.Populated.{IsPopulated}
+use Rattle.nm_model.specs.definitions.Frames.{Pool, list_of}
+use Rattle.nm_memory.specs.views.Frames.{FramesView, HasAllFrames, free_on}
+use Rattle.nm_memory.proofs.Shelves.{seen_node, list_set}
+use Rattle.nm_memory.proofs.Copies.Populated.{all_joined}
+use Rattle.nm_memory.proofs.frames.Frames.take_for_run.Goals as goal
+
+pub take_many-requires-clause-node : goal.take_many-requires-clause-node
+take_many-requires-clause-node g c = seen_node _ c.args.self.now c.args.node c.self.view_is c.self.invariant.1 c.requires.node
+
+pub take_many-requires-clause-room : goal.take_many-requires-clause-room
+take_many-requires-clause-room g c =
+    let fits = subst (λ (v : FramesView). length v.vacated + c.args.count ≤ v.room) (sym c.self.view_is) c.requires.room in
+    omega (arith, fits, c.self.inside.vacated.ok.0)
+
+pub invariant_of-self : goal.invariant_of-self
+invariant_of-self g c = (
+  ap (λ (p : Pool). p.sizes) c.take_many.ensures.rest ∙ c.self.invariant.0,
+  list_set _ c.self.inside.nodes c.take_many.new.self c.args.node _ _ _ c.take_many.ensures.rest c.self.invariant.1.lists c.self.invariant.1,
+  c.self.invariant.2,
+  subst (AllByRecursion (IsPopulated c.self.inside.frames)) (sym c.take_many.ensures.taken)
+      (all_joined c.self.inside.frames c.self.inside.vacated.items (take c.args.count (list_of c.self.inside.nodes c.args.node)) c.self.invariant.3
+      (subst (λ (v : FramesView). AllByRecursion (IsPopulated v.frames) (take c.args.count (free_on v c.args.node))) (sym c.self.view_is) c.requires.populated)),
+)
+
+pub returns-clause-shelf : goal.returns-clause-shelf
+returns-clause-shelf g c = subst HasAllFrames c.self.view_is c.self.invariant.1
+
+pub returns-clause-taken : goal.returns-clause-taken
+returns-clause-taken g c =
+    let k = c.self.inside in
+    let n = c.args.count in
+    let node = c.args.node in
+    let fields : List (List ℕ) → List ℕ → ℕ → FramesView =
+    λ free vacated room. record { layout = k.geometry; frames = k.frames; free = free; vacated = vacated; room = min room (vec_capacity k.jobs) } in
+    let free = slice_set k.nodes.lists node (drop n (list_of k.nodes node)) in
+    let vacated = k.vacated.items ++ take n (list_of k.nodes node) in
+    ap (λ (p : Pool). fields p.lists c.take_many.new.taken.items (vec_capacity c.take_many.new.taken)) c.take_many.ensures.rest
+    ∙ ap (λ items. fields free items (vec_capacity c.take_many.new.taken)) c.take_many.ensures.taken
+    ∙ ap (fields free vacated) c.take_many.ensures.room
+    ∙ ap (λ (v : FramesView). record v { free = slice_set v.free node (drop n (free_on v node)); vacated = v.vacated ++ take n (free_on v node) }) c.self.view_is
