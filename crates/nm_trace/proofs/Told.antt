@@ -37,18 +37,6 @@ reads_of_err before now gave e result is h = subst (TellsReads before now gave) 
 
 -- ---- a writer
 
--- no byte of some was taken
-pub nothing_taken : (n : ℕ) (bytes : List ℕ) (before now : Bool) → n ≡ 0 → 0 < length bytes → now ≡ ((n == 0 && not (length bytes == 0)) || before) → now ≡ true
-nothing_taken n bytes before now none some h =
-    let ne : (length bytes == 0) ≡ false = ne_eqb (length bytes) 0 (λ e. omega (arith, some, e)) in
-    rw (none, ne) at h
-
--- some were
-pub some_taken : (n : ℕ) (bytes : List ℕ) (before now : Bool) → (n ≡ 0 → ⊥) → now ≡ ((n == 0 && not (length bytes == 0)) || before) → now ≡ before
-some_taken n bytes before now some h =
-    let ne : (n == 0) ≡ false = ne_eqb n 0 some in
-    rw ne at h
-
 -- an error that is handed on is a write fault where it was one
 pub writes_of_err : {X Y : Type 0} (before now : Bool) (e : TraceError) (r : Result X TraceError) (s : Result Y TraceError) → r ≡ Err e → s ≡ Err e → now ≡ (is_write_fault r || before) → now ≡ (is_write_fault s || before)
 writes_of_err {X = X} before now e r s is it h =

@@ -1,6 +1,6 @@
 use Rattle.std.proofs.Common.{◌≡◌, ◌≤◌, ◌++◌, length, refl}
-use Rattle.nm_trace.proofs.Waits.{put_broken, put_waits, put_through}
-use Rattle.nm_trace.proofs.block.Block.push.Goals as goal
+use Rattle.nm_streams.proofs.Waits.{put_broken, put_waits, put_through}
+use Rattle.nm_streams.proofs.block.Block.push.Goals as goal
 
 pub returns-then-self : goal.returns-then-self
 returns-then-self g c = put_broken _ _ _ _ _ c.if-self.true

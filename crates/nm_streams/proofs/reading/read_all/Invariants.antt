@@ -1,6 +1,6 @@
-use Rattle.std.proofs.Common.{◌≡◌, length, vec_len, ◌-◌}
+use Rattle.std.proofs.Common.{◌≡◌, length, vec_len, ◌-◌, suc}
 use Rattle.std.specs.Io.KnownBytes.{Consumes}
-use Rattle.nm_trace.proofs.running.read_all.Given as goal
+use Rattle.nm_streams.proofs.reading.read_all.Given as goal
 
 abbrev pub invariant-loop-buffer : goal.invariant-loop-buffer
 invariant-loop-buffer g l = record {
@@ -10,4 +10,4 @@ invariant-loop-buffer g l = record {
 }
 
 abbrev pub decreases-loop-buffer : goal.decreases-loop-buffer
-decreases-loop-buffer g l = 16777217 - vec_len l.bytes
+decreases-loop-buffer g l = suc l.limit - vec_len l.bytes

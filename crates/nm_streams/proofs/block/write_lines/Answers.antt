@@ -1,9 +1,9 @@
 use Rattle.std.proofs.Common.{arith, rules, ◌≡◌, ◌<◌, ◌∙◌, length, take, drop, length-drop}
 use Rattle.std.proofs.Math.Seq.{take-add}
 use Rattle.std.proofs.lemmas.List.{take-append-drop}
-use Rattle.nm_trace.proofs.Known.{appends_more, appends_nothing, appends_kept}
-use Rattle.nm_trace.proofs.Told.{nothing_taken, some_taken}
-use Rattle.nm_trace.proofs.block.write_lines.Goals as goal
+use Rattle.nm_streams.proofs.Known.{appends_more, appends_nothing, appends_kept}
+use Rattle.nm_streams.proofs.Taken.{nothing_taken, some_taken}
+use Rattle.nm_streams.proofs.block.write_lines.Goals as goal
 
 pub loop-at-preserved : goal.loop-at-preserved
 loop-at-preserved g c =

@@ -5,8 +5,8 @@ ghost use Rattle.std.specs.Io.Buffered.{writer_buffer};
 ghost use Rattle.std.specs.Io.{ReadsAtMost, WritesAtMost};
 ghost use Rattle.std.specs.Io.Iter.{u64_saturate};
 ghost use Rattle.std.specs.Io.KnownBytes.{Keeps, ReadConsumes, WriteAppends};
-ghost use Rattle.nm_trace.specs.Counts.{is_failed_write, none_counted, more_counted};
-ghost use Rattle.nm_trace.specs.Watched.{watched_failed, watched_given, watched_inner};
+ghost use Rattle.nm_streams.specs.Counts.{is_failed_write, none_counted, more_counted};
+ghost use Rattle.nm_streams.specs.Watched.{watched_failed, watched_given, watched_inner};
 
 use crate::telling::{FlushingWriter, TellingReader, TellingWriter};
 use std::alloc::Allocator;

@@ -1,7 +1,6 @@
 use Rattle.std.proofs.Common.{rules, ◌≡◌, ℕ, ◌+◌, ◌≤◌, ◌<◌, [], length, refl, subst, ◌∙◌, arith}
-use Rattle.nm_steps.specs.Faults.{trace_limit}
-use Rattle.nm_trace.proofs.Known.{consumes_nothing}
-use Rattle.nm_trace.proofs.running.read_all.Goals as goal
+use Rattle.nm_streams.proofs.Known.{consumes_nothing}
+use Rattle.nm_streams.proofs.reading.read_all.Goals as goal
 
 pub loop-buffer-init : goal.loop-buffer-init
 loop-buffer-init g c =
@@ -23,7 +22,7 @@ pub returns-then-count-eq0-clause-told : goal.returns-then-count-eq0-clause-told
 returns-then-count-eq0-clause-told g c =
     let so_far = length c.loop-buffer.bytes.items in
     let none : so_far + c.in-Ok.count ≡ so_far = omega arith in
-    let few : so_far ≤ trace_limit = search rules in (
+    let few : so_far ≤ c.args.limit = search rules in (
       c.in-Ok.ensures.failed ∙ c.loop-buffer.invariant.failed,
       (
         so_far,
@@ -41,7 +40,6 @@ returns-then-is_err-clause-told g c =
       (
         so_far + c.in-Ok.count,
         some,
-        λ later. absurd (omega (arith, later)),
         g.met.R.TellingReader.gave_more c.args.reader.now c.loop-buffer.reader c.read_telling.new.self so_far c.in-Ok.count c.loop-buffer.invariant.given c.in-Ok.ensures.given,
       ),
     )

@@ -1,8 +1,8 @@
 use Rattle.std.proofs.Common.{refl, subst}
 use Rattle.std.specs.Io.KnownBytes.{Appends}
-use Rattle.nm_trace.specs.Played.{BreaksOff}
-use Rattle.nm_trace.proofs.Waits.{breaks_before, breaks_behind}
-use Rattle.nm_trace.proofs.block.write_through.Goals as goal
+use Rattle.nm_streams.specs.Waiting.{BreaksOff}
+use Rattle.nm_streams.proofs.Waits.{breaks_before, breaks_behind}
+use Rattle.nm_streams.proofs.block.write_through.Goals as goal
 
 pub returns-in_default-clause-broken : goal.returns-in_default-clause-broken
 returns-in_default-clause-broken g c =

@@ -4,7 +4,7 @@ ghost use Rattle.std.specs.Prelude.{◌≡◌, ◌||◌, ◌+◌, ℕ, Bool, fal
 ghost use Rattle.std.specs.Io.{ReadsAtMost, WritesAtMost};
 ghost use Rattle.std.specs.Io.Cursor.{cursor_position};
 ghost use Rattle.std.specs.Io.KnownBytes.{Keeps, ReadConsumes, WriteAppends};
-ghost use Rattle.nm_trace.specs.Counts.{is_failed_write, none_left, more_left, none_on, more_on, more_of_none};
+ghost use Rattle.nm_streams.specs.Counts.{is_failed_write, none_left, more_left, none_on, more_on, more_of_none};
 
 use std::alloc::Allocator;
 use std::collections::VecDeque;

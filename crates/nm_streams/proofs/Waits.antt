@@ -2,10 +2,10 @@
 use Rattle.std.proofs.Common.{◌≡◌, ◌≤◌, ◌+◌, ◌||◌, if◌then◌else◌, length, ℕ, Bool, true, false, List, [], ◌++◌, length-append, Option, Some, Result, Ok, Err, refl, sym, ap, subst, ◌∙◌, append_assoc, append-nil, arith}
 use Rattle.std.specs.Prelude.{OnOk, OnErr, is_err}
 use Rattle.std.specs.Io.KnownBytes.{Appends}
-use Rattle.nm_trace.specs.declared.block.Block.{Block}
-use Rattle.nm_trace.specs.Played.{BreaksOff}
-use Rattle.nm_trace.specs.Waiting.{Stands, Puts}
-use Rattle.nm_trace.proofs.Known.{appends_more}
+use Rattle.nm_streams.specs.declared.block.Block.{Block}
+use Rattle.nm_streams.specs.Waiting.{BreaksOff}
+use Rattle.nm_streams.specs.Waiting.{Stands, Puts}
+use Rattle.nm_streams.proofs.Known.{appends_more}
 
 -- what breaks off also breaks off with more behind it
 pub breaks_before : (old new : Option (List ℕ)) (text more : List ℕ) → BreaksOff old new text → BreaksOff old new (text ++ more)

@@ -1,29 +1,28 @@
 //! Text that waits to be written.
 
-ghost use Rattle.std.specs.Prelude.{◌≡◌, ◌≤◌, ◌||◌, ◌++◌, [], length, false, if◌then◌else◌, OnOk, OnErr, IfErr, is_err};
+ghost use Rattle.std.specs.Prelude.{◌≡◌, ◌≤◌, ◌||◌, ◌++◌, [], length, false, if◌then◌else◌, OnOk, OnErr, is_err};
 ghost use Rattle.std.specs.Io.KnownBytes.{Appends};
-ghost use Rattle.nm_trace.specs.Played.{BreaksOff};
-ghost use Rattle.nm_trace.specs.Waiting.{Puts};
+ghost use Rattle.nm_streams.specs.Waiting.{BreaksOff};
+ghost use Rattle.nm_streams.specs.Waiting.{Puts};
 
+use crate::stream_error::WriteError;
 use crate::telling::TellingWriter;
-use nm_steps::TraceError;
 use std::alloc::Allocator;
 
 /// Writes bytes whole, or a prefix of them and a fault: the writer failed, or took no byte.
-pub fn write_lines<W: TellingWriter>(writer: &mut W, lines: &[u8]) -> Result<(), TraceError>
+pub fn write_lines<W: TellingWriter>(writer: &mut W, lines: &[u8]) -> Result<(), WriteError>
     ensures whole { OnOk result (Appends (W.contents writer.old) (W.contents writer.new) lines.now) }
     ensures broken { OnErr result
         (BreaksOff (W.contents writer.old) (W.contents writer.new) lines.now) }
-    ensures fault { IfErr result (λ e. e ≡ TraceError.WriteFault) }
     ensures told { W.has_failed writer.new ≡ (is_err result || W.has_failed writer.old) }
 {
     let mut at = 0;
     while at < lines.len() {
         let (_, rest) = lines.split_at(at);
         match writer.write_telling(rest) {
-            Ok(0) => return Err(TraceError::WriteFault),
+            Ok(0) => return Err(WriteError),
             Ok(count) => at += count,
-            Err(_) => return Err(TraceError::WriteFault),
+            Err(_) => return Err(WriteError),
         }
     }
     Ok(())
@@ -35,7 +34,7 @@ fn write_through<W: TellingWriter, A: Allocator>(
     writer: &mut W,
     waiting: &mut Vec<u8, A>,
     text: &[u8],
-) -> Result<(), TraceError>
+) -> Result<(), WriteError>
     ensures whole { OnOk result
         (Appends (W.contents writer.old) (W.contents writer.new) (waiting.old.items ++ text.now)) }
     ensures emptied { OnOk result (waiting.new.items ≡ []) }
@@ -45,11 +44,11 @@ fn write_through<W: TellingWriter, A: Allocator>(
     ensures told { W.has_failed writer.new ≡ (is_err result || W.has_failed writer.old) }
 {
     let Ok(()) = write_lines(writer, waiting.as_slice()) else {
-        return Err(TraceError::WriteFault);
+        return Err(WriteError);
     };
     waiting.clear();
     let Ok(()) = write_lines(writer, text) else {
-        return Err(TraceError::WriteFault);
+        return Err(WriteError);
     };
     Ok(())
 }
@@ -67,7 +66,7 @@ fn keep<A: Allocator>(waiting: &mut Vec<u8, A>, room: usize, text: &[u8]) -> boo
 /// Text that waits until there is so much that it is written. What finds no room, or no memory on the host, is written
 /// at once. After a write that failed the block is broken, and takes no more.
 #[derive(Drop)]
-pub(crate) struct Block<A: Allocator> {
+pub struct Block<A: Allocator> {
     waiting: Vec<u8, A>,
     room: usize,
     is_broken: bool,
@@ -75,7 +74,7 @@ pub(crate) struct Block<A: Allocator> {
 
 impl<A: Allocator> Block<A> {
     /// A block in which so many bytes wait at most.
-    pub(crate) fn new(alloc: A, room: usize) -> Block<A>
+    pub fn new(alloc: A, room: usize) -> Block<A>
         ensures waiting { result.waiting.items ≡ [] }
         ensures room { result.room ≡ room }
         ensures whole { result.is_broken ≡ false }
@@ -88,21 +87,21 @@ impl<A: Allocator> Block<A> {
     }
 
     /// Whether a write has failed.
-    pub(crate) fn is_broken(&self) -> bool
+    pub fn is_broken(&self) -> bool
         ensures { result ≡ self.now.is_broken }
     {
         self.is_broken
     }
 
     /// What waits.
-    pub(crate) fn into_waiting(self) -> Vec<u8, A>
+    pub fn into_waiting(self) -> Vec<u8, A>
         ensures { result.items ≡ self.waiting.items }
     {
         self.waiting
     }
 
     /// Appends bytes, which wait or are written.
-    pub(crate) fn push<W: TellingWriter>(&mut self, writer: &mut W, text: &[u8])
+    pub fn push<W: TellingWriter>(&mut self, writer: &mut W, text: &[u8])
         ensures { Puts W.contents W.has_failed writer.old self.old writer.new self.new text.now }
     {
         if self.is_broken {
@@ -115,14 +114,14 @@ impl<A: Allocator> Block<A> {
     }
 
     /// Appends a text, which waits or is written.
-    pub(crate) fn push_str<W: TellingWriter>(&mut self, writer: &mut W, text: &str)
+    pub fn push_str<W: TellingWriter>(&mut self, writer: &mut W, text: &str)
         ensures { Puts W.contents W.has_failed writer.old self.old writer.new self.new text.now }
     {
         self.push(writer, text.as_bytes());
     }
 
     /// Writes what waits.
-    pub(crate) fn finish<W: TellingWriter>(&self, writer: &mut W) -> Result<(), TraceError>
+    pub fn finish<W: TellingWriter>(&self, writer: &mut W) -> Result<(), WriteError>
         ensures whole { OnOk result
             (Appends (W.contents writer.old) (W.contents writer.new) self.now.waiting.items) }
         ensures broken { OnErr result
@@ -130,7 +129,7 @@ impl<A: Allocator> Block<A> {
         ensures told { W.has_failed writer.new ≡ (is_err result || W.has_failed writer.old) }
     {
         let Ok(()) = write_lines(writer, self.waiting.as_slice()) else {
-            return Err(TraceError::WriteFault);
+            return Err(WriteError);
         };
         Ok(())
     }

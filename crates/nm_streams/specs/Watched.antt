@@ -1,6 +1,6 @@
 -- What contracts read of a watched reader or writer.
 use Rattle.std.specs.Prelude.{ℕ, Bool}
-use Rattle.nm_trace.specs.declared.watched.Watched.{Watched}
+use Rattle.nm_streams.specs.declared.watched.Watched.{Watched}
 
 -- `watched.has_failed()`
 abbrev pub watched_failed : {T : Type 0} → Watched T → Bool

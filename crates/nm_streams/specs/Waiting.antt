@@ -1,12 +1,11 @@
 -- Text that is put into a block, which waits there or is written.
-use Rattle.std.specs.Prelude.{◌≡◌, ◌≤◌, ◌||◌, length, ℕ, Bool, true, false, List, ◌++◌, Option, Result, Ok, Err}
+use Rattle.std.specs.Prelude.{◌≡◌, ◌<◌, ◌≤◌, ◌||◌, length, ℕ, Bool, true, false, List, ◌++◌, Option}
 use Rattle.std.specs.Io.KnownBytes.{Appends}
-use Rattle.nm_trace.specs.declared.block.Block.{Block}
-use Rattle.nm_steps.specs.Calls.{Call}
-use Rattle.nm_calls.specs.definitions.Outcome.{outcome}
-use Rattle.nm_calls.specs.definitions.Systems.{SystemState}
-use Rattle.nm_trace.specs.Played.{BreaksOff, StopsIn}
-use Rattle.nm_trace.specs.Report.{text_of}
+use Rattle.nm_streams.specs.declared.block.Block.{Block}
+
+-- the written bytes, if known, grow by a prefix of the text that is not all of it
+abbrev pub BreaksOff : Option (List ℕ) → Option (List ℕ) → List ℕ → Type 0
+BreaksOff old new text = (front : List ℕ) × (rest : List ℕ) × (front ++ rest ≡ text) × (0 < length rest) × Appends old new front
 
 -- what was put since a writer had the bytes old: it has a front of it, and the rest waits; or a write has failed, and it breaks off
 abbrev pub Stands : Option (List ℕ) → Option (List ℕ) → Bool → List ℕ → List ℕ → Type 0
@@ -25,10 +24,3 @@ pub record Puts {W A : Type 0} (contents : W → Option (List ℕ)) (failed : W 
   pub room : c.room ≡ b.room
   -- and no more waits than it has room for
   pub within : length b.waiting.items ≤ b.room → length c.waiting.items ≤ c.room
-
--- a call is made and its lines are put; or it stopped, and nothing was put
-abbrev pub Tells : {E W A : Type 0} → (W → Option (List ℕ)) → (W → Bool) → ℕ → Result (Unit {0}) E → SystemState → SystemState → Call
-    → W → Block A → W → Block A → Type 0
-Tells contents failed k (Ok done) s t call w b v c =
-    Puts contents failed w b v c (text_of k call (outcome s call).answer) × (t ≡ (outcome s call).system)
-Tells contents failed k (Err e) s t call w b v c = StopsIn s call t × (v ≡ w) × (c ≡ b)

@@ -10,11 +10,11 @@ use std::io::{ErrorKind, Write};
 
 /// A writer whose every write fails.
 #[derive(Drop)]
-pub(crate) struct Closed {}
+pub struct Closed {}
 
 impl Closed {
     /// One more.
-    pub(crate) fn new() -> Closed {
+    pub fn new() -> Closed {
         Closed {}
     }
 }

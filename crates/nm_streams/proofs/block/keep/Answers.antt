@@ -1,6 +1,6 @@
 use Rattle.std.proofs.Common.{arith, ◌≤◌, ◌+◌, length}
-use Rattle.nm_trace.proofs.Waits.{appended_within}
-use Rattle.nm_trace.proofs.block.keep.Goals as goal
+use Rattle.nm_streams.proofs.Waits.{appended_within}
+use Rattle.nm_streams.proofs.block.keep.Goals as goal
 
 pub returns-then-text-left-clause-within : goal.returns-then-text-left-clause-within
 returns-then-text-left-clause-within g c few =

@@ -1,0 +1,3 @@
+pub mod Known
+pub mod Taken
+pub mod Waits

@@ -1,0 +1,4 @@
+pub mod Counts
+pub mod Watched
+pub mod Telling
+pub mod Waiting

@@ -1,0 +1,16 @@
+-- What reading to the end says about the reader.
+use Rattle.std.specs.Prelude.{◌≡◌, ◌⊎◌, ℕ, ◌<◌, ◌≤◌, Bool, true, Result, Ok, Err}
+use Rattle.nm_streams.specs.declared.stream_error.ReadError.{ReadError}
+use Rattle.nm_streams.specs.declared.stream_error.ReadError.TheVariants.{Fault, HostMemory}
+
+-- the reader has failed, or gave more bytes than the limit
+abbrev pub HasReadCause : ℕ → Bool → (ℕ → Type 0) → Type 0
+HasReadCause limit now gave = (now ≡ true) ⊎ ((n : ℕ) × (limit < n) × gave n)
+
+-- what a result says about the reader, given whether it had failed before and after, and how many bytes it gave in
+-- between: a fault has its cause; with any other result the reader has not failed anew; with its bytes it gave no more than
+-- the limit, and if the host is out of memory at least one
+abbrev pub TellsRead : {X : Type 0} → ℕ → Bool → Bool → (ℕ → Type 0) → Result X ReadError → Type 0
+TellsRead limit before now gave (Ok bytes) = (now ≡ before) × ((n : ℕ) × (n ≤ limit) × gave n)
+TellsRead limit before now gave (Err Fault) = HasReadCause limit now gave
+TellsRead limit before now gave (Err HostMemory) = (now ≡ before) × ((n : ℕ) × (0 < n) × gave n)

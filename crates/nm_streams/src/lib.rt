@@ -1,0 +1,16 @@
+//! Streams that report whether they have failed, reading them to their end, and text that waits to be written.
+#![tactic(auto)]
+
+mod block;
+mod closed;
+mod reading;
+mod stream_error;
+mod telling;
+mod watched;
+
+pub use block::{Block, write_lines};
+pub use closed::Closed;
+pub use reading::read_all;
+pub use stream_error::{ReadError, WriteError};
+pub use telling::{FlushingWriter, TellingReader, TellingWriter};
+pub use watched::Watched;
