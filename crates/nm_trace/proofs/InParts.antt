@@ -2,13 +2,10 @@
 use Rattle.std.proofs.Common.{◌≡◌, ℕ, suc, ◌+◌, ◌<◌, List, [], ◌∷◌, ◌++◌, length, take, drop, get_or, map, Option, refl, sym, ap, ◌∙◌, subst, append_assoc, length-take, arith}
 use Rattle.std.proofs.lemmas.List.{take_more, take-append-drop, append-nil, length-map}
 use Rattle.std.proofs.Math.ListN.{get_or-map}
-use Rattle.std.specs.Io.KnownBytes.{Appends}
 use Rattle.nm_calls.specs.definitions.Systems.{SystemState}
 use Rattle.nm_steps.specs.Calls.{Call}
 use Rattle.nm_calls.specs.definitions.Outcome.{Outcome, outcome}
 use Rattle.nm_trace.specs.Report.{text_of, report_from, state_after}
-use Rattle.nm_trace.specs.Played.{BreaksOff}
-use Rattle.nm_trace.proofs.Known.{appends_more}
 
 pub report_append : (k : ℕ) (s : SystemState) (xs ys : List Call) → report_from k s (xs ++ ys) ≡ report_from k s xs ++ report_from (k + length xs) (state_after s xs) ys
 report_append k s [] ys = let e : k ≡ k + 0 = omega arith in ap (λ (j : ℕ). report_from j s ys) e
@@ -43,15 +40,6 @@ module _ (s : SystemState) (calls : List Call) (k : ℕ) (call : Call) (lt : k <
 -- the report on some first calls is a front of the report
 pub report_front : (s : SystemState) (calls : List Call) (k : ℕ) → (rest : List ℕ) × (report_from 0 s (take k calls) ++ rest ≡ report_from 0 s calls)
 report_front s calls k = (_, sym (report_append 0 s (take k calls) (drop k calls)) ∙ ap (report_from 0 s) (take-append-drop k calls))
-
--- what is written, and what waited and breaks off
-pub broken_off : (a b c : Option (List ℕ)) (text waiting whole : List ℕ) → text ++ waiting ≡ whole → Appends a b text → BreaksOff b c waiting → BreaksOff a c whole
-broken_off a b c text waiting whole e p q =
-    (text ++ q.0, q.1, append_assoc text q.0 q.1 ∙ ap (λ (ls : List ℕ). text ++ ls) q.2 ∙ e, q.3, appends_more a b c text q.0 p q.4)
-
--- what is written, and what waited and is written whole
-pub written_whole : (a b c : Option (List ℕ)) (text waiting whole : List ℕ) → text ++ waiting ≡ whole → Appends a b text → Appends b c waiting → Appends a c whole
-written_whole a b c text waiting whole e p q = subst (λ (ls : List ℕ). Appends a c ls) e (appends_more a b c text waiting p q)
 
 -- the call of a step, at its place
 pub call_at : {S : Type 0} (call_of : S → Call) (steps : List S) (k : ℕ) (step : S) → k < length steps → step ≡ get_or steps k step → (k < length (map call_of steps)) × (call_of step ≡ get_or (map call_of steps) k (call_of step))

@@ -1,8 +1,6 @@
 pub mod Sessions
-pub mod Known
 pub mod InParts
 pub mod FromBytes
 pub mod Headlines
 pub mod Lines
 pub mod Told
-pub mod Waits

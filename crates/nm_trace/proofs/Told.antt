@@ -1,6 +1,5 @@
 -- What faults say of the reader and the writer.
-use Rattle.std.proofs.Common.{◌≡◌, ℕ, ◌<◌, ◌≤◌, ◌==◌, ◌||◌, ◌&&◌, ◌⊎◌, inl, inr, not, List, length, Option, Result, Ok, Err, Bool, true, false, refl, subst, sym, arith}
-use Rattle.std.proofs.lemmas.Bool.{ne_eqb}
+use Rattle.std.proofs.Common.{◌≡◌, ℕ, ◌<◌, ◌≤◌, ◌||◌, ◌⊎◌, inl, inr, List, Option, Result, Ok, Err, Bool, refl, subst, sym}
 use Rattle.std.specs.Prelude.{IfErr}
 use Rattle.nm_steps.specs.Calls.{Call}
 use Rattle.nm_calls.specs.definitions.Systems.{SystemState}

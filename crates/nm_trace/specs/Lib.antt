@@ -3,8 +3,5 @@ pub mod Played
 pub mod Headline
 pub mod Laws
 pub mod Flights
-pub mod Counts
-pub mod Watched
 pub mod Telling
 pub mod Session
-pub mod Waiting

@@ -1,5 +1,5 @@
 -- What a play makes and writes, and what a run from bytes does.
-use Rattle.std.specs.Prelude.{◌≡◌, ◌⊎◌, ℕ, ◌<◌, ◌≤◌, Bool, List, [], ◌++◌, length, take, slice_get, Option, Some, Result, Ok, Err}
+use Rattle.std.specs.Prelude.{◌≡◌, ◌⊎◌, ℕ, ◌≤◌, Bool, List, [], ◌++◌, length, take, slice_get, Option, Some, Result, Ok, Err}
 use Rattle.std.specs.Io.KnownBytes.{Appends}
 use Rattle.nm_calls.specs.definitions.Systems.{SystemState, system_with}
 use Rattle.nm_steps.specs.Calls.{Call}
@@ -9,15 +9,21 @@ use Rattle.nm_trace.specs.declared.playing.Summary.{Summary}
 use Rattle.nm_steps.specs.declared.trace_error.TraceError.{TraceError}
 use Rattle.nm_steps.specs.declared.trace_error.TraceError.TheVariants.{ReadFault, WriteFault, HostMemory}
 use Rattle.nm_steps.specs.Faults.{Plan}
-use Rattle.nm_trace.specs.Report.{report_from, state_after}
-
--- the written bytes, if known, grow by a prefix of the text that is not all of it
-abbrev pub BreaksOff : Option (List ℕ) → Option (List ℕ) → List ℕ → Type 0
-BreaksOff old new text = (front : List ℕ) × (rest : List ℕ) × (front ++ rest ≡ text) × (0 < length rest) × Appends old new front
+use Rattle.nm_calls.specs.definitions.Outcome.{outcome}
+use Rattle.nm_streams.specs.declared.block.Block.{Block}
+use Rattle.nm_streams.specs.Waiting.{BreaksOff, Puts}
+use Rattle.nm_trace.specs.Report.{text_of, report_from, state_after}
 
 -- a call that runs out of host memory has made some of its first runs
 abbrev pub StopsIn : SystemState → Call → SystemState → Type 0
 StopsIn s call t = (runs : ℕ) × (policy_set : Bool) × HostLeaves s call runs policy_set t
+
+-- a call is made and its lines are put; or it stopped, and nothing was put
+abbrev pub Tells : {E W A : Type 0} → (W → Option (List ℕ)) → (W → Bool) → ℕ → Result (Unit {0}) E → SystemState → SystemState → Call
+    → W → Block A → W → Block A → Type 0
+Tells contents failed k (Ok done) s t call w b v c =
+    Puts contents failed w b v c (text_of k call (outcome s call).answer) × (t ≡ (outcome s call).system)
+Tells contents failed k (Err e) s t call w b v c = StopsIn s call t × (v ≡ w) × (c ≡ b)
 
 -- after the first k calls the next one, which asks for memory, stopped
 abbrev pub StopsAt : SystemState → List Call → ℕ → SystemState → Type 0

@@ -3,16 +3,14 @@
 ghost use Rattle.std.specs.Prelude.{◌≡◌, ◌||◌, OnErr, map};
 ghost use Rattle.nm_calls.specs.definitions.Memory.{MayAllocate};
 ghost use Rattle.nm_steps.specs.Views.{call_of};
-ghost use Rattle.nm_trace.specs.Played.{Plays};
+ghost use Rattle.nm_trace.specs.Played.{Plays, Tells};
 ghost use Rattle.nm_trace.specs.Telling.{is_write_fault};
-ghost use Rattle.nm_trace.specs.Waiting.{Tells};
 
-use crate::block::Block;
-use crate::telling::TellingWriter;
 use crate::text::{push_refusal, push_text};
 use nm_calls::{Call, CallError, System};
 use nm_crew::Gate;
 use nm_steps::{Trace, TraceError};
+use nm_streams::{Block, TellingWriter};
 use std::alloc::{AllocError, Allocator};
 use std::sync::Wait;
 use std::thread::Threads;

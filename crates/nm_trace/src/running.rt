@@ -9,10 +9,10 @@ ghost use Rattle.nm_trace.specs.Played.{Runs, IsSilent, WritesFront};
 ghost use Rattle.nm_trace.specs.Telling.{TellsReads, is_write_fault};
 
 use crate::playing::{Summary, play_calls};
-use crate::telling::{TellingReader, TellingWriter};
 use nm_calls::System;
 use nm_crew::Gate;
 use nm_steps::{Trace, TraceError, read_trace};
+use nm_streams::{ReadError, TellingReader, TellingWriter, read_all};
 use std::alloc::{Allocator, Global};
 use std::sync::Wait;
 use std::thread::Threads;
@@ -21,7 +21,7 @@ use std::thread::Threads;
 pub const TRACE_LIMIT: usize = 16_777_216;
 
 /// All bytes of a reader, if they are no more than a trace may have.
-fn read_all<A: Allocator + Copy, R: TellingReader>(
+fn read_bytes<A: Allocator + Copy, R: TellingReader>(
     alloc: A,
     reader: &mut R,
 ) -> Result<Vec<u8, A>, TraceError>
@@ -38,22 +38,11 @@ fn read_all<A: Allocator + Copy, R: TellingReader>(
     ensures told { TellsReads (R.has_failed reader.old) (R.has_failed reader.new)
         (R.gave reader.old reader.new) result }
 {
-    let mut bytes = Vec::new(alloc);
-    let mut buffer = [0u8; 16384];
-    while bytes.len() <= TRACE_LIMIT {
-        match reader.read_telling(&mut buffer) {
-            Ok(count) => {
-                if count == 0 {
-                    return Ok(bytes);
-                }
-                if bytes.extend_from_slice(&buffer[..count]).is_err() {
-                    return Err(TraceError::HostMemory(0));
-                }
-            }
-            Err(_) => return Err(TraceError::ReadFault),
-        }
+    match read_all(alloc, reader, TRACE_LIMIT) {
+        Ok(bytes) => Ok(bytes),
+        Err(ReadError::Fault) => Err(TraceError::ReadFault),
+        Err(ReadError::HostMemory) => Err(TraceError::HostMemory(0)),
     }
-    Err(TraceError::ReadFault)
 }
 
 /// A trace that was played to its end.
@@ -157,7 +146,7 @@ pub fn run_on<
         (R.gave reader.old reader.new) result }
     ensures writes { W.has_failed writer.new ≡ (is_write_fault result || W.has_failed writer.old) }
 {
-    let bytes = read_all(alloc, reader)?;
+    let bytes = read_bytes(alloc, reader)?;
     run_bytes(rt, alloc, heap, bytes.as_slice(), writer, workers, gate)
 }
 

@@ -8,13 +8,12 @@ ghost use Rattle.nm_steps.specs.Faults.{Gives};
 ghost use Rattle.nm_steps.specs.Memory.{IsSomeText, takes_memory};
 ghost use Rattle.nm_steps.specs.declared.trace_error.TraceError.TheVariants.{HostMemory};
 
-use crate::block::Block;
-use crate::closed::Closed;
 use crate::playing::make_step;
 use json::{Scratch, Value};
 use nm_calls::{Call, System};
 use nm_crew::Gate;
 use nm_steps::{StepError, TraceError, geometry_of, run_limit_of, step_of, value_of};
+use nm_streams::{Block, Closed};
 use std::alloc::{Allocator, Global};
 use std::marker::Model;
 use std::sync::Wait;

@@ -12,16 +12,15 @@ ghost use Rattle.nm_steps.specs.Form.{access_step};
 ghost use Rattle.nm_steps.specs.Views.{call_of, shown_during};
 ghost use Rattle.nm_calls.specs.views.Answers.{answer_of};
 ghost use Rattle.nm_trace.specs.Report.{word_of, spaced, entry_text, answer_text, line_of, text_of, access_lines, answers_in, access_line};
-ghost use Rattle.nm_trace.specs.Waiting.{Puts};
+ghost use Rattle.nm_streams.specs.Waiting.{Puts};
 ghost use Rattle.nm_model.specs.views.Asked.{access_shown};
 ghost use Rattle.nm_memory.specs.views.Accesses.{answer_shown};
 
-use crate::block::Block;
-use crate::telling::TellingWriter;
 use nm_calls::{
     ADDRESS_BYTES, Access, AccessAnswer, Answer, Call, InFlight, PagemapEntry, Totals,
     write_address,
 };
+use nm_streams::{Block, TellingWriter};
 use nm_types::{Errno, FrameId};
 use std::alloc::Allocator;
 

@@ -3,11 +3,10 @@ use Rattle.std.proofs.lemmas.List.{take_all, length-map}
 use Rattle.std.proofs.lemmas.Option.{slice_get_read}
 use Rattle.std.specs.Io.KnownBytes.{Appends}
 use Rattle.nm_steps.specs.Views.{call_of}
-use Rattle.nm_trace.specs.Played.{BreaksOff}
 use Rattle.nm_trace.specs.Report.{report_from, state_after}
-use Rattle.nm_trace.specs.Waiting.{Stands}
+use Rattle.nm_streams.specs.Waiting.{BreaksOff, Stands}
 use Rattle.nm_trace.proofs.InParts.{call_at, state_more, report_more}
-use Rattle.nm_trace.proofs.Waits.{ends_whole, ends_broken, stands_broken}
+use Rattle.nm_streams.proofs.Waits.{ends_whole, ends_broken, stands_broken}
 use Rattle.nm_trace.proofs.playing.play_calls.Goals as goal
 
 pub returns-in_default-finish-clause-plays : goal.returns-in_default-finish-clause-plays

@@ -1,7 +1,7 @@
 use Rattle.std.proofs.Common.{◌≡◌, ◌||◌, false, map, take}
 use Rattle.nm_steps.specs.Views.{call_of}
 use Rattle.nm_trace.specs.Report.{report_from, state_after}
-use Rattle.nm_trace.specs.Waiting.{Stands}
+use Rattle.nm_streams.specs.Waiting.{Stands}
 use Rattle.nm_trace.proofs.playing.play_calls.Given as goal
 
 abbrev pub invariant-loop-k : goal.invariant-loop-k

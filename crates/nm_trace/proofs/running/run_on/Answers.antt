@@ -3,7 +3,7 @@ use Rattle.std.specs.Prelude.{Ok, IfOk}
 use Rattle.nm_steps.specs.Faults.{Plan}
 use Rattle.nm_trace.specs.Headline.{IsPlayed, summary_of}
 use Rattle.nm_trace.specs.Played.{Runs, IsSilent, WritesFront}
-use Rattle.nm_trace.proofs.Known.{appends_none}
+use Rattle.nm_streams.proofs.Known.{appends_none}
 use Rattle.nm_trace.proofs.FromBytes.{front, of_all_read, of_any, not_read}
 use Rattle.nm_trace.proofs.Headlines.{err_of}
 use Rattle.nm_trace.proofs.Told.{reads_kept, reads_of_err, unwritten}
@@ -47,7 +47,7 @@ returns-in_err-bytes-clause-reads g c =
 
 pub returns-clause-reads : goal.returns-clause-reads
 returns-clause-reads g c =
-    reads_kept _ _ (g.R.TellingReader.gave c.args.reader.now c.read_all.new.reader) (length c.in_ok-bytes.bytes.items) c.run_bytes.result c.in_ok-bytes.ensures.told.0 c.in_ok-bytes.ensures.given c.in_ok-bytes.ensures.within
+    reads_kept _ _ (g.R.TellingReader.gave c.args.reader.now c.read_bytes.new.reader) (length c.in_ok-bytes.bytes.items) c.run_bytes.result c.in_ok-bytes.ensures.told.0 c.in_ok-bytes.ensures.given c.in_ok-bytes.ensures.within
     (λ k is. subst (λ (bytes : List ℕ). 0 < length bytes) c.as_slice.ensures.value (c.run_bytes.ensures.asked k is).1)
     c.run_bytes.ensures.unread
 

@@ -1,5 +1,5 @@
 use Rattle.nm_trace.proofs.Lines.{access_line_is}
-use Rattle.nm_trace.proofs.Waits.{put_is, put_more}
+use Rattle.nm_streams.proofs.Waits.{put_is, put_more}
 use Rattle.nm_trace.proofs.text.push_access.Goals as goal
 
 pub returns : goal.returns

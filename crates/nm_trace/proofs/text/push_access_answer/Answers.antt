@@ -2,7 +2,7 @@ use Rattle.std.proofs.Common.{sym, ap}
 use Rattle.nm_calls.specs.definitions.Outcome.{shown}
 use Rattle.nm_memory.specs.views.Accesses.{answer_shown}
 use Rattle.nm_trace.specs.Report.{answer_text}
-use Rattle.nm_trace.proofs.Waits.{put_is, put_more}
+use Rattle.nm_streams.proofs.Waits.{put_is, put_more}
 use Rattle.nm_trace.proofs.text.push_access_answer.Goals as goal
 
 pub returns-in-Refused : goal.returns-in-Refused

@@ -1,6 +1,6 @@
 use Rattle.std.proofs.Common.{[], refl, arith}
 use Rattle.nm_trace.proofs.Lines.{goes_on, is_done, is_told}
-use Rattle.nm_trace.proofs.Waits.{put_is, put_more, put_none}
+use Rattle.nm_streams.proofs.Waits.{put_is, put_more, put_none}
 use Rattle.nm_trace.proofs.text.push_accesses.Goals as goal
 
 pub loop-j-init : goal.loop-j-init

@@ -2,7 +2,7 @@ use Rattle.std.proofs.Common.{◌≡◌, ◌++◌, List, ℕ, drop, map}
 use Rattle.nm_memory.specs.views.Accesses.{answer_shown}
 use Rattle.nm_steps.specs.Views.{shown_during}
 use Rattle.nm_trace.specs.Report.{access_lines}
-use Rattle.nm_trace.specs.Waiting.{Puts}
+use Rattle.nm_streams.specs.Waiting.{Puts}
 use Rattle.nm_trace.proofs.text.push_accesses.Given as goal
 
 -- what was put, and the lines that are left, are the lines

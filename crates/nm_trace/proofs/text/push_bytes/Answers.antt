@@ -1,5 +1,5 @@
 use Rattle.std.proofs.Common.{◌≡◌, ◌≤◌, length, take, drop, arith, sym, ap, length-drop, length-take}
-use Rattle.nm_trace.proofs.Waits.{put_is, put_more, put_none}
+use Rattle.nm_streams.proofs.Waits.{put_is, put_more, put_none}
 use Rattle.nm_trace.proofs.Lines.{no_digits, more_digits}
 use Rattle.nm_trace.proofs.text.push_bytes.Goals as goal
 

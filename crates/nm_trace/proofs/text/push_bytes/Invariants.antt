@@ -1,6 +1,6 @@
 use Rattle.std.proofs.Common.{◌≤◌, ◌-◌, length, take}
 use Rattle.hex.specs.Hex.{encode_lower}
-use Rattle.nm_trace.specs.Waiting.{Puts}
+use Rattle.nm_streams.specs.Waiting.{Puts}
 use Rattle.nm_trace.proofs.text.push_bytes.Given as goal
 
 abbrev pub invariant-loop-at : goal.invariant-loop-at

@@ -1,6 +1,6 @@
 use Rattle.std.proofs.Common.{map, take}
 use Rattle.nm_trace.specs.Report.{spaced, entry_text}
-use Rattle.nm_trace.specs.Waiting.{Puts}
+use Rattle.nm_streams.specs.Waiting.{Puts}
 use Rattle.nm_trace.proofs.text.push_entries.Given as goal
 
 abbrev pub invariant-loop-entry : goal.invariant-loop-entry

@@ -8,7 +8,7 @@ use Rattle.nm_calls.specs.views.Answers.{answer_of}
 use Rattle.nm_trace.specs.Report.{answers_in}
 use Rattle.nm_trace.specs.Report.{access_lines}
 use Rattle.nm_trace.proofs.Lines.{no_access, no_answer}
-use Rattle.nm_trace.proofs.Waits.{put_is, put_none}
+use Rattle.nm_streams.proofs.Waits.{put_is, put_none}
 use Rattle.nm_trace.proofs.text.push_flights.Goals as goal
 
 -- a call of another kind makes no accesses

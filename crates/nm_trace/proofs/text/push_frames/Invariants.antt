@@ -1,6 +1,6 @@
 use Rattle.std.proofs.Common.{take, decimal}
 use Rattle.nm_trace.specs.Report.{spaced}
-use Rattle.nm_trace.specs.Waiting.{Puts}
+use Rattle.nm_streams.specs.Waiting.{Puts}
 use Rattle.nm_trace.proofs.text.push_frames.Given as goal
 
 abbrev pub invariant-loop-frame : goal.invariant-loop-frame

@@ -1,4 +1,4 @@
-use Rattle.nm_trace.proofs.Waits.{put_is, put_more}
+use Rattle.nm_streams.proofs.Waits.{put_is, put_more}
 use Rattle.nm_trace.proofs.text.push_front.Goals as goal
 
 pub returns : goal.returns

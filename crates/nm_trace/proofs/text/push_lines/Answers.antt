@@ -1,5 +1,5 @@
 use Rattle.std.proofs.Common.{◌∷◌, ap, string_bytes}
-use Rattle.nm_trace.proofs.Waits.{put_is, put_more, put_none}
+use Rattle.nm_streams.proofs.Waits.{put_is, put_more, put_none}
 use Rattle.nm_trace.proofs.Lines.{next_shown}
 use Rattle.nm_trace.proofs.text.push_lines.Goals as goal
 

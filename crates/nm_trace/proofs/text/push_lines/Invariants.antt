@@ -1,7 +1,7 @@
 use Rattle.std.proofs.Common.{◌∷◌, take}
 use Rattle.std.specs.List.{flat_map}
 use Rattle.nm_calls.specs.definitions.Maps.{lines_shown}
-use Rattle.nm_trace.specs.Waiting.{Puts}
+use Rattle.nm_streams.specs.Waiting.{Puts}
 use Rattle.nm_trace.proofs.text.push_lines.Given as goal
 
 abbrev pub invariant-loop-line : goal.invariant-loop-line

@@ -5,7 +5,7 @@ use Rattle.nm_calls.specs.definitions.Outcome.{accesses_asked}
 use Rattle.nm_steps.specs.Views.{call_of}
 use Rattle.nm_trace.specs.Report.{text_of, line_of, answer_text}
 use Rattle.nm_trace.proofs.Lines.{no_answer}
-use Rattle.nm_trace.proofs.Waits.{put_is, put_more}
+use Rattle.nm_streams.proofs.Waits.{put_is, put_more}
 use Rattle.nm_trace.proofs.text.push_refusal.Goals as goal
 
 pub returns : goal.returns

@@ -1,6 +1,6 @@
 use Rattle.std.proofs.Common.{◌≡◌, ◌∷◌, ap, get_or, pos, rules}
 use Rattle.std.specs.Fmt.{signed_decimal}
-use Rattle.nm_trace.proofs.Waits.{put_is, put_more, put_none}
+use Rattle.nm_streams.proofs.Waits.{put_is, put_more, put_none}
 use Rattle.nm_trace.proofs.Lines.{next_read}
 use Rattle.nm_trace.proofs.text.push_statuses.Goals as goal
 

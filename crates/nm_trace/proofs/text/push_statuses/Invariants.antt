@@ -1,7 +1,7 @@
 use Rattle.std.proofs.Common.{take}
 use Rattle.std.specs.Fmt.{signed_decimal}
 use Rattle.nm_trace.specs.Report.{spaced}
-use Rattle.nm_trace.specs.Waiting.{Puts}
+use Rattle.nm_streams.specs.Waiting.{Puts}
 use Rattle.nm_trace.proofs.text.push_statuses.Given as goal
 
 abbrev pub invariant-loop-status : goal.invariant-loop-status

@@ -1,5 +1,5 @@
 use Rattle.nm_trace.specs.Report.{text_of}
-use Rattle.nm_trace.proofs.Waits.{put_more}
+use Rattle.nm_streams.proofs.Waits.{put_more}
 use Rattle.nm_trace.proofs.text.push_text.Goals as goal
 
 pub returns : goal.returns

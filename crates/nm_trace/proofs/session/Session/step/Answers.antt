@@ -4,7 +4,7 @@ use Rattle.nm_steps.specs.Tree.{view}
 use Rattle.nm_trace.specs.Session.{SessionState}
 use Rattle.nm_steps.specs.Views.{call_of}
 use Rattle.nm_calls.specs.definitions.Systems.{SystemState}
-use Rattle.nm_trace.proofs.Waits.{all_waits}
+use Rattle.nm_streams.proofs.Waits.{all_waits}
 use Rattle.nm_steps.proofs.Utf8.{text_of_read}
 use Rattle.nm_trace.proofs.Sessions.{outcome_limit, asked_is, stopped, stepped, value_memory}
 use Rattle.nm_trace.proofs.session.Session.step.Goals as goal
