@@ -3,6 +3,18 @@ use Rattle.std.specs.Prelude.{◌≡◌, ◌<◌, ◌≤◌, ◌||◌, length, �
 use Rattle.std.specs.Io.KnownBytes.{Appends}
 use Rattle.nm_streams.specs.declared.block.Block.{Block}
 
+-- `block.is_broken()`
+abbrev pub block_broken : {A : Type 0} → Block A → Bool
+block_broken b = b.is_broken
+
+-- `block.into_waiting()`
+abbrev pub block_waiting : {A : Type 0} → Block A → List ℕ
+block_waiting b = b.waiting.items
+
+-- how many bytes wait in it at most
+abbrev pub block_room : {A : Type 0} → Block A → ℕ
+block_room b = b.room
+
 -- the written bytes, if known, grow by a prefix of the text that is not all of it
 abbrev pub BreaksOff : Option (List ℕ) → Option (List ℕ) → List ℕ → Type 0
 BreaksOff old new text = (front : List ℕ) × (rest : List ℕ) × (front ++ rest ≡ text) × (0 < length rest) × Appends old new front
@@ -17,10 +29,11 @@ pub record Puts {W A : Type 0} (contents : W → Option (List ℕ)) (failed : W 
     (w : W) (b : Block A) (v : W) (c : Block A) (text : List ℕ) : Type 0 where
   -- after whatever was put there since whatever moment
   pub stands : (old : Option (List ℕ)) (so_far : List ℕ) →
-      Stands old (contents w) b.is_broken b.waiting.items so_far → Stands old (contents v) c.is_broken c.waiting.items (so_far ++ text)
+      Stands old (contents w) (block_broken b) (block_waiting b) so_far →
+      Stands old (contents v) (block_broken c) (block_waiting c) (so_far ++ text)
   -- the block breaks just where the writer fails
-  pub fails : (before : Bool) → failed w ≡ (b.is_broken || before) → failed v ≡ (c.is_broken || before)
+  pub fails : (before : Bool) → failed w ≡ (block_broken b || before) → failed v ≡ (block_broken c || before)
   -- the block has as much room as before
-  pub room : c.room ≡ b.room
+  pub room : block_room c ≡ block_room b
   -- and no more waits than it has room for
-  pub within : length b.waiting.items ≤ b.room → length c.waiting.items ≤ c.room
+  pub within : length (block_waiting b) ≤ block_room b → length (block_waiting c) ≤ block_room c

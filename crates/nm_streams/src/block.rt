@@ -2,8 +2,7 @@
 
 ghost use Rattle.std.specs.Prelude.{◌≡◌, ◌≤◌, ◌||◌, ◌++◌, [], length, false, if◌then◌else◌, OnOk, OnErr, is_err};
 ghost use Rattle.std.specs.Io.KnownBytes.{Appends};
-ghost use Rattle.nm_streams.specs.Waiting.{BreaksOff};
-ghost use Rattle.nm_streams.specs.Waiting.{Puts};
+ghost use Rattle.nm_streams.specs.Waiting.{BreaksOff, Puts, block_broken, block_room, block_waiting};
 
 use crate::stream_error::WriteError;
 use crate::telling::TellingWriter;
@@ -75,9 +74,9 @@ pub struct Block<A: Allocator> {
 impl<A: Allocator> Block<A> {
     /// A block in which so many bytes wait at most.
     pub fn new(alloc: A, room: usize) -> Block<A>
-        ensures waiting { result.waiting.items ≡ [] }
-        ensures room { result.room ≡ room }
-        ensures whole { result.is_broken ≡ false }
+        ensures waiting { block_waiting result ≡ [] }
+        ensures room { block_room result ≡ room }
+        ensures whole { block_broken result ≡ false }
     {
         Block {
             waiting: Vec::new(alloc),
@@ -88,14 +87,14 @@ impl<A: Allocator> Block<A> {
 
     /// Whether a write has failed.
     pub fn is_broken(&self) -> bool
-        ensures { result ≡ self.now.is_broken }
+        ensures { result ≡ block_broken self.now }
     {
         self.is_broken
     }
 
     /// What waits.
     pub fn into_waiting(self) -> Vec<u8, A>
-        ensures { result.items ≡ self.waiting.items }
+        ensures { result.items ≡ block_waiting self }
     {
         self.waiting
     }
@@ -123,9 +122,9 @@ impl<A: Allocator> Block<A> {
     /// Writes what waits.
     pub fn finish<W: TellingWriter>(&self, writer: &mut W) -> Result<(), WriteError>
         ensures whole { OnOk result
-            (Appends (W.contents writer.old) (W.contents writer.new) self.now.waiting.items) }
+            (Appends (W.contents writer.old) (W.contents writer.new) (block_waiting self.now)) }
         ensures broken { OnErr result
-            (BreaksOff (W.contents writer.old) (W.contents writer.new) self.now.waiting.items) }
+            (BreaksOff (W.contents writer.old) (W.contents writer.new) (block_waiting self.now)) }
         ensures told { W.has_failed writer.new ≡ (is_err result || W.has_failed writer.old) }
     {
         let Ok(()) = write_lines(writer, self.waiting.as_slice()) else {

@@ -4,10 +4,10 @@ use Rattle.std.specs.declared.io.ErrorKind.{ErrorKind}
 use Rattle.std.specs.declared.io.ErrorKind.TheVariants.{OutOfMemory}
 use Rattle.nm_steps.specs.declared.trace_error.TraceError.{TraceError}
 use Rattle.nm_steps.specs.declared.trace_error.TraceError.TheVariants.{NotJson, BadMachine, BadStep, ReadFault, WriteFault, HostMemory}
-use Rattle.nm_steps.specs.Faults.{Plan, OfSomeBytes}
+use Rattle.nm_steps.specs.Faults.{Plan, OfSomeBytes, trace_limit}
 use Rattle.std.specs.Io.KnownBytes.{Appends}
 use Rattle.nm_trace.specs.Played.{report_of, WritesFront}
-use Rattle.nm_trace.specs.Telling.{HasReadCause}
+use Rattle.nm_streams.specs.Telling.{HasReadCause}
 use Rattle.clap.specs.Words.{Kinds}
 use Rattle.clap.specs.declared.error.kind.ErrorKind.{ErrorKind as ParseKind}
 use Rattle.clap.specs.declared.error.kind.ErrorKind.TheVariants as parse
@@ -66,7 +66,7 @@ Refuses refusals status = (refusals ≡ []) ⊎ ((status ≡ 2) ⊎ (status ≡ 
 
 -- the reader has failed or gave more bytes than a trace may have, or the writer has failed
 abbrev pub HasStreamCause : Bool → (ℕ → Type 0) → Bool → Type 0
-HasStreamCause reader gave writer = HasReadCause reader gave ⊎ (writer ≡ true)
+HasStreamCause reader gave writer = HasReadCause trace_limit reader gave ⊎ (writer ≡ true)
 
 -- how the program ends, with a status, after words that are refused for these causes: what it leaves of the reader of the
 -- trace, the writer of the report and that of faults

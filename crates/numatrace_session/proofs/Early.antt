@@ -5,7 +5,7 @@ use Rattle.std.specs.Prelude.{IfErr}
 use Rattle.std.specs.Io.BufRead.{take_through, DropsThrough}
 use Rattle.std.specs.Io.KnownBytes.{Consumes}
 use Rattle.nm_trace.specs.Session.{SessionState, asked, opened}
-use Rattle.nm_trace.proofs.Known.{appends_more, appends_nothing, consumes_none}
+use Rattle.nm_streams.proofs.Known.{appends_more, appends_nothing, consumes_none}
 use Rattle.numatrace_session.specs.declared.End.{End}
 use Rattle.numatrace_session.specs.declared.End.TheVariants.{BadTop, HostMemory, Stream}
 use Rattle.numatrace_session.specs.Replies.{HasByte, reply_of, replies_to, EndsEarly, EndsTalk, Replies, RepliesToLines}

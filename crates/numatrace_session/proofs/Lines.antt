@@ -6,7 +6,7 @@ use Rattle.std.specs.Io.BufRead.{take_through, drop_through, DropsThrough}
 use Rattle.std.specs.Io.KnownBytes.{Appends, Keeps}
 use Rattle.std.specs.Prelude.{OnOk}
 use Rattle.nm_trace.specs.Session.{SessionState, asked, opened}
-use Rattle.nm_trace.proofs.Known.{appends_kept, appends_more, appends_none}
+use Rattle.nm_streams.proofs.Known.{appends_kept, appends_more, appends_none}
 use Rattle.numatrace_session.specs.Replies.{HasByte, after, after_lines, reply_of, replies_to, AreLines, ReadsLines, RepliesToLines, Talks}
 
 -- ---- reading

@@ -7,7 +7,7 @@ use Rattle.std.specs.Io.KnownBytes.{Keeps, prepend_known}
 use Rattle.std.specs.declared.io.buffered.BufReader.{BufReader}
 use Rattle.nm_steps.specs.declared.trace_error.TraceError.{TraceError}
 use Rattle.nm_trace.specs.Session.{SessionState, opened}
-use Rattle.nm_trace.proofs.Known.{appends_kept, consumes_none}
+use Rattle.nm_streams.proofs.Known.{appends_kept, consumes_none}
 use Rattle.numatrace_session.specs.declared.End.{End}
 use Rattle.numatrace_session.specs.declared.End.TheVariants.{BadTop, HostMemory, Stream}
 use Rattle.numatrace_session.specs.Replies.{replies_to, EndsEarly, EndsFlushed, EndsTalk, IsRefused, ReadsLines, Talks, WritesReplies}

@@ -6,7 +6,7 @@ use Rattle.std.specs.Io.KnownBytes.{Appends, Consumes, IsAtEnd}
 use Rattle.nm_steps.specs.Calls.{Call}
 use Rattle.nm_steps.specs.declared.trace_error.TraceError.{TraceError}
 use Rattle.nm_steps.specs.declared.trace_error.TraceError.TheVariants.{BadStep}
-use Rattle.nm_trace.specs.Played.{BreaksOff}
+use Rattle.nm_streams.specs.Waiting.{BreaksOff}
 use Rattle.nm_trace.specs.Session.{SessionState, StopsShort, asked, next, next_lines, opened}
 use Rattle.numatrace_session.specs.declared.End.{End}
 use Rattle.numatrace_session.specs.declared.End.TheVariants.{BadTop, HostMemory, Stream}

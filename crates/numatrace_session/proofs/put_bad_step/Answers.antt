@@ -1,5 +1,5 @@
 use Rattle.std.proofs.Common.{refl, ◌∙◌}
-use Rattle.nm_trace.proofs.Known.{appends_none}
+use Rattle.nm_streams.proofs.Known.{appends_none}
 use Rattle.numatrace_session.proofs.Replied.{tried}
 use Rattle.numatrace_session.proofs.put_bad_step.Goals as goal
 

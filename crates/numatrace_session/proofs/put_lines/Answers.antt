@@ -1,4 +1,4 @@
-use Rattle.nm_trace.proofs.Waits.{breaks_before}
+use Rattle.nm_streams.proofs.Waits.{breaks_before}
 use Rattle.numatrace_session.proofs.put_lines.Goals as goal
 
 pub returns-in_default : goal.returns-in_default
