@@ -11,7 +11,7 @@ block_broken b = b.is_broken
 abbrev pub block_waiting : {A : Type 0} → Block A → List ℕ
 block_waiting b = b.waiting.items
 
--- how many bytes wait in it at most
+-- how many bytes wait in a block at most
 abbrev pub block_room : {A : Type 0} → Block A → ℕ
 block_room b = b.room
 
