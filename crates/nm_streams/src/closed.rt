@@ -13,7 +13,7 @@ use std::io::{ErrorKind, Write};
 pub struct Closed {}
 
 impl Closed {
-    /// One more.
+    /// Another one.
     pub fn new() -> Closed {
         Closed {}
     }
