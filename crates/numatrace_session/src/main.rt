@@ -98,7 +98,7 @@ fn put_bad_step<W: TellingWriter>(heap: Global, out: &mut W, step: usize) -> Res
 }
 
 /// Makes a step, and writes its reply.
-#[tactic(auto, using(nm_trace::proofs::Known::appends_none))]
+#[tactic(auto, using(nm_streams::proofs::Known::appends_none))]
 fn reply<R: Threads + Wait + Sync, W: TellingWriter>(
     rt: &R,
     heap: Global,
