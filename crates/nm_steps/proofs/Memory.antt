@@ -1,5 +1,5 @@
 -- What is told as lack of memory.
-use Rattle.std.proofs.Common.{◌≡◌, ℕ, ◌^◌, ◌<◌, ◌==◌, List, [], ◌∷◌, length, Bool, true, false, ◌||◌, ◌&&◌, Option, Some, None, is_some, option_and_then, refl, ap, ◌∙◌, sym, arith, codes}
+use Rattle.std.proofs.Common.{◌≡◌, ℕ, ◌^◌, ◌<◌, ◌==◌, List, [], ◌∷◌, length, Bool, true, false, ◌||◌, ◌&&◌, Option, Some, None, is_some, option_map, option_and_then, refl, ap, ◌∙◌, sym, arith, codes}
 use Rattle.std.proofs.lemmas.Bool.{le-ltb}
 use Rattle.std.specs.Prelude.{Result, Ok, Err, IsErr, IsErrAnd, nat_le, if◌then◌else◌}
 use Rattle.std.specs.Option.{ok_or}
@@ -9,8 +9,8 @@ use Rattle.nm_types.specs.Layout.{Layout}
 use Rattle.nm_types.specs.Refusal.{refusal}
 use Rattle.nm_model.specs.definitions.Cut.{run_count}
 use Rattle.nm_steps.specs.Tree.{items_seen}
-use Rattle.nm_steps.specs.Form.{◌>>=◌, below, each, number_of, number_at, numbers_at, number_below, smalls_at, items_at, batch_of, in_flight, machine_of, row_of}
-use Rattle.nm_steps.specs.Memory.{has_items, holds, begins, begins_at, batch_starts, flight_asks, row_asks, machine_takes_memory, starts, starts_at}
+use Rattle.nm_steps.specs.Form.{◌>>=◌, below, each, number_of, number_at, numbers_at, number_below, smalls_at, items_at, batch_of, in_flight, limit_of, machine_of, row_of}
+use Rattle.nm_steps.specs.Memory.{has_items, holds, begins, begins_at, batch_starts, flight_asks, row_asks, machine_takes_memory, starts, starts_at, step_asks, steps_take_memory}
 
 -- an error that a question mark hands on is that of the call
 pub handed_on : {X Y E : Type 0} (r : Result X E) (called : Result Y E) (e f : E) → IsErr r × IsErrAnd r (λ x. x ≡ e) → called ≡ Err e → r ≡ Err f → called ≡ Err f
@@ -64,6 +64,11 @@ module _ {V : Type 0} (view : V → Data) (vs : List V) where
       → machine_takes_memory d ≡ true
   has_rows d m sizes machine nodes is first =
       rw (machine, machine_takes_memory) (or_right (starts_at (number_below (2 ^ 32)) (items_at (codes "nodes") m)) _ (and_both _ _ (is_there _ sizes nodes) (begins_listed row_asks _ is first)))
+
+  -- these values are the steps of a trace
+  pub steps_begin : (d : Data) (limit : ℕ) → limit_of d ≡ Some limit → items_at (codes "steps") d ≡ Some (items_seen view vs) → begins (step_asks limit) (items_seen view vs) ≡ true → steps_take_memory d ≡ true
+  steps_begin d limit read is first =
+      ap (λ o. holds (option_map (λ n. begins_at (step_asks n) (items_at (codes "steps") d)) o)) read ∙ begins_listed (step_asks limit) _ is first
 
 -- the nodes of a machine begin with a number
 pub has_sizes : (d m : Data) → get (codes "machine") d ≡ Some m → starts_at (number_below (2 ^ 32)) (items_at (codes "nodes") m) ≡ true → machine_takes_memory d ≡ true

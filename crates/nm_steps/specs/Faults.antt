@@ -35,13 +35,18 @@ first_bad limit (item d ds) = if is_some (form.step_of limit d) then suc (first_
 abbrev pub calls_of : ℕ → Items → Result (List Call) TraceError
 calls_of limit ds = ok_or (form.each (form.step_of limit) ds) (BadStep (first_bad limit ds))
 
-unfoldable pub plan_of : Data → Result Plan TraceError
-plan_of d = do
-  layout ← ok_or (form.machine_of d) BadMachine
+-- the trace of a machine, with the limit and the steps that data give
+unfoldable pub plan_on : Layout → Data → Result Plan TraceError
+plan_on layout d = do
   limit ← ok_or (form.limit_of d) BadMachine
   ds ← ok_or (form.items_at (codes "steps") d) BadMachine
   calls ← calls_of limit ds
   Ok (record { layout = layout; run_limit = limit; calls = calls })
+
+unfoldable pub plan_of : Data → Result Plan TraceError
+plan_of d = do
+  layout ← ok_or (form.machine_of d) BadMachine
+  plan_on layout d
 
 unfoldable pub trace_of : List ℕ → Result Plan TraceError
 trace_of bytes = do

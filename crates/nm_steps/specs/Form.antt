@@ -187,12 +187,15 @@ abbrev pub access_step : Access → Call
 access_step (Read pid addr len) = ReadBytes pid addr len
 access_step (Write pid addr bytes) = WriteBytes pid addr bytes
 
--- pages with a node for each: equally many, and at most 16,384
+-- pages with a node for each, if they are equally many, and at most 16,384
+abbrev pub paired : List ℕ → List ℕ → Option (List ℕ × List ℕ)
+paired pages nodes = if nat_le (length pages) 16384 && (length pages == length nodes) then Some (pages, nodes) else None
+
 unfoldable pub batch_of : Data → Option (List ℕ × List ℕ)
 batch_of d = do
   pages ← numbers_at (codes "pages") d
   nodes ← smalls_at (codes "nodes") d
-  if nat_le (length pages) 16384 && (length pages == length nodes) then Some (pages, nodes) else None
+  paired pages nodes
 
 -- the accesses in flight name runs of the batch, none of which has more entries than the limit
 unfoldable pub move_pages_of : ℕ → Data → Option Call
@@ -222,14 +225,17 @@ mbind_of d = do
   flags ← small_at (codes "flags") d
   Some (Mbind caller addr len mode nodes flags)
 
--- at most 16,384 pages
+-- a query of these pages, if they are at most 16,384
+abbrev pub question : ℕ → ℕ → List ℕ → ℕ → Option Call
+question caller pid pages flags = if nat_le (length pages) 16384 then Some (Query caller pid pages flags) else None
+
 unfoldable pub query_of : Data → Option Call
 query_of d = do
   caller ← small_at (codes "caller") d
   pid ← small_at (codes "pid") d
   pages ← numbers_at (codes "pages") d
   flags ← small_at (codes "flags") d
-  if nat_le (length pages) 16384 then Some (Query caller pid pages flags) else None
+  question caller pid pages flags
 
 -- the step with this name, where a run has at most `limit` entries
 unfoldable pub named : ℕ → List ℕ → Data → Option Call

@@ -5,7 +5,7 @@ use Rattle.json.specs.Lex.{tokens}
 use Rattle.json.specs.Reads.{opens}
 use Rattle.serde_json.specs.Data.{Data, Items, no_items, item}
 use Rattle.serde_json.specs.Find.{get, as_array}
-use Rattle.nm_steps.specs.Form.{◌>>=◌, below, number_of, number_below, number_at, small_at, numbers_at, smalls_at, items_at, text_at, place_at, row_of, in_flight, step_of}
+use Rattle.nm_steps.specs.Form.{◌>>=◌, below, number_of, number_below, number_at, small_at, numbers_at, smalls_at, items_at, text_at, place_at, row_of, in_flight, limit_of, step_of}
 
 -- a text with a byte
 abbrev pub IsSomeText : List ℕ → Type 0
@@ -116,3 +116,7 @@ machine_takes_memory d =
           starts_at (number_below (2 ^ 32)) (items_at (codes "nodes") m)
           || (is_some (smalls_at (codes "nodes") m) && begins_at row_asks (items_at (codes "distance") m))
     ]
+
+-- whether a trace's limit is read, and its steps begin with one that is read, or one up to what takes memory
+abbrev pub steps_take_memory : Data → Bool
+steps_take_memory d = holds (option_map (λ limit. begins_at (step_asks limit) (items_at (codes "steps") d)) (limit_of d))

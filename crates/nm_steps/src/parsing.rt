@@ -264,6 +264,21 @@ fn write<A: Allocator + Copy + Send + Sync, V: JsonValue>(
     Ok(access_step(write_access(alloc, value)?))
 }
 
+/// A batch of pages with a node for each, if they are equally many, and at most 16,384.
+fn paired<A: Allocator + Copy + Send + Sync>(
+    pages: Vec<u64, A>,
+    nodes: Vec<u32, A>,
+) -> Result<Batch<A>, StepError>
+    ensures batch { Gives (λ batch. (batch.pages.items, batch.nodes.items)) result
+        (form.paired pages.items nodes.items) }
+    ensures bad { IfErr result (λ e. e ≡ Bad) }
+{
+    if pages.len() > MAX_BATCH || pages.len() != nodes.len() {
+        return Err(StepError::Bad);
+    }
+    Ok(Batch { pages, nodes })
+}
+
 /// Pages with a node for each.
 #[tactic(auto, unfolding(crate::specs::Form::batch_of))]
 fn batch_of<A: Allocator + Copy + Send + Sync, V: JsonValue>(
@@ -276,10 +291,7 @@ fn batch_of<A: Allocator + Copy + Send + Sync, V: JsonValue>(
 {
     let pages = numbers(alloc, value, "pages")?;
     let nodes = smalls(alloc, value, "nodes")?;
-    if pages.len() > MAX_BATCH || pages.len() != nodes.len() {
-        return Err(StepError::Bad);
-    }
-    Ok(Batch { pages, nodes })
+    paired(pages, nodes)
 }
 
 #[tactic(auto, unfolding(crate::specs::Form::move_pages_of))]
@@ -357,6 +369,27 @@ fn online<A: Allocator + Copy + Send + Sync, V: JsonValue>(value: &V) -> Result<
     })
 }
 
+/// A query of these pages, if they are at most 16,384.
+fn question<A: Allocator + Copy + Send + Sync>(
+    caller: Pid,
+    pid: Pid,
+    pages: Vec<u64, A>,
+    flags: u32,
+) -> Result<Call<A>, StepError>
+    ensures call { Gives call_of result (form.question caller pid pages.items flags) }
+    ensures bad { IfErr result (λ e. e ≡ Bad) }
+{
+    if pages.len() > MAX_BATCH {
+        return Err(StepError::Bad);
+    }
+    Ok(Call::Query(Question {
+        caller,
+        pid,
+        pages,
+        flags,
+    }))
+}
+
 #[tactic(auto, unfolding(crate::specs::Form::query_of))]
 fn query<A: Allocator + Copy + Send + Sync, V: JsonValue>(
     alloc: A,
@@ -369,15 +402,7 @@ fn query<A: Allocator + Copy + Send + Sync, V: JsonValue>(
     let pid = small(value, "pid")?;
     let pages = numbers(alloc, value, "pages")?;
     let given = small(value, "flags")?;
-    if pages.len() > MAX_BATCH {
-        return Err(StepError::Bad);
-    }
-    Ok(Call::Query(Question {
-        caller: Pid::new(caller),
-        pid: Pid::new(pid),
-        pages,
-        flags: given,
-    }))
+    question(Pid::new(caller), Pid::new(pid), pages, given)
 }
 
 fn free<A: Allocator + Copy + Send + Sync, V: JsonValue>(value: &V) -> Result<Call<A>, StepError>

@@ -15,7 +15,7 @@ ghost use Rattle.nm_steps.specs.Plans.{plan_in};
 ghost use Rattle.nm_steps.specs.declared.trace_error.TraceError.TheVariants.{NotJson, BadMachine, HostMemory};
 ghost use Rattle.nm_steps.specs.declared.step_error.StepError.TheVariants.{Bad, Memory};
 ghost use Rattle.nm_steps.specs.Gives as of_step;
-ghost use Rattle.nm_steps.specs.Memory.{IsSomeText, NeedsMemory, begins, has_items, machine_takes_memory, row_asks, starts, starts_at, step_asks};
+ghost use Rattle.nm_steps.specs.Memory.{IsSomeText, NeedsMemory, begins, has_items, machine_takes_memory, row_asks, starts, starts_at, step_asks, steps_take_memory};
 ghost use Rattle.serde_json.specs.Find.{as_array};
 
 use crate::call::Call;
@@ -223,6 +223,26 @@ fn values_of<'v, V: JsonValue>(value: &'v V) -> Result<&'v [V], TraceError>
     list(value, "steps").map_err(bad_machine)
 }
 
+/// The trace of a machine, with the limit and the steps in a value, or its first fault.
+#[tactic(auto, unfolding(crate::specs::Faults::plan_on))]
+fn trace_on<A: Allocator + Copy + Send + Sync, V: JsonValue>(
+    alloc: A,
+    geometry: Geometry<A>,
+    value: &V,
+) -> Result<Trace<A>, TraceError>
+    ensures trace { Gives plan_in result (faults.plan_on geometry (V.as_data value.now)) }
+    ensures asked { result ≡ Err (HostMemory 0) → steps_take_memory (V.as_data value.now) ≡ true }
+{
+    let run_limit = run_limit_of(value)?;
+    let values = values_of(value)?;
+    let calls = calls_of(alloc, values, run_limit)?;
+    Ok(Trace {
+        geometry,
+        run_limit,
+        calls,
+    })
+}
+
 /// The trace in a value, or its first fault.
 #[tactic(auto, unfolding(crate::specs::Faults::plan_of))]
 fn trace_of<A: Allocator + Copy + Send + Sync, V: JsonValue>(
@@ -233,14 +253,7 @@ fn trace_of<A: Allocator + Copy + Send + Sync, V: JsonValue>(
     ensures asked { result ≡ Err (HostMemory 0) → machine_takes_memory (V.as_data value.now) ≡ true }
 {
     let geometry = geometry_of(alloc, value)?;
-    let run_limit = run_limit_of(value)?;
-    let values = values_of(value)?;
-    let calls = calls_of(alloc, values, run_limit)?;
-    Ok(Trace {
-        geometry,
-        run_limit,
-        calls,
-    })
+    trace_on(alloc, geometry, value)
 }
 
 /// The JSON tree of these bytes. Strings with escapes are written to `scratch`. `HostMemory(0)` if `heap` is out of
