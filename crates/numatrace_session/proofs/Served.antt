@@ -1,7 +1,7 @@
 -- What is served through buffers.
 use Rattle.std.proofs.Common.{◌≡◌, ℕ, Bool, true, List, [], ◌∷◌, Option, Some, None, IfSome, Result, Ok, Err, refl, sym, ap, ◌∙◌, inl, inr}
 use Rattle.std.specs.Prelude.{IfErr, OnOk}
-use Rattle.std.specs.Io.BufRead.{take_through, drop_through}
+use Rattle.std.specs.Io.BufRead.{take_through, drop_through, DropsThrough}
 use Rattle.std.specs.Io.Buffered.{reader_buffer, reader_capacity, reader_inner, reader_remaining}
 use Rattle.std.specs.Io.KnownBytes.{Keeps, prepend_known}
 use Rattle.std.specs.declared.io.buffered.BufReader.{BufReader}
@@ -10,7 +10,7 @@ use Rattle.nm_trace.specs.Session.{SessionState, opened}
 use Rattle.nm_streams.proofs.Known.{appends_kept, consumes_none}
 use Rattle.numatrace_session.specs.declared.End.{End}
 use Rattle.numatrace_session.specs.declared.End.TheVariants.{BadTop, HostMemory, Stream}
-use Rattle.numatrace_session.specs.Replies.{replies_to, EndsEarly, EndsFlushed, EndsTalk, IsRefused, ReadsLines, Talks, WritesReplies}
+use Rattle.numatrace_session.specs.Replies.{replies_to, EndsEarly, EndsFlushed, EndsTalk, IsRefused, ReachesEnd, ReadsLines, Talks, WritesReplies}
 
 -- what was written stays
 pub talks_kept : {X E : Type 0} (a b old new newer : Option (List ℕ)) (result : Result X E) → OnOk result (Talks a b old new) → Keeps new newer → OnOk result (Talks a b old newer)
@@ -91,6 +91,13 @@ ends_lost a b old new newer failed mid fails (Ok done) talks early kept told =
 ends_lost a b old new newer failed mid fails (Err end) talks early kept told = inr (talk_lost end a b old new newer failed mid fails early kept told)
 
 -- ---- the first line
+
+-- where what is left after it is read to its end, all is
+pub reaches_end : (a b c : Option (List ℕ)) (result : Result (Unit {0}) End) → DropsThrough a b 10 → ReachesEnd result b c → ReachesEnd result a c
+reaches_end a b c (Err e) first h = tt
+reaches_end None b c (Ok done) first h = tt
+reaches_end (Some xs) None c (Ok done) first h = absurd (cc)
+reaches_end (Some xs) (Some ys) c (Ok done) first h = h
 
 first_line : (a b : Option (List ℕ)) (top : List ℕ) (lines : List (List ℕ)) → ReadsLines a b (top ∷ lines) → IfSome a (λ xs. top ≡ take_through 10 xs)
 first_line None b top lines h = tt

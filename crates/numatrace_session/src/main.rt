@@ -12,8 +12,9 @@ ghost use Rattle.std.specs.Io.{StopsAt};
 ghost use Rattle.std.specs.Io.BufRead.{take_through, DropsThrough};
 ghost use Rattle.std.specs.Io.KnownBytes.{Consumes, IsAtEnd, Keeps};
 ghost use Rattle.nm_trace.specs.Session.{SessionState, opened};
-ghost use Rattle.std.specs.Io.Buffered.{reader_buffer, reader_remaining};
+ghost use Rattle.std.specs.Io.Buffered.{reader_buffer, reader_remaining, writer_buffer, writer_inner};
 ghost use Rattle.nm_steps.specs.declared.trace_error.TraceError.{TraceError};
+ghost use Rattle.numatrace_session.specs.Ends.{status_of, unopened, unread, Begins};
 ghost use Rattle.numatrace_session.specs.Replies.{bad_step_reply, has_line, EndsEarly, EndsFlushed, EndsTalk, ReachesEnd, Refuses, Replies, RepliesToLines, Talks, Tries, Writes};
 
 use nm_crew::OpenGate;
@@ -35,6 +36,17 @@ enum End {
     Stream,
 }
 
+/// Why a session ends where a read fails with an error of this kind.
+fn unread(kind: ErrorKind) -> End
+    ensures end { result ≡ unread kind }
+    ensures either { (result ≡ End.HostMemory) ⊎ (result ≡ End.Stream) }
+{
+    match kind {
+        ErrorKind::OutOfMemory => End::HostMemory,
+        _ => End::Stream,
+    }
+}
+
 /// Reads the next line, with its end, in place of what is in the list. False where the input has ended.
 fn next_line<R: BufRead>(input: &mut R, line: &mut Vec<u8>) -> Result<bool, End>
     // On success
@@ -54,10 +66,7 @@ fn next_line<R: BufRead>(input: &mut R, line: &mut Vec<u8>) -> Result<bool, End>
     line.clear();
     match input.read_until(b'\n', line) {
         Ok(count) => Ok(count > 0),
-        Err(error) => match error.kind() {
-            ErrorKind::OutOfMemory => Err(End::HostMemory),
-            _ => Err(End::Stream),
-        },
+        Err(error) => Err(unread(error.kind())),
     }
 }
 
@@ -178,6 +187,26 @@ fn reply_to_lines<T: Threads + Wait + Sync, R: Read, W: FlushingWriter>(
     unreachable!()
 }
 
+/// Why a session ends whose first line begins none, for this fault.
+fn unopened(fault: TraceError) -> End
+    ensures { result ≡ unopened fault }
+{
+    match fault {
+        TraceError::HostMemory(_) => End::HostMemory,
+        fault => End::BadTop(fault),
+    }
+}
+
+/// The session that a first line begins. Does not fail as a stream.
+fn begin(heap: Global, top: &[u8]) -> Result<Session<Global>, End>
+    ensures { Begins result top.now }
+{
+    match Session::open(heap, heap, top, 1) {
+        Ok(session) => Ok(session),
+        Err(fault) => Err(unopened(fault)),
+    }
+}
+
 /// Begins a session with the first line, and replies to each further one until the input ends.
 fn talk<T: Threads + Wait + Sync, R: Read, W: FlushingWriter>(
     rt: &T,
@@ -203,11 +232,7 @@ fn talk<T: Threads + Wait + Sync, R: Read, W: FlushingWriter>(
 {
     let mut line = Vec::new(heap);
     next_line(input, &mut line)?;
-    let mut session = match Session::open(heap, heap, line.as_slice(), 1) {
-        Ok(session) => session,
-        Err(TraceError::HostMemory(_)) => return Err(End::HostMemory),
-        Err(fault) => return Err(End::BadTop(fault)),
-    };
+    let mut session = begin(heap, line.as_slice())?;
     reply_to_lines(rt, heap, &mut session, input, out)
 }
 
@@ -244,6 +269,28 @@ fn talk_to_end<T: Threads + Wait + Sync, R: Read, W: FlushingWriter>(
     ended
 }
 
+/// Buffers before the input and the output. The only error is `HostMemory`.
+fn buffered<R: Read + Drop, W: Write + Drop>(
+    heap: Global,
+    from: R,
+    to: W,
+) -> Result<(BufReader<R, Global>, BufWriter<W, Global>), End>
+    // On success
+    ensures input { IfOk result (λ b. reader_remaining R.remaining b.0 ≡ R.remaining from) }
+    ensures output { IfOk result (λ b. (writer_inner b.1 ≡ to) × (writer_buffer b.1 ≡ [])) }
+
+    // On a fault
+    ensures fault { IfErr result (λ e. e ≡ End.HostMemory) }
+{
+    let Ok(input) = BufReader::new(heap, from) else {
+        return Err(End::HostMemory);
+    };
+    let Ok(out) = BufWriter::new(heap, to) else {
+        return Err(End::HostMemory);
+    };
+    Ok((input, out))
+}
+
 /// Replies to what is read, through buffers.
 fn serve<T: Threads + Wait + Sync, R: Read + Drop, W: Write + Drop>(
     rt: &T,
@@ -256,32 +303,35 @@ fn serve<T: Threads + Wait + Sync, R: Read + Drop, W: Write + Drop>(
     ensures refused { (fault : TraceError) → result ≡ Err (End.BadTop fault) →
         IfSome (R.remaining from) (λ bytes. opened (take_through 10 bytes) ≡ Err fault) }
 {
-    let Ok(mut input) = BufReader::new(heap, from) else {
-        return Err(End::HostMemory);
-    };
-    let Ok(out) = BufWriter::new(heap, to) else {
-        return Err(End::HostMemory);
-    };
+    let (mut input, out) = buffered(heap, from, to)?;
     talk_to_end(rt, heap, &mut input, &mut Watched::new(out))
 }
 
-fn main(rt: HostRuntime) -> ExitCode {
-    let heap = rt.alloc();
-    let mut err = rt.stderr();
-    let status = match serve(&rt, heap, rt.stdin(), rt.stdout()) {
+/// The exit status of a session that ended so.
+fn status_of(ended: &Result<(), End>) -> u8
+    ensures { result ≡ status_of ended.now }
+{
+    match ended {
         Ok(()) => 0,
-        Err(End::BadTop(fault)) => {
-            let _ = writeln!(err, "numatrace_session: {fault}");
-            2
-        }
-        Err(End::HostMemory) => {
-            let _ = writeln!(err, "numatrace_session: host memory refused");
-            3
-        }
-        Err(End::Stream) => {
-            let _ = writeln!(err, "numatrace_session: a stream failed");
-            4
-        }
+        Err(End::BadTop(_)) => 2,
+        Err(End::HostMemory) => 3,
+        Err(End::Stream) => 4,
+    }
+}
+
+/// Reports in one line why a session ended before its input did.
+fn tell<E: Write>(end: &End, err: &mut E) {
+    let _ = match end {
+        End::BadTop(fault) => writeln!(err, "numatrace_session: {fault}"),
+        End::HostMemory => writeln!(err, "numatrace_session: host memory refused"),
+        End::Stream => writeln!(err, "numatrace_session: a stream failed"),
     };
-    ExitCode::from(status)
+}
+
+fn main(rt: HostRuntime) -> ExitCode {
+    let ended = serve(&rt, rt.alloc(), rt.stdin(), rt.stdout());
+    if let Err(end) = &ended {
+        tell(end, &mut rt.stderr());
+    }
+    ExitCode::from(status_of(&ended))
 }

@@ -2,17 +2,15 @@ use Rattle.std.proofs.Common.{◌≡◌, ℕ, List, Option, IfSome, Ok, Err, sub
 use Rattle.std.specs.Prelude.{OnOk}
 use Rattle.std.specs.Io.BufRead.{take_through}
 use Rattle.nm_trace.specs.Session.{SessionState, opened}
-use Rattle.numatrace_session.proofs.Served.{begun, fresh, refused}
+use Rattle.numatrace_session.proofs.Served.{begun, refused}
 use Rattle.numatrace_session.proofs.serve.Goals as goal
 
 pub returns-clause-begun : goal.returns-clause-begun
 returns-clause-begun g c =
-    let same = fresh g.R.Read.remaining c.in-Ok.input c.args.from c.in-Ok.ensures.inner c.in-Ok.ensures.empty c.in-Ok.ensures.capacity in
-    subst (λ (o : Option (List ℕ)). OnOk c.talk_to_end.result (IfSome o (λ xs. (s : SessionState) × (opened (take_through 10 xs) ≡ Ok s)))) same
+    subst (λ (o : Option (List ℕ)). OnOk c.talk_to_end.result (IfSome o (λ xs. (s : SessionState) × (opened (take_through 10 xs) ≡ Ok s)))) c.in_ok-input.ensures.input
     (begun _ _ _ _ c.talk_to_end.result c.talk_to_end.ensures.talk)
 
 pub returns-clause-refused : goal.returns-clause-refused
 returns-clause-refused g c = λ fault is.
-    let same = fresh g.R.Read.remaining c.in-Ok.input c.args.from c.in-Ok.ensures.inner c.in-Ok.ensures.empty c.in-Ok.ensures.capacity in
-    subst (λ (o : Option (List ℕ)). IfSome o (λ xs. opened (take_through 10 xs) ≡ Err fault)) same
+    subst (λ (o : Option (List ℕ)). IfSome o (λ xs. opened (take_through 10 xs) ≡ Err fault)) c.in_ok-input.ensures.input
     (refused _ _ _ _ fault (c.talk_to_end.ensures.refused fault is))

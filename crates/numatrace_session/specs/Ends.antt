@@ -1,0 +1,34 @@
+-- Why a session ends before its input does, and the exit status.
+use Rattle.std.specs.Prelude.{◌≡◌, ℕ, List, Result, Ok, Err}
+use Rattle.std.specs.declared.io.ErrorKind.{ErrorKind}
+use Rattle.std.specs.declared.io.ErrorKind.TheVariants.{OutOfMemory}
+use Rattle.nm_steps.specs.declared.trace_error.TraceError.{TraceError}
+use Rattle.nm_steps.specs.declared.trace_error.TraceError.TheVariants as trace
+use Rattle.nm_steps.specs.Memory.{IsSomeText}
+use Rattle.nm_trace.specs.Session.{SessionState, opened}
+use Rattle.numatrace_session.specs.declared.End.{End}
+use Rattle.numatrace_session.specs.declared.End.TheVariants.{BadTop, HostMemory, Stream}
+
+-- where a read fails with an error of this kind
+abbrev pub unread : ErrorKind → End
+unread OutOfMemory = HostMemory
+unread kind = Stream
+
+-- where the first line begins no session, for this fault
+abbrev pub unopened : TraceError → End
+unopened (trace.HostMemory k) = HostMemory
+unopened fault = BadTop fault
+
+-- a first line begins a session, or none for a fault; or the host is out of memory, which only a text with a byte needs
+abbrev pub Begins : Result SessionState End → List ℕ → Type 0
+Begins (Ok s) top = opened top ≡ Ok s
+Begins (Err (BadTop fault)) top = opened top ≡ Err fault
+Begins (Err HostMemory) top = IsSomeText top
+Begins (Err Stream) top = ⊥
+
+-- 0 where the input has ended, 2 after a bad top, 3 without memory of the host, 4 where a stream failed
+abbrev pub status_of : Result (Unit {0}) End → ℕ
+status_of (Ok done) = 0
+status_of (Err (BadTop fault)) = 2
+status_of (Err HostMemory) = 3
+status_of (Err Stream) = 4
