@@ -1,5 +1,6 @@
 -- Why a session ends before its input does, and the exit status.
-use Rattle.std.specs.Prelude.{◌≡◌, ℕ, List, Result, Ok, Err}
+use Rattle.std.specs.Prelude.{◌≡◌, ℕ, List, Option, Result, Ok, Err, codes}
+use Rattle.std.specs.Io.KnownBytes.{Appends}
 use Rattle.std.specs.declared.io.ErrorKind.{ErrorKind}
 use Rattle.std.specs.declared.io.ErrorKind.TheVariants.{OutOfMemory}
 use Rattle.nm_steps.specs.declared.trace_error.TraceError.{TraceError}
@@ -32,3 +33,9 @@ status_of (Ok done) = 0
 status_of (Err (BadTop fault)) = 2
 status_of (Err HostMemory) = 3
 status_of (Err Stream) = 4
+
+-- the line on standard error; that of a bad top has the words of its fault
+abbrev pub IsTold : End → Option (List ℕ) → Option (List ℕ) → Type 0
+IsTold (BadTop fault) old new = Unit {0}
+IsTold HostMemory old new = Appends old new (codes "numatrace_session: host memory refused\n")
+IsTold Stream old new = Appends old new (codes "numatrace_session: a stream failed\n")

@@ -14,12 +14,13 @@ ghost use Rattle.std.specs.Io.KnownBytes.{Consumes, IsAtEnd, Keeps};
 ghost use Rattle.nm_trace.specs.Session.{SessionState, opened};
 ghost use Rattle.std.specs.Io.Buffered.{reader_buffer, reader_remaining, writer_buffer, writer_inner};
 ghost use Rattle.nm_steps.specs.declared.trace_error.TraceError.{TraceError};
-ghost use Rattle.numatrace_session.specs.Ends.{status_of, unopened, unread, Begins};
+ghost use Rattle.numatrace_session.specs.Ends.{status_of, unopened, unread, Begins, IsTold};
 ghost use Rattle.numatrace_session.specs.Replies.{bad_step_reply, has_line, EndsEarly, EndsFlushed, EndsTalk, ReachesEnd, Refuses, Replies, RepliesToLines, Talks, Tries, Writes};
 
 use nm_crew::OpenGate;
 use nm_trace::{FlushingWriter, Session, TellingWriter, TraceError, Watched, write_lines};
 use std::alloc::Global;
+use std::io;
 use std::io::{BufRead, BufReader, BufWriter, ErrorKind, Read, Write};
 use std::process::ExitCode;
 use std::sync::Wait;
@@ -319,19 +320,21 @@ fn status_of(ended: &Result<(), End>) -> u8
     }
 }
 
-/// Reports in one line why a session ended before its input did.
-fn tell<E: Write>(end: &End, err: &mut E) {
-    let _ = match end {
+/// Writes in one line why a session ended before its input did.
+fn tell<E: Write>(end: &End, err: &mut E) -> io::Result<()>
+    ensures { OnOk result (IsTold end.now (E.contents err.old) (E.contents err.new)) }
+{
+    match end {
         End::BadTop(fault) => writeln!(err, "numatrace_session: {fault}"),
-        End::HostMemory => writeln!(err, "numatrace_session: host memory refused"),
-        End::Stream => writeln!(err, "numatrace_session: a stream failed"),
-    };
+        End::HostMemory => err.write_all(b"numatrace_session: host memory refused\n"),
+        End::Stream => err.write_all(b"numatrace_session: a stream failed\n"),
+    }
 }
 
 fn main(rt: HostRuntime) -> ExitCode {
     let ended = serve(&rt, rt.alloc(), rt.stdin(), rt.stdout());
     if let Err(end) = &ended {
-        tell(end, &mut rt.stderr());
+        let _ = tell(end, &mut rt.stderr());
     }
     ExitCode::from(status_of(&ended))
 }
