@@ -267,6 +267,7 @@ fn next_pass<R: Threads + Wait + Sync, A: Allocator + Copy + Send + Sync, G: Gat
         × (next.left.wanted.items ≡ without_frame left.wanted.items ran.statuses)) }
     // On success
     ensures left { IfOk result (λ next. IsLeft machine.new next.left) }
+    ensures tried { IfOk result (λ next. next.left.tried ≡ true) }
 {
     if let Some(nodes) = lost_on(machine, node, &left) {
         let count = left.wanted.len();

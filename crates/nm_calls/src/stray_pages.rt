@@ -1,7 +1,7 @@
 //! The pages of a range that are not where its policy wants them.
 
 ghost use Rattle.std.specs.Prelude.{◌≡◌, ◌+◌, ◌-◌, ◌<◌, ◌≤◌, not, true, [], ◌∷◌, IfOk, IfSome, IfNone, OnErr, None, length};
-ghost use Rattle.std.specs.List.{filter, list_any};
+ghost use Rattle.std.specs.List.{IsAllAdjacentAnswer, filter, list_any};
 ghost use Rattle.std.specs.Ordering.{is_lt};
 ghost use Rattle.nm_model.specs.definitions.Order.{follows};
 ghost use Rattle.nm_model.specs.definitions.Seen.{located};
@@ -108,7 +108,8 @@ fn is_before(page: &Located, next: &Located) -> bool
 
 /// Whether each of these pages comes before the next. Then none is there twice.
 fn are_ascending(pages: &[Located]) -> bool
-    ensures { result ≡ true → once (λ l m. same_page l.page m.page) pages.now ≡ pages.now }
+    ensures once { result ≡ true → once (λ l m. same_page l.page m.page) pages.now ≡ pages.now }
+    ensures told { IsAllAdjacentAnswer (λ l m b. b ≡ is_lt (page_cmp l.page m.page)) pages.now result }
 {
     pages.is_sorted_by(is_before)
 }

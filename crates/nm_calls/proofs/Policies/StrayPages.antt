@@ -1,5 +1,5 @@
 -- Pages that are not where a policy wants them, each once.
-use Rattle.std.proofs.Common.{◌≡◌, ℕ, ◌+◌, ◌≤◌, length, arith, Bool, true, false, not, ◌||◌, cond, List, [], ◌∷◌, ◌++◌, refl, sym, ap, ◌∙◌, append_assoc}
+use Rattle.std.proofs.Common.{◌≡◌, ◌≤◌, length, arith, Bool, true, false, not, ◌||◌, cond, List, [], ◌∷◌, ◌++◌, refl, sym, ap, ◌∙◌, append_assoc}
 use Rattle.std.specs.Prelude.{Result, Ok, Err, IfOk}
 use Rattle.std.specs.List.{filter, list_any}
 use Rattle.std.specs.BTreeMap.{is_at}
@@ -10,12 +10,6 @@ use Rattle.std.proofs.lemmas.List.Elements.{filter-append}
 use Rattle.nm_types.specs.declared.page.Page.{Page}
 use Rattle.nm_types.specs.Map.{page_cmp, same_page}
 use Rattle.nm_types.specs.declared.located.Located.{Located}
-use Rattle.nm_types.specs.declared.area.Policy.{Policy}
-use Rattle.nm_types.specs.declared.sight.Sight.{Sight}
-use Rattle.nm_types.specs.State.{State}
-use Rattle.nm_model.specs.definitions.Order.{follows}
-use Rattle.nm_model.specs.definitions.Seen.{between, located, located_between, located_in, sights}
-use Rattle.nm_calls.specs.definitions.Mbind.{strays_between}
 use Rattle.nm_calls.specs.definitions.Migrate.{once}
 
 -- pages without repetition
@@ -106,26 +100,3 @@ few_pass test [] = omega arith
 few_pass test (p ∷ pages) =
     let rest = few_pass test pages in
     elim (test p) as (λ b. length (cond b (p ∷ filter test pages) (filter test pages)) ≤ length (p ∷ pages)) [ true ↦ omega (arith, rest) | false ↦ omega (arith, rest) ]
-
--- the strays among what is seen from a page number on: those of the first, and those after it
-strays_front : (policy : Policy) (s : State) (pid at v end : ℕ) (sight : Sight) → between at end (sights s.processes pid) ≡ (v, sight) ∷ between (v + 1) end (sights s.processes pid)
-    → strays_between s pid at end policy ≡ filter (λ (l : Located). not (follows policy l.node)) (located s.layout s.place v sight) ++ strays_between s pid (v + 1) end policy
-strays_front policy s pid at v end sight is =
-    let test : Located → Bool = λ l. not (follows policy l.node) in
-    ap (λ b. filter test (located_in s.layout s.place b)) is ∙ filter-append test (located s.layout s.place v sight) (located_between s pid (v + 1) end)
-
--- the first is none ..
-pub next_strays : (policy : Policy) (s : State) (pid at v end : ℕ) (sight : Sight) → between at end (sights s.processes pid) ≡ (v, sight) ∷ between (v + 1) end (sights s.processes pid)
-    → filter (λ (l : Located). not (follows policy l.node)) (located s.layout s.place v sight) ≡ [] → strays_between s pid at end policy ≡ strays_between s pid (v + 1) end policy
-next_strays policy s pid at v end sight is none = strays_front policy s pid at v end sight is ∙ ap (λ ls. ls ++ strays_between s pid (v + 1) end policy) none
-
--- .. or is one
-pub first_stray : (policy : Policy) (s : State) (pid at v end : ℕ) (sight : Sight) (e : Located) → between at end (sights s.processes pid) ≡ (v, sight) ∷ between (v + 1) end (sights s.processes pid)
-    → filter (λ (l : Located). not (follows policy l.node)) (located s.layout s.place v sight) ≡ e ∷ [] → e.vpn ≡ v → strays_between s pid at end policy ≡ e ∷ strays_between s pid (e.vpn + 1) end policy
-first_stray policy s pid at v end sight e is some same =
-    strays_front policy s pid at v end sight is ∙ ap (λ ls. ls ++ strays_between s pid (v + 1) end policy) some
-    ∙ ap (λ w. e ∷ strays_between s pid (w + 1) end policy) (sym same)
-
--- nothing is seen
-pub no_strays : (policy : Policy) (s : State) (pid at end : ℕ) → between at end (sights s.processes pid) ≡ [] → strays_between s pid at end policy ≡ []
-no_strays policy s pid at end none = ap (λ b. filter (λ (l : Located). not (follows policy l.node)) (located_in s.layout s.place b)) none

@@ -7,9 +7,13 @@ use Rattle.nm_types.specs.declared.located.Located.{Located}
 use Rattle.nm_calls.proofs.PageLists.Ascending.{ascending_once}
 use Rattle.nm_calls.proofs.stray_pages.are_ascending.Goals as goal
 
-pub returns : goal.returns
-returns c is =
+pub returns-clause-once : goal.returns-clause-once
+returns-clause-once c is =
     let pages : List Located = c.args.pages.now in
     let before = λ (x y : Located). is_lt (page_cmp x.page y.page) in
     ascending_once (λ (l : Located). l.page) pages
     (subst (λ b. IsAllAdjacentAnswer (λ x y b. b ≡ before x y) pages b) is (c.is_sorted_by.ensures.cases before (answers_always _ _ _ (λ f a r h called. search rules))))
+
+pub returns-clause-told : goal.returns-clause-told
+returns-clause-told c =
+    c.is_sorted_by.ensures.cases (λ (x y : Located). is_lt (page_cmp x.page y.page)) (answers_always _ _ _ (λ f a r h called. search rules))

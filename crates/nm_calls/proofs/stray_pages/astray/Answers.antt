@@ -13,7 +13,7 @@ returns-then-are_ascending-clause-list g c =
     let b = c.args.binding in
     let found = c.in_ok-found.ensures.pages ∙ located_is c.args.machine.now c.geometry.result.now c.spaces.result.now b.pid b.first b.end c.geometry.ensures.geometry c.spaces.ensures in
     let strays = c.as_slice-2.ensures.value ∙ c.in_ok-strays.ensures ∙ ap (filter test) (c.as_slice.ensures.value ∙ found) in
-    sym c.as_slice-2.ensures.value ∙ sym (c.are_ascending.ensures c.if-are_ascending.true) ∙ ap pages_once strays
+    sym c.as_slice-2.ensures.value ∙ sym (c.are_ascending.ensures.once c.if-are_ascending.true) ∙ ap pages_once strays
 
 pub returns-then-are_ascending-clause-few : goal.returns-then-are_ascending-clause-few
 returns-then-are_ascending-clause-few g c =
