@@ -1,20 +1,52 @@
 -- What is written in reply to a line.
-use Rattle.std.proofs.Common.{◌≡◌, ℕ, List, [], ◌∷◌, ◌++◌, Bool, Option, Result, Ok, Err, ap, refl, subst, sym, inl}
+use Rattle.std.proofs.Common.{◌≡◌, ℕ, List, [], ◌∷◌, ◌++◌, Bool, Option, Result, Ok, Err, ap, refl, subst, sym, ◌∙◌}
+use Rattle.std.specs.Prelude.{IsErr, IsErrAnd}
+use Rattle.std.specs.Io.KnownBytes.{Appends}
 use Rattle.nm_steps.specs.Calls.{Call}
 use Rattle.nm_steps.specs.declared.trace_error.TraceError.{TraceError}
-use Rattle.nm_steps.specs.declared.trace_error.TraceError.TheVariants.{BadStep, NotJson}
+use Rattle.nm_steps.specs.declared.trace_error.TraceError.TheVariants.{BadMachine, BadStep, NotJson, ReadFault, WriteFault}
+use Rattle.nm_steps.specs.declared.trace_error.TraceError.TheVariants as trace
+use Rattle.nm_trace.proofs.Known.{appends_more}
+use Rattle.nm_trace.proofs.Waits.{breaks_before, breaks_behind}
 use Rattle.nm_trace.specs.Session.{SessionState, Steps, asked, next, next_lines}
 use Rattle.numatrace_session.specs.declared.End.{End}
 use Rattle.numatrace_session.specs.declared.End.TheVariants.{BadTop, HostMemory, Stream}
-use Rattle.numatrace_session.specs.Replies.{after, bad_step_reply, not_json_reply, reply_of, Replies, Tries, Writes}
+use Rattle.numatrace_session.specs.Replies.{after, bad_step_reply, not_json_reply, reply_of, Replies, TellsFault, Writes}
 
--- a text by another name
-pub tried : (old new : Option (List ℕ)) (failed fails : Bool) (text other : List ℕ) (result : Result (Unit {0}) End) → text ≡ other
-    → Writes old new failed fails text result → Tries old new failed fails other result
-tried old new failed fails text other (Ok done) is w = subst (λ (x : List ℕ). Writes old new failed fails x (Ok done)) is w
-tried old new failed fails text other (Err (BadTop fault)) is w = absurd w
-tried old new failed fails text other (Err HostMemory) is w = absurd w
-tried old new failed fails text other (Err Stream) is w = subst (λ (x : List ℕ). Writes old new failed fails x (Err Stream)) is w
+-- two texts, one after another
+pub written_both : (old mid new : Option (List ℕ)) (failed told fails : Bool) (first second : List ℕ) (result : Result (Unit {0}) End)
+    → Appends old mid first × (told ≡ failed) → Writes mid new told fails second result → Writes old new failed fails (first ++ second) result
+written_both old mid new failed told fails first second (Ok done) f w = (appends_more old mid new first second f.0 w.0, w.1 ∙ f.1)
+written_both old mid new failed told fails first second (Err (BadTop fault)) f w = absurd w
+written_both old mid new failed told fails first second (Err HostMemory) f w = absurd w
+written_both old mid new failed told fails first second (Err Stream) f w =
+    (breaks_behind old mid new first second (first ++ second) refl f.0 w.0, w.1)
+
+-- the first of them breaks off
+broken_first : (old new : Option (List ℕ)) (failed fails : Bool) (first second : List ℕ) (e : End)
+    → Writes old new failed fails first (Err e) → Writes old new failed fails (first ++ second) (Err e)
+broken_first old new failed fails first second (BadTop fault) w = absurd w
+broken_first old new failed fails first second HostMemory w = absurd w
+broken_first old new failed fails first second Stream w = (breaks_before old new first second w.0, w.1)
+
+-- and a question mark hands that on
+pub broken_off : (old new : Option (List ℕ)) (failed fails : Bool) (first second : List ℕ) (e : End) (r : Result (Unit {0}) End)
+    → IsErr r × IsErrAnd r (λ x. x ≡ e) → Writes old new failed fails first (Err e) → Writes old new failed fails (first ++ second) r
+broken_off old new failed fails first second e (Ok done) h w = absurd (cc)
+broken_off old new failed fails first second e (Err x) h w =
+    let same : x ≡ e = h.1 in
+    subst (λ (y : End). Writes old new failed fails (first ++ second) (Err y)) (sym same) (broken_first old new failed fails first second e w)
+
+-- a text with a number, given by its digits, and another text
+pub number_written : (old mid new : Option (List ℕ)) (failed told fails : Bool) (front digits number more : List ℕ) (result : Result (Unit {0}) End) → digits ≡ number
+    → Appends old mid (front ++ digits) × (told ≡ failed) → Writes mid new told fails more result → Writes old new failed fails ((front ++ number) ++ more) result
+number_written old mid new failed told fails front digits number more result is f w =
+    written_both old mid new failed told fails (front ++ number) more result (subst (λ (t : List ℕ). Appends old mid (front ++ t)) is f.0, f.1) w
+
+pub number_broken : (old new : Option (List ℕ)) (failed fails : Bool) (front digits number more : List ℕ) (e : End) (r : Result (Unit {0}) End) → digits ≡ number
+    → IsErr r × IsErrAnd r (λ x. x ≡ e) → Writes old new failed fails (front ++ digits) (Err e) → Writes old new failed fails ((front ++ number) ++ more) r
+number_broken old new failed fails front digits number more e r is h w =
+    broken_off old new failed fails (front ++ number) more e r h (subst (λ (t : List ℕ). Writes old new failed fails (front ++ t) (Err e)) is w)
 
 -- the reply was written
 pub replied : (s t : SessionState) (line text : List ℕ) (old new : Option (List ℕ)) (failed fails : Bool) (result : Result (Unit {0}) End)
@@ -36,30 +68,20 @@ made_is s t line call is e = subst (λ (a : Result Call TraceError). t ≡ after
 pub kept_is : (s t : SessionState) (line : List ℕ) (fault : TraceError) → asked s line ≡ Err fault → t ≡ s → t ≡ after s (asked s line)
 kept_is s t line fault is e = subst (λ (a : Result Call TraceError). t ≡ after s a) (sym is) e
 
--- to what is no step
-pub no_step : (s t : SessionState) (line : List ℕ) (k : ℕ) (old new : Option (List ℕ)) (failed fails : Bool) (result : Result (Unit {0}) End)
-    → asked s line ≡ Err (BadStep k) → t ≡ s → Tries old new failed fails (bad_step_reply k) result
+-- to what is no step; or memory is lacking
+pub fault_told : (s t : SessionState) (line : List ℕ) (fault : TraceError) (old new : Option (List ℕ)) (failed fails : Bool)
+    (result : Result (Unit {0}) End) → Steps {V = Unit {0}} (λ _. []) s t line (Err fault) → TellsFault fault old new failed fails result
     → Replies s t line old new failed fails result
-no_step s t line k old new failed fails (Ok done) is then w =
-    (subst (λ (a : Result Call TraceError). Writes old new failed fails (reply_of s a) (Ok done)) (sym is) w, kept_is s t line (BadStep k) is then)
-no_step s t line k old new failed fails (Err (BadTop fault)) is then w = absurd w
-no_step s t line k old new failed fails (Err HostMemory) is then w =
-    ((ap (λ (u : SessionState). u.steps) then, inl (ap (λ (u : SessionState). u.system) then)), w.0, w.1)
-no_step s t line k old new failed fails (Err Stream) is then w =
-    (subst (λ (a : Result Call TraceError). Writes old new failed fails (reply_of s a) (Err Stream)) (sym is) w, kept_is s t line (BadStep k) is then)
-
--- as the session says that it is none
-pub not_json : (s t : SessionState) (line : List ℕ) (fault : TraceError) (old new : Option (List ℕ)) (failed fails : Bool)
-    (result : Result (Unit {0}) End) → Steps {V = Unit {0}} (λ _. []) s t line (Err fault) → fault ≡ NotJson → Writes old new failed fails not_json_reply result
-    → Replies s t line old new failed fails result
-not_json s t line fault old new failed fails result h it w =
-    let kept : (asked s line ≡ Err NotJson) × (t ≡ s) = subst (λ (e : TraceError). Steps {V = Unit {0}} (λ _. []) s t line (Err e)) it h in
+fault_told s t line NotJson old new failed fails result h w =
     replied s t line not_json_reply old new failed fails result
-    (subst (λ (a : Result Call TraceError). not_json_reply ≡ reply_of s a) (sym kept.0) refl) (kept_is s t line NotJson kept.0 kept.1) w
-
-pub bad_step : (s t : SessionState) (line : List ℕ) (fault : TraceError) (k : ℕ) (old new : Option (List ℕ)) (failed fails : Bool)
-    (result : Result (Unit {0}) End) → Steps {V = Unit {0}} (λ _. []) s t line (Err fault) → fault ≡ BadStep k → Tries old new failed fails (bad_step_reply k) result
-    → Replies s t line old new failed fails result
-bad_step s t line fault k old new failed fails result h it w =
-    let kept : (asked s line ≡ Err (BadStep k)) × (t ≡ s) = subst (λ (e : TraceError). Steps {V = Unit {0}} (λ _. []) s t line (Err e)) it h in
-    no_step s t line k old new failed fails result kept.0 kept.1 w
+    (subst (λ (a : Result Call TraceError). not_json_reply ≡ reply_of s a) (sym h.0) refl) (kept_is s t line NotJson h.0 h.1) w
+fault_told s t line BadMachine old new failed fails result h w = absurd h
+fault_told s t line (BadStep k) old new failed fails result h w =
+    replied s t line (bad_step_reply k) old new failed fails result
+    (subst (λ (a : Result Call TraceError). bad_step_reply k ≡ reply_of s a) (sym h.0) refl) (kept_is s t line (BadStep k) h.0 h.1) w
+fault_told s t line ReadFault old new failed fails result h w = absurd h
+fault_told s t line WriteFault old new failed fails result h w = absurd h
+fault_told s t line (trace.HostMemory k) old new failed fails (Ok done) h w = let bad = w.0 in absurd (cc)
+fault_told s t line (trace.HostMemory k) old new failed fails (Err (BadTop fault)) h w = let bad = w.0 in absurd (cc)
+fault_told s t line (trace.HostMemory k) old new failed fails (Err HostMemory) h w = (h.1, w.1, w.2)
+fault_told s t line (trace.HostMemory k) old new failed fails (Err Stream) h w = let bad = w.0 in absurd (cc)

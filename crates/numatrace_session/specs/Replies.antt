@@ -6,6 +6,7 @@ use Rattle.std.specs.Io.KnownBytes.{Appends, Consumes, IsAtEnd}
 use Rattle.nm_steps.specs.Calls.{Call}
 use Rattle.nm_steps.specs.declared.trace_error.TraceError.{TraceError}
 use Rattle.nm_steps.specs.declared.trace_error.TraceError.TheVariants.{BadStep}
+use Rattle.nm_steps.specs.declared.trace_error.TraceError.TheVariants as trace
 use Rattle.nm_streams.specs.Waiting.{BreaksOff}
 use Rattle.nm_trace.specs.Session.{SessionState, StopsShort, asked, next, next_lines, opened}
 use Rattle.numatrace_session.specs.declared.End.{End}
@@ -19,11 +20,15 @@ not_json_reply = codes "fault: not JSON\n\n"
 abbrev pub bad_step_reply : ℕ → List ℕ
 bad_step_reply k = codes "fault: bad step " ++ decimal k ++ codes "\n\n"
 
+-- the reply to a line with this fault
+abbrev pub fault_reply : TraceError → List ℕ
+fault_reply (BadStep k) = bad_step_reply k
+fault_reply fault = not_json_reply
+
 -- the reply to a line: its lines of the report and an empty line; or, if it is no step, what is wrong and an empty line
 abbrev pub reply_of : SessionState → Result Call TraceError → List ℕ
 reply_of s (Ok call) = next_lines s call ++ 10 ∷ []
-reply_of s (Err (BadStep k)) = bad_step_reply k
-reply_of s (Err fault) = not_json_reply
+reply_of s (Err fault) = fault_reply fault
 
 -- the session after a line: its call is made, and a line that is no step leaves it as it was
 abbrev pub after : SessionState → Result Call TraceError → SessionState
@@ -37,10 +42,11 @@ Writes old new failed fails text (Err (BadTop fault)) = ⊥
 Writes old new failed fails text (Err HostMemory) = ⊥
 Writes old new failed fails text (Err Stream) = BreaksOff old new text × (fails ≡ true)
 
--- a text is written that needs memory: if the host has none, nothing is written
-abbrev pub Tries : Option (List ℕ) → Option (List ℕ) → Bool → Bool → List ℕ → Result (Unit {0}) End → Type 0
-Tries old new failed fails text (Err HostMemory) = Appends old new [] × (fails ≡ failed)
-Tries old new failed fails text result = Writes old new failed fails text result
+-- the reply to a fault is written; lack of memory is returned, and nothing is written
+abbrev pub TellsFault : TraceError → Option (List ℕ) → Option (List ℕ) → Bool → Bool → Result (Unit {0}) End → Type 0
+TellsFault (trace.HostMemory k) old new failed fails result =
+    (result ≡ Err HostMemory) × Appends old new [] × (fails ≡ failed)
+TellsFault fault old new failed fails result = Writes old new failed fails (fault_reply fault) result
 
 -- the reply to a line is written, and its call made; if the host has no memory, nothing is written, and the call may
 -- have been made in part

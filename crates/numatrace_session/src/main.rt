@@ -15,7 +15,7 @@ ghost use Rattle.nm_trace.specs.Session.{SessionState, opened};
 ghost use Rattle.std.specs.Io.Buffered.{reader_buffer, reader_remaining, writer_buffer, writer_inner};
 ghost use Rattle.nm_steps.specs.declared.trace_error.TraceError.{TraceError};
 ghost use Rattle.numatrace_session.specs.Ends.{status_of, unopened, unread, Begins, IsTold};
-ghost use Rattle.numatrace_session.specs.Replies.{bad_step_reply, has_line, EndsEarly, EndsFlushed, EndsTalk, ReachesEnd, Refuses, Replies, RepliesToLines, Talks, Tries, Writes};
+ghost use Rattle.numatrace_session.specs.Replies.{bad_step_reply, has_line, EndsEarly, EndsFlushed, EndsTalk, ReachesEnd, Refuses, Replies, RepliesToLines, Talks, TellsFault, Writes};
 
 use nm_crew::OpenGate;
 use nm_trace::{FlushingWriter, Session, TellingWriter, TraceError, Watched, write_lines};
@@ -82,33 +82,40 @@ fn put<W: TellingWriter>(out: &mut W, bytes: &[u8]) -> Result<(), End>
     Ok(())
 }
 
-/// Writes the lines of a step, and an empty line.
-fn put_lines<W: TellingWriter>(out: &mut W, lines: &[u8]) -> Result<(), End>
+/// Writes bytes, and then others.
+fn put_both<W: TellingWriter>(out: &mut W, first: &[u8], second: &[u8]) -> Result<(), End>
     ensures { Writes (W.contents out.old) (W.contents out.new)
-        (W.has_failed out.old) (W.has_failed out.new) (lines.now ++ 10 ∷ []) result }
+        (W.has_failed out.old) (W.has_failed out.new) (first.now ++ second.now) result }
 {
-    let Ok(()) = write_lines(out, lines) else {
-        return Err(End::Stream);
-    };
-    let Ok(()) = write_lines(out, b"\n") else {
-        return Err(End::Stream);
-    };
-    Ok(())
+    put(out, first)?;
+    put(out, second)
 }
 
-/// Writes that the step with this number is none, and an empty line.
-fn put_bad_step<W: TellingWriter>(heap: Global, out: &mut W, step: usize) -> Result<(), End>
-    ensures { Tries (W.contents out.old) (W.contents out.new)
+/// Writes that the step with this number is none, and an empty line. Does not allocate.
+fn put_bad_step<W: TellingWriter>(out: &mut W, step: usize) -> Result<(), End>
+    ensures { Writes (W.contents out.old) (W.contents out.new)
         (W.has_failed out.old) (W.has_failed out.new) (bad_step_reply step) result }
 {
-    let Ok(text) = format!(in heap; "fault: bad step {step}\n\n") else {
-        return Err(End::HostMemory);
-    };
-    put(out, text.as_bytes())
+    let mut digits = itoa::Buffer::new();
+    let number = digits.format(step as u64);
+    put_both(out, b"fault: bad step ", number.as_bytes())?;
+    put(out, b"\n\n")
+}
+
+/// Writes what is wrong with a line, and an empty line; nothing if its fault is lack of memory, which is returned.
+#[tactic(auto, using(nm_trace::proofs::Known::appends_none))]
+fn put_fault<W: TellingWriter>(out: &mut W, fault: TraceError) -> Result<(), End>
+    ensures { TellsFault fault (W.contents out.old) (W.contents out.new)
+        (W.has_failed out.old) (W.has_failed out.new) result }
+{
+    match fault {
+        TraceError::HostMemory(_) => Err(End::HostMemory),
+        TraceError::BadStep(step) => put_bad_step(out, step),
+        _ => put(out, b"fault: not JSON\n\n"),
+    }
 }
 
 /// Makes a step, and writes its reply.
-#[tactic(auto, using(nm_streams::proofs::Known::appends_none))]
 fn reply<R: Threads + Wait + Sync, W: TellingWriter>(
     rt: &R,
     heap: Global,
@@ -120,13 +127,8 @@ fn reply<R: Threads + Wait + Sync, W: TellingWriter>(
         (W.has_failed out.old) (W.has_failed out.new) result }
 {
     match session.step(rt, heap, step, &OpenGate) {
-        Ok(lines) => put_lines(out, lines.as_slice()),
-        Err(TraceError::NotJson) => put(out, b"fault: not JSON\n\n"),
-        Err(TraceError::BadStep(number)) => put_bad_step(heap, out, number),
-        Err(TraceError::HostMemory(_)) => Err(End::HostMemory),
-        Err(TraceError::BadMachine | TraceError::ReadFault | TraceError::WriteFault) => {
-            unreachable!()
-        }
+        Ok(lines) => put_both(out, lines.as_slice(), b"\n"),
+        Err(fault) => put_fault(out, fault),
     }
 }
 

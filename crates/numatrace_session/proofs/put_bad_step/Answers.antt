@@ -1,11 +1,13 @@
-use Rattle.std.proofs.Common.{refl, ◌∙◌}
-use Rattle.nm_streams.proofs.Known.{appends_none}
-use Rattle.numatrace_session.proofs.Replied.{tried}
+use Rattle.std.proofs.Common.{◌∙◌, codes, decimal}
+use Rattle.numatrace_session.proofs.Replied.{number_broken, number_written}
 use Rattle.numatrace_session.proofs.put_bad_step.Goals as goal
 
-pub returns-in_default : goal.returns-in_default
-returns-in_default g c = (appends_none (g.W.Write.contents c.args.out.now), refl)
+pub returns-in_err-put_both : goal.returns-in_err-put_both
+returns-in_err-put_both g c =
+    number_broken _ _ _ _ (codes "fault: bad step ") c.as_bytes.result.now (decimal c.args.step) (codes "\n\n") _ c.from_residual.result (c.as_bytes.ensures.value ∙ c.format-number.ensures.text)
+    c.from_residual.ensures c.in_err-put_both.ensures
 
 pub returns : goal.returns
 returns g c =
-    tried _ _ _ _ c.as_bytes.result.now _ c.put.result (c.as_bytes.ensures.value ∙ c.in-Ok.ensures.ok) c.put.ensures
+    number_written _ _ _ _ _ _ (codes "fault: bad step ") c.as_bytes.result.now (decimal c.args.step) (codes "\n\n") c.put.result (c.as_bytes.ensures.value ∙ c.format-number.ensures.text)
+    c.in_ok-put_both.ensures c.put.ensures
