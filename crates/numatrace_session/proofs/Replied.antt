@@ -6,8 +6,8 @@ use Rattle.nm_steps.specs.Calls.{Call}
 use Rattle.nm_steps.specs.declared.trace_error.TraceError.{TraceError}
 use Rattle.nm_steps.specs.declared.trace_error.TraceError.TheVariants.{BadMachine, BadStep, NotJson, ReadFault, WriteFault}
 use Rattle.nm_steps.specs.declared.trace_error.TraceError.TheVariants as trace
-use Rattle.nm_trace.proofs.Known.{appends_more}
-use Rattle.nm_trace.proofs.Waits.{breaks_before, breaks_behind}
+use Rattle.nm_streams.proofs.Known.{appends_more}
+use Rattle.nm_streams.proofs.Waits.{breaks_before, breaks_behind}
 use Rattle.nm_trace.specs.Session.{SessionState, Steps, asked, next, next_lines}
 use Rattle.numatrace_session.specs.declared.End.{End}
 use Rattle.numatrace_session.specs.declared.End.TheVariants.{BadTop, HostMemory, Stream}

@@ -103,7 +103,7 @@ fn put_bad_step<W: TellingWriter>(out: &mut W, step: usize) -> Result<(), End>
 }
 
 /// Writes what is wrong with a line, and an empty line; nothing if its fault is lack of memory, which is returned.
-#[tactic(auto, using(nm_trace::proofs::Known::appends_none))]
+#[tactic(auto, using(nm_streams::proofs::Known::appends_none))]
 fn put_fault<W: TellingWriter>(out: &mut W, fault: TraceError) -> Result<(), End>
     ensures { TellsFault fault (W.contents out.old) (W.contents out.new)
         (W.has_failed out.old) (W.has_failed out.new) result }
