@@ -1,5 +1,5 @@
 -- Exit statuses.
-use Rattle.std.specs.Prelude.{◌≡◌, ◌≢◌, ◌⊎◌, ℕ, ◌<◌, Bool, true, List, [], length, take, Option, Result, Ok, Err}
+use Rattle.std.specs.Prelude.{◌≡◌, ◌≢◌, ◌⊎◌, ℕ, ◌<◌, Bool, true, List, [], length, take, codes, Option, Result, Ok, Err}
 use Rattle.std.specs.declared.io.ErrorKind.{ErrorKind}
 use Rattle.std.specs.declared.io.ErrorKind.TheVariants.{OutOfMemory}
 use Rattle.nm_steps.specs.declared.trace_error.TraceError.{TraceError}
@@ -26,10 +26,20 @@ abbrev pub words_status : ErrorKind → ℕ
 words_status OutOfMemory = 3
 words_status kind = 2
 
+-- the line on standard error if the program's words could not be read
+abbrev pub words_text : ErrorKind → List ℕ
+words_text OutOfMemory = codes "numatrace: host memory refused after 0 steps\n"
+words_text kind = codes "numatrace: a word is not UTF-8\n"
+
 -- the exit status of words that clap refuses
 abbrev pub refused_status : ParseKind → ℕ
 refused_status parse.OutOfMemory = 3
 refused_status kind = 2
+
+-- the line on standard error of words that are refused for lack of memory; clap has its own text for the others
+abbrev pub TellsRefusal : ParseKind → Option (List ℕ) → Option (List ℕ) → Type 0
+TellsRefusal parse.OutOfMemory old new = Appends old new (codes "numatrace: host memory refused after 0 steps\n")
+TellsRefusal kind old new = Unit {0}
 
 -- 0 after a whole report, 2 for bad input, 3 if the host is out of memory, 4 for a fault of a stream
 abbrev pub IsStatus : ℕ → Type 0

@@ -1,7 +1,9 @@
 //! The program, for any words, reader and writers.
 
-ghost use Rattle.std.specs.Prelude.{◌≡◌, ◌⊎◌, map, string_bytes};
-ghost use Rattle.numatrace.specs.Status.{status_of, words_status, refused_status, Ends};
+ghost use Rattle.std.specs.Prelude.{◌≡◌, ◌⊎◌, OnOk, map, string_bytes};
+ghost use Rattle.std.specs.Io.KnownBytes.{Appends};
+ghost use Rattle.clap.specs.Words.{kind_of};
+ghost use Rattle.numatrace.specs.Status.{status_of, words_status, words_text, refused_status, Ends, TellsRefusal};
 ghost use Rattle.nm_words.specs.Words.{refusals_of};
 
 use clap::Error;
@@ -50,13 +52,33 @@ fn refused_words(kind: ErrorKind) -> u8
     }
 }
 
-/// Reports why words were refused, in one line or in clap's own text.
-fn tell_refusal<E: Write>(error: &Error, err: &mut E) {
+/// Writes why words were refused, in one line or in clap's own text.
+fn tell_refusal<E: Write>(error: &Error, err: &mut E) -> io::Result<()>
+    ensures { OnOk result (TellsRefusal (kind_of error.now) (E.contents err.old) (E.contents err.new)) }
+{
     if matches!(error.kind(), ErrorKind::OutOfMemory) {
-        let _ = writeln!(err, "numatrace: host memory refused after 0 steps");
+        err.write_all(b"numatrace: host memory refused after 0 steps\n")
     } else {
-        let _ = write!(err, "{error}");
+        write!(err, "{error}")
     }
+}
+
+/// The line for words that could not be read.
+fn words_text(kind: io::ErrorKind) -> &'static str
+    ensures { result.now ≡ words_text kind }
+{
+    match kind {
+        io::ErrorKind::OutOfMemory => "numatrace: host memory refused after 0 steps\n",
+        _ => "numatrace: a word is not UTF-8\n",
+    }
+}
+
+/// Writes in one line why the program's words could not be read.
+fn tell_unread<E: Write>(kind: io::ErrorKind, err: &mut E) -> io::Result<()>
+    ensures { OnOk result (Appends (E.contents err.old) (E.contents err.new) (words_text kind)) }
+{
+    let text = words_text(kind);
+    err.write_all(text.as_bytes())
 }
 
 /// Reports why the program's words could not be read, and returns the exit status: 3 if the host is out of memory, and
@@ -64,11 +86,10 @@ fn tell_refusal<E: Write>(error: &Error, err: &mut E) {
 pub(crate) fn unread_words<E: Write>(kind: io::ErrorKind, err: &mut E) -> u8
     ensures { result ≡ words_status kind }
 {
+    let _ = tell_unread(kind, err);
     if matches!(kind, io::ErrorKind::OutOfMemory) {
-        let _ = writeln!(err, "numatrace: host memory refused after 0 steps");
         return HOST_REFUSAL;
     }
-    let _ = writeln!(err, "numatrace: a word is not UTF-8");
     BAD_INPUT
 }
 
@@ -115,7 +136,7 @@ pub(crate) fn run_words_through<
     let workers = match read_words(heap, words) {
         Ok(workers) => workers,
         Err(error) => {
-            tell_refusal(&error, err);
+            let _ = tell_refusal(&error, err);
             return refused_words(error.kind());
         }
     };
