@@ -1,16 +1,16 @@
 -- What is served through buffers.
-use Rattle.std.proofs.Common.{◌≡◌, ℕ, Bool, true, List, [], ◌∷◌, Option, Some, None, IfSome, Result, Ok, Err, refl, sym, ap, ◌∙◌, inl, inr}
+use Rattle.std.proofs.Common.{◌≡◌, ℕ, Bool, true, List, [], ◌∷◌, Option, Some, None, IfSome, Result, Ok, Err, refl, subst, ap, ◌∙◌, inl, inr}
 use Rattle.std.specs.Prelude.{IfErr, OnOk}
-use Rattle.std.specs.Io.BufRead.{take_through, drop_through, DropsThrough}
+use Rattle.std.specs.Io.BufRead.{drop_through, DropsThrough}
 use Rattle.std.specs.Io.Buffered.{reader_buffer, reader_capacity, reader_inner, reader_remaining}
 use Rattle.std.specs.Io.KnownBytes.{Keeps, prepend_known}
 use Rattle.std.specs.declared.io.buffered.BufReader.{BufReader}
 use Rattle.nm_steps.specs.declared.trace_error.TraceError.{TraceError}
-use Rattle.nm_trace.specs.Session.{SessionState, opened}
+use Rattle.nm_trace.specs.Session.{SessionState}
 use Rattle.nm_streams.proofs.Known.{appends_kept, consumes_none}
 use Rattle.numatrace_session.specs.declared.End.{End}
 use Rattle.numatrace_session.specs.declared.End.TheVariants.{BadTop, HostMemory, Stream}
-use Rattle.numatrace_session.specs.Replies.{replies_to, EndsEarly, EndsFlushed, EndsTalk, IsRefused, ReachesEnd, ReadsLines, Talks, WritesReplies}
+use Rattle.numatrace_session.specs.Replies.{replies_to, BeginsNone, EndsEarly, EndsFlushed, EndsTalk, EndsWithin, IsRefused, ReachesEnd, ReadsLines, Talks, TalksThrough, WritesReplies}
 
 -- what was written stays
 pub talks_kept : {X E : Type 0} (a b old new newer : Option (List ℕ)) (result : Result X E) → OnOk result (Talks a b old new) → Keeps new newer → OnOk result (Talks a b old newer)
@@ -99,26 +99,19 @@ reaches_end None b c (Ok done) first h = tt
 reaches_end (Some xs) None c (Ok done) first h = absurd (cc)
 reaches_end (Some xs) (Some ys) c (Ok done) first h = h
 
-first_line : (a b : Option (List ℕ)) (top : List ℕ) (lines : List (List ℕ)) → ReadsLines a b (top ∷ lines) → IfSome a (λ xs. top ≡ take_through 10 xs)
-first_line None b top lines h = tt
-first_line (Some xs) None top lines h = absurd h
-first_line (Some xs) (Some ys) top lines h = h.0
+-- ---- all that is read
 
-begun_of : (a : Option (List ℕ)) (top : List ℕ) (s : SessionState) → opened top ≡ Ok s → IfSome a (λ xs. top ≡ take_through 10 xs) → IfSome a (λ xs. (s : SessionState) × (opened (take_through 10 xs) ≡ Ok s))
-begun_of None top s is h = tt
-begun_of (Some xs) top s is h = (s, ap opened (sym h) ∙ is)
+pub talks_through : (a whole b old new : Option (List ℕ)) (result : Result (Unit {0}) End) → a ≡ whole → OnOk result (Talks a b old new) → ReachesEnd result a b → OnOk result (TalksThrough whole old new)
+talks_through a whole b old new (Ok done) same h end = subst (λ (o : Option (List ℕ)). TalksThrough o old new) same (b, h, end)
+talks_through a whole b old new (Err e) same h end = tt
 
-pub begun : {X E : Type 0} (a b old new : Option (List ℕ)) (result : Result X E) → OnOk result (Talks a b old new)
-    → OnOk result (IfSome a (λ xs. (s : SessionState) × (opened (take_through 10 xs) ≡ Ok s)))
-begun a b old new (Ok done) h = begun_of a h.0 h.1 h.3 (first_line a b h.0 h.2 h.4)
-begun a b old new (Err e) h = tt
+pub none_begun : (a whole b old new : Option (List ℕ)) (fault : TraceError) → a ≡ whole → IsRefused a b old new fault → BeginsNone whole old new fault
+none_begun a whole b old new fault same h = subst (λ (o : Option (List ℕ)). BeginsNone o old new fault) same (b, h)
 
-refused_of : (a : Option (List ℕ)) (top : List ℕ) (fault : TraceError) → opened top ≡ Err fault → IfSome a (λ xs. top ≡ take_through 10 xs) → IfSome a (λ xs. opened (take_through 10 xs) ≡ Err fault)
-refused_of None top fault is h = tt
-refused_of (Some xs) top fault is h = ap opened (sym h) ∙ is
-
-pub refused : (a b old new : Option (List ℕ)) (fault : TraceError) → IsRefused a b old new fault → IfSome a (λ xs. opened (take_through 10 xs) ≡ Err fault)
-refused a b old new fault h = refused_of a h.0 fault h.1 (first_line a b h.0 [] h.2)
+pub ends_within : {X : Type 0} (a whole b old new : Option (List ℕ)) (failed fails : Bool) (result : Result X End) → a ≡ whole
+    → IfErr result (λ e. EndsFlushed e a b old new failed fails) → IfErr result (λ e. EndsWithin e whole old new failed fails)
+ends_within a whole b old new failed fails (Ok done) same h = tt
+ends_within a whole b old new failed fails (Err end) same h = subst (λ (o : Option (List ℕ)). EndsWithin end o old new failed fails) same (b, h)
 
 -- an empty buffer hides nothing
 none_before : (known : Option (List ℕ)) → prepend_known [] known ≡ known

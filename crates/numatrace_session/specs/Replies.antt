@@ -150,3 +150,19 @@ abbrev pub EndsFlushed : End → Option (List ℕ) → Option (List ℕ) → Opt
 EndsFlushed Stream left left_then old new failed fails =
     EndsTalk Stream left left_then old new failed fails ⊎ EndsTalk Stream left left_then old new true fails
 EndsFlushed end left left_then old new failed fails = EndsTalk end left left_then old new failed fails
+
+-- ---- a session on all that is read
+
+-- it is talked through to its end
+abbrev pub TalksThrough : Option (List ℕ) → Option (List ℕ) → Option (List ℕ) → Type 0
+TalksThrough left old new =
+    (left_then : Option (List ℕ)) × Talks left left_then old new × IfSome left (λ _. IsAtEnd left_then)
+
+-- its first line begins no session, and nothing is written
+abbrev pub BeginsNone : Option (List ℕ) → Option (List ℕ) → Option (List ℕ) → TraceError → Type 0
+BeginsNone left old new fault = (left_then : Option (List ℕ)) × IsRefused left left_then old new fault
+
+-- the session ends early, somewhere in it
+abbrev pub EndsWithin : End → Option (List ℕ) → Option (List ℕ) → Option (List ℕ) → Bool → Bool → Type 0
+EndsWithin end left old new failed fails =
+    (left_then : Option (List ℕ)) × EndsFlushed end left left_then old new failed fails

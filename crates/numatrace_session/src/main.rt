@@ -7,15 +7,14 @@
 //! and 4 where a stream fails, with one line on standard error for the last three.
 #![tactic(auto)]
 
-ghost use Rattle.std.specs.Prelude.{◌≡◌, ◌⊎◌, ◌||◌, ◌++◌, ◌∷◌, [], length, nat_lt, true, false, Ok, OnOk, IfOk, IfErr, IfSome, is_err};
+ghost use Rattle.std.specs.Prelude.{◌≡◌, ◌⊎◌, ◌||◌, ◌++◌, [], length, nat_lt, true, false, Ok, OnOk, IfOk, IfErr, IfSome, is_err};
 ghost use Rattle.std.specs.Io.{StopsAt};
 ghost use Rattle.std.specs.Io.BufRead.{take_through, DropsThrough};
 ghost use Rattle.std.specs.Io.KnownBytes.{Consumes, IsAtEnd, Keeps};
-ghost use Rattle.nm_trace.specs.Session.{SessionState, opened};
 ghost use Rattle.std.specs.Io.Buffered.{reader_buffer, reader_remaining, writer_buffer, writer_inner};
 ghost use Rattle.nm_steps.specs.declared.trace_error.TraceError.{TraceError};
 ghost use Rattle.numatrace_session.specs.Ends.{status_of, unopened, unread, Begins, IsTold};
-ghost use Rattle.numatrace_session.specs.Replies.{bad_step_reply, has_line, EndsEarly, EndsFlushed, EndsTalk, ReachesEnd, Refuses, Replies, RepliesToLines, Talks, TellsFault, Writes};
+ghost use Rattle.numatrace_session.specs.Replies.{bad_step_reply, has_line, BeginsNone, EndsEarly, EndsFlushed, EndsTalk, EndsWithin, ReachesEnd, Refuses, Replies, RepliesToLines, Talks, TalksThrough, TellsFault, Writes};
 
 use nm_crew::OpenGate;
 use nm_trace::{FlushingWriter, Session, TellingWriter, TraceError, Watched, write_lines};
@@ -272,42 +271,39 @@ fn talk_to_end<T: Threads + Wait + Sync, R: Read, W: FlushingWriter>(
     ended
 }
 
-/// Buffers before the input and the output. The only error is `HostMemory`.
-fn buffered<R: Read + Drop, W: Write + Drop>(
-    heap: Global,
-    from: R,
-    to: W,
-) -> Result<(BufReader<R, Global>, BufWriter<W, Global>), End>
-    // On success
-    ensures input { IfOk result (λ b. reader_remaining R.remaining b.0 ≡ R.remaining from) }
-    ensures output { IfOk result (λ b. (writer_inner b.1 ≡ to) × (writer_buffer b.1 ≡ [])) }
-
-    // On a fault
+/// A buffer before the output. The only error is `HostMemory`.
+fn buffered<W: Write + Drop>(heap: Global, to: W) -> Result<BufWriter<W, Global>, End>
+    ensures output { IfOk result (λ b. (writer_inner b ≡ to) × (writer_buffer b ≡ [])) }
     ensures fault { IfErr result (λ e. e ≡ End.HostMemory) }
 {
-    let Ok(input) = BufReader::new(heap, from) else {
-        return Err(End::HostMemory);
-    };
-    let Ok(out) = BufWriter::new(heap, to) else {
-        return Err(End::HostMemory);
-    };
-    Ok((input, out))
+    match BufWriter::new(heap, to) {
+        Ok(out) => Ok(out),
+        Err(_) => Err(End::HostMemory),
+    }
 }
 
-/// Replies to what is read, through buffers.
-fn serve<T: Threads + Wait + Sync, R: Read + Drop, W: Write + Drop>(
+/// Replies to what is read, through a buffer, and then writes the replies that wait, however that ends.
+fn serve<T: Threads + Wait + Sync, R: Read + Drop, W: FlushingWriter>(
     rt: &T,
     heap: Global,
     from: R,
-    to: W,
+    out: &mut W,
 ) -> Result<(), End>
-    ensures begun { OnOk result (IfSome (R.remaining from) (λ bytes.
-        (s : SessionState) × (opened (take_through 10 bytes) ≡ Ok s))) }
+    // On success
+    ensures talk { OnOk result
+        (TalksThrough (R.remaining from) (W.contents out.old) (W.contents out.new)) }
+    ensures told { OnOk result (W.has_failed out.new ≡ W.has_failed out.old) }
+
+    // On a fault
     ensures refused { (fault : TraceError) → result ≡ Err (End.BadTop fault) →
-        IfSome (R.remaining from) (λ bytes. opened (take_through 10 bytes) ≡ Err fault) }
+        BeginsNone (R.remaining from) (W.contents out.old) (W.contents out.new) fault }
+    ensures early { IfErr result (λ e. EndsWithin e (R.remaining from)
+        (W.contents out.old) (W.contents out.new) (W.has_failed out.old) (W.has_failed out.new)) }
 {
-    let (mut input, out) = buffered(heap, from, to)?;
-    talk_to_end(rt, heap, &mut input, &mut Watched::new(out))
+    let Ok(mut input) = BufReader::new(heap, from) else {
+        return Err(End::HostMemory);
+    };
+    talk_to_end(rt, heap, &mut input, out)
 }
 
 /// The exit status of a session that ended so.
@@ -334,7 +330,10 @@ fn tell<E: Write>(end: &End, err: &mut E) -> io::Result<()>
 }
 
 fn main(rt: HostRuntime) -> ExitCode {
-    let ended = serve(&rt, rt.alloc(), rt.stdin(), rt.stdout());
+    let ended = match buffered(rt.alloc(), rt.stdout()) {
+        Ok(out) => serve(&rt, rt.alloc(), rt.stdin(), &mut Watched::new(out)),
+        Err(end) => Err(end),
+    };
     if let Err(end) = &ended {
         let _ = tell(end, &mut rt.stderr());
     }

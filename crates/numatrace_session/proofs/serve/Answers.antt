@@ -1,16 +1,22 @@
-use Rattle.std.proofs.Common.{◌≡◌, ℕ, List, Option, IfSome, Ok, Err, subst}
-use Rattle.std.specs.Prelude.{OnOk}
-use Rattle.std.specs.Io.BufRead.{take_through}
-use Rattle.nm_trace.specs.Session.{SessionState, opened}
-use Rattle.numatrace_session.proofs.Served.{begun, refused}
+use Rattle.std.proofs.Common.{None, refl, inl}
+use Rattle.nm_streams.proofs.Known.{appends_none}
+use Rattle.numatrace_session.proofs.Served.{ends_within, fresh, none_begun, talks_through}
 use Rattle.numatrace_session.proofs.serve.Goals as goal
 
-pub returns-clause-begun : goal.returns-clause-begun
-returns-clause-begun g c =
-    subst (λ (o : Option (List ℕ)). OnOk c.talk_to_end.result (IfSome o (λ xs. (s : SessionState) × (opened (take_through 10 xs) ≡ Ok s)))) c.in_ok-input.ensures.input
-    (begun _ _ _ _ c.talk_to_end.result c.talk_to_end.ensures.talk)
+pub returns-clause-talk : goal.returns-clause-talk
+returns-clause-talk g c =
+    talks_through _ _ _ _ _ c.talk_to_end.result (fresh g.R.Read.remaining c.in-Ok.input c.args.from c.in-Ok.ensures.inner c.in-Ok.ensures.empty c.in-Ok.ensures.capacity)
+    c.talk_to_end.ensures.talk c.talk_to_end.ensures.end
 
 pub returns-clause-refused : goal.returns-clause-refused
 returns-clause-refused g c = λ fault is.
-    subst (λ (o : Option (List ℕ)). IfSome o (λ xs. opened (take_through 10 xs) ≡ Err fault)) c.in_ok-input.ensures.input
-    (refused _ _ _ _ fault (c.talk_to_end.ensures.refused fault is))
+    none_begun _ _ _ _ _ fault (fresh g.R.Read.remaining c.in-Ok.input c.args.from c.in-Ok.ensures.inner c.in-Ok.ensures.empty c.in-Ok.ensures.capacity)
+    (c.talk_to_end.ensures.refused fault is)
+
+pub returns-clause-early : goal.returns-clause-early
+returns-clause-early g c =
+    ends_within _ _ _ _ _ _ _ c.talk_to_end.result (fresh g.R.Read.remaining c.in-Ok.input c.args.from c.in-Ok.ensures.inner c.in-Ok.ensures.empty c.in-Ok.ensures.capacity)
+    c.talk_to_end.ensures.early
+
+pub returns-in_default-clause-early : goal.returns-in_default-clause-early
+returns-in_default-clause-early g c = (None, (inl (appends_none (g.W.Write.contents c.args.out.now), refl)))
