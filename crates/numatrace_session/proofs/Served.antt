@@ -1,5 +1,5 @@
 -- What is served through buffers.
-use Rattle.std.proofs.Common.{◌≡◌, ℕ, Bool, true, List, [], ◌∷◌, Option, Some, None, IfSome, Result, Ok, Err, refl, subst, ap, ◌∙◌, inl, inr}
+use Rattle.std.proofs.Common.{◌≡◌, ◌⊎◌, ℕ, Bool, true, List, [], ◌∷◌, Option, Some, None, IfSome, Result, Ok, Err, refl, subst, ap, ◌∙◌, inl, inr}
 use Rattle.std.specs.Prelude.{IfErr, OnOk}
 use Rattle.std.specs.Io.BufRead.{drop_through, DropsThrough}
 use Rattle.std.specs.Io.Buffered.{reader_buffer, reader_capacity, reader_inner, reader_remaining}
@@ -121,3 +121,8 @@ none_before (Some xs) = refl
 pub fresh : {R A : Type 0} (remaining : R → Option (List ℕ)) (r : BufReader R A) (from : R) → reader_inner r ≡ from → reader_buffer r ≡ [] → reader_capacity r ≡ 8192
     → reader_remaining remaining r ≡ remaining from
 fresh remaining r from inner empty capacity = rw (capacity, empty) (none_before (remaining r.inner) ∙ ap remaining inner)
+
+-- what is one of two is one of three
+pub of_three : {A B C : Type 0} → A ⊎ B → A ⊎ (B ⊎ C)
+of_three (inl a) = inl a
+of_three (inr b) = inr (inl b)

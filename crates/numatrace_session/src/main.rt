@@ -299,6 +299,10 @@ fn serve<T: Threads + Wait + Sync, R: Read + Drop, W: FlushingWriter>(
         BeginsNone (R.remaining from) (W.contents out.old) (W.contents out.new) fault }
     ensures early { IfErr result (λ e. EndsWithin e (R.remaining from)
         (W.contents out.old) (W.contents out.new) (W.has_failed out.old) (W.has_failed out.new)) }
+
+    // In any case
+    ensures flushed { (result ≡ Err End.Stream)
+        ⊎ (W.is_flushed out.new ⊎ ((result ≡ Err End.HostMemory) × (out.new ≡ out.old))) }
 {
     let Ok(mut input) = BufReader::new(heap, from) else {
         return Err(End::HostMemory);

@@ -1,6 +1,6 @@
-use Rattle.std.proofs.Common.{None, refl, inl}
+use Rattle.std.proofs.Common.{None, refl, inl, inr}
 use Rattle.nm_streams.proofs.Known.{appends_none}
-use Rattle.numatrace_session.proofs.Served.{ends_within, fresh, none_begun, talks_through}
+use Rattle.numatrace_session.proofs.Served.{ends_within, fresh, none_begun, of_three, talks_through}
 use Rattle.numatrace_session.proofs.serve.Goals as goal
 
 pub returns-clause-talk : goal.returns-clause-talk
@@ -20,3 +20,9 @@ returns-clause-early g c =
 
 pub returns-in_default-clause-early : goal.returns-in_default-clause-early
 returns-in_default-clause-early g c = (None, (inl (appends_none (g.W.Write.contents c.args.out.now), refl)))
+
+pub returns-clause-flushed : goal.returns-clause-flushed
+returns-clause-flushed g c = of_three c.talk_to_end.ensures.flushed
+
+pub returns-in_default-clause-flushed : goal.returns-in_default-clause-flushed
+returns-in_default-clause-flushed g c = inr (inr (refl, refl))
