@@ -25,7 +25,6 @@ mod run_in_flight;
 use crate::answers::AccessAnswer;
 use crate::audit;
 use crate::pending_access::PendingAccess;
-use copying::copy_beside;
 use nm_crew::{Crew, Gate};
 use nm_frames::{CopyJob, FrameStore};
 use nm_nodes::NodePool;
@@ -401,8 +400,8 @@ impl<A: Allocator + Copy + Send + Sync> Frames<A> {
     {
         let mut jobs = mem::replace(&mut self.jobs, Vec::new(alloc));
         let store = mem::replace(&mut self.frames, FrameStore::none(alloc));
-        let run = RunInFlight::begin(spaces, store, moves, &mut jobs);
-        let (mut copied, (run, answers)) = copy_beside(crew, alloc, run, jobs, dues, answers);
+        let mut run = RunInFlight::begin(spaces, store, moves, &mut jobs);
+        let (mut copied, answers) = run.copy_beside(crew, alloc, jobs, dues, answers);
         let (spaces, store) = run.finish(&mut copied);
         self.frames = store;
         self.jobs = copied;

@@ -1,93 +1,71 @@
-//! Copying the pages of a run, and the accesses made meanwhile.
+//! Accesses while the pages of a run are copied.
 
-ghost use Rattle.std.specs.Prelude.{◌≡◌, ◌≤◌, ℕ, [], Some, map, slice_get, vec_len, vec_capacity};
+ghost use Rattle.std.specs.Prelude.{◌≡◌, ◌≤◌, [], map, IsSome, vec_len, vec_capacity};
 ghost use Rattle.std.specs.List.{AllByRecursion};
-ghost use Rattle.nm_frames.specs.Job.{copied};
-ghost use Rattle.nm_frames.specs.declared.job.CopyJob.{CopyJob as Job};
-ghost use Rattle.nm_memory.specs.definitions.AfterCopy.{all_stored_after_copy, CanDo};
+ghost use Rattle.nm_types.specs.Map.{get, page_cmp};
+ghost use Rattle.nm_memory.specs.definitions.AfterCopy.{all_stored_after_copy, store_after_copy, answer_from_store, frame_at, CanDo};
 ghost use Rattle.nm_memory.specs.views.Accesses.{answer_shown, pending_shown, HasRoom};
 
 use crate::answers::AccessAnswer;
-use crate::frames::run_in_flight::RunInFlight;
+use crate::frames::copy_bytes;
 use crate::pending_access::PendingAccess;
-use nm_crew::{Crew, Gate};
-use nm_frames::CopyJob;
+use nm_crew::Gate;
+use nm_frames::FrameStore;
+use nm_spaces::HeldSpaces;
+use nm_types::{FrameId, Page};
 use std::alloc::Allocator;
-use std::sync::Wait;
-use std::thread::Threads;
 
-/// Has a crew make the copies of a run, and meanwhile does what is left to do for accesses. The answers go into a list
-/// that has room for them.
-pub(super) fn copy_beside<
-    'm,
-    R: Threads + Wait + Sync,
-    A: Allocator + Copy + Send + Sync,
-    G: Gate + Sync,
->(
-    crew: &Crew<R, G>,
-    alloc: A,
-    run: RunInFlight<'m, A>,
-    jobs: Vec<CopyJob<A>, A>,
-    dues: Vec<PendingAccess<'_, A>, A>,
-    answers: Vec<AccessAnswer<A>, A>,
-) -> (
-    Vec<CopyJob<A>, A>,
-    (RunInFlight<'m, A>, Vec<AccessAnswer<A>, A>),
-)
-    requires tickets { (t : ℕ) (job : Job _) → slice_get jobs.items t ≡ Some job → job.ticket ≡ t }
-
-    // What is left to do
-    requires due { AllByRecursion (CanDo run.spaces.place run.store)
-        (map pending_shown dues.items) }
-    requires room { AllByRecursion HasRoom dues.items }
-
-    // The list for the answers
-    requires unanswered { answers.items ≡ [] }
-    requires space { vec_len dues ≤ vec_capacity answers }
-
-    // Afterwards
-    ensures jobs { result.0.items ≡ map copied jobs.items }
-    ensures run { result.1.0
-        ≡ record (run.entry) {
-          store = (all_stored_after_copy run.entry.spaces.place run.entry.store
-              (map pending_shown dues.entry.items)).store;
-        } }
-    ensures answers { map answer_shown result.1.1.items
-        ≡ (all_stored_after_copy run.entry.spaces.place run.entry.store
-        (map pending_shown dues.entry.items)).answers }
-{
-    let gate = crew.gate();
-    crew.copy_while(
-        alloc,
-        jobs,
-        move || -> (RunInFlight<A>, Vec<AccessAnswer<A>, A>)
-            requires due { AllByRecursion (CanDo run.spaces.place run.store)
-                (map pending_shown dues.items) }
-            requires room { AllByRecursion HasRoom dues.items }
-            requires unanswered { answers.items ≡ [] }
-            requires space { vec_len dues ≤ vec_capacity answers }
-            ensures run { result.0
-                ≡ record (run.entry) {
-                  store = (all_stored_after_copy run.entry.spaces.place run.entry.store
-                      (map pending_shown dues.entry.items)).store;
-                } }
-            ensures answers { map answer_shown result.1.items
-                ≡ (all_stored_after_copy run.entry.spaces.place run.entry.store
-                (map pending_shown dues.entry.items)).answers }
-        { answer_each(run, dues, answers, gate) },
-    )
+/// What accesses reach of a run in flight: the page tables, in which the entries of pages on their way are held, and the
+/// bytes of the frames that are home.
+#[derive(Drop)]
+pub(super) struct Reach<'r, A: Allocator + Copy> {
+    pub(super) spaces: &'r HeldSpaces<A>,
+    pub(super) store: FrameStore<A>,
 }
 
-/// Does what is left to do for accesses, in order. The answers go into a list that has room for them. The gate is called
-/// before each access.
-fn answer_each<'m, A: Allocator + Copy, G: Gate>(
-    mut run: RunInFlight<'m, A>,
+impl<'r, A: Allocator + Copy> Reach<'r, A> {
+    /// Does what is left to do for an access to a page that is not on its way. Does not allocate.
+    fn access(&mut self, due: PendingAccess<'_, A>) -> AccessAnswer<A>
+        requires due { CanDo self.old.spaces.now.spaces.place self.old.store (pending_shown due) }
+        requires room { HasRoom due }
+        ensures spaces { self.new.spaces ≡ self.old.spaces }
+        ensures store { self.new.store
+            ≡ store_after_copy self.old.spaces.now.spaces.place self.old.store (pending_shown due.entry) }
+        ensures answer { answer_shown result
+            ≡ answer_from_store self.old.spaces.now.spaces.place self.old.store
+                (pending_shown due.entry) }
+    {
+        match due {
+            PendingAccess::Known(answer) => answer,
+            PendingAccess::Read {
+                page,
+                at,
+                len,
+                mut bytes,
+            } => {
+                let frame = frame_of(self.spaces, page);
+                copy_bytes(&self.store, frame, at, len, &mut bytes);
+                AccessAnswer::Bytes(bytes)
+            }
+            PendingAccess::Write { page, at, bytes } => {
+                let frame = frame_of(self.spaces, page);
+                self.store.write(frame, at, bytes);
+                AccessAnswer::Done
+            }
+        }
+    }
+}
+
+/// Does what is left to do for accesses, in order, and gives the bytes back. The answers go into a list that has room for
+/// them. The gate is called before each access.
+pub(super) fn answer_each<'r, A: Allocator + Copy, G: Gate>(
+    mut reach: Reach<'r, A>,
     dues: Vec<PendingAccess<'_, A>, A>,
     mut answers: Vec<AccessAnswer<A>, A>,
     gate: &G,
-) -> (RunInFlight<'m, A>, Vec<AccessAnswer<A>, A>)
+) -> (FrameStore<A>, Vec<AccessAnswer<A>, A>)
     // What is left to do
-    requires due { AllByRecursion (CanDo run.spaces.place run.store)
+    requires due { AllByRecursion (CanDo reach.spaces.now.spaces.place reach.store)
         (map pending_shown dues.items) }
     requires room { AllByRecursion HasRoom dues.items }
 
@@ -96,19 +74,28 @@ fn answer_each<'m, A: Allocator + Copy, G: Gate>(
     requires space { vec_len dues ≤ vec_capacity answers }
 
     // Afterwards
-    ensures run { result.0
-        ≡ record (run.entry) {
-          store = (all_stored_after_copy run.entry.spaces.place run.entry.store
-              (map pending_shown dues.entry.items)).store;
-        } }
+    ensures store { result.0
+        ≡ (all_stored_after_copy reach.entry.spaces.now.spaces.place reach.entry.store
+        (map pending_shown dues.entry.items)).store }
     ensures answers { map answer_shown result.1.items
-        ≡ (all_stored_after_copy run.entry.spaces.place run.entry.store
+        ≡ (all_stored_after_copy reach.entry.spaces.now.spaces.place reach.entry.store
         (map pending_shown dues.entry.items)).answers }
 {
     for due in dues {
         gate.access(answers.len());
-        let answer = run.access(due);
+        let answer = reach.access(due);
         answers.push_reserved(answer);
     }
-    (run, answers)
+    (reach.store, answers)
+}
+
+/// The frame of a page that has one.
+fn frame_of<A: Allocator + Copy>(held: &HeldSpaces<A>, page: Page) -> FrameId
+    requires { IsSome (get page_cmp held.now.spaces.place page) }
+    ensures { result ≡ frame_at held.now.spaces.place page }
+{
+    let Some(frame) = held.place(page) else {
+        unreachable!()
+    };
+    frame
 }

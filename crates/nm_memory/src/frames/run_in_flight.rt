@@ -1,24 +1,30 @@
 //! A run whose pages are on their way.
 
-ghost use Rattle.std.specs.Prelude.{◌≡◌, ℕ, ◌+◌, ◌≤◌, ◌++◌, [], map, length, slice_get, option_map, IsSome, vec_len, vec_capacity};
+ghost use Rattle.std.specs.Prelude.{◌≡◌, ℕ, ◌+◌, ◌≤◌, ◌++◌, [], Some, map, length, slice_get, option_map, IsSome, vec_len, vec_capacity};
 ghost use Rattle.std.specs.List.{AllByRecursion};
 ghost use Rattle.nm_types.specs.Map.{get, page_cmp};
+ghost use Rattle.nm_frames.specs.Job.{copied};
+ghost use Rattle.nm_frames.specs.declared.job.CopyJob.{CopyJob as Job};
 ghost use Rattle.nm_model.specs.definitions.Events.{held_by, laid_for};
 ghost use Rattle.nm_model.specs.definitions.PageTables.{entry_at};
 ghost use Rattle.nm_spaces.specs.definitions.Moves.{CanRemap, all_moved};
 ghost use Rattle.nm_spaces.specs.views.Held.{entry_here};
-ghost use Rattle.nm_memory.specs.definitions.AfterCopy.{store_after_copy, answer_from_store, frame_at, CanDo};
+ghost use Rattle.nm_memory.specs.definitions.AfterCopy.{all_stored_after_copy, CanDo};
 ghost use Rattle.nm_memory.specs.views.Accesses.{answer_shown, pending_shown, HasRoom};
 ghost use Rattle.nm_memory.specs.views.Copies.{CanCopy, HasBoth, emptied, jobs_of, refilled, CanRefill};
 
 use crate::answers::AccessAnswer;
-use crate::frames::copy_bytes;
+use crate::frames::copying::{Reach, answer_each};
 use crate::pending_access::PendingAccess;
+use nm_crew::{Crew, Gate};
 use nm_frames::{CopyJob, FrameStore};
 use nm_spaces::{AddressSpaces, HeldSpaces};
-use nm_types::{FrameId, Page, Taken};
+use nm_types::Taken;
 use std::alloc::Allocator;
 use std::marker::Model;
+use std::mem;
+use std::sync::Wait;
+use std::thread::Threads;
 
 /// A run whose pages are on their way to other frames. Whoever maps such a page, its entry is held, as it is in the
 /// kernel (Documentation/mm/page_migration.rst); the bytes of both frames of each move are out, in the jobs of the crew.
@@ -76,37 +82,6 @@ impl<'m, A: Allocator + Copy> RunInFlight<'m, A> {
         }
     }
 
-    /// Does what is left to do for an access to a page that is not on its way. Does not allocate.
-    pub(super) fn access(&mut self, due: PendingAccess<'_, A>) -> AccessAnswer<A>
-        requires due { CanDo self.old.spaces.place self.old.store (pending_shown due) }
-        requires room { HasRoom due }
-        ensures run { self.new
-            ≡ record (self.old) {
-              store = store_after_copy self.old.spaces.place self.old.store (pending_shown due.entry);
-            } }
-        ensures answer { answer_shown result
-            ≡ answer_from_store self.old.spaces.place self.old.store (pending_shown due.entry) }
-    {
-        match due {
-            PendingAccess::Known(answer) => answer,
-            PendingAccess::Read {
-                page,
-                at,
-                len,
-                mut bytes,
-            } => {
-                let frame = frame_of(&self.spaces, page);
-                copy_bytes(&self.store, frame, at, len, &mut bytes);
-                AccessAnswer::Bytes(bytes)
-            }
-            PendingAccess::Write { page, at, bytes } => {
-                let frame = frame_of(&self.spaces, page);
-                self.store.write(frame, at, bytes);
-                AccessAnswer::Done
-            }
-        }
-    }
-
     /// Ends the run: the bytes of its jobs, which the list loses, are put back home, and each held entry names the frame
     /// that its page was on its way to. Does not allocate.
     pub(super) fn finish(self, copied: &mut Vec<CopyJob<A>, A>) -> (AddressSpaces<A>, FrameStore<A>)
@@ -122,6 +97,66 @@ impl<'m, A: Allocator + Copy> RunInFlight<'m, A> {
         } = self;
         put_back_each(&mut store, copied);
         (spaces.settle(moves), store)
+    }
+}
+
+impl<'m, A: Allocator + Copy + Send + Sync> RunInFlight<'m, A> {
+    /// Has a crew make the copies of the run, and meanwhile does what is left to do for accesses. The answers go into a
+    /// list that has room for them. Returns the jobs, done, and the answers.
+    pub(super) fn copy_beside<R: Threads + Wait + Sync, G: Gate + Sync>(
+        &mut self,
+        crew: &Crew<R, G>,
+        alloc: A,
+        jobs: Vec<CopyJob<A>, A>,
+        dues: Vec<PendingAccess<'_, A>, A>,
+        answers: Vec<AccessAnswer<A>, A>,
+    ) -> (Vec<CopyJob<A>, A>, Vec<AccessAnswer<A>, A>)
+        requires tickets { (t : ℕ) (job : Job _) → slice_get jobs.items t ≡ Some job → job.ticket ≡ t }
+
+        // What is left to do
+        requires due { AllByRecursion (CanDo self.old.spaces.place self.old.store)
+            (map pending_shown dues.items) }
+        requires room { AllByRecursion HasRoom dues.items }
+
+        // The list for the answers
+        requires unanswered { answers.items ≡ [] }
+        requires space { vec_len dues ≤ vec_capacity answers }
+
+        // Afterwards
+        ensures jobs { result.0.items ≡ map copied jobs.items }
+        ensures run { self.new
+            ≡ record (self.old) {
+              store = (all_stored_after_copy self.old.spaces.place self.old.store
+                  (map pending_shown dues.entry.items)).store;
+            } }
+        ensures answers { map answer_shown result.1.items
+            ≡ (all_stored_after_copy self.old.spaces.place self.old.store
+            (map pending_shown dues.entry.items)).answers }
+    {
+        let gate = crew.gate();
+        let reach = Reach {
+            spaces: &self.spaces,
+            store: mem::replace(&mut self.store, FrameStore::none(alloc)),
+        };
+        let (jobs, (store, answers)) = crew.copy_while(
+            alloc,
+            jobs,
+            move || -> (FrameStore<A>, Vec<AccessAnswer<A>, A>)
+                requires due { AllByRecursion (CanDo reach.spaces.now.spaces.place reach.store)
+                    (map pending_shown dues.items) }
+                requires room { AllByRecursion HasRoom dues.items }
+                requires unanswered { answers.items ≡ [] }
+                requires space { vec_len dues ≤ vec_capacity answers }
+                ensures store { result.0
+                    ≡ (all_stored_after_copy reach.entry.spaces.now.spaces.place reach.entry.store
+                    (map pending_shown dues.entry.items)).store }
+                ensures answers { map answer_shown result.1.items
+                    ≡ (all_stored_after_copy reach.entry.spaces.now.spaces.place reach.entry.store
+                    (map pending_shown dues.entry.items)).answers }
+            { answer_each(reach, dues, answers, gate) },
+        );
+        self.store = store;
+        (jobs, answers)
     }
 }
 
@@ -162,15 +197,4 @@ fn put_back_each<A: Allocator + Copy>(frames: &mut FrameStore<A>, jobs: &mut Vec
         frames.put_back(source);
         frames.put_back(target);
     }
-}
-
-/// The frame of a page that has one.
-fn frame_of<A: Allocator + Copy>(held: &HeldSpaces<A>, page: Page) -> FrameId
-    requires { IsSome (get page_cmp held.now.spaces.place page) }
-    ensures { result ≡ frame_at held.now.spaces.place page }
-{
-    let Some(frame) = held.place(page) else {
-        unreachable!()
-    };
-    frame
 }

@@ -67,7 +67,7 @@ finish-spaces-requires g c =
     ∙ ap (λ (y : AddressSpacesView). (all_stored_after_copy y.place c.begin-run.result.store dues).store) c.begin-run.ensures.spaces
     ∙ ap (λ (s : Store). (all_stored_after_copy place s dues).store) gone in
     let are = c.copy_beside-copied.ensures.jobs ∙ ap (map copied) laid in
-    let home = home_again place dues moves 0 k.frames c.copy_beside-copied.result.1.0.store c.copy_beside-copied.result.0.items can doable there are in
+    let home = home_again place dues moves 0 k.frames c.copy_beside-copied.new.self.store c.copy_beside-copied.result.0.items can doable there are in
     home.can
 
 pub invariant_of-self : goal.invariant_of-self
@@ -89,7 +89,7 @@ invariant_of-self g c =
     ∙ ap (λ (y : AddressSpacesView). (all_stored_after_copy y.place c.begin-run.result.store dues).store) c.begin-run.ensures.spaces
     ∙ ap (λ (s : Store). (all_stored_after_copy place s dues).store) gone in
     let are = c.copy_beside-copied.ensures.jobs ∙ ap (map copied) laid in
-    let home = home_again place dues moves 0 k.frames c.copy_beside-copied.result.1.0.store c.copy_beside-copied.result.0.items can doable there are in
+    let home = home_again place dues moves 0 k.frames c.copy_beside-copied.new.self.store c.copy_beside-copied.result.0.items can doable there are in
     let is = c.finish-spaces.ensures.store ∙ home.is in
     let after = with_copies k.frames moves in (
       c.self.invariant.0,
@@ -124,7 +124,7 @@ returns-clause-frames g c =
     ∙ ap (λ (y : AddressSpacesView). (all_stored_after_copy y.place c.begin-run.result.store dues).store) c.begin-run.ensures.spaces
     ∙ ap (λ (s : Store). (all_stored_after_copy place s dues).store) gone in
     let are = c.copy_beside-copied.ensures.jobs ∙ ap (map copied) laid in
-    let home = home_again place dues moves 0 k.frames c.copy_beside-copied.result.1.0.store c.copy_beside-copied.result.0.items can doable there are in
+    let home = home_again place dues moves 0 k.frames c.copy_beside-copied.new.self.store c.copy_beside-copied.result.0.items can doable there are in
     let room = min (vec_capacity k.vacated) (vec_capacity c.finish-spaces.new.copied) in
     let fields : Store → FramesView = λ s. record { layout = k.geometry; frames = s; free = k.nodes.lists; vacated = k.vacated.items; room = room } in
     ap fields (c.finish-spaces.ensures.store ∙ home.is) ∙ ap (λ (v : FramesView). record v { frames = (all_stored_after_copy place (with_copies v.frames moves) dues).store; room = room }) c.self.view_is
@@ -148,7 +148,7 @@ returns-clause-answers g c =
     ∙ ap (λ (y : AddressSpacesView). (all_stored_after_copy y.place c.begin-run.result.store dues).store) c.begin-run.ensures.spaces
     ∙ ap (λ (s : Store). (all_stored_after_copy place s dues).store) gone in
     let are = c.copy_beside-copied.ensures.jobs ∙ ap (map copied) laid in
-    let home = home_again place dues moves 0 k.frames c.copy_beside-copied.result.1.0.store c.copy_beside-copied.result.0.items can doable there are in
+    let home = home_again place dues moves 0 k.frames c.copy_beside-copied.new.self.store c.copy_beside-copied.result.0.items can doable there are in
     c.copy_beside-copied.ensures.answers
     ∙ ap (λ (y : AddressSpacesView). (all_stored_after_copy y.place c.begin-run.result.store dues).answers) c.begin-run.ensures.spaces
     ∙ ap (λ (s : Store). (all_stored_after_copy place s dues).answers) gone

@@ -2,10 +2,11 @@ use Rattle.std.proofs.Common.{◌≡◌, ◌++◌, List, [], ◌∷◌, map, len
 use Rattle.std.specs.List.{AllByRecursion}
 use Rattle.std.proofs.lemmas.List.{map-append, append-nil}
 use Rattle.nm_model.specs.definitions.Touch.{AccessAnswer}
-use Rattle.nm_memory.specs.definitions.AfterCopy.{answer_from_store, CanDo}
+use Rattle.std.specs.Borrow.{Bor}
+use Rattle.nm_model.specs.definitions.Frames.{Store}
+use Rattle.nm_spaces.specs.views.Held.{HeldView}
+use Rattle.nm_memory.specs.definitions.AfterCopy.{all_stored_after_copy, answer_from_store, CanDo}
 use Rattle.nm_memory.specs.views.Accesses.{answer_shown, pending_shown, HasRoom}
-use Rattle.nm_memory.specs.views.Flights.{Flight}
-use Rattle.nm_memory.proofs.AfterCopy.Flown.{flown, told}
 use Rattle.nm_memory.proofs.AfterCopy.Refilled.{all_can_then}
 use Rattle.nm_memory.proofs.frames.copying.answer_each.Goals as goal
 
@@ -13,22 +14,23 @@ pub loop-due-init : goal.loop-due-init
 loop-due-init g c =
     let all = c.into_iter-due-iterator.ensures.into_iter_gives.0 in
     let shown = pending_shown in
-    let run = c.args.run in
+    let place = c.args.reach.spaces.now.spaces.place in
+    let store = c.args.reach.store in
     let none = ap length c.requires.unanswered in
     let many = c.args.dues.ok.0 in
     let len = ap length all in
     record {
-      due = subst (λ ds. AllByRecursion (CanDo run.spaces.place run.store) (map shown ds)) (sym all) c.requires.due;
+      due = subst (λ ds. AllByRecursion (CanDo place store) (map shown ds)) (sym all) c.requires.due;
       room = subst (λ ds. AllByRecursion HasRoom ds) (sym all) c.requires.room;
-      run = ap (λ ds. flown run (map shown ds)) all;
-      answers = ap (λ xs. map answer_shown xs ++ told run (map shown c.into_iter-due-iterator.result.rest.items)) c.requires.unanswered
-          ∙ ap (λ ds. told run (map shown ds)) all;
+      store = ap (λ ds. (all_stored_after_copy place store (map shown ds)).store) all;
+      answers = ap (λ xs. map answer_shown xs ++ (all_stored_after_copy place store (map shown c.into_iter-due-iterator.result.rest.items)).answers) c.requires.unanswered
+          ∙ ap (λ ds. (all_stored_after_copy place store (map shown ds)).answers) all;
       space = omega (arith, none, many, len, c.requires.space);
     }
 
 pub access-answer-requires-clause-due : goal.access-answer-requires-clause-due
 access-answer-requires-clause-due g c =
-    (subst (λ ds. AllByRecursion (CanDo c.loop-due.run.spaces.place c.loop-due.run.store) (map pending_shown ds)) c.in-Some.ensures.steps.0 c.loop-due.invariant.due).0
+    (subst (λ ds. AllByRecursion (CanDo c.loop-due.reach.spaces.now.spaces.place c.loop-due.reach.store) (map pending_shown ds)) c.in-Some.ensures.steps.0 c.loop-due.invariant.due).0
 
 pub access-answer-requires-clause-room : goal.access-answer-requires-clause-room
 access-answer-requires-clause-room g c = (subst (λ ds. AllByRecursion HasRoom ds) c.in-Some.ensures.steps.0 c.loop-due.invariant.room).0
@@ -42,26 +44,32 @@ push_reserved-requires g c =
 pub loop-due-preserved : goal.loop-due-preserved
 loop-due-preserved g c =
     let shown = pending_shown in
-    let run = c.loop-due.run in
+    let place = c.loop-due.reach.spaces.now.spaces.place in
+    let store = c.loop-due.reach.store in
     let one = c.in-Some.due in
     let rest = c.next.new.self.rest.items in
     let step = c.in-Some.ensures.steps.0 in
-    let there = c.access-answer.ensures.run in
+    let there = c.access-answer.ensures.store in
+    let after = c.access-answer.new.self.store in
+    let as_before = sym (ap (λ (held : Bor HeldView). held.now.spaces.place) c.access-answer.ensures.spaces) in
     let before = map answer_shown c.loop-due.answers.items in
-    let can = subst (λ ds. AllByRecursion (CanDo run.spaces.place run.store) (map shown ds)) step c.loop-due.invariant.due in
+    let can = subst (λ ds. AllByRecursion (CanDo place store) (map shown ds)) step c.loop-due.invariant.due in
     let len = ap length step in
     let more = ap length c.push_reserved.ensures.items ∙ length-append c.loop-due.answers.items _ in
     record {
-      due = subst (λ (x : Flight). AllByRecursion (CanDo x.spaces.place x.store) (map shown rest)) (sym there) (all_can_then run.spaces.place run.store (shown one) (map shown rest) can.0 can.1);
+      due = subst (λ p. AllByRecursion (CanDo p after) (map shown rest)) as_before
+          (subst (λ (s : Store). AllByRecursion (CanDo place s) (map shown rest)) (sym there) (all_can_then place store (shown one) (map shown rest) can.0 can.1));
       room = (subst (λ ds. AllByRecursion HasRoom ds) step c.loop-due.invariant.room).1;
-      run = ap (λ (x : Flight). flown x (map shown rest)) there ∙ ap (λ ds. flown run (map shown ds)) (sym step) ∙ c.loop-due.invariant.run;
+      store = ap (λ p. (all_stored_after_copy p after (map shown rest)).store) (sym as_before)
+          ∙ ap (λ (s : Store). (all_stored_after_copy place s (map shown rest)).store) there ∙ ap (λ ds. (all_stored_after_copy place store (map shown ds)).store) (sym step) ∙ c.loop-due.invariant.store;
       answers =
-          ap (λ xs. map answer_shown xs ++ told c.access-answer.new.self (map shown rest)) c.push_reserved.ensures.items
-          ∙ ap (λ xs. xs ++ told c.access-answer.new.self (map shown rest)) (map-append answer_shown c.loop-due.answers.items _)
+          ap (λ p. map answer_shown c.push_reserved.new.self.items ++ (all_stored_after_copy p after (map shown rest)).answers) (sym as_before)
+          ∙ ap (λ xs. map answer_shown xs ++ (all_stored_after_copy place after (map shown rest)).answers) c.push_reserved.ensures.items
+          ∙ ap (λ xs. xs ++ (all_stored_after_copy place after (map shown rest)).answers) (map-append answer_shown c.loop-due.answers.items _)
           ∙ append_assoc before _ _
-          ∙ ap (λ (a : AccessAnswer). before ++ a ∷ told c.access-answer.new.self (map shown rest)) c.access-answer.ensures.answer
-          ∙ ap (λ (x : Flight). before ++ answer_from_store run.spaces.place run.store (shown one) ∷ told x (map shown rest)) there
-          ∙ ap (λ ds. before ++ told run (map shown ds)) (sym step)
+          ∙ ap (λ (a : AccessAnswer). before ++ a ∷ (all_stored_after_copy place after (map shown rest)).answers) c.access-answer.ensures.answer
+          ∙ ap (λ (s : Store). before ++ answer_from_store place store (shown one) ∷ (all_stored_after_copy place s (map shown rest)).answers) there
+          ∙ ap (λ ds. before ++ (all_stored_after_copy place store (map shown ds)).answers) (sym step)
           ∙ c.loop-due.invariant.answers;
       space = omega (arith, len, more, c.push_reserved.ensures.capacity, c.loop-due.invariant.space);
     }
@@ -70,14 +78,14 @@ no_items : {A : Type 0} (xs : List A) → length xs ≡ 0 → xs ≡ []
 no_items [] none = refl
 no_items (x ∷ xs) none = absurd (omega (arith, none))
 
-pub returns-clause-run : goal.returns-clause-run
-returns-clause-run g c =
+pub returns-clause-store : goal.returns-clause-store
+returns-clause-store g c =
     let ends = no_items c.loop-due.due-iterator.rest.items (sym c.loop-due.due-iterator.rest.ok.0 ∙ c.in-None.ensures.steps.0) in
-    ap (λ ds. flown c.loop-due.run (map pending_shown ds)) (sym ends) ∙ c.loop-due.invariant.run
+    ap (λ ds. (all_stored_after_copy c.loop-due.reach.spaces.now.spaces.place c.loop-due.reach.store (map pending_shown ds)).store) (sym ends) ∙ c.loop-due.invariant.store
 
 pub returns-clause-answers : goal.returns-clause-answers
 returns-clause-answers g c =
     let ends = no_items c.loop-due.due-iterator.rest.items (sym c.loop-due.due-iterator.rest.ok.0 ∙ c.in-None.ensures.steps.0) in
     let before = map (answer_shown {A = g.row.A.Denot}) c.loop-due.answers.items in
     sym (append-nil before)
-    ∙ ap (λ ds. before ++ told c.loop-due.run (map pending_shown ds)) (sym ends) ∙ c.loop-due.invariant.answers
+    ∙ ap (λ ds. before ++ (all_stored_after_copy c.loop-due.reach.spaces.now.spaces.place c.loop-due.reach.store (map pending_shown ds)).answers) (sym ends) ∙ c.loop-due.invariant.answers
